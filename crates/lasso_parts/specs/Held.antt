@@ -1,0 +1,8 @@
+-- What an interner holds: its texts in the order of their keys, and beside them its account.
+use Rattle.std.specs.Prelude.{List}
+use Rattle.lasso_parts.specs.Texts.{Text}
+use Rattle.lasso_parts.specs.Account.{Account}
+
+pub record Held : Type 0 where
+  pub texts : List Text
+  pub account : Account

@@ -1,0 +1,6 @@
+pub mod Texts
+pub mod Account
+pub mod Held
+pub mod Errors
+pub mod Sizes
+pub mod Kept

@@ -1,0 +1,5 @@
+//! The parts that every interner is built of: errors, capacities, limits and keys.
+#![tactic(auto)]
+
+pub mod keys;
+pub mod util;

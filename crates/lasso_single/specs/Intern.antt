@@ -1,0 +1,44 @@
+-- What interning a text answers and leaves.
+use Rattle.std.specs.Prelude.{ℕ, ◌≡◌, ◌⊎◌, List, [], ◌∷◌, ◌++◌, length, Option, Result, MatchResult, IsOk, Some, None, Ok, Err, unwrap_or}
+use Rattle.lasso_parts.specs.Account.{Account, store}
+use Rattle.lasso_parts.specs.Texts.{Text, position_of}
+use Rattle.lasso_parts.specs.Held.{Held}
+use Rattle.lasso_parts.specs.declared.util.LassoError.{LassoError}
+use Rattle.lasso_parts.specs.declared.util.LassoErrorKind.TheVariants.{MemoryLimitReached, KeySpaceExhaustion, FailedAllocation}
+
+-- the text goes last, and the account is the new one
+abbrev pub with_text : Held → Text → Account → Held
+with_text held text account = record { texts = held.texts ++ text ∷ []; account = account }
+
+-- a new text that has a key is stored, unless the limit refuses it
+abbrev pub stored_or_refused : Held → Text → Option Account → Result Held LassoError
+stored_or_refused held text None = Err MemoryLimitReached
+stored_or_refused held text (Some account) = Ok (with_text held text account)
+
+-- a new text is refused where its position has no key; the account is asked only after that
+abbrev pub keyed_or_refused : {K : Type 0} → Held → Text → Option K → Result Held LassoError
+keyed_or_refused held text None = Err KeySpaceExhaustion
+keyed_or_refused held text (Some _) = stored_or_refused held text (store held.account (length text))
+
+-- a text that is there changes nothing
+abbrev pub found_or_new : {K : Type 0} → (ℕ → Option K) → Held → Text → Option ℕ → Result Held LassoError
+found_or_new key_at held text (Some _) = Ok held
+found_or_new key_at held text None = keyed_or_refused held text (key_at (length held.texts))
+
+-- what interning the text leaves where memory is found, or why it is refused
+abbrev pub interned : {K : Type 0} → (ℕ → Option K) → Held → Text → Result Held LassoError
+interned key_at held text = found_or_new key_at held text (position_of held.texts text)
+
+-- the text's position once it is interned
+abbrev pub place : List Text → Text → ℕ
+place texts text = unwrap_or (position_of texts text) (length texts)
+
+-- interning the text answers the key of its position and leaves what the definition says; or it is refused
+-- and leaves all as it was, for want of memory only where the list would grow
+abbrev pub Interns : {K : Type 0} → (ℕ → Option K) → List Text → Account → Text → Result K LassoError → List Text → Account → Type 0
+Interns key_at texts account text reply texts' account' =
+    let before : Held = record { texts = texts; account = account } in
+    MatchResult reply
+    (λ k. (interned key_at before text ≡ Ok (record { texts = texts'; account = account' })) × (key_at (place texts text) ≡ Some k))
+    (λ error. (texts' ≡ texts) × (account' ≡ account) × ((interned key_at before text ≡ Err error)
+    ⊎ ((error ≡ FailedAllocation) × (position_of texts text ≡ None) × IsOk (interned key_at before text))))
