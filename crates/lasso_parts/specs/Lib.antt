@@ -1,5 +1,6 @@
 pub mod Texts
 pub mod Account
+pub mod AccountSteps
 pub mod Held
 pub mod Errors
 pub mod Sizes

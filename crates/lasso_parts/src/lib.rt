@@ -2,4 +2,5 @@
 #![tactic(auto)]
 
 pub mod keys;
+pub mod laws;
 pub mod util;

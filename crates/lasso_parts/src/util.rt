@@ -1,7 +1,6 @@
 //! Errors, capacities and limits.
 ghost use Rattle.std.specs.Prelude.{◌≡◌, ◌<◌, ◌^◌, ◌-◌, ◌↔◌, IsTrue, Some};
 ghost use Rattle.lasso_parts.specs.Errors.{kind_text, error_text};
-ghost use Rattle.lasso_parts.specs.Account.{RefusesExactlyPastLimit};
 ghost use Rattle.lasso_parts.specs.declared.util.LassoErrorKind.TheVariants.{FailedAllocation};
 
 use std::alloc::{AllocError, AllocFailed};
@@ -249,8 +248,5 @@ impl Default for MemoryLimits {
     }
 }
 
-/// A law of the account, which holds by its definition: a text is refused exactly where it is longer
-/// than the room of the current bucket and the usage and its bytes pass the limit.
-pub fn store_refuses_exactly_past_limit()
-    ensures { RefusesExactlyPastLimit }
-{}
+#[cfg(test)]
+mod tests;

@@ -151,3 +151,6 @@ fn find<A: Allocator>(texts: &[String<A>], text: &str) -> Option<usize>
 {
     texts.iter().position(|t| t.as_str() == text)
 }
+
+#[cfg(test)]
+mod tests;

@@ -1,0 +1,59 @@
+#!/usr/bin/env python3
+"""Writes the four inputs of the benchmark into the folder that is given, each whole and as a tenth of its lines.
+
+The seed is fixed, so that every run on every machine has the same bytes.
+"""
+import random
+import sys
+from bisect import bisect
+from itertools import accumulate
+from pathlib import Path
+
+SEED = 20261122
+LETTERS = "etaoinshrdlucmfwypvbgkqjxz"
+
+
+def word(rng, shortest, longest):
+    return "".join(rng.choice(LETTERS) for _ in range(rng.randint(shortest, longest)))
+
+
+def distinct_words(rng, count, shortest, longest):
+    seen = {}
+    while len(seen) < count:
+        seen[word(rng, shortest, longest)] = None
+    return list(seen)
+
+
+def zipf(rng):
+    """A million lines over 100,000 words, the n-th of which comes about 1/n as often as the first."""
+    words = distinct_words(rng, 100_000, 3, 12)
+    sums = list(accumulate(1 / rank for rank in range(1, len(words) + 1)))
+    return [words[bisect(sums, rng.random() * sums[-1])] for _ in range(1_000_000)]
+
+
+def distinct(rng):
+    """A million short lines, no two alike."""
+    return [f"{word(rng, 2, 6)}{number}" for number in range(1_000_000)]
+
+
+def long_lines(rng):
+    """200,000 lines of 200 bytes."""
+    return ["".join(rng.choices(LETTERS, k=200)) for _ in range(200_000)]
+
+
+def few(rng):
+    """Two million lines over 10,000 words."""
+    words = distinct_words(rng, 10_000, 4, 10)
+    return rng.choices(words, k=2_000_000)
+
+
+def main():
+    folder = Path(sys.argv[1])
+    folder.mkdir(parents=True, exist_ok=True)
+    for name, lines_of in (("zipf", zipf), ("distinct", distinct), ("long", long_lines), ("few", few)):
+        lines = lines_of(random.Random(f"{SEED} {name}"))
+        for suffix, part in (("", lines), (".tenth", lines[: len(lines) // 10])):
+            (folder / f"{name}{suffix}").write_text("\n".join(part) + "\n", encoding="ascii")
+
+
+main()

@@ -1,0 +1,122 @@
+//! Ranges and printed forms of the key types, and a key type of a user's own.
+use super::*;
+use std::cmp::Ordering;
+use std::marker::Model;
+use std::test::Fail;
+
+// A key type of a user's own: it keeps the position in 32 bits, and leaves the 16777216 highest values free.
+#[derive(Clone, Copy, PartialEq, Eq)]
+struct NicheKey {
+    position: u32,
+}
+
+impl Model for NicheKey {
+    ghost use Rattle.std.specs.Prelude.{ℕ, ◌<◌};
+
+    ghost Value = { ℕ };
+
+    ghost view = { λ k. k.position };
+
+    ghost invariant = { λ k. k.position < 4278190080 };
+
+    ghost inverse = { λ n. record { position = n } };
+}
+
+impl Key for NicheKey {
+    ghost use Rattle.std.specs.Prelude.{◌<◌, nat_lt, if◌then◌else◌, Some, None};
+    ghost use Rattle.std.proofs.Common.{arith};
+    ghost use Rattle.std.proofs.lemmas.Bool.Decides.{nat_tests};
+
+    ghost is_value = { λ k. k < 4278190080 };
+
+    ghost number = { λ k. k };
+
+    ghost key_at = { λ n. if nat_lt n 4278190080 then Some n else None };
+
+    fn into_usize(self) -> usize {
+        self.position as usize
+    }
+
+    fn try_from_usize(position: usize) -> Option<Self> {
+        if position < 4278190080 {
+            Some(NicheKey {
+                position: position as u32,
+            })
+        } else {
+            None
+        }
+    }
+
+    fn show_value(self) {
+        let _position = self.position;
+    }
+
+    ghost made = { λ n k made. Prim.grind (arith, nat_tests) };
+
+    ghost made_again = { λ k is_value. Prim.grind (arith, nat_tests) };
+
+    ghost equal = { λ a b is_value is_value'. Prim.grind (arith, nat_tests) };
+}
+
+fn number_of<K: Key>(position: usize) -> Option<usize> {
+    let key = K::try_from_usize(position)?;
+    Some(key.into_usize())
+}
+
+#[test]
+fn ranges_of_the_key_types(rt: HostRuntime) {
+    assert_eq!(rt; number_of::<Spur>(0), Some(0));
+    assert_eq!(rt; number_of::<Spur>(4294967294), Some(4294967294));
+    assert_eq!(rt; number_of::<Spur>(4294967295), None);
+    assert_eq!(rt; number_of::<MiniSpur>(65534), Some(65534));
+    assert_eq!(rt; number_of::<MiniSpur>(65535), None);
+    assert_eq!(rt; number_of::<MicroSpur>(254), Some(254));
+    assert_eq!(rt; number_of::<MicroSpur>(255), None);
+    assert_eq!(rt;
+        number_of::<LargeSpur>(usize::MAX - 1),
+        Some(usize::MAX - 1)
+    );
+    assert_eq!(rt; number_of::<LargeSpur>(usize::MAX), None);
+    assert_eq!(rt; number_of::<NicheKey>(0), Some(0));
+    assert_eq!(rt; number_of::<NicheKey>(4278190079), Some(4278190079));
+    assert_eq!(rt; number_of::<NicheKey>(4278190080), None);
+    assert_eq!(rt; number_of::<NicheKey>(4294967295), None);
+}
+
+#[test]
+fn defaults_are_number_0(rt: HostRuntime) {
+    assert_eq!(rt; Spur::default().into_usize(), 0);
+    assert_eq!(rt; MiniSpur::default().into_usize(), 0);
+    assert_eq!(rt; MicroSpur::default().into_usize(), 0);
+    assert_eq!(rt; LargeSpur::default().into_usize(), 0);
+    assert_eq!(rt; Spur::default().into_inner(), 1);
+    assert_eq!(rt; MiniSpur::default().into_inner(), 1);
+    assert_eq!(rt; MicroSpur::default().into_inner(), 1);
+    assert_eq!(rt; LargeSpur::default().into_inner(), 1);
+}
+
+#[test]
+fn debug_shows_the_kept_number(rt: HostRuntime) -> Result<(), Fail> {
+    let last = MicroSpur::try_from_usize(254).ok_or("no key")?;
+    let printed = format!(in rt.alloc();
+        "{:?} {:?} {last:?} {:?}",
+        Spur::default(),
+        MiniSpur::default(),
+        LargeSpur::default()
+    )?;
+    assert_eq!(rt;
+        printed.as_str(),
+        "Spur(1) MiniSpur(1) MicroSpur(255) LargeSpur(1)"
+    );
+    Ok(())
+}
+
+#[test]
+fn keys_are_ordered_as_positions(rt: HostRuntime) -> Result<(), Fail> {
+    let low = Spur::try_from_usize(7).ok_or("no key")?;
+    let high = Spur::try_from_usize(4294967294).ok_or("no key")?;
+    low.show_value();
+    assert_eq!(rt; low.cmp(&high), Ordering::Less);
+    assert!(rt; low != high);
+    Ok(())
+}

@@ -1,0 +1,16 @@
+//! Laws of the definitions, each as the contract of a function that does nothing.
+ghost use Rattle.lasso_parts.specs.Account.{RefusesExactlyPastLimit};
+ghost use Rattle.lasso_parts.specs.AccountSteps.{ServesAsWorked};
+
+/// A text is refused exactly where it is longer than the room of the current bucket and the usage
+/// and its bytes pass the limit.
+pub fn store_refuses_exactly_past_limit()
+    ensures { RefusesExactlyPastLimit }
+{
+}
+
+/// Steps of an account that were worked by hand come out as worked.
+pub fn store_serves_as_worked()
+    ensures { ServesAsWorked }
+{
+}
