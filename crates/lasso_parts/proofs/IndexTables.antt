@@ -1,0 +1,206 @@
+-- Tables of empty slots, and tables that are filled anew.
+--
+-- The old slots are read from the first to the last, and each key among them goes into the slot where the
+-- search for its hash ends. As far as the old slots were read, the new table holds the same positions, has
+-- as many slots in use, and is filed; there is always an empty slot, since it has more slots than keys.
+-- A count of slots is 0 or a power of two from 8 on, so doubling it makes room.
+use Rattle.std.proofs.Common.{◌≡◌, ◌≢◌, ℕ, zero, suc, ◌+◌, ◌-◌, ◌*◌, ◌/◌, ◌^◌, ◌<◌, ◌≤◌, ◌⊎◌, ◌↔◌, List, [], ◌∷◌, ◌++◌, Option, Some, None, map, length, slice_get, get_or, set, take, replicate, refl, sym, ap, ◌∙◌, subst, inl, inr, arith, zero-add, add-zero}
+use Rattle.std.specs.Option.{option_map}
+use Rattle.std.proofs.lemmas.Bool.{cases_lt, cases_eq}
+use Rattle.std.proofs.lemmas.List.{get_or-map, length-map, map-set, length-set, get_or-set_same, get_or-set_other, get_or_past, get_or-replicate, get_or-take, length-replicate, get_or_append_left, get_or_push, length_push, take_more, take_all, take_more_set, replicate_more}
+use Rattle.std.proofs.lemmas.Option.{slice_get_within, same_Some, none-some}
+use Rattle.lasso_parts.specs.Texts.{Text}
+use Rattle.lasso_parts.specs.Index.{slot, used, home, Holds, HoldsNone, IsFull, Reaches, IsFiled, IsFiledAnywhere, StaysFiled, load_limit, room, grown_count}
+use Rattle.lasso_parts.specs.IndexTable.{positions, AllInList, Misses, Refilled, IsSlotCount, IsTable}
+use Rattle.std.proofs.lemmas.List.{with_items_is}
+use Rattle.std.proofs.lemmas.Grind.{common_steps}
+use Rattle.std.proofs.lemmas.Bool.Decides.{nat_tests}
+use Rattle.std.specs.Vec.{with_items}
+use Rattle.std.specs.declared.vec.Vec.{Vec}
+use lib.Pow.{pow_mono}
+use Rattle.lasso_parts.proofs.IndexSlots.{length-positions, positions-set, slot_within, slot-nil, used-set, used-replicate, IsFiled-set, Holds-set}
+use Rattle.lasso_parts.proofs.IndexLaws.{IsFiled-from_none}
+
+-- ---- a table is filled anew
+
+pub Holds-replicate : (n k : ℕ) → Holds (replicate n None) k → ⊥
+Holds-replicate n k h = elim (cases_lt h.0 n) [
+  | inl l ↦ none-some k (sym (get_or-replicate n h.0 None None l) ∙ h.1)
+  | inr l ↦ none-some k (sym (get_or_past (replicate n None) h.0 None (subst (λ m. m ≤ h.0) (sym (length-replicate n None)) l)) ∙ h.1)
+]
+
+pub used-push : (xs : List (Option ℕ)) (o : Option ℕ) → used (xs ++ o ∷ []) ≡ used xs + used (o ∷ [])
+used-push [] o = sym (zero-add _)
+used-push (None ∷ xs) o = used-push xs o
+used-push (Some n ∷ xs) o = let e = used-push xs o in omega (arith, e)
+
+pub Holds-push : (xs : List (Option ℕ)) (o : Option ℕ) (n : ℕ) → Holds (xs ++ o ∷ []) n ↔ (Holds xs n ⊎ (o ≡ Some n))
+Holds-push xs o n = (to, from) where
+  to : Holds (xs ++ o ∷ []) n → Holds xs n ⊎ (o ≡ Some n)
+  to h = elim (cases_lt h.0 (length xs)) [
+    | inl l ↦ inl (h.0, sym (get_or_append_left xs (o ∷ []) None h.0 l) ∙ h.1)
+    | inr l ↦
+        let w = slot_within (xs ++ o ∷ []) h.0 n h.1 in
+        let e : length xs ≡ h.0 = omega (arith, length_push xs o) in
+        inr (sym (get_or_push xs o None h.0 e) ∙ h.1)
+  ]
+
+  from : (Holds xs n ⊎ (o ≡ Some n)) → Holds (xs ++ o ∷ []) n
+  from u = elim u [
+    | inl h ↦ (h.0, get_or_append_left xs (o ∷ []) None h.0 (slot_within xs h.0 n h.1) ∙ h.1)
+    | inr e ↦ (length xs, get_or_push xs o None (length xs) refl ∙ e)
+  ]
+
+module _ {K : Type 0} (number : K → ℕ) (hash_of : Text → ℕ) (texts : List Text) (slots old : List (Option K)) (i : ℕ) (inside : i < length old) (r : Refilled hash_of texts (positions number slots) (take i (positions number old))) where
+  seen_more : (o : Option ℕ) → slot (positions number old) i ≡ o → take (i + 1) (positions number old) ≡ take i (positions number old) ++ o ∷ []
+  seen_more o e = take_more (positions number old) i None (subst (λ n. i < n) (sym (length-positions number old)) inside) ∙ ap (λ w. take i (positions number old) ++ w ∷ []) e
+
+  -- the next old slot is empty
+  pub Refilled-skip : slot (positions number old) i ≡ None → Refilled hash_of texts (positions number slots) (take (i + 1) (positions number old))
+  Refilled-skip e =
+      let s = seen_more None e in
+      record {
+        filed = r.filed;
+        holds = λ n. (
+          λ h. subst (λ xs. Holds xs n) (sym s) ((Holds-push (take i (positions number old)) None n).1 (inl ((r.holds n).0 h))),
+          λ h. elim ((Holds-push (take i (positions number old)) None n).0 (subst (λ xs. Holds xs n) s h)) [ inl w ↦ (r.holds n).1 w | inr w ↦ absurd (none-some n w) ],
+        );
+        same_used = r.same_used ∙ sym (used-push (take i (positions number old)) None ∙ add-zero _) ∙ ap used (sym s);
+      }
+
+  -- the next old slot has a key, which is put in a free slot
+  pub Refilled-put : (key : K) (text : Text) (at : ℕ) → slot (positions number old) i ≡ Some (number key) → slice_get texts (number key) ≡ Some text → at < length slots → slot (positions number slots) at ≡ None → Reaches (positions number slots) (home (length slots) (hash_of text)) at → Refilled hash_of texts (positions number (set slots at (Some key))) (take (i + 1) (positions number old))
+  Refilled-put key text at e here l free reached =
+      let s = seen_more (Some (number key)) e in
+      let inside_new = subst (λ n. at < n) (sym (length-positions number slots)) l in
+      let reached_new = subst (λ n. Reaches (positions number slots) (home n (hash_of text)) at) (sym (length-positions number slots)) reached in
+      subst (λ xs. Refilled hash_of texts xs (take (i + 1) (positions number old))) (sym (positions-set number slots at key)) (record {
+        filed = IsFiled-set (positions number slots) at (number key) inside_new free hash_of texts text r.filed here reached_new;
+        holds = λ n. (
+          λ h. subst (λ xs. Holds xs n) (sym s) ((Holds-push (take i (positions number old)) (Some (number key)) n).1
+              (elim ((Holds-set (positions number slots) at (number key) inside_new free n).0 h) [ inl w ↦ inl ((r.holds n).0 w) | inr w ↦ inr (ap Some (sym w)) ])),
+          λ h. (Holds-set (positions number slots) at (number key) inside_new free n).1
+              (elim ((Holds-push (take i (positions number old)) (Some (number key)) n).0 (subst (λ xs. Holds xs n) s h)) [ inl w ↦ inl ((r.holds n).1 w) | inr w ↦ inr (sym (same_Some _ _ w)) ]),
+        );
+        same_used = used-set (positions number slots) at (number key) inside_new free ∙ ap (λ k. k + 1) r.same_used ∙ sym (used-push (take i (positions number old)) (Some (number key))) ∙ ap used (sym s);
+      })
+
+-- fewer keys were seen than there are slots
+pub used-take-le : (i : ℕ) (xs : List (Option ℕ)) → used (take i xs) ≤ used xs
+used-take-le zero xs = omega arith
+used-take-le (suc i) [] = omega arith
+used-take-le (suc i) (None ∷ xs) = used-take-le i xs
+used-take-le (suc i) (Some n ∷ xs) = let h = used-take-le i xs in omega arith
+
+pub Refilled-start : (hash_of : Text → ℕ) (texts : List Text) (xs : List (Option ℕ)) (n : ℕ) → xs ≡ replicate n None → Refilled hash_of texts xs []
+Refilled-start hash_of texts xs n e =
+    let none : (k : ℕ) → Holds xs k → ⊥ = λ k h. Holds-replicate n k (subst (λ ys. Holds ys k) e h) in
+    record {
+      filed = IsFiled-from_none xs none hash_of texts;
+      holds = λ k. (λ h. absurd (none k h), λ h. absurd (slot-nil h.0 k h.1));
+      same_used = ap used e ∙ used-replicate n;
+    }
+
+pub Refilled-end : {K : Type 0} (number : K → ℕ) (hash_of : Text → ℕ) (texts : List Text) (xs : List (Option ℕ)) (old : List (Option K)) (i : ℕ) → Refilled hash_of texts xs (take i (positions number old)) → length old ≤ i → Refilled hash_of texts xs (positions number old)
+Refilled-end number hash_of texts xs old i r h = subst (λ seen. Refilled hash_of texts xs seen) (take_all i (positions number old) (subst (λ n. n ≤ i) (sym (length-positions number old)) h)) r
+
+-- ---- counts of slots
+
+pub IsSlotCount-cases : (n : ℕ) → IsSlotCount n → (n ≡ 0) ⊎ (8 ≤ n)
+IsSlotCount-cases n s = elim s [ inl z ↦ inl z | inr w ↦ let m : 2 ^ 3 ≤ 2 ^ w.0 = pow_mono {i = 3} {j = w.0} w.1 in inr (omega (arith, w.2)) ]
+
+pub IsSlotCount-eight : IsSlotCount 8
+IsSlotCount-eight = inr (3, omega arith, refl)
+
+double_pow : (n k : ℕ) → n ≡ 2 ^ k → 2 * n ≡ 2 ^ suc k
+double_pow n k e = grind (arith, common_steps)
+
+pub IsSlotCount-double : (n : ℕ) → IsSlotCount n → 0 < n → IsSlotCount (2 * n)
+IsSlotCount-double n s p = elim s [ inl z ↦ absurd (omega arith) | inr w ↦ inr (suc w.0, omega (arith, w.1), double_pow n w.0 w.2) ]
+
+-- a table of empty slots
+pub IsTable-replicate : (xs : List (Option ℕ)) (n : ℕ) → IsSlotCount n → xs ≡ replicate n None → IsTable xs 0
+IsTable-replicate xs n s e = record {
+  slots = subst IsSlotCount (sym (length-replicate n None) ∙ ap length (sym e)) s;
+  counted = sym (used-replicate n) ∙ ap used (sym e);
+  load = let z : used xs ≡ 0 = ap used e ∙ used-replicate n in omega (arith, z);
+}
+
+-- as many positions fit in empty slots as may be filled
+pub room-replicate : (xs : List (Option ℕ)) (n : ℕ) → xs ≡ replicate n None → room xs ≡ load_limit n
+room-replicate xs n e =
+    let z : used xs ≡ 0 = ap used e ∙ used-replicate n in
+    let k : load_limit (length xs) ≡ load_limit n = ap load_limit (ap length e ∙ length-replicate n None) in
+    omega arith
+
+-- a table is filled anew, with the same count of keys
+pub IsTable-refilled : (hash_of : Text → ℕ) (texts : List Text) (xs ys : List (Option ℕ)) (count n : ℕ) → IsTable xs count → Refilled hash_of texts ys xs → length ys ≡ n → IsSlotCount n → used xs ≤ load_limit n → IsTable ys count
+IsTable-refilled hash_of texts xs ys count n t r l s h = record {
+  slots = subst IsSlotCount (sym l) s;
+  counted = t.counted ∙ sym r.same_used;
+  load = subst (λ k. used ys ≤ load_limit k) (sym l) (subst (λ k. k ≤ load_limit n) (sym r.same_used) h);
+}
+
+-- ---- tables of empty slots
+
+pub positions-replicate : {K : Type 0} (number : K → ℕ) (n : ℕ) → positions number (replicate n None) ≡ replicate n None
+positions-replicate number zero = refl
+positions-replicate number (suc n) = ap (λ xs. None ∷ xs) (positions-replicate number n)
+
+-- a `Vec` of no slots that was made longer by empty ones
+pub positions-resized : {K : Type 0} (number : K → ℕ) (old new : List (Option K)) (n len : ℕ) → new ≡ take n old ++ replicate (n - len) None → old ≡ [] → len ≡ 0 → positions number new ≡ replicate n None
+positions-resized number old new n len e none z = ap (positions number) (e ∙ nil_front (take n old) _ (ap (take n) none ∙ take-nil n) ∙ ap (λ k. replicate (n - k) None) z ∙ ap (λ k. replicate k None) (sub-zero n)) ∙ positions-replicate number n where
+  take-nil : {A : Type 0} (n : ℕ) → take {A = A} n [] ≡ []
+  take-nil zero = refl
+  take-nil (suc n) = refl
+  nil_front : {A : Type 0} (xs ys : List A) → xs ≡ [] → xs ++ ys ≡ ys
+  nil_front xs ys e = ap (λ zs. zs ++ ys) e
+  sub-zero : (n : ℕ) → n - 0 ≡ n
+  sub-zero n = omega arith
+
+pub emptied_more : {K : Type 0} (number : K → ℕ) (slots : List (Option K)) (i : ℕ) → i < length slots → take i (positions number slots) ≡ replicate i None → take (i + 1) (positions number (set slots i None)) ≡ replicate (i + 1) None
+emptied_more number slots i l e = ap (take (i + 1)) (map-set (option_map number) slots i None) ∙ take_more_set (positions number slots) i None (subst (λ n. i < n) (sym (length-positions number slots)) l) ∙ ap (λ xs. xs ++ None ∷ []) e ∙ replicate_more i None
+
+-- the count of slots after a growth
+grown_from_none : (count keys : ℕ) → keys ≤ load_limit 0 → count ≡ grown_count 0 → IsSlotCount count × (keys < load_limit count)
+grown_from_none count keys high e = (subst IsSlotCount (sym e) IsSlotCount-eight, omega (arith, e))
+
+doubled : (len : ℕ) → 8 ≤ len → grown_count len ≡ 2 * len
+doubled len many = grind (arith, nat_tests)
+
+pub grown : (len count keys : ℕ) → IsSlotCount len → keys ≤ load_limit len → count ≡ grown_count len → IsSlotCount count × (keys < load_limit count)
+grown len count keys s high e = elim (IsSlotCount-cases len s) [
+  | inl z ↦ grown_from_none count keys (subst (λ n. keys ≤ load_limit n) z high) (e ∙ ap grown_count z)
+  | inr b ↦ let d : count ≡ 2 * len = e ∙ doubled len b in (subst IsSlotCount (sym d) (IsSlotCount-double len s (omega arith)), omega (arith, d))
+]
+
+-- a new table has room
+pub room-refilled : (hash_of : Text → ℕ) (texts : List Text) (xs ys : List (Option ℕ)) (n : ℕ) → Refilled hash_of texts ys xs → length ys ≡ n → used xs < load_limit n → 0 < room ys
+room-refilled hash_of texts xs ys n r l h =
+    let a : used ys < load_limit n = subst (λ k. k < load_limit n) (sym r.same_used) h in
+    let b : used ys < load_limit (length ys) = subst (λ k. used ys < load_limit k) (sym l) a in
+    omega arith
+
+-- all slots were emptied
+pub cleared : {K A : Type 0} (number : K → ℕ) (v : Vec (Option K) A) (slots : List (Option K)) (ws : List (Option K)) (count : ℕ) → slots ≡ v.items → length ws ≡ length slots → v.len ≡ length v.items → positions number ws ≡ replicate (length slots) None → IsTable (positions number v.items) count → IsTable (positions number (with_items v ws).items) 0 × (room (positions number v.items) ≤ room (positions number (with_items v ws).items)) × HoldsNone (positions number (with_items v ws).items) × (length (positions number (with_items v ws).items) ≡ length (positions number v.items))
+cleared number v slots ws count is same len e t =
+    let n : length ws ≡ v.len = same ∙ ap length is ∙ sym len in
+    let w : positions number (with_items v ws).items ≡ replicate (length slots) None = ap (positions number) (with_items_is v ws n) ∙ e in
+    let m : length slots ≡ length (positions number v.items) = ap length is ∙ sym (length-positions number v.items) in
+    let z : used (positions number (with_items v ws).items) ≡ 0 = ap used w ∙ used-replicate (length slots) in
+    let k : length (positions number (with_items v ws).items) ≡ length (positions number v.items) = ap length w ∙ length-replicate (length slots) None ∙ m in
+    let f : load_limit (length (positions number (with_items v ws).items)) ≡ load_limit (length (positions number v.items)) = ap load_limit k in
+    (IsTable-replicate _ _ (subst IsSlotCount (sym m) t.slots) w, omega arith, λ n h. Holds-replicate (length slots) n (subst (λ xs. Holds xs n) w h), k)
+
+-- the new table in the place of a full one
+pub next_table : {K : Type 0} (number : K → ℕ) (hash_of : Text → ℕ) (texts : List Text) (items old new : List (Option K)) (v : List (Option ℕ)) (keys len count : ℕ) → IsTable (positions number items) keys → positions number items ≡ v → len ≡ length items → count ≡ grown_count len → old ≡ items → length (positions number new) ≡ count → Refilled hash_of texts (positions number new) (positions number old)
+    → IsTable (positions number new) keys × (0 < room (positions number new)) × ((n : ℕ) → Holds (positions number new) n ↔ Holds v n) × (length (positions number new) ≡ grown_count (length v))
+next_table number hash_of texts items old new v keys len count table view l size is long r =
+    let t = subst (λ xs. IsTable xs keys) view table in
+    let q = subst (λ xs. Refilled hash_of texts (positions number new) xs) (ap (positions number) is ∙ view) r in
+    let n : len ≡ length v = l ∙ sym (length-positions number items) ∙ ap length view in
+    let c : keys ≡ used v = t.counted in
+    let high : keys ≤ load_limit len = subst (λ k. keys ≤ load_limit k) (sym n) (omega (arith, t.load, c)) in
+    let g = grown len count keys (subst IsSlotCount (sym n) t.slots) high size in
+    let few : used v < load_limit count = omega (arith, g.1, c) in
+    (IsTable-refilled hash_of texts v (positions number new) keys count t q long g.0 (omega arith), room-refilled hash_of texts v (positions number new) count q long few, q.holds, long ∙ size ∙ ap grown_count n)

@@ -1,0 +1,67 @@
+-- An open-addressed table of positions in a list of texts: a slot is empty or holds one position.
+-- Callers cite `Holds`, `IsFiled`, `room` and `IsIndexOf`.
+use Rattle.std.specs.Prelude.{◌≡◌, ◌≢◌, ℕ, ◌+◌, ◌-◌, ◌*◌, ◌/◌, ◌<◌, ◌≤◌, ◌⊎◌, ◌↔◌, List, Option, Some, None, [], ◌∷◌, length, slice_index_or, slice_get, bit_and, nat_eq, if◌then◌else◌}
+use Rattle.lasso_parts.specs.Texts.{Text, IsDistinct}
+
+-- the slot of that number, counted from 0
+abbrev pub slot : List (Option ℕ) → ℕ → Option ℕ
+slot xs j = slice_index_or xs j None
+
+-- the index holds the position n
+abbrev pub Holds : List (Option ℕ) → ℕ → Type 0
+Holds xs n = (j : ℕ) × (slot xs j ≡ Some n)
+
+-- the index holds no position
+abbrev pub HoldsNone : List (Option ℕ) → Type 0
+HoldsNone xs = (n : ℕ) → Holds xs n → ⊥
+
+-- how many slots hold a position
+abbrev pub used : List (Option ℕ) → ℕ
+used [] = 0
+used (None ∷ xs) = used xs
+used (Some n ∷ xs) = used xs + 1
+
+-- at most three quarters of n slots are filled, where n is a multiple of 4
+abbrev pub load_limit : ℕ → ℕ
+load_limit n = 3 * (n / 4)
+
+-- how many more positions fit before the table has to grow
+abbrev pub room : List (Option ℕ) → ℕ
+room xs = load_limit (length xs) - used xs
+
+-- the count of slots after a growth: twice as many, and 8 where there were none
+abbrev pub grown_count : ℕ → ℕ
+grown_count n = if nat_eq n 0 then 8 else 2 * n
+
+-- where the search for a hash begins, among n slots: at the number that its lowest bits are
+abbrev pub home : ℕ → ℕ → ℕ
+home n hash = bit_and hash (n - 1)
+
+-- no slot is empty from the first index up to the last one, which is not among them
+abbrev pub IsFull : List (Option ℕ) → ℕ → ℕ → Type 0
+IsFull xs from to = (j : ℕ) → from ≤ j → j < to → slot xs j ≢ None
+
+-- a search that begins at slot a, and goes on from the last slot to the first, sees no empty slot before slot j
+abbrev pub Reaches : List (Option ℕ) → ℕ → ℕ → Type 0
+Reaches xs a j = ((a ≤ j) × IsFull xs a j) ⊎ ((j < a) × IsFull xs a (length xs) × IsFull xs 0 j)
+
+-- each position that the index holds is in the list, and the search for its text gets there
+pub record IsFiled (hash_of : Text → ℕ) (texts : List Text) (xs : List (Option ℕ)) : Type 0 where
+  pub in_list : (j n : ℕ) → slot xs j ≡ Some n → n < length texts
+  pub reached : (j n : ℕ) (text : Text) → slot xs j ≡ Some n → slice_get texts n ≡ Some text → Reaches xs (home (length xs) (hash_of text)) j
+
+-- the index is filed under any list and any hasher, as one that holds nothing is
+abbrev pub IsFiledAnywhere : List (Option ℕ) → Type 0
+IsFiledAnywhere xs = (hash_of : Text → ℕ) (texts : List Text) → IsFiled hash_of texts xs
+
+-- an index that got the position n under a hash is filed under each list that has a text of that hash at n,
+-- where it was before
+abbrev pub StaysFiled : ℕ → ℕ → List (Option ℕ) → List (Option ℕ) → Type 0
+StaysFiled hash n old new =
+    (hash_of : Text → ℕ) (texts : List Text) (text : Text) → IsFiled hash_of texts old → slice_get texts n ≡ Some text → hash ≡ hash_of text → IsFiled hash_of texts new
+
+-- the index of a whole list: its texts are distinct, and exactly their positions are held
+pub record IsIndexOf (hash_of : Text → ℕ) (texts : List Text) (xs : List (Option ℕ)) : Type 0 where
+  pub filed : IsFiled hash_of texts xs
+  pub holds : (n : ℕ) → Holds xs n ↔ (n < length texts)
+  pub distinct : IsDistinct texts

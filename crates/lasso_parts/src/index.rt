@@ -1,0 +1,194 @@
+//! `Index`, from a text to its position in a list that another owns.
+ghost use Rattle.std.specs.Prelude.{◌≡◌, ◌≢◌, ℕ, ◌+◌, ◌<◌, ◌≤◌, ◌⊎◌, ◌↔◌, length, slice_get, Some, IfSome, IfNone, OnOk, OnErr, IfOk, IfErr, IsOk};
+ghost use Rattle.lasso_parts.specs.declared.util.LassoErrorKind.TheVariants.{FailedAllocation};
+ghost use Rattle.lasso_parts.specs.Hashing.{text_hash};
+ghost use Rattle.lasso_parts.specs.Index.{Holds, HoldsNone, IsFiled, IsFiledAnywhere, StaysFiled, IsIndexOf, room, grown_count};
+ghost use Rattle.lasso_parts.specs.Texts.{position_of};
+
+#[cfg(test)]
+mod hashers;
+mod hashing;
+mod lists;
+mod probe;
+mod table;
+#[cfg(test)]
+mod tests;
+
+pub use hashing::hash_text;
+pub use lists::Texts;
+
+use crate::keys::Key;
+use crate::util::{LassoError, LassoErrorKind, LassoResult};
+use probe::{Scan, free_slot, home_slot, scan_slots};
+use std::alloc::Allocator;
+use std::hash::BuildHasher;
+use std::marker::Model;
+use table::{empty_all, empty_slots, grown_slots, rebuilt, slot_count};
+
+/// An index from a text to its position: an open-addressed table of keys alone. It has no slots, or a
+/// power of two of them, and at most three quarters are filled. A key's text is read from the list that
+/// the caller shows; the index must be filed under that list and the hasher shown. Contracts see it as
+/// the list of its slots, each empty or a position.
+#[derive(Drop)]
+pub struct Index<K: Key, A: Allocator> {
+    slots: Vec<Option<K>, A>,
+    used: usize,
+}
+
+impl<K: Key, A: Allocator> Model for Index<K, A> {
+    ghost use Rattle.std.specs.Prelude.{ℕ, List, Option};
+
+    ghost Value = { List (Option ℕ) };
+
+    ghost use Rattle.lasso_parts.specs.IndexTable.{positions, IsTable};
+
+    ghost view = { λ s. positions K.number s.slots.items };
+
+    ghost invariant = { λ s. IsTable (positions K.number s.slots.items) s.used };
+}
+
+impl<K: Key, A: Allocator> Index<K, A> {
+    /// An index that holds nothing. It has no slots and takes no memory.
+    pub fn new(alloc: A) -> Self
+        ensures slots { length result ≡ 0 }
+        ensures empty { HoldsNone result }
+        ensures filed { IsFiledAnywhere result }
+    {
+        Index {
+            slots: Vec::new(alloc),
+            used: 0,
+        }
+    }
+
+    /// An index that holds nothing, with room for so many keys. It is refused for want of memory alone,
+    /// also where no `usize` has the count of slots.
+    pub fn with_capacity(alloc: A, capacity: usize) -> LassoResult<Self>
+        ensures room { IfOk result (λ index. capacity ≤ room index) }
+        ensures empty { IfOk result HoldsNone }
+        ensures filed { IfOk result IsFiledAnywhere }
+        ensures refused { IfErr result (λ error. error ≡ FailedAllocation) }
+    {
+        let Some(count) = slot_count(capacity) else {
+            return Err(LassoError::new(LassoErrorKind::FailedAllocation));
+        };
+        let slots = empty_slots(alloc, count)?;
+        Ok(Index { slots, used: 0 })
+    }
+
+    /// The position of the text among the positions held, or `None` where none of them has it. It is
+    /// exact for every hasher, and takes no memory.
+    #[inline]
+    pub fn find<T: Texts, S: BuildHasher>(&self, texts: &T, hasher: &S, text: &str) -> Option<usize>
+        requires { IsFiled (text_hash S.build_hasher S.Hasher.write S.Hasher.finish hasher.now) (T.list texts.now) self.now }
+        ensures found { IfSome result (λ n. Holds self.now n × (slice_get (T.list texts.now) n ≡ Some text.now)) }
+        ensures missing { IfNone result ((n : ℕ) → Holds self.now n → slice_get (T.list texts.now) n ≢ Some text.now) }
+        ensures whole { let hash_of = text_hash S.build_hasher S.Hasher.write S.Hasher.finish hasher.now in IsIndexOf hash_of (T.list texts.now) self.now → result ≡ position_of (T.list texts.now) text.now }
+    {
+        self.find_hashed(texts, hasher, hash_text(hasher, text), text)
+    }
+
+    /// The same as `find`, where the caller has the text's hash already.
+    #[inline]
+    pub fn find_hashed<T: Texts, S: BuildHasher>(
+        &self,
+        texts: &T,
+        _hasher: &S,
+        hash: u64,
+        text: &str,
+    ) -> Option<usize>
+        requires hashed { hash ≡ text_hash S.build_hasher S.Hasher.write S.Hasher.finish _hasher.now text.now }
+        requires filed { IsFiled (text_hash S.build_hasher S.Hasher.write S.Hasher.finish _hasher.now) (T.list texts.now) self.now }
+        ensures found { IfSome result (λ n. Holds self.now n × (slice_get (T.list texts.now) n ≡ Some text.now)) }
+        ensures missing { IfNone result ((n : ℕ) → Holds self.now n → slice_get (T.list texts.now) n ≢ Some text.now) }
+        ensures whole { let hash_of = text_hash S.build_hasher S.Hasher.write S.Hasher.finish _hasher.now in IsIndexOf hash_of (T.list texts.now) self.now → result ≡ position_of (T.list texts.now) text.now }
+    {
+        self.search(texts, _hasher, hash, text)
+    }
+
+    /// Makes room for one key more. Where there is none, the table gets twice the slots, or 8 where it
+    /// had none, and each key is entered again by the hash of its text. It is refused for want of memory
+    /// alone, and the index is unchanged then.
+    pub fn reserve_one<T: Texts, S: BuildHasher>(
+        &mut self,
+        texts: &T,
+        hasher: &S,
+    ) -> LassoResult<()>
+    where
+        A: Clone,
+        requires { IsFiled (text_hash S.build_hasher S.Hasher.write S.Hasher.finish hasher.now) (T.list texts.now) self.old }
+        ensures room { OnOk result (0 < room self.new) }
+        ensures same { (n : ℕ) → Holds self.new n ↔ Holds self.old n }
+        ensures filed { IsFiled (text_hash S.build_hasher S.Hasher.write S.Hasher.finish hasher.now) (T.list texts.now) self.new }
+        ensures enough { 0 < room self.old → IsOk result × (self.new ≡ self.old) }
+        ensures grown { room self.old ≡ 0 → OnOk result (length self.new ≡ grown_count (length self.old)) }
+        ensures refused { IfErr result (λ error. error ≡ FailedAllocation) }
+        ensures unchanged { OnErr result (self.new ≡ self.old) }
+    {
+        let len = self.slots.len();
+        if self.used < len / 4 * 3 {
+            return Ok(());
+        }
+        let Some(count) = grown_slots(len) else {
+            return Err(LassoError::new(LassoErrorKind::FailedAllocation));
+        };
+        let alloc = self.slots.allocator().clone()?;
+        let slots = rebuilt(alloc, count, self.slots.as_slice(), texts, hasher)?;
+        self.slots = slots;
+        Ok(())
+    }
+
+    /// Enters the key under the hash of its text. There must be room, which `reserve_one` makes; so it
+    /// can't be refused.
+    #[inline]
+    pub fn insert_reserved(&mut self, hash: u64, key: K)
+        requires { 0 < room self.old }
+        ensures holds { (n : ℕ) → Holds self.new n ↔ (Holds self.old n ⊎ (n ≡ K.number key)) }
+        ensures room { room self.new + 1 ≡ room self.old }
+        ensures filed { StaysFiled hash (K.number key) self.old self.new }
+    {
+        let at = free_slot(self.slots.as_slice(), hash);
+        self.slots[at] = Some(key);
+        self.used += 1;
+    }
+
+    /// Empties the slots and keeps them: the index then holds nothing.
+    pub fn clear(&mut self)
+        ensures empty { HoldsNone self.new }
+        ensures slots { length self.new ≡ length self.old }
+        ensures room { room self.old ≤ room self.new }
+        ensures filed { IsFiledAnywhere self.new }
+    {
+        empty_all(self.slots.as_mut_slice());
+        self.used = 0;
+    }
+
+    // What `find_hashed` answers, from the slots: first from the home slot up, then below it.
+    #[inline]
+    fn search<T: Texts, S: BuildHasher>(
+        &self,
+        texts: &T,
+        _hasher: &S,
+        hash: u64,
+        text: &str,
+    ) -> Option<usize>
+        requires hashed { hash ≡ text_hash S.build_hasher S.Hasher.write S.Hasher.finish _hasher.now text.now }
+        requires filed { IsFiled (text_hash S.build_hasher S.Hasher.write S.Hasher.finish _hasher.now) (T.list texts.now) self.now }
+        ensures found { IfSome result (λ n. Holds self.now n × (slice_get (T.list texts.now) n ≡ Some text.now)) }
+        ensures missing { IfNone result ((n : ℕ) → Holds self.now n → slice_get (T.list texts.now) n ≢ Some text.now) }
+    {
+        let slots = self.slots.as_slice();
+        if slots.is_empty() {
+            return None;
+        }
+        let home = home_slot(hash, slots.len());
+        match scan_slots(slots, texts, text, home, slots.len()) {
+            Scan::Found(position) => Some(position),
+            Scan::Ended => None,
+            Scan::Passed => match scan_slots(slots, texts, text, 0, home) {
+                Scan::Found(position) => Some(position),
+                Scan::Ended => None,
+                Scan::Passed => None,
+            },
+        }
+    }
+}

@@ -1,0 +1,14 @@
+//! The hash of a text.
+ghost use Rattle.std.specs.Prelude.{◌≡◌};
+ghost use Rattle.lasso_parts.specs.Hashing.{text_hash};
+
+use std::hash::BuildHasher;
+
+/// The hash that the hasher gives the text. An index takes it in place of the text where the text's
+/// hash is wanted twice.
+#[inline]
+pub fn hash_text<S: BuildHasher>(hasher: &S, text: &str) -> u64
+    ensures { result ≡ text_hash S.build_hasher S.Hasher.write S.Hasher.finish hasher.now text.now }
+{
+    hasher.hash_one(text)
+}
