@@ -4,3 +4,7 @@ pub mod Held
 pub mod Errors
 pub mod Sizes
 pub mod Kept
+pub mod Bucket
+pub mod Arena
+pub mod Places
+pub mod Waste

@@ -1,0 +1,7 @@
+use Rattle.std.proofs.Common.{◌∙◌, ap, sym, map}
+use Rattle.lasso_parts.specs.Bucket.{block_of}
+use Rattle.lasso_parts.proofs.Regions.{blocks_emptied}
+use Rattle.lasso_parts.proofs.arena.owned.OwnedRegions.clear.Goals as goal
+
+pub invariant_of-self : goal.invariant_of-self
+invariant_of-self g c = c.self.invariant ∙ sym (ap (map block_of) c.clear_each.ensures ∙ blocks_emptied c.self.inside.regions.items)
