@@ -1,3 +1,4 @@
 pub mod TextLemmas
 pub mod Regions
 pub mod Wasted
+pub mod Entries

@@ -8,3 +8,4 @@ pub mod Bucket
 pub mod Arena
 pub mod Places
 pub mod Waste
+pub mod Slots

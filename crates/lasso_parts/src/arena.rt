@@ -5,6 +5,8 @@ ghost use Rattle.lasso_parts.specs.Account.{fresh, store, clear, with_limit};
 ghost use Rattle.lasso_parts.specs.declared.util.LassoErrorKind.TheVariants.{MemoryLimitReached, FailedAllocation};
 
 mod owned;
+#[cfg(test)]
+mod tests;
 
 use crate::bucket::region::Region;
 use crate::util::{LassoError, LassoErrorKind, LassoResult};
@@ -48,14 +50,14 @@ pub struct Arena<A: Allocator> {
 }
 
 impl<A: Allocator> Model for Arena<A> {
-    ghost use Rattle.std.specs.Prelude.{◌≡◌, ◌<◌, length, sum_by};
+    ghost use Rattle.std.specs.Prelude.{◌≡◌, ◌<◌, ◌^◌, length};
     ghost use Rattle.lasso_parts.specs.Arena.{Regions, usage_of};
 
     ghost Value = { Regions };
 
     ghost view = { λ a. record { all = a.regions; current = a.current; doubling = a.doubling; limit = a.limit } };
 
-    ghost invariant = { λ a. (a.current < length a.regions) × (a.usage ≡ usage_of a.regions) };
+    ghost invariant = { λ a. (a.current < length a.regions) × (a.current < 2 ^ 48) × (a.usage ≡ usage_of a.regions) };
 }
 
 impl<A: Allocator + Clone> Arena<A> {
@@ -159,10 +161,18 @@ impl<A: Allocator> Arena<A> {
         }
         let left = self.limit.saturating_sub(self.usage);
         if self.doubling < n - self.doubling.min(n) {
-            return if left < n { Place::Refused } else { Place::Exact };
+            return if left < n {
+                Place::Refused
+            } else {
+                Place::Exact
+            };
         }
         if left / 2 < self.doubling {
-            return if left < n { Place::Refused } else { Place::Remnant(left) };
+            return if left < n {
+                Place::Refused
+            } else {
+                Place::Remnant(left)
+            };
         }
         Place::Doubled(2 * self.doubling)
     }
@@ -181,6 +191,7 @@ impl<A: Allocator + Clone> Arena<A> {
         ensures stored { IfOk result (λ span. IsStored self.new.all span × (text_at self.new.all span ≡ text.now)) }
         ensures kept { KeepsTexts self.old.all self.new.all }
         ensures copied { IsOk result → copied_of self.new ≡ copied_of self.old + length text.now }
+        ensures number { IfOk result (λ span. span.region < 2 ^ 48) }
         ensures limit { (result ≡ Err MemoryLimitReached) ↔ (store (account_of self.old) (length text.now) ≡ None) }
         ensures memory { IfErr result (λ error. (error ≡ MemoryLimitReached) ⊎ (error ≡ FailedAllocation) × ((account_of self.old).room < length text.now)) }
         ensures err { OnErr result (self.new ≡ self.old) }
@@ -226,6 +237,7 @@ impl<A: Allocator + Clone> Arena<A> {
         ensures span { IfOk result (λ span. span ≡ record { region = length self.old.all; start = 0; len = length text.now }) }
         ensures err { OnErr result (self.new ≡ self.old) }
         ensures refused { IfErr result (λ error. error ≡ FailedAllocation) }
+        ensures number { IfOk result (λ span. span.region < 2 ^ 48) }
         ensures added { IsOk result → (at : Ptr) × (self.new ≡ record self.old { all = self.old.all ++ record { at = at; bytes = text.now; capacity = size } ∷ [] }) }
     {
         let region = self.regions.as_slice().len();

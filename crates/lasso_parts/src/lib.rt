@@ -4,4 +4,5 @@
 pub mod arena;
 pub mod bucket;
 pub mod keys;
+pub mod slots;
 pub mod util;
