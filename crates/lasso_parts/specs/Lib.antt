@@ -9,3 +9,8 @@ pub mod Hashing
 pub mod Index
 pub mod IndexTable
 pub mod Scan
+pub mod Bucket
+pub mod Arena
+pub mod Places
+pub mod Waste
+pub mod Slots

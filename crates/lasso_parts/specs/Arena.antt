@@ -1,0 +1,66 @@
+-- What an arena shows: the regions that it copies texts into, and the texts that lie in them.
+use Rattle.std.specs.Prelude.{◌≡◌, ℕ, ◌+◌, ◌-◌, ◌<◌, ◌≤◌, List, [], ◌++◌, length, get_or, map, sum_by, slice_range, IsUtf8}
+use denote.RawPtr.{null_ptr}
+use Rattle.lasso_parts.specs.Account.{Account}
+use Rattle.lasso_parts.specs.Bucket.{Extent}
+use Rattle.lasso_parts.specs.declared.arena.Span.{Span}
+
+-- an arena, from which all else is derived
+pub record Regions : Type 0 where
+  -- the regions in the order in which they were made
+  pub all : List Extent
+  -- which of them is filled next
+  pub current : ℕ
+  -- the size that the next growth doubles, in bytes
+  pub doubling : ℕ
+  -- the most bytes that all regions may take
+  pub limit : ℕ
+
+abbrev pub no_region : Extent
+no_region = record { at = null_ptr; bytes = []; capacity = 0 }
+
+abbrev pub region_at : List Extent → ℕ → Extent
+region_at regions k = get_or regions k no_region
+
+-- the bytes that regions take
+abbrev pub usage_of : List Extent → ℕ
+usage_of regions = sum_by (λ (r : Extent). r.capacity) regions
+
+-- how many bytes were copied into regions since they were cleared
+abbrev pub copied_in : List Extent → ℕ
+copied_in regions = sum_by (λ (r : Extent). length r.bytes) regions
+
+-- how many bytes were copied into the arena since it was cleared
+abbrev pub copied_of : Regions → ℕ
+copied_of arena = copied_in arena.all
+
+-- the account of a current region, a doubling size, a usage and a limit
+abbrev pub account_at : Extent → ℕ → ℕ → ℕ → Account
+account_at r doubling usage limit =
+    record { room = r.capacity - length r.bytes; size = r.capacity; doubling = doubling; usage = usage; limit = limit }
+
+-- the account of the arena
+abbrev pub account_of : Regions → Account
+account_of arena = account_at (region_at arena.all arena.current) arena.doubling (usage_of arena.all) arena.limit
+
+-- the region with no bytes
+abbrev pub emptied : Extent → Extent
+emptied r = record r { bytes = [] }
+
+-- the region with more bytes
+abbrev pub with_bytes : Extent → List ℕ → Extent
+with_bytes r more = record r { bytes = r.bytes ++ more }
+
+-- the bytes that a span names
+abbrev pub text_at : List Extent → Span → List ℕ
+text_at regions span = slice_range (region_at regions span.region).bytes span.start (span.start + span.len)
+
+-- the regions have the text of this span
+pub record IsStored (regions : List Extent) (span : Span) : Type 0 where
+  pub region : span.region < length regions
+  pub bytes : span.start + span.len ≤ length (region_at regions span.region).bytes
+  pub text : IsUtf8 (text_at regions span)
+
+-- the later regions have each text that the earlier ones have, at the same span
+abbrev pub KeepsTexts : List Extent → List Extent → Type 0
+KeepsTexts earlier later = (span : Span) → IsStored earlier span → IsStored later span × (text_at later span ≡ text_at earlier span)

@@ -1,0 +1,150 @@
+//! Worked rows of the arena: what it accepts, what it refuses, and the bytes that its regions then take.
+
+use crate::arena::Arena;
+use crate::slots::{Slot, text_of};
+use crate::util::LassoErrorKind;
+use std::alloc::Global;
+use std::process::Abort;
+use std::test::Fail;
+
+// The greatest region that the region type opens. With regions of raw memory it is `usize::MAX`.
+const GREATEST_REGION: usize = 4096;
+
+#[derive(Clone, Copy, Debug)]
+enum Call {
+    // the text is accepted
+    Stores(&'static str),
+    // the text is past the limit
+    Refuses(&'static str),
+    SetsLimit(usize),
+    Clears,
+}
+
+use Call::{Clears, Refuses, SetsLimit, Stores};
+
+// Makes each call, and looks at the usage after it.
+fn run_row(rt: &impl Abort, arena: &mut Arena<Global>, row: &[(Call, usize)]) {
+    for (call, usage) in row {
+        match *call {
+            Stores(text) => {
+                assert!(rt; arena.admits(text.len()), "at {text}");
+                assert_eq!(rt; store(rt, arena, text), None, "at {text}");
+            }
+            Refuses(text) => {
+                assert!(rt; !arena.admits(text.len()), "at {text}");
+                assert_eq!(rt;
+                    store(rt, arena, text),
+                    Some(LassoErrorKind::MemoryLimitReached),
+                    "at {text}"
+                );
+            }
+            SetsLimit(limit) => arena.set_limit(limit),
+            Clears => arena.clear(),
+        }
+        assert_eq!(rt; arena.memory_usage(), *usage, "at {call:?}");
+    }
+}
+
+// Stores a text and looks at it, or answers why it is refused.
+fn store(rt: &impl Abort, arena: &mut Arena<Global>, text: &str) -> Option<LassoErrorKind> {
+    match arena.store_str(text) {
+        Ok(span) => {
+            assert!(rt; arena.text(span) == text);
+            assert!(rt; text_of(arena.regions(), Slot::copied(span)) == text);
+            None
+        }
+        Err(error) => Some(error.kind()),
+    }
+}
+
+#[test]
+fn a_full_region_is_followed_by_twice_the_bytes(rt: HostRuntime) -> Result<(), Fail> {
+    let mut arena = Arena::new(rt.alloc(), 4, 12)?;
+    run_row(
+        &rt,
+        &mut arena,
+        &[
+            (Stores("qqqqqqqq"), 12),
+            (SetsLimit(100), 12),
+            (Stores("x"), 28),
+        ],
+    );
+    assert_eq!(rt; arena.max_memory_usage(), 100);
+    Ok(())
+}
+
+#[test]
+fn the_limit_refuses_past_a_full_region(rt: HostRuntime) -> Result<(), Fail> {
+    let mut arena = Arena::new(rt.alloc(), 10, 10)?;
+    let row = [
+        (Stores("0123456789"), 10),
+        (Stores(""), 10),
+        (Refuses("a"), 10),
+        (Refuses("dfgsagdfgsdf"), 10),
+    ];
+    run_row(&rt, &mut arena, &row);
+    Ok(())
+}
+
+#[test]
+fn a_long_text_gets_its_own_region(rt: HostRuntime) -> Result<(), Fail> {
+    let letters = "abcdefghijklmnopqrstuvwxyz";
+    run_row(
+        &rt,
+        &mut Arena::new(rt.alloc(), 1, 10)?,
+        &[(Refuses(letters), 1)],
+    );
+    run_row(
+        &rt,
+        &mut Arena::new(rt.alloc(), 1, 1000)?,
+        &[(Stores(letters), 27)],
+    );
+    Ok(())
+}
+
+#[test]
+fn what_the_limit_leaves_is_cleared_and_filled_again(rt: HostRuntime) -> Result<(), Fail> {
+    let mut arena = Arena::new(rt.alloc(), 10, 15)?;
+    let row = [
+        (Stores("0123456789"), 10),
+        (Stores("abc"), 15),
+        (Clears, 15),
+        (Stores("hello"), 15),
+        (Refuses("x"), 15),
+    ];
+    run_row(&rt, &mut arena, &row);
+    Ok(())
+}
+
+#[test]
+fn ten_texts_that_double(rt: HostRuntime) -> Result<(), Fail> {
+    let mut arena = Arena::default(rt.alloc())?;
+    let row = [
+        (4096, 4096),
+        (8192, 12288),
+        (16384, 28672),
+        (32768, 61440),
+        (65536, 126976),
+        (131072, 258048),
+        (262144, 520192),
+        (524288, 1044480),
+        (1048576, 2093056),
+        (2097152, 4190208),
+    ];
+    for (len, usage) in row {
+        if len <= GREATEST_REGION {
+            let text = "a".repeat(rt.alloc(), len)?;
+            assert_eq!(rt; store(&rt, &mut arena, text.as_str()), None, "at {len}");
+            assert_eq!(rt; arena.memory_usage(), usage, "at {len}");
+        }
+    }
+    Ok(())
+}
+
+#[test]
+fn no_memory_has_the_greatest_number_of_bytes(rt: HostRuntime) {
+    match Arena::new(rt.alloc(), usize::MAX, usize::MAX) {
+        Ok(_arena) => panic!(rt; "there is no such region"),
+        Err(error) => assert_eq!(rt; error.kind(), LassoErrorKind::FailedAllocation),
+    }
+}

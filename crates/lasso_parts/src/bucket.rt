@@ -1,0 +1,3 @@
+//! Buckets: regions of memory that texts are copied into.
+
+pub mod region;
