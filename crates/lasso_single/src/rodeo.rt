@@ -1,39 +1,42 @@
 //! `Rodeo`, the interner for one thread.
-ghost use Rattle.std.specs.Prelude.{◌≡◌, ◌<◌, ◌-◌, ◌^◌, [], length, Some, is_some, string_bytes, position, bytes_eq, IsTrue, ◌↔◌, IfOk, IfErr, slice_get, option_map};
+ghost use Rattle.std.specs.Prelude.{◌≡◌, ◌<◌, ◌-◌, ◌^◌, [], length, Some, is_some, IsTrue, ◌↔◌, IfOk, IfErr, slice_get, option_map};
 ghost use Rattle.lasso_parts.specs.Account.{fresh};
+ghost use Rattle.lasso_parts.specs.Hashing.{text_hash};
 ghost use Rattle.lasso_parts.specs.Texts.{position_of, key_of, IsDistinct, Fits};
 ghost use Rattle.lasso_parts.specs.declared.util.LassoErrorKind.TheVariants.{FailedAllocation};
 ghost use Rattle.lasso_single.specs.Intern.{Interns};
 
-use crate::counters::Counters;
+use crate::text_list::TextList;
+use lasso_parts::index::{Index, Texts, hash_text};
 use lasso_parts::keys::{Key, Spur};
 use lasso_parts::util::{
     Capacity, FixedState, LassoError, LassoErrorKind, LassoResult, MemoryLimits,
 };
 use std::alloc::Allocator;
 use std::hash::BuildHasher;
-use std::marker::{Model, PhantomData};
+use std::marker::Model;
 
 /// An interner for one thread: a list of distinct texts, in which a text at position n has the key of
 /// number n, and beside it an account of the memory that the texts take.
 #[derive(Drop)]
 pub struct Rodeo<K: Key, S: BuildHasher, A: Allocator> {
-    texts: Vec<String<A>, A>,
-    counters: Counters,
+    list: TextList<A>,
+    index: Index<K, A>,
     hasher: S,
-    keys: PhantomData<K>,
 }
 
 impl<K: Key, S: BuildHasher, A: Allocator> Model for Rodeo<K, S, A> {
-    ghost use Rattle.std.specs.Prelude.{map, string_bytes, length};
-    ghost use Rattle.lasso_parts.specs.Texts.{IsDistinct, Fits};
+    ghost use Rattle.std.specs.Prelude.{length};
+    ghost use Rattle.lasso_parts.specs.Hashing.{text_hash};
     ghost use Rattle.lasso_parts.specs.Held.{Held};
+    ghost use Rattle.lasso_parts.specs.Index.{IsIndexOf};
+    ghost use Rattle.lasso_parts.specs.Texts.{Fits};
 
     ghost Value = { Held };
 
-    ghost view = { λ r. record { texts = map string_bytes r.texts.items; account = r.counters } };
+    ghost view = { λ r. r.list };
 
-    ghost invariant = { λ r. IsDistinct (map string_bytes r.texts.items) × Fits K.key_at (length r.texts.items) };
+    ghost invariant = { λ r. IsIndexOf (text_hash S.build_hasher S.Hasher.write S.Hasher.finish r.hasher) r.list.texts r.index × Fits K.key_at (length r.list.texts) };
 }
 
 impl<K: Key, A: Allocator + Clone> Rodeo<K, FixedState, A> {
@@ -48,11 +51,30 @@ impl<K: Key, A: Allocator + Clone> Rodeo<K, FixedState, A> {
         ensures account { IfOk result (λ r. r.account ≡ fresh capacity.bytes limits) }
         ensures refused { IfErr result (λ error. error ≡ FailedAllocation) }
     {
+        Rodeo::with_capacity_memory_limits_and_hasher(alloc, capacity, limits, FixedState::new())
+    }
+}
+
+impl<K: Key, S: BuildHasher + Drop, A: Allocator + Clone> Rodeo<K, S, A> {
+    /// An interner with room for `capacity`, whose buckets take at most `limits`, and whose index asks
+    /// the hasher. The limit may lie below the first bucket's bytes. It is refused for want of memory
+    /// alone.
+    pub fn with_capacity_memory_limits_and_hasher(
+        alloc: A,
+        capacity: Capacity,
+        limits: MemoryLimits,
+        hasher: S,
+    ) -> LassoResult<Self>
+        ensures texts { IfOk result (λ r. r.texts ≡ []) }
+        ensures account { IfOk result (λ r. r.account ≡ fresh capacity.bytes limits) }
+        ensures refused { IfErr result (λ error. error ≡ FailedAllocation) }
+    {
+        let list = TextList::new(alloc.clone()?, capacity, limits)?;
+        let index = Index::with_capacity(alloc, capacity.strings())?;
         Ok(Rodeo {
-            texts: Vec::with_capacity(alloc, capacity.strings())?,
-            counters: Counters::new(capacity.bytes(), limits.max_memory_usage()),
-            hasher: FixedState::new(),
-            keys: PhantomData,
+            list,
+            index,
+            hasher,
         })
     }
 }
@@ -70,30 +92,27 @@ impl<A: Allocator + Clone> Rodeo<Spur, FixedState, A> {
 
 impl<K: Key, S: BuildHasher, A: Allocator> Rodeo<K, S, A> {
     /// The key of the text, or `None` where it is not there.
-    #[tactic(auto, using(lasso_parts::proofs::TextLemmas::position_map, lasso_parts::proofs::TextLemmas::key_of_present))]
+    #[tactic(auto, using(lasso_parts::proofs::TextLemmas::key_of_present))]
     pub fn get(&self, text: &str) -> Option<K>
         ensures value { result ≡ key_of K.key_at self.now.texts text.now }
         ensures present { is_some result ≡ is_some (position_of self.now.texts text.now) }
     {
-        match find(&self.texts, text) {
-            Some(position) => K::try_from_usize(position),
-            None => None,
-        }
+        let position = self.index.find(&self.list, &self.hasher, text)?;
+        K::try_from_usize(position)
     }
 
     /// Whether the key stands for a text of this interner.
     pub fn contains_key(&self, key: K) -> bool
         ensures { IsTrue result ↔ (K.number key < length self.now.texts) }
     {
-        key.into_usize() < self.texts.len()
+        key.into_usize() < self.list.len()
     }
 
     /// The key's text, or `None` where the key stands for no text of this interner.
     pub fn try_resolve(&self, key: K) -> Option<&str>
         ensures { option_map (λ t. t.now) result ≡ slice_get self.now.texts (K.number key) }
     {
-        let text = self.texts.get(key.into_usize())?;
-        Some(text.as_str())
+        self.list.get(key.into_usize())
     }
 
     /// The key's text. The key must stand for a text of this interner: `contains_key` is the test.
@@ -101,8 +120,7 @@ impl<K: Key, S: BuildHasher, A: Allocator> Rodeo<K, S, A> {
         requires { K.number key < length self.now.texts }
         ensures { slice_get self.now.texts (K.number key) ≡ Some result.now }
     {
-        let text = &self.texts[key.into_usize()];
-        text.as_str()
+        self.list.text_at(key.into_usize())
     }
 
     /// The number of texts.
@@ -111,14 +129,14 @@ impl<K: Key, S: BuildHasher, A: Allocator> Rodeo<K, S, A> {
         ensures distinct { IsDistinct self.now.texts }
         ensures fits { Fits K.key_at (length self.now.texts) }
     {
-        self.texts.len()
+        self.list.len()
     }
 
     /// The bytes that all buckets take.
     pub fn current_memory_usage(&self) -> usize
         ensures { result ≡ self.now.account.usage }
     {
-        self.counters.usage()
+        self.list.memory_usage()
     }
 }
 
@@ -129,27 +147,21 @@ impl<K: Key, S: BuildHasher, A: Allocator + Clone> Rodeo<K, S, A> {
     pub fn try_get_or_intern(&mut self, text: &str) -> LassoResult<K>
         ensures { Interns K.key_at self.old.texts self.old.account text.now result self.new.texts self.new.account }
     {
-        if let Some(key) = self.get(text) {
-            return Ok(key);
+        let hash = hash_text(&self.hasher, text);
+        if let Some(position) = self.index.find_hashed(&self.list, &self.hasher, hash, text) {
+            return Ok(K::try_from_usize(position).unwrap());
         }
-        let Some(key) = K::try_from_usize(self.texts.len()) else {
+        let Some(key) = K::try_from_usize(self.list.len()) else {
             return Err(LassoError::new(LassoErrorKind::KeySpaceExhaustion));
         };
-        let Some(counters) = self.counters.stored(text.len()) else {
+        if !self.list.admits(text.len()) {
             return Err(LassoError::new(LassoErrorKind::MemoryLimitReached));
-        };
-        let copy = String::from_str(self.texts.allocator().clone()?, text)?;
-        self.texts.push(copy)?;
-        self.counters = counters;
+        }
+        self.index.reserve_one(&self.list, &self.hasher)?;
+        self.list.push_copied(text)?;
+        self.index.insert_reserved(hash, key);
         Ok(key)
     }
-}
-
-// Where the text stands in the list.
-fn find<A: Allocator>(texts: &[String<A>], text: &str) -> Option<usize>
-    ensures { result ≡ position (λ t. bytes_eq (string_bytes t) text.now) texts.now }
-{
-    texts.iter().position(|t| t.as_str() == text)
 }
 
 #[cfg(test)]

@@ -1,0 +1,103 @@
+//! `TextList`: the texts of an interner in order, over the memory that holds them.
+ghost use Rattle.std.specs.Prelude.{◌≡◌, ◌<◌, ◌++◌, [], ◌∷◌, length, IsTrue, ◌↔◌, IsSome, Some, IfOk, IfErr, OnOk, OnErr, slice_get, option_map};
+ghost use Rattle.lasso_parts.specs.Account.{fresh, store};
+ghost use Rattle.lasso_parts.specs.declared.util.LassoErrorKind.TheVariants.{FailedAllocation};
+
+use lasso_parts::arena::Arena;
+use lasso_parts::index::Texts;
+use lasso_parts::slots::{Slot, text_of};
+use lasso_parts::util::{Capacity, LassoResult, MemoryLimits};
+use std::alloc::Allocator;
+use std::marker::Model;
+
+/// A list of texts that only grows at its end, and the arena that holds the copied ones. Contracts see
+/// the texts and the account of the memory.
+#[derive(Drop)]
+pub(crate) struct TextList<A: Allocator> {
+    slots: Vec<Slot, A>,
+    arena: Arena<A>,
+}
+
+impl<A: Allocator> Model for TextList<A> {
+    ghost use Rattle.lasso_parts.specs.Arena.{account_of};
+    ghost use Rattle.lasso_parts.specs.Held.{Held};
+    ghost use Rattle.lasso_parts.specs.Slots.{texts_of, AllThere};
+
+    ghost Value = { Held };
+
+    ghost view = { λ l. record { texts = texts_of l.arena.all l.slots.items; account = account_of l.arena } };
+
+    ghost invariant = { λ l. AllThere l.arena.all l.slots.items };
+}
+
+impl<A: Allocator> Texts for TextList<A> {
+    ghost list = { λ l. l.texts };
+
+    #[inline]
+    fn text_at(&self, position: usize) -> &str {
+        text_of(self.arena.regions(), self.slots[position])
+    }
+}
+
+impl<A: Allocator + Clone> TextList<A> {
+    /// An empty list. It is refused for want of memory alone.
+    pub(crate) fn new(alloc: A, capacity: Capacity, limits: MemoryLimits) -> LassoResult<Self>
+        ensures texts { IfOk result (λ l. l.texts ≡ []) }
+        ensures account { IfOk result (λ l. l.account ≡ fresh capacity.bytes limits) }
+        ensures refused { IfErr result (λ error. error ≡ FailedAllocation) }
+    {
+        let slots = Vec::with_capacity(alloc.clone()?, capacity.strings())?;
+        let arena = Arena::new(alloc, capacity.bytes(), limits.max_memory_usage())?;
+        Ok(TextList { slots, arena })
+    }
+
+    /// Copies a text to the end of the list. The limit must admit it, so that it is refused for want of
+    /// memory alone, and nothing changes then.
+    pub(crate) fn push_copied(&mut self, text: &str) -> LassoResult<()>
+        requires { IsSome (store self.old.account (length text.now)) }
+        ensures texts { OnOk result (self.new.texts ≡ self.old.texts ++ text.now ∷ []) }
+        ensures account { OnOk result (store self.old.account (length text.now) ≡ Some self.new.account) }
+        ensures refused { IfErr result (λ error. error ≡ FailedAllocation) }
+        ensures same_texts { OnErr result (self.new.texts ≡ self.old.texts) }
+        ensures same_account { OnErr result (self.new.account ≡ self.old.account) }
+    {
+        self.slots.reserve(1)?;
+        let span = self.arena.store_str(text)?;
+        self.slots.push_reserved(Slot::copied(span));
+        Ok(())
+    }
+}
+
+impl<A: Allocator> TextList<A> {
+    /// The number of texts.
+    pub(crate) fn len(&self) -> usize
+        ensures { result ≡ length self.now.texts }
+    {
+        self.slots.len()
+    }
+
+    /// The text at the position, or `None` past the end.
+    pub(crate) fn get(&self, position: usize) -> Option<&str>
+        ensures { option_map (λ t. t.now) result ≡ slice_get self.now.texts position }
+    {
+        if position < self.slots.len() {
+            Some(self.text_at(position))
+        } else {
+            None
+        }
+    }
+
+    /// Whether the limit admits a text of so many bytes. It takes no memory.
+    pub(crate) fn admits(&self, len: usize) -> bool
+        ensures { IsTrue result ↔ IsSome (store self.now.account len) }
+    {
+        self.arena.admits(len)
+    }
+
+    /// The bytes that all buckets take.
+    pub(crate) fn memory_usage(&self) -> usize
+        ensures { result ≡ self.now.account.usage }
+    {
+        self.arena.memory_usage()
+    }
+}
