@@ -5,7 +5,7 @@
 -- position that has it, and a search that found none shows that no position has it: so its answer is the
 -- text's position in the list. Such an index stays whole when a new text goes last and its position is
 -- entered under the text's hash.
-use Rattle.std.proofs.Common.{◌≡◌, ◌≢◌, ℕ, zero, suc, ◌+◌, ◌<◌, ◌≤◌, ◌⊎◌, ◌↔◌, List, [], ◌∷◌, ◌++◌, Bool, true, false, cond, Option, Some, None, IfSome, IfNone, length, slice_get, get_or, refl, sym, ap, ◌∙◌, subst, inl, inr, arith}
+use Rattle.std.proofs.Common.{◌≡◌, ◌≢◌, ℕ, zero, suc, ◌<◌, ◌⊎◌, ◌↔◌, List, [], ◌∷◌, ◌++◌, Bool, true, false, cond, Option, Some, None, IfSome, IfNone, length, slice_get, get_or, refl, sym, ap, ◌∙◌, subst, inl, inr, arith}
 use Rattle.std.specs.List.{position_or_len}
 use Rattle.std.specs.Str.{bytes_eq}
 use Rattle.std.proofs.lemmas.Bool.{cases_lt, cases_Bool, lt-ltb, le-ltb, true≢false}
@@ -77,16 +77,16 @@ pub position_of_at : (texts : List Text) (text : Text) (n : ℕ) → IsDistinct 
 position_of_at texts text n distinct at =
     let l : n < length texts = slice_get_within texts n text at in
     let p : position_or_len (λ t. bytes_eq t text) texts ≡ n = position_or_len_is (λ t. bytes_eq t text) texts n [] (omega arith)
-        (λ k h. differs (get_or texts k []) text (λ e. let same : k ≡ n = one_position texts k n text distinct (slice_get-get_or texts k [] (omega arith) ∙ ap Some e) at in omega arith))
-        (λ h. (bytes_eq-Decides (get_or texts n []) text).1 (get_or_from_slice_get texts n text [] at)) in
+    (λ k h. differs (get_or texts k []) text (λ e. let same : k ≡ n = one_position texts k n text distinct (slice_get-get_or texts k [] (omega arith) ∙ ap Some e) at in omega arith))
+    (λ h. (bytes_eq-Decides (get_or texts n []) text).1 (get_or_from_slice_get texts n text [] at)) in
     cond_true _ _ None (lt-ltb _ (length texts) (subst (λ k. k < length texts) (sym p) l)) ∙ ap Some p
 
 -- a text that stands nowhere has no position
 pub position_of_none : (texts : List Text) (text : Text) → ((n : ℕ) → n < length texts → slice_get texts n ≢ Some text) → position_of texts text ≡ None
 position_of_none texts text none =
     let p : position_or_len (λ t. bytes_eq t text) texts ≡ length texts = position_or_len_is (λ t. bytes_eq t text) texts (length texts) [] (omega arith)
-        (λ k h. differs (get_or texts k []) text (λ e. none k h (slice_get-get_or texts k [] h ∙ ap Some e)))
-        (λ h. absurd (omega arith)) in
+    (λ k h. differs (get_or texts k []) text (λ e. none k h (slice_get-get_or texts k [] h ∙ ap Some e)))
+    (λ h. absurd (omega arith)) in
     cond_false _ (Some (position_or_len (λ t. bytes_eq t text) texts)) None (le-ltb _ (length texts) (omega (arith, p)))
 
 -- ---- the index of a whole list
@@ -118,7 +118,7 @@ IsIndexOf-push hash_of texts text hash n old new whole absent last hashed held s
   filed = stays hash_of (texts ++ text ∷ []) text (IsFiled-append hash_of texts (text ∷ []) old whole.filed) (ap (slice_get (texts ++ text ∷ [])) last ∙ slice_get_push texts text) hashed;
   holds = λ m. (
     λ h. elim ((held m).0 h) [ inl w ↦ let l = (whole.holds m).0 w in omega (arith, length_push texts text) | inr e ↦ omega (arith, length_push texts text) ],
-    λ l. (held m).1 (elim (cases_lt m (length texts)) [ inl b ↦ inl ((whole.holds m).1 b) | inr b ↦ inr (omega (arith, length_push texts text)) ])
+    λ l. (held m).1 (elim (cases_lt m (length texts)) [ inl b ↦ inl ((whole.holds m).1 b) | inr b ↦ inr (omega (arith, length_push texts text)) ]),
   );
   distinct = distinct_push texts text whole.distinct absent;
 }

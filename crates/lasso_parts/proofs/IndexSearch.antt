@@ -3,14 +3,12 @@
 -- A key with that text would have been got to: it stands in the upper range, from the home slot up, or in
 -- the lower one, from the first slot up to the home slot. No slot that was seen has the text, and an empty
 -- slot ends each search that would go past it. So no slot has it.
-use Rattle.std.proofs.Common.{◌≡◌, ◌≢◌, ℕ, zero, suc, ◌+◌, ◌-◌, ◌*◌, ◌/◌, ◌^◌, ◌<◌, ◌≤◌, ◌⊎◌, ◌↔◌, List, [], ◌∷◌, ◌++◌, Option, Some, None, map, length, slice_get, get_or, set, take, replicate, refl, sym, ap, ◌∙◌, subst, inl, inr, arith, zero-add, add-zero}
-use Rattle.std.specs.Option.{option_map}
+use Rattle.std.proofs.Common.{◌≡◌, ◌≢◌, ℕ, ◌<◌, ◌≤◌, List, Option, Some, None, length, slice_get, refl, sym, ap, ◌∙◌, subst, inl, inr, arith}
 use Rattle.std.proofs.lemmas.Bool.{cases_lt, cases_eq}
-use Rattle.std.proofs.lemmas.List.{get_or-map, length-map, map-set, length-set, get_or-set_same, get_or-set_other, get_or_past, get_or-replicate, get_or-take, length-replicate, get_or_append_left, get_or_push, length_push, take_more, take_all, take_more_set, replicate_more}
-use Rattle.std.proofs.lemmas.Option.{slice_get_within, same_Some, none-some}
+use Rattle.std.proofs.lemmas.Option.{none-some}
 use Rattle.lasso_parts.specs.Texts.{Text}
-use Rattle.lasso_parts.specs.Index.{slot, used, home, Holds, HoldsNone, IsFull, Reaches, IsFiled, IsFiledAnywhere, StaysFiled, load_limit, room, grown_count}
-use Rattle.lasso_parts.specs.IndexTable.{positions, AllInList, Misses, Refilled, IsSlotCount, IsTable}
+use Rattle.lasso_parts.specs.Index.{slot, used, home, Holds, IsFull, Reaches, IsFiled}
+use Rattle.lasso_parts.specs.IndexTable.{positions, Misses}
 use Rattle.lasso_parts.proofs.IndexSlots.{length-positions, slot_within, not_all_full}
 
 -- ---- a search
@@ -79,4 +77,3 @@ module _ {K : Type 0} (number : K → ℕ) (slots : List (Option K)) (xs : List 
 
   pub missing_all : Misses texts text (positions number slots) a (length slots) → Misses texts text (positions number slots) 0 a → (n : ℕ) → Holds xs n → slice_get texts n ≢ Some text
   missing_all above below = absent_all hash_of texts text xs f (missed a _ (length slots) _ same_home same_length above) (missed 0 0 a _ refl same_home below)
-

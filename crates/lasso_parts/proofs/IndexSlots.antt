@@ -3,17 +3,17 @@
 -- A key that goes into an empty slot changes that slot alone: a range that was full stays full, so each
 -- search that got to a slot still gets there, and the new key is got to where the search for its hash ended.
 -- So the table holds one position more, has one slot more in use, and stays filed.
-use Rattle.std.proofs.Common.{◌≡◌, ◌≢◌, ℕ, zero, suc, false, ◌+◌, ◌-◌, ◌*◌, ◌/◌, ◌^◌, ◌<◌, ◌≤◌, ◌⊎◌, ◌↔◌, List, [], ◌∷◌, ◌++◌, Option, Some, None, map, length, slice_get, get_or, set, take, replicate, refl, sym, ap, ◌∙◌, subst, inl, inr, arith, zero-add, add-zero}
+use Rattle.std.proofs.Common.{◌≡◌, ◌≢◌, ℕ, zero, suc, false, ◌+◌, ◌<◌, ◌≤◌, ◌⊎◌, ◌↔◌, List, [], ◌∷◌, Option, Some, None, length, slice_get, get_or, set, replicate, refl, sym, ap, ◌∙◌, subst, inl, inr, arith}
 use Rattle.std.specs.Option.{option_map}
 use Rattle.std.proofs.lemmas.Bool.{cases_lt, cases_eq}
-use Rattle.std.proofs.lemmas.List.{get_or-map, length-map, map-set, length-set, get_or-set_same, get_or-set_other, get_or_past, get_or-replicate, get_or-take, length-replicate, get_or_append_left, get_or_push, length_push, take_more, take_all, take_more_set, replicate_more}
+use Rattle.std.proofs.lemmas.List.{get_or-map, length-map, map-set, length-set, get_or-set_same, get_or-set_other, get_or_past}
 use Rattle.std.proofs.lemmas.Option.{slice_get_within, same_Some, none-some}
 use Rattle.std.specs.Str.{bytes_eq}
 use Rattle.std.proofs.lemmas.Bool.{true≢false}
 use Rattle.std.proofs.lemmas.Slice.Eq.{bytes_eq-Decides}
 use Rattle.lasso_parts.specs.Texts.{Text}
-use Rattle.lasso_parts.specs.Index.{slot, used, home, Holds, HoldsNone, IsFull, Reaches, IsFiled, IsFiledAnywhere, StaysFiled, load_limit, room, grown_count}
-use Rattle.lasso_parts.specs.IndexTable.{positions, AllInList, Misses, Refilled, IsSlotCount, IsTable}
+use Rattle.lasso_parts.specs.Index.{slot, used, home, Holds, IsFull, Reaches, IsFiled, StaysFiled, load_limit, room}
+use Rattle.lasso_parts.specs.IndexTable.{positions, Misses, IsSlotCount, IsTable}
 
 -- ---- what the code reads
 

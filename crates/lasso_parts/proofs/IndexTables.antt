@@ -4,14 +4,14 @@
 -- search for its hash ends. As far as the old slots were read, the new table holds the same positions, has
 -- as many slots in use, and is filed; there is always an empty slot, since it has more slots than keys.
 -- A count of slots is 0 or a power of two from 8 on, so doubling it makes room.
-use Rattle.std.proofs.Common.{◌≡◌, ◌≢◌, ℕ, zero, suc, ◌+◌, ◌-◌, ◌*◌, ◌/◌, ◌^◌, ◌<◌, ◌≤◌, ◌⊎◌, ◌↔◌, List, [], ◌∷◌, ◌++◌, Option, Some, None, map, length, slice_get, get_or, set, take, replicate, refl, sym, ap, ◌∙◌, subst, inl, inr, arith, zero-add, add-zero}
+use Rattle.std.proofs.Common.{◌≡◌, ℕ, zero, suc, ◌+◌, ◌-◌, ◌*◌, ◌^◌, ◌<◌, ◌≤◌, ◌⊎◌, ◌↔◌, List, [], ◌∷◌, ◌++◌, Option, Some, None, length, slice_get, set, take, replicate, refl, sym, ap, ◌∙◌, subst, inl, inr, arith, zero-add, add-zero}
 use Rattle.std.specs.Option.{option_map}
-use Rattle.std.proofs.lemmas.Bool.{cases_lt, cases_eq}
-use Rattle.std.proofs.lemmas.List.{get_or-map, length-map, map-set, length-set, get_or-set_same, get_or-set_other, get_or_past, get_or-replicate, get_or-take, length-replicate, get_or_append_left, get_or_push, length_push, take_more, take_all, take_more_set, replicate_more}
-use Rattle.std.proofs.lemmas.Option.{slice_get_within, same_Some, none-some}
+use Rattle.std.proofs.lemmas.Bool.{cases_lt}
+use Rattle.std.proofs.lemmas.List.{map-set, get_or_past, get_or-replicate, length-replicate, get_or_append_left, get_or_push, length_push, take_more, take_all, take_more_set, replicate_more}
+use Rattle.std.proofs.lemmas.Option.{same_Some, none-some}
 use Rattle.lasso_parts.specs.Texts.{Text}
-use Rattle.lasso_parts.specs.Index.{slot, used, home, Holds, HoldsNone, IsFull, Reaches, IsFiled, IsFiledAnywhere, StaysFiled, load_limit, room, grown_count}
-use Rattle.lasso_parts.specs.IndexTable.{positions, AllInList, Misses, Refilled, IsSlotCount, IsTable}
+use Rattle.lasso_parts.specs.Index.{slot, used, home, Holds, HoldsNone, Reaches, load_limit, room, grown_count}
+use Rattle.lasso_parts.specs.IndexTable.{positions, Refilled, IsSlotCount, IsTable}
 use Rattle.std.proofs.lemmas.List.{with_items_is}
 use Rattle.std.proofs.lemmas.Grind.{common_steps}
 use Rattle.std.proofs.lemmas.Bool.Decides.{nat_tests}
@@ -56,25 +56,26 @@ module _ {K : Type 0} (number : K → ℕ) (hash_of : Text → ℕ) (texts : Lis
   seen_more o e = take_more (positions number old) i None (subst (λ n. i < n) (sym (length-positions number old)) inside) ∙ ap (λ w. take i (positions number old) ++ w ∷ []) e
 
   -- the next old slot is empty
-  pub Refilled-skip : slot (positions number old) i ≡ None → Refilled hash_of texts (positions number slots) (take (i + 1) (positions number old))
-  Refilled-skip e =
+  pub Refilled-skip : (new : List (Option K)) → slot (positions number old) i ≡ None → new ≡ slots → Refilled hash_of texts (positions number new) (take (i + 1) (positions number old))
+  Refilled-skip new e same =
       let s = seen_more None e in
-      record {
+      subst (λ xs. Refilled hash_of texts xs (take (i + 1) (positions number old))) (sym (ap (positions number) same)) (record {
         filed = r.filed;
         holds = λ n. (
           λ h. subst (λ xs. Holds xs n) (sym s) ((Holds-push (take i (positions number old)) None n).1 (inl ((r.holds n).0 h))),
           λ h. elim ((Holds-push (take i (positions number old)) None n).0 (subst (λ xs. Holds xs n) s h)) [ inl w ↦ (r.holds n).1 w | inr w ↦ absurd (none-some n w) ],
         );
         same_used = r.same_used ∙ sym (used-push (take i (positions number old)) None ∙ add-zero _) ∙ ap used (sym s);
-      }
+      })
 
   -- the next old slot has a key, which is put in a free slot
-  pub Refilled-put : (key : K) (text : Text) (at : ℕ) → slot (positions number old) i ≡ Some (number key) → slice_get texts (number key) ≡ Some text → at < length slots → slot (positions number slots) at ≡ None → Reaches (positions number slots) (home (length slots) (hash_of text)) at → Refilled hash_of texts (positions number (set slots at (Some key))) (take (i + 1) (positions number old))
-  Refilled-put key text at e here l free reached =
+  pub Refilled-put : (key : K) (text : Text) (hash at : ℕ) (new : List (Option K)) → slot (positions number old) i ≡ Some (number key) → slice_get texts (number key) ≡ Some text → hash ≡ hash_of text → at < length slots → slot (positions number slots) at ≡ None → Reaches (positions number slots) (home (length slots) hash) at → new ≡ set slots at (Some key) → Refilled hash_of texts (positions number new) (take (i + 1) (positions number old))
+  Refilled-put key text hash at new e here hashed l free reached put =
       let s = seen_more (Some (number key)) e in
       let inside_new = subst (λ n. at < n) (sym (length-positions number slots)) l in
-      let reached_new = subst (λ n. Reaches (positions number slots) (home n (hash_of text)) at) (sym (length-positions number slots)) reached in
-      subst (λ xs. Refilled hash_of texts xs (take (i + 1) (positions number old))) (sym (positions-set number slots at key)) (record {
+      let reached_hash = subst (λ h. Reaches (positions number slots) (home (length slots) h) at) hashed reached in
+      let reached_new = subst (λ n. Reaches (positions number slots) (home n (hash_of text)) at) (sym (length-positions number slots)) reached_hash in
+      subst (λ xs. Refilled hash_of texts xs (take (i + 1) (positions number old))) (sym (ap (positions number) put ∙ positions-set number slots at key)) (record {
         filed = IsFiled-set (positions number slots) at (number key) inside_new free hash_of texts text r.filed here reached_new;
         holds = λ n. (
           λ h. subst (λ xs. Holds xs n) (sym s) ((Holds-push (take i (positions number old)) (Some (number key)) n).1
@@ -153,8 +154,10 @@ positions-resized number old new n len e none z = ap (positions number) (e ∙ n
   take-nil : {A : Type 0} (n : ℕ) → take {A = A} n [] ≡ []
   take-nil zero = refl
   take-nil (suc n) = refl
+
   nil_front : {A : Type 0} (xs ys : List A) → xs ≡ [] → xs ++ ys ≡ ys
   nil_front xs ys e = ap (λ zs. zs ++ ys) e
+
   sub-zero : (n : ℕ) → n - 0 ≡ n
   sub-zero n = omega arith
 

@@ -14,11 +14,10 @@ mod table;
 #[cfg(test)]
 mod tests;
 
-pub use hashing::hash_text;
-pub use lists::Texts;
-
 use crate::keys::Key;
 use crate::util::{LassoError, LassoErrorKind, LassoResult};
+pub use hashing::hash_text;
+pub use lists::Texts;
 use probe::{Scan, free_slot, home_slot, scan_slots};
 use std::alloc::Allocator;
 use std::hash::BuildHasher;

@@ -1,10 +1,14 @@
 //! What no clause says of an index: which texts are hashed again, and that a constant hasher serves.
+ghost use Rattle.lasso_parts.specs.Index.{IsFiledAnywhere};
+
 use crate::index::hashers::{CountingState, SameState};
 use crate::index::{Index, hash_text};
 use crate::keys::{Key, Spur};
-use crate::util::{FixedState, LassoErrorKind};
+use crate::util::{FixedState, LassoErrorKind, LassoResult};
 use std::alloc::Global;
 use std::cell::Cell;
+use std::hash::BuildHasher;
+use std::marker::Model;
 use std::test::Fail;
 
 static WORDS: [&str; 24] = [
@@ -12,20 +16,74 @@ static WORDS: [&str; 24] = [
     "aaaa", "one", "two", "three", "four", "five", "six", "seven", "eight",
 ];
 
+// A list of texts with an index of some of them.
+#[derive(Drop)]
+struct Entered<'a, S: BuildHasher + Drop> {
+    texts: &'a [&'a str],
+    index: Index<Spur, Global>,
+    hasher: S,
+}
+
+impl<'a, S: BuildHasher + Drop> Model for Entered<'a, S> {
+    ghost use Rattle.std.specs.Prelude.{ℕ, List, Option, map};
+    ghost use Rattle.lasso_parts.specs.Hashing.{text_hash};
+    ghost use Rattle.lasso_parts.specs.Index.{IsFiled};
+
+    ghost Value = { List (Option ℕ) };
+
+    ghost view = { λ e. e.index };
+
+    ghost invariant = { λ e. IsFiled (text_hash S.build_hasher S.Hasher.write S.Hasher.finish e.hasher) (map (λ t. t.now) e.texts.now) e.index };
+}
+
+impl<'a, S: BuildHasher + Drop> Entered<'a, S> {
+    fn new(index: Index<Spur, Global>, hasher: S, texts: &'a [&'a str]) -> Self
+        requires { IsFiledAnywhere index }
+    {
+        Entered {
+            texts,
+            index,
+            hasher,
+        }
+    }
+
+    // Enters the text at the position.
+    fn enter(&mut self, position: usize) -> LassoResult<()> {
+        if let Some(text) = self.texts.get(position) {
+            if let Some(key) = Spur::try_from_usize(position) {
+                let hash = hash_text(&self.hasher, text);
+                self.index.reserve_one(&self.texts, &self.hasher)?;
+                self.index.insert_reserved(hash, key);
+            }
+        }
+        Ok(())
+    }
+
+    fn find(&self, text: &str) -> Option<usize> {
+        self.index.find(&self.texts, &self.hasher, text)
+    }
+
+    fn find_hashed(&self, text: &str) -> Option<usize> {
+        let hash = hash_text(&self.hasher, text);
+        self.index
+            .find_hashed(&self.texts, &self.hasher, hash, text)
+    }
+
+    fn clear(&mut self) {
+        self.index.clear();
+    }
+}
+
 #[test]
 fn constant_hash(rt: HostRuntime) -> Result<(), Fail> {
-    let hasher = SameState::new();
-    let texts = WORDS.as_slice();
-    let mut index: Index<Spur, Global> = Index::new(rt.alloc());
+    let mut words = Entered::new(Index::new(rt.alloc()), SameState::new(), WORDS.as_slice());
     for n in 0..WORDS.len() {
-        index.reserve_one(&texts, &hasher)?;
-        let key = Spur::try_from_usize(n).ok_or("no key")?;
-        index.insert_reserved(hash_text(&hasher, WORDS[n]), key);
+        words.enter(n)?;
     }
     for n in 0..WORDS.len() {
-        assert_eq!(rt; index.find(&texts, &hasher, WORDS[n]), Some(n));
+        assert_eq!(rt; words.find(WORDS[n]), Some(n));
     }
-    assert_eq!(rt; index.find(&texts, &hasher, "bbba"), None);
+    assert_eq!(rt; words.find("bbba"), None);
     Ok(())
 }
 
@@ -33,36 +91,33 @@ fn constant_hash(rt: HostRuntime) -> Result<(), Fail> {
 fn hashed_again(rt: HostRuntime) -> Result<(), Fail> {
     let asked = Cell::new(0u64);
     let hasher = CountingState::new(&asked);
-    let texts = WORDS.as_slice();
-    let mut index: Index<Spur, Global> = Index::new(rt.alloc());
+    let mut words = Entered::new(Index::new(rt.alloc()), hasher, WORDS.as_slice());
     let mut sixth = 0;
     let mut seventh = 0;
     for n in 0..7usize {
         let before = asked.get();
-        let hash = hash_text(&hasher, WORDS[n]);
-        let key = Spur::try_from_usize(n).ok_or("no key")?;
-        index.reserve_one(&texts, &hasher)?;
-        index.insert_reserved(hash, key);
+        words.enter(n)?;
         sixth = seventh;
         seventh = asked.get().wrapping_sub(before);
     }
-    assert!(rt; seventh >= sixth + 6, "{sixth} texts, then {seventh}");
+    assert!(rt;
+        seventh.wrapping_sub(sixth) >= 6,
+        "{sixth} texts, then {seventh}"
+    );
     Ok(())
 }
 
 #[test]
 fn each_call(rt: HostRuntime) -> Result<(), Fail> {
-    let hasher = FixedState::new();
-    let texts = WORDS.as_slice();
-    let mut index: Index<Spur, Global> = Index::with_capacity(rt.alloc(), 7)?;
-    let key = Spur::try_from_usize(3).ok_or("no key")?;
-    let hash = hash_text(&hasher, "aa");
-    index.insert_reserved(hash, key);
-    assert_eq!(rt; index.find_hashed(&texts, &hasher, hash, "aa"), Some(3));
-    assert_eq!(rt; index.find(&texts, &hasher, "ab"), None);
-    index.clear();
-    assert_eq!(rt; index.find(&texts, &hasher, "aa"), None);
-    let huge: Result<Index<Spur, Global>, _> = Index::with_capacity(rt.alloc(), usize::MAX);
+    let index = Index::with_capacity(rt.alloc(), 7)?;
+    let mut words = Entered::new(index, FixedState::new(), WORDS.as_slice());
+    words.enter(3)?;
+    assert_eq!(rt; words.find("aa"), Some(3));
+    assert_eq!(rt; words.find_hashed("aa"), Some(3));
+    assert_eq!(rt; words.find("ab"), None);
+    words.clear();
+    assert_eq!(rt; words.find("aa"), None);
+    let huge: LassoResult<Index<Spur, Global>> = Index::with_capacity(rt.alloc(), usize::MAX);
     let refused = huge.err().ok_or("taken")?;
     assert_eq!(rt; refused.kind(), LassoErrorKind::FailedAllocation);
     Ok(())

@@ -1,5 +1,6 @@
-use Rattle.std.proofs.Common.{◌≡◌, ℕ, ◌+◌, ◌<◌, List, length, Some, sym, ap, ◌∙◌, arith}
+use Rattle.std.proofs.Common.{Some, sym, ap, ◌∙◌, arith}
 use Rattle.std.proofs.lemmas.Slice.Eq.{bytes_eq-Decides}
+use Rattle.lasso_parts.specs.IndexTable.{positions}
 use Rattle.lasso_parts.proofs.IndexSlots.{slot_has, Misses-more, misses_here}
 use Rattle.lasso_parts.proofs.index.probe.scan_slots.Goals as goal
 
@@ -12,4 +13,4 @@ returns-then-eq g c =
 
 pub loop-j-preserved : goal.loop-j-preserved
 loop-j-preserved g c =
-    Misses-more _ _ _ _ _ c.loop-j.invariant (misses_here _ _ _ _ _ _ (slot_has g.K.Key.number c.args.slots.now c.loop-j.j _ c.in-Some.key _ (omega arith) c.in-Some.is c.into_usize-position.ensures) c.text_at.ensures (sym c.eq.ensures ∙ c.if-eq.false))
+    Misses-more _ _ _ _ _ c.loop-j.invariant (misses_here _ _ _ (positions g.K.Key.number c.args.slots.now) c.loop-j.j _ (slot_has g.K.Key.number c.args.slots.now c.loop-j.j _ c.in-Some.key _ (omega arith) c.in-Some.is c.into_usize-position.ensures) c.text_at.ensures (sym c.eq.ensures ∙ c.if-eq.false))

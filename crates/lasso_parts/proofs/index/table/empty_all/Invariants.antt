@@ -1,4 +1,4 @@
-use Rattle.std.proofs.Common.{◌≡◌, ℕ, ◌<◌, None, take, replicate}
+use Rattle.std.proofs.Common.{◌≡◌, None, take, replicate}
 use Rattle.lasso_parts.specs.IndexTable.{positions}
 use Rattle.lasso_parts.proofs.index.table.empty_all.Given as goal
 

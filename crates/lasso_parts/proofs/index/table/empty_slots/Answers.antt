@@ -1,4 +1,3 @@
-use Rattle.std.proofs.Common.{arith}
 use Rattle.lasso_parts.proofs.IndexTables.{positions-resized}
 use Rattle.lasso_parts.proofs.index.table.empty_slots.Goals as goal
 

@@ -1,4 +1,4 @@
-use Rattle.std.proofs.Common.{◌≡◌, ℕ, ◌↔◌, take}
+use Rattle.std.proofs.Common.{take}
 use Rattle.lasso_parts.specs.Hashing.{text_hash}
 use Rattle.lasso_parts.specs.IndexTable.{positions}
 use Rattle.lasso_parts.specs.IndexTable.{Refilled}

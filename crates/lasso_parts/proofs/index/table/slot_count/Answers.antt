@@ -1,4 +1,4 @@
-use Rattle.std.proofs.Common.{◌≡◌, ℕ, ◌+◌, ◌*◌, ◌^◌, suc, ap, ◌∙◌, arith, rules}
+use Rattle.std.proofs.Common.{◌≡◌, ℕ, ◌*◌, ◌^◌, suc, arith}
 use Rattle.std.proofs.lemmas.Grind.{common_steps}
 use Rattle.lasso_parts.proofs.index.table.slot_count.Goals as goal
 

@@ -1,4 +1,4 @@
-use Rattle.std.proofs.Common.{◌≡◌, ℕ, ◌-◌, ◌+◌, ◌^◌, ◌<◌, ◌≤◌}
+use Rattle.std.proofs.Common.{◌≡◌, ℕ, ◌-◌, ◌^◌, ◌≤◌}
 use Rattle.lasso_parts.proofs.index.table.slot_count.Given as goal
 
 abbrev pub invariant-loop-count : goal.invariant-loop-count
