@@ -1,17 +1,16 @@
 //! `Rodeo`, the interner for one thread.
-ghost use Rattle.std.specs.Prelude.{◌≡◌, ◌<◌, ◌-◌, ◌^◌, [], length, Some, is_some, IsTrue, ◌↔◌, IfOk, IfErr, slice_get, option_map};
-ghost use Rattle.lasso_parts.specs.Account.{fresh};
-ghost use Rattle.lasso_parts.specs.Hashing.{text_hash};
+ghost use Rattle.std.specs.Prelude.{◌≡◌, ◌<◌, length, Some, is_some, IsTrue, ◌↔◌, slice_get, option_map};
 ghost use Rattle.lasso_parts.specs.Texts.{position_of, key_of, IsDistinct, Fits};
-ghost use Rattle.lasso_parts.specs.declared.util.LassoErrorKind.TheVariants.{FailedAllocation};
 ghost use Rattle.lasso_single.specs.Intern.{Interns};
+
+mod makers;
+#[cfg(test)]
+mod tests;
 
 use crate::text_list::TextList;
 use lasso_parts::index::{Index, Texts, hash_text};
-use lasso_parts::keys::{Key, Spur};
-use lasso_parts::util::{
-    Capacity, FixedState, LassoError, LassoErrorKind, LassoResult, MemoryLimits,
-};
+use lasso_parts::keys::Key;
+use lasso_parts::util::{LassoError, LassoErrorKind, LassoResult};
 use std::alloc::Allocator;
 use std::hash::BuildHasher;
 use std::marker::Model;
@@ -37,57 +36,6 @@ impl<K: Key, S: BuildHasher, A: Allocator> Model for Rodeo<K, S, A> {
     ghost view = { λ r. r.list };
 
     ghost invariant = { λ r. IsIndexOf (text_hash S.build_hasher S.Hasher.write S.Hasher.finish r.hasher) r.list.texts r.index × Fits K.key_at (length r.list.texts) };
-}
-
-impl<K: Key, A: Allocator + Clone> Rodeo<K, FixedState, A> {
-    /// An interner with room for `capacity`, whose buckets take at most `limits`. The limit may lie
-    /// below the first bucket's bytes. It is refused for want of memory alone.
-    pub fn with_capacity_and_memory_limits(
-        alloc: A,
-        capacity: Capacity,
-        limits: MemoryLimits,
-    ) -> LassoResult<Self>
-        ensures texts { IfOk result (λ r. r.texts ≡ []) }
-        ensures account { IfOk result (λ r. r.account ≡ fresh capacity.bytes limits) }
-        ensures refused { IfErr result (λ error. error ≡ FailedAllocation) }
-    {
-        Rodeo::with_capacity_memory_limits_and_hasher(alloc, capacity, limits, FixedState::new())
-    }
-}
-
-impl<K: Key, S: BuildHasher + Drop, A: Allocator + Clone> Rodeo<K, S, A> {
-    /// An interner with room for `capacity`, whose buckets take at most `limits`, and whose index asks
-    /// the hasher. The limit may lie below the first bucket's bytes. It is refused for want of memory
-    /// alone.
-    pub fn with_capacity_memory_limits_and_hasher(
-        alloc: A,
-        capacity: Capacity,
-        limits: MemoryLimits,
-        hasher: S,
-    ) -> LassoResult<Self>
-        ensures texts { IfOk result (λ r. r.texts ≡ []) }
-        ensures account { IfOk result (λ r. r.account ≡ fresh capacity.bytes limits) }
-        ensures refused { IfErr result (λ error. error ≡ FailedAllocation) }
-    {
-        let list = TextList::new(alloc.clone()?, capacity, limits)?;
-        let index = Index::with_capacity(alloc, capacity.strings())?;
-        Ok(Rodeo {
-            list,
-            index,
-            hasher,
-        })
-    }
-}
-
-impl<A: Allocator + Clone> Rodeo<Spur, FixedState, A> {
-    /// An interner of default capacity and limit. It is refused for want of memory alone.
-    pub fn default(alloc: A) -> LassoResult<Self>
-        ensures texts { IfOk result (λ r. r.texts ≡ []) }
-        ensures account { IfOk result (λ r. r.account ≡ fresh 4096 (2 ^ 64 - 1)) }
-        ensures refused { IfErr result (λ error. error ≡ FailedAllocation) }
-    {
-        Rodeo::with_capacity_and_memory_limits(alloc, Capacity::default(), MemoryLimits::default())
-    }
 }
 
 impl<K: Key, S: BuildHasher, A: Allocator> Rodeo<K, S, A> {
@@ -163,6 +111,3 @@ impl<K: Key, S: BuildHasher, A: Allocator + Clone> Rodeo<K, S, A> {
         Ok(key)
     }
 }
-
-#[cfg(test)]
-mod tests;

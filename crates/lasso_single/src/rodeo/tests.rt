@@ -2,6 +2,8 @@
 ghost use Rattle.std.specs.Prelude.{◌<◌};
 
 use super::*;
+use lasso_parts::keys::Spur;
+use lasso_parts::util::{Capacity, FixedState, MemoryLimits};
 use std::alloc::Global;
 use std::cmp::{Eq, PartialEq};
 use std::process::Abort;

@@ -1,0 +1,114 @@
+//! The makers of a `Rodeo`: by default or given capacity, limit and hasher.
+ghost use Rattle.std.specs.Prelude.{◌≡◌, ◌-◌, ◌^◌, [], IfOk, IfErr};
+ghost use Rattle.lasso_parts.specs.Account.{fresh};
+ghost use Rattle.lasso_parts.specs.declared.util.LassoErrorKind.TheVariants.{FailedAllocation};
+
+use super::Rodeo;
+use crate::text_list::TextList;
+use lasso_parts::index::Index;
+use lasso_parts::keys::{Key, Spur};
+use lasso_parts::util::{Capacity, FixedState, LassoResult, MemoryLimits};
+use std::alloc::Allocator;
+use std::hash::BuildHasher;
+
+impl<A: Allocator + Clone> Rodeo<Spur, FixedState, A> {
+    /// An interner with `Spur` keys, of default capacity (50 texts, 4096 bytes) and with no limit below
+    /// the greatest number. It is refused for want of memory alone.
+    pub fn default(alloc: A) -> LassoResult<Self>
+        ensures texts { IfOk result (λ r. r.texts ≡ []) }
+        ensures account { IfOk result (λ r. r.account ≡ fresh 4096 (2 ^ 64 - 1)) }
+        ensures refused { IfErr result (λ error. error ≡ FailedAllocation) }
+    {
+        Rodeo::new(alloc)
+    }
+}
+
+impl<K: Key, A: Allocator + Clone> Rodeo<K, FixedState, A> {
+    /// An interner of default capacity and limit. It is refused for want of memory alone.
+    pub fn new(alloc: A) -> LassoResult<Self>
+        ensures texts { IfOk result (λ r. r.texts ≡ []) }
+        ensures account { IfOk result (λ r. r.account ≡ fresh 4096 (2 ^ 64 - 1)) }
+        ensures refused { IfErr result (λ error. error ≡ FailedAllocation) }
+    {
+        Rodeo::with_hasher(alloc, FixedState::new())
+    }
+
+    /// An interner with room for `capacity`, of default limit. It is refused for want of memory alone.
+    pub fn with_capacity(alloc: A, capacity: Capacity) -> LassoResult<Self>
+        ensures texts { IfOk result (λ r. r.texts ≡ []) }
+        ensures account { IfOk result (λ r. r.account ≡ fresh capacity.bytes (2 ^ 64 - 1)) }
+        ensures refused { IfErr result (λ error. error ≡ FailedAllocation) }
+    {
+        Rodeo::with_capacity_and_hasher(alloc, capacity, FixedState::new())
+    }
+
+    /// An interner of default capacity, whose buckets take at most `limits`. The limit may lie below the
+    /// 4096 bytes of the first bucket. It is refused for want of memory alone.
+    pub fn with_memory_limits(alloc: A, limits: MemoryLimits) -> LassoResult<Self>
+        ensures texts { IfOk result (λ r. r.texts ≡ []) }
+        ensures account { IfOk result (λ r. r.account ≡ fresh 4096 limits) }
+        ensures refused { IfErr result (λ error. error ≡ FailedAllocation) }
+    {
+        Rodeo::with_capacity_and_memory_limits(alloc, Capacity::default(), limits)
+    }
+
+    /// An interner with room for `capacity`, whose buckets take at most `limits`. The limit may lie
+    /// below the first bucket's bytes. It is refused for want of memory alone.
+    pub fn with_capacity_and_memory_limits(
+        alloc: A,
+        capacity: Capacity,
+        limits: MemoryLimits,
+    ) -> LassoResult<Self>
+        ensures texts { IfOk result (λ r. r.texts ≡ []) }
+        ensures account { IfOk result (λ r. r.account ≡ fresh capacity.bytes limits) }
+        ensures refused { IfErr result (λ error. error ≡ FailedAllocation) }
+    {
+        let hasher = FixedState::new();
+        Rodeo::with_capacity_memory_limits_and_hasher(alloc, capacity, limits, hasher)
+    }
+}
+
+impl<K: Key, S: BuildHasher + Drop, A: Allocator + Clone> Rodeo<K, S, A> {
+    /// An interner of default capacity and limit, whose index asks the hasher. It is refused for want of
+    /// memory alone.
+    pub fn with_hasher(alloc: A, hasher: S) -> LassoResult<Self>
+        ensures texts { IfOk result (λ r. r.texts ≡ []) }
+        ensures account { IfOk result (λ r. r.account ≡ fresh 4096 (2 ^ 64 - 1)) }
+        ensures refused { IfErr result (λ error. error ≡ FailedAllocation) }
+    {
+        Rodeo::with_capacity_and_hasher(alloc, Capacity::default(), hasher)
+    }
+
+    /// An interner with room for `capacity`, of default limit, whose index asks the hasher. It is refused
+    /// for want of memory alone.
+    pub fn with_capacity_and_hasher(alloc: A, capacity: Capacity, hasher: S) -> LassoResult<Self>
+        ensures texts { IfOk result (λ r. r.texts ≡ []) }
+        ensures account { IfOk result (λ r. r.account ≡ fresh capacity.bytes (2 ^ 64 - 1)) }
+        ensures refused { IfErr result (λ error. error ≡ FailedAllocation) }
+    {
+        let limits = MemoryLimits::default();
+        Rodeo::with_capacity_memory_limits_and_hasher(alloc, capacity, limits, hasher)
+    }
+
+    /// An interner with room for `capacity`, whose buckets take at most `limits`, and whose index asks
+    /// the hasher. The limit may lie below the first bucket's bytes. It is refused for want of memory
+    /// alone.
+    pub fn with_capacity_memory_limits_and_hasher(
+        alloc: A,
+        capacity: Capacity,
+        limits: MemoryLimits,
+        hasher: S,
+    ) -> LassoResult<Self>
+        ensures texts { IfOk result (λ r. r.texts ≡ []) }
+        ensures account { IfOk result (λ r. r.account ≡ fresh capacity.bytes limits) }
+        ensures refused { IfErr result (λ error. error ≡ FailedAllocation) }
+    {
+        let list = TextList::new(alloc.clone()?, capacity, limits)?;
+        let index = Index::with_capacity(alloc, capacity.strings())?;
+        Ok(Rodeo {
+            list,
+            index,
+            hasher,
+        })
+    }
+}
