@@ -2,10 +2,10 @@
 ghost use Rattle.std.specs.Prelude.{◌<◌};
 
 use super::*;
-use lasso_parts::keys::Spur;
+use crate::fixtures::{Gap, SameState};
+use lasso_parts::keys::{MicroSpur, Spur};
 use lasso_parts::util::{Capacity, FixedState, MemoryLimits};
 use std::alloc::Global;
-use std::cmp::{Eq, PartialEq};
 use std::process::Abort;
 use std::test::Fail;
 
@@ -14,59 +14,6 @@ const LIMIT: LassoErrorKind = LassoErrorKind::MemoryLimitReached;
 const KEYS: LassoErrorKind = LassoErrorKind::KeySpaceExhaustion;
 
 type Answer = Result<usize, LassoErrorKind>;
-
-// A key type without number 2.
-#[derive(Clone, Copy, PartialEq, Eq)]
-struct Gap {
-    position: u8,
-}
-
-impl Model for Gap {
-    ghost use Rattle.std.specs.Prelude.{ℕ, ◌≢◌};
-
-    ghost Value = { ℕ };
-
-    ghost view = { λ k. k.position };
-
-    ghost invariant = { λ k. k.position ≢ 2 };
-
-    ghost inverse = { λ n. record { position = n } };
-}
-
-impl Key for Gap {
-    ghost use Rattle.std.specs.Prelude.{◌<◌, ◌≢◌, ◌^◌, nat_lt, nat_eq, if◌then◌else◌, Some, None};
-    ghost use Rattle.std.proofs.Common.{arith};
-    ghost use Rattle.std.proofs.lemmas.Bool.Decides.{nat_tests};
-
-    ghost is_value = { λ k. (k ≢ 2) × (k < 2 ^ 8) };
-
-    ghost number = { λ k. k };
-
-    ghost key_at = { λ n. if nat_eq n 2 then None else if nat_lt n 256 then Some n else None };
-
-    fn into_usize(self) -> usize {
-        self.position as usize
-    }
-
-    fn try_from_usize(position: usize) -> Option<Self> {
-        if position == 2 || position > 255 {
-            return None;
-        }
-        Some(Gap {
-            position: position as u8,
-        })
-    }
-
-    fn show_value(self) {
-        let _position = self.position;
-    }
-
-    ghost made = { λ n k made. Prim.grind (arith, nat_tests) };
-
-    ghost made_again = { λ k is_value. Prim.grind (arith, nat_tests) };
-
-    ghost equal = { λ a b is_value is_value'. Prim.grind (arith, nat_tests) };
-}
 
 fn interner<K: Key>(
     alloc: Global,
@@ -166,5 +113,86 @@ fn keys_are_asked_before_the_account(rt: HostRuntime) -> Result<(), Fail> {
         ("q", Ok(1)),
     ];
     gives(&rt, &mut rodeo, &rows, 4);
+    Ok(())
+}
+
+#[test]
+fn a_text_in_a_bucket_of_its_own(rt: HostRuntime) -> Result<(), Fail> {
+    let mut rodeo = interner::<Spur>(rt.alloc(), 4, usize::MAX)?;
+    gives(&rt, &mut rodeo, &[("qqqqqqqqq", Ok(0))], 13);
+    gives(&rt, &mut rodeo, &[("wxyz", Ok(1))], 13);
+    gives(&rt, &mut rodeo, &[("n", Ok(2))], 21);
+    Ok(())
+}
+
+#[test]
+fn a_left_bucket_is_not_filled_again(rt: HostRuntime) -> Result<(), Fail> {
+    let mut rodeo = interner::<Spur>(rt.alloc(), 4, usize::MAX)?;
+    gives(&rt, &mut rodeo, &[("abc", Ok(0))], 4);
+    gives(&rt, &mut rodeo, &[("defghijk", Ok(1))], 12);
+    gives(&rt, &mut rodeo, &[("x", Ok(2))], 28);
+    Ok(())
+}
+
+#[test]
+fn micro_keys_run_out(rt: HostRuntime) -> Result<(), Fail> {
+    let mut rodeo: Rodeo<MicroSpur, FixedState, Global> = Rodeo::new(rt.alloc())?;
+    for number in 0..254usize {
+        let text = number.to_string(rt.alloc())?;
+        gives(&rt, &mut rodeo, &[(text.as_str(), Ok(number))], 4096);
+    }
+    let rows = [("A", Ok(254)), ("A", Ok(254)), ("C", Err(KEYS))];
+    gives(&rt, &mut rodeo, &rows, 4096);
+    Ok(())
+}
+
+#[test]
+fn texts_of_one_hash(rt: HostRuntime) -> Result<(), Fail> {
+    let mut rodeo: Rodeo<Spur, SameState, Global> = Rodeo::with_hasher(
+        rt.alloc(),
+        SameState::new(),
+    )?;
+    for number in 0..300usize {
+        let text = number.to_string(rt.alloc())?;
+        let key = rodeo.try_get_or_intern(text.as_str())?;
+        assert_eq!(rt; key.into_usize(), number);
+    }
+    for number in 0..300usize {
+        let text = number.to_string(rt.alloc())?;
+        let key = rodeo.get(text.as_str()).ok_or("not there")?;
+        assert_eq!(rt; key.into_usize(), number);
+    }
+    assert!(rt; rodeo.get("300").is_none());
+    assert_eq!(rt; rodeo.len(), 300);
+    Ok(())
+}
+
+fn is_refused(rt: &impl Abort, alloc: Global, capacity: Capacity) {
+    let made: LassoResult<Rodeo<Spur, FixedState, Global>> = Rodeo::with_capacity(alloc, capacity);
+    match made {
+        Ok(_) => assert!(rt; false),
+        Err(error) => assert!(rt; error.kind().is_failed_alloc()),
+    }
+}
+
+#[test]
+fn sizes_that_no_memory_has(rt: HostRuntime) {
+    is_refused(&rt, rt.alloc(), Capacity::for_bytes(usize::MAX));
+    is_refused(&rt, rt.alloc(), Capacity::for_strings(usize::MAX));
+}
+
+#[test]
+fn makers_of_default_size(rt: HostRuntime) -> Result<(), Fail> {
+    let mut limited: Rodeo<Spur, FixedState, Global> = Rodeo::with_memory_limits(
+        rt.alloc(),
+        MemoryLimits::new(4096),
+    )?;
+    gives(&rt, &mut limited, &[("a", Ok(0)), ("b", Ok(1))], 4096);
+    let sized: Rodeo<Spur, FixedState, Global> = Rodeo::with_capacity_and_hasher(
+        rt.alloc(),
+        Capacity::for_bytes(7),
+        FixedState::new(),
+    )?;
+    assert_eq!(rt; sized.current_memory_usage(), 7);
     Ok(())
 }
