@@ -4,3 +4,5 @@ pub mod Held
 pub mod Errors
 pub mod Sizes
 pub mod Kept
+pub mod Bucket
+pub mod Cells

@@ -1,0 +1,101 @@
+//! The places of a block of bytes: how they are had of an allocator, read, written and given back.
+//! No other file of the crate has a pointer.
+ghost use Rattle.std.specs.Prelude.{◌≡◌, ℕ, ◌+◌, ◌^◌, ◌<◌, ◌≤◌, ◌++◌, length, take, drop, slice_range, IfOk};
+ghost use base.Fml.{ftrue};
+ghost use denote.RawPtr.{Ptr};
+ghost use Rattle.core.specs.Mem.Slots.{slots_items, slots_ptr, slots_len, SamePlaces};
+ghost use Rattle.lasso_parts.specs.Cells.{deed_owns, Holds, SameBefore};
+
+use core::slots::Slots;
+use std::alloc::{AllocError, Allocator};
+use std::marker::{Model, PhantomData, Send, Sync};
+use std::slice;
+
+/// The places of one block. They own it, but cannot free it.
+pub struct Cells {
+    ptr: *mut u8,
+    slots: Slots<u8>,
+    ghost placed: { ptr ≡ slots_ptr slots },
+}
+
+unsafe impl Send for Cells {}
+
+unsafe impl Sync for Cells {}
+
+/// The right to give the block of `len` bytes at `at` back to `alloc`. It takes no space.
+pub struct Deed<A: Allocator> {
+    of: PhantomData<*const A>,
+    ghost at: { Ptr },
+    ghost len: { ℕ },
+    ghost alloc: { A },
+}
+
+impl<A: Allocator> Model for Deed<A> {
+    ghost also_owns = { λ d. deed_owns (A.dealloc_token d.alloc) d.at d.len };
+
+    ghost also_shares = { λ _ _ _. ftrue };
+}
+
+unsafe impl<A: Allocator + Send> Send for Deed<A> {}
+
+// A `&` to it holds nothing.
+unsafe impl<A: Allocator> Sync for Deed<A> {}
+
+/// A block of `len` bytes of that allocator, with the right to free it. No place holds a byte yet.
+pub(crate) fn allocate<A: Allocator>(
+    alloc: &A,
+    len: usize,
+) -> Result<(Cells, Deed<A>), AllocError>
+    requires { len < 2 ^ 63 }
+    ensures places { IfOk result (λ r. slots_len r.0.slots ≡ len) }
+    ensures deed { IfOk result (λ r. (r.1.at ≡ slots_ptr r.0.slots) × (r.1.len ≡ len) × (r.1.alloc ≡ alloc.now)) }
+{
+    match alloc.allocate(len, 1) {
+        Ok(ptr) => {
+            let slots = unsafe { Slots::from_raw_parts(ptr, len) };
+            let of = PhantomData;
+            Ok((Cells { ptr, slots }, Deed { of }))
+        }
+        Err(refused) => Err(refused),
+    }
+}
+
+/// Gives the block back to the allocator that it came from.
+pub(crate) fn deallocate<A: Allocator>(alloc: &A, cells: Cells, deed: Deed<A>)
+    requires { (deed.at ≡ slots_ptr cells.slots) × (deed.len ≡ slots_len cells.slots) × (deed.alloc ≡ alloc.now) }
+{
+    let Cells { ptr: _, slots } = cells;
+    let Deed { of: _ } = deed;
+    unsafe {
+        let (ptr, len) = slots.into_raw_parts();
+        alloc.deallocate(ptr, len, 1);
+    }
+}
+
+impl Cells {
+    /// How many places there are.
+    pub(crate) fn len(&self) -> usize
+        ensures { result ≡ slots_len self.now.slots }
+    {
+        self.slots.len()
+    }
+
+    /// Copies the bytes to the places from `start` on.
+    pub(crate) fn write(&mut self, start: usize, bytes: &[u8])
+        requires { start + length bytes.now ≤ slots_len self.old.slots }
+        ensures items { slots_items self.new.slots ≡ take start (slots_items self.old.slots) ++ bytes.now ++ drop (start + length bytes.now) (slots_items self.old.slots) }
+        ensures written { Holds self.new.slots start (start + length bytes.now) }
+        ensures before { SameBefore self.old.slots self.new.slots start }
+        ensures places { SamePlaces self.old.slots self.new.slots }
+    {
+        self.slots.copy_in(start, bytes);
+    }
+
+    /// The `len` bytes from `start` on, where they lie.
+    pub(crate) fn read(&self, start: usize, len: usize) -> &[u8]
+        requires { Holds self.now.slots start (start + len) }
+        ensures { result.now ≡ slice_range (slots_items self.now.slots) start (start + len) }
+    {
+        unsafe { slice::from_raw_parts(self.ptr.add(start), len) }
+    }
+}
