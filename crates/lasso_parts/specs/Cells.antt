@@ -2,10 +2,14 @@
 use Rattle.std.specs.Prelude.{◌≡◌, ℕ, ◌<◌, ◌≤◌, false, List, take, slice_index_or}
 use base.Fml.{Fml}
 use mir.Syntax.{Ty, w8, ty_int, ty_array}
-use denote.RawPtr.{Ptr}
+use denote.RawPtr.{Ptr, block_ptr, block_of, count_of}
 use Rattle.core.specs.Mem.Slots.Ownership as ownership
 use Rattle.core.specs.Mem.Slots.{slots_items, slots_filled, slots_len}
 use Rattle.core.specs.declared.slots.Slots.{Slots}
+
+-- the pointer leads to memory: it is not null
+abbrev pub LeadsToBlock : Ptr → Type 0
+LeadsToBlock p = p ≡ block_ptr (block_of p) (count_of p)
 
 -- the type that a block of n bytes is allocated for
 abbrev pub bytes_type : ℕ → Ty

@@ -4,7 +4,7 @@ ghost use Rattle.std.specs.Prelude.{◌≡◌, ℕ, ◌+◌, ◌^◌, ◌<◌, �
 ghost use base.Fml.{ftrue};
 ghost use denote.RawPtr.{Ptr};
 ghost use Rattle.core.specs.Mem.Slots.{slots_items, slots_ptr, slots_len, SamePlaces};
-ghost use Rattle.lasso_parts.specs.Cells.{deed_owns, Holds, SameBefore};
+ghost use Rattle.lasso_parts.specs.Cells.{LeadsToBlock, deed_owns, Holds, SameBefore};
 
 use core::slots::Slots;
 use std::alloc::{AllocError, Allocator};
@@ -15,7 +15,7 @@ use std::slice;
 pub struct Cells {
     ptr: *mut u8,
     slots: Slots<u8>,
-    ghost placed: { ptr ≡ slots_ptr slots },
+    ghost placed: { (ptr ≡ slots_ptr slots) × LeadsToBlock ptr },
 }
 
 unsafe impl Send for Cells {}
