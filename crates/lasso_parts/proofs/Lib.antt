@@ -1,2 +1,4 @@
 pub mod TextLemmas
 pub mod PlacesLent
+pub mod RowCalls
+pub mod EmptyStructs

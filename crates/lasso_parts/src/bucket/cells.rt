@@ -47,8 +47,7 @@ pub(crate) fn allocate<A: Allocator>(
     len: usize,
 ) -> Result<(Cells, Deed<A>), AllocError>
     requires { len < 2 ^ 63 }
-    ensures places { IfOk result (λ r. slots_len r.0.slots ≡ len) }
-    ensures deed { IfOk result (λ r. (r.1.at ≡ slots_ptr r.0.slots) × (r.1.len ≡ len) × (r.1.alloc ≡ alloc.now)) }
+    ensures { IfOk result (λ r. (slots_len r.0.slots ≡ len) × (r.1.at ≡ slots_ptr r.0.slots) × (r.1.len ≡ len) × (r.1.alloc ≡ alloc.now)) }
 {
     match alloc.allocate(len, 1) {
         Ok(ptr) => {
