@@ -8,7 +8,7 @@ pub mod region;
 use crate::util::LassoResult;
 use region::{Region, Right, close, open};
 use std::alloc::Allocator;
-use std::marker::Model;
+use std::marker::{Model, Send, Sync};
 
 /// A run of bytes that never moves and never grows, freed when the bucket is dropped.
 pub struct Bucket<A: Allocator> {
@@ -87,4 +87,13 @@ impl<A: Allocator> Bucket<A> {
     {
         self.region.text(start, len)
     }
+}
+
+fn crosses<T: Send + Sync>(_: &T) {}
+
+// A bucket, its region and its right go where the allocator goes.
+fn show_crossing<A: Allocator + Send + Sync>(region: &Region, right: &Right<A>, bucket: &Bucket<A>) {
+    crosses(region);
+    crosses(right);
+    crosses(bucket);
 }

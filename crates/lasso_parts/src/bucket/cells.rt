@@ -15,7 +15,24 @@ use std::slice;
 pub struct Cells {
     ptr: *mut u8,
     slots: Slots<u8>,
-    ghost placed: { (ptr ≡ slots_ptr slots) × LeadsToBlock ptr },
+}
+
+impl Model for Cells {
+    ghost use Rattle.std.specs.Prelude.{◌≡◌, ℕ};
+    ghost use base.Fml.{ftrue};
+    ghost use Rattle.core.specs.Mem.Slots.{slots_ptr};
+    ghost use Rattle.core.specs.declared.slots.Slots.{Slots};
+    ghost use Rattle.lasso_parts.specs.Cells.{LeadsToBlock};
+
+    ghost Value = { Slots ℕ };
+
+    ghost view = { λ c. c.slots };
+
+    ghost invariant = { λ c. (c.ptr ≡ slots_ptr c.slots) × LeadsToBlock c.ptr };
+
+    ghost also_owns = { λ _. ftrue };
+
+    ghost also_shares = { λ _ _ _. ftrue };
 }
 
 unsafe impl Send for Cells {}
@@ -47,7 +64,7 @@ pub(crate) fn allocate<A: Allocator>(
     len: usize,
 ) -> Result<(Cells, Deed<A>), AllocError>
     requires { len < 2 ^ 63 }
-    ensures { IfOk result (λ r. (slots_len r.0.slots ≡ len) × (r.1.at ≡ slots_ptr r.0.slots) × (r.1.len ≡ len) × (r.1.alloc ≡ alloc.now)) }
+    ensures { IfOk result (λ r. (slots_len r.0 ≡ len) × (r.1.at ≡ slots_ptr r.0) × (r.1.len ≡ len) × (r.1.alloc ≡ alloc.now)) }
 {
     match alloc.allocate(len, 1) {
         Ok(ptr) => {
@@ -61,7 +78,7 @@ pub(crate) fn allocate<A: Allocator>(
 
 /// Gives the block back to the allocator that it came from.
 pub(crate) fn deallocate<A: Allocator>(alloc: &A, cells: Cells, deed: Deed<A>)
-    requires { (deed.at ≡ slots_ptr cells.slots) × (deed.len ≡ slots_len cells.slots) × (deed.alloc ≡ alloc.now) }
+    requires { (deed.at ≡ slots_ptr cells) × (deed.len ≡ slots_len cells) × (deed.alloc ≡ alloc.now) }
 {
     let Cells { ptr: _, slots } = cells;
     let Deed { of: _ } = deed;
@@ -74,26 +91,26 @@ pub(crate) fn deallocate<A: Allocator>(alloc: &A, cells: Cells, deed: Deed<A>)
 impl Cells {
     /// How many places there are.
     pub(crate) fn len(&self) -> usize
-        ensures { result ≡ slots_len self.now.slots }
+        ensures { result ≡ slots_len self.now }
     {
         self.slots.len()
     }
 
     /// Copies the bytes to the places from `start` on.
     pub(crate) fn write(&mut self, start: usize, bytes: &[u8])
-        requires { start + length bytes.now ≤ slots_len self.old.slots }
-        ensures items { slots_items self.new.slots ≡ take start (slots_items self.old.slots) ++ bytes.now ++ drop (start + length bytes.now) (slots_items self.old.slots) }
-        ensures written { Holds self.new.slots start (start + length bytes.now) }
-        ensures before { SameBefore self.old.slots self.new.slots start }
-        ensures places { SamePlaces self.old.slots self.new.slots }
+        requires { start + length bytes.now ≤ slots_len self.old }
+        ensures items { slots_items self.new ≡ take start (slots_items self.old) ++ bytes.now ++ drop (start + length bytes.now) (slots_items self.old) }
+        ensures written { Holds self.new start (start + length bytes.now) }
+        ensures before { SameBefore self.old self.new start }
+        ensures places { SamePlaces self.old self.new }
     {
         self.slots.copy_in(start, bytes);
     }
 
     /// The `len` bytes from `start` on, where they lie.
     pub(crate) fn read(&self, start: usize, len: usize) -> &[u8]
-        requires { Holds self.now.slots start (start + len) }
-        ensures { result.now ≡ slice_range (slots_items self.now.slots) start (start + len) }
+        requires { Holds self.now start (start + len) }
+        ensures { result.now ≡ slice_range (slots_items self.now) start (start + len) }
     {
         unsafe { slice::from_raw_parts(self.ptr.add(start), len) }
     }

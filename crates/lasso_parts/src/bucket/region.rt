@@ -23,9 +23,9 @@ impl Model for Region {
 
     ghost Value = { Extent };
 
-    ghost view = { λ r. record { at = slots_ptr r.cells.slots; bytes = bytes_in r.used r.cells.slots; capacity = slots_len r.cells.slots } };
+    ghost view = { λ r. record { at = slots_ptr r.cells; bytes = bytes_in r.used r.cells; capacity = slots_len r.cells } };
 
-    ghost invariant = { λ r. Holds r.cells.slots 0 r.used };
+    ghost invariant = { λ r. Holds r.cells 0 r.used };
 }
 
 /// The right to free a region, with the allocator that gave it. Only `close` lets it go.

@@ -5,7 +5,7 @@
 -- are zeros that nobody can read. The token is what the deed owns. Where it refuses, so does `allocate`.
 use Rattle.std.proofs.Common.{◌≡◌, ℕ, ◌*◌, ◌^◌, ◌<◌, Bool, true, false, List, [], ◌∷◌, length, replicate, refl, sym, subst, ◌∙◌, lit<, arith, w64}
 use lib.ListN.{length-replicate}
-use base.Fml.{Lft, Share, ftrue, froom, flft, Incl-trans}
+use base.Fml.{Lft, Share, ftrue, fsep, froom, flft, Incl-trans}
 use mir.Syntax.{Ty, Fn, Args, Body, a_type, dcons, dnil, named, w8, ty_int, ty_array}
 use mir.MapTy.{inst_fn}
 use mir.Val.{Val, WT, vptr, vcons, vnil, vstruct}
@@ -14,7 +14,7 @@ use prog.Wp.{after_seq, at_return, Wp}
 use contract.BorrowLft.{◌⊑◌}
 use contract.Monad.{fact}
 use contract.Running.{tables}
-use types.Kit.{Post, any_q, ‵, raw, ◌⊛◌, some, given, later, at_ret, ◌$◌, ◌∵◌, !, qed, move, keep, drop as let_go, use0, use1, use2, split, join, pick, learn, rewrite, fsplit, fjoin, feq_i, suffices, await, done}
+use types.Kit.{Post, any_q, ‵, raw, ◌⊛◌, some, given, later, at_ret, ◌$◌, ◌∵◌, !, qed, move, keep, drop as let_go, use0, use1, use2, split, join, pick, learn, rewrite, fsplit, fjoin, fpack, feq_i, suffices, await, done}
 use types.Match.{live, vrt, in_variant}
 use types.Part.{whole, sub, agg}
 use types.Run.{stop, fld, lit, of_opd, no_more, and_then, first, blocks, switches_on, exec, returns, enter}
@@ -45,8 +45,9 @@ use Rattle.core.proofs.slots.Places.{of_room}
 use Rattle.core.proofs.slots.Slots.from_raw_parts.Met as callee
 use Rattle.std_alloc.proofs.Pairs.{pair_val, pair_of}
 use Rattle.std_alloc.proofs.ResultValues.{ok_of, err_of}
-use Rattle.lasso_parts.specs.Cells.{bytes_type}
+use Rattle.lasso_parts.specs.Cells.{LeadsToBlock, bytes_type}
 use Rattle.lasso_parts.specs.contracts.bucket.cells.Cells as cells
+use Rattle.lasso_parts.specs.contracts.bucket.cells.Cells.TheInside as inside
 use Rattle.lasso_parts.specs.contracts.bucket.cells.Deed as deed
 use Rattle.lasso_parts.specs.contracts.bucket.cells.allocate as f
 use Rattle.lasso_parts.proofs.RowCalls.{byte, byte_laws, Good, Row, Makes, making_of, IsMade, makes_goes, makes_gives}
@@ -96,7 +97,7 @@ allocate_spec 𝓤 𝓛 𝓜 𝓡 wired A laws heap methods drops met dropped =
     await ! tt $ pick ! (λ row. learn ! (λ made.
     -- [the row; the allocator's token; the token of the `&`; the other token]
     let at : start ≡ row.ptr = sym made.1.0 in
-    let places : (cells.the_row).Denot = record { ptr = start; slots = row; placed = (at, refl) } in
+    let fields : (inside.the_row).Denot = record { ptr = start; slots = row } in
     let right : Dr.Denot = record { of = record {}; at = start; len = n; alloc = alloc } in
     let words : Val = pair_val (vptr b o) (row_val b o n) in let all : Val = pair_val words mark_val in
     let fine : WT (live 0 (vcons all vnil)) = (record { fits = lit< tt }, (((tt, (number, tt)), ((tt, tt), tt)), tt)) in
@@ -110,11 +111,13 @@ allocate_spec 𝓤 𝓛 𝓜 𝓡 wired A laws heap methods drops met dropped =
     sets_last ! (agg ! (and_then ! (lit ! tt) (and_then ! (get ! refl) (no_more !)))) refl (tt, fine) $
     exec ! 𝓣.C 𝓣.Λ En (after 2 function.body) (at_ret En (W.post y)) $ sets ! (of_opd ! (get ! refl)) refl (tt, fine) $
     returns ! (look_at ! 0 refl) $ free_all ! refl $
-    feq_i ! (List Val) (vptr b o ∷ []) (vptr b o ∷ []) refl $ use2 𝓛 (‵ (cells.the_row.own_val places (words ∷ []))) (pair_of 𝓛 RawPtr Row start row (vptr b o) (row_val b o n)) $ move ! (1 ∷ []) $
+    feq_i ! (List Val) (vptr b o ∷ []) (vptr b o ∷ []) refl $ use2 𝓛 (‵ ((Tuple (RawPtr ∷ Row ∷ [])).own_val (start, row) (words ∷ []))) (pair_of 𝓛 RawPtr Row start row (vptr b o) (row_val b o n)) $
+    nothing ! $ move ! (1 ∷ 0 ∷ []) $ fjoin ! $ nothing ! $ move ! (1 ∷ 0 ∷ []) $ fjoin ! $
+    fpack ! ((v : (inside.the_row).Denot) × ((v.slots ≡ row) × ((v.ptr ≡ v.slots.ptr) × LeadsToBlock v.ptr))) (λ v. fsep ((inside.the_row).own_val v.0 (words ∷ [])) ftrue) (fields, (refl, (at, refl))) $ move ! (1 ∷ []) $
     use0 𝓛 (‵ ((plainly (plainly [] ∷ [])).own_val (tt, tt) (mark_val ∷ []))) (mark_made 𝓛) $ fjoin ! $ move ! (1 ∷ 0 ∷ []) $
-    use2 𝓛 (‵ (Pair.own_val (places, right) (all ∷ []))) (pair_of 𝓛 cells.the_row Dr places right words mark_val) $
-    use1 𝓛 (‵ (Out.own_val (Ok (places, right)) (live 0 (vcons all vnil) ∷ []))) (ok_of 𝓛 Pair error.the_row (places, right) all) $
-    suffices ! _ (ends_at 𝓛 ended stayed c y (live 0 (vcons all vnil)) (Ok (places, right)) (tt, (tt, tt)) (tt, (tt, tt))) $ says ! (made.1.1, at, refl, refl) $
+    use2 𝓛 (‵ (Pair.own_val (row, right) (all ∷ []))) (pair_of 𝓛 cells.the_row Dr row right words mark_val) $
+    use1 𝓛 (‵ (Out.own_val (Ok (row, right)) (live 0 (vcons all vnil) ∷ []))) (ok_of 𝓛 Pair error.the_row (row, right) all) $
+    suffices ! _ (ends_at 𝓛 ended stayed c y (live 0 (vcons all vnil)) (Ok (row, right)) (tt, (tt, tt)) (tt, (tt, tt))) $ says ! (made.1.1, at, refl, refl) $
     move ! (1 ∷ 2 ∷ []) $ join ! $ nothing ! $ nothing ! $ fjoin ! $ nothing ! $ fjoin ! $ move ! (1 ∷ 0 ∷ []) $ done !))))
     (λ is_refusal.
     -- [the token of the `&`; the other token]

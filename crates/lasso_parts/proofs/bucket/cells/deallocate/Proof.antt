@@ -30,6 +30,7 @@ use denote.Triple.Table.{framed}
 use denote.Triple.Walked.{Stays, stay_dropped, Goes-dropped, walk_of}
 use Rattle.std.proofs.raw_atomic.Walks.{proved_at, leaves}
 use Rattle.core.specs.Mem.Slots.Ownership.{slots}
+use Rattle.core.specs.declared.slots.Slots.{Slots}
 use Rattle.core.proofs.alloc.Calls.{Al, Goes-blank, Gives, at_gives, Gives-goes, Gives-Gives}
 use Rattle.core.proofs.alloc.Shapes.{after}
 use Rattle.core.proofs.slots.Opens.{row_val, row_had, row_made}
@@ -58,17 +59,18 @@ deallocate_spec 𝓤 𝓛 𝓜 𝓡 wired A laws heap methods drops met dropped 
     (f.Key.name args) function (code.unfolded 𝓤 H 𝓜 𝓡 wired (A, tt) methods drops) (λ y _.
     let κs = y.0.0 in let qs = y.0.1 in let a = y.0.3 in let vss = y.0.4 in
     let κ : Lft = κs.0 in let q : Share = qs.0 in let place : ℕ × ℕ = a.0.ref_ptr in let alloc : A.Denot = a.0.now in
-    let d = a.1.0 in let row = d.slots in let right = a.1.1.0 in let n : ℕ = row.len in
+    let row : Slots ℕ = a.1.0 in let right = a.1.1.0 in let n : ℕ = row.len in
     let Asked : Type 0 = (right.at ≡ row.ptr) × (right.len ≡ n) × (right.alloc ≡ alloc) in
     let Run : List Val → Goal 𝓤 H = λ us. prop (WpFn 𝓤 H 𝓣.C 𝓣.Λ function us (W.post y)) in
     qed 𝓛 (((‵ (flft κ q) ⊛ ‵ (flft κs.1.0 qs.1.0) ⊛ ‵ ftrue) ⊛ ‵ (owns (types_at ended.signature.params κs) a vss)) ∷ (raw (fact 𝓤 (κs.1.0 ⊑ A.lives)) ⊛ raw (fact 𝓤 Asked)) ∷ []) ∵
     move ! (1 ∷ []) $ split ! $ heard ! _ (λ lives. heard ! Asked (λ asked. split ! $ split ! $ move ! (2 ∷ []) $
     fsplit ! $ fsplit ! $ feq_l ! (λ is_ref. move ! (1 ∷ []) $ fsplit ! $ move ! (1 ∷ []) $ fsplit ! $ fsplit ! $ pure_l ! ((plainly (plainly [] ∷ [])).own_val (tt, tt) vss.1.1.0) (λ mark.
     -- [the allocator's token; nothing; what the places own; a `&` to the allocator; its token; the other token]
-    move ! (2 ∷ []) $ fpick ! (λ us. fsplit ! $ feq_l ! (λ is_struct. fsplit ! $ feq_l ! (λ is_pointer. fsplit ! $ row_had byte ! row us.1.0 (λ b o at is_row fits small. row_made byte ! row b o at fits small $
-    let start : d.ptr ≡ block_ptr b o = d.placed.0 ∙ at in let words : Val = pair_val (vptr b o) (row_val b o n) in let number : WT (row_val b o n) = (tt, (record { fits = fits }, tt)) in
+    move ! (2 ∷ []) $ fpick ! (λ x. fsplit ! $ fsplit ! $ fpick ! (λ us. fsplit ! $ feq_l ! (λ is_struct. fsplit ! $ feq_l ! (λ is_pointer. fsplit ! $
+    rewrite ! 0 (λ (r : Slots ℕ). ‵ (Row.own_val r us.1.0)) x.1.0 refl $ row_had byte ! row us.1.0 (λ b o at is_row fits small. row_made byte ! row b o at fits small $
+    let start : x.0.ptr ≡ block_ptr b o = x.1.1.0 ∙ ap (λ (r : Slots ℕ). r.ptr) x.1.0 ∙ at in let words : Val = pair_val (vptr b o) (row_val b o n) in let number : WT (row_val b o n) = (tt, (record { fits = fits }, tt)) in
     let is_cells : vss.1.0 ≡ words ∷ [] = is_struct ∙ (λ i. vstruct (of_list ((is_pointer ∙ ap (λ (p : Ptr). ptr_val p ∷ []) start) i ++ (is_row i ++ []))) ∷ []) in
-    keep ! (0 ∷ 2 ∷ 4 ∷ 5 ∷ 6 ∷ []) $ rewrite ! 1 (λ (u : A.Denot × ℕ × Ptr). ‵ (heap.dealloc_token u.0 (bytes_type u.1) u.2)) (λ i. (asked.2 i, asked.1 i, (asked.0 ∙ at) i)) refl $
+    keep ! (0 ∷ 4 ∷ 6 ∷ 7 ∷ 8 ∷ []) $ rewrite ! 1 (λ (u : A.Denot × ℕ × Ptr). ‵ (heap.dealloc_token u.0 (bytes_type u.1) u.2)) (λ i. (asked.2 i, asked.1 i, (asked.0 ∙ at) i)) refl $
     regoal ! Run (λ i. is_ref i ++ (is_cells i ++ (mark_told vss.1.1.0 mark i ++ []))) refl $
     -- [the row; the allocator's token; a `&` to the allocator; its token; the other token]
     enter ! _ _ _ _ _ $ alloc_all ! (λ l. pass_all ! refl ((tt, tt), ((tt, (tt, (number, tt))), ((tt, (tt, tt)), tt))) $ let En = env function.locals l in
@@ -93,4 +95,4 @@ deallocate_spec 𝓤 𝓛 𝓜 𝓡 wired A laws heap methods drops met dropped 
     returns ! (look_at ! 0 refl) $ free_all ! refl $
     -- [the token of the `&`; the other token]
     join ! $ feq_i ! (List Val) (vunit ∷ []) (vunit ∷ []) refl $ nothing ! $ nothing ! $ nothing ! $ fjoin ! $ nothing ! $ fjoin ! $ nothing ! $ fjoin ! $ move ! (3 ∷ 0 ∷ 2 ∷ 1 ∷ []) $
-    by ! (leaves 𝓛 ended stayed c y vunit tt (tt, ((tt, (tt, tt)), (tt, tt))) (tt, (tt, (tt, tt))))))))))))))))))
+    by ! (leaves 𝓛 ended stayed c y vunit tt (tt, (tt, (tt, tt))) (tt, (tt, (tt, tt)))))))))))))))))))
