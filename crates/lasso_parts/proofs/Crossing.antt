@@ -10,8 +10,7 @@ use mir.Syntax.{Ty, w8, ty_int}
 use denote.Builtin.{u8}
 use denote.Param.Send.{IsSend, IsSync, Common, AllSend, owning_send, struct_send, struct_sync, sendable}
 use denote.RattleType.{RattleType}
-use denote.RawPtr.{Ptr, block_ptr, null_ptr, in_block, room_for, ◌+ₚ◌}
-use denote.Struct.Declared as declared
+use denote.RawPtr.{Ptr, block_ptr, null_ptr, room_for, ◌+ₚ◌}
 use denote.Struct.Owning as owning
 use denote.Struct.Struct.{exits_of}
 use Rattle.core.specs.Mem.Slots.Ownership.{slots, slots_lent, owned}

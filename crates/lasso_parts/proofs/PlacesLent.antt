@@ -6,9 +6,9 @@
 use Rattle.std.proofs.Common.{◌≡◌, ℕ, zero, suc, ◌+◌, ◌<◌, ◌≤◌, Bool, true, false, List, [], ◌∷◌, length, take, drop, get_or, refl, subst, arith}
 use seplogic.Ra.Ura.{Ura}
 use base.Fml.{Lft, Fml}
-use base.Logic.{ent, id⊢, snd∗, via, mono_r}
+use base.Logic.{ent, snd∗, via}
 use types.Logic.{Logic, sem}
-use types.Kit.{‵, ◌$◌, ◌∵◌, !, qed, by, move, keep, drop as let_go, fsplit, fjoin, rewrite, use1, done}
+use types.Kit.{‵, ◌$◌, ◌∵◌, !, qed, move, keep, drop as let_go, fsplit, fjoin, rewrite, use1, done}
 use denote.Builtin.{u8}
 use denote.RawPtr.{block_ptr}
 use denote.Slice.{elements_shared}

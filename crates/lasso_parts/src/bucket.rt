@@ -58,7 +58,7 @@ impl<A: Allocator> Bucket<A> {
     pub fn is_full(&self) -> bool
         ensures { IsTrue result ↔ (length self.now.bytes ≡ self.now.capacity) }
     {
-        self.region.free_elements() == 0
+        self.free_elements() == 0
     }
 
     /// Forgets the bytes. The capacity stays.
@@ -91,9 +91,16 @@ impl<A: Allocator> Bucket<A> {
 
 fn crosses<T: Send + Sync>(_: &T) {}
 
-// A bucket, its region and its right go where the allocator goes.
-fn show_crossing<A: Allocator + Send + Sync>(region: &Region, right: &Right<A>, bucket: &Bucket<A>) {
+// A bucket and its parts go to another thread, and are shared, where their allocator is.
+fn crosses_with_its_allocator<A: Allocator + Send + Sync>(
+    region: &Region,
+    right: &Right<A>,
+    bucket: &Bucket<A>,
+) {
     crosses(region);
     crosses(right);
     crosses(bucket);
 }
+
+#[cfg(test)]
+mod tests;

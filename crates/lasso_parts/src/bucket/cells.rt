@@ -11,7 +11,8 @@ use std::alloc::{AllocError, Allocator};
 use std::marker::{Model, PhantomData, Send, Sync};
 use std::slice;
 
-/// The places of one block. They own it, but cannot free it.
+/// The places of one block. They own it, but cannot free it. Contracts see them as their row, in which each
+/// place is empty or holds a byte. The pointer leads to the first place, so that a `&` is enough to read.
 pub struct Cells {
     ptr: *mut u8,
     slots: Slots<u8>,
@@ -30,6 +31,7 @@ impl Model for Cells {
 
     ghost invariant = { λ c. (c.ptr ≡ slots_ptr c.slots) × LeadsToBlock c.ptr };
 
+    // Beside its fields it owns and lends nothing. These two lines let `TheSendSync` show where it may go.
     ghost also_owns = { λ _. ftrue };
 
     ghost also_shares = { λ _ _ _. ftrue };
@@ -59,10 +61,7 @@ unsafe impl<A: Allocator + Send> Send for Deed<A> {}
 unsafe impl<A: Allocator> Sync for Deed<A> {}
 
 /// A block of `len` bytes of that allocator, with the right to free it. No place holds a byte yet.
-pub(crate) fn allocate<A: Allocator>(
-    alloc: &A,
-    len: usize,
-) -> Result<(Cells, Deed<A>), AllocError>
+pub(crate) fn allocate<A: Allocator>(alloc: &A, len: usize) -> Result<(Cells, Deed<A>), AllocError>
     requires { len < 2 ^ 63 }
     ensures { IfOk result (λ r. (slots_len r.0 ≡ len) × (r.1.at ≡ slots_ptr r.0) × (r.1.len ≡ len) × (r.1.alloc ≡ alloc.now)) }
 {

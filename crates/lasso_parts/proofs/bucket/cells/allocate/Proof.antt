@@ -6,9 +6,9 @@
 use Rattle.std.proofs.Common.{◌≡◌, ℕ, ◌*◌, ◌^◌, ◌<◌, Bool, true, false, List, [], ◌∷◌, length, replicate, refl, sym, subst, ◌∙◌, lit<, arith, w64}
 use lib.ListN.{length-replicate}
 use base.Fml.{Lft, Share, ftrue, fsep, froom, flft, Incl-trans}
-use mir.Syntax.{Ty, Fn, Args, Body, a_type, dcons, dnil, named, w8, ty_int, ty_array}
+use mir.Syntax.{Ty, Fn, Args, Body, a_type, dcons, dnil, named}
 use mir.MapTy.{inst_fn}
-use mir.Val.{Val, WT, vptr, vcons, vnil, vstruct}
+use mir.Val.{Val, WT, vptr, vcons, vnil}
 use prog.Capped.{capped_is}
 use prog.Wp.{after_seq, at_return, Wp}
 use contract.BorrowLft.{◌⊑◌}
@@ -16,7 +16,7 @@ use contract.Monad.{fact}
 use contract.Running.{tables}
 use types.Kit.{Post, any_q, ‵, raw, ◌⊛◌, some, given, later, at_ret, ◌$◌, ◌∵◌, !, qed, move, keep, drop as let_go, use0, use1, use2, split, join, pick, learn, rewrite, fsplit, fjoin, fpack, feq_i, suffices, await, done}
 use types.Match.{live, vrt, in_variant}
-use types.Part.{whole, sub, agg}
+use types.Part.{whole, agg}
 use types.Run.{stop, fld, lit, of_opd, no_more, and_then, first, blocks, switches_on, exec, returns, enter}
 use types.ByLocal.{alloc_all, pass_all, free_all, look_at, get, get_in, get_tag, is, sets, sets_last, lands_as, lands_last, env}
 use denote.Builtin.{u8, usize, RawPtr, RefOf}

@@ -3,9 +3,9 @@
 -- The row of the places gives up its pointer, its count and the places, whatever they hold, and any row of
 -- places is room for so many bytes. The `requires` says that the deed is for this very room, by this very
 -- allocator: so its token is the one that `deallocate` asks for.
-use Rattle.std.proofs.Common.{◌≡◌, ℕ, ◌*◌, ◌^◌, ◌<◌, T, Bool, List, [], ◌∷◌, ◌++◌, length, refl, sym, ap, subst, ◌∙◌, lit<, arith, w64}
+use Rattle.std.proofs.Common.{◌≡◌, ℕ, ◌*◌, T, List, [], ◌∷◌, ◌++◌, length, refl, sym, ap, subst, ◌∙◌, lit<, arith}
 use base.Fml.{Lft, Share, ftrue, froom, flft, Incl-trans}
-use mir.Syntax.{Ty, Fn, Args, a_type, dcons, dnil, ty_unit}
+use mir.Syntax.{Fn, Args, a_type, dcons, dnil, ty_unit}
 use mir.MapTy.{inst_fn}
 use mir.Val.{Val, WT, has_ty, vptr, vunit, vstruct, of_list}
 use prog.Capped.{capped_is}
@@ -42,7 +42,7 @@ use Rattle.lasso_parts.specs.contracts.bucket.cells.Cells as cells
 use Rattle.lasso_parts.specs.contracts.bucket.cells.Deed as deed
 use Rattle.lasso_parts.specs.contracts.bucket.cells.deallocate as f
 use Rattle.lasso_parts.proofs.RowCalls.{byte, byte_laws, Row, Parts, parting_of, parts_goes, parts_gives}
-use Rattle.lasso_parts.proofs.EmptyStructs.{plainly, mark_val, mark_told}
+use Rattle.lasso_parts.proofs.EmptyStructs.{plainly, mark_told}
 use Rattle.lasso_parts.proofs.bucket.cells.deallocate.Statement.{statement}
 use Rattle.lasso_parts.proofs.bucket.cells.deallocate.Code as code
 
@@ -54,8 +54,10 @@ deallocate_spec 𝓤 𝓛 𝓜 𝓡 wired A laws heap methods drops met dropped 
     let P : RattleType = param 0 A in let Dr : RattleType = deed.the_row P heap in let Z : Al = record { row = A; laws = laws; g = heap; d = methods; drops = drops } in
     let stayed : Stays ended.signature.params ended.kept = (stay_dropped (RefOf (0 ∷ []) tt (plain (λ _. P)) (λ _. tt)) yes, (stay_dropped (plain (λ _. cells.the_row)) yes, (stay_dropped (plain (λ _. Dr)) no, tt))) in
     let W = walk_of 𝓛 ended stayed c in
-    proved_at 𝓛 ended stayed c 𝓜 𝓡 (Goes-dropped 𝓛 2 (RefOf (0 ∷ []) tt (plain (λ _. P)) (λ _. tt)) yes (λ κs x w. refl),
-    (Goes-blank 𝓛 2 (plain (λ _. cells.the_row)) yes (λ κs x w. tt), (Goes-blank 𝓛 2 (plain (λ _. Dr)) no (λ κs x w. tt), tt)))
+    proved_at 𝓛 ended stayed c 𝓜 𝓡 (
+      Goes-dropped 𝓛 2 (RefOf (0 ∷ []) tt (plain (λ _. P)) (λ _. tt)) yes (λ κs x w. refl),
+      (Goes-blank 𝓛 2 (plain (λ _. cells.the_row)) yes (λ κs x w. tt), (Goes-blank 𝓛 2 (plain (λ _. Dr)) no (λ κs x w. tt), tt)),
+    )
     (f.Key.name args) function (code.unfolded 𝓤 H 𝓜 𝓡 wired (A, tt) methods drops) (λ y _.
     let κs = y.0.0 in let qs = y.0.1 in let a = y.0.3 in let vss = y.0.4 in
     let κ : Lft = κs.0 in let q : Share = qs.0 in let place : ℕ × ℕ = a.0.ref_ptr in let alloc : A.Denot = a.0.now in

@@ -3,8 +3,8 @@
 -- A `&` to the places is a `&` to their pointer and one to the row of slots, which lends a `&` to each byte
 -- that the row holds. The pointer is where the row begins, so the pointer moved by `start` is where the run
 -- begins, and the row lends a `&` to each byte of the run: that is what a slice of the run holds.
-use Rattle.std.proofs.Common.{◌≡◌, ℕ, ◌+◌, ◌-◌, ◌*◌, ◌^◌, ◌<◌, ◌≤◌, Bool, List, [], ◌∷◌, length, take, drop, length-take, length-drop, refl, sym, ap, subst, ◌∙◌, arith, w64}
-use base.Fml.{Lft, Share, ftrue, flt, flft}
+use Rattle.std.proofs.Common.{◌≡◌, ℕ, ◌+◌, ◌-◌, ◌*◌, ◌^◌, ◌≤◌, List, [], ◌∷◌, length, take, drop, length-take, length-drop, refl, sym, ap, subst, ◌∙◌, arith, w64}
+use base.Fml.{Lft, Share, ftrue, flft}
 use mir.Syntax.{named}
 use mir.Val.{Val, WT}
 use types.Kit.{‵, raw, ◌⊛◌, at_ret, ◌$◌, ◌∵◌, !, qed, move, keep, split, join, fsplit, fjoin, fpick, feq_i, flt_l, flt_i, use1, rewrite, suffices, drop as let_go, done}
@@ -15,11 +15,10 @@ use contract.Monad.{fact}
 use contract.Running.{tables}
 use denote.Builtin.{u8, usize, RefOf}
 use denote.Exit.{yes}
-use denote.Memory.{hidden_shr}
 use denote.Opens.{hide, unhide}
 use denote.Plain.{uint_vals, uint_Tells}
 use denote.RattleType.{owns}
-use denote.RawPtr.{Ptr, block_ptr, block_of, count_of, at_block}
+use denote.RawPtr.{Ptr, block_ptr, block_of, count_of}
 use denote.Ref.{shr_vals, shr_Tells}
 use denote.Signature.{plain, types_at}
 use denote.Slice.{slice_val, elements_shared}
