@@ -6,3 +6,7 @@ pub mod IndexTables
 pub mod Regions
 pub mod Wasted
 pub mod Entries
+pub mod PlacesLent
+pub mod RowCalls
+pub mod EmptyStructs
+pub mod Crossing

@@ -1,8 +1,8 @@
--- What a region of memory shows, and what the right to free it shows.
+-- What a region of memory shows, what the right to free it shows, and what a bucket shows.
 use Rattle.std.specs.Prelude.{ℕ, List}
 use denote.RawPtr.{Ptr}
 
--- where a region lies, the bytes that were pushed since the last clear, and how many fit in all
+-- where a region lies, the bytes pushed since the last clear, and how many fit in all
 pub record Extent : Type 0 where
   pub at : Ptr
   pub bytes : List ℕ
@@ -13,6 +13,11 @@ pub record Block : Type 0 where
   pub at : Ptr
   pub len : ℕ
 
--- the block that a region takes
+-- the block that a region lies in
 abbrev pub block_of : Extent → Block
 block_of region = record { at = region.at; len = region.capacity }
+
+-- the bytes that a bucket holds, and how many fit in all
+pub record Filled : Type 0 where
+  pub bytes : List ℕ
+  pub capacity : ℕ

@@ -14,3 +14,4 @@ pub mod Arena
 pub mod Places
 pub mod Waste
 pub mod Slots
+pub mod Cells

@@ -1,82 +1,72 @@
-//! A stand-in for regions of raw memory: an array of 4096 bytes, of which a region uses its capacity.
-//! It meets the contracts of the real one but for sizes: a capacity past 4096 is refused.
+//! One region of memory, which fills with bytes from its start, and apart from it the right to free it.
 ghost use Rattle.std.specs.Prelude.{◌≡◌, ◌+◌, ◌<◌, ◌≤◌, ◌++◌, [], length, slice_range, IfOk, IfErr, IsUtf8};
-ghost use Rattle.lasso_parts.specs.Bucket.{block_of};
 ghost use Rattle.lasso_parts.specs.declared.util.LassoErrorKind.TheVariants.{FailedAllocation};
+ghost use Rattle.lasso_parts.specs.Bucket.{block_of};
 
+use super::cells::{Cells, Deed, allocate, deallocate};
 use crate::util::{LassoError, LassoErrorKind, LassoResult};
 use std::alloc::Allocator;
 use std::marker::Model;
 use std::str::from_utf8_unchecked;
 
-/// Bytes in one place. It names no allocator, and only `close` lets it go.
+/// A region of memory with the bytes in it. It names no allocator, and only `close` lets it go.
 pub struct Region {
-    places: [u8; 4096],
-    capacity: usize,
+    cells: Cells,
     used: usize,
 }
 
 impl Model for Region {
-    ghost use Rattle.std.specs.Prelude.{◌≤◌, take};
-    ghost use denote.RawPtr.{null_ptr};
+    ghost use Rattle.std.specs.Prelude.{◌<◌};
+    ghost use Rattle.core.specs.Mem.Slots.{slots_ptr, slots_len};
     ghost use Rattle.lasso_parts.specs.Bucket.{Extent};
+    ghost use Rattle.lasso_parts.specs.Cells.{bytes_in, Holds};
 
     ghost Value = { Extent };
 
-    ghost view = { λ r. record { at = null_ptr; bytes = take r.used r.places; capacity = r.capacity } };
+    ghost view = { λ r. record { at = slots_ptr r.cells; bytes = bytes_in r.used r.cells; capacity = slots_len r.cells } };
 
-    ghost invariant = { λ r. (r.used ≤ r.capacity) × (r.capacity ≤ 4096) };
+    ghost invariant = { λ r. Holds r.cells 0 r.used };
 }
 
-/// The right to free a region, with the allocator that made it.
+/// The right to free a region, with the allocator that gave it. Only `close` lets it go.
 pub struct Right<A: Allocator> {
-    len: usize,
+    deed: Deed<A>,
     alloc: A,
 }
 
 impl<A: Allocator> Model for Right<A> {
-    ghost use denote.RawPtr.{null_ptr};
+    ghost use Rattle.std.specs.Prelude.{◌≡◌};
     ghost use Rattle.lasso_parts.specs.Bucket.{Block};
 
     ghost Value = { Block };
 
-    ghost view = { λ r. record { at = null_ptr; len = r.len } };
+    ghost view = { λ r. record { at = r.deed.at; len = r.deed.len } };
+
+    ghost invariant = { λ r. r.deed.alloc ≡ r.alloc };
 }
 
-/// A region of so many bytes, and the right to free it.
+/// An empty region that takes `capacity` bytes, with the right to free it. It is `FailedAllocation` where
+/// the allocator has no such block, which is so for each capacity above `isize::MAX`.
 pub(crate) fn open<A: Allocator>(alloc: A, capacity: usize) -> LassoResult<(Region, Right<A>)>
     requires { 0 < capacity }
     ensures empty { IfOk result (λ r. (r.0.bytes ≡ []) × (r.0.capacity ≡ capacity)) }
     ensures joined { IfOk result (λ r. r.1 ≡ block_of r.0) }
     ensures refused { IfErr result (λ e. e ≡ FailedAllocation) }
 {
-    if 4096 < capacity {
+    if (isize::MAX as usize) < capacity {
         return Err(LassoError::new(LassoErrorKind::FailedAllocation));
     }
-    let region = Region {
-        places: [0; 4096],
-        capacity,
-        used: 0,
-    };
-    Ok((
-        region,
-        Right {
-            len: capacity,
-            alloc,
-        },
-    ))
+    let (cells, deed) = allocate(&alloc, capacity)?;
+    Ok((Region { cells, used: 0 }, Right { deed, alloc }))
 }
 
-/// Frees a region by its own right.
+/// Frees a region by the right to it.
 pub(crate) fn close<A: Allocator>(region: Region, right: Right<A>)
     requires { right ≡ block_of region }
 {
-    let Region {
-        places: _,
-        capacity: _,
-        used: _,
-    } = region;
-    let Right { len: _, alloc: _ } = right;
+    let Region { cells, used: _ } = region;
+    let Right { deed, alloc } = right;
+    deallocate(&alloc, cells, deed);
 }
 
 impl Region {
@@ -84,43 +74,41 @@ impl Region {
     pub(crate) fn capacity(&self) -> usize
         ensures { result ≡ self.now.capacity }
     {
-        self.capacity
+        self.cells.len()
     }
 
-    /// How many bytes fit that are not there yet.
+    /// How many bytes still fit.
     pub(crate) fn free_elements(&self) -> usize
         ensures { result + length self.now.bytes ≡ self.now.capacity }
     {
-        self.capacity - self.used
+        self.cells.len() - self.used
     }
 
-    /// Forgets all bytes.
+    /// Forgets the bytes. The region lies where it lay.
     pub(crate) fn clear(&mut self)
         ensures { self.new ≡ record self.old { bytes = [] } }
     {
         self.used = 0;
     }
 
-    /// Puts bytes behind those that are there, and answers where they begin.
+    /// Copies the bytes in behind those that are there, and answers where they start.
     pub(crate) fn push_slice(&mut self, bytes: &[u8]) -> usize
         requires { length self.old.bytes + length bytes.now ≤ self.old.capacity }
         ensures start { result ≡ length self.old.bytes }
         ensures bytes { self.new ≡ record self.old { bytes = self.old.bytes ++ bytes.now } }
     {
         let start = self.used;
-        let end = start + bytes.len();
-        let places = &mut self.places;
-        places[start..end].copy_from_slice(bytes);
-        self.used = end;
+        self.cells.write(start, bytes);
+        self.used = start + bytes.len();
         start
     }
 
-    /// The text of so many bytes from the start on.
+    /// The text in the `len` bytes from `start` on. Nothing is copied, and nothing tested.
     pub(crate) fn text(&self, start: usize, len: usize) -> &str
         requires in_bounds { start + len ≤ length self.now.bytes }
         requires is_text { IsUtf8 (slice_range self.now.bytes start (start + len)) }
         ensures { result.now ≡ slice_range self.now.bytes start (start + len) }
     {
-        unsafe { from_utf8_unchecked(&self.places[start..start + len]) }
+        unsafe { from_utf8_unchecked(self.cells.read(start, len)) }
     }
 }

@@ -1,0 +1,116 @@
+//! The places of a block of bytes: how they are had of an allocator, read, written and given back.
+//! No other file of the crate has a pointer.
+ghost use Rattle.std.specs.Prelude.{◌≡◌, ℕ, ◌+◌, ◌^◌, ◌<◌, ◌≤◌, ◌++◌, length, take, drop, slice_range, IfOk};
+ghost use base.Fml.{ftrue};
+ghost use denote.RawPtr.{Ptr};
+ghost use Rattle.core.specs.Mem.Slots.{slots_items, slots_ptr, slots_len, SamePlaces};
+ghost use Rattle.lasso_parts.specs.Cells.{LeadsToBlock, deed_owns, Holds, SameBefore};
+
+use core::slots::Slots;
+use std::alloc::{AllocError, Allocator};
+use std::marker::{Model, PhantomData, Send, Sync};
+use std::slice;
+
+/// The places of one block. They own it, but cannot free it. Contracts see them as their row, in which each
+/// place is empty or holds a byte. The pointer leads to the first place, so that a `&` is enough to read.
+pub struct Cells {
+    ptr: *mut u8,
+    slots: Slots<u8>,
+}
+
+impl Model for Cells {
+    ghost use Rattle.std.specs.Prelude.{◌≡◌, ℕ};
+    ghost use base.Fml.{ftrue};
+    ghost use Rattle.core.specs.Mem.Slots.{slots_ptr};
+    ghost use Rattle.core.specs.declared.slots.Slots.{Slots};
+    ghost use Rattle.lasso_parts.specs.Cells.{LeadsToBlock};
+
+    ghost Value = { Slots ℕ };
+
+    ghost view = { λ c. c.slots };
+
+    ghost invariant = { λ c. (c.ptr ≡ slots_ptr c.slots) × LeadsToBlock c.ptr };
+
+    // Beside its fields it owns and lends nothing. These two lines let `TheSendSync` show where it may go.
+    ghost also_owns = { λ _. ftrue };
+
+    ghost also_shares = { λ _ _ _. ftrue };
+}
+
+unsafe impl Send for Cells {}
+
+unsafe impl Sync for Cells {}
+
+/// The right to give the block of `len` bytes at `at` back to `alloc`. It takes no space.
+pub struct Deed<A: Allocator> {
+    of: PhantomData<*const A>,
+    ghost at: { Ptr },
+    ghost len: { ℕ },
+    ghost alloc: { A },
+}
+
+impl<A: Allocator> Model for Deed<A> {
+    ghost also_owns = { λ d. deed_owns (A.dealloc_token d.alloc) d.at d.len };
+
+    ghost also_shares = { λ _ _ _. ftrue };
+}
+
+unsafe impl<A: Allocator + Send> Send for Deed<A> {}
+
+// A `&` to it holds nothing.
+unsafe impl<A: Allocator> Sync for Deed<A> {}
+
+/// A block of `len` bytes of that allocator, with the right to free it. No place holds a byte yet.
+pub(crate) fn allocate<A: Allocator>(alloc: &A, len: usize) -> Result<(Cells, Deed<A>), AllocError>
+    requires { len < 2 ^ 63 }
+    ensures { IfOk result (λ r. (slots_len r.0 ≡ len) × (r.1.at ≡ slots_ptr r.0) × (r.1.len ≡ len) × (r.1.alloc ≡ alloc.now)) }
+{
+    match alloc.allocate(len, 1) {
+        Ok(ptr) => {
+            let slots = unsafe { Slots::from_raw_parts(ptr, len) };
+            let of = PhantomData;
+            Ok((Cells { ptr, slots }, Deed { of }))
+        }
+        Err(refused) => Err(refused),
+    }
+}
+
+/// Gives the block back to the allocator that it came from.
+pub(crate) fn deallocate<A: Allocator>(alloc: &A, cells: Cells, deed: Deed<A>)
+    requires { (deed.at ≡ slots_ptr cells) × (deed.len ≡ slots_len cells) × (deed.alloc ≡ alloc.now) }
+{
+    let Cells { ptr: _, slots } = cells;
+    let Deed { of: _ } = deed;
+    unsafe {
+        let (ptr, len) = slots.into_raw_parts();
+        alloc.deallocate(ptr, len, 1);
+    }
+}
+
+impl Cells {
+    /// How many places there are.
+    pub(crate) fn len(&self) -> usize
+        ensures { result ≡ slots_len self.now }
+    {
+        self.slots.len()
+    }
+
+    /// Copies the bytes to the places from `start` on.
+    pub(crate) fn write(&mut self, start: usize, bytes: &[u8])
+        requires { start + length bytes.now ≤ slots_len self.old }
+        ensures items { slots_items self.new ≡ take start (slots_items self.old) ++ bytes.now ++ drop (start + length bytes.now) (slots_items self.old) }
+        ensures written { Holds self.new start (start + length bytes.now) }
+        ensures before { SameBefore self.old self.new start }
+        ensures places { SamePlaces self.old self.new }
+    {
+        self.slots.copy_in(start, bytes);
+    }
+
+    /// The `len` bytes from `start` on, where they lie.
+    pub(crate) fn read(&self, start: usize, len: usize) -> &[u8]
+        requires { Holds self.now start (start + len) }
+        ensures { result.now ≡ slice_range (slots_items self.now) start (start + len) }
+    {
+        unsafe { slice::from_raw_parts(self.ptr.add(start), len) }
+    }
+}
