@@ -68,3 +68,10 @@ front_then before mid after front back result first second =
 pub write_fault : (result : Result (Unit {0}) RunFault) → IfErr result (λ fault. fault ≡ WriteFailed) → IfErr result IsAnswerFault
 write_fault (Ok x) is = is
 write_fault (Err fault) is = subst IsAnswerFault (sym is) tt
+
+-- what a writer into empty memory has delivered is the part
+pub delivered_part : (before after : List ℕ) (P : List ℕ → Type 0) → before ≡ [] → Grows (written (Some before) (Some [])) (written (Some after) (Some [])) P → P after
+delivered_part before after P none grown =
+    let w = grown (before ++ []) refl in
+    let same : after ++ [] ≡ (before ++ []) ++ w.0 = cc in
+    subst P (sym (sym (append-nil after) ∙ same ∙ ap (λ bs. (bs ++ []) ++ w.0) none)) w.2
