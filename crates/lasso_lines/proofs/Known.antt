@@ -1,0 +1,77 @@
+-- Known bytes that grow, one call after the other.
+--
+-- A relation between the known bytes before and after a call says something only where they are known before. So
+-- two relations in a row compose: the bytes that the first tells are known to the second, and the two parts join.
+use Rattle.std.proofs.Common.{ℕ, ◌≡◌, ◌≤◌, List, [], ◌∷◌, ◌++◌, take, drop, length, Option, Some, None, Result, Ok, Err, OnOk, IfErr, MatchResult, ap, sym, subst, refl, ◌∙◌, append_assoc, append-nil, arith}
+use Rattle.lasso_lines.specs.Stream.{Begins, Grows, OnlyGrows, Stays, written}
+use Rattle.lasso_lines.specs.Answer.{WritesAll, IsAnswerFault}
+use Rattle.lasso_lines.specs.declared.fault.RunFault.{RunFault}
+use Rattle.lasso_lines.specs.declared.fault.RunFault.TheVariants.{WriteFailed}
+
+-- nothing more is written
+pub nothing_more : (known : Option (List ℕ)) (P : List ℕ → Type 0) → P [] → Grows known known P
+nothing_more known P p = λ held e. ([], e ∙ ap (λ bs. Some bs) (sym (append-nil held)), p)
+
+pub grows_as : (before after : Option (List ℕ)) (P Q : List ℕ → Type 0) → Grows before after P → ((part : List ℕ) → P part → Q part) → Grows before after Q
+grows_as before after P Q grown then = λ held e. let w = grown held e in (w.0, w.1, then w.0 w.2)
+
+pub grows_then : (before mid after : Option (List ℕ)) (P Q R : List ℕ → Type 0) → Grows before mid P → Grows mid after Q → ((p q : List ℕ) → P p → Q q → R (p ++ q)) → Grows before after R
+grows_then before mid after P Q R first second join = λ held e.
+    let v = first held e in
+    let w = second (held ++ v.0) v.1 in
+    (v.0 ++ w.0, w.1 ∙ ap (λ bs. Some bs) (append_assoc held v.0 w.0), join v.0 w.0 v.2 w.2)
+
+pub only_grows_still : (known : Option (List ℕ)) → OnlyGrows known known
+only_grows_still known = nothing_more known (λ _. Unit {0}) tt
+
+pub only_grows_then : (before mid after : Option (List ℕ)) → OnlyGrows before mid → OnlyGrows mid after → OnlyGrows before after
+only_grows_then before mid after first second = grows_then before mid after (λ _. Unit {0}) (λ _. Unit {0}) (λ _. Unit {0}) first second (λ p q a b. tt)
+
+-- what stays grows by nothing
+pub grows_stays : (before mid after : Option (List ℕ)) (P Q : List ℕ → Type 0) → Grows before mid P → Stays mid after → ((part : List ℕ) → P part → Q part) → Grows before after Q
+grows_stays before mid after P Q grown stays then = λ held e. let w = grown held e in (w.0, stays (held ++ w.0) w.1, then w.0 w.2)
+
+pub stays_grows : (before mid after : Option (List ℕ)) (P : List ℕ → Type 0) → Stays before mid → Grows mid after P → Grows before after P
+stays_grows before mid after P stays grown = λ held e. grown held (stays held e)
+
+-- one more call took n of the bytes that were left
+pub took_more : (before mid after : Option (List ℕ)) (bytes rest others : List ℕ) (n : ℕ) → Grows before mid (λ part. part ++ rest ≡ bytes) → Grows mid after (λ part. part ≡ take n rest) → take n rest ++ others ≡ rest → Grows before after (λ part. part ++ others ≡ bytes)
+took_more before mid after bytes rest others n grown took split =
+    grows_then before mid after (λ part. part ++ rest ≡ bytes) (λ part. part ≡ take n rest) (λ part. part ++ others ≡ bytes) grown took (λ p q first second.
+    append_assoc p q others ∙ ap (λ bs. p ++ bs) (ap (λ bs. bs ++ others) second ∙ split) ∙ first)
+
+begins_split : (p q rest bytes : List ℕ) → p ++ rest ≡ bytes → Begins q rest → Begins (p ++ q) bytes
+begins_split p q rest bytes whole b = (b.0, sym whole ∙ ap (λ bs. p ++ bs) b.1 ∙ sym (append_assoc p q b.0))
+
+-- the call that failed took a beginning of the bytes that were left
+pub took_less : (before mid after : Option (List ℕ)) (bytes rest : List ℕ) → Grows before mid (λ part. part ++ rest ≡ bytes) → Grows mid after (λ part. Begins part rest) → Grows before after (λ part. Begins part bytes)
+took_less before mid after bytes rest grown took =
+    grows_then before mid after (λ part. part ++ rest ≡ bytes) (λ part. Begins part rest) (λ part. Begins part bytes) grown took (λ p q first second. begins_split p q rest bytes first second)
+
+begins_first : (part front back : List ℕ) → Begins part front → Begins part (front ++ back)
+begins_first part front back b = (b.0 ++ back, ap (λ bs. bs ++ back) b.1 ∙ append_assoc part b.0 back)
+
+-- a fault while the front of some bytes is written
+pub front_fails : (before after : Option (List ℕ)) (front back : List ℕ) (fault : RunFault) → Grows before after (WritesAll front (Err fault)) → Grows before after (WritesAll (front ++ back) (Err fault))
+front_fails before after front back fault grown = grows_as before after (WritesAll front (Err fault)) (WritesAll (front ++ back) (Err fault)) grown (λ part w. (w.0, begins_first part front back w.1))
+
+writes_behind : (p q front back : List ℕ) (result : Result (Unit {0}) RunFault) → p ≡ front → WritesAll back result q → WritesAll (front ++ back) result (p ++ q)
+writes_behind p q front back (Ok x) is w = ap (λ bs. bs ++ q) is ∙ ap (λ bs. front ++ bs) w
+writes_behind p q front back (Err fault) is w = (w.0, begins_split p q back (front ++ back) (ap (λ bs. bs ++ back) is) w.1)
+
+-- the front of some bytes is written, and then the rest of them
+pub front_then : (before mid after : Option (List ℕ)) (front back : List ℕ) (result : Result (Unit {0}) RunFault) → Grows before mid (λ part. part ≡ front) → Grows mid after (WritesAll back result) → Grows before after (WritesAll (front ++ back) result)
+front_then before mid after front back result first second =
+    grows_then before mid after (λ part. part ≡ front) (WritesAll back result) (WritesAll (front ++ back) result) first second (λ p q is w. writes_behind p q front back result is w)
+
+-- a failed write is a fault of an answer
+pub write_fault : (result : Result (Unit {0}) RunFault) → IfErr result (λ fault. fault ≡ WriteFailed) → IfErr result IsAnswerFault
+write_fault (Ok x) is = is
+write_fault (Err fault) is = subst IsAnswerFault (sym is) tt
+
+-- what a writer into empty memory has delivered is the part
+pub delivered_part : (before after : List ℕ) (P : List ℕ → Type 0) → before ≡ [] → Grows (written (Some before) (Some [])) (written (Some after) (Some [])) P → P after
+delivered_part before after P none grown =
+    let w = grown (before ++ []) refl in
+    let same : after ++ [] ≡ (before ++ []) ++ w.0 = cc in
+    subst P (sym (sym (append-nil after) ∙ same ∙ ap (λ bs. (bs ++ []) ++ w.0) none)) w.2

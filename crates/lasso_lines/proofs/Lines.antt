@@ -1,0 +1,92 @@
+-- The lines of bytes, and what answering one of them gives.
+--
+-- Bytes without a line feed begin the first line. A line feed behind them ends it, and where nothing is behind
+-- them they are the last line, unless there are none.
+use Rattle.std.proofs.Common.{ℕ, suc, zero, ◌≡◌, ◌+◌, ◌-◌, ◌<◌, ◌≤◌, ◌==◌, ◌⊎◌, inl, inr, Bool, true, false, cond, List, [], ◌∷◌, ◌++◌, length, take, drop, Option, Some, None, Result, Ok, Err, MatchResult, decimal, ap, sym, subst, ◌∙◌, refl, arith, rules, append_assoc}
+use Rattle.std.specs.List.{onto_first, slice_index}
+use Rattle.std.specs.Str.{IsUtf8, is_utf8}
+use Rattle.std.proofs.lemmas.Str.{IsUtf8-from_is_utf8, is_utf8-from_IsUtf8}
+use Rattle.std.proofs.lemmas.Bool.{false_from_ne_true}
+use Rattle.std.proofs.lemmas.Option.{cond_some}
+use Rattle.lasso_parts.specs.declared.util.LassoError.{LassoError}
+use Rattle.lasso_parts.specs.declared.util.LassoErrorKind.TheVariants.{FailedAllocation}
+use Rattle.lasso_parts.specs.Held.{Held}
+use Rattle.lasso_single.specs.Intern.{interned, place}
+use Rattle.lasso_lines.specs.Stream.{Begins}
+use Rattle.lasso_lines.specs.Report.{is_line_feed, lines_of, spur_at, after_line, with_number, line_report}
+use Rattle.lasso_lines.specs.Answer.{AnswersLine, WritesAll, LineFails, faulty, no_memory, not_written, last_lines}
+use Rattle.lasso_lines.specs.declared.fault.RunFault.{RunFault}
+use Rattle.lasso_lines.specs.declared.fault.RunFault.TheVariants.{Refused, NotText, WriteFailed}
+
+-- no byte is a line feed
+abbrev pub NoFeed : List ℕ → Type 0
+NoFeed [] = Unit {0}
+NoFeed (b ∷ bytes) = (is_line_feed b ≡ false) × NoFeed bytes
+
+pub no_feed_both : (front back : List ℕ) → NoFeed front → NoFeed back → NoFeed (front ++ back)
+no_feed_both [] back none none' = none'
+no_feed_both (x ∷ front) back none none' = (none.0, no_feed_both front back none.1 none')
+
+-- where no byte below n is a line feed, the first n bytes have none
+pub no_feed_take : (bytes : List ℕ) (n : ℕ) → ((k : ℕ) → k < n → ¬ (slice_index bytes k == 10 ≡ true)) → NoFeed (take n bytes)
+no_feed_take bytes zero none = tt
+no_feed_take [] (suc n) none = tt
+no_feed_take (b ∷ bytes) (suc n) none = (false_from_ne_true _ (none 0 (omega arith)), no_feed_take bytes n (λ k small. none (suc k) (omega arith)))
+
+cut_step : (x : ℕ) (bytes line : List ℕ) (lines : List (List ℕ)) → is_line_feed x ≡ false → lines_of bytes ≡ line ∷ lines → lines_of (x ∷ bytes) ≡ (x ∷ line) ∷ lines
+cut_step x bytes line lines e rest = ap (λ t. cond t ([] ∷ lines_of bytes) (onto_first x (lines_of bytes))) e ∙ ap (λ ls. onto_first x ls) rest
+
+pub lines_cut : (line rest : List ℕ) → NoFeed line → lines_of (line ++ 10 ∷ rest) ≡ line ∷ lines_of rest
+lines_cut [] rest none = refl
+lines_cut (x ∷ line) rest none = cut_step x (line ++ 10 ∷ rest) line (lines_of rest) none.0 (lines_cut line rest none.1)
+
+lines_last_onto : (x : ℕ) (line : List ℕ) → onto_first x (last_lines line) ≡ (x ∷ line) ∷ []
+lines_last_onto x [] = refl
+lines_last_onto x (y ∷ line) = refl
+
+pub lines_last : (line : List ℕ) → NoFeed line → lines_of line ≡ last_lines line
+lines_last [] none = refl
+lines_last (x ∷ line) none = ap (λ t. cond t ([] ∷ lines_of line) (onto_first x (lines_of line))) none.0 ∙ ap (λ ls. onto_first x ls) (lines_last line none.1) ∙ lines_last_onto x line
+
+-- bytes have a first line
+onto_some : (x : ℕ) (lines : List (List ℕ)) → (l : List ℕ) × (ls : List (List ℕ)) × (onto_first x lines ≡ l ∷ ls)
+onto_some x [] = (x ∷ [], [], refl)
+onto_some x (line ∷ lines) = (x ∷ line, lines, refl)
+
+cond_lines : (t : Bool) (x : ℕ) (bytes : List ℕ) → (l : List ℕ) × (ls : List (List ℕ)) × (cond t ([] ∷ lines_of bytes) (onto_first x (lines_of bytes)) ≡ l ∷ ls)
+cond_lines true x bytes = ([], lines_of bytes, refl)
+cond_lines false x bytes = onto_some x (lines_of bytes)
+
+pub lines_some : (line : List ℕ) (b : ℕ) (rest : List ℕ) → (l : List ℕ) × (ls : List (List ℕ)) × (lines_of (line ++ b ∷ rest) ≡ l ∷ ls)
+lines_some [] b rest = cond_lines (is_line_feed b) b rest
+lines_some (x ∷ line) b rest = cond_lines (is_line_feed x) x (line ++ b ∷ rest)
+
+-- bytes that are not UTF-8 are a fault
+pub not_text : (held : Held) (number : ℕ) (line : List ℕ) → ¬ (IsUtf8 line) → after_line held number line ≡ Err (NotText number)
+not_text held number line not_utf8 = ap (λ b. cond b (with_number number (interned spur_at held line)) (Err (NotText number))) (false_from_ne_true _ (λ e. not_utf8 (IsUtf8-from_is_utf8 line e)))
+
+text_line : (held : Held) (number : ℕ) (line : List ℕ) → IsUtf8 line → after_line held number line ≡ with_number number (interned spur_at held line)
+text_line held number line utf8 = ap (λ b. cond b (with_number number (interned spur_at held line)) (Err (NotText number))) (is_utf8-from_IsUtf8 line utf8)
+
+-- a text that interning refuses
+pub refused_line : (held : Held) (number : ℕ) (line text : List ℕ) (error : LassoError) (X Y : Type 0) → (text ≡ line) × IsUtf8 line → (interned spur_at held text ≡ Err error) ⊎ ((error ≡ FailedAllocation) × X × Y) → LineFails held number line [] (Refused number error)
+refused_line held number line text error X Y is (inl refused) = faulty _ (text_line held number line is.1 ∙ ap (λ r. with_number number r) (subst (λ t. interned spur_at held t ≡ Err error) is.0 refused)) refl
+refused_line held number line text error X Y is (inr none) = subst (λ e. LineFails held number line [] (Refused number e)) (sym none.0) (no_memory refl)
+
+place_of : (place k : ℕ) → spur_at place ≡ Some k → place ≡ k - 1
+place_of place k e = let sum = (cond_some _ _ _ e).1 in omega arith
+
+line_is_text : (held after : Held) (number : ℕ) (line text : List ℕ) → (text ≡ line) × IsUtf8 line → interned spur_at held text ≡ Ok after → after_line held number line ≡ Ok after
+line_is_text held after number line text is reply = text_line held number line is.1 ∙ ap (λ r. with_number number r) (subst (λ t. interned spur_at held t ≡ Ok after) is.0 reply)
+
+-- the position in front of the line
+report_is : (held : Held) (line text : List ℕ) (position key : ℕ) → text ≡ line → spur_at (place held.texts text) ≡ Some key → position ≡ key - 1 → decimal position ++ (32 ∷ (line ++ 10 ∷ [])) ≡ line_report held line
+report_is held line text position key is found at = ap (λ n. decimal n ++ (32 ∷ (line ++ 10 ∷ []))) (at ∙ sym (place_of (place held.texts text) key found) ∙ ap (λ t. place held.texts t) is)
+
+answered_by : (held after : Held) (number : ℕ) (line : List ℕ) (result : Result (Unit {0}) RunFault) (bytes : List ℕ) → after_line held number line ≡ Ok after → bytes ≡ line_report held line → (part : List ℕ) → WritesAll bytes result part → AnswersLine held number line result after part
+answered_by held after number line (Ok x) bytes good is part wrote = (good, wrote ∙ is)
+answered_by held after number line (Err fault) bytes good is part wrote = subst (λ f. LineFails held number line part f) (sym wrote.0) (not_written after good (subst (λ bs. Begins part bs) is wrote.1))
+
+-- a text that is interned, and its answer
+pub answered_line : (held after : Held) (number : ℕ) (line text : List ℕ) (position key : ℕ) (result : Result (Unit {0}) RunFault) → (text ≡ line) × IsUtf8 line → (interned spur_at held text ≡ Ok after) × (spur_at (place held.texts text) ≡ Some key) → position ≡ key - 1 → (part : List ℕ) → WritesAll (decimal position ++ (32 ∷ (line ++ 10 ∷ []))) result part → AnswersLine held number line result after part
+answered_line held after number line text position key result is reply at = answered_by held after number line result _ (line_is_text held after number line text is reply.0) (report_is held line text position key is.0 reply.1 at)

@@ -1,0 +1,38 @@
+-- The number that a word says, digit by digit.
+--
+-- Behind the digits read so far, the others only make the value greater. So where the value of some first digits is
+-- past the greatest number, so is that of the word.
+use Rattle.std.proofs.Common.{ℕ, suc, ◌≡◌, ◌+◌, ◌-◌, ◌*◌, ◌<◌, ◌≤◌, ◌^◌, Bool, true, false, ◌&&◌, cond, List, [], ◌∷◌, length, drop, get_or, drop-cons, Option, Some, None, ap, sym, subst, ◌∙◌, refl, arith}
+use Rattle.std.proofs.lemmas.Grind.{common_steps}
+use Rattle.std.proofs.lemmas.Bool.Decides.{nat_tests}
+use Rattle.lasso_lines.specs.Arguments.{is_digit, all_digits, value_behind, is_number, number_of}
+
+pub value_grows : (bytes : List ℕ) (value : ℕ) → value ≤ value_behind value bytes
+value_grows [] value = omega arith
+value_grows (b ∷ bytes) value = omega (arith, value_grows bytes (value * 10 + (b - 48)))
+
+-- a number past the greatest one
+pub too_great : (word : List ℕ) → 2 ^ 64 ≤ value_behind 0 word → number_of word ≡ None
+too_great word great = grind (arith, nat_tests)
+
+pub not_digits : (word : List ℕ) → all_digits word ≡ false → number_of word ≡ None
+not_digits word none = grind (arith, nat_tests)
+
+pub not_length : (word : List ℕ) → (length word ≡ 0) → number_of word ≡ None
+not_length word none = grind (arith, nat_tests)
+
+pub too_long : (word : List ℕ) → 20 < length word → number_of word ≡ None
+too_long word long = grind (arith, nat_tests)
+
+pub a_number : (word : List ℕ) (value : ℕ) → 0 < length word → length word ≤ 20 → all_digits word ≡ true → value_behind 0 word ≡ value → value < 2 ^ 64 → number_of word ≡ Some value
+a_number word value some short digits is fits = grind (arith, nat_tests)
+
+-- the next digit brings the value past the greatest number
+pub past_greatest : (word digits : List ℕ) (i value : ℕ) → digits ≡ word → i < length digits → value_behind value (drop i digits) ≡ value_behind 0 digits → 2 ^ 64 ≤ value * 10 + (get_or digits i 0 - 48) → number_of word ≡ None
+past_greatest word digits i value same inside reads great =
+    let rest = drop (suc i) digits in
+    let step : value_behind value (drop i digits) ≡ value_behind (value * 10 + (get_or digits i 0 - 48)) rest = ap (λ bs. value_behind value bs) (drop-cons digits i 0 inside) in
+    subst (λ bs. number_of bs ≡ None) same (too_great digits (omega (arith, value_grows rest (value * 10 + (get_or digits i 0 - 48)))))
+
+pub at_least : (n : ℕ) → ¬ (n < 2 ^ 64) → 2 ^ 64 ≤ n
+at_least n not_below = omega (arith, not_below)

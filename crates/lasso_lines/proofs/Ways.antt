@@ -1,0 +1,220 @@
+-- How a run over all bytes ends, from how the run over the lines that are left ends.
+--
+-- While the engine works, it holds the beginning of a line, and some bytes are left to read. What it keeps true is
+-- this: however the run over the lines of those bytes ends, with the part that it writes, so ends the run over the
+-- whole input, with the bytes written so far in front of that part. This holds at the start, when all is left. More
+-- bytes of the line that is held change nothing, since the same bytes are held and left. An answered line goes from
+-- the lines that are left to the bytes that are written, by the definition of the report. So at a return only the
+-- lines that are left matter: none after the counts, or one of which a fault is told.
+use Rattle.std.proofs.Common.{ℕ, zero, suc, ◌≡◌, ◌+◌, ◌-◌, ◌≤◌, ◌<◌, ◌⊎◌, inl, inr, Bool, true, false, cond, List, [], ◌∷◌, ◌++◌, length, Option, Some, None, Result, Ok, Err, MatchResult, ap, sym, subst, ◌∙◌, refl, append_assoc, append-nil, arith, rules}
+use Rattle.std.specs.Str.{is_utf8}
+use Rattle.lasso_parts.specs.Held.{Held}
+use Rattle.lasso_parts.specs.declared.util.LassoError.{LassoError}
+use Rattle.lasso_parts.specs.declared.util.LassoErrorKind.TheVariants.{FailedAllocation}
+use Rattle.lasso_single.specs.Intern.{interned}
+use Rattle.lasso_lines.specs.Stream.{Begins}
+use Rattle.lasso_lines.specs.Report.{lines_of, with_number, spur_at, after_line, line_report, last_report, or_else, report_from, fault_from, reach_from, answers_from, LacksMemory, EndsWithFault, EndsFrom, Ends, new_held, report}
+use Rattle.lasso_lines.specs.Answer.{AnswersLine, WritesAll, LineFails, faulty, no_memory, not_written, IsStreamFault, last_lines}
+use Rattle.lasso_lines.specs.declared.fault.RunFault.{RunFault}
+use Rattle.lasso_lines.specs.declared.fault.RunFault.TheVariants.{Refused, NotText, Usage, ReadFailed, WriteFailed}
+use Rattle.lasso_lines.proofs.Lines.{NoFeed, lines_cut, lines_last, lines_some}
+
+-- what one good line gives
+report_good : (held after : Held) (number : ℕ) (line : List ℕ) (lines : List (List ℕ)) → after_line held number line ≡ Ok after → report_from held number (line ∷ lines) ≡ line_report held line ++ report_from after (number + 1) lines
+report_good held after number line lines e = ap (λ r. or_else r (λ a. line_report held line ++ report_from a (number + 1) lines) (λ _. [])) e
+
+fault_good : (held after : Held) (number : ℕ) (line : List ℕ) (lines : List (List ℕ)) → after_line held number line ≡ Ok after → fault_from held number (line ∷ lines) ≡ fault_from after (number + 1) lines
+fault_good held after number line lines e = ap (λ r. or_else r (λ a. fault_from a (number + 1) lines) (λ f. Some f)) e
+
+reach_good : (held after : Held) (number : ℕ) (line : List ℕ) (lines : List (List ℕ)) → after_line held number line ≡ Ok after → reach_from held number (line ∷ lines) ≡ 1 + reach_from after (number + 1) lines
+reach_good held after number line lines e = ap (λ r. or_else r (λ a. 1 + reach_from a (number + 1) lines) (λ _. 1)) e
+
+answers_good : (held after : Held) (number : ℕ) (line : List ℕ) (lines : List (List ℕ)) (count : ℕ) → after_line held number line ≡ Ok after → answers_from held number (line ∷ lines) (suc count) ≡ line_report held line ++ answers_from after (number + 1) lines count
+answers_good held after number line lines count e = ap (λ r. or_else r (λ a. line_report held line ++ answers_from a (number + 1) lines count) (λ _. [])) e
+
+-- what one faulty line gives
+report_bad : (held : Held) (number : ℕ) (line : List ℕ) (lines : List (List ℕ)) (fault : RunFault) → after_line held number line ≡ Err fault → report_from held number (line ∷ lines) ≡ []
+report_bad held number line lines fault e = ap (λ r. or_else r (λ a. line_report held line ++ report_from a (number + 1) lines) (λ _. [])) e
+
+fault_bad : (held : Held) (number : ℕ) (line : List ℕ) (lines : List (List ℕ)) (fault : RunFault) → after_line held number line ≡ Err fault → fault_from held number (line ∷ lines) ≡ Some fault
+fault_bad held number line lines fault e = ap (λ r. or_else r (λ a. fault_from a (number + 1) lines) (λ f. Some f)) e
+
+reach_some_of : (held : Held) (number : ℕ) (lines : List (List ℕ)) (r : Result Held RunFault) → 0 < or_else r (λ a. 1 + reach_from a (number + 1) lines) (λ _. 1)
+reach_some_of held number lines (Ok after) = omega arith
+reach_some_of held number lines (Err fault) = omega arith
+
+reach_some : (held : Held) (number : ℕ) (line : List ℕ) (lines : List (List ℕ)) → 0 < reach_from held number (line ∷ lines)
+reach_some held number line lines = reach_some_of held number lines (after_line held number line)
+
+-- the beginnings of lists
+begins_all : (whole : List ℕ) → Begins whole whole
+begins_all whole = ([], sym (append-nil whole))
+
+begins_more : (part front back : List ℕ) → Begins part front → Begins part (front ++ back)
+begins_more part front back b = (b.0 ++ back, ap (λ bs. bs ++ back) b.1 ∙ append_assoc part b.0 back)
+
+begins_behind : (first part whole : List ℕ) → Begins part whole → Begins (first ++ part) (first ++ whole)
+begins_behind first part whole b = (b.0, ap (λ bs. first ++ bs) b.1 ∙ sym (append_assoc first part b.0))
+
+-- the answers to the first lines begin the report
+answers_begin_of : (held : Held) (number : ℕ) (line : List ℕ) (lines : List (List ℕ)) (count : ℕ) (r : Result Held RunFault) → ((after : Held) → Begins (answers_from after (number + 1) lines count) (report_from after (number + 1) lines)) → Begins (or_else r (λ a. line_report held line ++ answers_from a (number + 1) lines count) (λ _. [])) (or_else r (λ a. line_report held line ++ report_from a (number + 1) lines) (λ _. []))
+answers_begin_of held number line lines count (Ok after) rest = begins_behind (line_report held line) _ _ (rest after)
+answers_begin_of held number line lines count (Err fault) rest = ([], refl)
+
+answers_begin : (lines : List (List ℕ)) (held : Held) (number count : ℕ) → Begins (answers_from held number lines count) (report_from held number lines)
+answers_begin [] held number count = (_, refl)
+answers_begin (line ∷ lines) held number zero = (_, refl)
+answers_begin (line ∷ lines) held number (suc count) = answers_begin_of held number line lines count (after_line held number line) (λ after. answers_begin lines after (number + 1) count)
+
+-- however a run ends, what it has written begins the report
+begins_equal : (part whole : List ℕ) → part ≡ whole → Begins part whole
+begins_equal part whole e = subst (λ bs. Begins bs whole) (sym e) (begins_all whole)
+
+lack_begins : (held : Held) (first : ℕ) (lines : List (List ℕ)) (part : List ℕ) (number : ℕ) → LacksMemory held first lines part number → Begins part (report_from held first lines)
+lack_begins held first lines part number (inl (before, at, inside, told)) = subst (λ bs. Begins bs (report_from held first lines)) (sym told) (answers_begin lines held first before)
+lack_begins held first lines part number (inr (none, begins)) = begins
+
+fault_begins : (held : Held) (first : ℕ) (lines : List (List ℕ)) (part : List ℕ) (fault : RunFault) → EndsWithFault held first lines part fault → Begins part (report_from held first lines)
+fault_begins held first lines part (Refused number error) (inl own) = begins_equal _ _ own.1
+fault_begins held first lines part (Refused number error) (inr lack) = lack_begins held first lines part number lack.1
+fault_begins held first lines part (NotText number) (inl own) = begins_equal _ _ own.1
+fault_begins held first lines part (NotText number) (inr lack) = lack_begins held first lines part number lack.1
+fault_begins held first lines part Usage none = absurd none
+fault_begins held first lines part ReadFailed begins = begins
+fault_begins held first lines part WriteFailed begins = begins
+
+pub ends_begin : (held : Held) (first : ℕ) (lines : List (List ℕ)) (part : List ℕ) (result : Result (Unit {0}) RunFault) → EndsFrom held first lines part result → Begins part (report_from held first lines)
+ends_begin held first lines part (Ok x) ends = begins_equal _ _ ends.1
+ends_begin held first lines part (Err fault) ends = fault_begins held first lines part fault ends
+
+-- a good line, and then the others
+module _ (held after : Held) (number : ℕ) (line : List ℕ) (lines : List (List ℕ)) (good : after_line held number line ≡ Ok after) where
+  begins_after : (part : List ℕ) → Begins part (report_from after (number + 1) lines) → Begins (line_report held line ++ part) (report_from held number (line ∷ lines))
+  begins_after part begins = subst (λ bs. Begins (line_report held line ++ part) bs) (sym (report_good held after number line lines good)) (begins_behind (line_report held line) part _ begins)
+
+  told_after : (part : List ℕ) → part ≡ report_from after (number + 1) lines → line_report held line ++ part ≡ report_from held number (line ∷ lines)
+  told_after part told = ap (λ bs. line_report held line ++ bs) told ∙ sym (report_good held after number line lines good)
+
+  lack_after : (part : List ℕ) (at : ℕ) → LacksMemory after (number + 1) lines part at → LacksMemory held number (line ∷ lines) (line_report held line ++ part) at
+  lack_after part at (inl (before, is, inside, told)) = inl (suc before, omega arith, omega (arith, reach_good held after number line lines good), ap (λ bs. line_report held line ++ bs) told ∙ sym (answers_good held after number line lines before good))
+  lack_after part at (inr (none, begins)) = inr (none, begins_after part begins)
+
+  fault_after : (part : List ℕ) (fault : RunFault) → EndsWithFault after (number + 1) lines part fault → EndsWithFault held number (line ∷ lines) (line_report held line ++ part) fault
+  fault_after part (Refused n error) (inl own) = inl (fault_good held after number line lines good ∙ own.0, told_after part own.1)
+  fault_after part (Refused n error) (inr lack) = inr (lack.0, lack_after part n lack.1)
+  fault_after part (NotText n) (inl own) = inl (fault_good held after number line lines good ∙ own.0, told_after part own.1)
+  fault_after part (NotText n) (inr lack) = inr (lack.0, lack_after part n lack.1)
+  fault_after part Usage none = none
+  fault_after part ReadFailed begins = begins_after part begins
+  fault_after part WriteFailed begins = begins_after part begins
+
+  pub ends_after : (part : List ℕ) (result : Result (Unit {0}) RunFault) → EndsFrom after (number + 1) lines part result → EndsFrom held number (line ∷ lines) (line_report held line ++ part) result
+  ends_after part (Ok x) ends = (fault_good held after number line lines good ∙ ends.0, told_after part ends.1)
+  ends_after part (Err fault) ends = fault_after part fault ends
+
+-- a line's own fault says so
+data OwnFault (number : ℕ) : RunFault → Type 0 where
+  own_text : OwnFault number (NotText number)
+  own_refusal : (error : LassoError) → OwnFault number (Refused number error)
+
+own_of_number : (number : ℕ) (r : Result Held LassoError) (fault : RunFault) → with_number number r ≡ Err fault → OwnFault number fault
+own_of_number number (Ok after) fault e = cc
+own_of_number number (Err error) fault e = let same : Refused number error ≡ fault = cc in subst (λ f. OwnFault number f) same (own_refusal error)
+
+own_of : (number : ℕ) (t : Bool) (r : Result Held LassoError) (fault : RunFault) → cond t (with_number number r) (Err (NotText number)) ≡ Err fault → OwnFault number fault
+own_of number true r fault e = own_of_number number r fault e
+own_of number false r fault e = let same : NotText number ≡ fault = cc in subst (λ f. OwnFault number f) same own_text
+
+own_ends : (held : Held) (first : ℕ) (lines : List (List ℕ)) (number : ℕ) (fault : RunFault) → OwnFault number fault → report_from held first lines ≡ [] → fault_from held first lines ≡ Some fault → EndsWithFault held first lines [] fault
+own_ends held first lines number fault own_text w f = inl (f, sym w)
+own_ends held first lines number fault (own_refusal error) w f = inl (f, sym w)
+
+-- the fault at the first of some lines ends them
+pub line_fails : (held : Held) (number : ℕ) (line : List ℕ) (lines : List (List ℕ)) (part : List ℕ) (fault : RunFault) → LineFails held number line part fault → EndsFrom held number (line ∷ lines) part (Err fault)
+line_fails held number line lines part fault (faulty f e none) = subst (λ bs. EndsWithFault held number (line ∷ lines) bs f) (sym none) (own_ends held number (line ∷ lines) number f (own_of number (is_utf8 line) (interned spur_at held line) f e) (report_bad held number line lines f e) (fault_bad held number line lines f e))
+line_fails held number line lines part fault (no_memory none) = inr (refl, inl (0, omega arith, reach_some held number line lines, none))
+line_fails held number line lines part fault (not_written after e b) = subst (λ w. Begins part w) (sym (report_good held after number line lines e)) (begins_more part (line_report held line) _ b)
+
+-- the counts end a run without a fault
+pub counts_end : (held : Held) (number : ℕ) (result : Result (Unit {0}) RunFault) (part : List ℕ) → WritesAll (last_report held) result part → EndsFrom held number [] part result
+counts_end held number (Ok x) part told = (refl, told)
+counts_end held number (Err fault) part w = subst (λ f. EndsWithFault held number [] part f) (sym w.0) w.1
+
+-- a last line, and then the counts
+pub last_then : (held after : Held) (number : ℕ) (line : List ℕ) (result : Result (Unit {0}) RunFault) (p q : List ℕ) → 0 < length line → (after_line held number line ≡ Ok after) × (p ≡ line_report held line) → WritesAll (last_report after) result q → EndsFrom held number (last_lines line) (p ++ q) result
+last_then held after number [] result p q some answered w = absurd (omega arith)
+last_then held after number (b ∷ line) result p q some answered w =
+    subst (λ bs. EndsFrom held number ((b ∷ line) ∷ []) (bs ++ q) result) (sym answered.1) (ends_after held after number (b ∷ line) [] answered.0 q result (counts_end after (number + 1) result q w))
+
+pub last_fails : (held : Held) (number : ℕ) (line : List ℕ) (part : List ℕ) (fault : RunFault) → 0 < length line → LineFails held number line part fault → EndsFrom held number (last_lines line) part (Err fault)
+last_fails held number [] part fault some fails = absurd (omega arith)
+last_fails held number (b ∷ line) part fault some fails = line_fails held number (b ∷ line) [] part fault fails
+
+pub no_last : (held : Held) (number : ℕ) (line : List ℕ) (part : List ℕ) (result : Result (Unit {0}) RunFault) → length line ≡ 0 → WritesAll (last_report held) result part → EndsFrom held number (last_lines line) part result
+no_last held number [] part result none w = counts_end held number result part w
+no_last held number (b ∷ line) part result none w = absurd (omega arith)
+
+-- however the lines of the held and the left bytes end, so ends the whole input
+pub record OnTheWay (input : List ℕ) (limit : ℕ) (held : Held) (done : ℕ) (begun left part : List ℕ) : Type 0 where
+  pub ends : (more : List ℕ) (result : Result (Unit {0}) RunFault) → EndsFrom held (done + 1) (lines_of (begun ++ left)) more result → Ends input limit (part ++ more) result
+
+pub way_starts : (input : List ℕ) (limit : ℕ) → OnTheWay input limit (new_held limit) 0 [] input []
+way_starts input limit = record { ends = λ more result e. e }
+
+-- some bytes go from the left ones to the held ones
+pub way_held : (input : List ℕ) (limit : ℕ) (held : Held) (done : ℕ) (begun bytes left part : List ℕ) → OnTheWay input limit held done begun (bytes ++ left) part → OnTheWay input limit held done (begun ++ bytes) left part
+way_held input limit held done begun bytes left part way = record {
+  ends = λ more result e. way.ends more result (subst (λ bs. EndsFrom held (done + 1) (lines_of bs) more result) (append_assoc begun bytes left) e);
+}
+
+-- a line is answered
+pub way_answered : (input : List ℕ) (limit : ℕ) (held after : Held) (done : ℕ) (begun end left part reply : List ℕ) → NoFeed (begun ++ end) → after_line held (done + 1) (begun ++ end) ≡ Ok after → reply ≡ line_report held (begun ++ end) → OnTheWay input limit held done begun (end ++ 10 ∷ left) part → OnTheWay input limit after (done + 1) [] left (part ++ reply)
+way_answered input limit held after done begun end left part reply none good told way =
+    let line = begun ++ end in
+    let cut : lines_of (begun ++ (end ++ 10 ∷ left)) ≡ line ∷ lines_of left = ap lines_of (sym (append_assoc begun end (10 ∷ left))) ∙ lines_cut line left none in
+    record {
+      ends = λ more result e.
+          let here : EndsFrom held (done + 1) (line ∷ lines_of left) (reply ++ more) result = subst (λ bs. EndsFrom held (done + 1) (line ∷ lines_of left) (bs ++ more) result) (sym told) (ends_after held after (done + 1) line (lines_of left) good more result e) in
+          subst (λ bs. Ends input limit bs result) (sym (append_assoc part reply more)) (way.ends (reply ++ more) result (subst (λ ls. EndsFrom held (done + 1) ls (reply ++ more) result) (sym cut) here));
+    }
+
+-- a line fails
+pub way_fails : (input : List ℕ) (limit : ℕ) (held : Held) (done : ℕ) (begun end left part reply : List ℕ) (fault : RunFault) → NoFeed (begun ++ end) → LineFails held (done + 1) (begun ++ end) reply fault → OnTheWay input limit held done begun (end ++ 10 ∷ left) part → Ends input limit (part ++ reply) (Err fault)
+way_fails input limit held done begun end left part reply fault none fails way =
+    let line = begun ++ end in
+    let cut : lines_of (begun ++ (end ++ 10 ∷ left)) ≡ line ∷ lines_of left = ap lines_of (sym (append_assoc begun end (10 ∷ left))) ∙ lines_cut line left none in
+    way.ends reply (Err fault) (subst (λ ls. EndsFrom held (done + 1) ls reply (Err fault)) (sym cut) (line_fails held (done + 1) line (lines_of left) reply fault fails))
+
+-- memory is not found for the bytes that are at hand
+pub way_lacks : (input : List ℕ) (limit : ℕ) (held : Held) (done : ℕ) (begun left part : List ℕ) → 0 < length left → OnTheWay input limit held done begun left part → Ends input limit part (Err (Refused (done + 1) FailedAllocation))
+way_lacks input limit held done begun [] part some way = absurd (omega arith)
+way_lacks input limit held done begun (b ∷ left) part some way =
+    let first = lines_some begun b left in
+    subst (λ bs. Ends input limit bs (Err (Refused (done + 1) FailedAllocation))) (append-nil part)
+    (way.ends [] (Err (Refused (done + 1) FailedAllocation)) (subst (λ ls. EndsFrom held (done + 1) ls [] (Err (Refused (done + 1) FailedAllocation))) (sym first.2)
+    (line_fails held (done + 1) first.0 first.1 [] (Refused (done + 1) FailedAllocation) (no_memory refl))))
+
+-- a read or a write fails between two lines
+pub way_stops : (input : List ℕ) (limit : ℕ) (held : Held) (done : ℕ) (begun left part : List ℕ) → OnTheWay input limit held done begun left part → (Ends input limit part (Err ReadFailed)) × (Ends input limit part (Err WriteFailed))
+way_stops input limit held done begun left part way = (
+  subst (λ bs. Ends input limit bs (Err ReadFailed)) (append-nil part) (way.ends [] (Err ReadFailed) (_, refl)),
+  subst (λ bs. Ends input limit bs (Err WriteFailed)) (append-nil part) (way.ends [] (Err WriteFailed) (_, refl)),
+)
+
+-- the input has ended, and the bytes that are held are the last line
+pub way_ended : (input : List ℕ) (limit : ℕ) (held : Held) (done : ℕ) (begun left part more : List ℕ) (result : Result (Unit {0}) RunFault) → NoFeed begun → left ≡ [] → EndsFrom held (done + 1) (last_lines begun) more result → OnTheWay input limit held done begun left part → Ends input limit (part ++ more) result
+way_ended input limit held done begun left part more result none gone ends way =
+    let last : lines_of (begun ++ left) ≡ last_lines begun = ap (λ bs. lines_of (begun ++ bs)) gone ∙ ap lines_of (append-nil begun) ∙ lines_last begun none in
+    way.ends more result (subst (λ ls. EndsFrom held (done + 1) ls more result) (sym last) ends)
+
+-- a failed read or write, as one fault
+pub stream_ends : (input : List ℕ) (limit : ℕ) (part : List ℕ) (fault : RunFault) → IsStreamFault fault → (Ends input limit part (Err ReadFailed)) × (Ends input limit part (Err WriteFailed)) → Ends input limit part (Err fault)
+stream_ends input limit part (Refused number error) is ends = absurd is
+stream_ends input limit part (NotText number) is ends = absurd is
+stream_ends input limit part Usage is ends = absurd is
+stream_ends input limit part ReadFailed is ends = ends.0
+stream_ends input limit part WriteFailed is ends = ends.1
+
+-- whatever a run ends with, it may end with a failed write in its place
+pub ends_unflushed : (input : List ℕ) (limit : ℕ) (part : List ℕ) (result : Result (Unit {0}) RunFault) → Ends input limit part result → Ends input limit part (Err WriteFailed)
+ends_unflushed input limit part result ends = ends_begin (new_held limit) 1 (lines_of input) part result ends

@@ -1,0 +1,24 @@
+use Rattle.std.proofs.Common.{arith}
+use Rattle.std.proofs.lemmas.Grind.{common_steps}
+use Rattle.std.proofs.lemmas.Result.{err_from_is_err_and}
+use Rattle.lasso_lines.specs.Report.{holding}
+use Rattle.lasso_lines.proofs.Known.{grows_as, grows_then, write_fault}
+use Rattle.lasso_lines.proofs.Ways.{last_fails, last_then, no_last}
+use Rattle.lasso_lines.proofs.engine.answer_end.Goals as goal
+
+pub returns-then-is_empty-clause-answers : goal.returns-then-is_empty-clause-answers
+returns-then-is_empty-clause-answers g c =
+    let before = holding c.args.rodeo.now.texts c.args.rodeo.now.account in
+    grows_as _ _ _ _ c.answer_counts.ensures.bytes (λ part wrote. no_last before c.args.number c.args.line.now part _ (grind (arith, common_steps)) wrote)
+
+pub returns-in_err-answer_line-clause-answers : goal.returns-in_err-answer_line-clause-answers
+returns-in_err-answer_line-clause-answers g c =
+    let p = err_from_is_err_and c.from_residual.result c.from_residual.ensures.1 in
+    let before = holding c.args.rodeo.now.texts c.args.rodeo.now.account in
+    rw (p.1, p.2) (grows_as _ _ _ _ c.in_err-answer_line.ensures.answers (λ part fails. last_fails before c.args.number c.args.line.now part _ (grind (arith, common_steps)) fails))
+
+pub returns-clause-answers : goal.returns-clause-answers
+returns-clause-answers g c =
+    let before = holding c.args.rodeo.now.texts c.args.rodeo.now.account in
+    let after = holding c.answer_line.new.rodeo.texts c.answer_line.new.rodeo.account in
+    grows_then _ _ _ _ _ _ c.in_ok-answer_line.ensures.answers c.answer_counts-2.ensures.bytes (λ part more answered wrote. last_then before after c.args.number c.args.line.now _ part more (grind (arith, common_steps)) answered wrote)

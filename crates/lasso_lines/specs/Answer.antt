@@ -1,0 +1,53 @@
+-- What answering lines does to the interner and the writer.
+use Rattle.std.specs.Prelude.{ℕ, ◌≡◌, ◌+◌, List, [], ◌∷◌, ◌++◌, Option, Result, Ok, Err, MatchResult}
+use Rattle.lasso_parts.specs.declared.util.LassoErrorKind.TheVariants.{FailedAllocation}
+use Rattle.lasso_parts.specs.Held.{Held}
+use Rattle.lasso_lines.specs.Stream.{Begins}
+use Rattle.lasso_lines.specs.Report.{after_line, line_report}
+use Rattle.lasso_lines.specs.declared.fault.RunFault.{RunFault}
+use Rattle.lasso_lines.specs.declared.fault.RunFault.TheVariants.{Refused, NotText, Usage, ReadFailed, WriteFailed}
+
+-- how often the reader failed in the call
+abbrev pub failed_reads : {X : Type 0} → Result X RunFault → ℕ
+failed_reads (Ok _) = 0
+failed_reads (Err ReadFailed) = 1
+failed_reads (Err _) = 0
+
+-- how often the writer failed in the call
+abbrev pub failed_writes : {X : Type 0} → Result X RunFault → ℕ
+failed_writes (Ok _) = 0
+failed_writes (Err WriteFailed) = 1
+failed_writes (Err _) = 0
+
+-- all bytes are written; or a write failed, and the part is a beginning of them
+abbrev pub WritesAll : List ℕ → Result (Unit {0}) RunFault → List ℕ → Type 0
+WritesAll bytes result part = MatchResult result (λ _. part ≡ bytes) (λ fault. (fault ≡ WriteFailed) × Begins part bytes)
+
+-- the line is faulty or memory was not found, and nothing is written; or the line is not, and a write failed
+pub data LineFails (before : Held) (number : ℕ) (line : List ℕ) (part : List ℕ) : RunFault → Type 0 where
+  faulty : (fault : RunFault) → after_line before number line ≡ Err fault → part ≡ [] → LineFails before number line part fault
+  no_memory : part ≡ [] → LineFails before number line part (Refused number FailedAllocation)
+  not_written : (after : Held) → after_line before number line ≡ Ok after → Begins part (line_report before line) → LineFails before number line part WriteFailed
+
+-- the line is interned, and its answer written; or it fails
+abbrev pub AnswersLine : Held → ℕ → List ℕ → Result (Unit {0}) RunFault → Held → List ℕ → Type 0
+AnswersLine before number line result after part = MatchResult result
+    (λ _. (after_line before number line ≡ Ok after) × (part ≡ line_report before line))
+    (LineFails before number line part)
+
+-- a reader or a writer failed
+abbrev pub IsStreamFault : RunFault → Type 0
+IsStreamFault ReadFailed = Unit {0}
+IsStreamFault WriteFailed = Unit {0}
+IsStreamFault _ = ⊥
+
+-- a line is faulty, or a writer failed
+abbrev pub IsAnswerFault : RunFault → Type 0
+IsAnswerFault ReadFailed = ⊥
+IsAnswerFault Usage = ⊥
+IsAnswerFault _ = Unit {0}
+
+-- the lines that a rest of bytes without a line feed has
+abbrev pub last_lines : List ℕ → List (List ℕ)
+last_lines [] = []
+last_lines (b ∷ bytes) = (b ∷ bytes) ∷ []

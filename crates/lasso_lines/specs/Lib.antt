@@ -1,0 +1,5 @@
+pub mod Fault
+pub mod Stream
+pub mod Report
+pub mod Answer
+pub mod Arguments

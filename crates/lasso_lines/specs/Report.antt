@@ -1,0 +1,111 @@
+-- What a run writes, and how it ends.
+use Rattle.std.specs.Prelude.{ℕ, zero, suc, ◌≡◌, ◌<◌, ◌+◌, ◌⊎◌, Bool, cond, List, [], ◌∷◌, ◌++◌, length, nat_eq, Option, Some, None, Result, Ok, Err, MatchResult, codes, decimal}
+use Rattle.std.specs.List.{onto_first}
+use Rattle.std.specs.Str.{is_utf8}
+use Rattle.lasso_parts.specs.Account.{Account, fresh}
+use Rattle.lasso_parts.specs.Held.{Held}
+use Rattle.lasso_parts.specs.Texts.{Text}
+use Rattle.lasso_parts.specs.Kept.{kept_at}
+use Rattle.lasso_parts.specs.declared.util.LassoError.{LassoError}
+use Rattle.lasso_parts.specs.declared.util.LassoErrorKind.TheVariants.{FailedAllocation}
+use Rattle.lasso_single.specs.Intern.{interned, place}
+use Rattle.lasso_lines.specs.Stream.{Begins}
+use Rattle.lasso_lines.specs.declared.fault.RunFault.{RunFault}
+use Rattle.lasso_lines.specs.declared.fault.RunFault.TheVariants.{Refused, NotText, Usage, ReadFailed, WriteFailed}
+
+abbrev pub is_line_feed : ℕ → Bool
+is_line_feed b = nat_eq b 10
+
+-- each line feed ends a line, and bytes after the last one are a line too
+abbrev pub lines_of : List ℕ → List (List ℕ)
+lines_of [] = []
+lines_of (b ∷ bytes) = cond (is_line_feed b) ([] ∷ lines_of bytes) (onto_first b (lines_of bytes))
+
+-- an interner of these texts and this account
+abbrev pub holding : List Text → Account → Held
+holding texts account = record { texts = texts; account = account }
+
+-- a refusal of the line of this number
+abbrev pub with_number : ℕ → Result Held LassoError → Result Held RunFault
+with_number number (Ok after) = Ok after
+with_number number (Err error) = Err (Refused number error)
+
+-- the key of a position, which is the position plus one
+abbrev pub spur_at : ℕ → Option ℕ
+spur_at = kept_at 4294967295
+
+-- what the interner holds after the line of this number, or the line's fault
+abbrev pub after_line : Held → ℕ → List ℕ → Result Held RunFault
+after_line held number line = cond (is_utf8 line) (with_number number (interned spur_at held line)) (Err (NotText number))
+
+-- the answer to a line: the position of its text, and the line
+abbrev pub line_report : Held → List ℕ → List ℕ
+line_report held line = decimal (place held.texts line) ++ (32 ∷ (line ++ 10 ∷ []))
+
+-- how many texts and bytes there are
+abbrev pub last_report : Held → List ℕ
+last_report held = decimal (length held.texts) ++ (codes " texts, " ++ (decimal held.account.usage ++ codes " bytes\n"))
+
+abbrev pub or_else : {X E Y : Type 0} → Result X E → (X → Y) → (E → Y) → Y
+or_else (Ok x) f g = f x
+or_else (Err e) f g = g e
+
+-- the report of these lines, of which the first has this number: the answers up to the first faulty line, and
+-- the counts where none is faulty
+abbrev pub report_from : Held → ℕ → List (List ℕ) → List ℕ
+report_from held number [] = last_report held
+report_from held number (line ∷ lines) = or_else (after_line held number line) (λ after. line_report held line ++ report_from after (number + 1) lines) (λ _. [])
+
+-- the first fault of these lines
+abbrev pub fault_from : Held → ℕ → List (List ℕ) → Option RunFault
+fault_from held number [] = None
+fault_from held number (line ∷ lines) = or_else (after_line held number line) (λ after. fault_from after (number + 1) lines) (λ fault. Some fault)
+
+-- how many of these lines are read at most: those up to the first faulty one, that one included
+abbrev pub reach_from : Held → ℕ → List (List ℕ) → ℕ
+reach_from held number [] = 0
+reach_from held number (line ∷ lines) = or_else (after_line held number line) (λ after. 1 + reach_from after (number + 1) lines) (λ _. 1)
+
+-- the answers to so many of these lines, up to the first faulty one
+abbrev pub answers_from : Held → ℕ → List (List ℕ) → ℕ → List ℕ
+answers_from held number [] count = []
+answers_from held number (line ∷ lines) zero = []
+answers_from held number (line ∷ lines) (suc count) = or_else (after_line held number line) (λ after. line_report held line ++ answers_from after (number + 1) lines count) (λ _. [])
+
+module _ (held : Held) (first : ℕ) (lines : List (List ℕ)) (part : List ℕ) where
+  -- memory was not found at the line of this number, which no faulty line comes before, and the part is exactly
+  -- the answers to the lines before it; or no line was at hand, and the part begins the report
+  abbrev pub LacksMemory : ℕ → Type 0
+  LacksMemory number =
+      ((before : ℕ) × (number ≡ first + before) × (before < reach_from held first lines) × (part ≡ answers_from held first lines before))
+      ⊎ ((number ≡ 0) × Begins part (report_from held first lines))
+
+  -- the fault is that of the first faulty line, and the part is the report up to it; or memory was not found
+  abbrev pub IsLineFault : RunFault → ℕ → Type 0
+  IsLineFault fault number =
+      ((fault_from held first lines ≡ Some fault) × (part ≡ report_from held first lines))
+      ⊎ ((fault ≡ Refused number FailedAllocation) × LacksMemory number)
+
+  abbrev pub EndsWithFault : RunFault → Type 0
+  EndsWithFault (Refused number error) = IsLineFault (Refused number error) number
+  EndsWithFault (NotText number) = IsLineFault (NotText number) number
+  EndsWithFault Usage = ⊥
+  EndsWithFault ReadFailed = Begins part (report_from held first lines)
+  EndsWithFault WriteFailed = Begins part (report_from held first lines)
+
+  -- how a run over these lines ends, of which the first has this number, where it has written the part and answers the
+  -- result: without a fault no line is faulty, and the part is the report
+  abbrev pub EndsFrom : Result (Unit {0}) RunFault → Type 0
+  EndsFrom result = MatchResult result (λ _. (fault_from held first lines ≡ None) × (part ≡ report_from held first lines)) EndsWithFault
+
+-- an interner of default capacity, with this limit
+abbrev pub new_held : ℕ → Held
+new_held limit = holding [] (fresh 4096 limit)
+
+-- what a run over these bytes writes where nothing but a line is faulty
+abbrev pub report : List ℕ → ℕ → List ℕ
+report bytes limit = report_from (new_held limit) 1 (lines_of bytes)
+
+-- how a run over these bytes ends
+abbrev pub Ends : List ℕ → ℕ → List ℕ → Result (Unit {0}) RunFault → Type 0
+Ends bytes limit part result = EndsFrom (new_held limit) 1 (lines_of bytes) part result

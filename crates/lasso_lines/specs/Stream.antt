@@ -1,0 +1,41 @@
+-- What a call does to the bytes of a reader or a writer, where they are known.
+use Rattle.std.specs.Prelude.{ℕ, ◌≡◌, List, [], ◌++◌, drop, Option, Some, None, Result, Ok, Err}
+
+-- the first list begins the second
+abbrev pub Begins : List ℕ → List ℕ → Type 0
+Begins part whole = (rest : List ℕ) × (whole ≡ part ++ rest)
+
+-- known bytes grow by a part, of which P holds
+abbrev pub Grows : Option (List ℕ) → Option (List ℕ) → (List ℕ → Type 0) → Type 0
+Grows before after P = (held : List ℕ) → before ≡ Some held → (part : List ℕ) × (after ≡ Some (held ++ part)) × P part
+
+-- known bytes stay at the front
+abbrev pub OnlyGrows : Option (List ℕ) → Option (List ℕ) → Type 0
+OnlyGrows before after = Grows before after (λ _. Unit {0})
+
+-- known bytes stay as they are
+abbrev pub Stays : Option (List ℕ) → Option (List ℕ) → Type 0
+Stays before after = (held : List ℕ) → before ≡ Some held → after ≡ Some held
+
+-- known bytes lose so many at the front
+abbrev pub Loses : ℕ → Option (List ℕ) → Option (List ℕ) → Type 0
+Loses count before after = (held : List ℕ) → before ≡ Some held → after ≡ Some (drop count held)
+
+-- these bytes come first in the known ones
+abbrev pub ComeFirst : List ℕ → Option (List ℕ) → Type 0
+ComeFirst bytes known = (held : List ℕ) → known ≡ Some held → Begins bytes held
+
+-- none are left of the bytes that were known
+abbrev pub Ended : Option (List ℕ) → Option (List ℕ) → Type 0
+Ended before after = (held : List ℕ) → before ≡ Some held → after ≡ Some []
+
+-- the delivered bytes and then the pending ones, where both are known
+abbrev pub written : Option (List ℕ) → Option (List ℕ) → Option (List ℕ)
+written None pending = None
+written (Some delivered) None = None
+written (Some delivered) (Some pending) = Some (delivered ++ pending)
+
+-- 1 where the call failed, else 0
+abbrev pub failed_calls : {X E : Type 0} → Result X E → ℕ
+failed_calls (Ok _) = 0
+failed_calls (Err _) = 1

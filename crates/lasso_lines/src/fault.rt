@@ -1,0 +1,50 @@
+//! Why a run ends before its report is whole.
+ghost use Rattle.std.specs.Prelude.{◌≡◌, Some};
+ghost use Rattle.lasso_lines.specs.Fault.{status_of, words_of};
+
+use lasso::LassoError;
+use std::fmt;
+
+/// Why a run ended before its report was whole. Lines are numbered from 1.
+#[derive(Debug, Drop, PartialEq, Eq)]
+pub enum RunFault {
+    /// The line was refused. Number 0 stands where no line is at hand.
+    Refused(u64, LassoError),
+    /// The line is not UTF-8.
+    NotText(u64),
+    /// The program's arguments are not those of its usage.
+    Usage,
+    /// The reader failed.
+    ReadFailed,
+    /// The writer failed.
+    WriteFailed,
+}
+
+impl RunFault {
+    /// The status that the program ends with: 1 for a refused line, 2 for a line that is not UTF-8,
+    /// 3 for bad arguments, 4 for a failed read or write.
+    pub fn status(&self) -> u8
+        ensures { result ≡ status_of self.now }
+    {
+        match self {
+            RunFault::Refused(_, _) => 1,
+            RunFault::NotText(_) => 2,
+            RunFault::Usage => 3,
+            RunFault::ReadFailed | RunFault::WriteFailed => 4,
+        }
+    }
+}
+
+impl fmt::Display for RunFault {
+    ghost output = { λ fault. Some (words_of fault) };
+
+    fn fmt<W: fmt::Write>(&self, f: &mut fmt::Formatter<W>) -> fmt::Result {
+        match self {
+            RunFault::Refused(line, error) => write!(f, "line {line}: {error}"),
+            RunFault::NotText(line) => write!(f, "line {line}: not UTF-8"),
+            RunFault::Usage => write!(f, "usage: lasso_lines [--limit N] [--workers N]"),
+            RunFault::ReadFailed => write!(f, "read failed"),
+            RunFault::WriteFailed => write!(f, "write failed"),
+        }
+    }
+}

@@ -1,0 +1,64 @@
+//! Writes each line of its input behind the position of its text, and then how many texts there are.
+#![tactic(auto)]
+
+pub mod arguments;
+pub mod engine;
+pub mod failures;
+pub mod fault;
+pub mod memory;
+pub mod standard;
+pub mod stream;
+#[cfg(test)]
+mod tests;
+
+use arguments::arguments;
+use engine::run;
+use fault::RunFault;
+use lasso::{LassoError, LassoErrorKind, MemoryLimits};
+use standard::{StandardReader, StandardWriter};
+use std::alloc::AllocError;
+use std::process::ExitCode;
+use std::rt::Env;
+use std::sync::Wait;
+use std::{env, io};
+
+fn main(rt: HostRuntime) -> ExitCode {
+    match report_lines(&rt) {
+        Ok(()) => ExitCode::SUCCESS,
+        Err(fault) => {
+            let _ = eprintln!(rt; "{fault}");
+            ExitCode::from(fault.status())
+        }
+    }
+}
+
+// Reports the lines of standard input on standard output, as the words behind the program's name say.
+fn report_lines<R>(rt: &R) -> Result<(), RunFault>
+where
+    R: AllocGlobal + Env + Input + Print + Wait,
+{
+    let words = words_of(rt)?;
+    let settings = arguments(&words)?;
+    let ends = StandardReader::new(rt.alloc(), rt.reader());
+    let mut reader = ends.map_err(no_memory)?;
+    let mut writer = StandardWriter::new(rt.alloc(), io::writer(rt));
+    run(
+        rt,
+        &mut reader,
+        &mut writer,
+        MemoryLimits::new(settings.limit),
+    )
+}
+
+// The words behind the program's name. Words that are not text are bad arguments.
+fn words_of<R: AllocGlobal + Env>(rt: &R) -> Result<Vec<String>, RunFault> {
+    let Ok(mut all) = env::args(rt) else {
+        return Err(RunFault::Usage);
+    };
+    let _program = all.next();
+    all.collect(rt.alloc()).map_err(no_memory)
+}
+
+fn no_memory(_: AllocError) -> RunFault {
+    RunFault::Refused(0, LassoError::new(LassoErrorKind::FailedAllocation))
+}

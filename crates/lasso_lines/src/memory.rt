@@ -1,0 +1,113 @@
+//! A reader and a writer of bytes in memory, and the report over them.
+ghost use Rattle.std.specs.Prelude.{◌≡◌, ℕ, [], Some, Err};
+ghost use Rattle.lasso_lines.specs.Report.{Ends};
+ghost use Rattle.lasso_lines.specs.declared.fault.RunFault.TheVariants.{ReadFailed, Usage};
+
+use crate::engine::run;
+use crate::failures::Failures;
+use crate::fault::RunFault;
+use crate::stream::{ByteReader, ByteWriter, Failed};
+use lasso::MemoryLimits;
+use std::alloc::Global;
+use std::sync::Wait;
+
+/// A reader that shows all its bytes at once and never fails.
+#[derive(Drop)]
+pub struct MemoryReader<'a> {
+    rest: &'a [u8],
+}
+
+impl<'a> MemoryReader<'a> {
+    /// A reader of the bytes.
+    pub fn new(bytes: &'a [u8]) -> Self
+        ensures { result.rest.now ≡ bytes.now }
+    {
+        MemoryReader { rest: bytes }
+    }
+}
+
+impl ByteReader for MemoryReader<'_> {
+    ghost at_hand = { λ r. r.rest.now };
+
+    ghost left = { λ r. Some r.rest.now };
+
+    ghost failures = { λ _. 0 };
+
+    fn shown(&self) -> &[u8] {
+        self.rest
+    }
+
+    fn refill(&mut self) -> Result<(), Failed> {
+        Ok(())
+    }
+
+    fn use_up(&mut self, count: usize) {
+        self.rest = &self.rest[count..];
+    }
+}
+
+/// A writer that delivers what it takes into memory at once. A write fails for want of memory alone.
+#[derive(Drop)]
+pub struct MemoryWriter {
+    bytes: Vec<u8>,
+    failures: Failures,
+}
+
+impl MemoryWriter {
+    /// A writer that has delivered nothing.
+    pub fn new(alloc: Global) -> Self
+        ensures bytes { result.bytes.items ≡ [] }
+        ensures failures { result.failures.count ≡ 0 }
+    {
+        MemoryWriter {
+            bytes: Vec::new(alloc),
+            failures: Failures::none(),
+        }
+    }
+
+    /// The bytes that were delivered.
+    pub fn into_bytes(self) -> Vec<u8>
+        ensures { result ≡ self.bytes }
+    {
+        let MemoryWriter { bytes, failures: _ } = self;
+        bytes
+    }
+}
+
+impl ByteWriter for MemoryWriter {
+    ghost delivered = { λ w. Some w.bytes.items };
+
+    ghost pending = { λ _. Some [] };
+
+    ghost failures = { λ w. w.failures.count };
+
+    fn write(&mut self, bytes: &[u8]) -> Result<usize, Failed> {
+        match self.bytes.extend_from_slice(bytes) {
+            Ok(()) => Ok(bytes.len()),
+            Err(_) => {
+                self.failures = self.failures.and_one();
+                Err(Failed)
+            }
+        }
+    }
+
+    fn flush(&mut self) -> Result<(), Failed> {
+        Ok(())
+    }
+}
+
+/// What a run over the bytes writes, and how it ends. A read never fails.
+pub fn report_of<R: AllocGlobal + Wait>(
+    rt: &R,
+    input: &[u8],
+    limits: MemoryLimits,
+) -> (Vec<u8>, Result<(), RunFault>)
+    ensures report { Ends input.now limits result.0.items result.1 }
+    ensures no_read_failed { ¬ (result.1 ≡ Err ReadFailed) }
+    ensures no_usage { ¬ (result.1 ≡ Err Usage) }
+{
+    let mut reader = MemoryReader::new(input);
+    let mut writer = MemoryWriter::new(rt.alloc());
+    let result = run(rt, &mut reader, &mut writer, limits);
+    (writer.into_bytes(), result)
+}

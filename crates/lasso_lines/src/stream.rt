@@ -1,0 +1,68 @@
+//! Readers and writers of stretches of bytes, which tell those bytes where they are known and count
+//! their failed calls.
+ghost use Rattle.std.specs.Prelude.{◌≡◌, ℕ, ◌+◌, ◌<◌, ◌≤◌, List, [], Option, Some, length, drop, take, is_ok, IfOk, OnOk, MatchResult};
+ghost use Rattle.lasso_lines.specs.Stream.{Begins, Grows, OnlyGrows, Stays, Loses, ComeFirst, Ended, written, failed_calls};
+
+/// A call failed. The reader or writer has counted it.
+#[derive(Clone, Copy, Debug, PartialEq, Eq)]
+pub struct Failed;
+
+/// Shows the bytes that are at hand, and gets more when it is asked.
+pub trait ByteReader {
+    // the bytes that are at hand
+    ghost at_hand: { Self → List ℕ };
+
+    // all bytes that are left, those at hand among them, where they are known
+    ghost left: { Self → Option (List ℕ) };
+
+    // how many calls have failed
+    ghost failures: { Self → ℕ };
+
+    /// The bytes at hand, which are the first of those that are left.
+    fn shown(&self) -> &[u8]
+        ensures value { result.now ≡ at_hand self.now }
+        ensures first { ComeFirst result.now (left self.now) };
+
+    /// Gets more bytes, where none are at hand. Where none are at hand after that, the input has ended.
+    /// It may fail, and takes nothing then.
+    fn refill(&mut self) -> Result<(), Failed>
+        ensures failures { failures self.new ≡ failures self.old + failed_calls result }
+        ensures left { Stays (left self.old) (left self.new) }
+        ensures end { OnOk result (at_hand self.new ≡ [] → Ended (left self.old) (left self.new)) };
+
+    /// Takes so many of the bytes at hand away.
+    fn use_up(&mut self, count: usize)
+        requires { count ≤ length (at_hand self.old) }
+        ensures at_hand { at_hand self.new ≡ drop count (at_hand self.old) }
+        ensures left { Loses count (left self.old) (left self.new) }
+        ensures failures { failures self.new ≡ failures self.old };
+}
+
+/// Takes bytes, which it may keep for a while before it delivers them.
+pub trait ByteWriter {
+    // the bytes that were delivered, where they are known
+    ghost delivered: { Self → Option (List ℕ) };
+
+    // the bytes that were taken and are not delivered, where they are known
+    ghost pending: { Self → Option (List ℕ) };
+
+    // how many calls have failed
+    ghost failures: { Self → ℕ };
+
+    /// Takes some of the bytes, at least one where there is one, and answers how many; it may deliver
+    /// bytes meanwhile. A call that fails may have taken some of the bytes, and keeps what is pending.
+    fn write(&mut self, bytes: &[u8]) -> Result<usize, Failed>
+        ensures failures { failures self.new ≡ failures self.old + failed_calls result }
+        ensures delivered { OnlyGrows (delivered self.old) (delivered self.new) }
+        ensures written { Grows (written (delivered self.old) (pending self.old)) (written (delivered self.new) (pending self.new))
+            (λ part. MatchResult result (λ n. part ≡ take n bytes.now) (λ _. Begins part bytes.now)) }
+        ensures count { IfOk result (λ n. n ≤ length bytes.now) }
+        ensures progress { IfOk result (λ n. 0 < length bytes.now → 0 < n) };
+
+    /// Delivers all that is pending. A call that fails may have delivered some, and keeps the rest.
+    fn flush(&mut self) -> Result<(), Failed>
+        ensures failures { failures self.new ≡ failures self.old + failed_calls result }
+        ensures delivered { OnlyGrows (delivered self.old) (delivered self.new) }
+        ensures written { Stays (written (delivered self.old) (pending self.old)) (written (delivered self.new) (pending self.new)) }
+        ensures all { OnOk result (pending self.new ≡ Some []) };
+}
