@@ -1,5 +1,5 @@
 pub mod TextLemmas
 pub mod IndexLaws
-pub mod IndexSlots
-pub mod IndexSearch
-pub mod IndexTables
+mod IndexSlots
+mod IndexSearch
+mod IndexTables
