@@ -10,3 +10,6 @@ pub mod PlacesLent
 pub mod RowCalls
 pub mod EmptyStructs
 pub mod Crossing
+mod IndexSlots
+mod IndexSearch
+mod IndexTables

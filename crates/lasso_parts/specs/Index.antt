@@ -25,6 +25,10 @@ used (Some n ∷ xs) = used xs + 1
 abbrev pub load_limit : ℕ → ℕ
 load_limit n = 3 * (n / 4)
 
+-- n slots are no more than so many positions need: none for none, and above 8 only where half would not do
+abbrev pub IsFewest : ℕ → ℕ → Type 0
+IsFewest capacity n = (capacity ≡ 0 → n ≡ 0) × (8 < n → load_limit (n / 2) < capacity)
+
 -- how many more positions fit before the table has to grow
 abbrev pub room : List (Option ℕ) → ℕ
 room xs = load_limit (length xs) - used xs

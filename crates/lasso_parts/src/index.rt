@@ -2,7 +2,7 @@
 ghost use Rattle.std.specs.Prelude.{◌≡◌, ◌≢◌, ℕ, ◌+◌, ◌<◌, ◌≤◌, ◌⊎◌, ◌↔◌, length, slice_get, Some, IfSome, IfNone, OnOk, OnErr, IfOk, IfErr, IsOk};
 ghost use Rattle.lasso_parts.specs.declared.util.LassoErrorKind.TheVariants.{FailedAllocation};
 ghost use Rattle.lasso_parts.specs.Hashing.{text_hash};
-ghost use Rattle.lasso_parts.specs.Index.{Holds, HoldsNone, IsFiled, IsFiledAnywhere, StaysFiled, IsIndexOf, room, grown_count};
+ghost use Rattle.lasso_parts.specs.Index.{Holds, HoldsNone, IsFiled, IsFiledAnywhere, StaysFiled, IsIndexOf, IsFewest, room, grown_count};
 ghost use Rattle.lasso_parts.specs.Texts.{position_of};
 
 #[cfg(test)]
@@ -59,10 +59,12 @@ impl<K: Key, A: Allocator> Index<K, A> {
         }
     }
 
-    /// An index that holds nothing, with room for so many keys. It is refused for want of memory alone,
-    /// also where no `usize` has the count of slots.
+    /// An index that holds nothing, with room for so many keys: they fit without a growth. It has the
+    /// fewest slots that serve. It is refused for want of memory alone, also where no `usize` has the
+    /// count of slots.
     pub fn with_capacity(alloc: A, capacity: usize) -> LassoResult<Self>
         ensures room { IfOk result (λ index. capacity ≤ room index) }
+        ensures slots { IfOk result (λ index. IsFewest capacity (length index)) }
         ensures empty { IfOk result HoldsNone }
         ensures filed { IfOk result IsFiledAnywhere }
         ensures refused { IfErr result (λ error. error ≡ FailedAllocation) }
@@ -86,7 +88,8 @@ impl<K: Key, A: Allocator> Index<K, A> {
         self.find_hashed(texts, hasher, hash_text(hasher, text), text)
     }
 
-    /// The same as `find`, where the caller has the text's hash already.
+    /// The same as `find`, where the caller has the text's hash already: it must be what `hash_text` gives
+    /// for this hasher and this text.
     #[inline]
     pub fn find_hashed<T: Texts, S: BuildHasher>(
         &self,

@@ -1,7 +1,7 @@
 //! Tables of slots: how many there are, how a new one is made, and how one is filled anew.
 ghost use Rattle.std.specs.Prelude.{◌≡◌, ◌<◌, ◌≤◌, ◌^◌, length, replicate, None, IfSome, IfNone, IfOk};
 ghost use Rattle.lasso_parts.specs.Hashing.{text_hash};
-ghost use Rattle.lasso_parts.specs.Index.{used, load_limit, grown_count};
+ghost use Rattle.lasso_parts.specs.Index.{used, load_limit, grown_count, IsFewest};
 ghost use Rattle.lasso_parts.specs.IndexTable.{positions, AllInList, IsSlotCount, Refilled};
 
 use crate::index::hashing::hash_text;
@@ -18,6 +18,7 @@ const FIRST_SLOTS: usize = 8;
 pub fn slot_count(capacity: usize) -> Option<usize>
     ensures count { IfSome result IsSlotCount }
     ensures enough { IfSome result (λ n. capacity ≤ load_limit n) }
+    ensures fewest { IfSome result (IsFewest capacity) }
     ensures missing { IfNone result (load_limit (2 ^ 63) < capacity) }
 {
     if capacity == 0 {
