@@ -149,6 +149,7 @@ impl<A: Allocator> Arena<A> {
     }
 
     /// Forgets every text, and keeps the memory. What was handed out before names no text any more.
+    #[tactic(auto, using(crate::proofs::Regions::copied_emptied))]
     pub fn clear(&mut self)
         ensures emptied { self.new ≡ record self.old { all = map emptied self.old.all } }
         ensures account { account_of self.new ≡ clear (account_of self.old) }
