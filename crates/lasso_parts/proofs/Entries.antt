@@ -3,8 +3,7 @@
 -- An entry of a static text stands for it whatever the regions are. An entry of a copied text names a span,
 -- and the regions keep the texts of spans. So the texts of a list stay, and one entry more at the end of
 -- the list appends its text.
-use Rattle.std.proofs.Common.{◌≡◌, ◌∙◌, List, [], ◌∷◌, ◌++◌, map, ap, refl}
-use Rattle.std.specs.Prelude.{All}
+use Rattle.std.proofs.Common.{◌≡◌, ◌∙◌, List, [], ◌∷◌, ◌++◌, ap, refl}
 use Rattle.std.proofs.lemmas.List.{map-append}
 use Rattle.std.proofs.lemmas.List.Elements.{All-head, All-tail, All-same, All-push, All-weaker}
 use Rattle.lasso_parts.specs.Texts.{Text}

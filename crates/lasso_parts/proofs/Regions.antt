@@ -1,17 +1,17 @@
--- Lists of regions that grow: one region more at the end, or more bytes in one of them.
+-- Lists of regions while texts are copied in, and while they are cleared.
 --
--- In both cases each region of the earlier list begins the one at its place in the later list. A span that
--- is stored lies within the bytes of its region, so the bytes that it names stay the same. Neither bytes
--- nor clearing change a region's place or capacity, so its block stays the same too.
+-- Where one region gets more bytes, each region of the earlier list begins the one at its place in the
+-- later list. A span that is stored lies within the bytes of its region, so the bytes that it names stay
+-- the same. A text in a region that was just opened is the same as a region more that holds the text.
+-- Neither bytes nor clearing change a region's place or capacity, so the list of blocks stays the same.
 use Rattle.std.proofs.Common.{◌≡◌, ℕ, zero, suc, ◌+◌, ◌-◌, ◌<◌, ◌≤◌, List, [], ◌∷◌, ◌++◌, length, get_or, set, take, drop, map, sym, ap, subst, refl, ◌∙◌, arith, inl, inr, append_assoc}
 use Rattle.std.specs.Prelude.{slice_range, IsUtf8}
-use Rattle.std.proofs.lemmas.List.{take-append-le, drop-append-le, length-append, length-drop, get_or_append_left, get_or_at, get_or-set_same, get_or-set_other, length-set, set_at, append-nil, drop_at, take_all, drop_more, take_more, length-map, length-take-le, map-append}
+use Rattle.std.proofs.lemmas.List.{take-append-le, drop-append-le, length-append, length-drop, get_or_at, get_or-set_same, get_or-set_other, length-set, set_at, append-nil, drop_more, take_more, length-map, length-take-le, map-append}
 use Rattle.std.proofs.lemmas.Bool.{cases_eq}
 use Rattle.std.proofs.lemmas.Grind.{common_steps}
 use denote.RawPtr.{Ptr}
 use Rattle.lasso_parts.specs.Bucket.{Extent, Block, block_of}
-use Rattle.lasso_parts.specs.Arena.{no_region, region_at, emptied, with_bytes, copied_in, text_at, IsStored, KeepsTexts}
-use Rattle.lasso_parts.specs.declared.arena.Span.{Span}
+use Rattle.lasso_parts.specs.Arena.{no_region, region_at, emptied, with_bytes, copied_in, text_at, KeepsTexts}
 
 -- a region that was just opened
 abbrev pub opened : Ptr → ℕ → Extent
@@ -28,13 +28,6 @@ range-append xs more i n fits =
     let e : drop i (xs ++ more) ≡ drop i xs ++ more = drop-append-le i xs more low in
     let room : i + n - i ≤ length (drop i xs) = omega (arith, length-drop i xs) in
     ap (take (i + n - i)) e ∙ take-append-le (i + n - i) (drop i xs) more room
-
--- what was put behind a list
-range-end : (xs more : List ℕ) → slice_range (xs ++ more) (length xs) (length xs + length more) ≡ more
-range-end xs more =
-    let e : drop (length xs) (xs ++ more) ≡ more = drop_at xs more (length xs) refl in
-    let all : length more ≤ length xs + length more - length xs = omega arith in
-    ap (take (length xs + length more - length xs)) e ∙ take_all (length xs + length more - length xs) more all
 
 -- each region of the earlier list begins that of the later one
 record Grows (xs ys : List Extent) : Type 0 where
@@ -61,54 +54,13 @@ Grows-set xs at t inside =
       ];
     }
 
-Grows-push : (xs : List Extent) (x : Extent) → Grows xs (xs ++ x ∷ [])
-Grows-push xs x =
-    record {
-      count = omega (arith, length-append xs (x ∷ []));
-      more = λ k h. ([], ap (λ (b : Extent). b.bytes) (get_or_append_left xs (x ∷ []) no_region k h) ∙ sym (append-nil (region_at xs k).bytes));
-    }
-
 -- texts stay where one region gets more bytes
 pub kept_set : (xs ys : List Extent) (at : ℕ) (t : List ℕ) → at < length xs → ys ≡ set xs at (with_bytes (region_at xs at) t) → KeepsTexts xs ys
 kept_set xs ys at t inside e = kept xs ys (subst (Grows xs) (sym e) (Grows-set xs at t inside))
 
--- texts stay where one region more comes
-pub kept_push : (xs ys : List Extent) (x : Extent) → ys ≡ xs ++ x ∷ [] → KeepsTexts xs ys
-kept_push xs ys x e = kept xs ys (subst (Grows xs) (sym e) (Grows-push xs x))
-
 -- texts stay where nothing changes
-pub kept_same : (xs ys : List Extent) → ys ≡ xs → KeepsTexts xs ys
-kept_same xs ys e span had = (subst (λ (l : List Extent). IsStored l span) (sym e) had, ap (λ (l : List Extent). text_at l span) e)
-
--- texts stay over two changes
-pub kept_both : (xs ys zs : List Extent) → KeepsTexts xs ys → KeepsTexts ys zs → KeepsTexts xs zs
-kept_both xs ys zs first second span had = let i = first span had in let j = second span i.0 in (j.0, j.1 ∙ i.1)
-
--- bytes that were put behind those of a region are the text of their span
-pub stored_set : (xs ys : List Extent) (at : ℕ) (t : List ℕ) → at < length xs → ys ≡ set xs at (with_bytes (region_at xs at) t) → IsUtf8 t
-    → let span : Span = record { region = at; start = length (region_at xs at).bytes; len = length t } in IsStored ys span × (text_at ys span ≡ t)
-stored_set xs ys at t inside e utf8 =
-    let old = region_at xs at in
-    let span : Span = record { region = at; start = length old.bytes; len = length t } in
-    let there : region_at ys at ≡ with_bytes old t = ap (λ (l : List Extent). region_at l at) e ∙ get_or-set_same xs at (with_bytes old t) no_region inside in
-    let bytes : (region_at ys at).bytes ≡ old.bytes ++ t = ap (λ (b : Extent). b.bytes) there in
-    let same : text_at ys span ≡ t = ap (λ (bs : List ℕ). slice_range bs (length old.bytes) (length old.bytes + length t)) bytes ∙ range-end old.bytes t in
-    let count : length ys ≡ length xs = ap length e ∙ length-set xs at (with_bytes old t) in
-    let long : length (region_at ys at).bytes ≡ length old.bytes + length t = ap length bytes ∙ length-append old.bytes t in
-    (record { region = omega (arith, count); bytes = omega (arith, long); text = subst IsUtf8 (sym same) utf8 }, same)
-
--- a new region shows the text that it was filled with
-pub stored_push : (xs ys : List Extent) (p : Ptr) (t : List ℕ) (z : ℕ) → ys ≡ xs ++ filled p t z ∷ [] → IsUtf8 t
-    → let span : Span = record { region = length xs; start = 0; len = length t } in IsStored ys span × (text_at ys span ≡ t)
-stored_push xs ys p t z e utf8 =
-    let span : Span = record { region = length xs; start = 0; len = length t } in
-    let new : Extent = filled p t z in
-    let there : region_at ys (length xs) ≡ new = ap (λ (l : List Extent). region_at l (length xs)) e ∙ get_or_at xs new [] no_region (length xs) refl in
-    let bytes : (region_at ys (length xs)).bytes ≡ t = ap (λ (b : Extent). b.bytes) there in
-    let same : text_at ys span ≡ t = ap (λ (bs : List ℕ). slice_range bs 0 (0 + length t)) bytes ∙ range-end [] t in
-    let count : length ys ≡ length xs + 1 = ap length e ∙ length-append xs (new ∷ []) in
-    let long : length (region_at ys (length xs)).bytes ≡ length t = ap length bytes in
-    (record { region = omega (arith, count); bytes = omega (arith, long); text = subst IsUtf8 (sym same) utf8 }, same)
+pub kept_same : (regions : List Extent) → KeepsTexts regions regions
+kept_same regions span had = (had, refl)
 
 -- a region that was just opened, and then a text in it
 pub set_last : (xs ys zs : List Extent) (p : Ptr) (t : List ℕ) (z at : ℕ) → at ≡ length xs → ys ≡ xs ++ opened p z ∷ []

@@ -5,7 +5,7 @@
 -- twice what was copied; the current one is at most the first, or twice a size that was left, or what the
 -- limit left for a text that is in it; a bucket of exact size is full. Four linear facts say so, and each
 -- case of storing keeps them.
-use Rattle.std.proofs.Common.{◌≡◌, ℕ, ◌+◌, ◌*◌, ◌≤◌, Option, Some, None, arith}
+use Rattle.std.proofs.Common.{◌≡◌, ℕ, ◌+◌, ◌*◌, ◌≤◌, Some, arith}
 use Rattle.std.proofs.lemmas.Grind.{common_steps}
 use Rattle.lasso_parts.specs.Account.{Account, store, fresh, with_limit}
 use Rattle.lasso_parts.specs.Waste.{IsThrifty}

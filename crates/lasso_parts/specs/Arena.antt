@@ -1,5 +1,6 @@
--- What an arena shows: the regions that it copies texts into, and the texts that lie in them.
-use Rattle.std.specs.Prelude.{◌≡◌, ℕ, ◌+◌, ◌-◌, ◌<◌, ◌≤◌, List, [], ◌++◌, length, get_or, map, sum_by, slice_range, IsUtf8}
+-- What an arena shows: the regions that it copies texts into, each a bucket of the account, and the texts
+-- that lie in them.
+use Rattle.std.specs.Prelude.{◌≡◌, ℕ, ◌+◌, ◌-◌, ◌<◌, ◌≤◌, List, [], ◌++◌, length, get_or, sum_by, slice_range, IsUtf8}
 use denote.RawPtr.{null_ptr}
 use Rattle.lasso_parts.specs.Account.{Account}
 use Rattle.lasso_parts.specs.Bucket.{Extent}
@@ -25,6 +26,10 @@ region_at regions k = get_or regions k no_region
 -- the bytes that regions take
 abbrev pub usage_of : List Extent → ℕ
 usage_of regions = sum_by (λ (r : Extent). r.capacity) regions
+
+-- the bytes that the first region takes
+abbrev pub first_of : Regions → ℕ
+first_of arena = (region_at arena.all 0).capacity
 
 -- how many bytes were copied into regions since they were cleared
 abbrev pub copied_in : List Extent → ℕ

@@ -1,4 +1,4 @@
-//! The arena: regions of memory that texts are copied into, which grow in number under a limit.
+//! The arena: buckets that texts are copied into, which grow in number under a limit on their bytes.
 ghost use Rattle.std.specs.Prelude.{◌≡◌, ◌+◌, ◌<◌, ◌-◌, ◌^◌, ◌≤◌, ◌⊎◌, ◌↔◌, ◌++◌, ◌∷◌, length, map, [], IfOk, IfErr, OnErr, IsOk, IsSome, IsTrue, Some, None, Err};
 ghost use denote.RawPtr.{Ptr};
 ghost use Rattle.lasso_parts.specs.Account.{fresh, store, clear, with_limit};
@@ -14,11 +14,14 @@ use owned::OwnedRegions;
 use std::alloc::Allocator;
 use std::marker::Model;
 
-/// Where a text lies: which region, from which byte on, and for how many bytes.
+/// Where a text lies in an arena.
 #[derive(Clone, Copy, Debug, PartialEq, Eq)]
 pub struct Span {
+    /// The position of its region among the arena's.
     pub region: usize,
+    /// The position of its first byte in the region.
     pub start: usize,
+    /// How many bytes it has.
     pub len: usize,
 }
 
@@ -37,9 +40,9 @@ enum Place {
     Refused,
 }
 
-/// Memory that texts are copied into. Its regions are freed with it. Contracts see the regions with their
-/// bytes and capacities, which of them is filled next, the doubling size, and the limit; the account, the
-/// usage and the number of bytes copied in are derived from these.
+/// Memory that texts are copied into: a list of regions, each a bucket, which are freed with the arena.
+/// Contracts see the regions with their bytes and capacities, which of them is filled next, the doubling
+/// size, and the limit; the account, the usage and the number of bytes copied in are derived from these.
 #[derive(Drop)]
 pub struct Arena<A: Allocator> {
     regions: OwnedRegions<A>,
@@ -61,13 +64,14 @@ impl<A: Allocator> Model for Arena<A> {
 }
 
 impl<A: Allocator + Clone> Arena<A> {
-    ghost use Rattle.lasso_parts.specs.Arena.{account_of, copied_of};
+    ghost use Rattle.lasso_parts.specs.Arena.{account_of, copied_of, first_of};
 
     /// An arena with a first region of so many bytes, whose regions take at most `limit` bytes. The limit
     /// may lie below the first region's bytes. It is refused for want of memory alone.
     pub fn new(alloc: A, bytes: usize, limit: usize) -> LassoResult<Self>
         requires { 0 < bytes }
         ensures account { IfOk result (λ arena. account_of arena ≡ fresh bytes limit) }
+        ensures first { IfOk result (λ arena. first_of arena ≡ bytes) }
         ensures copied { IfOk result (λ arena. copied_of arena ≡ 0) }
         ensures refused { IfErr result (λ error. error ≡ FailedAllocation) }
     {
@@ -86,6 +90,7 @@ impl<A: Allocator + Clone> Arena<A> {
     /// refused for want of memory alone.
     pub fn default(alloc: A) -> LassoResult<Self>
         ensures account { IfOk result (λ arena. account_of arena ≡ fresh 4096 (2 ^ 64 - 1)) }
+        ensures first { IfOk result (λ arena. first_of arena ≡ 4096) }
         ensures copied { IfOk result (λ arena. copied_of arena ≡ 0) }
         ensures refused { IfErr result (λ error. error ≡ FailedAllocation) }
     {
@@ -94,7 +99,7 @@ impl<A: Allocator + Clone> Arena<A> {
 }
 
 impl<A: Allocator> Arena<A> {
-    ghost use Rattle.lasso_parts.specs.Arena.{account_of, copied_of, usage_of, IsStored, text_at, emptied};
+    ghost use Rattle.lasso_parts.specs.Arena.{account_of, copied_of, usage_of, first_of, IsStored, text_at, emptied};
     ghost use Rattle.lasso_parts.specs.Places.{IsPlaceFor};
 
     /// The bytes that all regions take.
@@ -118,7 +123,8 @@ impl<A: Allocator> Arena<A> {
         self.regions.as_slice()
     }
 
-    /// Whether a text of `n` bytes is within the limit: `store_str` then fails for want of memory alone.
+    /// Whether a text of `n` bytes fits, or is within the limit: `store_str` then fails for want of memory
+    /// alone. It takes no memory.
     pub fn admits(&self, n: usize) -> bool
         ensures account { IsTrue result ↔ IsSome (store (account_of self.now) n) }
         ensures sums { IsTrue result ↔ (n ≤ (account_of self.now).room) ⊎ ((account_of self.now).usage + n ≤ self.now.limit) }
@@ -143,9 +149,11 @@ impl<A: Allocator> Arena<A> {
     }
 
     /// Forgets every text, and keeps the memory. What was handed out before names no text any more.
+    #[tactic(auto, using(crate::proofs::Regions::copied_emptied))]
     pub fn clear(&mut self)
         ensures emptied { self.new ≡ record self.old { all = map emptied self.old.all } }
         ensures account { account_of self.new ≡ clear (account_of self.old) }
+        ensures first { first_of self.new ≡ first_of self.old }
         ensures copied { copied_of self.new ≡ 0 }
     {
         self.regions.clear();
@@ -179,15 +187,17 @@ impl<A: Allocator> Arena<A> {
 }
 
 impl<A: Allocator + Clone> Arena<A> {
-    ghost use Rattle.lasso_parts.specs.Arena.{account_of, copied_of, IsStored, text_at, KeepsTexts};
+    ghost use Rattle.lasso_parts.specs.Arena.{account_of, copied_of, first_of, IsStored, text_at, KeepsTexts};
 
     /// Copies a text in and answers where it lies. Every text that was stored before stays where it is. A
-    /// text of no bytes takes no memory. A text longer than twice the doubling size gets a region of its
-    /// own. A text that the limit refuses is refused before any memory is asked for; else it is refused
-    /// for want of memory alone, and only where it needs a new region. A refusal changes nothing: no
-    /// region, no byte of one, nor the current region, the doubling size or the limit.
+    /// text of no bytes takes no memory. A text longer than twice the doubling size gets a region of just
+    /// its bytes, which does not become the current one. A text that the limit refuses is refused before
+    /// any memory is asked for; else it is refused for want of memory alone, and only where it needs a new
+    /// region (the region after 2 ^ 48 others counts as such). A refusal changes nothing: no region, no
+    /// byte of one, nor the current region, the doubling size or the limit.
     pub fn store_str(&mut self, text: &str) -> LassoResult<Span>
         ensures account { IsOk result → store (account_of self.old) (length text.now) ≡ Some (account_of self.new) }
+        ensures first { first_of self.new ≡ first_of self.old }
         ensures stored { IfOk result (λ span. IsStored self.new.all span × (text_at self.new.all span ≡ text.now)) }
         ensures kept { KeepsTexts self.old.all self.new.all }
         ensures copied { IsOk result → copied_of self.new ≡ copied_of self.old + length text.now }

@@ -1,7 +1,7 @@
-use Rattle.std.proofs.Common.{◌≡◌, ◌++◌, ◌∷◌, [], ap, refl, true, List, length}
+use Rattle.std.proofs.Common.{ap, refl, true, List, length}
 use Rattle.lasso_parts.specs.Bucket.{Extent}
 use Rattle.lasso_parts.specs.Arena.{Regions}
-use Rattle.lasso_parts.proofs.Regions.{filled, set_last}
+use Rattle.lasso_parts.proofs.Regions.{set_last}
 use Rattle.lasso_parts.proofs.arena.Arena.store_in_new.Goals as goal
 
 pub returns-clause-added : goal.returns-clause-added
