@@ -89,6 +89,7 @@ pub(crate) fn deallocate<A: Allocator>(alloc: &A, cells: Cells, deed: Deed<A>)
 
 impl Cells {
     /// How many places there are.
+    #[inline]
     pub(crate) fn len(&self) -> usize
         ensures { result ≡ slots_len self.now }
     {
@@ -96,6 +97,7 @@ impl Cells {
     }
 
     /// Copies the bytes to the places from `start` on.
+    #[inline]
     pub(crate) fn write(&mut self, start: usize, bytes: &[u8])
         requires { start + length bytes.now ≤ slots_len self.old }
         ensures items { slots_items self.new ≡ take start (slots_items self.old) ++ bytes.now ++ drop (start + length bytes.now) (slots_items self.old) }
@@ -107,6 +109,7 @@ impl Cells {
     }
 
     /// The `len` bytes from `start` on, where they lie.
+    #[inline]
     pub(crate) fn read(&self, start: usize, len: usize) -> &[u8]
         requires { Holds self.now start (start + len) }
         ensures { result.now ≡ slice_range (slots_items self.now) start (start + len) }

@@ -71,6 +71,7 @@ pub(crate) fn close<A: Allocator>(region: Region, right: Right<A>)
 
 impl Region {
     /// How many bytes fit in all.
+    #[inline]
     pub(crate) fn capacity(&self) -> usize
         ensures { result ≡ self.now.capacity }
     {
@@ -78,6 +79,7 @@ impl Region {
     }
 
     /// How many bytes still fit.
+    #[inline]
     pub(crate) fn free_elements(&self) -> usize
         ensures { result + length self.now.bytes ≡ self.now.capacity }
     {
@@ -92,6 +94,7 @@ impl Region {
     }
 
     /// Copies the bytes in behind those that are there, and answers where they start.
+    #[inline]
     pub(crate) fn push_slice(&mut self, bytes: &[u8]) -> usize
         requires { length self.old.bytes + length bytes.now ≤ self.old.capacity }
         ensures start { result ≡ length self.old.bytes }
@@ -104,6 +107,7 @@ impl Region {
     }
 
     /// The text in the `len` bytes from `start` on. Nothing is copied, and nothing tested.
+    #[inline]
     pub(crate) fn text(&self, start: usize, len: usize) -> &str
         requires in_bounds { start + len ≤ length self.now.bytes }
         requires is_text { IsUtf8 (slice_range self.now.bytes start (start + len)) }
