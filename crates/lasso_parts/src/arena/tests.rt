@@ -7,9 +7,6 @@ use std::alloc::Global;
 use std::process::Abort;
 use std::test::Fail;
 
-// The greatest region that the region type opens. With regions of raw memory it is `usize::MAX`.
-const GREATEST_REGION: usize = 4096;
-
 #[derive(Clone, Copy, Debug)]
 enum Call {
     // the text is accepted
@@ -132,11 +129,9 @@ fn ten_texts_that_double(rt: HostRuntime) -> Result<(), Fail> {
         (2097152, 4190208),
     ];
     for (len, usage) in row {
-        if len <= GREATEST_REGION {
-            let text = "a".repeat(rt.alloc(), len)?;
-            assert_eq!(rt; store(&rt, &mut arena, text.as_str()), None, "at {len}");
-            assert_eq!(rt; arena.memory_usage(), usage, "at {len}");
-        }
+        let text = "a".repeat(rt.alloc(), len)?;
+        assert_eq!(rt; store(&rt, &mut arena, text.as_str()), None, "at {len}");
+        assert_eq!(rt; arena.memory_usage(), usage, "at {len}");
     }
     Ok(())
 }
