@@ -6,11 +6,9 @@ ghost use Rattle.lasso_parts.specs.AccountSteps.{ServesAsWorked};
 /// and its bytes pass the limit.
 pub fn store_refuses_exactly_past_limit()
     ensures { RefusesExactlyPastLimit }
-{
-}
+{}
 
 /// Steps of an account that were worked by hand come out as worked.
 pub fn store_serves_as_worked()
     ensures { ServesAsWorked }
-{
-}
+{}
