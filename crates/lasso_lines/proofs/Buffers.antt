@@ -4,8 +4,7 @@
 -- inner one holds, and then those of its buffer. Where the inner one's are not known, nothing is said.
 use Rattle.std.proofs.Common.{ℕ, zero, suc, ◌≡◌, ◌+◌, ◌-◌, ◌<◌, ◌≤◌, List, [], ◌∷◌, ◌++◌, length, take, drop, Option, Some, None, ap, sym, subst, ◌∙◌, refl, arith, append_assoc, append-nil, length-drop, length-take}
 use Rattle.std.specs.Io.KnownBytes.{prepend_known, Consumes, IsAtEnd, Keeps, Appends}
-use Rattle.lasso_lines.specs.Stream.{Begins, Grows, OnlyGrows, Stays, Loses, ComeFirst, Ended, written}
-use Rattle.std.proofs.lemmas.Grind.{common_steps}
+use Rattle.lasso_lines.specs.Stream.{Grows, OnlyGrows, Stays, Loses, ComeFirst, Ended, written}
 
 pub drop_append : (n : ℕ) (front back : List ℕ) → n ≤ length front → drop n (front ++ back) ≡ drop n front ++ back
 drop_append zero front back small = refl
@@ -136,3 +135,13 @@ refilled_by bs got got' known known' none is took = subst (λ gs. Stays (prepend
 
 pub kept_none : (bs bs' : List ℕ) (known known' : Option (List ℕ)) → bs ≡ [] → bs' ≡ [] → Keeps known known' → Stays (prepend_known bs known) (prepend_known bs' known')
 kept_none bs bs' known known' none none' keeps = subst (λ cs. Stays (prepend_known bs known) (prepend_known cs known')) (none ∙ sym none') (kept_front bs known known' keeps)
+
+-- an empty buffer stands in front of the other bytes
+pub prepend_nothing : (known : Option (List ℕ)) → prepend_known [] known ≡ known
+prepend_nothing None = refl
+prepend_nothing (Some xs) = refl
+
+pub drop_twice : (used count : ℕ) (bytes : List ℕ) → drop (used + count) bytes ≡ drop count (drop used bytes)
+drop_twice zero count bytes = let same : zero + count ≡ count = omega arith in ap (λ n. drop n bytes) same
+drop_twice (suc used) count [] = drop_nil (suc used + count) ∙ sym (drop_nil count)
+drop_twice (suc used) count (b ∷ bytes) = let same : suc used + count ≡ suc (used + count) = omega arith in ap (λ n. drop n (b ∷ bytes)) same ∙ drop_twice used count bytes

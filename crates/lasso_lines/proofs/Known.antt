@@ -2,7 +2,7 @@
 --
 -- A relation between the known bytes before and after a call says something only where they are known before. So
 -- two relations in a row compose: the bytes that the first tells are known to the second, and the two parts join.
-use Rattle.std.proofs.Common.{ℕ, ◌≡◌, ◌≤◌, List, [], ◌∷◌, ◌++◌, take, drop, length, Option, Some, None, Result, Ok, Err, OnOk, IfErr, MatchResult, ap, sym, subst, refl, ◌∙◌, append_assoc, append-nil, arith}
+use Rattle.std.proofs.Common.{ℕ, ◌≡◌, List, [], ◌++◌, take, Option, Some, Result, Ok, Err, IfErr, ap, sym, subst, ◌∙◌, append_assoc, append-nil}
 use Rattle.lasso_lines.specs.Stream.{Begins, Grows, OnlyGrows, Stays, written}
 use Rattle.lasso_lines.specs.Answer.{WritesAll, IsAnswerFault}
 use Rattle.lasso_lines.specs.declared.fault.RunFault.{RunFault}
@@ -70,8 +70,11 @@ write_fault (Ok x) is = is
 write_fault (Err fault) is = subst IsAnswerFault (sym is) tt
 
 -- what a writer into empty memory has delivered is the part
-pub delivered_part : (before after : List ℕ) (P : List ℕ → Type 0) → before ≡ [] → Grows (written (Some before) (Some [])) (written (Some after) (Some [])) P → P after
-delivered_part before after P none grown =
-    let w = grown (before ++ []) refl in
-    let same : after ++ [] ≡ (before ++ []) ++ w.0 = cc in
-    subst P (sym (sym (append-nil after) ∙ same ∙ ap (λ bs. (bs ++ []) ++ w.0) none)) w.2
+pub delivered_part : (before pending after pending' : Option (List ℕ)) (bytes : List ℕ) (P : List ℕ → Type 0) → before ≡ Some [] → pending ≡ Some [] → after ≡ Some bytes → pending' ≡ Some [] → Grows (written before pending) (written after pending') P → P bytes
+delivered_part before pending after pending' bytes P none none' all all' grown =
+    let start : written before pending ≡ Some [] = ap (λ d. written d pending) none ∙ ap (λ p. written (Some []) p) none' in
+    let finish : written after pending' ≡ Some (bytes ++ []) = ap (λ d. written d pending') all ∙ ap (λ p. written (Some bytes) p) all' in
+    let w = grown [] start in
+    let told : written after pending' ≡ Some w.0 = w.1 in
+    let same : w.0 ≡ bytes ++ [] = cc in
+    subst P (same ∙ append-nil bytes) w.2

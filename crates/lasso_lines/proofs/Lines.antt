@@ -2,9 +2,9 @@
 --
 -- Bytes without a line feed begin the first line. A line feed behind them ends it, and where nothing is behind
 -- them they are the last line, unless there are none.
-use Rattle.std.proofs.Common.{ℕ, suc, zero, ◌≡◌, ◌+◌, ◌-◌, ◌<◌, ◌≤◌, ◌==◌, ◌⊎◌, inl, inr, Bool, true, false, cond, List, [], ◌∷◌, ◌++◌, length, take, drop, Option, Some, None, Result, Ok, Err, MatchResult, decimal, ap, sym, subst, ◌∙◌, refl, arith, rules, append_assoc}
+use Rattle.std.proofs.Common.{ℕ, suc, zero, ◌≡◌, ◌-◌, ◌<◌, ◌==◌, ◌⊎◌, inl, inr, Bool, true, false, cond, List, [], ◌∷◌, ◌++◌, take, Some, Result, Ok, Err, decimal, ap, sym, subst, ◌∙◌, refl, arith}
 use Rattle.std.specs.List.{onto_first, slice_index}
-use Rattle.std.specs.Str.{IsUtf8, is_utf8}
+use Rattle.std.specs.Str.{IsUtf8}
 use Rattle.std.proofs.lemmas.Str.{IsUtf8-from_is_utf8, is_utf8-from_IsUtf8}
 use Rattle.std.proofs.lemmas.Bool.{false_from_ne_true}
 use Rattle.std.proofs.lemmas.Option.{cond_some}
@@ -16,7 +16,7 @@ use Rattle.lasso_lines.specs.Stream.{Begins}
 use Rattle.lasso_lines.specs.Report.{is_line_feed, lines_of, spur_at, after_line, with_number, line_report}
 use Rattle.lasso_lines.specs.Answer.{AnswersLine, WritesAll, LineFails, faulty, no_memory, not_written, last_lines}
 use Rattle.lasso_lines.specs.declared.fault.RunFault.{RunFault}
-use Rattle.lasso_lines.specs.declared.fault.RunFault.TheVariants.{Refused, NotText, WriteFailed}
+use Rattle.lasso_lines.specs.declared.fault.RunFault.TheVariants.{Refused, NotText}
 
 -- no byte is a line feed
 abbrev pub NoFeed : List ℕ → Type 0

@@ -2,10 +2,9 @@
 --
 -- Behind the digits read so far, the others only make the value greater. So where the value of some first digits is
 -- past the greatest number, so is that of the word.
-use Rattle.std.proofs.Common.{ℕ, suc, ◌≡◌, ◌+◌, ◌-◌, ◌*◌, ◌<◌, ◌≤◌, ◌^◌, Bool, true, false, ◌&&◌, cond, List, [], ◌∷◌, length, drop, get_or, drop-cons, Option, Some, None, ap, sym, subst, ◌∙◌, refl, arith}
-use Rattle.std.proofs.lemmas.Grind.{common_steps}
+use Rattle.std.proofs.Common.{ℕ, suc, ◌≡◌, ◌+◌, ◌-◌, ◌*◌, ◌<◌, ◌≤◌, ◌^◌, true, false, List, [], ◌∷◌, length, drop, get_or, drop-cons, Some, None, ap, subst, arith}
 use Rattle.std.proofs.lemmas.Bool.Decides.{nat_tests}
-use Rattle.lasso_lines.specs.Arguments.{is_digit, all_digits, value_behind, is_number, number_of}
+use Rattle.lasso_lines.specs.Arguments.{all_digits, value_behind, number_of}
 
 pub value_grows : (bytes : List ℕ) (value : ℕ) → value ≤ value_behind value bytes
 value_grows [] value = omega arith

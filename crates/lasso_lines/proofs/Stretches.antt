@@ -2,9 +2,8 @@
 --
 -- The bytes shown are the first of those that are left. Where the search finds a line feed among them, they are a
 -- line's end, the feed, and more; where it finds none, they all go to the line that is held.
-use Rattle.std.proofs.Common.{ℕ, suc, zero, ◌≡◌, ◌+◌, ◌<◌, ◌≤◌, ◌==◌, Ok, Err, true, false, length-append, List, [], ◌∷◌, ◌++◌, length, take, drop, Option, Some, None, ap, sym, subst, ◌∙◌, refl, arith, rules, append_assoc, add-one}
+use Rattle.std.proofs.Common.{ℕ, suc, zero, ◌≡◌, ◌+◌, ◌<◌, ◌≤◌, ◌==◌, Ok, Err, true, length-append, List, [], ◌∷◌, ◌++◌, length, take, drop, Some, None, ap, sym, subst, ◌∙◌, refl, arith, append_assoc, add-one}
 use Rattle.std.specs.List.{slice_index}
-use Rattle.std.proofs.lemmas.Bool.{false_from_ne_true}
 use Rattle.memchr.specs.Find.{IsFirstByte, is_byte}
 use Rattle.lasso_lines.specs.Stream.{Begins}
 use Rattle.lasso_parts.specs.Held.{Held}
@@ -16,7 +15,6 @@ use Rattle.lasso_lines.specs.declared.fault.RunFault.TheVariants.{Refused}
 use Rattle.lasso_lines.proofs.Ways.{OnTheWay, way_answered, way_fails, way_held, way_lacks}
 use Rattle.lasso_lines.proofs.Buffers.{drop_append}
 use Rattle.lasso_lines.proofs.Lines.{NoFeed, no_feed_take, no_feed_both}
-use Rattle.std.proofs.lemmas.Grind.{common_steps}
 use Rattle.std.proofs.lemmas.Bool.Decides.{nat_tests}
 
 split_at_feed : (shown : List ℕ) (at : ℕ) → at < length shown → slice_index shown at == 10 ≡ true → shown ≡ take at shown ++ 10 ∷ drop (suc at) shown

@@ -6,15 +6,15 @@
 -- bytes of the line that is held change nothing, since the same bytes are held and left. An answered line goes from
 -- the lines that are left to the bytes that are written, by the definition of the report. So at a return only the
 -- lines that are left matter: none after the counts, or one of which a fault is told.
-use Rattle.std.proofs.Common.{ℕ, zero, suc, ◌≡◌, ◌+◌, ◌-◌, ◌≤◌, ◌<◌, ◌⊎◌, inl, inr, Bool, true, false, cond, List, [], ◌∷◌, ◌++◌, length, Option, Some, None, Result, Ok, Err, MatchResult, ap, sym, subst, ◌∙◌, refl, append_assoc, append-nil, arith, rules}
+use Rattle.std.proofs.Common.{ℕ, zero, suc, ◌≡◌, ◌+◌, ◌<◌, inl, inr, Bool, true, false, cond, List, [], ◌∷◌, ◌++◌, length, Some, Result, Ok, Err, ap, sym, subst, ◌∙◌, refl, append_assoc, append-nil, arith}
 use Rattle.std.specs.Str.{is_utf8}
 use Rattle.lasso_parts.specs.Held.{Held}
 use Rattle.lasso_parts.specs.declared.util.LassoError.{LassoError}
 use Rattle.lasso_parts.specs.declared.util.LassoErrorKind.TheVariants.{FailedAllocation}
 use Rattle.lasso_single.specs.Intern.{interned}
 use Rattle.lasso_lines.specs.Stream.{Begins}
-use Rattle.lasso_lines.specs.Report.{lines_of, with_number, spur_at, after_line, line_report, last_report, or_else, report_from, fault_from, reach_from, answers_from, LacksMemory, EndsWithFault, EndsFrom, Ends, new_held, report}
-use Rattle.lasso_lines.specs.Answer.{AnswersLine, WritesAll, LineFails, faulty, no_memory, not_written, IsStreamFault, last_lines}
+use Rattle.lasso_lines.specs.Report.{lines_of, with_number, spur_at, after_line, line_report, last_report, or_else, report_from, fault_from, reach_from, answers_from, LacksMemory, EndsWithFault, EndsFrom, Ends, new_held}
+use Rattle.lasso_lines.specs.Answer.{WritesAll, LineFails, faulty, no_memory, not_written, IsStreamFault, last_lines}
 use Rattle.lasso_lines.specs.declared.fault.RunFault.{RunFault}
 use Rattle.lasso_lines.specs.declared.fault.RunFault.TheVariants.{Refused, NotText, Usage, ReadFailed, WriteFailed}
 use Rattle.lasso_lines.proofs.Lines.{NoFeed, lines_cut, lines_last, lines_some}

@@ -1,11 +1,11 @@
 -- What answering lines does to the interner and the writer.
-use Rattle.std.specs.Prelude.{ℕ, ◌≡◌, ◌+◌, List, [], ◌∷◌, ◌++◌, Option, Result, Ok, Err, MatchResult}
+use Rattle.std.specs.Prelude.{ℕ, ◌≡◌, List, [], ◌∷◌, Result, Ok, Err, MatchResult}
 use Rattle.lasso_parts.specs.declared.util.LassoErrorKind.TheVariants.{FailedAllocation}
 use Rattle.lasso_parts.specs.Held.{Held}
 use Rattle.lasso_lines.specs.Stream.{Begins}
 use Rattle.lasso_lines.specs.Report.{after_line, line_report}
 use Rattle.lasso_lines.specs.declared.fault.RunFault.{RunFault}
-use Rattle.lasso_lines.specs.declared.fault.RunFault.TheVariants.{Refused, NotText, Usage, ReadFailed, WriteFailed}
+use Rattle.lasso_lines.specs.declared.fault.RunFault.TheVariants.{Refused, Usage, ReadFailed, WriteFailed}
 
 -- how often the reader failed in the call
 abbrev pub failed_reads : {X : Type 0} → Result X RunFault → ℕ

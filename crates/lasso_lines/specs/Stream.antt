@@ -39,3 +39,21 @@ written (Some delivered) (Some pending) = Some (delivered ++ pending)
 abbrev pub failed_calls : {X E : Type 0} → Result X E → ℕ
 failed_calls (Ok _) = 0
 failed_calls (Err _) = 1
+
+-- a reader: the bytes at hand, all bytes that are left, where they are known, and how many calls have failed
+pub record Reading : Type 0 where
+  pub at_hand : List ℕ
+  pub left : Option (List ℕ)
+  pub failures : ℕ
+
+-- a writer: the bytes that were delivered and those that are pending, where they are known, and how many calls have
+-- failed
+pub record Writing : Type 0 where
+  pub delivered : Option (List ℕ)
+  pub pending : Option (List ℕ)
+  pub failures : ℕ
+
+-- a writer into memory: the bytes that it has taken, which are delivered, and how many calls have failed
+pub record Taken : Type 0 where
+  pub bytes : List ℕ
+  pub failures : ℕ

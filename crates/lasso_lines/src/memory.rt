@@ -9,6 +9,7 @@ use crate::fault::RunFault;
 use crate::stream::{ByteReader, ByteWriter, Failed};
 use lasso::MemoryLimits;
 use std::alloc::Global;
+use std::marker::Model;
 use std::sync::Wait;
 
 /// A reader that shows all its bytes at once and never fails.
@@ -17,19 +18,27 @@ pub struct MemoryReader<'a> {
     rest: &'a [u8],
 }
 
+impl<'a> Model for MemoryReader<'a> {
+    ghost use Rattle.std.specs.Prelude.{ℕ, List};
+
+    ghost Value = { List ℕ };
+
+    ghost view = { λ r. r.rest.now };
+}
+
 impl<'a> MemoryReader<'a> {
     /// A reader of the bytes.
     pub fn new(bytes: &'a [u8]) -> Self
-        ensures { result.rest.now ≡ bytes.now }
+        ensures { result ≡ bytes.now }
     {
         MemoryReader { rest: bytes }
     }
 }
 
 impl ByteReader for MemoryReader<'_> {
-    ghost at_hand = { λ r. r.rest.now };
+    ghost at_hand = { λ bytes. bytes };
 
-    ghost left = { λ r. Some r.rest.now };
+    ghost left = { λ bytes. Some bytes };
 
     ghost failures = { λ _. 0 };
 
@@ -53,11 +62,19 @@ pub struct MemoryWriter {
     failures: Failures,
 }
 
+impl Model for MemoryWriter {
+    ghost use Rattle.lasso_lines.specs.Stream.{Taken};
+
+    ghost Value = { Taken };
+
+    ghost view = { λ w. record { bytes = w.bytes.items; failures = w.failures.count } };
+}
+
 impl MemoryWriter {
-    /// A writer that has delivered nothing.
+    /// A writer that has delivered nothing and has not failed.
     pub fn new(alloc: Global) -> Self
-        ensures bytes { result.bytes.items ≡ [] }
-        ensures failures { result.failures.count ≡ 0 }
+        ensures bytes { result.bytes ≡ [] }
+        ensures failures { result.failures ≡ 0 }
     {
         MemoryWriter {
             bytes: Vec::new(alloc),
@@ -67,7 +84,7 @@ impl MemoryWriter {
 
     /// The bytes that were delivered.
     pub fn into_bytes(self) -> Vec<u8>
-        ensures { result ≡ self.bytes }
+        ensures { result.items ≡ self.bytes }
     {
         let MemoryWriter { bytes, failures: _ } = self;
         bytes
@@ -75,11 +92,11 @@ impl MemoryWriter {
 }
 
 impl ByteWriter for MemoryWriter {
-    ghost delivered = { λ w. Some w.bytes.items };
+    ghost delivered = { λ w. Some w.bytes };
 
     ghost pending = { λ _. Some [] };
 
-    ghost failures = { λ w. w.failures.count };
+    ghost failures = { λ w. w.failures };
 
     fn write(&mut self, bytes: &[u8]) -> Result<usize, Failed> {
         match self.bytes.extend_from_slice(bytes) {

@@ -1,12 +1,12 @@
 //! The readers and writers of std, with a large buffer each.
-ghost use Rattle.std.specs.Prelude.{◌≡◌, ℕ, ◌+◌, ◌-◌, ◌<◌, ◌≤◌, List, [], Some, IfOk, OnOk, drop, take, length, vec_len};
-ghost use Rattle.std.specs.Io.KnownBytes.{prepend_known};
-ghost use Rattle.lasso_lines.specs.Stream.{Stays, OnlyGrows, written, failed_calls};
+ghost use Rattle.std.specs.Prelude.{◌≡◌, ℕ, ◌+◌, ◌-◌, ◌<◌, ◌≤◌, [], Some, IfOk, OnOk, MatchResult, drop, take, length};
+ghost use Rattle.lasso_lines.specs.Stream.{Begins, Grows, Stays, OnlyGrows, written};
 
 use crate::failures::Failures;
 use crate::stream::{ByteReader, ByteWriter, Failed};
 use std::alloc::{AllocError, Global};
 use std::io::{Read, Write};
+use std::marker::Model;
 
 /// How many bytes a buffer takes.
 pub const BUFFER: usize = 65536;
@@ -19,15 +19,26 @@ pub struct StandardReader<R: Read + Drop> {
     used: usize,
     filled: usize,
     failures: Failures,
-    ghost in_range: { (used ≤ filled) × (filled ≤ length buffer.items) },
-    ghost some_room: { 0 < length buffer.items },
+}
+
+impl<R: Read + Drop> Model for StandardReader<R> {
+    ghost use Rattle.std.specs.Prelude.{◌<◌, ◌≤◌, drop, take, length};
+    ghost use Rattle.std.specs.Io.KnownBytes.{prepend_known};
+    ghost use Rattle.lasso_lines.specs.Stream.{Reading};
+
+    ghost Value = { Reading };
+
+    ghost view = { λ r. record { at_hand = drop r.used (take r.filled r.buffer.items); left = prepend_known (drop r.used (take r.filled r.buffer.items)) (R.remaining r.inner); failures = r.failures.count } };
+
+    ghost invariant = { λ r. (r.used ≤ r.filled) × (r.filled ≤ length r.buffer.items) × (0 < length r.buffer.items) };
 }
 
 impl<R: Read + Drop> StandardReader<R> {
-    /// A reader of what `inner` gives. It is refused for want of memory alone.
+    /// A reader of what `inner` gives, which has not failed. It is refused for want of memory alone.
     pub fn new(alloc: Global, inner: R) -> Result<Self, AllocError>
-        ensures left { IfOk result (λ r. prepend_known (drop r.used (take r.filled r.buffer.items)) (R.remaining r.inner) ≡ prepend_known [] (R.remaining inner)) }
-        ensures failures { IfOk result (λ r. r.failures.count ≡ 0) }
+        ensures at_hand { IfOk result (λ r. r.at_hand ≡ []) }
+        ensures left { IfOk result (λ r. r.left ≡ R.remaining inner) }
+        ensures failures { IfOk result (λ r. r.failures ≡ 0) }
     {
         Ok(StandardReader {
             inner,
@@ -40,11 +51,11 @@ impl<R: Read + Drop> StandardReader<R> {
 }
 
 impl<R: Read + Drop> ByteReader for StandardReader<R> {
-    ghost at_hand = { λ r. drop r.used (take r.filled r.buffer.items) };
+    ghost at_hand = { λ r. r.at_hand };
 
-    ghost left = { λ r. prepend_known (drop r.used (take r.filled r.buffer.items)) (R.remaining r.inner) };
+    ghost left = { λ r. r.left };
 
-    ghost failures = { λ r. r.failures.count };
+    ghost failures = { λ r. r.failures };
 
     fn shown(&self) -> &[u8] {
         &self.buffer[self.used..self.filled]
@@ -75,57 +86,118 @@ impl<R: Read + Drop> ByteReader for StandardReader<R> {
 /// A writer of std behind a buffer of 64 KiB.
 #[derive(Drop)]
 pub struct StandardWriter<W: Write + Drop> {
-    inner: W,
-    buffer: Vec<u8>,
-    sent: usize,
+    outgoing: Outgoing<W>,
     failures: Failures,
-    ghost in_range: { sent ≤ length buffer.items },
+}
+
+impl<W: Write + Drop> Model for StandardWriter<W> {
+    ghost use Rattle.std.specs.Prelude.{Some, drop};
+    ghost use Rattle.lasso_lines.specs.Stream.{Writing};
+
+    ghost Value = { Writing };
+
+    ghost view = { λ w. record { delivered = W.contents w.outgoing.inner; pending = Some (drop w.outgoing.sent w.outgoing.buffer.items); failures = w.failures.count } };
 }
 
 impl<W: Write + Drop> StandardWriter<W> {
-    /// A writer to `inner`.
+    /// A writer to `inner`, which has taken nothing and has not failed.
     pub fn new(alloc: Global, inner: W) -> Self
-        ensures inner { result.inner ≡ inner }
-        ensures nothing_pending { drop result.sent result.buffer.items ≡ [] }
-        ensures failures { result.failures.count ≡ 0 }
+        ensures delivered { result.delivered ≡ W.contents inner }
+        ensures pending { result.pending ≡ Some [] }
+        ensures failures { result.failures ≡ 0 }
     {
         StandardWriter {
-            inner,
-            buffer: Vec::new(alloc),
-            sent: 0,
+            outgoing: Outgoing {
+                inner,
+                buffer: Vec::new(alloc),
+                sent: 0,
+            },
             failures: Failures::none(),
         }
     }
 
     /// The inner writer. What is pending is dropped.
     pub fn into_inner(self) -> W
-        ensures { result ≡ self.inner }
+        ensures { W.contents result ≡ self.delivered }
     {
-        let StandardWriter { inner, buffer: _, sent: _, failures: _ } = self;
+        let StandardWriter {
+            outgoing,
+            failures: _,
+        } = self;
+        let Outgoing {
+            inner,
+            buffer: _,
+            sent: _,
+        } = outgoing;
         inner
     }
+}
 
-    // Hands all that is pending to the inner writer.
-    fn send(&mut self) -> Result<(), Failed>
-        ensures failures { self.new.failures.count ≡ self.old.failures.count + failed_calls result }
+impl<W: Write + Drop> ByteWriter for StandardWriter<W> {
+    ghost delivered = { λ w. w.delivered };
+
+    ghost pending = { λ w. w.pending };
+
+    ghost failures = { λ w. w.failures };
+
+    fn write(&mut self, bytes: &[u8]) -> Result<usize, Failed> {
+        let taken = self.outgoing.take(bytes);
+        if taken.is_err() {
+            self.failures = self.failures.and_one();
+        }
+        taken
+    }
+
+    fn flush(&mut self) -> Result<(), Failed> {
+        let flushed = self.outgoing.flush();
+        if flushed.is_err() {
+            self.failures = self.failures.and_one();
+        }
+        flushed
+    }
+}
+
+// An inner writer, and the bytes for it, of which so many are sent.
+#[derive(Drop)]
+struct Outgoing<W: Write + Drop> {
+    inner: W,
+    buffer: Vec<u8>,
+    sent: usize,
+    ghost in_range: { sent ≤ length buffer.items },
+}
+
+impl<W: Write + Drop> Outgoing<W> {
+    // Takes as many bytes as there is room for, once the buffer is not full.
+    fn take(&mut self, bytes: &[u8]) -> Result<usize, Failed>
+        ensures delivered { OnlyGrows (W.contents self.old.inner) (W.contents self.new.inner) }
+        ensures written { Grows (written (W.contents self.old.inner) (Some (drop self.old.sent self.old.buffer.items))) (written (W.contents self.new.inner) (Some (drop self.new.sent self.new.buffer.items)))
+            (λ part. MatchResult result (λ n. part ≡ take n bytes.now) (λ _. Begins part bytes.now)) }
+        ensures count { IfOk result (λ n. n ≤ length bytes.now) }
+        ensures progress { IfOk result (λ n. 0 < length bytes.now → 0 < n) }
+    {
+        self.make_room()?;
+        let count = bytes.len().min(BUFFER - self.buffer.len());
+        match self.buffer.extend_from_slice(&bytes[..count]) {
+            Ok(()) => Ok(count),
+            Err(_) => Err(Failed),
+        }
+    }
+
+    // Hands all to the inner writer and flushes it.
+    fn flush(&mut self) -> Result<(), Failed>
         ensures delivered { OnlyGrows (W.contents self.old.inner) (W.contents self.new.inner) }
         ensures written { Stays (written (W.contents self.old.inner) (Some (drop self.old.sent self.old.buffer.items))) (written (W.contents self.new.inner) (Some (drop self.new.sent self.new.buffer.items))) }
-        ensures all { OnOk result (self.new.buffer.items ≡ []) }
+        ensures all { OnOk result (drop self.new.sent self.new.buffer.items ≡ []) }
     {
-        while self.sent < self.buffer.len() {
-            match self.inner.write(&self.buffer[self.sent..]) {
-                Ok(0) | Err(_) => return Err(self.fail()),
-                Ok(count) => self.sent += count,
-            }
+        self.send()?;
+        match self.inner.flush() {
+            Ok(()) => Ok(()),
+            Err(_) => Err(Failed),
         }
-        self.sent = 0;
-        self.buffer.clear();
-        Ok(())
     }
 
     // Sees that the buffer is not full.
     fn make_room(&mut self) -> Result<(), Failed>
-        ensures failures { self.new.failures.count ≡ self.old.failures.count + failed_calls result }
         ensures delivered { OnlyGrows (W.contents self.old.inner) (W.contents self.new.inner) }
         ensures written { Stays (written (W.contents self.old.inner) (Some (drop self.old.sent self.old.buffer.items))) (written (W.contents self.new.inner) (Some (drop self.new.sent self.new.buffer.items))) }
         ensures room { OnOk result (length self.new.buffer.items < 65536) }
@@ -136,39 +208,20 @@ impl<W: Write + Drop> StandardWriter<W> {
         self.send()
     }
 
-    // Counts a failed call.
-    fn fail(&mut self) -> Failed
-        ensures failures { self.new.failures.count ≡ self.old.failures.count + 1 }
-        ensures inner { self.new.inner ≡ self.old.inner }
-        ensures sent { self.new.sent ≡ self.old.sent }
-        ensures buffer { self.new.buffer ≡ self.old.buffer }
+    // Hands all to the inner writer. Where that fails, what was not sent is kept.
+    fn send(&mut self) -> Result<(), Failed>
+        ensures delivered { OnlyGrows (W.contents self.old.inner) (W.contents self.new.inner) }
+        ensures written { Stays (written (W.contents self.old.inner) (Some (drop self.old.sent self.old.buffer.items))) (written (W.contents self.new.inner) (Some (drop self.new.sent self.new.buffer.items))) }
+        ensures all { OnOk result (self.new.buffer.items ≡ []) }
     {
-        self.failures = self.failures.and_one();
-        Failed
-    }
-}
-
-impl<W: Write + Drop> ByteWriter for StandardWriter<W> {
-    ghost delivered = { λ w. W.contents w.inner };
-
-    ghost pending = { λ w. Some (drop w.sent w.buffer.items) };
-
-    ghost failures = { λ w. w.failures.count };
-
-    fn write(&mut self, bytes: &[u8]) -> Result<usize, Failed> {
-        self.make_room()?;
-        let count = bytes.len().min(BUFFER - self.buffer.len());
-        match self.buffer.extend_from_slice(&bytes[..count]) {
-            Ok(()) => Ok(count),
-            Err(_) => Err(self.fail()),
+        while self.sent < self.buffer.len() {
+            match self.inner.write(&self.buffer[self.sent..]) {
+                Ok(0) | Err(_) => return Err(Failed),
+                Ok(count) => self.sent += count,
+            }
         }
-    }
-
-    fn flush(&mut self) -> Result<(), Failed> {
-        self.send()?;
-        match self.inner.flush() {
-            Ok(()) => Ok(()),
-            Err(_) => Err(self.fail()),
-        }
+        self.sent = 0;
+        self.buffer.clear();
+        Ok(())
     }
 }

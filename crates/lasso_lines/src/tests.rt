@@ -14,6 +14,7 @@ use std::process::Abort;
 use std::test::Fail;
 
 const INPUT: &[u8] = b"b\na\nb";
+
 const OUTPUT: &[u8] = b"0 b\n1 a\n0 b\n2 texts, 4096 bytes\n";
 
 fn no_limit() -> MemoryLimits {
@@ -100,8 +101,14 @@ fn bad_arguments(rt: HostRuntime) -> Result<(), Fail> {
     assert_eq!(rt; limit_of_words(&rt, &["--workers", "0"])?, None);
     assert_eq!(rt; limit_of_words(&rt, &["--workers", "2"])?, None);
     assert_eq!(rt; limit_of_words(&rt, &["--limit"])?, None);
-    assert_eq!(rt; limit_of_words(&rt, &["--limit", "1", "--limit", "1"])?, None);
-    assert_eq!(rt; limit_of_words(&rt, &["--limit", "99999999999999999999"])?, None);
+    assert_eq!(rt;
+        limit_of_words(&rt, &["--limit", "1", "--limit", "1"])?,
+        None
+    );
+    assert_eq!(rt;
+        limit_of_words(&rt, &["--limit", "99999999999999999999"])?,
+        None
+    );
     assert_eq!(rt; limit_of_words(&rt, &["--limit", "1x"])?, None);
     assert_eq!(rt; limit_of_words(&rt, &["x"])?, None);
     let usage = "usage: lasso_lines [--limit N] [--workers N]";

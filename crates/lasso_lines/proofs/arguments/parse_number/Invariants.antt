@@ -1,4 +1,4 @@
-use Rattle.std.proofs.Common.{◌≡◌, ◌<◌, ◌^◌, drop, take, true}
+use Rattle.std.proofs.Common.{◌≡◌, ◌<◌, ◌^◌, drop}
 use Rattle.lasso_lines.specs.Arguments.{all_digits, value_behind}
 use Rattle.lasso_lines.proofs.arguments.parse_number.Given as goal
 

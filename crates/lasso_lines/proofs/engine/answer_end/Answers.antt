@@ -2,7 +2,7 @@ use Rattle.std.proofs.Common.{arith}
 use Rattle.std.proofs.lemmas.Grind.{common_steps}
 use Rattle.std.proofs.lemmas.Result.{err_from_is_err_and}
 use Rattle.lasso_lines.specs.Report.{holding}
-use Rattle.lasso_lines.proofs.Known.{grows_as, grows_then, write_fault}
+use Rattle.lasso_lines.proofs.Known.{grows_as, grows_then}
 use Rattle.lasso_lines.proofs.Ways.{last_fails, last_then, no_last}
 use Rattle.lasso_lines.proofs.engine.answer_end.Goals as goal
 

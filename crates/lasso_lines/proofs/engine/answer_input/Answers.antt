@@ -1,4 +1,4 @@
-use Rattle.std.proofs.Common.{◌≡◌, ℕ, ◌+◌, List, [], ◌∷◌, ◌++◌, Some, Err, inr, rules, arith, refl, sym, subst, ap, ◌-◌, take, drop, length, ◌∙◌}
+use Rattle.std.proofs.Common.{◌≡◌, ◌+◌, [], ◌++◌, Some, Err, inr, arith, refl, sym, subst, take, drop, length, ◌∙◌}
 use Rattle.std.proofs.lemmas.Result.{err_from_is_err_and}
 use Rattle.std.proofs.lemmas.Grind.{common_steps}
 use Rattle.lasso_lines.specs.Report.{Ends, EndsFrom, report, holding}

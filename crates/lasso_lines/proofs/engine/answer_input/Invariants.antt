@@ -1,4 +1,4 @@
-use Rattle.std.proofs.Common.{◌≡◌, ◌+◌, ◌≤◌, ◌<◌, ◌^◌, ℕ, List, Option, Some}
+use Rattle.std.proofs.Common.{◌≡◌, ◌+◌, ◌<◌, ◌^◌, ℕ, List, Some}
 use Rattle.lasso_lines.specs.Stream.{Grows, OnlyGrows, written}
 use Rattle.lasso_lines.specs.Report.{holding}
 use Rattle.lasso_lines.proofs.Lines.{NoFeed}

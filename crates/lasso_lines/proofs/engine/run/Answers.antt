@@ -1,4 +1,3 @@
-use Rattle.std.proofs.Common.{rules}
 use Rattle.std.proofs.lemmas.Result.{err_from_is_err_and}
 use Rattle.lasso_lines.proofs.Known.{grows_stays}
 use Rattle.lasso_lines.proofs.Ways.{ends_unflushed}

@@ -4,7 +4,7 @@ use Rattle.std.proofs.Common.{List, [], ◌∷◌, ◌+◌, refl}
 use Rattle.std.proofs.raw_atomic.Walks.{proved}
 use mir.Syntax.{named}
 use mir.Val.{Val, vstruct, vnil}
-use types.Kit.{raw, ‵, ◌⊛◌, ◌$◌, ◌∵◌, !, qed, drop, move, keep, split, fjoin, fpack, feq_i, suffices, done, join}
+use types.Kit.{raw, ‵, ◌⊛◌, ◌$◌, ◌∵◌, !, qed, move, keep, split, fjoin, fpack, feq_i, suffices, done}
 use types.Part.{agg}
 use types.Run.{enter, returns, no_more}
 use types.ByLocal.{alloc_all, pass_all, free_all, look_at, sets}
@@ -15,7 +15,7 @@ use denote.Ref.{shr_vals, shr_Tells}
 use denote.Signature.{plain, types_at}
 use denote.Steps.{nothing}
 use denote.Struct.Struct.{within}
-use denote.Triple.Entry.{on_entry, alive}
+use denote.Triple.Entry.{alive}
 use denote.Triple.Walked.{Stays, stay_dropped, walk_of, says, ends_at, Goes-dropped}
 use Rattle.lasso_lines.specs.contracts.failures.Failures as Failures
 use Rattle.lasso_lines.specs.contracts.failures.Failures.and_one as f

@@ -3,5 +3,5 @@ use Rattle.lasso_lines.proofs.standard.StandardReaderByteReader.shown.Goals as g
 
 pub returns-clause-first : goal.returns-clause-first
 returns-clause-first g c =
-    let r = c.args.self.now in
-    shows_front _ _ _ (cut_out r.used r.filled c.deref.result.now r.buffer.items r.in_range.0 c.deref.ensures.value)
+    let r = c.self.inside in
+    rw (← c.self.view_is) (shows_front _ _ _ (cut_out r.used r.filled c.deref.result.now r.buffer.items c.self.invariant.0 c.deref.ensures.value))

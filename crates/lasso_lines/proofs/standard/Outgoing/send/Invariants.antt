@@ -1,12 +1,11 @@
-use Rattle.std.proofs.Common.{◌≡◌, ◌-◌, ◌≤◌, length, drop, Some}
+use Rattle.std.proofs.Common.{◌-◌, ◌≤◌, length, drop, Some}
 use Rattle.lasso_lines.specs.Stream.{OnlyGrows, Stays, written}
-use Rattle.lasso_lines.proofs.standard.StandardWriter.send.Given as goal
+use Rattle.lasso_lines.proofs.standard.Outgoing.send.Given as goal
 
 abbrev pub invariant-loop-self : goal.invariant-loop-self
 invariant-loop-self g l =
     let W = g.W.Write in
     record {
-      failures : l.self.failures.count ≡ l.fn.self.failures.count;
       in_range : l.self.sent ≤ length l.self.buffer.items;
       delivered : OnlyGrows (W.contents l.fn.self.inner) (W.contents l.self.inner);
       written : Stays (written (W.contents l.fn.self.inner) (Some (drop l.fn.self.sent l.fn.self.buffer.items))) (written (W.contents l.self.inner) (Some (drop l.self.sent l.self.buffer.items)));
