@@ -17,7 +17,6 @@ use std::marker::Model;
 
 /// An interner for one thread: a list of distinct texts, in which a text at position n has the key of
 /// number n, and beside it an account of the memory that the texts take.
-#[derive(Drop)]
 pub struct Rodeo<K: Key, S: BuildHasher, A: Allocator> {
     list: TextList<A>,
     index: Index<K, A>,
@@ -36,6 +35,17 @@ impl<K: Key, S: BuildHasher, A: Allocator> Model for Rodeo<K, S, A> {
     ghost view = { λ r. r.list };
 
     ghost invariant = { λ r. IsIndexOf (text_hash S.build_hasher S.Hasher.write S.Hasher.finish r.hasher) r.list.texts r.index × Fits K.key_at (length r.list.texts) };
+}
+
+// One call, so that proofs of callers see nothing of the fields where an interner is let go.
+impl<K: Key, S: BuildHasher + Drop, A: Allocator> Drop for Rodeo<K, S, A> {
+    fn drop(self) {
+        let Rodeo {
+            list: _,
+            index: _,
+            hasher: _,
+        } = self;
+    }
 }
 
 impl<K: Key, S: BuildHasher, A: Allocator> Rodeo<K, S, A> {
