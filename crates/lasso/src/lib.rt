@@ -1,7 +1,17 @@
-//! lasso, a proved string interner: it stores each distinct text once and hands out a small key.
+//! lasso, a proved string interner: it stores each distinct text once and hands out a small key. This
+//! crate names the public items of the crates below it again.
 #![tactic(auto)]
 
+#[cfg(test)]
+mod tests;
+
+pub use lasso_parts::arena::{Arena, Span};
+pub use lasso_parts::bucket::Bucket;
+pub use lasso_parts::bucket::region::Region;
+pub use lasso_parts::index::{Index, Texts, hash_text};
 pub use lasso_parts::keys::{Key, LargeSpur, MicroSpur, MiniSpur, Spur};
+pub use lasso_parts::laws::{store_refuses_exactly_past_limit, store_serves_as_worked};
+pub use lasso_parts::slots::{Slot, text_of};
 pub use lasso_parts::util::{
     Capacity, FixedState, LassoError, LassoErrorKind, LassoResult, MemoryLimits,
 };
