@@ -1,8 +1,10 @@
 //! `Rodeo`, the interner for one thread.
-ghost use Rattle.std.specs.Prelude.{◌≡◌, ◌<◌, length, Some, is_some, IsTrue, ◌↔◌, slice_get, option_map};
+ghost use Rattle.std.specs.Prelude.{◌≡◌, ◌==◌, ◌<◌, ◌≤◌, length, Some, is_some, IsTrue, ◌↔◌, slice_get, option_map};
 ghost use Rattle.lasso_parts.specs.Texts.{position_of, key_of, IsDistinct, Fits};
 ghost use Rattle.lasso_single.specs.Intern.{Interns};
 
+mod changes;
+mod interning;
 mod makers;
 #[cfg(test)]
 mod tests;
@@ -49,6 +51,13 @@ impl<K: Key, S: BuildHasher, A: Allocator> Rodeo<K, S, A> {
         K::try_from_usize(position)
     }
 
+    /// Whether the text is there.
+    pub fn contains(&self, text: &str) -> bool
+        ensures { result ≡ is_some (position_of self.now.texts text.now) }
+    {
+        self.get(text).is_some()
+    }
+
     /// Whether the key stands for a text of this interner.
     pub fn contains_key(&self, key: K) -> bool
         ensures { IsTrue result ↔ (K.number key < length self.now.texts) }
@@ -71,6 +80,14 @@ impl<K: Key, S: BuildHasher, A: Allocator> Rodeo<K, S, A> {
         self.list.text_at(key.into_usize())
     }
 
+    /// The key's text: the same call as `resolve`, with the same condition.
+    pub fn resolve_unchecked(&self, key: K) -> &str
+        requires { K.number key < length self.now.texts }
+        ensures { slice_get self.now.texts (K.number key) ≡ Some result.now }
+    {
+        self.resolve(key)
+    }
+
     /// The number of texts.
     pub fn len(&self) -> usize
         ensures value { result ≡ length self.now.texts }
@@ -78,6 +95,27 @@ impl<K: Key, S: BuildHasher, A: Allocator> Rodeo<K, S, A> {
         ensures fits { Fits K.key_at (length self.now.texts) }
     {
         self.list.len()
+    }
+
+    /// Whether there is no text.
+    pub fn is_empty(&self) -> bool
+        ensures { result ≡ (length self.now.texts == 0) }
+    {
+        self.list.len() == 0
+    }
+
+    /// For how many texts the list has room: at least as many as there are.
+    pub fn capacity(&self) -> usize
+        ensures { length self.now.texts ≤ result }
+    {
+        self.list.capacity()
+    }
+
+    /// The most bytes that all buckets may take.
+    pub fn max_memory_usage(&self) -> usize
+        ensures { result ≡ self.now.account.limit }
+    {
+        self.list.max_memory_usage()
     }
 
     /// The bytes that all buckets take.

@@ -1,6 +1,6 @@
 //! `TextList`: the texts of an interner in order, over the memory that holds them.
-ghost use Rattle.std.specs.Prelude.{◌≡◌, ◌<◌, ◌++◌, [], ◌∷◌, length, IsTrue, ◌↔◌, IsSome, Some, IfOk, IfErr, OnOk, OnErr, slice_get, option_map};
-ghost use Rattle.lasso_parts.specs.Account.{fresh, store};
+ghost use Rattle.std.specs.Prelude.{◌≡◌, ◌<◌, ◌≤◌, ◌++◌, [], ◌∷◌, length, IsTrue, ◌↔◌, IsSome, Some, IfOk, IfErr, OnOk, OnErr, slice_get, option_map};
+ghost use Rattle.lasso_parts.specs.Account.{fresh, store, clear, with_limit};
 ghost use Rattle.lasso_parts.specs.declared.util.LassoErrorKind.TheVariants.{FailedAllocation};
 
 use lasso_parts::arena::Arena;
@@ -99,5 +99,49 @@ impl<A: Allocator> TextList<A> {
         ensures { result ≡ self.now.account.usage }
     {
         self.arena.memory_usage()
+    }
+
+    /// The most bytes that all buckets may take.
+    pub(crate) fn max_memory_usage(&self) -> usize
+        ensures { result ≡ self.now.account.limit }
+    {
+        self.arena.max_memory_usage()
+    }
+
+    /// For how many texts there is room without another growth of the list, those there included.
+    pub(crate) fn capacity(&self) -> usize
+        ensures { length self.now.texts ≤ result }
+    {
+        self.slots.capacity()
+    }
+
+    /// Puts a text at the end of the list as it is, with no copy. It is refused for want of memory alone,
+    /// and nothing changes then.
+    pub(crate) fn push_static(&mut self, text: &'static str) -> LassoResult<()>
+        ensures texts { OnOk result (self.new.texts ≡ self.old.texts ++ text.now ∷ []) }
+        ensures account { self.new.account ≡ self.old.account }
+        ensures refused { IfErr result (λ error. error ≡ FailedAllocation) }
+        ensures same_texts { OnErr result (self.new.texts ≡ self.old.texts) }
+    {
+        self.slots.reserve(1)?;
+        self.slots.push_reserved(Slot::Static(text));
+        Ok(())
+    }
+
+    /// Sets the most bytes that all buckets may take. It may lie below what they take already.
+    pub(crate) fn set_limit(&mut self, limit: usize)
+        ensures texts { self.new.texts ≡ self.old.texts }
+        ensures account { self.new.account ≡ with_limit self.old.account limit }
+    {
+        self.arena.set_limit(limit);
+    }
+
+    /// Forgets every text and keeps the memory.
+    pub(crate) fn clear(&mut self)
+        ensures texts { self.new.texts ≡ [] }
+        ensures account { self.new.account ≡ clear self.old.account }
+    {
+        self.slots.clear();
+        self.arena.clear();
     }
 }
