@@ -1,1 +1,2 @@
+pub mod Interner
 pub mod Intern

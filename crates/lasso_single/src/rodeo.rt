@@ -1,7 +1,8 @@
 //! `Rodeo`, the interner for one thread.
-ghost use Rattle.std.specs.Prelude.{◌≡◌, ◌==◌, ◌<◌, ◌≤◌, length, Some, is_some, IsTrue, ◌↔◌, slice_get, option_map};
+ghost use Rattle.std.specs.Prelude.{◌≡◌, ◌==◌, ◌+◌, ◌*◌, ◌<◌, ◌≤◌, false, length, Some, OnOk, OnErr, is_some, IsTrue, ◌↔◌, slice_get, option_map};
 ghost use Rattle.lasso_parts.specs.Texts.{position_of, key_of, IsDistinct, Fits};
 ghost use Rattle.lasso_single.specs.Intern.{Interns};
+ghost use Rattle.lasso_single.specs.Interner.{KeepsOrigin, bytes_added};
 
 mod changes;
 mod interning;
@@ -18,7 +19,9 @@ use std::hash::BuildHasher;
 use std::marker::Model;
 
 /// An interner for one thread: a list of distinct texts, in which a text at position n has the key of
-/// number n, and beside it an account of the memory that the texts take.
+/// number n, and beside it an account of the memory that the texts take. Contracts see the texts, the
+/// account, the bytes of the first bucket, the bytes copied in since the last clear, and whether there
+/// was one.
 #[derive(Drop)]
 pub struct Rodeo<K: Key, S: BuildHasher, A: Allocator> {
     list: TextList<A>,
@@ -29,11 +32,11 @@ pub struct Rodeo<K: Key, S: BuildHasher, A: Allocator> {
 impl<K: Key, S: BuildHasher, A: Allocator> Model for Rodeo<K, S, A> {
     ghost use Rattle.std.specs.Prelude.{length};
     ghost use Rattle.lasso_parts.specs.Hashing.{text_hash};
-    ghost use Rattle.lasso_parts.specs.Held.{Held};
     ghost use Rattle.lasso_parts.specs.Index.{IsIndexOf};
     ghost use Rattle.lasso_parts.specs.Texts.{Fits};
+    ghost use Rattle.lasso_single.specs.Interner.{Interner};
 
-    ghost Value = { Held };
+    ghost Value = { Interner };
 
     ghost view = { λ r. r.list };
 
@@ -118,9 +121,11 @@ impl<K: Key, S: BuildHasher, A: Allocator> Rodeo<K, S, A> {
         self.list.max_memory_usage()
     }
 
-    /// The bytes that all buckets take.
+    /// The bytes that all buckets take. Where the interner was never cleared, that is at most the first
+    /// bucket and four times the bytes copied in, whatever limits were set between.
     pub fn current_memory_usage(&self) -> usize
-        ensures { result ≡ self.now.account.usage }
+        ensures usage { result ≡ self.now.account.usage }
+        ensures waste { self.now.is_cleared ≡ false → result ≤ self.now.first + 4 * self.now.copied }
     {
         self.list.memory_usage()
     }
@@ -131,7 +136,10 @@ impl<K: Key, S: BuildHasher, A: Allocator + Clone> Rodeo<K, S, A> {
     /// never refused. A new one is refused where the key type has no key for its position, else where
     /// the memory limit leaves no room for its bytes, else for want of memory; nothing changes then.
     pub fn try_get_or_intern(&mut self, text: &str) -> LassoResult<K>
-        ensures { Interns K.key_at self.old.texts self.old.account text.now result self.new.texts self.new.account }
+        ensures interns { Interns K.key_at self.old.texts self.old.account text.now result self.new.texts self.new.account }
+        ensures copied { OnOk result (self.new.copied ≡ self.old.copied + bytes_added self.old.texts text.now) }
+        ensures same_copied { OnErr result (self.new.copied ≡ self.old.copied) }
+        ensures origin { KeepsOrigin self.old self.new }
     {
         let hash = hash_text(&self.hasher, text);
         if let Some(position) = self.index.find_hashed(&self.list, &self.hasher, hash, text) {

@@ -1,6 +1,7 @@
 //! Changes of a `Rodeo` that add no text: another limit, and a clear.
-ghost use Rattle.std.specs.Prelude.{◌≡◌, []};
+ghost use Rattle.std.specs.Prelude.{◌≡◌, [], true};
 ghost use Rattle.lasso_parts.specs.Account.{clear, with_limit};
+ghost use Rattle.lasso_single.specs.Interner.{KeepsOrigin};
 
 use super::Rodeo;
 use lasso_parts::keys::Key;
@@ -14,6 +15,8 @@ impl<K: Key, S: BuildHasher, A: Allocator> Rodeo<K, S, A> {
     pub fn set_memory_limits(&mut self, limits: MemoryLimits)
         ensures texts { self.new.texts ≡ self.old.texts }
         ensures account { self.new.account ≡ with_limit self.old.account limits }
+        ensures copied { self.new.copied ≡ self.old.copied }
+        ensures origin { KeepsOrigin self.old self.new }
     {
         self.list.set_limit(limits.max_memory_usage());
     }
@@ -24,6 +27,9 @@ impl<K: Key, S: BuildHasher, A: Allocator> Rodeo<K, S, A> {
     pub fn clear(&mut self)
         ensures texts { self.new.texts ≡ [] }
         ensures account { self.new.account ≡ clear self.old.account }
+        ensures copied { self.new.copied ≡ 0 }
+        ensures first { self.new.first ≡ self.old.first }
+        ensures mark { self.new.is_cleared ≡ true }
     {
         self.list.clear();
         self.index.clear();
