@@ -1,7 +1,7 @@
 -- What contracts see of an interner, and what calls that add no bytes leave of it.
-use Rattle.std.specs.Prelude.{◌≡◌, ℕ, Bool, false, List, length, is_some, if◌then◌else◌}
+use Rattle.std.specs.Prelude.{◌≡◌, ℕ, Bool, false, List, [], length, is_some, if◌then◌else◌}
 use Rattle.lasso_parts.specs.Texts.{Text, position_of}
-use Rattle.lasso_parts.specs.Account.{Account}
+use Rattle.lasso_parts.specs.Account.{Account, fresh}
 
 pub record Interner : Type 0 where
   -- the texts in the order of their keys
@@ -14,6 +14,10 @@ pub record Interner : Type 0 where
   pub copied : ℕ
   -- whether it was ever cleared
   pub is_cleared : Bool
+
+-- an interner that was just made, with a first bucket of so many bytes and that limit
+abbrev pub made_with : ℕ → ℕ → Interner
+made_with bytes limit = record { texts = []; account = fresh bytes limit; first = bytes; copied = 0; is_cleared = false }
 
 -- an interner that was just made with a first bucket of so many bytes, into which so many were copied
 abbrev pub IsMadeWith : ℕ → ℕ → Interner → Type 0

@@ -1,2 +1,4 @@
 pub mod Interner
 pub mod Intern
+pub mod Copies
+pub mod Filling

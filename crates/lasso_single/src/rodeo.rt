@@ -1,10 +1,11 @@
 //! `Rodeo`, the interner for one thread.
-ghost use Rattle.std.specs.Prelude.{◌≡◌, ◌==◌, ◌+◌, ◌*◌, ◌<◌, ◌≤◌, false, length, Some, OnOk, OnErr, is_some, IsTrue, ◌↔◌, slice_get, option_map};
+ghost use Rattle.std.specs.Prelude.{◌≡◌, ◌==◌, ◌+◌, ◌*◌, ◌<◌, ◌≤◌, false, length, Some, MatchResult, is_some, IsTrue, ◌↔◌, slice_get, option_map};
 ghost use Rattle.lasso_parts.specs.Texts.{position_of, key_of, IsDistinct, Fits};
 ghost use Rattle.lasso_single.specs.Intern.{Interns};
 ghost use Rattle.lasso_single.specs.Interner.{KeepsOrigin, bytes_added};
 
 mod changes;
+mod clones;
 mod interning;
 mod makers;
 #[cfg(test)]
@@ -137,8 +138,7 @@ impl<K: Key, S: BuildHasher, A: Allocator + Clone> Rodeo<K, S, A> {
     /// the memory limit leaves no room for its bytes, else for want of memory; nothing changes then.
     pub fn try_get_or_intern(&mut self, text: &str) -> LassoResult<K>
         ensures interns { Interns K.key_at self.old.texts self.old.account text.now result self.new.texts self.new.account }
-        ensures copied { OnOk result (self.new.copied ≡ self.old.copied + bytes_added self.old.texts text.now) }
-        ensures same_copied { OnErr result (self.new.copied ≡ self.old.copied) }
+        ensures copied { MatchResult result (λ _. self.new.copied ≡ self.old.copied + bytes_added self.old.texts text.now) (λ _. self.new.copied ≡ self.old.copied) }
         ensures origin { KeepsOrigin self.old self.new }
     {
         let hash = hash_text(&self.hasher, text);

@@ -1,6 +1,7 @@
 //! `TextList`: the texts of an interner in order, over the memory that holds them.
-ghost use Rattle.std.specs.Prelude.{◌≡◌, ◌+◌, ◌*◌, ◌<◌, ◌≤◌, ◌++◌, [], ◌∷◌, true, false, length, IsTrue, ◌↔◌, IsSome, Some, IfOk, IfErr, OnOk, OnErr, slice_get, option_map};
+ghost use Rattle.std.specs.Prelude.{◌≡◌, ◌+◌, ◌*◌, ◌^◌, ◌<◌, ◌≤◌, ◌++◌, [], ◌∷◌, true, false, length, IsTrue, ◌↔◌, IsSome, Some, IfOk, IfErr, OnOk, OnErr, slice_get, option_map, SomeIff};
 ghost use Rattle.lasso_parts.specs.Account.{fresh, store, clear, with_limit};
+ghost use Rattle.lasso_single.specs.Copies.{bytes_of};
 ghost use Rattle.lasso_single.specs.Interner.{IsMadeWith, KeepsOrigin};
 ghost use Rattle.lasso_parts.specs.declared.util.LassoErrorKind.TheVariants.{FailedAllocation};
 
@@ -130,6 +131,31 @@ impl<A: Allocator> TextList<A> {
         ensures { length self.now.texts ≤ result }
     {
         self.slots.capacity()
+    }
+
+    /// How many bytes the texts have in all, or `None` where a `usize` can't count them.
+    pub(crate) fn bytes(&self) -> Option<usize>
+        ensures { SomeIff result (bytes_of self.now.texts < 2 ^ 64) (bytes_of self.now.texts) }
+    {
+        let mut bytes: usize = 0;
+        for position in 0..self.len() {
+            bytes = bytes.checked_add(self.text_at(position).len())?;
+        }
+        Some(bytes)
+    }
+
+    /// The allocator of the list.
+    pub(crate) fn allocator(&self) -> &A {
+        self.slots.allocator()
+    }
+
+    /// Makes room for so many texts more. Where memory is wanting, the list is the same too.
+    pub(crate) fn reserve(&mut self, additional: usize) -> LassoResult<()>
+        ensures same { self.new ≡ self.old }
+        ensures refused { IfErr result (λ error. error ≡ FailedAllocation) }
+    {
+        self.slots.reserve(additional)?;
+        Ok(())
     }
 
     /// Puts a text at the end of the list as it is, with no copy. It is refused for want of memory alone,

@@ -1,5 +1,5 @@
 //! The calls of a `Rodeo` that intern a text, beside `try_get_or_intern`.
-ghost use Rattle.std.specs.Prelude.{◌≡◌, ◌+◌, OnOk, OnErr};
+ghost use Rattle.std.specs.Prelude.{◌≡◌, ◌+◌, MatchResult};
 ghost use Rattle.lasso_single.specs.Intern.{Interns, InternsStatic};
 ghost use Rattle.lasso_single.specs.Interner.{KeepsOrigin, bytes_added};
 
@@ -15,8 +15,7 @@ impl<K: Key, S: BuildHasher, A: Allocator + Clone> Rodeo<K, S, A> {
     /// `try_get_or_intern`, with the same refusals.
     pub fn get_or_intern(&mut self, text: &str) -> LassoResult<K>
         ensures interns { Interns K.key_at self.old.texts self.old.account text.now result self.new.texts self.new.account }
-        ensures copied { OnOk result (self.new.copied ≡ self.old.copied + bytes_added self.old.texts text.now) }
-        ensures same_copied { OnErr result (self.new.copied ≡ self.old.copied) }
+        ensures copied { MatchResult result (λ _. self.new.copied ≡ self.old.copied + bytes_added self.old.texts text.now) (λ _. self.new.copied ≡ self.old.copied) }
         ensures origin { KeepsOrigin self.old self.new }
     {
         self.try_get_or_intern(text)
