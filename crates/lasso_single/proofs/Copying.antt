@@ -3,7 +3,7 @@
 -- The text at position i is none of those before it, since the list is distinct, and position i has a key,
 -- since the list fits the keys. So interning it either puts it last and stores its bytes, or is refused by the
 -- limit or for want of memory: no text is found, and no key is wanting.
-use Rattle.std.proofs.Common.{◌≡◌, ℕ, ◌+◌, ◌-◌, ◌<◌, ◌≤◌, ◌⊎◌, inl, inr, List, [], ◌∷◌, ◌++◌, length, take, drop, get_or, slice_get, Option, Some, None, IsSome, is_some, cond, max, Result, Ok, Err, MatchResult, refl, sym, subst, ap, ◌∙◌, arith}
+use Rattle.std.proofs.Common.{◌≡◌, ℕ, ◌+◌, ◌<◌, ◌≤◌, ◌⊎◌, inl, inr, List, [], ◌∷◌, ◌++◌, length, take, drop, slice_get, Option, Some, None, IsSome, is_some, cond, max, Result, Ok, Err, MatchResult, refl, sym, subst, ap, ◌∙◌, arith}
 use Rattle.std.specs.Prelude.{option_and_then}
 use Rattle.std.proofs.lemmas.Grind.{common_steps}
 use Rattle.std.proofs.lemmas.Bool.Decides.{nat_tests}
@@ -14,7 +14,7 @@ use Rattle.lasso_parts.specs.Account.{Account, fresh, store}
 use Rattle.lasso_parts.specs.Held.{Held}
 use Rattle.lasso_parts.specs.Texts.{Text, position_of, IsDistinct, Fits}
 use Rattle.lasso_parts.specs.declared.util.LassoError.{LassoError}
-use Rattle.lasso_parts.specs.declared.util.LassoErrorKind.TheVariants.{MemoryLimitReached, KeySpaceExhaustion, FailedAllocation}
+use Rattle.lasso_parts.specs.declared.util.LassoErrorKind.TheVariants.{MemoryLimitReached, FailedAllocation}
 use Rattle.lasso_parts.proofs.IndexLaws.{slice_get-append_left, one_position, position_of_none}
 use Rattle.lasso_single.specs.Copies.{bytes_of, store_all, StopsAt, clone_size, clone_of}
 use Rattle.lasso_single.specs.Filling.{InternsIn}

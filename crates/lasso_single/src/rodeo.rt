@@ -6,6 +6,7 @@ ghost use Rattle.lasso_single.specs.Interner.{KeepsOrigin, bytes_added};
 
 mod changes;
 mod clones;
+mod filling;
 mod interning;
 mod makers;
 #[cfg(test)]
