@@ -5,4 +5,5 @@ pub use lasso_parts::keys::{Key, LargeSpur, MicroSpur, MiniSpur, Spur};
 pub use lasso_parts::util::{
     Capacity, FixedState, LassoError, LassoErrorKind, LassoResult, MemoryLimits,
 };
+pub use lasso_single::commands::{Command, Reply, run_commands};
 pub use lasso_single::rodeo::Rodeo;

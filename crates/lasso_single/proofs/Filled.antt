@@ -5,6 +5,7 @@
 use Rattle.std.proofs.Common.{◌≡◌, ℕ, List, [], ◌∷◌, ◌++◌, map, Option, Some, Result, Ok, Err, MatchResult, refl, sym, subst}
 use Rattle.std.specs.Iterator.{Yields}
 use Rattle.std.proofs.lemmas.List.{map_push}
+use Rattle.std.proofs.lemmas.Result.{MatchResult-weaker}
 use Rattle.lasso_parts.specs.Texts.{Text}
 use Rattle.lasso_parts.specs.declared.util.LassoError.{LassoError}
 use Rattle.lasso_single.specs.Filling.{InternsIn, extend}
@@ -44,3 +45,9 @@ extend_turn {K} key_at text_of old mid new items item text one reply h lent inte
 pub yields_push : {S T : Type 0} (steps : S → Option T → S → Type 0) (from to after : S) (items : List T) (item : T) → Yields steps from items to → steps to (Some item) after → Yields steps from (items ++ item ∷ []) after
 yields_push steps from to after [] item gave step = (after, subst (λ s. steps s (Some item) after) (sym gave) step, refl)
 yields_push steps from to after (x ∷ xs) item gave step = (gave.0, gave.1, yields_push steps gave.0 to after xs item gave.2 step)
+
+-- texts after a refused one change nothing
+pub extend_stopped : {K : Type 0} (key_at : ℕ → Option K) (old new : Interner) (texts more : List Text) (error : LassoError) → extend key_at old texts (Err error) new → extend key_at old (texts ++ more) (Err error) new
+extend_stopped key_at old new [] more error h = let e = h.0 in cc
+extend_stopped key_at old new (t ∷ ts) more error h =
+    (h.0, h.1, h.2, MatchResult-weaker h.0 h.3 (λ k others. extend_stopped key_at h.1 new ts more error others) (λ e last. last))

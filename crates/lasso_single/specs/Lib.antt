@@ -2,3 +2,4 @@ pub mod Interner
 pub mod Intern
 pub mod Copies
 pub mod Filling
+pub mod Command
