@@ -15,4 +15,5 @@ pub use lasso_parts::slots::{Slot, text_of};
 pub use lasso_parts::util::{
     Capacity, FixedState, LassoError, LassoErrorKind, LassoResult, MemoryLimits,
 };
+pub use lasso_single::commands::{Command, Reply, run_commands};
 pub use lasso_single::rodeo::Rodeo;

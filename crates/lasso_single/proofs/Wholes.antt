@@ -2,7 +2,7 @@
 --
 -- Both hold of the empty list. A table that made room holds the same positions, and a refused push leaves the
 -- texts, so both stay. A text that was not found goes last: its position is the list's length, which has a key.
-use Rattle.std.proofs.Common.{◌≡◌, ℕ, ◌+◌, ◌<◌, List, [], ◌∷◌, ◌++◌, length, Option, Some, None, IsSome, sym, subst, ap, arith}
+use Rattle.std.proofs.Common.{◌≡◌, ℕ, List, [], ◌∷◌, ◌++◌, length, Option, None, IsSome, sym, subst, arith}
 use Rattle.std.specs.Prelude.{◌⊎◌, ◌↔◌}
 use Rattle.std.proofs.lemmas.List.{length_push}
 use Rattle.lasso_parts.specs.Texts.{Text, position_of, Fits}

@@ -42,3 +42,26 @@ Interns key_at texts account text reply texts' account' =
     (λ k. (interned key_at before text ≡ Ok (record { texts = texts'; account = account' })) × (key_at (place texts text) ≡ Some k))
     (λ error. (texts' ≡ texts) × (account' ≡ account) × ((interned key_at before text ≡ Err error)
     ⊎ ((error ≡ FailedAllocation) × (position_of texts text ≡ None) × IsOk (interned key_at before text))))
+
+-- a new text that has a key is kept as it is, and the account is not asked
+abbrev pub kept_or_refused : {K : Type 0} → Held → Text → Option K → Result Held LassoError
+kept_or_refused held text None = Err KeySpaceExhaustion
+kept_or_refused held text (Some _) = Ok (with_text held text held.account)
+
+-- a text that is there changes nothing
+abbrev pub found_or_kept : {K : Type 0} → (ℕ → Option K) → Held → Text → Option ℕ → Result Held LassoError
+found_or_kept key_at held text (Some _) = Ok held
+found_or_kept key_at held text None = kept_or_refused held text (key_at (length held.texts))
+
+-- what interning a text that lives as long as the program leaves where memory is found, or why it is refused
+abbrev pub interned_static : {K : Type 0} → (ℕ → Option K) → Held → Text → Result Held LassoError
+interned_static key_at held text = found_or_kept key_at held text (position_of held.texts text)
+
+-- the same as `Interns` for a text that is kept as it is
+abbrev pub InternsStatic : {K : Type 0} → (ℕ → Option K) → List Text → Account → Text → Result K LassoError → List Text → Account → Type 0
+InternsStatic key_at texts account text reply texts' account' =
+    let before : Held = record { texts = texts; account = account } in
+    MatchResult reply
+    (λ k. (interned_static key_at before text ≡ Ok (record { texts = texts'; account = account' })) × (key_at (place texts text) ≡ Some k))
+    (λ error. (texts' ≡ texts) × (account' ≡ account) × ((interned_static key_at before text ≡ Err error)
+    ⊎ ((error ≡ FailedAllocation) × (position_of texts text ≡ None) × IsOk (interned_static key_at before text))))

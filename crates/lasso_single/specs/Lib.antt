@@ -1,1 +1,5 @@
+pub mod Interner
 pub mod Intern
+pub mod Copies
+pub mod Filling
+pub mod Command

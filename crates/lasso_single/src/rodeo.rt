@@ -1,8 +1,13 @@
 //! `Rodeo`, the interner for one thread.
-ghost use Rattle.std.specs.Prelude.{◌≡◌, ◌<◌, length, Some, is_some, IsTrue, ◌↔◌, slice_get, option_map};
+ghost use Rattle.std.specs.Prelude.{◌≡◌, ◌==◌, ◌+◌, ◌*◌, ◌<◌, ◌≤◌, false, length, Some, MatchResult, is_some, IsTrue, ◌↔◌, slice_get, option_map};
 ghost use Rattle.lasso_parts.specs.Texts.{position_of, key_of, IsDistinct, Fits};
 ghost use Rattle.lasso_single.specs.Intern.{Interns};
+ghost use Rattle.lasso_single.specs.Interner.{KeepsOrigin, bytes_added};
 
+mod changes;
+mod clones;
+mod filling;
+mod interning;
 mod makers;
 #[cfg(test)]
 mod tests;
@@ -16,7 +21,9 @@ use std::hash::BuildHasher;
 use std::marker::Model;
 
 /// An interner for one thread: a list of distinct texts, in which a text at position n has the key of
-/// number n, and beside it an account of the memory that the texts take.
+/// number n, and beside it an account of the memory that the texts take. Contracts see the texts, the
+/// account, the bytes of the first bucket, the bytes copied in since the last clear, and whether there
+/// was one.
 pub struct Rodeo<K: Key, S: BuildHasher, A: Allocator> {
     list: TextList<A>,
     index: Index<K, A>,
@@ -26,11 +33,11 @@ pub struct Rodeo<K: Key, S: BuildHasher, A: Allocator> {
 impl<K: Key, S: BuildHasher, A: Allocator> Model for Rodeo<K, S, A> {
     ghost use Rattle.std.specs.Prelude.{length};
     ghost use Rattle.lasso_parts.specs.Hashing.{text_hash};
-    ghost use Rattle.lasso_parts.specs.Held.{Held};
     ghost use Rattle.lasso_parts.specs.Index.{IsIndexOf};
     ghost use Rattle.lasso_parts.specs.Texts.{Fits};
+    ghost use Rattle.lasso_single.specs.Interner.{Interner};
 
-    ghost Value = { Held };
+    ghost Value = { Interner };
 
     ghost view = { λ r. r.list };
 
@@ -59,6 +66,13 @@ impl<K: Key, S: BuildHasher, A: Allocator> Rodeo<K, S, A> {
         K::try_from_usize(position)
     }
 
+    /// Whether the text is there.
+    pub fn contains(&self, text: &str) -> bool
+        ensures { result ≡ is_some (position_of self.now.texts text.now) }
+    {
+        self.get(text).is_some()
+    }
+
     /// Whether the key stands for a text of this interner.
     pub fn contains_key(&self, key: K) -> bool
         ensures { IsTrue result ↔ (K.number key < length self.now.texts) }
@@ -81,6 +95,14 @@ impl<K: Key, S: BuildHasher, A: Allocator> Rodeo<K, S, A> {
         self.list.text_at(key.into_usize())
     }
 
+    /// The key's text: the same call as `resolve`, with the same condition.
+    pub fn resolve_unchecked(&self, key: K) -> &str
+        requires { K.number key < length self.now.texts }
+        ensures { slice_get self.now.texts (K.number key) ≡ Some result.now }
+    {
+        self.resolve(key)
+    }
+
     /// The number of texts.
     pub fn len(&self) -> usize
         ensures value { result ≡ length self.now.texts }
@@ -90,9 +112,32 @@ impl<K: Key, S: BuildHasher, A: Allocator> Rodeo<K, S, A> {
         self.list.len()
     }
 
-    /// The bytes that all buckets take.
+    /// Whether there is no text.
+    pub fn is_empty(&self) -> bool
+        ensures { result ≡ (length self.now.texts == 0) }
+    {
+        self.list.len() == 0
+    }
+
+    /// For how many texts the list has room: at least as many as there are.
+    pub fn capacity(&self) -> usize
+        ensures { length self.now.texts ≤ result }
+    {
+        self.list.capacity()
+    }
+
+    /// The most bytes that all buckets may take.
+    pub fn max_memory_usage(&self) -> usize
+        ensures { result ≡ self.now.account.limit }
+    {
+        self.list.max_memory_usage()
+    }
+
+    /// The bytes that all buckets take. Where the interner was never cleared, that is at most the first
+    /// bucket and four times the bytes copied in, whatever limits were set between.
     pub fn current_memory_usage(&self) -> usize
-        ensures { result ≡ self.now.account.usage }
+        ensures usage { result ≡ self.now.account.usage }
+        ensures waste { self.now.is_cleared ≡ false → result ≤ self.now.first + 4 * self.now.copied }
     {
         self.list.memory_usage()
     }
@@ -103,7 +148,9 @@ impl<K: Key, S: BuildHasher, A: Allocator + Clone> Rodeo<K, S, A> {
     /// never refused. A new one is refused where the key type has no key for its position, else where
     /// the memory limit leaves no room for its bytes, else for want of memory; nothing changes then.
     pub fn try_get_or_intern(&mut self, text: &str) -> LassoResult<K>
-        ensures { Interns K.key_at self.old.texts self.old.account text.now result self.new.texts self.new.account }
+        ensures interns { Interns K.key_at self.old.texts self.old.account text.now result self.new.texts self.new.account }
+        ensures copied { MatchResult result (λ _. self.new.copied ≡ self.old.copied + bytes_added self.old.texts text.now) (λ _. self.new.copied ≡ self.old.copied) }
+        ensures origin { KeepsOrigin self.old self.new }
     {
         let hash = hash_text(&self.hasher, text);
         if let Some(position) = self.index.find_hashed(&self.list, &self.hasher, hash, text) {

@@ -1,6 +1,8 @@
 //! `TextList`: the texts of an interner in order, over the memory that holds them.
-ghost use Rattle.std.specs.Prelude.{◌≡◌, ◌<◌, ◌++◌, [], ◌∷◌, length, IsTrue, ◌↔◌, IsSome, Some, IfOk, IfErr, OnOk, OnErr, slice_get, option_map};
-ghost use Rattle.lasso_parts.specs.Account.{fresh, store};
+ghost use Rattle.std.specs.Prelude.{◌≡◌, ◌+◌, ◌*◌, ◌^◌, ◌<◌, ◌≤◌, ◌++◌, [], ◌∷◌, true, false, length, IsTrue, ◌↔◌, IsSome, Some, IfOk, IfErr, OnOk, OnErr, slice_get, option_map, SomeIff};
+ghost use Rattle.lasso_parts.specs.Account.{fresh, store, clear, with_limit};
+ghost use Rattle.lasso_single.specs.Copies.{bytes_of};
+ghost use Rattle.lasso_single.specs.Interner.{IsMadeWith, KeepsOrigin};
 ghost use Rattle.lasso_parts.specs.declared.util.LassoErrorKind.TheVariants.{FailedAllocation};
 
 use lasso_parts::arena::Arena;
@@ -10,24 +12,30 @@ use lasso_parts::util::{Capacity, LassoResult, MemoryLimits};
 use std::alloc::Allocator;
 use std::marker::Model;
 
-/// A list of texts that only grows at its end, and the arena that holds the copied ones. Contracts see
-/// the texts and the account of the memory.
+/// A list of texts that grows at its end, and the arena that holds the copied ones. Contracts see the
+/// texts, the account of the memory, the first bucket's bytes, the bytes copied in since the last clear,
+/// and whether there was one. Where there was none, at most the first bucket and four times the bytes
+/// copied in are taken.
 #[derive(Drop)]
 pub(crate) struct TextList<A: Allocator> {
     slots: Vec<Slot, A>,
     arena: Arena<A>,
+    first: usize,
+    is_cleared: bool,
 }
 
 impl<A: Allocator> Model for TextList<A> {
-    ghost use Rattle.lasso_parts.specs.Arena.{account_of};
-    ghost use Rattle.lasso_parts.specs.Held.{Held};
+    ghost use Rattle.std.specs.Prelude.{◌≡◌, false};
+    ghost use Rattle.lasso_parts.specs.Arena.{account_of, copied_of};
     ghost use Rattle.lasso_parts.specs.Slots.{texts_of, AllThere};
+    ghost use Rattle.lasso_parts.specs.Waste.{IsThrifty};
+    ghost use Rattle.lasso_single.specs.Interner.{Interner};
 
-    ghost Value = { Held };
+    ghost Value = { Interner };
 
-    ghost view = { λ l. record { texts = texts_of l.arena.all l.slots.items; account = account_of l.arena } };
+    ghost view = { λ l. record { texts = texts_of l.arena.all l.slots.items; account = account_of l.arena; first = l.first; copied = copied_of l.arena; is_cleared = l.is_cleared } };
 
-    ghost invariant = { λ l. AllThere l.arena.all l.slots.items };
+    ghost invariant = { λ l. AllThere l.arena.all l.slots.items × (l.is_cleared ≡ false → IsThrifty l.first (copied_of l.arena) (account_of l.arena)) };
 }
 
 impl<A: Allocator> Texts for TextList<A> {
@@ -44,11 +52,17 @@ impl<A: Allocator + Clone> TextList<A> {
     pub(crate) fn new(alloc: A, capacity: Capacity, limits: MemoryLimits) -> LassoResult<Self>
         ensures texts { IfOk result (λ l. l.texts ≡ []) }
         ensures account { IfOk result (λ l. l.account ≡ fresh capacity.bytes limits) }
+        ensures made { IfOk result (IsMadeWith capacity.bytes 0) }
         ensures refused { IfErr result (λ error. error ≡ FailedAllocation) }
     {
         let slots = Vec::with_capacity(alloc.clone()?, capacity.strings())?;
         let arena = Arena::new(alloc, capacity.bytes(), limits.max_memory_usage())?;
-        Ok(TextList { slots, arena })
+        Ok(TextList {
+            slots,
+            arena,
+            first: capacity.bytes(),
+            is_cleared: false,
+        })
     }
 
     /// Copies a text to the end of the list. The limit must admit it, so that it is refused for want of
@@ -57,9 +71,12 @@ impl<A: Allocator + Clone> TextList<A> {
         requires { IsSome (store self.old.account (length text.now)) }
         ensures texts { OnOk result (self.new.texts ≡ self.old.texts ++ text.now ∷ []) }
         ensures account { OnOk result (store self.old.account (length text.now) ≡ Some self.new.account) }
+        ensures copied { OnOk result (self.new.copied ≡ self.old.copied + length text.now) }
+        ensures origin { KeepsOrigin self.old self.new }
         ensures refused { IfErr result (λ error. error ≡ FailedAllocation) }
         ensures same_texts { OnErr result (self.new.texts ≡ self.old.texts) }
         ensures same_account { OnErr result (self.new.account ≡ self.old.account) }
+        ensures same_copied { OnErr result (self.new.copied ≡ self.old.copied) }
     {
         self.slots.reserve(1)?;
         let span = self.arena.store_str(text)?;
@@ -96,8 +113,86 @@ impl<A: Allocator> TextList<A> {
 
     /// The bytes that all buckets take.
     pub(crate) fn memory_usage(&self) -> usize
-        ensures { result ≡ self.now.account.usage }
+        ensures usage { result ≡ self.now.account.usage }
+        ensures waste { self.now.is_cleared ≡ false → result ≤ self.now.first + 4 * self.now.copied }
     {
         self.arena.memory_usage()
+    }
+
+    /// The most bytes that all buckets may take.
+    pub(crate) fn max_memory_usage(&self) -> usize
+        ensures { result ≡ self.now.account.limit }
+    {
+        self.arena.max_memory_usage()
+    }
+
+    /// For how many texts there is room without another growth of the list, those there included.
+    pub(crate) fn capacity(&self) -> usize
+        ensures { length self.now.texts ≤ result }
+    {
+        self.slots.capacity()
+    }
+
+    /// How many bytes the texts have in all, or `None` where a `usize` can't count them.
+    pub(crate) fn bytes(&self) -> Option<usize>
+        ensures { SomeIff result (bytes_of self.now.texts < 2 ^ 64) (bytes_of self.now.texts) }
+    {
+        let mut bytes: usize = 0;
+        for position in 0..self.len() {
+            bytes = bytes.checked_add(self.text_at(position).len())?;
+        }
+        Some(bytes)
+    }
+
+    /// The allocator of the list.
+    pub(crate) fn allocator(&self) -> &A {
+        self.slots.allocator()
+    }
+
+    /// Makes room for so many texts more. Where memory is wanting, the list is the same too.
+    pub(crate) fn reserve(&mut self, additional: usize) -> LassoResult<()>
+        ensures same { self.new ≡ self.old }
+        ensures refused { IfErr result (λ error. error ≡ FailedAllocation) }
+    {
+        self.slots.reserve(additional)?;
+        Ok(())
+    }
+
+    /// Puts a text at the end of the list as it is, with no copy. It is refused for want of memory alone,
+    /// and nothing changes then.
+    pub(crate) fn push_static(&mut self, text: &'static str) -> LassoResult<()>
+        ensures texts { OnOk result (self.new.texts ≡ self.old.texts ++ text.now ∷ []) }
+        ensures account { self.new.account ≡ self.old.account }
+        ensures copied { self.new.copied ≡ self.old.copied }
+        ensures origin { KeepsOrigin self.old self.new }
+        ensures refused { IfErr result (λ error. error ≡ FailedAllocation) }
+        ensures same_texts { OnErr result (self.new.texts ≡ self.old.texts) }
+    {
+        self.slots.reserve(1)?;
+        self.slots.push_reserved(Slot::Static(text));
+        Ok(())
+    }
+
+    /// Sets the most bytes that all buckets may take. It may lie below what they take already.
+    pub(crate) fn set_limit(&mut self, limit: usize)
+        ensures texts { self.new.texts ≡ self.old.texts }
+        ensures account { self.new.account ≡ with_limit self.old.account limit }
+        ensures copied { self.new.copied ≡ self.old.copied }
+        ensures origin { KeepsOrigin self.old self.new }
+    {
+        self.arena.set_limit(limit);
+    }
+
+    /// Forgets every text and keeps the memory.
+    pub(crate) fn clear(&mut self)
+        ensures texts { self.new.texts ≡ [] }
+        ensures account { self.new.account ≡ clear self.old.account }
+        ensures copied { self.new.copied ≡ 0 }
+        ensures first { self.new.first ≡ self.old.first }
+        ensures mark { self.new.is_cleared ≡ true }
+    {
+        self.is_cleared = true;
+        self.slots.clear();
+        self.arena.clear();
     }
 }

@@ -1,6 +1,7 @@
 //! The makers of a `Rodeo`: by default or given capacity, limit and hasher.
 ghost use Rattle.std.specs.Prelude.{◌≡◌, ◌-◌, ◌^◌, [], IfOk, IfErr};
 ghost use Rattle.lasso_parts.specs.Account.{fresh};
+ghost use Rattle.lasso_single.specs.Interner.{IsMadeWith};
 ghost use Rattle.lasso_parts.specs.declared.util.LassoErrorKind.TheVariants.{FailedAllocation};
 
 use super::Rodeo;
@@ -17,6 +18,7 @@ impl<A: Allocator + Clone> Rodeo<Spur, FixedState, A> {
     pub fn default(alloc: A) -> LassoResult<Self>
         ensures texts { IfOk result (λ r. r.texts ≡ []) }
         ensures account { IfOk result (λ r. r.account ≡ fresh 4096 (2 ^ 64 - 1)) }
+        ensures made { IfOk result (IsMadeWith 4096 0) }
         ensures refused { IfErr result (λ error. error ≡ FailedAllocation) }
     {
         Rodeo::new(alloc)
@@ -28,6 +30,7 @@ impl<K: Key, A: Allocator + Clone> Rodeo<K, FixedState, A> {
     pub fn new(alloc: A) -> LassoResult<Self>
         ensures texts { IfOk result (λ r. r.texts ≡ []) }
         ensures account { IfOk result (λ r. r.account ≡ fresh 4096 (2 ^ 64 - 1)) }
+        ensures made { IfOk result (IsMadeWith 4096 0) }
         ensures refused { IfErr result (λ error. error ≡ FailedAllocation) }
     {
         Rodeo::with_hasher(alloc, FixedState::new())
@@ -37,6 +40,7 @@ impl<K: Key, A: Allocator + Clone> Rodeo<K, FixedState, A> {
     pub fn with_capacity(alloc: A, capacity: Capacity) -> LassoResult<Self>
         ensures texts { IfOk result (λ r. r.texts ≡ []) }
         ensures account { IfOk result (λ r. r.account ≡ fresh capacity.bytes (2 ^ 64 - 1)) }
+        ensures made { IfOk result (IsMadeWith capacity.bytes 0) }
         ensures refused { IfErr result (λ error. error ≡ FailedAllocation) }
     {
         Rodeo::with_capacity_and_hasher(alloc, capacity, FixedState::new())
@@ -47,6 +51,7 @@ impl<K: Key, A: Allocator + Clone> Rodeo<K, FixedState, A> {
     pub fn with_memory_limits(alloc: A, limits: MemoryLimits) -> LassoResult<Self>
         ensures texts { IfOk result (λ r. r.texts ≡ []) }
         ensures account { IfOk result (λ r. r.account ≡ fresh 4096 limits) }
+        ensures made { IfOk result (IsMadeWith 4096 0) }
         ensures refused { IfErr result (λ error. error ≡ FailedAllocation) }
     {
         Rodeo::with_capacity_and_memory_limits(alloc, Capacity::default(), limits)
@@ -61,6 +66,7 @@ impl<K: Key, A: Allocator + Clone> Rodeo<K, FixedState, A> {
     ) -> LassoResult<Self>
         ensures texts { IfOk result (λ r. r.texts ≡ []) }
         ensures account { IfOk result (λ r. r.account ≡ fresh capacity.bytes limits) }
+        ensures made { IfOk result (IsMadeWith capacity.bytes 0) }
         ensures refused { IfErr result (λ error. error ≡ FailedAllocation) }
     {
         let hasher = FixedState::new();
@@ -74,6 +80,7 @@ impl<K: Key, S: BuildHasher + Drop, A: Allocator + Clone> Rodeo<K, S, A> {
     pub fn with_hasher(alloc: A, hasher: S) -> LassoResult<Self>
         ensures texts { IfOk result (λ r. r.texts ≡ []) }
         ensures account { IfOk result (λ r. r.account ≡ fresh 4096 (2 ^ 64 - 1)) }
+        ensures made { IfOk result (IsMadeWith 4096 0) }
         ensures refused { IfErr result (λ error. error ≡ FailedAllocation) }
     {
         Rodeo::with_capacity_and_hasher(alloc, Capacity::default(), hasher)
@@ -84,6 +91,7 @@ impl<K: Key, S: BuildHasher + Drop, A: Allocator + Clone> Rodeo<K, S, A> {
     pub fn with_capacity_and_hasher(alloc: A, capacity: Capacity, hasher: S) -> LassoResult<Self>
         ensures texts { IfOk result (λ r. r.texts ≡ []) }
         ensures account { IfOk result (λ r. r.account ≡ fresh capacity.bytes (2 ^ 64 - 1)) }
+        ensures made { IfOk result (IsMadeWith capacity.bytes 0) }
         ensures refused { IfErr result (λ error. error ≡ FailedAllocation) }
     {
         let limits = MemoryLimits::default();
@@ -101,6 +109,7 @@ impl<K: Key, S: BuildHasher + Drop, A: Allocator + Clone> Rodeo<K, S, A> {
     ) -> LassoResult<Self>
         ensures texts { IfOk result (λ r. r.texts ≡ []) }
         ensures account { IfOk result (λ r. r.account ≡ fresh capacity.bytes limits) }
+        ensures made { IfOk result (IsMadeWith capacity.bytes 0) }
         ensures refused { IfErr result (λ error. error ≡ FailedAllocation) }
     {
         let list = TextList::new(alloc.clone()?, capacity, limits)?;

@@ -1,5 +1,4 @@
-use Rattle.std.proofs.Common.{◌≡◌, ◌∙◌, ℕ, length, Option, Some, None, IsSome, subst, sym, refl}
-use Rattle.lasso_parts.specs.Texts.{position_of}
+use Rattle.std.proofs.Common.{◌≡◌, ℕ, length, Some, IsSome, subst, sym, refl}
 use Rattle.lasso_single.proofs.Wholes.{whole_reserved, whole_pushed}
 use Rattle.lasso_single.proofs.rodeo.Rodeo.try_get_or_intern.Goals as goal
 

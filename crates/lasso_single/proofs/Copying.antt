@@ -1,0 +1,185 @@
+-- Copying a distinct list of texts, one after another, to the end of an empty list.
+--
+-- The text at position i is none of those before it, since the list is distinct, and position i has a key,
+-- since the list fits the keys. So interning it either puts it last and stores its bytes, or is refused by the
+-- limit or for want of memory: no text is found, and no key is wanting.
+use Rattle.std.proofs.Common.{◌≡◌, ℕ, ◌+◌, ◌<◌, ◌≤◌, ◌⊎◌, inl, inr, List, [], ◌∷◌, ◌++◌, length, take, drop, slice_get, Option, Some, None, IsSome, is_some, cond, max, Result, Ok, Err, MatchResult, refl, sym, subst, ap, ◌∙◌, arith}
+use Rattle.std.specs.Prelude.{option_and_then}
+use Rattle.std.proofs.lemmas.Grind.{common_steps}
+use Rattle.std.proofs.lemmas.Bool.Decides.{nat_tests}
+use Rattle.std.proofs.lemmas.List.{take-append-drop, length-take-le, take_more}
+use Rattle.std.proofs.lemmas.List.Sums.{sum_by_more, sum_by-cons, sum_by-take-le}
+use Rattle.std.proofs.lemmas.Option.{option_and_then_some, slice_get_within, get_or_from_slice_get}
+use Rattle.lasso_parts.specs.Account.{Account, fresh, store}
+use Rattle.lasso_parts.specs.Held.{Held}
+use Rattle.lasso_parts.specs.Texts.{Text, position_of, IsDistinct, Fits}
+use Rattle.lasso_parts.specs.declared.util.LassoError.{LassoError}
+use Rattle.lasso_parts.specs.declared.util.LassoErrorKind.TheVariants.{MemoryLimitReached, FailedAllocation}
+use Rattle.lasso_parts.proofs.IndexLaws.{slice_get-append_left, one_position, position_of_none}
+use Rattle.lasso_single.specs.Copies.{bytes_of, store_all, StopsAt, clone_size, clone_of}
+use Rattle.lasso_single.specs.Filling.{InternsIn}
+use Rattle.lasso_single.specs.Intern.{Interns, with_text, stored_or_refused, keyed_or_refused, found_or_new}
+use Rattle.lasso_single.specs.Interner.{Interner, KeepsOrigin, bytes_added}
+
+-- ---- a new text
+
+new_case : {K : Type 0} (key_at : ℕ → Option K) (held : Held) (text : Text) (p : Option ℕ) (r : Result Held LassoError) → p ≡ None → found_or_new key_at held text p ≡ r → keyed_or_refused held text (key_at (length held.texts)) ≡ r
+new_case key_at held text p r e h = subst (λ (q : Option ℕ). found_or_new key_at held text q ≡ r) e h
+
+keyed_case : {K : Type 0} (held : Held) (text : Text) (o : Option K) (r : Result Held LassoError) → IsSome o → keyed_or_refused held text o ≡ r → stored_or_refused held text (store held.account (length text)) ≡ r
+keyed_case held text None r some h = cc
+keyed_case held text (Some k) r some h = h
+
+stored_ok : (held : Held) (text : Text) (s : Option Account) (b : Held) → stored_or_refused held text s ≡ Ok b → (b ≡ with_text held text b.account) × (s ≡ Some b.account)
+stored_ok held text None b h = cc
+stored_ok held text (Some a) b h = let e : with_text held text a ≡ b = cc in (subst (λ (x : Held). x ≡ with_text held text x.account) e refl, ap (λ (x : Held). Some x.account) e)
+
+stored_err : (held : Held) (text : Text) (s : Option Account) (error : LassoError) → stored_or_refused held text s ≡ Err error → (error ≡ MemoryLimitReached) × (s ≡ None)
+stored_err held text None error h = (cc, refl)
+stored_err held text (Some a) error h = cc
+
+-- what interning a text leaves that is not there and has a key
+pub interns_new : {K : Type 0} (key_at : ℕ → Option K) (texts : List Text) (account : Account) (text : Text) (reply : Result K LassoError) (texts' : List Text) (account' : Account) → Interns key_at texts account text reply texts' account' → position_of texts text ≡ None → IsSome (key_at (length texts))
+    → MatchResult reply (λ _. (texts' ≡ texts ++ text ∷ []) × (store account (length text) ≡ Some account'))
+    (λ error. (texts' ≡ texts) × (account' ≡ account) × ((error ≡ FailedAllocation) ⊎ ((error ≡ MemoryLimitReached) × (store account (length text) ≡ None))))
+interns_new key_at texts account text (Ok k) texts' account' h absent has_key =
+    let held : Held = record { texts = texts; account = account } in
+    let after : Held = record { texts = texts'; account = account' } in
+    let e = keyed_case held text (key_at (length texts)) (Ok after) has_key (new_case key_at held text (position_of texts text) (Ok after) absent h.0) in
+    let s = stored_ok held text (store account (length text)) after e in
+    (ap (λ (x : Held). x.texts) s.0, s.1)
+interns_new key_at texts account text (Err error) texts' account' h absent has_key =
+    let held : Held = record { texts = texts; account = account } in (
+      h.0,
+      h.1,
+      elim h.2 [
+        | inl e ↦ inr (stored_err held text (store account (length text)) error (keyed_case held text (key_at (length texts)) (Err error) has_key (new_case key_at held text (position_of texts text) (Err error) absent e)))
+        | inr w ↦ inl w.0
+      ],
+    )
+
+-- ---- the text at a position of a distinct list
+
+-- it is none of those before it
+pub absent_before : (texts : List Text) (i : ℕ) (text : Text) → IsDistinct texts → slice_get texts i ≡ Some text → position_of (take i texts) text ≡ None
+absent_before texts i text distinct at =
+    let inside : i < length texts = slice_get_within texts i text at in
+    let count : length (take i texts) ≡ i = length-take-le i texts (omega arith) in
+    position_of_none (take i texts) text (λ n l e.
+    let same : slice_get texts n ≡ slice_get (take i texts) n = ap (λ (ts : List Text). slice_get ts n) (sym (take-append-drop i texts)) ∙ slice_get-append_left (take i texts) (drop i texts) n l in
+    let one : n ≡ i = one_position texts n i text distinct (same ∙ e) at in
+    absurd (omega arith))
+
+-- the texts before it and it
+pub take_more_at : (texts : List Text) (i : ℕ) (text : Text) → slice_get texts i ≡ Some text → take (i + 1) texts ≡ take i texts ++ text ∷ []
+take_more_at texts i text at =
+    take_more texts i [] (slice_get_within texts i text at) ∙ ap (λ (t : Text). take i texts ++ t ∷ []) (get_or_from_slice_get texts i text [] at)
+
+-- the bytes of the texts before it and of it
+pub bytes_more_at : (texts : List Text) (i : ℕ) (text : Text) → slice_get texts i ≡ Some text → bytes_of (take (i + 1) texts) ≡ bytes_of (take i texts) + length text
+bytes_more_at texts i text at =
+    sum_by_more (λ (t : Text). length t) texts i [] (slice_get_within texts i text at) ∙ ap (λ (t : Text). bytes_of (take i texts) + length t) (get_or_from_slice_get texts i text [] at)
+
+-- ---- storing texts in order
+
+-- one text more
+pub store_all_push : (a b c : Account) (texts : List Text) (text : Text) → store_all a texts ≡ Some b → store b (length text) ≡ Some c → store_all a (texts ++ text ∷ []) ≡ Some c
+store_all_push a b c [] text e h =
+    let same : a ≡ b = cc in
+    let at_a : store a (length text) ≡ Some c = subst (λ (x : Account). store x (length text) ≡ Some c) (sym same) h in
+    subst (λ (o : Option Account). option_and_then (λ (x : Account). Some x) o ≡ Some c) (sym at_a) refl
+store_all_push a b c (t ∷ ts) text e h =
+    option_and_then_some (λ (x : Account). store_all x ts) (store a (length t)) b e (λ x first others.
+    subst (λ (o : Option Account). option_and_then (λ (y : Account). store_all y (ts ++ text ∷ [])) o ≡ Some c) (sym first) (store_all_push x b c ts text others h))
+
+-- a text that has room takes it from the current bucket
+store_room : (a b : Account) (n : ℕ) → store a n ≡ Some b → n ≤ a.room → b.room + n ≡ a.room
+store_room a b n e fits = grind (arith, common_steps, e)
+
+-- a text that has room is not refused
+pub store_not_refused : (a : Account) (n : ℕ) → n ≤ a.room → store a n ≡ None → ⊥
+store_not_refused a n fits e = grind (arith, common_steps, e)
+
+-- texts that have room take it from the current bucket
+pub store_all_room : (a b : Account) (texts : List Text) → store_all a texts ≡ Some b → bytes_of texts ≤ a.room → b.room + bytes_of texts ≡ a.room
+store_all_room a b [] e fits = let same : a ≡ b = cc in omega (arith, ap (λ (x : Account). x.room) same)
+store_all_room a b (t ∷ ts) e fits =
+    let sums = sum_by-cons (λ (u : Text). length u) t ts in
+    option_and_then_some (λ (x : Account). store_all x ts) (store a (length t)) b e (λ x first others.
+    let here = store_room a x (length t) first (omega arith) in
+    let rest = store_all_room x b ts others (omega arith) in
+    omega arith)
+
+-- ---- one text more is copied
+
+-- the texts before position i are copied to the end of a list that was empty
+pub record CopiedTo (start : Interner) (source : List Text) (i : ℕ) (now : Interner) : Type 0 where
+  pub texts : now.texts ≡ take i source
+  pub account : store_all start.account (take i source) ≡ Some now.account
+  pub copied : now.copied ≡ start.copied + bytes_of (take i source)
+  pub origin : KeepsOrigin start now
+
+pub copied_none : (start : Interner) (texts : List Text) → start.texts ≡ [] → CopiedTo start texts 0 start
+copied_none start texts empty = record { texts = empty; account = refl; copied = omega arith; origin = (refl, refl) }
+
+pub copied_more : {K : Type 0} (key_at : ℕ → Option K) (start : Interner) (texts : List Text) (i : ℕ) (text : Text) (old : Interner) (reply : Result K LassoError) (new : Interner) → IsDistinct texts → Fits key_at (length texts) → slice_get texts i ≡ Some text → CopiedTo start texts i old → InternsIn key_at old text reply new
+    → MatchResult reply (λ _. CopiedTo start texts (i + 1) new) (λ error. StopsAt start.account texts i error new.account × KeepsOrigin start new)
+copied_more {K} key_at start texts i text old reply new distinct fits at so_far interns =
+    let inside : i < length texts = slice_get_within texts i text at in
+    let absent : position_of old.texts text ≡ None = subst (λ (ts : List Text). position_of ts text ≡ None) (sym so_far.texts) (absent_before texts i text distinct at) in
+    let count : length old.texts ≡ i = ap length so_far.texts ∙ length-take-le i texts (omega arith) in
+    let has_key : IsSome (key_at (length old.texts)) = subst (λ (n : ℕ). IsSome (key_at n)) (sym count) (fits i inside) in
+    go reply new absent (interns_new key_at old.texts old.account text reply new.texts new.account interns.0 absent has_key) interns.1 interns.2
+  where
+    go : (reply : Result K LassoError) (new : Interner) → position_of old.texts text ≡ None
+        → MatchResult reply (λ _. (new.texts ≡ old.texts ++ text ∷ []) × (store old.account (length text) ≡ Some new.account)) (λ error. (new.texts ≡ old.texts) × (new.account ≡ old.account) × ((error ≡ FailedAllocation) ⊎ ((error ≡ MemoryLimitReached) × (store old.account (length text) ≡ None))))
+        → MatchResult reply (λ _. new.copied ≡ old.copied + bytes_added old.texts text) (λ _. new.copied ≡ old.copied)
+        → KeepsOrigin old new
+        → MatchResult reply (λ _. CopiedTo start texts (i + 1) new) (λ error. StopsAt start.account texts i error new.account × KeepsOrigin start new)
+    go (Ok k) new absent left copied origin =
+        let more : take (i + 1) texts ≡ take i texts ++ text ∷ [] = take_more_at texts i text at in
+        let added : bytes_added old.texts text ≡ length text = ap (λ (o : Option ℕ). cond (is_some o) 0 (length text)) absent in
+        let bytes = bytes_more_at texts i text at in
+        let stored : store_all start.account (take i texts ++ text ∷ []) ≡ Some new.account = store_all_push start.account old.account new.account (take i texts) text so_far.account left.1 in
+        record {
+          texts = left.0 ∙ ap (λ (ts : List Text). ts ++ text ∷ []) so_far.texts ∙ sym more;
+          account = subst (λ (ts : List Text). store_all start.account ts ≡ Some new.account) (sym more) stored;
+          copied = omega (arith, copied, added, so_far.copied, bytes);
+          origin = (origin.0 ∙ so_far.origin.0, origin.1 ∙ so_far.origin.1);
+        }
+    go (Err error) new absent left copied origin =
+        let reached : store_all start.account (take i texts) ≡ Some new.account = so_far.account ∙ ap (λ (a : Account). Some a) (sym left.1) in
+        let inside : i < length texts = slice_get_within texts i text at in (
+          (
+            reached,
+            elim left.2 [
+              | inl memory ↦ inl (memory, omega arith)
+              | inr limit ↦ inr (limit.0, (text, at, subst (λ (a : Account). store a (length text) ≡ None) (sym left.1) limit.1))
+            ],
+          ),
+          (origin.0 ∙ so_far.origin.0, origin.1 ∙ so_far.origin.1),
+        )
+
+-- ---- a clone
+
+-- one bucket of all bytes has room for each text, so that only want of memory stops
+pub clone_stops : (a : Account) (texts : List Text) (j : ℕ) (error : LassoError) (stopped : Account) → bytes_of texts ≤ a.room → StopsAt a texts j error stopped → error ≡ FailedAllocation
+clone_stops a texts j error stopped fits h = elim h.1 [
+  | inl memory ↦ memory.0
+  | inr limit ↦
+      let text : Text = limit.1.0 in
+      let more = bytes_more_at texts j text limit.1.1 in
+      let all = sum_by-take-le (λ (t : Text). length t) texts (j + 1) in
+      let room = store_all_room a stopped (take j texts) h.0 (omega arith) in
+      absurd (store_not_refused stopped (length text) (omega arith) limit.1.2)
+]
+
+-- all bytes fit into the bucket
+pub bytes-le-clone_size : (texts : List Text) → bytes_of texts ≤ clone_size texts
+bytes-le-clone_size texts = grind (arith, common_steps, nat_tests)
+
+-- the account of a clone, from what it was made with
+pub clone_account : (texts : List Text) (limit size greatest : ℕ) (made done : Account) → size ≡ clone_size texts → greatest ≡ max limit size → made ≡ fresh size greatest → store_all made texts ≡ Some done → clone_of texts limit ≡ Some done
+clone_account texts limit size greatest made done is_size is_greatest is_made h =
+    let same : made ≡ fresh (clone_size texts) (max limit (clone_size texts)) = is_made ∙ ap (λ (m : ℕ). fresh size m) is_greatest ∙ ap (λ (n : ℕ). fresh n (max limit n)) is_size in
+    ap (λ (a : Account). store_all a texts) (sym same) ∙ h

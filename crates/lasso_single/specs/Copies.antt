@@ -1,0 +1,44 @@
+-- What clones of an interner hold, and where copying a list of texts may stop.
+use Rattle.std.specs.Prelude.{◌≡◌, ◌⊎◌, ◌≤◌, ℕ, true, List, [], ◌∷◌, length, take, slice_get, sum_by, max, nat_eq, if◌then◌else◌, Option, Some, None, option_and_then, Result, MatchResult}
+use Rattle.lasso_parts.specs.Account.{Account, fresh, store, clear}
+use Rattle.lasso_parts.specs.Texts.{Text}
+use Rattle.lasso_parts.specs.declared.util.LassoError.{LassoError}
+use Rattle.lasso_parts.specs.declared.util.LassoErrorKind.TheVariants.{MemoryLimitReached, FailedAllocation}
+use Rattle.lasso_single.specs.Interner.{Interner}
+
+-- how many bytes the texts have in all
+abbrev pub bytes_of : List Text → ℕ
+bytes_of texts = sum_by (λ (t : Text). length t) texts
+
+-- the account after the texts are stored in order, or none where the limit refuses one of them
+abbrev pub store_all : Account → List Text → Option Account
+store_all a [] = Some a
+store_all a (t ∷ ts) = option_and_then (λ b. store_all b ts) (store a (length t))
+
+-- the size of one bucket for so many bytes: 4096 where there are none
+abbrev pub bucket_for : ℕ → ℕ
+bucket_for bytes = if nat_eq bytes 0 then 4096 else bytes
+
+-- the size of a clone's one bucket
+abbrev pub clone_size : List Text → ℕ
+clone_size texts = bucket_for (bytes_of texts)
+
+-- the account of a clone: all texts in one bucket, under a limit that is no lower than before and has room for them
+abbrev pub clone_of : List Text → ℕ → Option Account
+clone_of texts limit = store_all (fresh (clone_size texts) (max limit (clone_size texts))) texts
+
+-- copying the texts from that account on stopped with j of them copied: the limit refused the next one, or
+-- memory was wanting
+abbrev pub StopsAt : Account → List Text → ℕ → LassoError → Account → Type 0
+StopsAt account texts j error stopped =
+    (store_all account (take j texts) ≡ Some stopped) × (((error ≡ FailedAllocation) × (j ≤ length texts))
+    ⊎ ((error ≡ MemoryLimitReached) × ((text : Text) × (slice_get texts j ≡ Some text) × (store stopped (length text) ≡ None))))
+
+-- copying the texts into an interner, which is cleared first, leaves just them; or it stops at one of them, and
+-- then leaves no text and the account that was reached, cleared
+abbrev pub clone_into : Interner → List Text → Result (Unit {0}) LassoError → Interner → Type 0
+clone_into old texts reply new =
+    MatchResult reply
+    (λ _. (new.texts ≡ texts) × (store_all (clear old.account) texts ≡ Some new.account) × (new.copied ≡ bytes_of texts))
+    (λ error. (new.texts ≡ []) × (new.copied ≡ 0) × ((j : ℕ) × (stopped : Account) × StopsAt (clear old.account) texts j error stopped × (new.account ≡ clear stopped)))
+    × (new.first ≡ old.first) × (new.is_cleared ≡ true)

@@ -1,0 +1,32 @@
+-- What contracts see of an interner, and what calls that add no bytes leave of it.
+use Rattle.std.specs.Prelude.{◌≡◌, ℕ, Bool, false, List, [], length, is_some, if◌then◌else◌}
+use Rattle.lasso_parts.specs.Texts.{Text, position_of}
+use Rattle.lasso_parts.specs.Account.{Account, fresh}
+
+pub record Interner : Type 0 where
+  -- the texts in the order of their keys
+  pub texts : List Text
+  -- the account of the buckets that copied texts lie in
+  pub account : Account
+  -- the bytes of the first bucket
+  pub first : ℕ
+  -- how many bytes were copied into buckets since it was last cleared, or since it was made
+  pub copied : ℕ
+  -- whether it was ever cleared
+  pub is_cleared : Bool
+
+-- an interner that was just made, with a first bucket of so many bytes and that limit
+abbrev pub made_with : ℕ → ℕ → Interner
+made_with bytes limit = record { texts = []; account = fresh bytes limit; first = bytes; copied = 0; is_cleared = false }
+
+-- an interner that was just made with a first bucket of so many bytes, into which so many were copied
+abbrev pub IsMadeWith : ℕ → ℕ → Interner → Type 0
+IsMadeWith first copied made = (made.first ≡ first) × (made.copied ≡ copied) × (made.is_cleared ≡ false)
+
+-- the first bucket is the same, and nothing was cleared
+abbrev pub KeepsOrigin : Interner → Interner → Type 0
+KeepsOrigin old new = (new.first ≡ old.first) × (new.is_cleared ≡ old.is_cleared)
+
+-- how many bytes a copied text adds to the list: none where it is there
+abbrev pub bytes_added : List Text → Text → ℕ
+bytes_added texts text = if is_some (position_of texts text) then 0 else length text

@@ -1,0 +1,37 @@
+//! Changes of a `Rodeo` that add no text: another limit, and a clear.
+ghost use Rattle.std.specs.Prelude.{◌≡◌, [], true};
+ghost use Rattle.lasso_parts.specs.Account.{clear, with_limit};
+ghost use Rattle.lasso_single.specs.Interner.{KeepsOrigin};
+
+use super::Rodeo;
+use lasso_parts::keys::Key;
+use lasso_parts::util::MemoryLimits;
+use std::alloc::Allocator;
+use std::hash::BuildHasher;
+
+impl<K: Key, S: BuildHasher, A: Allocator> Rodeo<K, S, A> {
+    /// Sets the most bytes that all buckets may take. It may lie below what they take already: they stay,
+    /// and texts that need another bucket are then refused. The texts stay.
+    pub fn set_memory_limits(&mut self, limits: MemoryLimits)
+        ensures texts { self.new.texts ≡ self.old.texts }
+        ensures account { self.new.account ≡ with_limit self.old.account limits }
+        ensures copied { self.new.copied ≡ self.old.copied }
+        ensures origin { KeepsOrigin self.old self.new }
+    {
+        self.list.set_limit(limits.max_memory_usage());
+    }
+
+    /// Forgets every text. The buckets stay, and the current one is filled anew; usage and limit stay. A
+    /// key that was handed out before stands for no text, or for a new one at its position. It takes no
+    /// memory and can't fail.
+    pub fn clear(&mut self)
+        ensures texts { self.new.texts ≡ [] }
+        ensures account { self.new.account ≡ clear self.old.account }
+        ensures copied { self.new.copied ≡ 0 }
+        ensures first { self.new.first ≡ self.old.first }
+        ensures mark { self.new.is_cleared ≡ true }
+    {
+        self.list.clear();
+        self.index.clear();
+    }
+}

@@ -1,0 +1,126 @@
+//! Clones of a `Rodeo`, and copies of one over another.
+ghost use Rattle.std.specs.Prelude.{◌≡◌, ◌≤◌, ◌<◌, ◌+◌, ◌^◌, ℕ, [], Some, Err, IfOk, OnOk, IfErr, length, slice_get};
+ghost use Rattle.lasso_parts.specs.declared.util.LassoErrorKind.TheVariants.{FailedAllocation};
+ghost use Rattle.lasso_single.specs.Copies.{bytes_of, store_all, bucket_for, clone_size, clone_of, clone_into, StopsAt};
+ghost use Rattle.lasso_single.specs.Interner.{IsMadeWith, KeepsOrigin};
+
+use super::Rodeo;
+use lasso_parts::index::{Index, Texts};
+use lasso_parts::keys::Key;
+use lasso_parts::util::{Capacity, LassoError, LassoErrorKind, LassoResult, MemoryLimits};
+use std::alloc::Allocator;
+use std::hash::BuildHasher;
+
+impl<K: Key, S: BuildHasher + Clone, A: Allocator + Clone> Rodeo<K, S, A> {
+    /// An interner with the same texts under the same keys, all copied, static ones too, into one bucket of
+    /// just their bytes (4096 where they have none). Its limit is this one's, or that size where it is
+    /// greater. Its index asks a clone of the hasher. No limit refuses it: it is refused for want of memory
+    /// alone, also where the texts have more bytes than a `usize` counts.
+    pub fn try_clone(&self) -> LassoResult<Self>
+        ensures texts { IfOk result (λ r. r.texts ≡ self.now.texts) }
+        ensures account { IfOk result (λ r. clone_of self.now.texts self.now.account.limit ≡ Some r.account) }
+        ensures made { IfOk result (IsMadeWith (clone_size self.now.texts) (bytes_of self.now.texts)) }
+        ensures refused { IfErr result (λ error. error ≡ FailedAllocation) }
+        ensures overflow { 2 ^ 64 ≤ bytes_of self.now.texts → result ≡ Err FailedAllocation }
+    {
+        let Some(bytes) = self.list.bytes() else {
+            return Err(LassoError::new(LassoErrorKind::FailedAllocation));
+        };
+        let size = bucket_for(bytes);
+        let capacity = Capacity::new(self.list.len(), size);
+        let limits = MemoryLimits::new(self.list.max_memory_usage().max(size));
+        let hasher = self.hasher.clone()?;
+        let alloc = self.list.allocator().clone()?;
+        let mut copy = Rodeo::with_capacity_memory_limits_and_hasher(
+            alloc, capacity, limits, hasher,
+        )?;
+        match copy.copy_texts(self) {
+            Ok(()) => Ok(copy),
+            Err(error) => Err(error),
+        }
+    }
+
+    /// An interner with the same texts under the same keys: the same call as `try_clone`, with the same
+    /// refusals.
+    pub fn clone(&self) -> LassoResult<Self>
+        ensures texts { IfOk result (λ r. r.texts ≡ self.now.texts) }
+        ensures account { IfOk result (λ r. clone_of self.now.texts self.now.account.limit ≡ Some r.account) }
+        ensures made { IfOk result (IsMadeWith (clone_size self.now.texts) (bytes_of self.now.texts)) }
+        ensures refused { IfErr result (λ error. error ≡ FailedAllocation) }
+        ensures overflow { 2 ^ 64 ≤ bytes_of self.now.texts → result ≡ Err FailedAllocation }
+    {
+        self.try_clone()
+    }
+
+    /// Forgets every text, and copies those of the source here under the same keys, static ones too, into
+    /// this interner's own buckets and under its own limit. Its index then asks a clone of the source's
+    /// hasher. Where the limit has no room for a text, or memory is wanting, it stops there and forgets
+    /// the texts again: there is no text then, and the buckets stay.
+    pub fn try_clone_from(&mut self, source: &Self) -> LassoResult<()>
+        ensures { clone_into self.old source.now.texts result self.new }
+    {
+        self.clear();
+        self.make_room_for(source)?;
+        if let Err(error) = self.copy_texts(source) {
+            self.clear();
+            return Err(error);
+        }
+        Ok(())
+    }
+
+    /// Copies the texts of the source over those here: the same call as `try_clone_from`, with the same
+    /// refusals.
+    pub fn clone_from(&mut self, source: &Self) -> LassoResult<()>
+        ensures { clone_into self.old source.now.texts result self.new }
+    {
+        self.try_clone_from(source)
+    }
+
+    // Takes a clone of the source's hasher, and room for its texts in the list and in a new index. There
+    // must be no text.
+    fn make_room_for(&mut self, source: &Self) -> LassoResult<()>
+        requires { self.old.texts ≡ [] }
+        ensures same { self.new ≡ self.old }
+        ensures refused { IfErr result (λ error. error ≡ FailedAllocation) }
+    {
+        let hasher = source.hasher.clone()?;
+        let alloc = self.list.allocator().clone()?;
+        let index = Index::with_capacity(alloc, source.list.len())?;
+        self.list.reserve(source.list.len())?;
+        self.hasher = hasher;
+        self.index = index;
+        Ok(())
+    }
+
+    // Copies each text of the source to the end of the list, which must be empty, up to the first refusal.
+    fn copy_texts(&mut self, source: &Self) -> LassoResult<()>
+        requires { self.old.texts ≡ [] }
+        ensures texts { OnOk result (self.new.texts ≡ source.now.texts) }
+        ensures account { OnOk result (store_all self.old.account source.now.texts ≡ Some self.new.account) }
+        ensures copied { OnOk result (self.new.copied ≡ self.old.copied + bytes_of source.now.texts) }
+        ensures origin { KeepsOrigin self.old self.new }
+        ensures stopped { IfErr result (λ error. (j : ℕ) × StopsAt self.old.account source.now.texts j error self.new.account) }
+    {
+        let len = source.len();
+        for position in 0..len {
+            self.try_get_or_intern(source.text_at(position))?;
+        }
+        Ok(())
+    }
+
+    // The text at the position.
+    fn text_at(&self, position: usize) -> &str
+        requires { position < length self.now.texts }
+        ensures { slice_get self.now.texts position ≡ Some result.now }
+    {
+        self.list.text_at(position)
+    }
+}
+
+// The size of one bucket for so many bytes. A bucket has one byte at least.
+fn bucket_for(bytes: usize) -> usize
+    ensures value { result ≡ bucket_for bytes }
+    ensures some { 0 < result }
+{
+    if bytes == 0 { 4096 } else { bytes }
+}

@@ -1,0 +1,57 @@
+//! Filling a `Rodeo` from the items of an iterator.
+ghost use Rattle.std.specs.Prelude.{◌≡◌, ◌-◌, ◌^◌, ◌⊎◌, ℕ, List, map, MatchResult, IfOk, IfErr};
+ghost use Rattle.std.specs.Iterator.{IsFinite, Drains, Yields};
+ghost use Rattle.lasso_parts.specs.declared.util.LassoErrorKind.TheVariants.{FailedAllocation};
+ghost use Rattle.lasso_single.specs.Filling.{extend};
+ghost use Rattle.lasso_single.specs.Interner.{Interner, made_with};
+
+use super::Rodeo;
+use lasso_parts::keys::Key;
+use lasso_parts::util::LassoResult;
+use std::alloc::Allocator;
+use std::convert::AsStr;
+use std::hash::BuildHasher;
+
+impl<K: Key, S: BuildHasher, A: Allocator + Clone> Rodeo<K, S, A> {
+    /// Interns item after item, each of them a `&str` or another that lends a text. A refusal ends it and is the answer: the items before the refused one stay,
+    /// and that one changes nothing. It returns if the items end.
+    pub fn extend<T: AsStr + Drop, I: IntoIterator<Item = T>>(
+        &mut self,
+        items: I,
+    ) -> LassoResult<()>
+        requires { (it : I.IntoIter) → I.into_iter_gives items it → I.IntoIter.can_next it × IsFinite (I.IntoIter.remaining it) }
+        ensures { (it : I.IntoIter) × (xs : List T) × I.into_iter_gives items it
+            × MatchResult result (λ _. Drains I.IntoIter.next_gives it xs) (λ _. (rest : I.IntoIter) × Yields I.IntoIter.next_gives it xs rest)
+            × extend K.key_at self.old (map T.text xs) result self.new }
+    {
+        let items = items.into_iter();
+        // Where there is no memory for the items that the hint tells of, each asks for its own.
+        let _ = self.list.reserve(items.size_hint().0);
+        for text in items {
+            self.try_get_or_intern(text.as_str())?;
+        }
+        Ok(())
+    }
+}
+
+impl<K: Key, S: BuildHasher + Default + Drop, A: Allocator + Clone> Rodeo<K, S, A> {
+    /// An interner of default capacity and limit (50 texts, 4096 bytes), with item after item interned. A
+    /// refusal ends it, and is the answer in place of the interner. It returns if the items end.
+    pub fn from_iter<T: AsStr + Drop, I: IntoIterator<Item = T> + Drop>(
+        alloc: A,
+        items: I,
+    ) -> LassoResult<Self>
+        requires { (it : I.IntoIter) → I.into_iter_gives items it → I.IntoIter.can_next it × IsFinite (I.IntoIter.remaining it) }
+        ensures filled { IfOk result (λ r. (it : I.IntoIter) × (xs : List T) × I.into_iter_gives items it
+            × Drains I.IntoIter.next_gives it xs
+            × extend K.key_at (made_with 4096 (2 ^ 64 - 1)) (map T.text xs) (Ok tt) r) }
+        ensures refused { IfErr result (λ error. (error ≡ FailedAllocation)
+            ⊎ ((it : I.IntoIter) × (xs : List T) × I.into_iter_gives items it
+            × ((rest : I.IntoIter) × Yields I.IntoIter.next_gives it xs rest)
+            × ((left : Interner) × extend K.key_at (made_with 4096 (2 ^ 64 - 1)) (map T.text xs) (Err error) left))) }
+    {
+        let mut rodeo = Rodeo::with_hasher(alloc, S::default())?;
+        rodeo.extend(items)?;
+        Ok(rodeo)
+    }
+}
