@@ -17,6 +17,7 @@ use fault::RunFault;
 use lasso::{LassoError, LassoErrorKind, MemoryLimits};
 use standard::{StandardReader, StandardWriter};
 use std::alloc::AllocError;
+use std::io::ErrorKind;
 use std::process::ExitCode;
 use std::rt::Env;
 use std::sync::Wait;
@@ -52,8 +53,10 @@ where
 
 // The words behind the program's name. Words that are not text are bad arguments.
 fn words_of<R: AllocGlobal + Env>(rt: &R) -> Result<Vec<String>, RunFault> {
-    let Ok(mut all) = env::args(rt) else {
-        return Err(RunFault::Usage);
+    let mut all = match env::args(rt) {
+        Ok(all) => all,
+        Err(error) if error.kind() == ErrorKind::OutOfMemory => return Err(no_memory(AllocError)),
+        Err(_) => return Err(RunFault::Usage),
     };
     let _program = all.next();
     all.collect(rt.alloc()).map_err(no_memory)
