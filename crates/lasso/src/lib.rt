@@ -10,7 +10,9 @@ pub use lasso_parts::bucket::Bucket;
 pub use lasso_parts::bucket::region::Region;
 pub use lasso_parts::index::{Index, Texts, hash_text};
 pub use lasso_parts::keys::{Key, LargeSpur, MicroSpur, MiniSpur, Spur};
-pub use lasso_parts::laws::{store_refuses_exactly_past_limit, store_serves_as_worked};
+pub use lasso_parts::laws::{
+    store_never_grows_past_limit, store_refuses_exactly_past_limit, store_serves_as_worked,
+};
 pub use lasso_parts::slots::{Slot, text_of};
 pub use lasso_parts::util::{
     Capacity, FixedState, LassoError, LassoErrorKind, LassoResult, MemoryLimits,

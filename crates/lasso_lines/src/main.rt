@@ -6,15 +6,15 @@ pub mod engine;
 pub mod failures;
 pub mod fault;
 pub mod memory;
+pub mod program;
 pub mod standard;
 pub mod stream;
 #[cfg(test)]
 mod tests;
 
-use arguments::arguments;
-use engine::run;
 use fault::RunFault;
-use lasso::{LassoError, LassoErrorKind, MemoryLimits};
+use lasso::{LassoError, LassoErrorKind};
+use program::run_words;
 use standard::{StandardReader, StandardWriter};
 use std::alloc::AllocError;
 use std::io::ErrorKind;
@@ -39,16 +39,11 @@ where
     R: AllocGlobal + Env + Input + Print + Wait,
 {
     let words = words_of(rt)?;
-    let settings = arguments(&words)?;
-    let ends = StandardReader::new(rt.alloc(), rt.reader());
-    let mut reader = ends.map_err(no_memory)?;
-    let mut writer = StandardWriter::new(rt.alloc(), io::writer(rt));
-    run(
-        rt,
-        &mut reader,
-        &mut writer,
-        MemoryLimits::new(settings.limit),
-    )
+    let input = StandardReader::new(rt.alloc(), rt.reader());
+    let mut reader = input.map_err(no_memory)?;
+    let output = StandardWriter::new(rt.alloc(), io::writer(rt));
+    let mut writer = output.map_err(no_memory)?;
+    run_words(rt, &words, &mut reader, &mut writer)
 }
 
 // The words behind the program's name. Words that are not text are bad arguments.

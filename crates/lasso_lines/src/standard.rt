@@ -100,20 +100,22 @@ impl<W: Write + Drop> Model for StandardWriter<W> {
 }
 
 impl<W: Write + Drop> StandardWriter<W> {
-    /// A writer to `inner`, which has taken nothing and has not failed.
-    pub fn new(alloc: Global, inner: W) -> Self
-        ensures delivered { result.delivered ≡ W.contents inner }
-        ensures pending { result.pending ≡ Some [] }
-        ensures failures { result.failures ≡ 0 }
+    /// A writer to `inner`, which has taken nothing and has not failed. It is refused for want of memory
+    /// alone; it takes no more memory later.
+    pub fn new(alloc: Global, inner: W) -> Result<Self, AllocError>
+        ensures delivered { IfOk result (λ w. w.delivered ≡ W.contents inner) }
+        ensures pending { IfOk result (λ w. w.pending ≡ Some []) }
+        ensures failures { IfOk result (λ w. w.failures ≡ 0) }
     {
-        StandardWriter {
+        let buffer = Vec::with_capacity(alloc, BUFFER)?;
+        Ok(StandardWriter {
             outgoing: Outgoing {
                 inner,
-                buffer: Vec::new(alloc),
+                buffer,
                 sent: 0,
             },
             failures: Failures::none(),
-        }
+        })
     }
 
     /// The inner writer. What is pending is dropped.

@@ -6,6 +6,7 @@ use crate::engine::run;
 use crate::failures::Failures;
 use crate::fault::RunFault;
 use crate::memory::{MemoryReader, MemoryWriter, report_of};
+use crate::program::run_words;
 use crate::standard::{StandardReader, StandardWriter};
 use crate::stream::{ByteReader, ByteWriter, Failed};
 use lasso::MemoryLimits;
@@ -116,6 +117,24 @@ fn bad_arguments(rt: HostRuntime) -> Result<(), Fail> {
 }
 
 #[test]
+fn words_set_the_limit(rt: HostRuntime) -> Result<(), Fail> {
+    let mut words = Vec::new(rt.alloc());
+    words.push("--limit".to_string(rt.alloc())?)?;
+    words.push("4096".to_string(rt.alloc())?)?;
+    let mut reader = MemoryReader::new(INPUT);
+    let mut writer = MemoryWriter::new(rt.alloc());
+    assert!(rt; run_words(&rt, &words, &mut reader, &mut writer) == Ok(()));
+    assert_eq!(rt; writer.into_bytes().as_slice(), OUTPUT);
+    words.push("more".to_string(rt.alloc())?)?;
+    let mut unread = MemoryReader::new(INPUT);
+    let mut unwritten = MemoryWriter::new(rt.alloc());
+    let ended = run_words(&rt, &words, &mut unread, &mut unwritten);
+    assert!(rt; ended == Err(RunFault::Usage));
+    assert!(rt; unwritten.into_bytes().is_empty());
+    Ok(())
+}
+
+#[test]
 fn a_line_longer_than_the_buffers(rt: HostRuntime) -> Result<(), Fail> {
     let line = vec![in rt.alloc(); b'a'; 100_000]?;
     let mut output = b"0 ".to_vec(rt.alloc())?;
@@ -123,7 +142,7 @@ fn a_line_longer_than_the_buffers(rt: HostRuntime) -> Result<(), Fail> {
     output.extend_from_slice(b"\n1 texts, 104096 bytes\n")?;
     let mut reader = StandardReader::new(rt.alloc(), line.as_slice())?;
     let written = Vec::new(rt.alloc());
-    let mut writer = StandardWriter::new(rt.alloc(), written);
+    let mut writer = StandardWriter::new(rt.alloc(), written)?;
     assert!(rt; run(&rt, &mut reader, &mut writer, no_limit()) == Ok(()));
     assert_eq!(rt; writer.into_inner().as_slice(), output.as_slice());
     Ok(())

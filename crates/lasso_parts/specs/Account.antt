@@ -1,6 +1,6 @@
 -- The account of an interner: five whole numbers of bytes, and what storing a text does to them.
 -- Sums are sums of whole numbers, so that none wraps.
-use Rattle.std.specs.Prelude.{◌≡◌, ℕ, ◌+◌, ◌-◌, ◌*◌, ◌<◌, ◌↔◌, nat_eq, nat_le, nat_lt, if◌then◌else◌, Option, Some, None}
+use Rattle.std.specs.Prelude.{◌≡◌, ℕ, ◌+◌, ◌-◌, ◌*◌, ◌<◌, ◌≤◌, ◌↔◌, nat_eq, nat_le, nat_lt, if◌then◌else◌, Option, Some, None}
 
 pub record Account : Type 0 where
   -- bytes left in the current bucket
@@ -53,6 +53,10 @@ store a n =
 -- a text is refused exactly where it is longer than the room and the usage and its bytes pass the limit
 abbrev pub RefusesExactlyPastLimit : Type 0
 RefusesExactlyPastLimit = (a : Account) (n : ℕ) → (store a n ≡ None) ↔ ((a.room < n) × (a.limit < a.usage + n))
+
+-- storing never takes the usage past the limit: a usage that grows is at most the limit afterwards
+abbrev pub NeverGrowsPastLimit : Type 0
+NeverGrowsPastLimit = (a b : Account) (n : ℕ) → store a n ≡ Some b → a.usage < b.usage → b.usage ≤ b.limit
 
 -- the account after the list is emptied: the current bucket is filled anew
 abbrev pub clear : Account → Account

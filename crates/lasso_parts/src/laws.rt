@@ -1,5 +1,5 @@
 //! Laws of the definitions, each as the contract of a function that does nothing.
-ghost use Rattle.lasso_parts.specs.Account.{RefusesExactlyPastLimit};
+ghost use Rattle.lasso_parts.specs.Account.{NeverGrowsPastLimit, RefusesExactlyPastLimit};
 ghost use Rattle.lasso_parts.specs.AccountSteps.{ServesAsWorked};
 
 /// A text is refused exactly where it is longer than the room of the current bucket and the usage
@@ -11,4 +11,9 @@ pub fn store_refuses_exactly_past_limit()
 /// Steps of an account that were worked by hand come out as worked.
 pub fn store_serves_as_worked()
     ensures { ServesAsWorked }
+{}
+
+/// Storing never takes the usage past the limit: where the usage grows, it is at most the limit then.
+pub fn store_never_grows_past_limit()
+    ensures { NeverGrowsPastLimit }
 {}
