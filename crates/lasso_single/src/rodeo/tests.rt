@@ -1,6 +1,9 @@
 //! Worked interning on small accounts, and a key type that lacks a number.
 ghost use Rattle.std.specs.Prelude.{◌<◌};
 
+mod changes;
+mod clones;
+
 use super::*;
 use lasso_parts::keys::Spur;
 use lasso_parts::util::{Capacity, FixedState, MemoryLimits};
@@ -15,41 +18,41 @@ const KEYS: LassoErrorKind = LassoErrorKind::KeySpaceExhaustion;
 
 type Answer = Result<usize, LassoErrorKind>;
 
-// A key type without number 2.
+// A key type without one number.
 #[derive(Clone, Copy, PartialEq, Eq)]
-struct Gap {
+struct Gap<const MISSING: u8> {
     position: u8,
 }
 
-impl Model for Gap {
+impl<const MISSING: u8> Model for Gap<MISSING> {
     ghost use Rattle.std.specs.Prelude.{ℕ, ◌≢◌};
 
     ghost Value = { ℕ };
 
     ghost view = { λ k. k.position };
 
-    ghost invariant = { λ k. k.position ≢ 2 };
+    ghost invariant = { λ k. k.position ≢ MISSING };
 
     ghost inverse = { λ n. record { position = n } };
 }
 
-impl Key for Gap {
+impl<const MISSING: u8> Key for Gap<MISSING> {
     ghost use Rattle.std.specs.Prelude.{◌<◌, ◌≢◌, ◌^◌, nat_lt, nat_eq, if◌then◌else◌, Some, None};
     ghost use Rattle.std.proofs.Common.{arith};
     ghost use Rattle.std.proofs.lemmas.Bool.Decides.{nat_tests};
 
-    ghost is_value = { λ k. (k ≢ 2) × (k < 2 ^ 8) };
+    ghost is_value = { λ k. (k ≢ MISSING) × (k < 2 ^ 8) };
 
     ghost number = { λ k. k };
 
-    ghost key_at = { λ n. if nat_eq n 2 then None else if nat_lt n 256 then Some n else None };
+    ghost key_at = { λ n. if nat_eq n MISSING then None else if nat_lt n 256 then Some n else None };
 
     fn into_usize(self) -> usize {
         self.position as usize
     }
 
     fn try_from_usize(position: usize) -> Option<Self> {
-        if position == 2 || position > 255 {
+        if position == usize::from(MISSING) || position > 255 {
             return None;
         }
         Some(Gap {
@@ -156,7 +159,7 @@ fn texts_fill_the_remnant(rt: HostRuntime) -> Result<(), Fail> {
 
 #[test]
 fn keys_are_asked_before_the_account(rt: HostRuntime) -> Result<(), Fail> {
-    let mut rodeo = interner::<Gap>(rt.alloc(), 4, 4)?;
+    let mut rodeo = interner::<Gap<2>>(rt.alloc(), 4, 4)?;
     let rows = [
         ("p", Ok(0)),
         ("q", Ok(1)),
@@ -166,5 +169,14 @@ fn keys_are_asked_before_the_account(rt: HostRuntime) -> Result<(), Fail> {
         ("q", Ok(1)),
     ];
     gives(&rt, &mut rodeo, &rows, 4);
+    Ok(())
+}
+
+#[test]
+fn no_text_has_a_key(rt: HostRuntime) -> Result<(), Fail> {
+    let mut rodeo = interner::<Gap<0>>(rt.alloc(), 4, 4)?;
+    let rows = [("pp", Err(KEYS)), ("pp", Err(KEYS)), ("pp", Err(KEYS))];
+    gives(&rt, &mut rodeo, &rows, 4);
+    assert_eq!(rt; rodeo.len(), 0);
     Ok(())
 }
