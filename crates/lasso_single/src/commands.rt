@@ -4,6 +4,9 @@ ghost use Rattle.lasso_parts.specs.declared.util.LassoErrorKind.TheVariants.{Fai
 ghost use Rattle.lasso_single.specs.Command.{intern_reply, done_reply, resolves_to, replies_to, run_of, IsUncleared};
 ghost use Rattle.lasso_single.specs.Filling.{extend};
 
+#[cfg(test)]
+mod tests;
+
 use crate::rodeo::Rodeo;
 use lasso_parts::keys::Key;
 use lasso_parts::util::{LassoError, LassoErrorKind, LassoResult, MemoryLimits};
@@ -11,6 +14,7 @@ use std::alloc::{Allocator, Global};
 use std::hash::BuildHasher;
 
 /// One call of a `Rodeo`, with its arguments.
+#[derive(Drop)]
 pub enum Command<'a, K: Key, S: BuildHasher, A: Allocator> {
     /// Interns a text, which is copied where it is new.
     Intern(&'a str),

@@ -4,41 +4,41 @@ use std::cmp::{Eq, PartialEq};
 use std::hash::{BuildHasherDefault, Hasher};
 use std::marker::Model;
 
-// A key type without number 2.
+/// A key type of 8 bits without one number.
 #[derive(Clone, Copy, PartialEq, Eq)]
-pub struct Gap {
+pub struct Gap<const MISSING: u8> {
     position: u8,
 }
 
-impl Model for Gap {
+impl<const MISSING: u8> Model for Gap<MISSING> {
     ghost use Rattle.std.specs.Prelude.{ℕ, ◌≢◌};
 
     ghost Value = { ℕ };
 
     ghost view = { λ k. k.position };
 
-    ghost invariant = { λ k. k.position ≢ 2 };
+    ghost invariant = { λ k. k.position ≢ MISSING };
 
     ghost inverse = { λ n. record { position = n } };
 }
 
-impl Key for Gap {
+impl<const MISSING: u8> Key for Gap<MISSING> {
     ghost use Rattle.std.specs.Prelude.{◌<◌, ◌≢◌, ◌^◌, nat_lt, nat_eq, if◌then◌else◌, Some, None};
     ghost use Rattle.std.proofs.Common.{arith};
     ghost use Rattle.std.proofs.lemmas.Bool.Decides.{nat_tests};
 
-    ghost is_value = { λ k. (k ≢ 2) × (k < 2 ^ 8) };
+    ghost is_value = { λ k. (k ≢ MISSING) × (k < 2 ^ 8) };
 
     ghost number = { λ k. k };
 
-    ghost key_at = { λ n. if nat_eq n 2 then None else if nat_lt n 256 then Some n else None };
+    ghost key_at = { λ n. if nat_eq n MISSING then None else if nat_lt n 256 then Some n else None };
 
     fn into_usize(self) -> usize {
         self.position as usize
     }
 
     fn try_from_usize(position: usize) -> Option<Self> {
-        if position == 2 || position > 255 {
+        if position == usize::from(MISSING) || position > 255 {
             return None;
         }
         Some(Gap {

@@ -13,8 +13,9 @@ use std::convert::AsStr;
 use std::hash::BuildHasher;
 
 impl<K: Key, S: BuildHasher, A: Allocator + Clone> Rodeo<K, S, A> {
-    /// Interns item after item, each of them a `&str` or another that lends a text. A refusal ends it and is the answer: the items before the refused one stay,
-    /// and that one changes nothing. It returns if the items end.
+    /// Interns item after item, each of them a `&str` or another that lends a text. A refusal ends it and is
+    /// the answer: the items before the refused one stay, and that one changes nothing. It returns if the
+    /// items end.
     pub fn extend<T: AsStr + Drop, I: IntoIterator<Item = T>>(
         &mut self,
         items: I,
@@ -35,8 +36,8 @@ impl<K: Key, S: BuildHasher, A: Allocator + Clone> Rodeo<K, S, A> {
 }
 
 impl<K: Key, S: BuildHasher + Default + Drop, A: Allocator + Clone> Rodeo<K, S, A> {
-    /// An interner of default capacity and limit (50 texts, 4096 bytes), with item after item interned. A
-    /// refusal ends it, and is the answer in place of the interner. It returns if the items end.
+    /// An interner of default capacity and limit (50 texts, 4096 bytes), with item after item interned.
+    /// A refusal ends it, and is the answer in place of the interner. It returns if the items end.
     pub fn from_iter<T: AsStr + Drop, I: IntoIterator<Item = T> + Drop>(
         alloc: A,
         items: I,

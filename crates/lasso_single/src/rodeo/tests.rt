@@ -1,6 +1,9 @@
 //! Worked interning on small accounts, and a key type that lacks a number.
 ghost use Rattle.std.specs.Prelude.{◌<◌};
 
+mod changes;
+mod clones;
+
 use super::*;
 use crate::fixtures::{Gap, SameState};
 use lasso_parts::keys::{MicroSpur, Spur};
@@ -103,7 +106,7 @@ fn texts_fill_the_remnant(rt: HostRuntime) -> Result<(), Fail> {
 
 #[test]
 fn keys_are_asked_before_the_account(rt: HostRuntime) -> Result<(), Fail> {
-    let mut rodeo = interner::<Gap>(rt.alloc(), 4, 4)?;
+    let mut rodeo = interner::<Gap<2>>(rt.alloc(), 4, 4)?;
     let rows = [
         ("p", Ok(0)),
         ("q", Ok(1)),
@@ -194,5 +197,14 @@ fn makers_of_default_size(rt: HostRuntime) -> Result<(), Fail> {
         FixedState::new(),
     )?;
     assert_eq!(rt; sized.current_memory_usage(), 7);
+    Ok(())
+}
+
+#[test]
+fn no_text_has_a_key(rt: HostRuntime) -> Result<(), Fail> {
+    let mut rodeo = interner::<Gap<0>>(rt.alloc(), 4, 4)?;
+    let rows = [("pp", Err(KEYS)), ("pp", Err(KEYS)), ("pp", Err(KEYS))];
+    gives(&rt, &mut rodeo, &rows, 4);
+    assert_eq!(rt; rodeo.len(), 0);
     Ok(())
 }

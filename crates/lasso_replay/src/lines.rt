@@ -1,0 +1,102 @@
+//! One line of a script: a command with its arguments.
+ghost use Rattle.std.specs.Prelude.{◌<◌, IfSome};
+
+use std::alloc::{AllocError, Global};
+
+/// One call of an interner, with its arguments.
+#[derive(Drop)]
+pub enum Command {
+    Intern(String),
+    Get(String),
+    Contains(String),
+    Has(usize),
+    Resolve(usize),
+    Len,
+    Usage,
+    Max,
+    Limit(usize),
+    Clear,
+    Extend(Vec<String>),
+    CloneFrom(Vec<String>),
+}
+
+/// The command that the words of a line spell, or `None` where they spell none.
+pub fn parse_command(alloc: Global, words: &[&str]) -> Result<Option<Command>, AllocError> {
+    let command = match words {
+        ["intern", text] => parse_text(alloc, text)?.map(Command::Intern),
+        ["get", text] => parse_text(alloc, text)?.map(Command::Get),
+        ["contains", text] => parse_text(alloc, text)?.map(Command::Contains),
+        ["has", number] => parse_number(number).map(Command::Has),
+        ["resolve", number] => parse_number(number).map(Command::Resolve),
+        ["len"] => Some(Command::Len),
+        ["usage"] => Some(Command::Usage),
+        ["max"] => Some(Command::Max),
+        ["limit", bytes] => parse_limit(bytes).map(Command::Limit),
+        ["clear"] => Some(Command::Clear),
+        ["extend", texts @ ..] => parse_texts(alloc, texts)?.map(Command::Extend),
+        ["clonefrom", texts @ ..] => parse_texts(alloc, texts)?.map(Command::CloneFrom),
+        _ => None,
+    };
+    Ok(command)
+}
+
+/// A number of bytes, or `max` for the greatest.
+pub fn parse_limit(word: &str) -> Option<usize> {
+    if word == "max" {
+        Some(usize::MAX)
+    } else {
+        parse_number(word)
+    }
+}
+
+/// A number in decimal digits.
+pub fn parse_number(word: &str) -> Option<usize> {
+    if word.bytes().all(|byte| byte.is_ascii_digit()) {
+        word.parse::<usize>().ok()
+    } else {
+        None
+    }
+}
+
+fn parse_texts(alloc: Global, words: &[&str]) -> Result<Option<Vec<String>>, AllocError> {
+    let mut texts = Vec::with_capacity(alloc, words.len())?;
+    for word in words {
+        let Some(text) = parse_text(alloc, word)? else {
+            return Ok(None);
+        };
+        texts.push(text)?;
+    }
+    Ok(Some(texts))
+}
+
+// A text in hexadecimal digits, two a byte; `-` is the empty text.
+fn parse_text(alloc: Global, word: &str) -> Result<Option<String>, AllocError> {
+    let mut bytes = Vec::new(alloc);
+    if word != "-" {
+        let digits = word.as_bytes();
+        if digits.is_empty() || digits.len() % 2 != 0 {
+            return Ok(None);
+        }
+        for pair in digits.chunks_exact(2) {
+            let [high, low] = pair else {
+                return Ok(None);
+            };
+            let (Some(high), Some(low)) = (parse_digit(*high), parse_digit(*low)) else {
+                return Ok(None);
+            };
+            bytes.push(high * 16 + low)?;
+        }
+    }
+    Ok(String::from_utf8(bytes).ok())
+}
+
+// The value of a hexadecimal digit.
+fn parse_digit(digit: u8) -> Option<u8>
+    ensures { IfSome result (λ value. value < 16) }
+{
+    match digit {
+        b'0'..=b'9' => Some(digit - b'0'),
+        b'a'..=b'f' => Some(digit - b'a' + 10),
+        _ => None,
+    }
+}

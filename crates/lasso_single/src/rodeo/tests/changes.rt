@@ -1,0 +1,93 @@
+//! Static texts, clears and other limits.
+
+use super::*;
+use lasso_parts::keys::MicroSpur;
+
+#[test]
+fn a_clear_fills_the_current_bucket_anew(rt: HostRuntime) -> Result<(), Fail> {
+    let mut rodeo = interner::<Spur>(rt.alloc(), 10, 15)?;
+    gives(
+        &rt,
+        &mut rodeo,
+        &[("0123456789", Ok(0)), ("abc", Ok(1))],
+        15,
+    );
+    rodeo.clear();
+    assert!(rt; rodeo.is_empty());
+    gives(&rt, &mut rodeo, &[("hello", Ok(0)), ("x", Err(LIMIT))], 15);
+    let second = Spur::try_from_usize(1).ok_or("no key")?;
+    assert_eq!(rt; rodeo.try_resolve(second), None);
+    assert!(rt; rodeo.contains("hello"));
+    assert!(rt; !rodeo.contains("abc"));
+    assert!(rt; rodeo.capacity() > 0);
+    Ok(())
+}
+
+#[test]
+fn a_key_outlives_its_text(rt: HostRuntime) -> Result<(), Fail> {
+    let mut rodeo = Rodeo::default(rt.alloc())?;
+    let key = rodeo.get_or_intern("Somewhere over the rainbow...")?;
+    assert_eq!(rt; rodeo.len(), 1);
+    if rodeo.contains_key(key) {
+        assert_eq!(rt;
+            rodeo.resolve_unchecked(key),
+            "Somewhere over the rainbow..."
+        );
+    }
+    rodeo.clear();
+    assert_eq!(rt; rodeo.len(), 0);
+    assert_eq!(rt; rodeo.try_resolve(key), None);
+    Ok(())
+}
+
+#[test]
+fn keys_used_up_refuse_new_texts_alone(rt: HostRuntime) -> Result<(), Fail> {
+    let mut rodeo = interner::<MicroSpur>(rt.alloc(), 655, 655)?;
+    for number in 0..255usize {
+        let text = format!(in rt.alloc(); "{number}")?;
+        let key = rodeo.try_get_or_intern(text.as_str())?;
+        assert_eq!(rt; key.into_usize(), number);
+    }
+    gives(
+        &rt,
+        &mut rodeo,
+        &[("x", Err(KEYS)), ("0", Ok(0)), ("", Err(KEYS))],
+        655,
+    );
+    let refusal = rodeo.get_or_intern_static("x").err().ok_or("not refused")?;
+    assert!(rt; refusal.kind() == KEYS);
+    Ok(())
+}
+
+#[test]
+fn a_limit_of_nothing_keeps_the_room(rt: HostRuntime) -> Result<(), Fail> {
+    let mut rodeo = interner::<Spur>(rt.alloc(), 10, usize::MAX)?;
+    gives(&rt, &mut rodeo, &[("abc", Ok(0))], 10);
+    rodeo.set_memory_limits(MemoryLimits::new(0));
+    assert_eq!(rt; rodeo.max_memory_usage(), 0);
+    let rows = [("defg", Ok(1)), ("0123456789", Err(LIMIT)), ("abc", Ok(0))];
+    gives(&rt, &mut rodeo, &rows, 10);
+    let key = rodeo.try_get_or_intern_static("0123456789")?;
+    assert_eq!(rt; key.into_usize(), 2);
+    assert_eq!(rt; rodeo.current_memory_usage(), 10);
+    Ok(())
+}
+
+#[test]
+fn a_raised_limit_is_used_up(rt: HostRuntime) -> Result<(), Fail> {
+    let mut rodeo = interner::<Spur>(rt.alloc(), 10, 10)?;
+    gives(
+        &rt,
+        &mut rodeo,
+        &[("0123456789", Ok(0)), ("a", Err(LIMIT))],
+        10,
+    );
+    rodeo.set_memory_limits(MemoryLimits::new(20));
+    gives(
+        &rt,
+        &mut rodeo,
+        &[("9876543210", Ok(1)), ("a", Err(LIMIT))],
+        20,
+    );
+    Ok(())
+}
