@@ -1,0 +1,53 @@
+//! The texts that are interned and looked up.
+ghost use Rattle.std.specs.Prelude.{◌≡◌, ◌<◌, ◌*◌, ◌%◌, ◌++◌, IfOk, codes, decimal, string_bytes};
+
+use std::alloc::{AllocError, Global};
+
+const STRIDE: u64 = 7919;
+
+/// Texts to intern, and texts to ask for.
+#[derive(Drop)]
+pub struct Sample {
+    /// Distinct texts, in the order in which they are interned.
+    pub texts: Vec<String>,
+    /// The same texts in another order, so that a look-up seldom finds its neighbour at hand.
+    pub again: Vec<String>,
+    /// As many texts that are not among them.
+    pub missing: Vec<String>,
+}
+
+impl Sample {
+    /// So many texts, and as many others. It is refused for want of memory alone.
+    pub fn new(alloc: Global, count: u32) -> Result<Self, AllocError> {
+        let mut texts = Vec::new(alloc);
+        let mut again = Vec::new(alloc);
+        let mut missing = Vec::new(alloc);
+        for number in 0..count {
+            texts.push(text_of(alloc, u64::from(number))?)?;
+            again.push(text_of(alloc, jumped(number, count))?)?;
+            missing.push(text_of(alloc, u64::from(count) + u64::from(number))?)?;
+        }
+        Ok(Sample {
+            texts,
+            again,
+            missing,
+        })
+    }
+}
+
+/// The text with this number: no other number has it.
+pub fn text_of(alloc: Global, number: u64) -> Result<String, AllocError>
+    ensures { IfOk result (λ text. string_bytes text ≡ codes "text " ++ decimal number) }
+{
+    format!(in alloc; "text {number}")
+}
+
+/// The number at this place of the other order. Where the stride and the count have no common divisor,
+/// each number below the count comes once.
+pub fn jumped(place: u32, count: u32) -> u64
+    requires { place < count }
+    ensures value { result ≡ (place * STRIDE) % count }
+    ensures below { result < count }
+{
+    u64::from(place) * STRIDE % u64::from(count)
+}

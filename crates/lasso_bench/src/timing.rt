@@ -1,0 +1,172 @@
+//! The timed loops. Each sums up what its calls answer, and the sum is compared with what it has to be.
+ghost use Rattle.std.specs.Prelude.{◌≡◌, ◌<◌, ◌*◌, ◌/◌, ◌-◌, ◌^◌, min};
+ghost use Rattle.std.specs.Duration.{as_nanos};
+
+use crate::pools::TextPool;
+use crate::texts::Sample;
+use anyhow::{Result, ensure};
+use std::alloc::AllocError;
+use std::rt::Clock;
+use std::time::{Duration, Instant};
+
+const ROUNDS: u32 = 7;
+
+/// How long a call takes, in tenths of a nanosecond.
+#[derive(Clone, Copy, Debug)]
+pub struct Timings {
+    /// To intern a text that is not there.
+    pub intern_new: u64,
+    /// To intern a text that is there.
+    pub intern_present: u64,
+    /// To ask for a text that is not there.
+    pub get_missing: u64,
+    /// To read a key's text.
+    pub resolve: u64,
+}
+
+impl Timings {
+    /// The less of both, for each operation.
+    pub fn least(self, other: Timings) -> Timings
+        ensures intern_new { result.intern_new ≡ min self.intern_new other.intern_new }
+        ensures intern_present { result.intern_present ≡ min self.intern_present other.intern_present }
+        ensures get_missing { result.get_missing ≡ min self.get_missing other.get_missing }
+        ensures resolve { result.resolve ≡ min self.resolve other.resolve }
+    {
+        Timings {
+            intern_new: self.intern_new.min(other.intern_new),
+            intern_present: self.intern_present.min(other.intern_present),
+            get_missing: self.get_missing.min(other.get_missing),
+            resolve: self.resolve.min(other.resolve),
+        }
+    }
+}
+
+/// The least that each operation took in several rounds. It fails where the clock does, for want of
+/// memory, and where the answers were wrong.
+pub fn best_timings<P: TextPool, R: AllocGlobal + Clock>(
+    rt: &R,
+    sample: &Sample,
+) -> Result<Timings> {
+    let mut best = round::<P, R>(rt, sample)?;
+    for _ in 1..ROUNDS {
+        best = best.least(round::<P, R>(rt, sample)?);
+    }
+    Ok(best)
+}
+
+// Times each operation once over all texts, in a pool of its own.
+fn round<P: TextPool, R: AllocGlobal + Clock>(rt: &R, sample: &Sample) -> Result<Timings> {
+    let mut pool = P::new(rt.alloc())?;
+    let start = Instant::now(rt)?;
+    let interned = intern_all(&mut pool, &sample.texts)?;
+    let intern_new = start.elapsed(rt)?;
+    let start = Instant::now(rt)?;
+    let present = intern_all(&mut pool, &sample.again)?;
+    let intern_present = start.elapsed(rt)?;
+    let start = Instant::now(rt)?;
+    let missing = count_missing(&pool, &sample.missing);
+    let get_missing = start.elapsed(rt)?;
+    let keys = keys_of(rt, &pool, &sample.again)?;
+    let start = Instant::now(rt)?;
+    let last_bytes = resolve_all(&pool, &keys);
+    let resolve = start.elapsed(rt)?;
+    let positions = sum_of_positions(sample.texts.len());
+    ensure!(
+        interned == positions && present == positions,
+        "a key is wrong"
+    );
+    ensure!(
+        missing == sample.missing.len(),
+        "a text is there that should not be"
+    );
+    ensure!(
+        last_bytes == sum_of_last_bytes(&sample.again),
+        "a text is wrong"
+    );
+    Ok(Timings {
+        intern_new: tenths_a_call(intern_new, sample.texts.len()),
+        intern_present: tenths_a_call(intern_present, sample.again.len()),
+        get_missing: tenths_a_call(get_missing, sample.missing.len()),
+        resolve: tenths_a_call(resolve, keys.len()),
+    })
+}
+
+// The time of a call, in tenths of a nanosecond, where so many took this long; 0 where there was none.
+fn tenths_a_call(elapsed: Duration, calls: usize) -> u64
+    ensures { 0 < calls → result ≡ min ((as_nanos elapsed * 10) / calls) (2 ^ 64 - 1) }
+{
+    if calls == 0 {
+        return 0;
+    }
+    let tenths = elapsed.as_nanos() * 10 / calls as u128;
+    tenths.min(u64::MAX as u128) as u64
+}
+
+// Interns the texts, and answers the sum of their positions.
+fn intern_all<P: TextPool>(pool: &mut P, texts: &[String]) -> Result<usize, AllocError> {
+    let mut sum = 0usize;
+    for text in texts {
+        sum = sum.wrapping_add(P::position(pool.intern(text.as_str())?));
+    }
+    Ok(sum)
+}
+
+// Asks for the texts, and answers how many are not there.
+fn count_missing<P: TextPool>(pool: &P, texts: &[String]) -> usize {
+    let mut missing = 0usize;
+    for text in texts {
+        if pool.get(text.as_str()).is_none() {
+            missing = missing.wrapping_add(1);
+        }
+    }
+    missing
+}
+
+// The keys of the texts that are there.
+fn keys_of<P: TextPool, R: AllocGlobal>(
+    rt: &R,
+    pool: &P,
+    texts: &[String],
+) -> Result<Vec<P::Key>, AllocError> {
+    let mut keys = Vec::new(rt.alloc());
+    for text in texts {
+        if let Some(key) = pool.get(text.as_str()) {
+            keys.push(key)?;
+        }
+    }
+    Ok(keys)
+}
+
+// Resolves the keys, and answers the sum of their texts' last bytes.
+fn resolve_all<P: TextPool>(pool: &P, keys: &[P::Key]) -> usize {
+    let mut sum = 0usize;
+    for key in keys {
+        if let Some(text) = pool.resolve(*key) {
+            sum = sum.wrapping_add(last_byte(text));
+        }
+    }
+    sum
+}
+
+// The sum of the texts' last bytes.
+fn sum_of_last_bytes(texts: &[String]) -> usize {
+    let mut sum = 0usize;
+    for text in texts {
+        sum = sum.wrapping_add(last_byte(text.as_str()));
+    }
+    sum
+}
+
+// The text's last byte, or 0 where it has none.
+fn last_byte(text: &str) -> usize {
+    text.as_bytes().last().map_or(0, |byte| usize::from(*byte))
+}
+
+// The sum of the positions of so many texts.
+fn sum_of_positions(count: usize) -> usize {
+    let mut sum = 0usize;
+    for position in 0..count {
+        sum = sum.wrapping_add(position);
+    }
+    sum
+}
