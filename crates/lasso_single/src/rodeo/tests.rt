@@ -173,7 +173,7 @@ fn texts_of_one_hash(rt: HostRuntime) -> Result<(), Fail> {
 fn is_refused(rt: &impl Abort, alloc: Global, capacity: Capacity) {
     let made: LassoResult<Rodeo<Spur, FixedState, Global>> = Rodeo::with_capacity(alloc, capacity);
     match made {
-        Ok(_) => assert!(rt; false),
+        Ok(_made) => assert!(rt; false),
         Err(error) => assert!(rt; error.kind().is_failed_alloc()),
     }
 }
