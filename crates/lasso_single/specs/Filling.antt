@@ -1,5 +1,5 @@
 -- Interning one text after another.
-use Rattle.std.specs.Prelude.{◌≡◌, ◌+◌, ℕ, List, [], ◌∷◌, Option, Result, Ok, Err, MatchResult}
+use Rattle.std.specs.Prelude.{◌≡◌, ◌+◌, ℕ, List, [], ◌∷◌, ◌++◌, Option, Result, Ok, Err, MatchResult}
 use Rattle.lasso_parts.specs.Texts.{Text}
 use Rattle.lasso_parts.specs.declared.util.LassoError.{LassoError}
 use Rattle.lasso_single.specs.Intern.{Interns, InternsStatic}
@@ -23,3 +23,8 @@ extend key_at old [] reply new = (reply ≡ Ok tt) × (new ≡ old)
 extend {K} key_at old (text ∷ texts) reply new =
     (one : Result K LassoError) × (mid : Interner) × InternsIn key_at old text one mid
     × MatchResult one (λ _. extend key_at mid texts reply new) (λ error. (reply ≡ Err error) × (new ≡ mid))
+
+-- of the texts, interned in order, only the last can have been refused: those before it were not
+abbrev pub IsLastRefused : {K : Type 0} → (ℕ → Option K) → Interner → List Text → Type 0
+IsLastRefused key_at old texts =
+    (before : List Text) × (last : Text) × (mid : Interner) × (texts ≡ before ++ last ∷ []) × extend key_at old before (Ok tt) mid

@@ -2,7 +2,7 @@
 ghost use Rattle.std.specs.Prelude.{◌≡◌, ◌-◌, ◌^◌, ◌⊎◌, ℕ, List, map, MatchResult, IfOk, IfErr};
 ghost use Rattle.std.specs.Iterator.{IsFinite, Drains, Yields};
 ghost use Rattle.lasso_parts.specs.declared.util.LassoErrorKind.TheVariants.{FailedAllocation};
-ghost use Rattle.lasso_single.specs.Filling.{extend};
+ghost use Rattle.lasso_single.specs.Filling.{extend, IsLastRefused};
 ghost use Rattle.lasso_single.specs.Interner.{Interner, made_with};
 
 use super::Rodeo;
@@ -14,15 +14,15 @@ use std::hash::BuildHasher;
 
 impl<K: Key, S: BuildHasher, A: Allocator + Clone> Rodeo<K, S, A> {
     /// Interns item after item, each of them a `&str` or another that lends a text. A refusal ends it and is
-    /// the answer: the items before the refused one stay, and that one changes nothing. It returns if the
-    /// items end.
+    /// the answer: the items before the refused one stay, that one changes nothing, and no item after it is
+    /// taken. It returns if the items end.
     pub fn extend<T: AsStr + Drop, I: IntoIterator<Item = T>>(
         &mut self,
         items: I,
     ) -> LassoResult<()>
         requires { (it : I.IntoIter) → I.into_iter_gives items it → I.IntoIter.can_next it × IsFinite (I.IntoIter.remaining it) }
         ensures { (it : I.IntoIter) × (xs : List T) × I.into_iter_gives items it
-            × MatchResult result (λ _. Drains I.IntoIter.next_gives it xs) (λ _. (rest : I.IntoIter) × Yields I.IntoIter.next_gives it xs rest)
+            × MatchResult result (λ _. Drains I.IntoIter.next_gives it xs) (λ _. ((rest : I.IntoIter) × Yields I.IntoIter.next_gives it xs rest) × IsLastRefused K.key_at self.old (map T.text xs))
             × extend K.key_at self.old (map T.text xs) result self.new }
     {
         let items = items.into_iter();
@@ -49,6 +49,7 @@ impl<K: Key, S: BuildHasher + Default + Drop, A: Allocator + Clone> Rodeo<K, S, 
         ensures refused { IfErr result (λ error. (error ≡ FailedAllocation)
             ⊎ ((it : I.IntoIter) × (xs : List T) × I.into_iter_gives items it
             × ((rest : I.IntoIter) × Yields I.IntoIter.next_gives it xs rest)
+            × IsLastRefused K.key_at (made_with 4096 (2 ^ 64 - 1)) (map T.text xs)
             × ((left : Interner) × extend K.key_at (made_with 4096 (2 ^ 64 - 1)) (map T.text xs) (Err error) left))) }
     {
         let mut rodeo = Rodeo::with_hasher(alloc, S::default())?;
