@@ -2,6 +2,9 @@
 ghost use Rattle.std.specs.Prelude.{◌≡◌, ℕ, ◌+◌, ◌-◌, ◌<◌, ◌≤◌, [], Some, IfOk, OnOk, MatchResult, drop, take, length};
 ghost use Rattle.lasso_lines.specs.Stream.{Begins, Grows, Stays, OnlyGrows, written};
 
+#[cfg(test)]
+mod tests;
+
 use crate::failures::Failures;
 use crate::stream::{ByteReader, ByteWriter, Failed};
 use std::alloc::{AllocError, Global};
