@@ -1,0 +1,2 @@
+//! The interner that threads share: its history, and the log that they append to.
+#![tactic(auto)]
