@@ -1,0 +1,4 @@
+pub mod Buckets
+pub mod History
+pub mod Replies
+pub mod Calls
