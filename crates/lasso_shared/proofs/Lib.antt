@@ -1,0 +1,5 @@
+pub mod Positions
+pub mod Histories
+mod Ranges
+mod Good
+mod Steps

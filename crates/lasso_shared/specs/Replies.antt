@@ -46,9 +46,13 @@ pub data Reply (K : Type 0) : Type 0 where
   -- the list that a walk gives, or that was written or copied
   Listed : Result (List Text) LassoErrorKind → Reply K
 
--- the entries of a walk: each text in order, beside the key of its position
+-- the texts in order, each beside the key of its position
 abbrev pub keyed : {K : Type 0} → (ℕ → Option K) → List Text → List (Option K × Text)
 keyed key_at texts = map (λ e. (key_at e.0, e.1)) (enumerate_from 0 texts)
+
+-- these are the entries of a walk over the texts
+abbrev pub IsWalkOf : {K : Type 0} → (ℕ → Option K) → List Text → List (K × Text) → Type 0
+IsWalkOf {K} key_at texts entries = map {B = Option K × Text} (λ e. (Some e.0, e.1)) entries ≡ keyed key_at texts
 
 -- the list is written or copied, unless memory is wanting
 abbrev pub MayCopy : List Text → Result (List Text) LassoErrorKind → Type 0
@@ -75,7 +79,7 @@ MayReply key_at s IsEmpty (Flag reply) = reply ≡ nat_eq (length s.texts) 0
 MayReply key_at s Usage (Number reply) = reply ≡ s.usage
 MayReply key_at s MaxUsage (Number reply) = reply ≡ s.limit
 MayReply key_at s (SetLimit limit) Done = Unit {0}
-MayReply key_at s Iterate (Entries reply) = map (λ e. (Some e.0, e.1)) reply ≡ keyed key_at s.texts
+MayReply key_at s Iterate (Entries reply) = IsWalkOf key_at s.texts reply
 MayReply key_at s Strings (Listed reply) = reply ≡ Ok s.texts
 MayReply key_at s Serialize (Listed reply) = MayCopy s.texts reply
 MayReply key_at s Freeze (Listed reply) = MayCopy s.texts reply

@@ -1,2 +1,4 @@
 //! The interner that threads share: its history, and the log that they append to.
 #![tactic(auto)]
+
+pub mod machine;
