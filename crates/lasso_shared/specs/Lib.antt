@@ -4,3 +4,4 @@ pub mod Replies
 pub mod Calls
 pub mod Machine
 pub mod Runs
+pub mod Example

@@ -1,6 +1,7 @@
 //! The shared interner as a machine: what holds whatever steps its calls take, in whatever order.
 
 ghost use Rattle.std.specs.Prelude.{ℕ, Option};
+ghost use Rattle.lasso_shared.specs.Example.{IsWorked};
 ghost use Rattle.lasso_shared.specs.Runs.{EachRunHolds};
 
 use lasso_parts::keys::Key;
@@ -16,4 +17,10 @@ pub fn all_runs()
 /// The same for each type of keys.
 pub fn all_runs_of<K: Key>()
     ensures { EachRunHolds K.key_at }
+{}
+
+/// There are such runs: one was worked by hand, with two calls at once, a bucket of doubled size,
+/// each refusal, a static text and another limit.
+pub fn some_run()
+    ensures { IsWorked }
 {}
