@@ -98,6 +98,7 @@ pub record IsWorked : Type 0 where
   pub starts : IsStart three_keys shard_of empty
   pub runs : IsRun three_keys shard_of empty steps
   pub texts : (run shard_of empty steps).texts ≡ bc ∷ a ∷ ddd ∷ []
+  pub doubling : (run shard_of empty steps).doubling ≡ 4
   pub events : history steps ≡ (7, Event.Reserve 0 1) ∷ (8, Event.Charge 4 2) ∷ (8, Event.Append bc) ∷ (7, Event.Append a) ∷ (9, Event.Limit 100) ∷ (9, Event.Append ddd) ∷ []
   pub replies : replies three_keys shard_of empty steps
       ≡ (Intern Copied bc, Interned (Ok 0))

@@ -5,3 +5,4 @@ pub mod Calls
 pub mod Machine
 pub mod Runs
 pub mod Example
+pub mod Laws

@@ -107,4 +107,4 @@ runs : IsRun three_keys shard_of empty steps
 runs = two_calls_run (one_refused (keys_used_up readings)) (one_refused_run (keys_used_up readings) (keys_used_up_run readings (tt, (tt, (tt, tt)))))
 
 pub returns : goal.returns
-returns c = record { starts = starts; runs = runs; texts = refl; events = refl; replies = refl }
+returns c = record { starts = starts; runs = runs; texts = refl; doubling = refl; events = refl; replies = refl }
