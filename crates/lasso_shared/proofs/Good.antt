@@ -28,6 +28,13 @@ put_cases calls c d h = grind (arith, nat_tests)
 left_cases : (calls : ℕ → Option Call) (c d : Call) → put calls c.number None d.number ≡ Some d → (d.number ≢ c.number) × (calls d.number ≡ Some d)
 left_cases calls c d h = grind (arith, nat_tests)
 
+-- a call goes by its own number, also once one was put in or has left
+put_numbered : (calls : ℕ → Option Call) (c : Call) → ((number : ℕ) (d : Call) → calls number ≡ Some d → d.number ≡ number) → (number : ℕ) (d : Call) → put calls c.number (Some c) number ≡ Some d → d.number ≡ number
+put_numbered calls c numbered number d h = grind (arith, nat_tests, numbered number d)
+
+left_numbered : (calls : ℕ → Option Call) (c : Call) → ((number : ℕ) (d : Call) → calls number ≡ Some d → d.number ≡ number) → (number : ℕ) (d : Call) → put calls c.number None number ≡ Some d → d.number ≡ number
+left_numbered calls c numbered number d h = grind (arith, nat_tests, numbered number d)
+
 -- a number has one call
 one_call : (s : State) (c d : Call) → IsInFlight s c → IsInFlight s d → d.number ≡ c.number → d ≡ c
 one_call s c d hc hd e = grind arith
@@ -64,6 +71,7 @@ module _ {K : Type 0} (key_at : ℕ → Option K) (shard : Text → ℕ) (s : St
   good_begun c own missing fresh free none = record {
     distinct = good.distinct;
     fits = good.fits;
+    numbered = λ number d h. put_numbered s.calls c good.numbered number d h;
     own = λ d h. grind (arith, put_cases s.calls c d h, good.own d);
     apart = λ d e hd he same. grind (arith, put_cases s.calls c d hd, put_cases s.calls c e he, good.apart d e, free d, free e);
     exact = λ k text f. good.exact k text (λ e he. f e (grind (arith, nat_tests, fresh, he)));
@@ -95,6 +103,7 @@ module _ {K : Type 0} (key_at : ℕ → Option K) (shard : Text → ℕ) (s : St
   good_stored c buckets doubling usage flies none filled = record {
     distinct = good.distinct;
     fits = good.fits;
+    numbered = λ number d h. put_numbered s.calls (in_phase Stored c) good.numbered number d h;
     own = own_on c flies Stored;
     apart = apart_on c flies Stored;
     exact = λ k text f. good.exact k text (free_on c flies Stored k f);
@@ -112,6 +121,7 @@ module _ {K : Type 0} (key_at : ℕ → Option K) (shard : Text → ℕ) (s : St
   good_appended c flies none key = record {
     distinct = distinct_push s.texts c.text good.distinct lacks;
     fits = subst (Fits key_at) (sym (length_push s.texts c.text)) (fits_push key_at (length s.texts) good.fits key);
+    numbered = λ number d h. put_numbered s.calls (in_phase phase c) good.numbered number d h;
     own = own_on c flies phase;
     apart = apart_on c flies phase;
     exact = λ k text f.
@@ -154,6 +164,7 @@ module _ {K : Type 0} (key_at : ℕ → Option K) (shard : Text → ℕ) (s : St
   good_refused c flies none = record {
     distinct = good.distinct;
     fits = good.fits;
+    numbered = λ number d h. left_numbered s.calls c good.numbered number d h;
     own = λ d h. good.own d (left_cases s.calls c d h).1;
     apart = λ d e hd he same. good.apart d e (left_cases s.calls c d hd).1 (left_cases s.calls c e he).1 same;
     exact = λ k text f. grind (arith, exact_held c text flies none, good.exact k text, freed c flies k f);
@@ -167,6 +178,7 @@ module _ {K : Type 0} (key_at : ℕ → Option K) (shard : Text → ℕ) (s : St
   good_released c position flies appended = record {
     distinct = good.distinct;
     fits = good.fits;
+    numbered = λ number d h. left_numbered s.calls c good.numbered number d h;
     own = λ d h. good.own d (left_cases s.calls c d h).1;
     apart = λ d e hd he same. good.apart d e (left_cases s.calls c d hd).1 (left_cases s.calls c e he).1 same;
     exact = λ k text f. grind (arith, nat_tests, exact_own text, good.exact k text, freed c flies k f);
@@ -192,6 +204,7 @@ module _ {K : Type 0} (key_at : ℕ → Option K) (shard : Text → ℕ) (s : St
   good_limited limit = record {
     distinct = good.distinct;
     fits = good.fits;
+    numbered = good.numbered;
     own = good.own;
     apart = good.apart;
     exact = good.exact;

@@ -209,7 +209,7 @@ module _ {K : Type 0} (key_at : ℕ → Option K) (shard : Text → ℕ) (s : St
     limited = limited step may;
     explained = explained step may;
     stays = stays step;
-    replies = given step may;
+    answers = given step may;
   }
 
   pub legal_step : (step : Step) → MayStep key_at shard s step → IsLegal key_at (sums s) (events step)
@@ -269,6 +269,7 @@ pub good_start : {K : Type 0} (key_at : ℕ → Option K) (shard : Text → ℕ)
 good_start key_at shard s start = record {
   distinct = start.opening.distinct;
   fits = start.opening.fits;
+  numbered = λ number c h. absurd (none-some c (sym (start.idle number) ∙ h));
   own = λ c flies. absurd (none_flies c flies);
   apart = λ c d flies h same. absurd (none_flies c flies);
   exact = λ k text free. start.index k text;

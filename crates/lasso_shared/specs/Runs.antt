@@ -36,7 +36,8 @@ pub record IsGood {K : Type 0} (key_at : ℕ → Option K) (shard : Text → ℕ
   -- no text stands twice, and each position has a key
   pub distinct : IsDistinct s.texts
   pub fits : Fits key_at (length s.texts)
-  -- each call holds its text's shard, and no two hold one
+  -- each call goes by its own number and holds its text's shard, and no two hold one
+  pub numbered : (number : ℕ) (c : Call) → s.calls number ≡ Some c → c.number ≡ number
   pub own : (c : Call) → IsInFlight s c → c.shard ≡ shard c.text
   pub apart : (c d : Call) → IsInFlight s c → IsInFlight s d → c.shard ≡ d.shard → c.number ≡ d.number
   -- the index of a free shard has exactly the shard's texts, and that of a held one lacks at most its holder's
@@ -89,7 +90,7 @@ pub record IsSound {K : Type 0} (key_at : ℕ → Option K) (shard : Text → �
   -- a reply is explained by what the state holds, which a step that replies leaves as it is
   pub explained : IfSome (reply key_at shard s step) (λ r. MayReply key_at (sums s) r.0 r.1)
   pub stays : IfSome (reply key_at shard s step) (λ r. sums (after shard s step) ≡ sums s)
-  pub replies : OwesReply shard s step → IsSome (reply key_at shard s step)
+  pub answers : OwesReply shard s step → IsSome (reply key_at shard s step)
 
 -- what holds of these steps from the start on, and of any one more
 pub record HoldsInRun {K : Type 0} (key_at : ℕ → Option K) (shard : Text → ℕ) (start : State) (steps : List Step) : Type 0 where

@@ -24,3 +24,6 @@ pub fn all_runs_of<K: Key>()
 pub fn some_run()
     ensures { IsWorked }
 {}
+
+#[cfg(test)]
+mod tests;
