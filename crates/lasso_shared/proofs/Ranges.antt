@@ -1,9 +1,9 @@
 -- Buckets with their ranges: taking bytes at the used end keeps the ranges one after the other and inside.
-use Rattle.std.proofs.Common.{◌≡◌, ◌≢◌, ℕ, zero, suc, ◌+◌, ◌≤◌, List, [], ◌∷◌, ◌++◌, map, All, slice_get, refl, sym, ap, ◌∙◌, arith}
+use Rattle.std.proofs.Common.{◌≡◌, ℕ, zero, suc, ◌+◌, ◌≤◌, List, [], ◌∷◌, ◌++◌, map, All, slice_get, refl, sym, ap, arith}
 use Rattle.std.specs.Prelude.{IsSomeAnd}
 use Rattle.std.specs.List.{AllByRecursion}
 use Rattle.std.proofs.lemmas.List.Elements.{All-from_recursion, recursion_from_All}
-use Rattle.lasso_shared.specs.Buckets.{Bucket, with_taken, changed_at}
+use Rattle.lasso_shared.specs.Buckets.{Bucket, changed_at}
 use Rattle.lasso_shared.specs.Machine.{Range, RangedBucket, reserved, charged}
 use Rattle.lasso_shared.specs.Runs.{Follow, IsFilled}
 

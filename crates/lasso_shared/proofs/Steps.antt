@@ -4,19 +4,19 @@
 -- asked for, and that the list lacks the text comes from the state. The events of a step are what it does to the list, the
 -- buckets, the usage and the limit; so the events of a run add up to what the run leaves.
 use mathlib.Core.List.{IsPrefix}
-use Rattle.std.proofs.Common.{◌≡◌, ◌≢◌, ℕ, ◌+◌, ◌<◌, ◌≤◌, List, [], ◌∷◌, ◌++◌, map, length, Option, Some, None, IsSome, is_some, IfSome, All, slice_get, option_map, option_and_then, Result, Ok, Err, refl, sym, ap, ◌∙◌, subst, ⊎_elim, inl, inr, arith, append-nil, append_assoc}
+use Rattle.std.proofs.Common.{◌≡◌, ◌≢◌, ℕ, ◌+◌, ◌<◌, ◌≤◌, List, [], ◌∷◌, ◌++◌, map, length, Option, Some, None, IsSome, is_some, IfSome, option_and_then, Err, refl, sym, ap, ◌∙◌, subst, ⊎_elim, inl, arith, append-nil, append_assoc}
 use Rattle.std.specs.List.{enumerate_from}
 use Rattle.std.proofs.lemmas.Option.{none-some}
 use Rattle.std.proofs.lemmas.List.{map-append}
 use Rattle.std.proofs.lemmas.List.Elements.{All-push}
-use Rattle.lasso_parts.specs.Texts.{Text, position_of, key_of, Fits}
+use Rattle.lasso_parts.specs.Texts.{Text, position_of, key_of}
 use Rattle.lasso_parts.specs.declared.util.LassoErrorKind.{LassoErrorKind}
 use Rattle.lasso_parts.specs.declared.util.LassoErrorKind.TheVariants.{MemoryLimitReached, KeySpaceExhaustion, FailedAllocation}
 use Rattle.lasso_parts.proofs.TextLemmas.{key_of_present}
 use Rattle.lasso_parts.proofs.IndexLaws.{position_of_at}
 use Rattle.lasso_shared.specs.Buckets.{Bucket, with_taken, changed_at, doubling_after}
-use Rattle.lasso_shared.specs.History.{History, Totals, totals, IsLegal}
-use Rattle.lasso_shared.specs.Replies.{Keeping, Question, Intern, Get, Contains, ContainsKey, Resolve, Len, IsEmpty, Usage, MaxUsage, Iterate, Strings, Serialize, Freeze, Reply, Interned, keyed, MayReply}
+use Rattle.lasso_shared.specs.History.{Totals, totals, IsLegal}
+use Rattle.lasso_shared.specs.Replies.{Keeping, Question, Intern, Get, Contains, ContainsKey, Resolve, Len, IsEmpty, Usage, MaxUsage, Iterate, Strings, Serialize, Freeze, Interned, MayReply}
 use Rattle.lasso_shared.specs.Machine.{RangedBucket, Phase, Missing, Stored, Appended, Call, State, Step, Take, Reserve, Charge, Append, Release, Refuse, Read, SetLimit, IsInFlight, IsFree, IsReady, MayRefuse, MayRead, MayStep, new_call, taken, after, events, replied, interned, with_key, entries_from, read, reply, sums, reserved, charged}
 use Rattle.lasso_shared.specs.Runs.{IsFilled, StandsBy, IsGood, IsStart, IsRun, run, history, OwesReply, IsSound, HoldsInRun}
 use Rattle.lasso_shared.proofs.Histories.{totals_append, legal_append, bucket_fits}

@@ -2,7 +2,6 @@
 use Rattle.std.specs.Prelude.{◌≡◌, ◌⊎◌, ◌==◌, ℕ, ◌+◌, ◌<◌, ◌≤◌, List, [], ◌∷◌, ◌++◌, length, Option, Some, None, IsSome, IfSome, option_to_list, All, slice_get, if◌then◌else◌}
 use mathlib.Core.List.{IsPrefix}
 use Rattle.lasso_parts.specs.Texts.{Text, position_of, IsDistinct, Fits}
-use Rattle.lasso_shared.specs.Buckets.{Bucket}
 use Rattle.lasso_shared.specs.History.{History, IsOpening, totals, Lacks, IsLegal}
 use Rattle.lasso_shared.specs.Replies.{Question, Reply, MayReply}
 use Rattle.lasso_shared.specs.Machine.{Range, RangedBucket, Phase, Missing, Stored, Appended, Call, State, Step, Take, Release, Refuse, Read, IsInFlight, IsFree, MayStep, after, events, reply, sums}

@@ -24,6 +24,3 @@ pub fn all_runs_of<K: Key>()
 pub fn some_run()
     ensures { IsWorked }
 {}
-
-#[cfg(test)]
-mod tests;
