@@ -1,5 +1,5 @@
 pub mod Positions
-pub mod Histories
+pub mod Legal
 mod Ranges
-mod Good
-mod Steps
+mod MachineGood
+mod MachineSteps

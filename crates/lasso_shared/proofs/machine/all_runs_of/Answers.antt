@@ -1,4 +1,4 @@
-use Rattle.lasso_shared.proofs.Steps.{holds_from_start}
+use Rattle.lasso_shared.proofs.MachineSteps.{holds_from_start}
 use Rattle.lasso_shared.proofs.machine.all_runs_of.Goals as goal
 
 pub returns : goal.returns

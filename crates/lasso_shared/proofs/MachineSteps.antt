@@ -19,9 +19,9 @@ use Rattle.lasso_shared.specs.History.{Totals, totals, IsLegal}
 use Rattle.lasso_shared.specs.Replies.{Keeping, Question, Intern, Get, Contains, ContainsKey, Resolve, Len, IsEmpty, Usage, MaxUsage, Iterate, Strings, Serialize, Freeze, Interned, MayReply}
 use Rattle.lasso_shared.specs.Machine.{RangedBucket, Phase, Missing, Stored, Appended, Call, State, Step, Take, Reserve, Charge, Append, Release, Refuse, Read, SetLimit, IsInFlight, IsFree, IsReady, MayRefuse, MayRead, MayStep, new_call, taken, after, events, replied, interned, with_key, entries_from, read, reply, sums, reserved, charged}
 use Rattle.lasso_shared.specs.Runs.{IsFilled, StandsBy, IsGood, IsStart, IsRun, run, history, OwesReply, IsSound, HoldsInRun}
-use Rattle.lasso_shared.proofs.Histories.{totals_append, legal_append, bucket_fits}
+use Rattle.lasso_shared.proofs.Legal.{totals_append, legal_append, bucket_fits}
 use Rattle.lasso_shared.proofs.Ranges.{map_changed, reserved_filled, charged_filled}
-use Rattle.lasso_shared.proofs.Good.{HasAppendedNone, found_free, lacks_own, good_begun, good_stored, good_appended, good_refused, good_released, good_limited}
+use Rattle.lasso_shared.proofs.MachineGood.{HasAppendedNone, found_free, lacks_own, good_begun, good_stored, good_appended, good_refused, good_released, good_limited}
 
 -- ---- calls that have appended nothing
 
