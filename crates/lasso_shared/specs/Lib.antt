@@ -5,4 +5,5 @@ pub mod Calls
 pub mod Machine
 pub mod Runs
 pub mod Example
+pub mod ExampleCalls
 pub mod Laws

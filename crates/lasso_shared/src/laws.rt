@@ -1,5 +1,6 @@
 //! Laws of the shared history, each as the contract of a function that does nothing.
 
+ghost use Rattle.lasso_shared.specs.ExampleCalls.{AreCalls, AreNoCalls};
 ghost use Rattle.lasso_shared.specs.Laws.{EachHistoryHolds, RefusesExactlyPastLimit};
 
 use lasso_parts::keys::Key;
@@ -15,4 +16,15 @@ pub fn legal_histories_hold<K: Key>()
 /// pass the limit: so such a text may always be stored or refused, and never both.
 pub fn charge_refuses_exactly_past_limit()
     ensures { RefusesExactlyPastLimit }
+{}
+
+/// Calls that were worked by hand are calls by the definition.
+pub fn worked_calls_are_calls()
+    ensures { AreCalls }
+{}
+
+/// Wrong calls are none: an append that is dropped or doubled, a refusal that takes a position, a text
+/// that the pass had seen and that is not found, and others.
+pub fn wrong_calls_are_none()
+    ensures { AreNoCalls }
 {}
