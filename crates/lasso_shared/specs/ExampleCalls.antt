@@ -1,7 +1,7 @@
 -- Calls that were worked by hand, and wrong ones that are no calls.
-use Rattle.std.specs.Prelude.{ℕ, List, [], ◌∷◌, ◌++◌, Option, Some, None, Ok, Err}
+use Rattle.std.specs.Prelude.{ℕ, [], ◌∷◌, ◌++◌, Some, None, Ok, Err}
 use Rattle.lasso_parts.specs.declared.util.LassoErrorKind.TheVariants.{MemoryLimitReached, KeySpaceExhaustion}
-use Rattle.lasso_shared.specs.History.{Event, Reserve, Charge, Append, Limit, History, Totals, opened, IsLegal}
+use Rattle.lasso_shared.specs.History.{Reserve, Charge, Append, Limit, History, Totals, opened, IsLegal}
 use Rattle.lasso_shared.specs.Replies.{Copied, Static, Question, Intern, Get, Iterate, Strings, SetLimit, Reply, Interned, Found, Done, Entries, Listed}
 use Rattle.lasso_shared.specs.Calls.{IsCall}
 use Rattle.lasso_shared.specs.Example.{three_keys, a, bc, ddd, e}

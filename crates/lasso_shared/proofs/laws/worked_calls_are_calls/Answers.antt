@@ -1,5 +1,5 @@
 -- Each call with the place at which its reply is read.
-use Rattle.std.proofs.Common.{◌<◌, ◌+◌, ℕ, All, List, [], ◌∷◌, refl, inl, inr, arith}
+use Rattle.std.proofs.Common.{◌<◌, ◌+◌, ℕ, List, [], ◌∷◌, refl, inl, inr, arith}
 use Rattle.std.proofs.lemmas.List.Elements.{All-cons, All-nil}
 use Rattle.lasso_shared.specs.Buckets.{Bucket, HasNoRoom}
 use Rattle.lasso_shared.specs.History.{Reserve, Charge, Append, Limit}

@@ -1,14 +1,12 @@
 -- What is past the entry is what the exit has more. So own events are those, and where there is none the reply is read at the entry.
-use Rattle.std.proofs.Common.{◌≡◌, ℕ, List, [], ◌∷◌, ◌++◌, length, Option, Some, None, Ok, Err, All, refl, sym, ap, ◌∙◌, subst, ⊎_elim, arith, append-nil, append_assoc, inl, inr}
+use Rattle.std.proofs.Common.{◌≡◌, ℕ, List, [], ◌∷◌, ◌++◌, None, Ok, Err, refl, sym, ap, ◌∙◌, subst, ⊎_elim, arith, append-nil}
 use Rattle.std.proofs.lemmas.List.{append_cancel_left}
 use Rattle.std.proofs.lemmas.Option.{none-some}
-use Rattle.lasso_shared.specs.Buckets.{Bucket}
-use Rattle.lasso_shared.specs.History.{Event, Append, History, Totals, totals}
+use Rattle.lasso_shared.specs.History.{Append, History, totals}
 use Rattle.lasso_parts.specs.Texts.{Text}
-use Rattle.lasso_parts.specs.declared.util.LassoErrorKind.{LassoErrorKind}
 use Rattle.lasso_parts.specs.declared.util.LassoErrorKind.TheVariants.{MemoryLimitReached, KeySpaceExhaustion}
 use Rattle.lasso_shared.specs.Replies.{Copied, Static, Question, Intern, Get, Strings, Reply, Interned, Found, Listed, MayReply}
-use Rattle.lasso_shared.specs.Calls.{IsCall, Adds, Makes, events_of}
+use Rattle.lasso_shared.specs.Calls.{Adds, Makes, events_of}
 use Rattle.lasso_shared.specs.Example.{three_keys, a, bc, ddd, e}
 use Rattle.lasso_shared.specs.ExampleCalls.{opening, two, three, Calls}
 use Rattle.lasso_shared.proofs.laws.wrong_calls_are_none.Goals as goal
