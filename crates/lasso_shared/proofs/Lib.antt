@@ -1,0 +1,5 @@
+pub mod Positions
+pub mod Legal
+mod Ranges
+mod MachineGood
+mod MachineSteps

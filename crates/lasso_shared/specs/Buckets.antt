@@ -1,0 +1,36 @@
+-- The buckets that copied texts lie in, as the history of a shared interner counts them, and the bucket that is added.
+use Rattle.std.specs.Prelude.{ℕ, zero, suc, ◌+◌, ◌-◌, ◌<◌, List, [], ◌∷◌, All, Option, option_map, unwrap_or}
+use Rattle.lasso_parts.specs.Account.{Account, store}
+
+pub record Bucket : Type 0 where
+  -- how many bytes it has
+  pub size : ℕ
+  -- how many of them were taken, from its start on
+  pub used : ℕ
+
+-- the bucket with n more bytes taken
+abbrev pub with_taken : ℕ → Bucket → Bucket
+with_taken n b = record b { used = b.used + n }
+
+-- the list with the item at this place changed
+abbrev pub changed_at : {A : Type 0} → ℕ → (A → A) → List A → List A
+changed_at place f [] = []
+changed_at zero f (x ∷ xs) = f x ∷ xs
+changed_at (suc place) f (x ∷ xs) = x ∷ changed_at place f xs
+
+-- no bucket has room for n bytes
+abbrev pub HasNoRoom : List Bucket → ℕ → Type 0
+HasNoRoom buckets n = All (λ (b : Bucket). b.size < b.used + n) buckets
+
+-- the account of an interner whose buckets have no room
+abbrev pub full : (doubling usage limit : ℕ) → Account
+full doubling usage limit = record { room = 0; size = 0; doubling = doubling; usage = usage; limit = limit }
+
+-- the size of the bucket that n bytes, at least one, ask for where no bucket has room, or none where the limit refuses it:
+-- by as much the usage grows
+abbrev pub bucket_size : (doubling usage limit n : ℕ) → Option ℕ
+bucket_size doubling usage limit n = option_map (λ (a : Account). a.usage - usage) (store (full doubling usage limit) n)
+
+-- the doubling size once that bucket is there
+abbrev pub doubling_after : (doubling usage limit n : ℕ) → ℕ
+doubling_after doubling usage limit n = unwrap_or (option_map (λ (a : Account). a.doubling) (store (full doubling usage limit) n)) doubling

@@ -1,0 +1,244 @@
+-- A shared interner as a machine: what it holds, and the steps that its calls take, in any order.
+use Rattle.std.specs.Prelude.{◌≡◌, ◌≢◌, ◌⊎◌, ◌==◌, ℕ, ◌+◌, ◌<◌, ◌≤◌, List, [], ◌∷◌, ◌++◌, map, length, Option, Some, None, IsSome, IsSomeAnd, is_some, option_map, option_and_then, slice_get, bytes_eq, nat_eq, nat_lt, if◌then◌else◌, Ok, Err}
+use Rattle.lasso_parts.specs.Texts.{Text}
+use Rattle.lasso_parts.specs.declared.util.LassoErrorKind.{LassoErrorKind}
+use Rattle.lasso_parts.specs.declared.util.LassoErrorKind.TheVariants.{MemoryLimitReached, KeySpaceExhaustion, FailedAllocation}
+use Rattle.lasso_shared.specs.Buckets.{Bucket, with_taken, changed_at, HasNoRoom, bucket_size, doubling_after}
+use Rattle.lasso_shared.specs.History.{Event, History, Totals}
+use Rattle.lasso_shared.specs.Replies.{Keeping, Copied, Static, Question, Intern, Get, Contains, ContainsKey, Resolve, Len, IsEmpty, Usage, MaxUsage, Iterate, Strings, Serialize, Reply, Interned, Found, Flag, Resolved, Number, Entries, Listed}
+
+-- bytes that were taken in a bucket: where they begin, and how many they are
+pub record Range : Type 0 where
+  pub start : ℕ
+  pub bytes : ℕ
+
+-- a bucket, and the ranges that were taken in it
+pub record RangedBucket : Type 0 where
+  pub bucket : Bucket
+  pub ranges : List Range
+
+-- how far a call that interns a text has come
+pub data Phase : Type 0 where
+  -- the text was looked up, and is missing
+  Missing : Phase
+  -- the text's bytes have a place
+  Stored : Phase
+  -- the text stands in the list, at this position
+  Appended : (position : ℕ) → Phase
+
+-- a call in flight, which interns a text and holds a shard
+pub record Call : Type 0 where
+  pub number : ℕ
+  pub keeping : Keeping
+  pub text : Text
+  pub shard : ℕ
+  pub phase : Phase
+
+pub record State : Type 0 where
+  pub texts : List Text
+  pub buckets : List RangedBucket
+  pub doubling : ℕ
+  pub usage : ℕ
+  pub limit : ℕ
+  -- each shard's index, from texts to positions
+  pub index : ℕ → Text → Option ℕ
+  -- the call of each number that is in flight
+  pub calls : ℕ → Option Call
+
+pub data Step : Type 0 where
+  -- a call takes its text's shard, and looks the text up
+  Take : (number : ℕ) (keeping : Keeping) (text : Text) → Step
+  -- a call takes its text's bytes at the used end of the bucket at this place
+  Reserve : (call : Call) (place : ℕ) → Step
+  -- a call adds a bucket of this size, with its text's bytes taken
+  Charge : (call : Call) (size : ℕ) → Step
+  -- a call puts its text last
+  Append : (call : Call) → Step
+  -- a call enters its text's position into the index, replies the key, and lets the shard go
+  Release : (call : Call) (position : ℕ) → Step
+  -- a call replies this refusal, and lets the shard go
+  Refuse : (call : Call) (why : LassoErrorKind) → Step
+  -- something is read, and nothing changes
+  Read : (question : Question) → Step
+  -- the limit is replaced
+  SetLimit : (number limit : ℕ) → Step
+
+-- ---- when a step may be taken
+
+abbrev pub IsInFlight : State → Call → Type 0
+IsInFlight s c = s.calls c.number ≡ Some c
+
+-- no call holds the shard
+abbrev pub IsFree : State → ℕ → Type 0
+IsFree s k = (c : Call) → IsInFlight s c → c.shard ≢ k
+
+-- the text has bytes that are to be copied
+abbrev pub NeedsBytes : Call → Type 0
+NeedsBytes c = (c.keeping ≡ Copied) × (c.text ≢ [])
+
+abbrev pub NeedsNone : Call → Type 0
+NeedsNone c = (c.keeping ≡ Static) ⊎ (c.text ≡ [])
+
+-- the call has a place for its bytes, or needs none
+abbrev pub IsReady : Call → Type 0
+IsReady c = (c.phase ≡ Stored) ⊎ ((c.phase ≡ Missing) × NeedsNone c)
+
+-- the buckets without their ranges
+abbrev pub buckets_of : State → List Bucket
+buckets_of s = map (λ (b : RangedBucket). b.bucket) s.buckets
+
+-- whether a call may be refused like this
+abbrev pub MayRefuse : {K : Type 0} → (ℕ → Option K) → State → Call → LassoErrorKind → Type 0
+MayRefuse key_at s c MemoryLimitReached =
+    (c.phase ≡ Missing) × NeedsBytes c × HasNoRoom (buckets_of s) (length c.text) × (s.limit < s.usage + length c.text)
+MayRefuse key_at s c KeySpaceExhaustion = IsReady c × (key_at (length s.texts) ≡ None)
+MayRefuse key_at s c FailedAllocation = c.phase ≡ Missing
+
+-- whether this may be read: an index only while no call holds its shard
+abbrev pub MayRead : (Text → ℕ) → State → Question → Type 0
+MayRead shard s (Get text) = IsFree s (shard text)
+MayRead shard s (Contains text) = IsFree s (shard text)
+MayRead shard s (Intern keeping text) = ⊥
+MayRead shard s (Question.SetLimit limit) = ⊥
+MayRead shard s Question.Freeze = ⊥
+MayRead shard s question = Unit {0}
+
+-- Whether the step may be taken. `shard` gives the shard of each text, and `key_at` the key of each position, or none.
+-- An append asks for a key, and doesn't look whether the list has the text.
+abbrev pub MayStep : {K : Type 0} → (ℕ → Option K) → (Text → ℕ) → State → Step → Type 0
+MayStep key_at shard s (Take number keeping text) = (s.calls number ≡ None) × IsFree s (shard text)
+MayStep key_at shard s (Reserve c place) =
+    IsInFlight s c × (c.phase ≡ Missing) × NeedsBytes c
+    × IsSomeAnd (slice_get (buckets_of s) place) (λ (b : Bucket). b.used + length c.text ≤ b.size)
+MayStep key_at shard s (Charge c size) =
+    IsInFlight s c × (c.phase ≡ Missing) × NeedsBytes c × HasNoRoom (buckets_of s) (length c.text)
+    × (bucket_size s.doubling s.usage s.limit (length c.text) ≡ Some size)
+MayStep key_at shard s (Append c) = IsInFlight s c × IsReady c × IsSome (key_at (length s.texts))
+MayStep key_at shard s (Release c position) = IsInFlight s c × (c.phase ≡ Appended position)
+MayStep key_at shard s (Refuse c why) = IsInFlight s c × MayRefuse key_at s c why
+MayStep key_at shard s (Read question) = MayRead shard s question
+MayStep key_at shard s (SetLimit number limit) = Unit {0}
+
+-- ---- what a step leaves
+
+-- the function with another value at this argument
+abbrev pub put : {A : Type 0} → (ℕ → A) → ℕ → A → ℕ → A
+put f k x i = if i == k then x else f i
+
+-- the call is in flight as it now is
+abbrev pub with_call : State → Call → State
+with_call s c = record s { calls = put s.calls c.number (Some c) }
+
+-- the call has left
+abbrev pub without : State → Call → State
+without s c = record s { calls = put s.calls c.number None }
+
+abbrev pub in_phase : Phase → Call → Call
+in_phase phase c = record c { phase = phase }
+
+-- the index with one more text
+abbrev pub entered : (Text → Option ℕ) → Text → ℕ → Text → Option ℕ
+entered index text position t = if bytes_eq text t then Some position else index t
+
+-- the bucket with n more bytes taken at its used end
+abbrev pub reserved : ℕ → RangedBucket → RangedBucket
+reserved n b =
+    record {
+      bucket = with_taken n b.bucket;
+      ranges = b.ranges ++ record { start = b.bucket.used; bytes = n } ∷ [];
+    }
+
+-- a new bucket of this size, with n bytes taken
+abbrev pub charged : (size n : ℕ) → RangedBucket
+charged size n = record { bucket = record { size = size; used = n }; ranges = record { start = 0; bytes = n } ∷ [] }
+
+-- a call that took its shard is done where the index had its text, and else goes on
+abbrev pub taken : State → Call → Option ℕ → State
+taken s c (Some position) = s
+taken s c None = with_call s c
+
+-- the call as it begins
+abbrev pub new_call : (Text → ℕ) → ℕ → Keeping → Text → Call
+new_call shard number keeping text =
+    record {
+      number = number;
+      keeping = keeping;
+      text = text;
+      shard = shard text;
+      phase = Missing;
+    }
+
+abbrev pub after : (Text → ℕ) → State → Step → State
+after shard s (Take number keeping text) = taken s (new_call shard number keeping text) (s.index (shard text) text)
+after shard s (Reserve c place) = record (with_call s (in_phase Stored c)) { buckets = changed_at place (reserved (length c.text)) s.buckets }
+after shard s (Charge c size) =
+    record (with_call s (in_phase Stored c)) {
+      buckets = s.buckets ++ charged size (length c.text) ∷ [];
+      doubling = doubling_after s.doubling s.usage s.limit (length c.text);
+      usage = s.usage + size;
+    }
+after shard s (Append c) = record (with_call s (in_phase (Appended (length s.texts)) c)) { texts = s.texts ++ c.text ∷ [] }
+after shard s (Release c position) = record (without s c) { index = put s.index c.shard (entered (s.index c.shard) c.text position) }
+after shard s (Refuse c why) = without s c
+after shard s (Read question) = s
+after shard s (SetLimit number limit) = record s { limit = limit }
+
+-- ---- what a step adds to the history, and what it replies
+
+abbrev pub events : Step → History
+events (Reserve c place) = (c.number, Event.Reserve place (length c.text)) ∷ []
+events (Charge c size) = (c.number, Event.Charge size (length c.text)) ∷ []
+events (Append c) = (c.number, Event.Append c.text) ∷ []
+events (SetLimit number limit) = (number, Event.Limit limit) ∷ []
+events step = []
+
+-- the question beside its reply, where there is one
+abbrev pub replied : {K : Type 0} → Question → Option (Reply K) → Option (Question × Reply K)
+replied question given = option_map (λ r. (question, r)) given
+
+-- the reply to an intern whose text has this key
+abbrev pub interned : {K : Type 0} → Keeping → Text → Option K → Option (Question × Reply K)
+interned keeping text key = replied (Intern keeping text) (option_map (λ k. Interned (Ok k)) key)
+
+-- the entries of a walk: the texts beside their keys, where there are keys
+abbrev pub with_key : {K : Type 0} → Option K → Text → List (K × Text) → List (K × Text)
+with_key None text entries = entries
+with_key (Some k) text entries = (k, text) ∷ entries
+
+abbrev pub entries_from : {K : Type 0} → (ℕ → Option K) → ℕ → List Text → List (K × Text)
+entries_from key_at n [] = []
+entries_from key_at n (text ∷ texts) = with_key (key_at n) text (entries_from key_at (n + 1) texts)
+
+-- what is read: look-ups of texts read their shard's index, and all else the list, the usage or the limit
+abbrev pub read : {K : Type 0} → (ℕ → Option K) → (Text → ℕ) → State → Question → Option (Reply K)
+read key_at shard s (Get text) = Some (Found (option_and_then key_at (s.index (shard text) text)))
+read key_at shard s (Contains text) = Some (Flag (is_some (s.index (shard text) text)))
+read key_at shard s (ContainsKey number) = Some (Flag (nat_lt number (length s.texts)))
+read key_at shard s (Resolve number) = Some (Resolved (slice_get s.texts number))
+read key_at shard s Len = Some (Number (length s.texts))
+read key_at shard s IsEmpty = Some (Flag (nat_eq (length s.texts) 0))
+read key_at shard s Usage = Some (Number s.usage)
+read key_at shard s MaxUsage = Some (Number s.limit)
+read key_at shard s Iterate = Some (Entries (entries_from key_at 0 s.texts))
+read key_at shard s Strings = Some (Listed (Ok s.texts))
+read key_at shard s Serialize = Some (Listed (Ok s.texts))
+read key_at shard s question = None
+
+-- what a step replies, and to what; none, where it replies nothing
+abbrev pub reply : {K : Type 0} → (ℕ → Option K) → (Text → ℕ) → State → Step → Option (Question × Reply K)
+reply key_at shard s (Take number keeping text) = interned keeping text (option_and_then key_at (s.index (shard text) text))
+reply key_at shard s (Release c position) = interned c.keeping c.text (key_at position)
+reply key_at shard s (Refuse c why) = Some (Intern c.keeping c.text, Interned (Err why))
+reply key_at shard s (Read question) = replied question (read key_at shard s question)
+reply key_at shard s step = None
+
+-- what the state holds, without ranges, indexes and calls
+abbrev pub sums : State → Totals
+sums s =
+    record {
+      texts = s.texts;
+      buckets = buckets_of s;
+      doubling = s.doubling;
+      usage = s.usage;
+      limit = s.limit;
+    }

@@ -1,0 +1,30 @@
+//! Laws of the shared history, each as the contract of a function that does nothing.
+
+ghost use Rattle.lasso_shared.specs.ExampleCalls.{AreCalls, AreNoCalls};
+ghost use Rattle.lasso_shared.specs.Laws.{EachHistoryHolds, RefusesExactlyPastLimit};
+
+use lasso_parts::keys::Key;
+
+/// In every legal history of an opening no text stands twice and each position has a key, no bucket
+/// holds more bytes than it has, and the usage is the sum of their sizes. A longer history has a
+/// longer list, and no event raises the usage past the limit in force.
+pub fn legal_histories_hold<K: Key>()
+    ensures { EachHistoryHolds K.key_at }
+{}
+
+/// Where no bucket has room, a text's bytes get no new bucket exactly where the usage and the bytes
+/// pass the limit: so such a text may always be stored or refused, and never both.
+pub fn charge_refuses_exactly_past_limit()
+    ensures { RefusesExactlyPastLimit }
+{}
+
+/// Calls that were worked by hand are calls by the definition.
+pub fn worked_calls_are_calls()
+    ensures { AreCalls }
+{}
+
+/// Wrong calls are none: an append that is dropped or doubled, a refusal that takes a position, a text
+/// that the pass had seen and that is not found, and others.
+pub fn wrong_calls_are_none()
+    ensures { AreNoCalls }
+{}

@@ -1,0 +1,5 @@
+//! The interner that threads share: its history, and the log that they append to.
+#![tactic(auto)]
+
+pub mod laws;
+pub mod machine;
