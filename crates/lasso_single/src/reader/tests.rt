@@ -17,11 +17,23 @@ fn places(reader: &SpurReader) -> (Option<usize>, Option<usize>) {
     )
 }
 
+fn is_shared<T: Send + Sync>(_value: &T) {}
+
+// Whatever the keys, the hasher and the allocator are, a reader and its walks cross threads where these do.
+fn crosses<K: Key + Send + Sync, S: BuildHasher + Send + Sync, A: Allocator + Send + Sync>(
+    reader: &RodeoReader<K, S, A>,
+) {
+    is_shared(reader);
+    is_shared(&reader.iter());
+    is_shared(&reader.strings());
+}
+
 #[test]
 fn two_threads_share_a_reader(rt: HostRuntime) -> Result<(), Fail> {
     let mut rodeo = Rodeo::default(rt.alloc())?;
     rodeo.try_get_or_intern("A")?;
     let reader = rodeo.into_reader();
+    crosses(&reader);
     let (here, there) = thread::join(&rt, || places(&reader), || places(&reader));
     assert_eq!(rt; here, (Some(0), None));
     assert_eq!(rt; there, (Some(0), None));

@@ -14,6 +14,13 @@ fn texts(resolver: &RodeoResolver<Spur, Global>, near: Spur, far: Spur) -> (bool
     )
 }
 
+fn is_shared<T: Send + Sync>(_value: &T) {}
+
+// Whatever the keys and the allocator are, a resolver crosses threads where these do.
+fn crosses<K: Key + Send + Sync, A: Allocator + Send + Sync>(resolver: &RodeoResolver<K, A>) {
+    is_shared(resolver);
+}
+
 #[test]
 fn two_threads_share_a_resolver(rt: HostRuntime) -> Result<(), Fail> {
     let mut rodeo = Rodeo::default(rt.alloc())?;
@@ -21,6 +28,7 @@ fn two_threads_share_a_resolver(rt: HostRuntime) -> Result<(), Fail> {
     let far = Spur::try_from_usize(10).ok_or("no key")?;
     let resolver = rodeo.into_resolver();
     assert_eq!(rt; near.into_usize(), 0);
+    crosses(&resolver);
     let (here, there) = thread::join(
         &rt,
         || texts(&resolver, near, far),
