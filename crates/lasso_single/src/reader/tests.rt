@@ -1,4 +1,5 @@
 //! Readers alone, in two threads, under one hash, and with keys that ran out.
+ghost use Rattle.std.specs.Prelude.{All, ◌≤◌, length};
 
 use super::*;
 use crate::fixtures::{Gap, SameState};
@@ -70,6 +71,25 @@ fn a_reader_shows_the_list_that_was_frozen(rt: HostRuntime) -> Result<(), Fail> 
     let resolver = twin.into_resolver();
     assert!(rt; reader.eq_resolver(&resolver));
     assert!(rt; resolver.eq_reader(&reader));
+    Ok(())
+}
+
+// How many bytes the longest text has: what a walk's caller can prove of a loop over it.
+fn longest<K: Key, S: BuildHasher, A: Allocator>(reader: &RodeoReader<K, S, A>) -> usize
+    ensures { All (λ t. length t ≤ result) reader.now }
+{
+    let mut most = 0;
+    for (_key, text) in reader {
+        most = most.max(text.len());
+    }
+    most
+}
+
+#[test]
+fn a_loop_sees_each_text(rt: HostRuntime) -> Result<(), Fail> {
+    let mut rodeo = Rodeo::default(rt.alloc())?;
+    rodeo.extend(["ab", "cdef", "g"])?;
+    assert_eq!(rt; longest(&rodeo.into_reader()), 4);
     Ok(())
 }
 
