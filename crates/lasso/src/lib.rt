@@ -9,6 +9,7 @@ pub use lasso_parts::arena::{Arena, Span};
 pub use lasso_parts::bucket::Bucket;
 pub use lasso_parts::bucket::region::Region;
 pub use lasso_parts::index::{Index, Texts, hash_text};
+pub use lasso_parts::iter::{Iter, Strings};
 pub use lasso_parts::keys::{Key, LargeSpur, MicroSpur, MiniSpur, Spur};
 pub use lasso_parts::laws::{
     store_never_grows_past_limit, store_refuses_exactly_past_limit, store_serves_as_worked,
@@ -18,4 +19,17 @@ pub use lasso_parts::util::{
     Capacity, FixedState, LassoError, LassoErrorKind, LassoResult, MemoryLimits,
 };
 pub use lasso_single::commands::{Command, Reply, run_commands};
+pub use lasso_single::reader::RodeoReader;
+pub use lasso_single::resolver::RodeoResolver;
 pub use lasso_single::rodeo::Rodeo;
+
+use std::alloc::Global;
+
+/// A `Rodeo` with `Spur` keys, the hasher of fixed seed and the global allocator.
+pub type SpurRodeo = Rodeo<Spur, FixedState, Global>;
+
+/// A `RodeoReader` with `Spur` keys, the hasher of fixed seed and the global allocator.
+pub type SpurRodeoReader = RodeoReader<Spur, FixedState, Global>;
+
+/// A `RodeoResolver` with `Spur` keys and the global allocator.
+pub type SpurRodeoResolver = RodeoResolver<Spur, Global>;
