@@ -6,8 +6,8 @@ use lasso::{FixedState, Key, Rodeo, Spur};
 use std::alloc::{AllocError, Global};
 use std::collections::HashMap;
 
-/// A pool of distinct texts, each with a key.
-pub trait TextPool: Drop {
+/// Texts that are read by their keys.
+pub trait KeyedTexts: Drop {
     type Key: Copy;
 
     // the texts in the order of their keys
@@ -16,6 +16,13 @@ pub trait TextPool: Drop {
     // the position that a key stands for
     ghost number: { Self.Key → ℕ };
 
+    /// The key's text, or `None` where the key stands for no text of this pool.
+    fn resolve(&self, key: Self::Key) -> Option<&str>
+        ensures { option_map (λ text. text.now) result ≡ slice_get (texts self.now) (number key) };
+}
+
+/// A pool of distinct texts, each with a key.
+pub trait TextPool: KeyedTexts {
     /// A pool without texts. It is refused for want of memory alone.
     fn new(alloc: Global) -> Result<Self, AllocError>;
 
@@ -25,10 +32,6 @@ pub trait TextPool: Drop {
 
     /// The key of the text, or `None` where it is not there.
     fn get(&self, text: &str) -> Option<Self::Key>;
-
-    /// The key's text, or `None` where the key stands for no text of this pool.
-    fn resolve(&self, key: Self::Key) -> Option<&str>
-        ensures { option_map (λ text. text.now) result ≡ slice_get (texts self.now) (number key) };
 
     /// The key's position.
     fn position(key: Self::Key) -> usize
@@ -41,13 +44,29 @@ pub struct RodeoPool {
     rodeo: Rodeo<Spur, FixedState, Global>,
 }
 
-impl TextPool for RodeoPool {
+impl RodeoPool {
+    /// The interner.
+    pub fn into_rodeo(self) -> Rodeo<Spur, FixedState, Global>
+        ensures { result.texts ≡ self.rodeo.texts }
+    {
+        let RodeoPool { rodeo } = self;
+        rodeo
+    }
+}
+
+impl KeyedTexts for RodeoPool {
     type Key = Spur;
 
     ghost texts = { λ pool. pool.rodeo.texts };
 
     ghost number = { ⟦<Spur as Key>⟧.number };
 
+    fn resolve(&self, key: Spur) -> Option<&str> {
+        self.rodeo.try_resolve(key)
+    }
+}
+
+impl TextPool for RodeoPool {
     fn new(alloc: Global) -> Result<Self, AllocError> {
         match Rodeo::new(alloc) {
             Ok(rodeo) => Ok(RodeoPool { rodeo }),
@@ -63,10 +82,6 @@ impl TextPool for RodeoPool {
         self.rodeo.get(text)
     }
 
-    fn resolve(&self, key: Spur) -> Option<&str> {
-        self.rodeo.try_resolve(key)
-    }
-
     fn position(key: Spur) -> usize {
         key.into_usize()
     }
@@ -79,13 +94,20 @@ pub struct MapPool {
     texts: Vec<String>,
 }
 
-impl TextPool for MapPool {
+impl KeyedTexts for MapPool {
     type Key = u32;
 
     ghost texts = { λ pool. map string_bytes pool.texts.items };
 
     ghost number = { λ key. key };
 
+    fn resolve(&self, key: u32) -> Option<&str> {
+        let text = self.texts.get(key as usize)?;
+        Some(text.as_str())
+    }
+}
+
+impl TextPool for MapPool {
     fn new(alloc: Global) -> Result<Self, AllocError> {
         Ok(MapPool {
             positions: HashMap::new(alloc),
@@ -111,11 +133,6 @@ impl TextPool for MapPool {
         self.positions.get(text).copied()
     }
 
-    fn resolve(&self, key: u32) -> Option<&str> {
-        let text = self.texts.get(key as usize)?;
-        Some(text.as_str())
-    }
-
     fn position(key: u32) -> usize {
         key as usize
     }
@@ -127,13 +144,20 @@ pub struct SetPool {
     texts: IndexSet<String>,
 }
 
-impl TextPool for SetPool {
+impl KeyedTexts for SetPool {
     type Key = usize;
 
     ghost texts = { λ pool. map string_bytes pool.texts.keys };
 
     ghost number = { λ key. key };
 
+    fn resolve(&self, key: usize) -> Option<&str> {
+        let text = self.texts.get_index(key)?;
+        Some(text.as_str())
+    }
+}
+
+impl TextPool for SetPool {
     fn new(alloc: Global) -> Result<Self, AllocError> {
         Ok(SetPool {
             texts: IndexSet::new(alloc),
@@ -151,11 +175,6 @@ impl TextPool for SetPool {
 
     fn get(&self, text: &str) -> Option<usize> {
         self.texts.get_index_of(text)
-    }
-
-    fn resolve(&self, key: usize) -> Option<&str> {
-        let text = self.texts.get_index(key)?;
-        Some(text.as_str())
     }
 
     fn position(key: usize) -> usize {

@@ -1,5 +1,6 @@
 //! One run of each pool over a few texts.
-use crate::pools::{MapPool, RodeoPool, SetPool, TextPool};
+use crate::frozen::best_frozen_timings;
+use crate::pools::{KeyedTexts, MapPool, RodeoPool, SetPool, TextPool};
 use crate::texts::{Sample, jumped};
 use crate::timing::best_timings;
 use std::process::Abort;
@@ -11,6 +12,7 @@ fn pools_answer_right(rt: HostRuntime) -> Result<(), Fail> {
     assert!(rt; best_timings::<RodeoPool, _>(&rt, &sample).is_ok());
     assert!(rt; best_timings::<MapPool, _>(&rt, &sample).is_ok());
     assert!(rt; best_timings::<SetPool, _>(&rt, &sample).is_ok());
+    assert!(rt; best_frozen_timings(&rt, &sample).is_ok());
     Ok(())
 }
 

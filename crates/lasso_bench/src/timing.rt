@@ -2,14 +2,15 @@
 ghost use Rattle.std.specs.Prelude.{◌≡◌, ◌<◌, ◌*◌, ◌/◌, ◌-◌, ◌^◌, min};
 ghost use Rattle.std.specs.Duration.{as_nanos};
 
-use crate::pools::TextPool;
+use crate::pools::{KeyedTexts, TextPool};
 use crate::texts::Sample;
 use anyhow::{Result, ensure};
 use std::alloc::AllocError;
 use std::rt::Clock;
 use std::time::{Duration, Instant};
 
-const ROUNDS: u32 = 7;
+/// How often each operation is timed.
+pub const ROUNDS: u32 = 7;
 
 /// How long a call takes, in tenths of a nanosecond.
 #[derive(Clone, Copy, Debug)]
@@ -91,8 +92,8 @@ fn round<P: TextPool, R: AllocGlobal + Clock>(rt: &R, sample: &Sample) -> Result
     })
 }
 
-// The time of a call, in tenths of a nanosecond, where so many took this long; 0 where there was none.
-fn tenths_a_call(elapsed: Duration, calls: usize) -> u64
+/// The time of a call, in tenths of a nanosecond, where so many took this long; 0 where there was none.
+pub fn tenths_a_call(elapsed: Duration, calls: usize) -> u64
     ensures { 0 < calls → result ≡ min ((as_nanos elapsed * 10) / calls) (2 ^ 64 - 1) }
 {
     if calls == 0 {
@@ -102,8 +103,8 @@ fn tenths_a_call(elapsed: Duration, calls: usize) -> u64
     tenths.min(u64::MAX as u128) as u64
 }
 
-// Interns the texts, and answers the sum of their positions.
-fn intern_all<P: TextPool>(pool: &mut P, texts: &[String]) -> Result<usize, AllocError> {
+/// Interns the texts, and answers the sum of their positions.
+pub fn intern_all<P: TextPool>(pool: &mut P, texts: &[String]) -> Result<usize, AllocError> {
     let mut sum = 0usize;
     for text in texts {
         sum = sum.wrapping_add(P::position(pool.intern(text.as_str())?));
@@ -122,8 +123,8 @@ fn count_missing<P: TextPool>(pool: &P, texts: &[String]) -> usize {
     missing
 }
 
-// The keys of the texts that are there.
-fn keys_of<P: TextPool, R: AllocGlobal>(
+/// The keys of the texts that are there.
+pub fn keys_of<P: TextPool, R: AllocGlobal>(
     rt: &R,
     pool: &P,
     texts: &[String],
@@ -137,19 +138,19 @@ fn keys_of<P: TextPool, R: AllocGlobal>(
     Ok(keys)
 }
 
-// Resolves the keys, and answers the sum of their texts' last bytes.
-fn resolve_all<P: TextPool>(pool: &P, keys: &[P::Key]) -> usize {
+/// Resolves the keys, and answers the sum of their texts' last bytes.
+pub fn resolve_all<P: KeyedTexts>(texts: &P, keys: &[P::Key]) -> usize {
     let mut sum = 0usize;
     for key in keys {
-        if let Some(text) = pool.resolve(*key) {
+        if let Some(text) = texts.resolve(*key) {
             sum = sum.wrapping_add(last_byte(text));
         }
     }
     sum
 }
 
-// The sum of the texts' last bytes.
-fn sum_of_last_bytes(texts: &[String]) -> usize {
+/// The sum of the texts' last bytes.
+pub fn sum_of_last_bytes(texts: &[String]) -> usize {
     let mut sum = 0usize;
     for text in texts {
         sum = sum.wrapping_add(last_byte(text.as_str()));
