@@ -7,9 +7,9 @@ use Rattle.std.proofs.Common.{◌≡◌, ◌≢◌, ℕ, ◌<◌, ◌≤◌, Lis
 use Rattle.std.proofs.lemmas.Bool.{cases_lt, cases_eq}
 use Rattle.std.proofs.lemmas.Option.{none-some}
 use Rattle.lasso_parts.specs.Texts.{Text}
-use Rattle.lasso_parts.specs.Index.{slot, used, home, Holds, IsFull, Reaches, IsFiled}
-use Rattle.lasso_parts.specs.IndexTable.{positions, Misses}
-use Rattle.lasso_parts.proofs.IndexSlots.{length-positions, slot_within, not_all_full}
+use Rattle.lasso_parts.specs.Index.{slot, home, Holds, IsFull, Reaches, IsFiled}
+use Rattle.lasso_parts.specs.IndexTable.{Misses}
+use Rattle.lasso_parts.proofs.IndexSlots.{slot_within}
 
 -- ---- a search
 
@@ -50,30 +50,24 @@ module _ (hash_of : Text → ℕ) (texts : List Text) (text : Text) (xs : List (
         | inr after ↦ above h.0 n after (slot_within xs h.0 n h.1) h.1 at
       ]
 
--- ---- the positions of a slice of slots, which is as long
+-- ---- the search for a free slot
 
-module _ {K : Type 0} (number : K → ℕ) (slots : List (Option K)) where
-  pub reach_below : (a b j : ℕ) → a ≡ b → j < a → IsFull (positions number slots) a (length slots) → IsFull (positions number slots) 0 j → Reaches (positions number slots) b j
-  reach_below a b j e l above below = subst (λ k. Reaches (positions number slots) k j) e (inr (l, subst (λ n. IsFull (positions number slots) a n) (sym (length-positions number slots)) above, below))
+module _ (xs : List (Option ℕ)) where
+  pub reach_below : (a b j : ℕ) → a ≡ b → j < a → IsFull xs a (length xs) → IsFull xs 0 j → Reaches xs b j
+  reach_below a b j e l above below = subst (λ k. Reaches xs k j) e (inr (l, above, below))
 
-  pub not_both_full : (a : ℕ) → used (positions number slots) < length slots → IsFull (positions number slots) a (length slots) → IsFull (positions number slots) 0 a → ⊥
-  not_both_full a few above below = not_all_full (positions number slots) a (subst (λ n. used (positions number slots) < n) (sym (length-positions number slots)) few) (subst (λ n. IsFull (positions number slots) a n) (sym (length-positions number slots)) above) below
+-- ---- the wanted text is missing: what the two walks over the slots tell
 
--- ---- the wanted text is missing: what the two walks over a slice of slots tell
-
-module _ {K : Type 0} (number : K → ℕ) (slots : List (Option K)) (xs : List (Option ℕ)) (is : positions number slots ≡ xs) (hash_of : Text → ℕ) (texts : List Text) (text : Text) (f : IsFiled hash_of texts xs) (h a : ℕ) (hashed : h ≡ hash_of text) (start : a ≡ home (length slots) h) where
-  same_length : length slots ≡ length xs
-  same_length = sym (length-positions number slots) ∙ ap length is
-
+module _ (slots xs : List (Option ℕ)) (is : slots ≡ xs) (hash_of : Text → ℕ) (texts : List Text) (text : Text) (f : IsFiled hash_of texts xs) (h a : ℕ) (hashed : h ≡ hash_of text) (start : a ≡ home (length slots) h) where
   same_home : a ≡ home (length xs) (hash_of text)
-  same_home = start ∙ ap (λ k. home (length slots) k) hashed ∙ ap (λ n. home n (hash_of text)) same_length
+  same_home = start ∙ ap (λ ys. home (length ys) h) is ∙ ap (λ k. home (length xs) k) hashed
 
   -- as the walks say it, of the value
-  missed : (b c d : ℕ) (o : ℕ) → b ≡ c → d ≡ o → Misses texts text (positions number slots) b d → Misses texts text xs c o
+  missed : (b c d o : ℕ) → b ≡ c → d ≡ o → Misses texts text slots b d → Misses texts text xs c o
   missed b c d o p q m = subst (λ k. Misses texts text xs k o) p (subst (λ k. Misses texts text xs b k) q (subst (λ ys. Misses texts text ys b d) is m))
 
-  pub missing_below : (e : ℕ) → e < a → slot (positions number slots) e ≡ None → Misses texts text (positions number slots) a (length slots) → Misses texts text (positions number slots) 0 e → (n : ℕ) → Holds xs n → slice_get texts n ≢ Some text
-  missing_below e l none above below = absent_below hash_of texts text xs f e (subst (λ k. e < k) same_home l) (ap (λ ys. slot ys e) (sym is) ∙ none) (missed a _ (length slots) _ same_home same_length above) (missed 0 0 e e refl refl below)
+  pub missing_below : (e : ℕ) → e < a → slot slots e ≡ None → Misses texts text slots a (length slots) → Misses texts text slots 0 e → (n : ℕ) → Holds xs n → slice_get texts n ≢ Some text
+  missing_below e l none above below = absent_below hash_of texts text xs f e (subst (λ k. e < k) same_home l) (ap (λ ys. slot ys e) (sym is) ∙ none) (missed a _ (length slots) _ same_home (ap length is) above) (missed 0 0 e e refl refl below)
 
-  pub missing_all : Misses texts text (positions number slots) a (length slots) → Misses texts text (positions number slots) 0 a → (n : ℕ) → Holds xs n → slice_get texts n ≢ Some text
-  missing_all above below = absent_all hash_of texts text xs f (missed a _ (length slots) _ same_home same_length above) (missed 0 0 a _ refl same_home below)
+  pub missing_all : Misses texts text slots a (length slots) → Misses texts text slots 0 a → (n : ℕ) → Holds xs n → slice_get texts n ≢ Some text
+  missing_all above below = absent_all hash_of texts text xs f (missed a _ (length slots) _ same_home (ap length is) above) (missed 0 0 a _ refl same_home below)

@@ -3,6 +3,7 @@ pub mod IndexLaws
 mod IndexSlots
 mod IndexSearch
 mod IndexTables
+mod KeySlots
 pub mod Regions
 pub mod Wasted
 pub mod Entries
