@@ -3,7 +3,8 @@
 -- A key that goes into an empty slot changes that slot alone: a range that was full stays full, so each
 -- search that got to a slot still gets there, and the new key is got to where the search for its hash ended.
 -- So the table holds one position more, has one slot more in use, and stays filed.
-use Rattle.std.proofs.Common.{◌≡◌, ◌≢◌, ℕ, zero, suc, false, ◌+◌, ◌<◌, ◌≤◌, ◌⊎◌, ◌↔◌, List, [], ◌∷◌, Option, Some, None, length, slice_get, get_or, set, replicate, refl, sym, ap, ◌∙◌, subst, inl, inr, arith}
+use Rattle.std.proofs.Common.{◌≡◌, ◌≢◌, ℕ, zero, suc, false, ◌+◌, ◌^◌, ◌<◌, ◌≤◌, ◌⊎◌, ◌↔◌, List, [], ◌∷◌, Option, Some, None, length, slice_get, get_or, set, replicate, refl, sym, ap, ◌∙◌, subst, inl, inr, arith}
+use Rattle.std.specs.Option.{option_map}
 use Rattle.std.proofs.lemmas.Bool.{cases_lt, cases_eq}
 use Rattle.std.proofs.lemmas.List.{length-set, get_or-set_same, get_or-set_other, get_or_past}
 use Rattle.std.proofs.lemmas.Option.{slice_get_within, same_Some, none-some}
@@ -15,6 +16,10 @@ use Rattle.lasso_parts.specs.Index.{slot, used, home, Holds, IsFull, Reaches, Is
 use Rattle.lasso_parts.specs.IndexTable.{Misses, IsSlotCount, IsTable}
 
 -- ---- slots
+
+-- what a read of a slot tells that found a key, whose position was asked for
+pub slot_has : {K : Type 0} (number : K → ℕ) (read : Option K) (shown : Option ℕ) (key : K) (p : ℕ) → option_map number read ≡ shown → read ≡ Some key → p ≡ number key → shown ≡ Some p
+slot_has number read shown key p tells e asked = sym tells ∙ ap (option_map number) e ∙ ap Some (sym asked)
 
 pub slot_within : (xs : List (Option ℕ)) (j n : ℕ) → slot xs j ≡ Some n → j < length xs
 slot_within xs j n e = elim (cases_lt j (length xs)) [
@@ -40,6 +45,11 @@ used-set (Some m ∷ xs) (suc j) n l e = ap (λ k. k + 1) (used-set xs j n (omeg
 pub used-replicate : (n : ℕ) → used (replicate n None) ≡ 0
 used-replicate zero = refl
 used-replicate (suc n) = used-replicate n
+
+pub used_le : (xs : List (Option ℕ)) → used xs ≤ length xs
+used_le [] = omega arith
+used_le (None ∷ xs) = let h = used_le xs in omega arith
+used_le (Some n ∷ xs) = let h = used_le xs in omega arith
 
 -- one more slot is not empty
 pub IsFull-more : (xs : List (Option ℕ)) (a b : ℕ) → IsFull xs a b → slot xs b ≢ None → IsFull xs a (b + 1)
@@ -129,11 +139,11 @@ IsTable-set xs count at m t l free h = let e = used-set xs at m l free in record
   load = subst (λ k. used (set xs at (Some m)) ≤ load_limit k) (sym (length-set xs at (Some m))) (omega (arith, e));
 }
 
--- ---- the same of the slots that a table shows
+-- ---- the same of the slots of the value v
 
-module _ (slots v : List (Option ℕ)) (view : slots ≡ v) (at m : ℕ) (bound : at < length slots) (free : slot slots at ≡ None) where
-  put_is : set slots at (Some m) ≡ set v at (Some m)
-  put_is = ap (λ xs. set xs at (Some m)) view
+module _ (slots new v : List (Option ℕ)) (view : slots ≡ v) (at m : ℕ) (bound : at < length slots) (free : slot slots at ≡ None) (put : new ≡ set slots at (Some m)) where
+  put_is : new ≡ set v at (Some m)
+  put_is = put ∙ ap (λ xs. set xs at (Some m)) view
 
   put_inside : at < length v
   put_inside = subst (λ xs. at < length xs) view bound
@@ -141,16 +151,20 @@ module _ (slots v : List (Option ℕ)) (view : slots ≡ v) (at m : ℕ) (bound 
   put_free : slot v at ≡ None
   put_free = ap (λ xs. slot xs at) (sym view) ∙ free
 
-  pub Holds-put : (n : ℕ) → Holds (set slots at (Some m)) n ↔ (Holds v n ⊎ (n ≡ m))
+  pub Holds-put : (n : ℕ) → Holds new n ↔ (Holds v n ⊎ (n ≡ m))
   Holds-put n = subst (λ xs. Holds xs n ↔ (Holds v n ⊎ (n ≡ m))) (sym put_is) (Holds-set v at m put_inside put_free n)
 
-  pub IsTable-put : (count : ℕ) → IsTable slots count → 0 < room v → IsTable (set slots at (Some m)) (count + 1)
+  pub IsTable-put : (count : ℕ) → IsTable slots count → 0 < room v → IsTable new (count + 1)
   IsTable-put count t r = subst (λ xs. IsTable xs (count + 1)) (sym put_is) (IsTable-set v count at m (subst (λ xs. IsTable xs count) view t) put_inside put_free (omega arith))
 
-  pub room-put : 0 < room v → room (set slots at (Some m)) + 1 ≡ room v
+  pub room-put : 0 < room v → room new + 1 ≡ room v
   room-put r = ap (λ xs. room xs + 1) put_is ∙ (let e = used-set v at m put_inside put_free in let l = length-set v at (Some m) in let f : load_limit (length (set v at (Some m))) ≡ load_limit (length v) = ap load_limit l in omega arith)
 
-  pub StaysFiled-put : (hash : ℕ) → Reaches slots (home (length slots) hash) at → StaysFiled hash m v (set slots at (Some m))
+  -- the count of keys fits where that of slots does
+  pub used_fits : (count : ℕ) → IsTable slots count → length slots < 2 ^ 64 → count + 1 < 2 ^ 64
+  used_fits count t small = let e = used-set slots at m bound free in let l = used_le (set slots at (Some m)) in let n = length-set slots at (Some m) in omega (arith, t.counted)
+
+  pub StaysFiled-put : (hash : ℕ) → Reaches slots (home (length slots) hash) at → StaysFiled hash m v new
   StaysFiled-put hash r hash_of texts text filed here hashed =
       let r1 = subst (λ h. Reaches slots (home (length slots) h) at) hashed r in
       let r2 = subst (λ xs. Reaches xs (home (length xs) (hash_of text)) at) view r1 in

@@ -65,6 +65,8 @@ impl<K: Key, A: Allocator> Index<K, A> {
     /// fewest slots that serve. It is refused for want of memory alone, also where no `usize` has the
     /// count of slots.
     pub fn with_capacity(alloc: A, capacity: usize) -> LassoResult<Self>
+    where
+        A: Clone,
         ensures room { IfOk result (λ index. capacity ≤ room index) }
         ensures slots { IfOk result (λ index. IsFewest capacity (length index)) }
         ensures empty { IfOk result HoldsNone }

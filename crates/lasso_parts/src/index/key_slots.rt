@@ -1,46 +1,36 @@
 //! The slots of a table, each empty or with a key: one bit a slot beside the keys.
-ghost use Rattle.std.specs.Prelude.{◌≡◌, ◌*◌, ◌<◌, ◌≤◌, [], List, None, Some, length, replicate, slice_set, option_map, IfOk};
+ghost use Rattle.std.specs.Prelude.{◌≡◌, ◌*◌, ◌<◌, ◌≤◌, ◌⊎◌, [], None, Some, length, replicate, slice_set, option_map, IfOk};
 ghost use Rattle.std.specs.Vec.{vec_capacity};
 ghost use Rattle.lasso_parts.specs.Index.{slot};
-ghost use Rattle.lasso_parts.specs.KeySlots.{shown};
 
-use crate::keys::{Key, Spur};
+use crate::keys::Key;
 use std::alloc::{AllocError, Allocator};
 use std::marker::Model;
-use std::mem::size_of;
 
-// As many slots as a word has bits.
-const GROUP_SLOTS: usize = 64;
+// How many slots have their bits in one word.
+const WORD_SLOTS: usize = 64;
 
-// Slots side by side. A slot is empty where its bit, counted from the lowest, is 0; what stands at its
-// place among the keys then says nothing.
-#[derive(Clone, Copy)]
-struct Group<K: Key> {
-    taken: u64,
-    keys: [K; GROUP_SLOTS],
-}
-
-// A slot takes its key and one bit.
-const _: () = prove!(size_of::<Group<Spur>>() == 264);
-
-/// The slots of a table. Contracts see them as the positions that their keys stand for.
+/// The slots of a table. Slot j is empty where its bit is 0, which is bit `j % 64` of word `j / 64`; what
+/// stands at its place among the keys then says nothing. No key of the type is at hand before the first
+/// one is put, so the keys are made then, in memory that was had before. Contracts see the position that
+/// each slot's key stands for.
 #[derive(Drop)]
 pub struct KeySlots<K: Key, A: Allocator> {
-    groups: Vec<Group<K>, A>,
+    keys: Vec<K, A>,
+    words: Option<Vec<u64, A>>,
     count: usize,
 }
 
 impl<K: Key, A: Allocator> Model for KeySlots<K, A> {
     ghost use Rattle.std.specs.Prelude.{ℕ, List, Option};
     ghost use Rattle.std.specs.Vec.{vec_capacity};
+    ghost use Rattle.lasso_parts.specs.KeySlots.{words_of, shown, AreKept};
 
     ghost Value = { List (Option ℕ) };
 
-    ghost use Rattle.lasso_parts.specs.KeySlots.{shown, AreKept};
+    ghost view = { λ s. shown K.number (words_of s.words) s.keys.items s.count };
 
-    ghost view = { λ s. shown K.number s.groups.items s.count };
-
-    ghost invariant = { λ s. AreKept s.groups.items (vec_capacity s.groups) s.count };
+    ghost invariant = { λ s. AreKept (words_of s.words) s.keys.items (vec_capacity s.keys) s.count };
 }
 
 impl<K: Key, A: Allocator> KeySlots<K, A> {
@@ -49,17 +39,25 @@ impl<K: Key, A: Allocator> KeySlots<K, A> {
         ensures { result ≡ [] }
     {
         KeySlots {
-            groups: Vec::new(alloc),
+            keys: Vec::new(alloc),
+            words: None,
             count: 0,
         }
     }
 
-    /// So many empty slots. All the memory that they will ever take is had here.
+    /// So many empty slots, with all the memory that they will take.
     pub fn empty(alloc: A, count: usize) -> Result<Self, AllocError>
+    where
+        A: Clone,
         ensures { IfOk result (λ slots. slots ≡ replicate count None) }
     {
-        let groups = Vec::with_capacity(alloc, count.div_ceil(GROUP_SLOTS))?;
-        Ok(KeySlots { groups, count })
+        let words = zero_words(alloc.clone()?, count)?;
+        let keys = Vec::with_capacity(alloc, count)?;
+        Ok(KeySlots {
+            keys,
+            words: Some(words),
+            count,
+        })
     }
 
     /// How many slots there are.
@@ -70,9 +68,9 @@ impl<K: Key, A: Allocator> KeySlots<K, A> {
         self.count
     }
 
-    /// The allocator that the slots are of.
+    /// The allocator of their memory.
     pub fn allocator(&self) -> &A {
-        self.groups.allocator()
+        self.keys.allocator()
     }
 
     /// The key of the slot, or `None` where it is empty.
@@ -81,14 +79,13 @@ impl<K: Key, A: Allocator> KeySlots<K, A> {
         requires { j < length self.now }
         ensures { option_map K.number result ≡ slot self.now j }
     {
-        if self.groups.is_empty() {
+        let Some(words) = &self.words else {
+            return None;
+        };
+        if words[j / WORD_SLOTS] >> (j % WORD_SLOTS) & 1 == 0 {
             return None;
         }
-        let group = &self.groups[j / GROUP_SLOTS];
-        if group.taken >> (j % GROUP_SLOTS) & 1 == 0 {
-            return None;
-        }
-        Some(group.keys[j % GROUP_SLOTS])
+        Some(self.keys[j])
     }
 
     /// Puts the key in the slot.
@@ -97,34 +94,59 @@ impl<K: Key, A: Allocator> KeySlots<K, A> {
         requires { j < length self.old }
         ensures { self.new ≡ slice_set self.old j (Some (K.number key)) }
     {
-        if self.groups.is_empty() {
-            make_groups(&mut self.groups, self.count.div_ceil(GROUP_SLOTS), key);
-        }
-        let group = &mut self.groups[j / GROUP_SLOTS];
-        group.keys[j % GROUP_SLOTS] = key;
-        group.taken |= 1 << (j % GROUP_SLOTS);
+        let Some(words) = &mut self.words else {
+            unreachable!();
+        };
+        make_keys(&mut self.keys, self.count, key);
+        self.keys[j] = key;
+        words[j / WORD_SLOTS] |= 1 << (j % WORD_SLOTS);
     }
 
-    /// Empties each slot, and keeps the memory.
+    /// Empties each slot. The memory stays.
     pub fn clear(&mut self)
         ensures { self.new ≡ replicate (length self.old) None }
     {
-        self.groups.clear();
+        let Some(words) = &mut self.words else {
+            return;
+        };
+        words.fill(0);
     }
 }
 
-// Makes so many groups of empty slots where there are none. No place among the keys can stay without a key
-// of the type, so each gets the first one that there is.
-#[cold]
-fn make_groups<K: Key, A: Allocator>(groups: &mut Vec<Group<K>, A>, count: usize, key: K)
-    requires none { groups.old.items ≡ [] }
-    requires room { count ≤ vec_capacity groups.old }
+// Words for the bits of so many slots. Each bit is 0.
+fn zero_words<A: Allocator>(alloc: A, count: usize) -> Result<Vec<u64, A>, AllocError>
+    ensures enough { IfOk result (λ words. count ≤ 64 * length words.items) }
+    ensures zero { IfOk result (λ words. words.items ≡ replicate (length words.items) 0) }
 {
-    let group = Group {
-        taken: 0,
-        keys: [key; GROUP_SLOTS],
-    };
-    match groups.resize(count, group) {
+    let word_count = count.div_ceil(WORD_SLOTS);
+    let mut words = Vec::with_capacity(alloc, word_count)?;
+    words.resize(word_count, 0)?;
+    Ok(words)
+}
+
+// Makes the keys where there are none, each a copy of the one given.
+#[inline]
+fn make_keys<K: Key, A: Allocator>(keys: &mut Vec<K, A>, count: usize, key: K)
+    requires made { (keys.old.items ≡ []) ⊎ (length keys.old.items ≡ count) }
+    requires room { count ≤ vec_capacity keys.old }
+    ensures len { length keys.new.items ≡ count }
+    ensures same { (keys.old.items ≡ []) ⊎ (keys.new.items ≡ keys.old.items) }
+    ensures room { vec_capacity keys.old ≤ vec_capacity keys.new }
+{
+    if keys.is_empty() {
+        fill(keys, count, key);
+    }
+}
+
+// As many copies of the key as there is room for.
+#[cold]
+fn fill<K: Key, A: Allocator>(keys: &mut Vec<K, A>, count: usize, key: K)
+    requires none { keys.old.items ≡ [] }
+    requires room { count ≤ vec_capacity keys.old }
+    ensures len { length keys.new.items ≡ count }
+    ensures room { vec_capacity keys.old ≤ vec_capacity keys.new }
+{
+    match keys.resize(count, key) {
         Ok(()) => {}
         Err(_) => unreachable!(),
     }

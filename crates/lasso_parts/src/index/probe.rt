@@ -1,6 +1,6 @@
 //! The search through the slots of a table: from the slot that a hash names to the last one, and then
 //! from the first.
-ghost use Rattle.std.specs.Prelude.{◌≡◌, ◌<◌, ◌≤◌, length, None, IfSome, IfNone};
+ghost use Rattle.std.specs.Prelude.{◌≡◌, ◌<◌, ◌≤◌, ◌^◌, length, None, IfSome, IfNone};
 ghost use Rattle.lasso_parts.specs.Index.{slot, used, home, IsFull, Reaches};
 ghost use Rattle.lasso_parts.specs.IndexTable.{AllInList};
 ghost use Rattle.lasso_parts.specs.Scan.{Tells};
@@ -82,6 +82,7 @@ fn first_empty<K: Key, A: Allocator>(
 pub fn free_slot<K: Key, A: Allocator>(slots: &KeySlots<K, A>, hash: u64) -> usize
     requires { used slots.now < length slots.now }
     ensures bound { result < length slots.now }
+    ensures small { length slots.now < 2 ^ 64 }
     ensures free { slot slots.now result ≡ None }
     ensures reached { Reaches slots.now (home (length slots.now) hash) result }
 {

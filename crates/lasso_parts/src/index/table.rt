@@ -69,7 +69,7 @@ fn refill<K: Key, A: Allocator, T: Texts, S: BuildHasher>(
 }
 
 // The same keys in a new table of so many slots.
-pub fn rebuilt<K: Key, A: Allocator, T: Texts, S: BuildHasher>(
+pub fn rebuilt<K: Key, A: Allocator + Clone, T: Texts, S: BuildHasher>(
     alloc: A,
     count: usize,
     old: &KeySlots<K, A>,
