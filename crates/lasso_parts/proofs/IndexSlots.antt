@@ -3,7 +3,7 @@
 -- A key that goes into an empty slot changes that slot alone: a range that was full stays full, so each
 -- search that got to a slot still gets there, and the new key is got to where the search for its hash ended.
 -- So the table holds one position more, has one slot more in use, and stays filed.
-use Rattle.std.proofs.Common.{◌≡◌, ◌≢◌, ℕ, zero, suc, false, ◌+◌, ◌^◌, ◌<◌, ◌≤◌, ◌⊎◌, ◌↔◌, List, [], ◌∷◌, Option, Some, None, length, slice_get, get_or, set, replicate, refl, sym, ap, ◌∙◌, subst, inl, inr, arith}
+use Rattle.std.proofs.Common.{◌≡◌, ◌≢◌, ℕ, zero, suc, false, ◌+◌, ◌^◌, ◌<◌, ◌≤◌, ◌⊎◌, ◌↔◌, List, [], ◌∷◌, Option, Some, None, length, slice_get, set, replicate, refl, sym, ap, ◌∙◌, subst, inl, inr, arith}
 use Rattle.std.specs.Option.{option_map}
 use Rattle.std.proofs.lemmas.Bool.{cases_lt, cases_eq}
 use Rattle.std.proofs.lemmas.List.{length-set, get_or-set_same, get_or-set_other, get_or_past}
@@ -77,6 +77,10 @@ pub not_all_full : (xs : List (Option ℕ)) (a : ℕ) → used xs < length xs �
 not_all_full xs a few above below =
     let e = used_all xs (λ j z l. elim (cases_lt j a) [ inl b ↦ below j z b | inr b ↦ above j b l ]) in
     omega arith
+
+-- the lower range ends a search that found the upper one full
+pub reach_below : (xs : List (Option ℕ)) (a b j : ℕ) → a ≡ b → j < a → IsFull xs a (length xs) → IsFull xs 0 j → Reaches xs b j
+reach_below xs a b j e l above below = subst (λ k. Reaches xs k j) e (inr (l, above, below))
 
 -- ---- a key is put in an empty slot
 

@@ -1,7 +1,6 @@
 pub mod TextLemmas
 pub mod IndexLaws
 mod IndexSlots
-mod IndexSearch
 mod IndexTables
 mod KeySlots
 pub mod Regions

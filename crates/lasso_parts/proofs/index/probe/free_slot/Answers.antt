@@ -1,7 +1,6 @@
 use Rattle.std.proofs.Common.{ap, ◌∙◌, subst}
 use Rattle.lasso_parts.specs.Index.{home, IsFull}
-use Rattle.lasso_parts.proofs.IndexSlots.{not_all_full}
-use Rattle.lasso_parts.proofs.IndexSearch.{reach_below}
+use Rattle.lasso_parts.proofs.IndexSlots.{not_all_full, reach_below}
 use Rattle.lasso_parts.proofs.index.probe.free_slot.Goals as goal
 
 pub unreachable-requires : goal.unreachable-requires

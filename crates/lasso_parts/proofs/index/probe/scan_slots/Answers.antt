@@ -1,5 +1,4 @@
 use Rattle.std.proofs.Common.{Some, sym, ap, ◌∙◌}
-use Rattle.std.specs.Option.{option_map}
 use Rattle.std.proofs.lemmas.Slice.Eq.{bytes_eq-Decides}
 use Rattle.lasso_parts.proofs.IndexSlots.{Misses-more, misses_here, slot_has}
 use Rattle.lasso_parts.proofs.index.probe.scan_slots.Goals as goal

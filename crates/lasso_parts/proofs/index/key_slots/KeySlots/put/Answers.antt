@@ -1,4 +1,4 @@
-use Rattle.std.proofs.Common.{◌∙◌, arith}
+use Rattle.std.proofs.Common.{arith}
 use Rattle.lasso_parts.proofs.KeySlots.{word_there, put_shows, in_count}
 use Rattle.lasso_parts.proofs.index.key_slots.KeySlots.put.Goals as goal
 
