@@ -3,35 +3,23 @@
 -- A key that goes into an empty slot changes that slot alone: a range that was full stays full, so each
 -- search that got to a slot still gets there, and the new key is got to where the search for its hash ended.
 -- So the table holds one position more, has one slot more in use, and stays filed.
-use Rattle.std.proofs.Common.{◌≡◌, ◌≢◌, ℕ, zero, suc, false, ◌+◌, ◌<◌, ◌≤◌, ◌⊎◌, ◌↔◌, List, [], ◌∷◌, Option, Some, None, length, slice_get, get_or, set, replicate, refl, sym, ap, ◌∙◌, subst, inl, inr, arith}
+use Rattle.std.proofs.Common.{◌≡◌, ◌≢◌, ℕ, zero, suc, false, ◌+◌, ◌^◌, ◌<◌, ◌≤◌, ◌⊎◌, ◌↔◌, List, [], ◌∷◌, Option, Some, None, length, slice_get, set, replicate, refl, sym, ap, ◌∙◌, subst, inl, inr, arith}
 use Rattle.std.specs.Option.{option_map}
 use Rattle.std.proofs.lemmas.Bool.{cases_lt, cases_eq}
-use Rattle.std.proofs.lemmas.List.{get_or-map, length-map, map-set, length-set, get_or-set_same, get_or-set_other, get_or_past}
+use Rattle.std.proofs.lemmas.List.{length-set, get_or-set_same, get_or-set_other, get_or_past}
 use Rattle.std.proofs.lemmas.Option.{slice_get_within, same_Some, none-some}
 use Rattle.std.specs.Str.{bytes_eq}
 use Rattle.std.proofs.lemmas.Bool.{true≢false}
 use Rattle.std.proofs.lemmas.Slice.Eq.{bytes_eq-Decides}
 use Rattle.lasso_parts.specs.Texts.{Text}
 use Rattle.lasso_parts.specs.Index.{slot, used, home, Holds, IsFull, Reaches, IsFiled, StaysFiled, load_limit, room}
-use Rattle.lasso_parts.specs.IndexTable.{positions, Misses, IsSlotCount, IsTable}
-
--- ---- what the code reads
-
-pub length-positions : {K : Type 0} (number : K → ℕ) (slots : List (Option K)) → length (positions number slots) ≡ length slots
-length-positions number slots = length-map slots (option_map number)
-
--- what a read of a slot says of the positions
-pub slot_read : {K : Type 0} (number : K → ℕ) (slots : List (Option K)) (j : ℕ) (r : Option K) → j < length slots → r ≡ get_or slots j r → slot (positions number slots) j ≡ option_map number r
-slot_read number slots j r l e = get_or-map (option_map number) slots j r None l ∙ ap (option_map number) (sym e)
-
--- the same of a read that found a key, whose position was asked for
-pub slot_has : {K : Type 0} (number : K → ℕ) (slots : List (Option K)) (j : ℕ) (d : Option K) (key : K) (p : ℕ) → j < length slots → get_or slots j d ≡ Some key → p ≡ number key → slot (positions number slots) j ≡ Some p
-slot_has number slots j d key p l e asked = get_or-map (option_map number) slots j d None l ∙ ap (option_map number) e ∙ ap Some (sym asked)
-
-pub positions-set : {K : Type 0} (number : K → ℕ) (slots : List (Option K)) (j : ℕ) (key : K) → positions number (set slots j (Some key)) ≡ set (positions number slots) j (Some (number key))
-positions-set number slots j key = map-set (option_map number) slots j (Some key)
+use Rattle.lasso_parts.specs.IndexTable.{Misses, IsSlotCount, IsTable}
 
 -- ---- slots
+
+-- what a read of a slot tells that found a key, whose position was asked for
+pub slot_has : {K : Type 0} (number : K → ℕ) (read : Option K) (shown : Option ℕ) (key : K) (p : ℕ) → option_map number read ≡ shown → read ≡ Some key → p ≡ number key → shown ≡ Some p
+slot_has number read shown key p tells e asked = sym tells ∙ ap (option_map number) e ∙ ap Some (sym asked)
 
 pub slot_within : (xs : List (Option ℕ)) (j n : ℕ) → slot xs j ≡ Some n → j < length xs
 slot_within xs j n e = elim (cases_lt j (length xs)) [
@@ -57,6 +45,11 @@ used-set (Some m ∷ xs) (suc j) n l e = ap (λ k. k + 1) (used-set xs j n (omeg
 pub used-replicate : (n : ℕ) → used (replicate n None) ≡ 0
 used-replicate zero = refl
 used-replicate (suc n) = used-replicate n
+
+pub used_le : (xs : List (Option ℕ)) → used xs ≤ length xs
+used_le [] = omega arith
+used_le (None ∷ xs) = let h = used_le xs in omega arith
+used_le (Some n ∷ xs) = let h = used_le xs in omega arith
 
 -- one more slot is not empty
 pub IsFull-more : (xs : List (Option ℕ)) (a b : ℕ) → IsFull xs a b → slot xs b ≢ None → IsFull xs a (b + 1)
@@ -84,6 +77,10 @@ pub not_all_full : (xs : List (Option ℕ)) (a : ℕ) → used xs < length xs �
 not_all_full xs a few above below =
     let e = used_all xs (λ j z l. elim (cases_lt j a) [ inl b ↦ below j z b | inr b ↦ above j b l ]) in
     omega arith
+
+-- the lower range ends a search that found the upper one full
+pub reach_below : (xs : List (Option ℕ)) (a b j : ℕ) → a ≡ b → j < a → IsFull xs a (length xs) → IsFull xs 0 j → Reaches xs b j
+reach_below xs a b j e l above below = subst (λ k. Reaches xs k j) e (inr (l, above, below))
 
 -- ---- a key is put in an empty slot
 
@@ -146,34 +143,33 @@ IsTable-set xs count at m t l free h = let e = used-set xs at m l free in record
   load = subst (λ k. used (set xs at (Some m)) ≤ load_limit k) (sym (length-set xs at (Some m))) (omega (arith, e));
 }
 
--- ---- the same of the slots by their keys
+-- ---- the same of the slots of the value v
 
-module _ {K : Type 0} (number : K → ℕ) (items slots : List (Option K)) (v : List (Option ℕ)) (is : slots ≡ items) (view : positions number items ≡ v) (at : ℕ) (key : K) (bound : at < length slots) (free : slot (positions number slots) at ≡ None) where
-  put_is : positions number (set items at (Some key)) ≡ set v at (Some (number key))
-  put_is = positions-set number items at key ∙ ap (λ xs. set xs at (Some (number key))) view
-
-  slots_view : positions number slots ≡ v
-  slots_view = ap (positions number) is ∙ view
+module _ (slots new v : List (Option ℕ)) (view : slots ≡ v) (at m : ℕ) (bound : at < length slots) (free : slot slots at ≡ None) (put : new ≡ set slots at (Some m)) where
+  put_is : new ≡ set v at (Some m)
+  put_is = put ∙ ap (λ xs. set xs at (Some m)) view
 
   put_inside : at < length v
-  put_inside = subst (λ n. at < n) (sym (length-positions number slots) ∙ ap length slots_view) bound
+  put_inside = subst (λ xs. at < length xs) view bound
 
   put_free : slot v at ≡ None
-  put_free = ap (λ xs. slot xs at) (sym slots_view) ∙ free
+  put_free = ap (λ xs. slot xs at) (sym view) ∙ free
 
-  pub Holds-put : (n : ℕ) → Holds (positions number (set items at (Some key))) n ↔ (Holds v n ⊎ (n ≡ number key))
-  Holds-put n = subst (λ xs. Holds xs n ↔ (Holds v n ⊎ (n ≡ number key))) (sym put_is) (Holds-set v at (number key) put_inside put_free n)
+  pub Holds-put : (n : ℕ) → Holds new n ↔ (Holds v n ⊎ (n ≡ m))
+  Holds-put n = subst (λ xs. Holds xs n ↔ (Holds v n ⊎ (n ≡ m))) (sym put_is) (Holds-set v at m put_inside put_free n)
 
-  pub IsTable-put : (count : ℕ) → IsTable (positions number items) count → 0 < room v → IsTable (positions number (set items at (Some key))) (count + 1)
-  IsTable-put count t r = subst (λ xs. IsTable xs (count + 1)) (sym put_is) (IsTable-set v count at (number key) (subst (λ xs. IsTable xs count) view t) put_inside put_free (omega arith))
+  pub IsTable-put : (count : ℕ) → IsTable slots count → 0 < room v → IsTable new (count + 1)
+  IsTable-put count t r = subst (λ xs. IsTable xs (count + 1)) (sym put_is) (IsTable-set v count at m (subst (λ xs. IsTable xs count) view t) put_inside put_free (omega arith))
 
-  pub room-put : 0 < room v → room (positions number (set items at (Some key))) + 1 ≡ room v
-  room-put r = ap (λ xs. room xs + 1) put_is ∙ (let e = used-set v at (number key) put_inside put_free in let l = length-set v at (Some (number key)) in let f : load_limit (length (set v at (Some (number key)))) ≡ load_limit (length v) = ap load_limit l in omega arith)
+  pub room-put : 0 < room v → room new + 1 ≡ room v
+  room-put r = ap (λ xs. room xs + 1) put_is ∙ (let e = used-set v at m put_inside put_free in let l = length-set v at (Some m) in let f : load_limit (length (set v at (Some m))) ≡ load_limit (length v) = ap load_limit l in omega arith)
 
-  pub StaysFiled-put : (hash : ℕ) → Reaches (positions number slots) (home (length slots) hash) at → StaysFiled hash (number key) v (positions number (set items at (Some key)))
+  -- the count of keys fits where that of slots does
+  pub used_fits : (count : ℕ) → IsTable slots count → length slots < 2 ^ 64 → count + 1 < 2 ^ 64
+  used_fits count t small = let e = used-set slots at m bound free in let l = used_le (set slots at (Some m)) in let n = length-set slots at (Some m) in omega (arith, t.counted)
+
+  pub StaysFiled-put : (hash : ℕ) → Reaches slots (home (length slots) hash) at → StaysFiled hash m v new
   StaysFiled-put hash r hash_of texts text filed here hashed =
-      let n : length slots ≡ length v = sym (length-positions number slots) ∙ ap length slots_view in
-      let r1 = subst (λ h. Reaches (positions number slots) (home (length slots) h) at) hashed r in
-      let r2 = subst (λ k. Reaches (positions number slots) (home k (hash_of text)) at) n r1 in
-      let r3 = subst (λ xs. Reaches xs (home (length v) (hash_of text)) at) slots_view r2 in
-      subst (λ xs. IsFiled hash_of texts xs) (sym put_is) (IsFiled-set v at (number key) put_inside put_free hash_of texts text filed here r3)
+      let r1 = subst (λ h. Reaches slots (home (length slots) h) at) hashed r in
+      let r2 = subst (λ xs. Reaches xs (home (length xs) (hash_of text)) at) view r1 in
+      subst (λ xs. IsFiled hash_of texts xs) (sym put_is) (IsFiled-set v at m put_inside put_free hash_of texts text filed here r2)

@@ -4,21 +4,17 @@
 -- search for its hash ends. As far as the old slots were read, the new table holds the same positions, has
 -- as many slots in use, and is filed; there is always an empty slot, since it has more slots than keys.
 -- A count of slots is 0 or a power of two from 8 on, so doubling it makes room.
-use Rattle.std.proofs.Common.{◌≡◌, ℕ, zero, suc, ◌+◌, ◌-◌, ◌*◌, ◌^◌, ◌<◌, ◌≤◌, ◌⊎◌, ◌↔◌, List, [], ◌∷◌, ◌++◌, Option, Some, None, length, slice_get, set, take, replicate, refl, sym, ap, ◌∙◌, subst, inl, inr, arith, zero-add, add-zero}
-use Rattle.std.specs.Option.{option_map}
+use Rattle.std.proofs.Common.{◌≡◌, ℕ, zero, suc, ◌+◌, ◌*◌, ◌^◌, ◌<◌, ◌≤◌, ◌⊎◌, ◌↔◌, List, [], ◌∷◌, ◌++◌, Option, Some, None, length, slice_get, set, take, replicate, refl, sym, ap, ◌∙◌, subst, inl, inr, arith, zero-add, add-zero}
 use Rattle.std.proofs.lemmas.Bool.{cases_lt}
-use Rattle.std.proofs.lemmas.List.{map-set, get_or_past, get_or-replicate, length-replicate, get_or_append_left, get_or_push, length_push, take_more, take_all, take_more_set, replicate_more}
+use Rattle.std.proofs.lemmas.List.{get_or_past, get_or-replicate, length-replicate, get_or_append_left, get_or_push, length_push, take_more, take_all}
 use Rattle.std.proofs.lemmas.Option.{same_Some, none-some}
 use Rattle.lasso_parts.specs.Texts.{Text}
-use Rattle.lasso_parts.specs.Index.{slot, used, home, Holds, HoldsNone, Reaches, load_limit, room, grown_count}
-use Rattle.lasso_parts.specs.IndexTable.{positions, Refilled, IsSlotCount, IsTable}
-use Rattle.std.proofs.lemmas.List.{with_items_is}
+use Rattle.lasso_parts.specs.Index.{slot, used, home, Holds, Reaches, load_limit, room, grown_count}
+use Rattle.lasso_parts.specs.IndexTable.{Refilled, IsSlotCount, IsTable}
 use Rattle.std.proofs.lemmas.Grind.{common_steps}
 use Rattle.std.proofs.lemmas.Bool.Decides.{nat_tests}
-use Rattle.std.specs.Vec.{with_items}
-use Rattle.std.specs.declared.vec.Vec.{Vec}
 use lib.Pow.{pow_mono}
-use Rattle.lasso_parts.proofs.IndexSlots.{length-positions, positions-set, slot_within, slot-nil, used-set, used-replicate, IsFiled-set, Holds-set}
+use Rattle.lasso_parts.proofs.IndexSlots.{slot_within, slot-nil, used-set, used-replicate, IsFiled-set, Holds-set}
 use Rattle.lasso_parts.proofs.IndexLaws.{IsFiled-from_none}
 
 -- ---- a table is filled anew
@@ -51,39 +47,37 @@ Holds-push xs o n = (to, from) where
     | inr e ↦ (length xs, get_or_push xs o None (length xs) refl ∙ e)
   ]
 
-module _ {K : Type 0} (number : K → ℕ) (hash_of : Text → ℕ) (texts : List Text) (slots old : List (Option K)) (i : ℕ) (inside : i < length old) (r : Refilled hash_of texts (positions number slots) (take i (positions number old))) where
-  seen_more : (o : Option ℕ) → slot (positions number old) i ≡ o → take (i + 1) (positions number old) ≡ take i (positions number old) ++ o ∷ []
-  seen_more o e = take_more (positions number old) i None (subst (λ n. i < n) (sym (length-positions number old)) inside) ∙ ap (λ w. take i (positions number old) ++ w ∷ []) e
+module _ (hash_of : Text → ℕ) (texts : List Text) (slots old : List (Option ℕ)) (i : ℕ) (inside : i < length old) (r : Refilled hash_of texts slots (take i old)) where
+  seen_more : (o : Option ℕ) → slot old i ≡ o → take (i + 1) old ≡ take i old ++ o ∷ []
+  seen_more o e = take_more old i None inside ∙ ap (λ w. take i old ++ w ∷ []) e
 
   -- the next old slot is empty
-  pub Refilled-skip : (new : List (Option K)) → slot (positions number old) i ≡ None → new ≡ slots → Refilled hash_of texts (positions number new) (take (i + 1) (positions number old))
+  pub Refilled-skip : (new : List (Option ℕ)) → slot old i ≡ None → new ≡ slots → Refilled hash_of texts new (take (i + 1) old)
   Refilled-skip new e same =
       let s = seen_more None e in
-      subst (λ xs. Refilled hash_of texts xs (take (i + 1) (positions number old))) (sym (ap (positions number) same)) (record {
+      subst (λ xs. Refilled hash_of texts xs (take (i + 1) old)) (sym same) (record {
         filed = r.filed;
         holds = λ n. (
-          λ h. subst (λ xs. Holds xs n) (sym s) ((Holds-push (take i (positions number old)) None n).1 (inl ((r.holds n).0 h))),
-          λ h. elim ((Holds-push (take i (positions number old)) None n).0 (subst (λ xs. Holds xs n) s h)) [ inl w ↦ (r.holds n).1 w | inr w ↦ absurd (none-some n w) ],
+          λ h. subst (λ xs. Holds xs n) (sym s) ((Holds-push (take i old) None n).1 (inl ((r.holds n).0 h))),
+          λ h. elim ((Holds-push (take i old) None n).0 (subst (λ xs. Holds xs n) s h)) [ inl w ↦ (r.holds n).1 w | inr w ↦ absurd (none-some n w) ],
         );
-        same_used = r.same_used ∙ sym (used-push (take i (positions number old)) None ∙ add-zero _) ∙ ap used (sym s);
+        same_used = r.same_used ∙ sym (used-push (take i old) None ∙ add-zero _) ∙ ap used (sym s);
       })
 
-  -- the next old slot has a key, which is put in a free slot
-  pub Refilled-put : (key : K) (text : Text) (hash at : ℕ) (new : List (Option K)) → slot (positions number old) i ≡ Some (number key) → slice_get texts (number key) ≡ Some text → hash ≡ hash_of text → at < length slots → slot (positions number slots) at ≡ None → Reaches (positions number slots) (home (length slots) hash) at → new ≡ set slots at (Some key) → Refilled hash_of texts (positions number new) (take (i + 1) (positions number old))
-  Refilled-put key text hash at new e here hashed l free reached put =
-      let s = seen_more (Some (number key)) e in
-      let inside_new = subst (λ n. at < n) (sym (length-positions number slots)) l in
-      let reached_hash = subst (λ h. Reaches (positions number slots) (home (length slots) h) at) hashed reached in
-      let reached_new = subst (λ n. Reaches (positions number slots) (home n (hash_of text)) at) (sym (length-positions number slots)) reached_hash in
-      subst (λ xs. Refilled hash_of texts xs (take (i + 1) (positions number old))) (sym (ap (positions number) put ∙ positions-set number slots at key)) (record {
-        filed = IsFiled-set (positions number slots) at (number key) inside_new free hash_of texts text r.filed here reached_new;
+  -- the next old slot has a position, which is put in a free slot
+  pub Refilled-put : (m : ℕ) (text : Text) (hash at : ℕ) (new : List (Option ℕ)) → slot old i ≡ Some m → slice_get texts m ≡ Some text → hash ≡ hash_of text → at < length slots → slot slots at ≡ None → Reaches slots (home (length slots) hash) at → new ≡ set slots at (Some m) → Refilled hash_of texts new (take (i + 1) old)
+  Refilled-put m text hash at new e here hashed l free reached put =
+      let s = seen_more (Some m) e in
+      let reached_hash = subst (λ h. Reaches slots (home (length slots) h) at) hashed reached in
+      subst (λ xs. Refilled hash_of texts xs (take (i + 1) old)) (sym put) (record {
+        filed = IsFiled-set slots at m l free hash_of texts text r.filed here reached_hash;
         holds = λ n. (
-          λ h. subst (λ xs. Holds xs n) (sym s) ((Holds-push (take i (positions number old)) (Some (number key)) n).1
-              (elim ((Holds-set (positions number slots) at (number key) inside_new free n).0 h) [ inl w ↦ inl ((r.holds n).0 w) | inr w ↦ inr (ap Some (sym w)) ])),
-          λ h. (Holds-set (positions number slots) at (number key) inside_new free n).1
-              (elim ((Holds-push (take i (positions number old)) (Some (number key)) n).0 (subst (λ xs. Holds xs n) s h)) [ inl w ↦ inl ((r.holds n).1 w) | inr w ↦ inr (sym (same_Some _ _ w)) ]),
+          λ h. subst (λ xs. Holds xs n) (sym s) ((Holds-push (take i old) (Some m) n).1
+              (elim ((Holds-set slots at m l free n).0 h) [ inl w ↦ inl ((r.holds n).0 w) | inr w ↦ inr (ap Some (sym w)) ])),
+          λ h. (Holds-set slots at m l free n).1
+              (elim ((Holds-push (take i old) (Some m) n).0 (subst (λ xs. Holds xs n) s h)) [ inl w ↦ inl ((r.holds n).1 w) | inr w ↦ inr (sym (same_Some _ _ w)) ]),
         );
-        same_used = used-set (positions number slots) at (number key) inside_new free ∙ ap (λ k. k + 1) r.same_used ∙ sym (used-push (take i (positions number old)) (Some (number key))) ∙ ap used (sym s);
+        same_used = used-set slots at m l free ∙ ap (λ k. k + 1) r.same_used ∙ sym (used-push (take i old) (Some m)) ∙ ap used (sym s);
       })
 
 -- fewer keys were seen than there are slots
@@ -102,8 +96,8 @@ Refilled-start hash_of texts xs n e =
       same_used = ap used e ∙ used-replicate n;
     }
 
-pub Refilled-end : {K : Type 0} (number : K → ℕ) (hash_of : Text → ℕ) (texts : List Text) (xs : List (Option ℕ)) (old : List (Option K)) (i : ℕ) → Refilled hash_of texts xs (take i (positions number old)) → length old ≤ i → Refilled hash_of texts xs (positions number old)
-Refilled-end number hash_of texts xs old i r h = subst (λ seen. Refilled hash_of texts xs seen) (take_all i (positions number old) (subst (λ n. n ≤ i) (sym (length-positions number old)) h)) r
+pub Refilled-end : (hash_of : Text → ℕ) (texts : List Text) (xs old : List (Option ℕ)) (i : ℕ) → Refilled hash_of texts xs (take i old) → length old ≤ i → Refilled hash_of texts xs old
+Refilled-end hash_of texts xs old i r h = subst (λ seen. Refilled hash_of texts xs seen) (take_all i old h) r
 
 -- ---- counts of slots
 
@@ -142,28 +136,6 @@ IsTable-refilled hash_of texts xs ys count n t r l s h = record {
   load = subst (λ k. used ys ≤ load_limit k) (sym l) (subst (λ k. k ≤ load_limit n) (sym r.same_used) h);
 }
 
--- ---- tables of empty slots
-
-pub positions-replicate : {K : Type 0} (number : K → ℕ) (n : ℕ) → positions number (replicate n None) ≡ replicate n None
-positions-replicate number zero = refl
-positions-replicate number (suc n) = ap (λ xs. None ∷ xs) (positions-replicate number n)
-
--- a `Vec` of no slots that was made longer by empty ones
-pub positions-resized : {K : Type 0} (number : K → ℕ) (old new : List (Option K)) (n len : ℕ) → new ≡ take n old ++ replicate (n - len) None → old ≡ [] → len ≡ 0 → positions number new ≡ replicate n None
-positions-resized number old new n len e none z = ap (positions number) (e ∙ nil_front (take n old) _ (ap (take n) none ∙ take-nil n) ∙ ap (λ k. replicate (n - k) None) z ∙ ap (λ k. replicate k None) (sub-zero n)) ∙ positions-replicate number n where
-  take-nil : {A : Type 0} (n : ℕ) → take {A = A} n [] ≡ []
-  take-nil zero = refl
-  take-nil (suc n) = refl
-
-  nil_front : {A : Type 0} (xs ys : List A) → xs ≡ [] → xs ++ ys ≡ ys
-  nil_front xs ys e = ap (λ zs. zs ++ ys) e
-
-  sub-zero : (n : ℕ) → n - 0 ≡ n
-  sub-zero n = omega arith
-
-pub emptied_more : {K : Type 0} (number : K → ℕ) (slots : List (Option K)) (i : ℕ) → i < length slots → take i (positions number slots) ≡ replicate i None → take (i + 1) (positions number (set slots i None)) ≡ replicate (i + 1) None
-emptied_more number slots i l e = ap (take (i + 1)) (map-set (option_map number) slots i None) ∙ take_more_set (positions number slots) i None (subst (λ n. i < n) (sym (length-positions number slots)) l) ∙ ap (λ xs. xs ++ None ∷ []) e ∙ replicate_more i None
-
 -- the count of slots after a growth
 grown_from_none : (count keys : ℕ) → keys ≤ load_limit 0 → count ≡ grown_count 0 → IsSlotCount count × (keys < load_limit count)
 grown_from_none count keys high e = (subst IsSlotCount (sym e) IsSlotCount-eight, omega (arith, e))
@@ -185,25 +157,22 @@ room-refilled hash_of texts xs ys n r l h =
     omega arith
 
 -- all slots were emptied
-pub cleared : {K A : Type 0} (number : K → ℕ) (v : Vec (Option K) A) (slots : List (Option K)) (ws : List (Option K)) (count : ℕ) → slots ≡ v.items → length ws ≡ length slots → v.len ≡ length v.items → positions number ws ≡ replicate (length slots) None → IsTable (positions number v.items) count → IsTable (positions number (with_items v ws).items) 0 × (room (positions number v.items) ≤ room (positions number (with_items v ws).items)) × HoldsNone (positions number (with_items v ws).items) × (length (positions number (with_items v ws).items) ≡ length (positions number v.items))
-cleared number v slots ws count is same len e t =
-    let n : length ws ≡ v.len = same ∙ ap length is ∙ sym len in
-    let w : positions number (with_items v ws).items ≡ replicate (length slots) None = ap (positions number) (with_items_is v ws n) ∙ e in
-    let m : length slots ≡ length (positions number v.items) = ap length is ∙ sym (length-positions number v.items) in
-    let z : used (positions number (with_items v ws).items) ≡ 0 = ap used w ∙ used-replicate (length slots) in
-    let k : length (positions number (with_items v ws).items) ≡ length (positions number v.items) = ap length w ∙ length-replicate (length slots) None ∙ m in
-    let f : load_limit (length (positions number (with_items v ws).items)) ≡ load_limit (length (positions number v.items)) = ap load_limit k in
-    (IsTable-replicate _ _ (subst IsSlotCount (sym m) t.slots) w, omega arith, λ n h. Holds-replicate (length slots) n (subst (λ xs. Holds xs n) w h), k)
+pub cleared : (slots new v : List (Option ℕ)) (count : ℕ) → slots ≡ v → new ≡ replicate (length slots) None → IsTable slots count → IsTable new 0 × (room v ≤ room new)
+cleared slots new v count view e t =
+    let l : length slots ≡ length v = ap length view in
+    let f : load_limit (length slots) ≡ load_limit (length v) = ap load_limit l in
+    let r : room new ≡ load_limit (length slots) = room-replicate new (length slots) e in
+    (IsTable-replicate new (length slots) t.slots e, omega arith)
 
 -- the new table in the place of a full one
-pub next_table : {K : Type 0} (number : K → ℕ) (hash_of : Text → ℕ) (texts : List Text) (items old new : List (Option K)) (v : List (Option ℕ)) (keys len count : ℕ) → IsTable (positions number items) keys → positions number items ≡ v → len ≡ length items → count ≡ grown_count len → old ≡ items → length (positions number new) ≡ count → Refilled hash_of texts (positions number new) (positions number old)
-    → IsTable (positions number new) keys × (0 < room (positions number new)) × ((n : ℕ) → Holds (positions number new) n ↔ Holds v n) × (length (positions number new) ≡ grown_count (length v))
-next_table number hash_of texts items old new v keys len count table view l size is long r =
+pub next_table : (hash_of : Text → ℕ) (texts : List Text) (slots new v : List (Option ℕ)) (keys count : ℕ) → IsTable slots keys → slots ≡ v → count ≡ grown_count (length slots) → length new ≡ count → Refilled hash_of texts new slots
+    → IsTable new keys × (0 < room new) × ((n : ℕ) → Holds new n ↔ Holds v n) × (length new ≡ grown_count (length v))
+next_table hash_of texts slots new v keys count table view size long r =
     let t = subst (λ xs. IsTable xs keys) view table in
-    let q = subst (λ xs. Refilled hash_of texts (positions number new) xs) (ap (positions number) is ∙ view) r in
-    let n : len ≡ length v = l ∙ sym (length-positions number items) ∙ ap length view in
+    let q = subst (λ xs. Refilled hash_of texts new xs) view r in
+    let sized : count ≡ grown_count (length v) = size ∙ ap (λ xs. grown_count (length xs)) view in
     let c : keys ≡ used v = t.counted in
-    let high : keys ≤ load_limit len = subst (λ k. keys ≤ load_limit k) (sym n) (omega (arith, t.load, c)) in
-    let g = grown len count keys (subst IsSlotCount (sym n) t.slots) high size in
+    let high : keys ≤ load_limit (length v) = omega (arith, t.load, c) in
+    let g = grown (length v) count keys t.slots high sized in
     let few : used v < load_limit count = omega (arith, g.1, c) in
-    (IsTable-refilled hash_of texts v (positions number new) keys count t q long g.0 (omega arith), room-refilled hash_of texts v (positions number new) count q long few, q.holds, long ∙ size ∙ ap grown_count n)
+    (IsTable-refilled hash_of texts v new keys count t q long g.0 (omega arith), room-refilled hash_of texts v new count q long few, q.holds, long ∙ sized)

@@ -1,8 +1,8 @@
 pub mod TextLemmas
 pub mod IndexLaws
 mod IndexSlots
-mod IndexSearch
 mod IndexTables
+mod KeySlots
 pub mod Regions
 pub mod Wasted
 pub mod Entries

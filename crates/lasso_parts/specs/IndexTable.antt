@@ -1,11 +1,7 @@
 -- What the table of an index keeps, and what the functions below its public calls say.
-use Rattle.std.specs.Prelude.{◌≡◌, ◌≢◌, ℕ, ◌^◌, ◌<◌, ◌≤◌, ◌⊎◌, ◌↔◌, List, Option, Some, length, map, slice_get, option_map}
+use Rattle.std.specs.Prelude.{◌≡◌, ◌≢◌, ℕ, ◌^◌, ◌<◌, ◌≤◌, ◌⊎◌, ◌↔◌, List, Option, Some, length, slice_get}
 use Rattle.lasso_parts.specs.Texts.{Text}
 use Rattle.lasso_parts.specs.Index.{slot, used, load_limit, Holds, IsFiled}
-
--- the slots by the positions that their keys stand for
-abbrev pub positions : {K : Type 0} → (K → ℕ) → List (Option K) → List (Option ℕ)
-positions number slots = map (option_map number) slots
 
 -- no slot, or a power of two of them
 abbrev pub IsSlotCount : ℕ → Type 0

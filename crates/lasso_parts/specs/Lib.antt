@@ -8,6 +8,7 @@ pub mod Kept
 pub mod Hashing
 pub mod Index
 pub mod IndexTable
+pub mod KeySlots
 pub mod Scan
 pub mod Bucket
 pub mod Arena

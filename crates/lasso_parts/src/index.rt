@@ -8,6 +8,7 @@ ghost use Rattle.lasso_parts.specs.Texts.{position_of};
 #[cfg(test)]
 mod hashers;
 mod hashing;
+mod key_slots;
 mod lists;
 mod probe;
 mod table;
@@ -17,12 +18,13 @@ mod tests;
 use crate::keys::Key;
 use crate::util::{LassoError, LassoErrorKind, LassoResult};
 pub use hashing::hash_text;
+use key_slots::KeySlots;
 pub use lists::Texts;
 use probe::{Scan, free_slot, home_slot, scan_slots};
 use std::alloc::Allocator;
 use std::hash::BuildHasher;
 use std::marker::Model;
-use table::{empty_all, empty_slots, grown_slots, rebuilt, slot_count};
+use table::{grown_slots, rebuilt, slot_count};
 
 /// An index from a text to its position: an open-addressed table of keys alone. It has no slots, or a
 /// power of two of them, and at most three quarters are filled. A key's text is read from the list that
@@ -30,7 +32,7 @@ use table::{empty_all, empty_slots, grown_slots, rebuilt, slot_count};
 /// the list of its slots, each empty or a position.
 #[derive(Drop)]
 pub struct Index<K: Key, A: Allocator> {
-    slots: Vec<Option<K>, A>,
+    slots: KeySlots<K, A>,
     used: usize,
 }
 
@@ -39,11 +41,11 @@ impl<K: Key, A: Allocator> Model for Index<K, A> {
 
     ghost Value = { List (Option ℕ) };
 
-    ghost use Rattle.lasso_parts.specs.IndexTable.{positions, IsTable};
+    ghost use Rattle.lasso_parts.specs.IndexTable.{IsTable};
 
-    ghost view = { λ s. positions K.number s.slots.items };
+    ghost view = { λ s. s.slots };
 
-    ghost invariant = { λ s. IsTable (positions K.number s.slots.items) s.used };
+    ghost invariant = { λ s. IsTable s.slots s.used };
 }
 
 impl<K: Key, A: Allocator> Index<K, A> {
@@ -54,7 +56,7 @@ impl<K: Key, A: Allocator> Index<K, A> {
         ensures filed { IsFiledAnywhere result }
     {
         Index {
-            slots: Vec::new(alloc),
+            slots: KeySlots::new(alloc),
             used: 0,
         }
     }
@@ -63,6 +65,8 @@ impl<K: Key, A: Allocator> Index<K, A> {
     /// fewest slots that serve. It is refused for want of memory alone, also where no `usize` has the
     /// count of slots.
     pub fn with_capacity(alloc: A, capacity: usize) -> LassoResult<Self>
+    where
+        A: Clone,
         ensures room { IfOk result (λ index. capacity ≤ room index) }
         ensures slots { IfOk result (λ index. IsFewest capacity (length index)) }
         ensures empty { IfOk result HoldsNone }
@@ -72,7 +76,7 @@ impl<K: Key, A: Allocator> Index<K, A> {
         let Some(count) = slot_count(capacity) else {
             return Err(LassoError::new(LassoErrorKind::FailedAllocation));
         };
-        let slots = empty_slots(alloc, count)?;
+        let slots = KeySlots::empty(alloc, count)?;
         Ok(Index { slots, used: 0 })
     }
 
@@ -94,17 +98,17 @@ impl<K: Key, A: Allocator> Index<K, A> {
     pub fn find_hashed<T: Texts, S: BuildHasher>(
         &self,
         texts: &T,
-        _hasher: &S,
+        hasher: &S,
         hash: u64,
         text: &str,
     ) -> Option<usize>
-        requires hashed { hash ≡ text_hash S.build_hasher S.Hasher.write S.Hasher.finish _hasher.now text.now }
-        requires filed { IsFiled (text_hash S.build_hasher S.Hasher.write S.Hasher.finish _hasher.now) (T.list texts.now) self.now }
+        requires hashed { hash ≡ text_hash S.build_hasher S.Hasher.write S.Hasher.finish hasher.now text.now }
+        requires filed { IsFiled (text_hash S.build_hasher S.Hasher.write S.Hasher.finish hasher.now) (T.list texts.now) self.now }
         ensures found { IfSome result (λ n. Holds self.now n × (slice_get (T.list texts.now) n ≡ Some text.now)) }
         ensures missing { IfNone result ((n : ℕ) → Holds self.now n → slice_get (T.list texts.now) n ≢ Some text.now) }
-        ensures whole { let hash_of = text_hash S.build_hasher S.Hasher.write S.Hasher.finish _hasher.now in IsIndexOf hash_of (T.list texts.now) self.now → result ≡ position_of (T.list texts.now) text.now }
+        ensures whole { let hash_of = text_hash S.build_hasher S.Hasher.write S.Hasher.finish hasher.now in IsIndexOf hash_of (T.list texts.now) self.now → result ≡ position_of (T.list texts.now) text.now }
     {
-        self.search(texts, _hasher, hash, text)
+        self.search(texts, hasher, hash, text)
     }
 
     /// Makes room for one key more. Where there is none, the table gets twice the slots, or 8 where it
@@ -134,7 +138,7 @@ impl<K: Key, A: Allocator> Index<K, A> {
             return Err(LassoError::new(LassoErrorKind::FailedAllocation));
         };
         let alloc = self.slots.allocator().clone()?;
-        let slots = rebuilt(alloc, count, self.slots.as_slice(), texts, hasher)?;
+        let slots = rebuilt(alloc, count, &self.slots, texts, hasher)?;
         self.slots = slots;
         Ok(())
     }
@@ -148,8 +152,8 @@ impl<K: Key, A: Allocator> Index<K, A> {
         ensures room { room self.new + 1 ≡ room self.old }
         ensures filed { StaysFiled hash (K.number key) self.old self.new }
     {
-        let at = free_slot(self.slots.as_slice(), hash);
-        self.slots[at] = Some(key);
+        let at = free_slot(&self.slots, hash);
+        self.slots.put(at, key);
         self.used += 1;
     }
 
@@ -160,7 +164,7 @@ impl<K: Key, A: Allocator> Index<K, A> {
         ensures room { room self.old ≤ room self.new }
         ensures filed { IsFiledAnywhere self.new }
     {
-        empty_all(self.slots.as_mut_slice());
+        self.slots.clear();
         self.used = 0;
     }
 
@@ -169,24 +173,24 @@ impl<K: Key, A: Allocator> Index<K, A> {
     fn search<T: Texts, S: BuildHasher>(
         &self,
         texts: &T,
-        _hasher: &S,
+        hasher: &S,
         hash: u64,
         text: &str,
     ) -> Option<usize>
-        requires hashed { hash ≡ text_hash S.build_hasher S.Hasher.write S.Hasher.finish _hasher.now text.now }
-        requires filed { IsFiled (text_hash S.build_hasher S.Hasher.write S.Hasher.finish _hasher.now) (T.list texts.now) self.now }
+        requires hashed { hash ≡ text_hash S.build_hasher S.Hasher.write S.Hasher.finish hasher.now text.now }
+        requires filed { IsFiled (text_hash S.build_hasher S.Hasher.write S.Hasher.finish hasher.now) (T.list texts.now) self.now }
         ensures found { IfSome result (λ n. Holds self.now n × (slice_get (T.list texts.now) n ≡ Some text.now)) }
         ensures missing { IfNone result ((n : ℕ) → Holds self.now n → slice_get (T.list texts.now) n ≢ Some text.now) }
     {
-        let slots = self.slots.as_slice();
-        if slots.is_empty() {
+        let count = self.slots.len();
+        if count == 0 {
             return None;
         }
-        let home = home_slot(hash, slots.len());
-        match scan_slots(slots, texts, text, home, slots.len()) {
+        let home = home_slot(hash, count);
+        match scan_slots(&self.slots, texts, text, home, count) {
             Scan::Found(position) => Some(position),
             Scan::Ended => None,
-            Scan::Passed => match scan_slots(slots, texts, text, 0, home) {
+            Scan::Passed => match scan_slots(&self.slots, texts, text, 0, home) {
                 Scan::Found(position) => Some(position),
                 Scan::Ended => None,
                 Scan::Passed => None,

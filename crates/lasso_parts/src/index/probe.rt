@@ -1,12 +1,14 @@
 //! The search through the slots of a table: from the slot that a hash names to the last one, and then
 //! from the first.
-ghost use Rattle.std.specs.Prelude.{◌≡◌, ◌<◌, ◌≤◌, length, None, IfSome, IfNone};
+ghost use Rattle.std.specs.Prelude.{◌≡◌, ◌<◌, ◌≤◌, ◌^◌, length, None, IfSome, IfNone};
 ghost use Rattle.lasso_parts.specs.Index.{slot, used, home, IsFull, Reaches};
-ghost use Rattle.lasso_parts.specs.IndexTable.{positions, AllInList};
+ghost use Rattle.lasso_parts.specs.IndexTable.{AllInList};
 ghost use Rattle.lasso_parts.specs.Scan.{Tells};
 
+use crate::index::key_slots::KeySlots;
 use crate::index::lists::Texts;
 use crate::keys::Key;
+use std::alloc::Allocator;
 
 // What a walk over a range of slots tells.
 pub enum Scan {
@@ -31,19 +33,19 @@ pub fn home_slot(hash: u64, count: usize) -> usize
 
 // Looks for the text in the slots from the first index up to the last, which is not among them.
 #[inline]
-pub fn scan_slots<K: Key, T: Texts>(
-    slots: &[Option<K>],
+pub fn scan_slots<K: Key, A: Allocator, T: Texts>(
+    slots: &KeySlots<K, A>,
     texts: &T,
     text: &str,
     from: usize,
     to: usize,
 ) -> Scan
-    requires in_list { AllInList (T.list texts.now) (positions K.number slots.now) }
+    requires in_list { AllInList (T.list texts.now) slots.now }
     requires range { to ≤ length slots.now }
-    ensures { Tells (T.list texts.now) text.now (positions K.number slots.now) from to result }
+    ensures { Tells (T.list texts.now) text.now slots.now from to result }
 {
     for j in from..to {
-        match slots[j] {
+        match slots.get(j) {
             None => return Scan::Ended,
             Some(key) => {
                 let position = key.into_usize();
@@ -58,13 +60,17 @@ pub fn scan_slots<K: Key, T: Texts>(
 
 // The first empty slot from the first index up to the last, which is not among them.
 #[inline]
-fn first_empty<K: Key>(slots: &[Option<K>], from: usize, to: usize) -> Option<usize>
+fn first_empty<K: Key, A: Allocator>(
+    slots: &KeySlots<K, A>,
+    from: usize,
+    to: usize,
+) -> Option<usize>
     requires { to ≤ length slots.now }
-    ensures found { IfSome result (λ j. (from ≤ j) × (j < to) × (slot (positions K.number slots.now) j ≡ None) × IsFull (positions K.number slots.now) from j) }
-    ensures full { IfNone result (IsFull (positions K.number slots.now) from to) }
+    ensures found { IfSome result (λ j. (from ≤ j) × (j < to) × (slot slots.now j ≡ None) × IsFull slots.now from j) }
+    ensures full { IfNone result (IsFull slots.now from to) }
 {
     for j in from..to {
-        if slots[j].is_none() {
+        if slots.get(j).is_none() {
             return Some(j);
         }
     }
@@ -73,11 +79,12 @@ fn first_empty<K: Key>(slots: &[Option<K>], from: usize, to: usize) -> Option<us
 
 // The empty slot where the search for the hash ends.
 #[inline]
-pub fn free_slot<K: Key>(slots: &[Option<K>], hash: u64) -> usize
-    requires { used (positions K.number slots.now) < length slots.now }
+pub fn free_slot<K: Key, A: Allocator>(slots: &KeySlots<K, A>, hash: u64) -> usize
+    requires { used slots.now < length slots.now }
     ensures bound { result < length slots.now }
-    ensures free { slot (positions K.number slots.now) result ≡ None }
-    ensures reached { Reaches (positions K.number slots.now) (home (length slots.now) hash) result }
+    ensures small { length slots.now < 2 ^ 64 }
+    ensures free { slot slots.now result ≡ None }
+    ensures reached { Reaches slots.now (home (length slots.now) hash) result }
 {
     let home = home_slot(hash, slots.len());
     if let Some(above) = first_empty(slots, home, slots.len()) {

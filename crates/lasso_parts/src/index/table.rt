@@ -1,10 +1,11 @@
-//! Tables of slots: how many there are, how a new one is made, and how one is filled anew.
+//! Tables of slots: how many there are, and how a new one gets the keys of another.
 ghost use Rattle.std.specs.Prelude.{◌≡◌, ◌<◌, ◌≤◌, ◌^◌, length, replicate, None, IfSome, IfNone, IfOk};
 ghost use Rattle.lasso_parts.specs.Hashing.{text_hash};
 ghost use Rattle.lasso_parts.specs.Index.{used, load_limit, grown_count, IsFewest};
-ghost use Rattle.lasso_parts.specs.IndexTable.{positions, AllInList, IsSlotCount, Refilled};
+ghost use Rattle.lasso_parts.specs.IndexTable.{AllInList, IsSlotCount, Refilled};
 
 use crate::index::hashing::hash_text;
+use crate::index::key_slots::KeySlots;
 use crate::index::lists::Texts;
 use crate::index::probe::free_slot;
 use crate::keys::Key;
@@ -45,62 +46,42 @@ pub fn grown_slots(count: usize) -> Option<usize>
     count.checked_mul(2)
 }
 
-// So many empty slots.
-pub fn empty_slots<K: Key, A: Allocator>(
-    alloc: A,
-    count: usize,
-) -> Result<Vec<Option<K>, A>, AllocError>
-    ensures { IfOk result (λ v. positions K.number v.items ≡ replicate count None) }
-{
-    let mut slots = Vec::with_capacity(alloc, count)?;
-    slots.resize(count, None)?;
-    Ok(slots)
-}
-
-// Empties each slot.
-pub fn empty_all<K: Key>(slots: &mut [Option<K>])
-    ensures { positions K.number slots.new ≡ replicate (length slots.old) None }
-{
-    for slot in slots.iter_mut() {
-        *slot = None;
-    }
-}
-
 // Enters the keys of the old slots into the new ones, which are empty.
-fn refill<K: Key, T: Texts, S: BuildHasher>(
-    slots: &mut [Option<K>],
-    old: &[Option<K>],
+fn refill<K: Key, A: Allocator, T: Texts, S: BuildHasher>(
+    slots: &mut KeySlots<K, A>,
+    old: &KeySlots<K, A>,
     texts: &T,
     hasher: &S,
 )
-    requires in_list { AllInList (T.list texts.now) (positions K.number old.now) }
-    requires empty { positions K.number slots.old ≡ replicate (length slots.old) None }
-    requires load { used (positions K.number old.now) < length slots.old }
-    ensures { Refilled (text_hash S.build_hasher S.Hasher.write S.Hasher.finish hasher.now) (T.list texts.now) (positions K.number slots.new) (positions K.number old.now) }
+    requires in_list { AllInList (T.list texts.now) old.now }
+    requires empty { slots.old ≡ replicate (length slots.old) None }
+    requires load { used old.now < length slots.old }
+    ensures len { length slots.new ≡ length slots.old }
+    ensures refilled { Refilled (text_hash S.build_hasher S.Hasher.write S.Hasher.finish hasher.now) (T.list texts.now) slots.new old.now }
 {
-    for slot in old {
-        if let Some(key) = *slot {
+    for j in 0..old.len() {
+        if let Some(key) = old.get(j) {
             let text = texts.text_at(key.into_usize());
             let at = free_slot(slots, hash_text(hasher, text));
-            slots[at] = Some(key);
+            slots.put(at, key);
         }
     }
 }
 
 // The same keys in a new table of so many slots.
-pub fn rebuilt<K: Key, A: Allocator, T: Texts, S: BuildHasher>(
+pub fn rebuilt<K: Key, A: Allocator + Clone, T: Texts, S: BuildHasher>(
     alloc: A,
     count: usize,
-    old: &[Option<K>],
+    old: &KeySlots<K, A>,
     texts: &T,
     hasher: &S,
-) -> Result<Vec<Option<K>, A>, AllocError>
-    requires in_list { AllInList (T.list texts.now) (positions K.number old.now) }
-    requires load { used (positions K.number old.now) < count }
-    ensures len { IfOk result (λ v. length (positions K.number v.items) ≡ count) }
-    ensures refilled { let hash_of = text_hash S.build_hasher S.Hasher.write S.Hasher.finish hasher.now in IfOk result (λ v. Refilled hash_of (T.list texts.now) (positions K.number v.items) (positions K.number old.now)) }
+) -> Result<KeySlots<K, A>, AllocError>
+    requires in_list { AllInList (T.list texts.now) old.now }
+    requires load { used old.now < count }
+    ensures len { IfOk result (λ slots. length slots ≡ count) }
+    ensures refilled { let hash_of = text_hash S.build_hasher S.Hasher.write S.Hasher.finish hasher.now in IfOk result (λ slots. Refilled hash_of (T.list texts.now) slots old.now) }
 {
-    let mut slots = empty_slots(alloc, count)?;
-    refill(slots.as_mut_slice(), old, texts, hasher);
+    let mut slots = KeySlots::empty(alloc, count)?;
+    refill(&mut slots, old, texts, hasher);
     Ok(slots)
 }

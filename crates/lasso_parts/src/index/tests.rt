@@ -2,6 +2,7 @@
 ghost use Rattle.lasso_parts.specs.Index.{IsFiledAnywhere};
 
 use crate::index::hashers::{CountingState, SameState};
+use crate::index::key_slots::KeySlots;
 use crate::index::{Index, hash_text};
 use crate::keys::{Key, Spur};
 use crate::util::{FixedState, LassoErrorKind, LassoResult};
@@ -117,8 +118,33 @@ fn each_call(rt: HostRuntime) -> Result<(), Fail> {
     assert_eq!(rt; words.find("ab"), None);
     words.clear();
     assert_eq!(rt; words.find("aa"), None);
+    words.enter(4)?;
+    assert_eq!(rt; words.find("ab"), Some(4));
+    assert_eq!(rt; words.find("aa"), None);
     let huge: LassoResult<Index<Spur, Global>> = Index::with_capacity(rt.alloc(), usize::MAX);
     let refused = huge.err().ok_or("taken")?;
     assert_eq!(rt; refused.kind(), LassoErrorKind::FailedAllocation);
+    Ok(())
+}
+
+#[test]
+fn slots_of_three_words(rt: HostRuntime) -> Result<(), Fail> {
+    let key = Spur::try_from_usize(7).ok_or("no key")?;
+    let mut slots = KeySlots::empty(rt.alloc(), 130)?;
+    assert_eq!(rt; slots.len(), 130);
+    for _ in 0..2u8 {
+        for j in 0..130usize {
+            assert!(rt; slots.len() == 130);
+            assert!(rt; slots.get(j).is_none(), "slot {j}");
+        }
+        slots.put(64, key);
+        slots.put(129, key);
+        for j in 0..130usize {
+            assert!(rt; slots.len() == 130);
+            assert_eq!(rt; slots.get(j).is_some(), j == 64 || j == 129);
+        }
+        slots.clear();
+        assert!(rt; slots.len() == 130);
+    }
     Ok(())
 }

@@ -1,7 +1,7 @@
-use Rattle.std.proofs.Common.{◌≡◌, ℕ, Option, Some, None, is_some, false, not, refl, sym, ap, ◌∙◌, arith}
+use Rattle.std.proofs.Common.{◌≡◌, ℕ, Option, Some, None, is_some, false, not, refl, sym, ap, ◌∙◌}
 use Rattle.std.specs.Option.{option_map}
 use Rattle.std.proofs.lemmas.Bool.{true≢false}
-use Rattle.lasso_parts.proofs.IndexSlots.{slot_read, IsFull-more}
+use Rattle.lasso_parts.proofs.IndexSlots.{IsFull-more}
 use Rattle.lasso_parts.proofs.index.probe.first_empty.Goals as goal
 
 -- what is mapped to none was none
@@ -10,6 +10,4 @@ is_none-option_map number None e = refl
 is_none-option_map number (Some k) e = absurd (cc)
 
 pub loop-j-preserved : goal.loop-j-preserved
-loop-j-preserved g c =
-    let r = slot_read g.K.Key.number c.args.slots.now c.loop-j.j c.index-slots-j.result (omega arith) c.index-slots-j.is in
-    IsFull-more _ _ _ c.loop-j.invariant (λ e. true≢false (sym (c.is_none.ensures ∙ ap not c.if-is_none.false) ∙ is_none-option_map _ _ (sym r ∙ e)))
+loop-j-preserved g c = IsFull-more _ _ _ c.loop-j.invariant (λ e. true≢false (sym (c.is_none.ensures ∙ ap not c.if-is_none.false) ∙ is_none-option_map g.K.Key.number _ (c.get.ensures ∙ e)))

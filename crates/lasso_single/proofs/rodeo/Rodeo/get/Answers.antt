@@ -1,8 +1,14 @@
-use Rattle.std.proofs.Common.{◌≡◌, ℕ, Option, Some, is_some, sym, subst}
+use Rattle.std.proofs.Common.{◌≡◌, ℕ, Option, Some, is_some, sym, ap, ◌∙◌, subst}
 use Rattle.std.specs.Prelude.{option_and_then}
 use Rattle.lasso_parts.specs.Texts.{position_of}
 use Rattle.lasso_parts.proofs.TextLemmas.{key_of_present}
 use Rattle.lasso_single.proofs.rodeo.Rodeo.get.Goals as goal
+
+pub returns-clause-value : goal.returns-clause-value
+returns-clause-value g c =
+    let key_at = g.K.Key.key_at in
+    let at : Some c.in_ok-position.position ≡ position_of c.self.inside.list.texts c.args.text.now = c.in_ok-position.ensures.whole c.self.invariant.0 in
+    rw (← c.self.view_is) (c.try_from_usize.ensures ∙ ap (λ (o : Option ℕ). option_and_then key_at o) at)
 
 pub returns-clause-present : goal.returns-clause-present
 returns-clause-present g c =
