@@ -1,7 +1,8 @@
-//! A key type and a hasher for tests.
+//! A key type and hashers for tests.
 use lasso_parts::keys::Key;
+use std::cell::Cell;
 use std::cmp::{Eq, PartialEq};
-use std::hash::{BuildHasherDefault, Hasher};
+use std::hash::{BuildHasher, BuildHasherDefault, Hasher};
 use std::marker::Model;
 
 /// A key type of 8 bits without one number.
@@ -85,4 +86,27 @@ impl Hasher for SameHasher {
     }
 
     fn write(&mut self, _bytes: &[u8]) {}
+}
+
+/// Makes the same hashers, and counts how many it made: one for each text that was hashed.
+#[derive(Clone, Copy)]
+pub struct CountingState<'a> {
+    made: &'a Cell<u64>,
+}
+
+impl<'a> CountingState<'a> {
+    pub fn new(made: &'a Cell<u64>) -> Self {
+        CountingState { made }
+    }
+}
+
+impl BuildHasher for CountingState<'_> {
+    type Hasher = SameHasher;
+
+    ghost build_hasher = { λ _. record { answer = 0 } };
+
+    fn build_hasher(&self) -> SameHasher {
+        self.made.set(self.made.get().wrapping_add(1));
+        SameHasher { answer: 0 }
+    }
 }
