@@ -1,0 +1,3 @@
+pub mod JsonErrors
+pub mod Json
+pub mod KeyRange

@@ -1,0 +1,11 @@
+//! Texts and keys as JSON values: what they are written as, how they are read, and what is wrong with a
+//! value that can't be read.
+mod error;
+mod keys;
+mod reading;
+mod writing;
+
+pub use error::JsonError;
+pub use keys::JsonKey;
+pub use reading::read_array;
+

@@ -1,0 +1,1 @@
+//! Lists of texts written as JSON arrays.
