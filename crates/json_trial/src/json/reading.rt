@@ -49,7 +49,7 @@ fn read_items<'a, K: Key, S: BuildHasher, A: Allocator + Clone>(
     items: &'a [Value],
     distinct: bool,
 ) -> Result<Vec<&'a str, A>, JsonError>
-    requires empty { texts.entry.items ≡ [] }
+    requires empty { texts.items ≡ [] }
     requires none { HoldsNone index }
     ensures { (shown (λ list. map (λ t. t.now) list.items) result ≡ read_items K.key_at distinct [] (items_view items.now)) ⊎ (shown (λ list. map (λ t. t.now) list.items) result ≡ no_memory) }
 {
