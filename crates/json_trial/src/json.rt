@@ -8,4 +8,5 @@ mod writing;
 pub use error::JsonError;
 pub use keys::JsonKey;
 pub use reading::read_array;
+pub use writing::write_array;
 
