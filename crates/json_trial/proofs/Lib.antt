@@ -1,1 +1,3 @@
 pub mod JsonTexts
+pub mod JsonValues
+pub mod JsonLaws

@@ -1,3 +1,4 @@
 pub mod JsonErrors
 pub mod Json
 pub mod KeyRange
+pub mod JsonLaws

@@ -2,3 +2,4 @@
 #![tactic(auto)]
 
 pub mod json;
+pub mod json_laws;
