@@ -6,6 +6,7 @@ mod IndexTables
 pub mod Regions
 pub mod Wasted
 pub mod Entries
+pub mod Walks
 mod PlacesLent
 mod RowCalls
 mod EmptyStructs

@@ -5,6 +5,7 @@
 pub mod arena;
 pub mod bucket;
 pub mod index;
+pub mod iter;
 pub mod keys;
 pub mod laws;
 pub mod slots;

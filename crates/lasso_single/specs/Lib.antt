@@ -1,4 +1,5 @@
 pub mod Interner
+pub mod Equality
 pub mod Intern
 pub mod Copies
 pub mod Filling

@@ -7,10 +7,12 @@ ghost use Rattle.lasso_single.specs.Interner.{KeepsOrigin, bytes_added};
 mod changes;
 mod clones;
 mod filling;
+mod freezing;
 mod interning;
 mod makers;
 #[cfg(test)]
 mod tests;
+mod walking;
 
 use crate::text_list::TextList;
 use lasso_parts::index::{Index, Texts, hash_text};

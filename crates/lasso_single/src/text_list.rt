@@ -1,12 +1,17 @@
 //! `TextList`: the texts of an interner in order, over the memory that holds them.
 ghost use Rattle.std.specs.Prelude.{◌≡◌, ◌+◌, ◌*◌, ◌^◌, ◌<◌, ◌≤◌, ◌++◌, [], ◌∷◌, true, false, length, IsTrue, ◌↔◌, IsSome, Some, IfOk, IfErr, OnOk, OnErr, slice_get, option_map, SomeIff};
 ghost use Rattle.lasso_parts.specs.Account.{fresh, store, clear, with_limit};
+ghost use Rattle.lasso_parts.specs.Texts.{Fits};
+ghost use Rattle.lasso_parts.specs.Walk.{numbered};
 ghost use Rattle.lasso_single.specs.Copies.{bytes_of};
+ghost use Rattle.lasso_single.specs.Equality.{texts_eq};
 ghost use Rattle.lasso_single.specs.Interner.{IsMadeWith, KeepsOrigin};
 ghost use Rattle.lasso_parts.specs.declared.util.LassoErrorKind.TheVariants.{FailedAllocation};
 
 use lasso_parts::arena::Arena;
 use lasso_parts::index::Texts;
+use lasso_parts::iter::{Iter, Strings};
+use lasso_parts::keys::Key;
 use lasso_parts::slots::{Slot, text_of};
 use lasso_parts::util::{Capacity, LassoResult, MemoryLimits};
 use std::alloc::Allocator;
@@ -142,6 +147,38 @@ impl<A: Allocator> TextList<A> {
             bytes = bytes.checked_add(self.text_at(position).len())?;
         }
         Some(bytes)
+    }
+
+    /// A walk over the texts and their keys. Each position must have a key.
+    pub(crate) fn iter<K: Key>(&self) -> Iter<'_, K>
+        requires { Fits K.key_at (length self.now.texts) }
+        ensures { result ≡ numbered 0 self.now.texts }
+    {
+        Iter::new(self.slots.as_slice(), self.arena.regions())
+    }
+
+    /// A walk over the texts.
+    pub(crate) fn strings<K: Key>(&self) -> Strings<'_, K>
+        ensures { result ≡ self.now.texts }
+    {
+        Strings::new(self.slots.as_slice(), self.arena.regions())
+    }
+
+    /// Whether another list has the same texts in the same order.
+    pub(crate) fn has_texts_of<B: Allocator>(&self, other: &TextList<B>) -> bool
+        ensures value { result ≡ texts_eq self.now.texts other.now.texts }
+        ensures same { IsTrue result ↔ (self.now.texts ≡ other.now.texts) }
+    {
+        let len = self.len();
+        if len != other.len() {
+            return false;
+        }
+        for position in 0..len {
+            if self.text_at(position) != other.text_at(position) {
+                return false;
+            }
+        }
+        true
     }
 
     /// The allocator of the list.

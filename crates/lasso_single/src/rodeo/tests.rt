@@ -3,6 +3,7 @@ ghost use Rattle.std.specs.Prelude.{◌<◌};
 
 mod changes;
 mod clones;
+mod walks;
 
 use super::*;
 use crate::fixtures::{Gap, SameState};

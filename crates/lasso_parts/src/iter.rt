@@ -1,0 +1,275 @@
+//! Walks over the texts of a list, from both ends. A walk borrows the list's entries and the regions that
+//! they name, so no allocator stands in its type, and no step of it takes memory.
+ghost use Rattle.std.specs.Prelude.{◌≡◌, ◌+◌, ◌-◌, ◌<◌, ◌≤◌, length, take, drop, None, Some, IsSome, IfSome, option_map, slice_get};
+ghost use Rattle.std.specs.Iterator.{YieldsFirstBy, YieldsLastBy, item_count, at_most, UpTo};
+ghost use Rattle.std.specs.Iterator.SizeHint.{IsWithinCount};
+ghost use Rattle.lasso_parts.specs.Slots.{AllThere, texts_of};
+ghost use Rattle.lasso_parts.specs.Texts.{Fits};
+ghost use Rattle.lasso_parts.specs.Walk.{numbered};
+
+use crate::bucket::region::Region;
+use crate::keys::Key;
+use crate::slots::{Slot, text_of};
+use std::alloc::AllocError;
+use std::iter::FusedIterator;
+use std::marker::{Model, PhantomData};
+
+/// A walk over texts in the order of their keys. Contracts see it as the list of the texts that are left.
+#[derive(Drop)]
+pub struct Strings<'a, K: Key> {
+    slots: &'a [Slot],
+    regions: &'a [Region],
+    keys: PhantomData<K>,
+}
+
+impl<'a, K: Key> Model for Strings<'a, K> {
+    ghost use Rattle.std.specs.Prelude.{List};
+    ghost use Rattle.lasso_parts.specs.Slots.{AllThere, texts_of};
+    ghost use Rattle.lasso_parts.specs.Texts.{Text};
+
+    ghost Value = { List Text };
+
+    ghost view = { λ s. texts_of s.regions.now s.slots.now };
+
+    ghost invariant = { λ s. AllThere s.regions.now s.slots.now };
+}
+
+#[tactic(auto, using(crate::proofs::Walks::walk_steps))]
+impl<'a, K: Key> Strings<'a, K> {
+    /// A walk over the texts of all the entries. Each must be there among the regions.
+    pub fn new(slots: &'a [Slot], regions: &'a [Region]) -> Self
+        requires { AllThere regions.now slots.now }
+        ensures { result ≡ texts_of regions.now slots.now }
+    {
+        Strings {
+            slots,
+            regions,
+            keys: PhantomData,
+        }
+    }
+
+    /// Passes over `n` texts from the front and gives the next. Where no more than `n` are left, it gives
+    /// `None`, and none is left then.
+    pub fn nth(&mut self, n: usize) -> Option<&'a str>
+        ensures rest { self.new ≡ drop (n + 1) self.old }
+        ensures text { option_map (λ t. t.now) result ≡ slice_get self.old n }
+    {
+        let slots = self.slots;
+        if n < slots.len() {
+            let text = text_of(self.regions, slots[n]);
+            let (_, rest) = slots.split_at(n + 1);
+            self.slots = rest;
+            Some(text)
+        } else {
+            self.slots = &[];
+            None
+        }
+    }
+
+    /// Passes over `n` texts from the back and gives the next. Where no more than `n` are left, it gives
+    /// `None`, and none is left then.
+    pub fn nth_back(&mut self, n: usize) -> Option<&'a str>
+        ensures rest { self.new ≡ take (length self.old - (n + 1)) self.old }
+        ensures text { n < length self.old → option_map (λ t. t.now) result ≡ slice_get self.old (length self.old - (n + 1)) }
+        ensures ended { length self.old ≤ n → result ≡ None }
+    {
+        let slots = self.slots;
+        if n < slots.len() {
+            let at = slots.len() - 1 - n;
+            self.slots = &slots[..at];
+            Some(text_of(self.regions, slots[at]))
+        } else {
+            self.slots = &[];
+            None
+        }
+    }
+}
+
+#[tactic(auto, using(crate::proofs::Walks::walk_steps))]
+impl<'a, K: Key> Iterator for Strings<'a, K> {
+    type Item = &'a str;
+
+    ghost next_gives = { YieldsFirstBy (λ t. t.now) (λ texts. texts) };
+
+    ghost remaining = { item_count (λ texts. texts) };
+
+    fn next(&mut self) -> Option<&'a str> {
+        let slots = self.slots;
+        if slots.is_empty() {
+            return None;
+        }
+        self.slots = &slots[1..];
+        Some(text_of(self.regions, slots[0]))
+    }
+
+    fn size_hint(&self) -> (usize, Option<usize>)
+        ensures lower { IsWithinCount result.0 (at_most (length self.now)) }
+        ensures upper { IfSome result.1 (UpTo (at_most (length self.now))) }
+        ensures least { result.0 ≡ length self.now }
+        ensures most { result.1 ≡ Some (length self.now) }
+    {
+        (self.slots.len(), Some(self.slots.len()))
+    }
+}
+
+#[tactic(auto, using(crate::proofs::Walks::walk_steps))]
+impl<'a, K: Key> DoubleEndedIterator for Strings<'a, K> {
+    ghost next_back_gives = { YieldsLastBy (λ t. t.now) (λ texts. texts) };
+
+    fn next_back(&mut self) -> Option<&'a str> {
+        let slots = self.slots;
+        if slots.is_empty() {
+            return None;
+        }
+        let last = slots.len() - 1;
+        self.slots = &slots[..last];
+        Some(text_of(self.regions, slots[last]))
+    }
+}
+
+#[tactic(auto, using(crate::proofs::Walks::walk_steps))]
+impl<'a, K: Key> ExactSizeIterator for Strings<'a, K> {
+    fn len(&self) -> usize {
+        self.slots.len()
+    }
+}
+
+impl<'a, K: Key> FusedIterator for Strings<'a, K> {}
+
+impl<'a, K: Key> Clone for Strings<'a, K> {
+    ghost is_clone = { λ walk copy. copy ≡ walk };
+
+    ghost is_infallible = { λ _. Unit {0} };
+
+    fn clone(&self) -> Result<Self, AllocError> {
+        Ok(Strings {
+            slots: self.slots,
+            regions: self.regions,
+            keys: PhantomData,
+        })
+    }
+}
+
+/// A walk over texts and their keys, in the order of the keys. Contracts see it as the list of the texts
+/// that are left, each behind its key's number.
+#[derive(Drop)]
+pub struct Iter<'a, K: Key> {
+    strings: Strings<'a, K>,
+    first: usize,
+}
+
+impl<'a, K: Key> Model for Iter<'a, K> {
+    ghost use Rattle.std.specs.Prelude.{ℕ, ◌+◌, ◌<◌, ◌^◌, List, length};
+    ghost use Rattle.lasso_parts.specs.Texts.{Text, Fits};
+    ghost use Rattle.lasso_parts.specs.Walk.{numbered};
+
+    ghost Value = { List (ℕ × Text) };
+
+    ghost view = { λ s. numbered s.first s.strings };
+
+    ghost invariant = { λ s. (s.first + length s.strings < 2 ^ 64) × Fits K.key_at (s.first + length s.strings) };
+}
+
+#[tactic(auto, using(crate::proofs::Walks::walk_steps))]
+impl<'a, K: Key> Iter<'a, K> {
+    /// A walk over the texts of all the entries, numbered from 0. Each entry must be there among the
+    /// regions, and each of the numbers must have a key.
+    pub fn new(slots: &'a [Slot], regions: &'a [Region]) -> Self
+        requires there { AllThere regions.now slots.now }
+        requires fits { Fits K.key_at (length slots.now) }
+        ensures { result ≡ numbered 0 (texts_of regions.now slots.now) }
+    {
+        Iter {
+            strings: Strings::new(slots, regions),
+            first: 0,
+        }
+    }
+
+    /// Passes over `n` texts from the front and gives the next and its key. Where no more than `n` are
+    /// left, it gives `None`, and none is left then.
+    pub fn nth(&mut self, n: usize) -> Option<(K, &'a str)>
+        ensures rest { self.new ≡ drop (n + 1) self.old }
+        ensures item { option_map (λ x. (K.number x.0, x.1.now)) result ≡ slice_get self.old n }
+    {
+        let text = self.strings.nth(n)?;
+        let number = self.first + n;
+        self.first = number + 1;
+        Some((key_of(number), text))
+    }
+
+    /// Passes over `n` texts from the back and gives the next and its key. Where no more than `n` are
+    /// left, it gives `None`, and none is left then.
+    pub fn nth_back(&mut self, n: usize) -> Option<(K, &'a str)>
+        ensures rest { self.new ≡ take (length self.old - (n + 1)) self.old }
+        ensures item { n < length self.old → option_map (λ x. (K.number x.0, x.1.now)) result ≡ slice_get self.old (length self.old - (n + 1)) }
+        ensures ended { length self.old ≤ n → result ≡ None }
+    {
+        let text = self.strings.nth_back(n)?;
+        Some((key_of(self.first + self.strings.len()), text))
+    }
+}
+
+#[tactic(auto, using(crate::proofs::Walks::walk_steps))]
+impl<'a, K: Key> Iterator for Iter<'a, K> {
+    type Item = (K, &'a str);
+
+    ghost next_gives = { YieldsFirstBy (λ x. (K.number x.0, x.1.now)) (λ items. items) };
+
+    ghost remaining = { item_count (λ items. items) };
+
+    fn next(&mut self) -> Option<(K, &'a str)> {
+        let text = self.strings.next()?;
+        let number = self.first;
+        self.first = number + 1;
+        Some((key_of(number), text))
+    }
+
+    fn size_hint(&self) -> (usize, Option<usize>)
+        ensures lower { IsWithinCount result.0 (at_most (length self.now)) }
+        ensures upper { IfSome result.1 (UpTo (at_most (length self.now))) }
+        ensures least { result.0 ≡ length self.now }
+        ensures most { result.1 ≡ Some (length self.now) }
+    {
+        self.strings.size_hint()
+    }
+}
+
+#[tactic(auto, using(crate::proofs::Walks::walk_steps))]
+impl<'a, K: Key> DoubleEndedIterator for Iter<'a, K> {
+    ghost next_back_gives = { YieldsLastBy (λ x. (K.number x.0, x.1.now)) (λ items. items) };
+
+    fn next_back(&mut self) -> Option<(K, &'a str)> {
+        let text = self.strings.next_back()?;
+        Some((key_of(self.first + self.strings.len()), text))
+    }
+}
+
+#[tactic(auto, using(crate::proofs::Walks::walk_steps))]
+impl<'a, K: Key> ExactSizeIterator for Iter<'a, K> {
+    fn len(&self) -> usize {
+        self.strings.len()
+    }
+}
+
+impl<'a, K: Key> FusedIterator for Iter<'a, K> {}
+
+impl<'a, K: Key> Clone for Iter<'a, K> {
+    ghost is_clone = { λ walk copy. copy ≡ walk };
+
+    ghost is_infallible = { λ _. Unit {0} };
+
+    fn clone(&self) -> Result<Self, AllocError> {
+        Ok(Iter {
+            strings: self.strings.clone()?,
+            first: self.first,
+        })
+    }
+}
+
+// The key of a number that has one.
+fn key_of<K: Key>(number: usize) -> K
+    requires { IsSome (K.key_at number) }
+    ensures { K.number result ≡ number }
+{
+    K::try_from_usize(number).unwrap()
+}

@@ -1,0 +1,186 @@
+//! `RodeoReader`, a frozen interner that still finds the keys of texts.
+ghost use Rattle.std.specs.Prelude.{◌≡◌, ◌==◌, ◌<◌, length, Some, is_some, IsTrue, ◌↔◌, slice_get, option_map};
+ghost use Rattle.lasso_parts.specs.Texts.{position_of, key_of, IsDistinct, Fits};
+ghost use Rattle.lasso_parts.specs.Walk.{numbered};
+ghost use Rattle.std.specs.Cmp.{partial_equiv_from_equiv};
+ghost use Rattle.lasso_single.specs.Equality.{texts_eq, texts_equivalence};
+
+#[cfg(test)]
+mod tests;
+
+use crate::resolver::RodeoResolver;
+use crate::rodeo::Rodeo;
+use lasso_parts::iter::{Iter, Strings};
+use lasso_parts::keys::Key;
+use std::alloc::Allocator;
+use std::hash::BuildHasher;
+use std::marker::Model;
+
+/// A list of distinct texts that does not change any more, and from which keys of texts are found as well
+/// as texts of keys. It is what a `Rodeo` freezes to. Contracts see it as the list of its texts, where
+/// the text at position n has the key of number n. Threads may share it where they may share its
+/// allocator and its hasher; no call of it takes a lock.
+pub struct RodeoReader<K: Key, S: BuildHasher, A: Allocator> {
+    rodeo: Rodeo<K, S, A>,
+}
+
+impl<K: Key, S: BuildHasher, A: Allocator> Model for RodeoReader<K, S, A> {
+    ghost use Rattle.std.specs.Prelude.{List};
+    ghost use Rattle.lasso_parts.specs.Texts.{Text};
+
+    ghost Value = { List Text };
+
+    ghost view = { λ r. r.rodeo.texts };
+}
+
+// One call, so that proofs of callers see nothing of the field where a reader is let go.
+impl<K: Key, S: BuildHasher + Drop, A: Allocator> Drop for RodeoReader<K, S, A> {
+    fn drop(self) {
+        let RodeoReader { rodeo: _ } = self;
+    }
+}
+
+impl<K: Key, S: BuildHasher, A: Allocator> RodeoReader<K, S, A> {
+    /// The frozen form of an interner.
+    pub(crate) fn new(rodeo: Rodeo<K, S, A>) -> Self
+        ensures { result ≡ rodeo.texts }
+    {
+        RodeoReader { rodeo }
+    }
+
+    /// The interner that was frozen.
+    pub(crate) fn rodeo(&self) -> &Rodeo<K, S, A>
+        ensures { result.now.texts ≡ self.now }
+    {
+        &self.rodeo
+    }
+
+    /// The key of the text, or `None` where it is not there.
+    pub fn get(&self, text: &str) -> Option<K>
+        ensures value { result ≡ key_of K.key_at self.now text.now }
+        ensures present { is_some result ≡ is_some (position_of self.now text.now) }
+    {
+        self.rodeo.get(text)
+    }
+
+    /// Whether the text is there.
+    pub fn contains(&self, text: &str) -> bool
+        ensures { result ≡ is_some (position_of self.now text.now) }
+    {
+        self.rodeo.contains(text)
+    }
+
+    /// Whether the key stands for a text of this reader.
+    pub fn contains_key(&self, key: K) -> bool
+        ensures { IsTrue result ↔ (K.number key < length self.now) }
+    {
+        self.rodeo.contains_key(key)
+    }
+
+    /// The key's text, or `None` where the key stands for no text of this reader.
+    pub fn try_resolve(&self, key: K) -> Option<&str>
+        ensures { option_map (λ t. t.now) result ≡ slice_get self.now (K.number key) }
+    {
+        self.rodeo.try_resolve(key)
+    }
+
+    /// The key's text. The key must stand for a text of this reader: `contains_key` is the test.
+    pub fn resolve(&self, key: K) -> &str
+        requires { K.number key < length self.now }
+        ensures { slice_get self.now (K.number key) ≡ Some result.now }
+    {
+        self.rodeo.resolve(key)
+    }
+
+    /// The key's text: the same call as `resolve`, with the same condition.
+    pub fn resolve_unchecked(&self, key: K) -> &str
+        requires { K.number key < length self.now }
+        ensures { slice_get self.now (K.number key) ≡ Some result.now }
+    {
+        self.resolve(key)
+    }
+
+    /// The number of texts.
+    pub fn len(&self) -> usize
+        ensures value { result ≡ length self.now }
+        ensures distinct { IsDistinct self.now }
+        ensures fits { Fits K.key_at (length self.now) }
+    {
+        self.rodeo.len()
+    }
+
+    /// Whether there is no text.
+    pub fn is_empty(&self) -> bool
+        ensures { result ≡ (length self.now == 0) }
+    {
+        self.rodeo.is_empty()
+    }
+
+    /// A walk over the texts and their keys, in the order of the keys.
+    pub fn iter(&self) -> Iter<'_, K>
+        ensures { result ≡ numbered 0 self.now }
+    {
+        self.rodeo.iter()
+    }
+
+    /// A walk over the texts, in the order of their keys.
+    pub fn strings(&self) -> Strings<'_, K>
+        ensures { result ≡ self.now }
+    {
+        self.rodeo.strings()
+    }
+
+    /// The same texts under the same keys, without the index. It takes no memory, copies nothing and
+    /// can't fail; the index is let go.
+    pub fn into_resolver(self) -> RodeoResolver<K, A>
+    where
+        S: Drop,
+        ensures { result ≡ self }
+    {
+        let RodeoReader { rodeo } = self;
+        rodeo.into_resolver()
+    }
+
+    /// Whether the interner has the same texts under the same keys.
+    pub fn eq_rodeo<T: BuildHasher, B: Allocator>(&self, other: &Rodeo<K, T, B>) -> bool
+        ensures { IsTrue result ↔ (self.now ≡ other.now.texts) }
+    {
+        self.rodeo.list().has_texts_of(other.list())
+    }
+
+    /// Whether the resolver has the same texts under the same keys.
+    pub fn eq_resolver<B: Allocator>(&self, other: &RodeoResolver<K, B>) -> bool
+        ensures { IsTrue result ↔ (self.now ≡ other.now) }
+    {
+        self.rodeo.list().has_texts_of(other.list())
+    }
+}
+
+impl<K: Key, S: BuildHasher, A: Allocator> PartialEq for RodeoReader<K, S, A> {
+    ghost eq = { texts_eq };
+
+    ghost laws = { partial_equiv_from_equiv texts_equivalence };
+
+    fn eq(&self, other: &Self) -> bool
+        ensures value { result ≡ texts_eq self.now other.now }
+        ensures same { IsTrue result ↔ (self.now ≡ other.now) }
+    {
+        self.rodeo.list().has_texts_of(other.rodeo.list())
+    }
+}
+
+impl<K: Key, S: BuildHasher, A: Allocator> Eq for RodeoReader<K, S, A> {
+    ghost laws = { texts_equivalence };
+}
+
+impl<'a, K: Key, S: BuildHasher, A: Allocator> IntoIterator for &'a RodeoReader<K, S, A> {
+    type Item = (K, &'a str);
+
+    type IntoIter = Iter<'a, K>;
+
+    ghost into_iter_gives = { λ reader walk. walk ≡ numbered 0 reader.now };
+
+    fn into_iter(self) -> Iter<'a, K> {
+        self.iter()
+    }
+}

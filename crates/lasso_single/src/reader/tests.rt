@@ -1,0 +1,123 @@
+//! Readers alone, in two threads, under one hash, and with keys that ran out.
+
+use super::*;
+use crate::fixtures::{Gap, SameState};
+use lasso_parts::keys::Spur;
+use lasso_parts::util::{Capacity, FixedState, LassoErrorKind, MemoryLimits};
+use std::alloc::Global;
+use std::test::Fail;
+use std::thread;
+
+type SpurReader = RodeoReader<Spur, FixedState, Global>;
+
+fn places(reader: &SpurReader) -> (Option<usize>, Option<usize>) {
+    (
+        reader.get("A").map(|key| key.into_usize()),
+        reader.get("F").map(|key| key.into_usize()),
+    )
+}
+
+#[test]
+fn two_threads_share_a_reader(rt: HostRuntime) -> Result<(), Fail> {
+    let mut rodeo = Rodeo::default(rt.alloc())?;
+    rodeo.try_get_or_intern("A")?;
+    let reader = rodeo.into_reader();
+    let (here, there) = thread::join(&rt, || places(&reader), || places(&reader));
+    assert_eq!(rt; here, (Some(0), None));
+    assert_eq!(rt; there, (Some(0), None));
+    assert_eq!(rt; places(&reader), (Some(0), None));
+    Ok(())
+}
+
+#[test]
+fn a_reader_shows_the_list_that_was_frozen(rt: HostRuntime) -> Result<(), Fail> {
+    let mut rodeo = Rodeo::default(rt.alloc())?;
+    rodeo.extend(["A", "B"])?;
+    let other = rodeo.try_clone()?;
+    let reader = rodeo.into_reader();
+    assert!(rt; reader.eq_rodeo(&other));
+    assert!(rt; other.eq_reader(&reader));
+    assert_eq!(rt; reader.len(), 2);
+    assert!(rt; !reader.is_empty());
+    assert!(rt; reader.contains("B"));
+    assert!(rt; !reader.contains("C"));
+    let second = reader.get("B").ok_or("not there")?;
+    assert!(rt; reader.contains_key(second));
+    assert_eq!(rt; reader.resolve(second), "B");
+    assert_eq!(rt; reader.resolve_unchecked(second), "B");
+    let third = Spur::try_from_usize(2).ok_or("no key")?;
+    assert!(rt; !reader.contains_key(third));
+    assert_eq!(rt; reader.try_resolve(third), None);
+    let mut number = 0;
+    for (key, text) in &reader {
+        assert_eq!(rt; key.into_usize(), number);
+        assert_eq!(rt; reader.try_resolve(key), Some(text));
+        number += 1;
+    }
+    assert_eq!(rt; number, 2);
+    assert_eq!(rt; reader.strings().next_back(), Some("B"));
+    let twin = other.into_reader();
+    assert!(rt; reader == twin);
+    let resolver = twin.into_resolver();
+    assert!(rt; reader.eq_resolver(&resolver));
+    assert!(rt; resolver.eq_reader(&reader));
+    Ok(())
+}
+
+#[test]
+fn the_order_of_texts_tells_readers_apart(rt: HostRuntime) -> Result<(), Fail> {
+    let mut rodeo = Rodeo::default(rt.alloc())?;
+    rodeo.extend(["A", "B"])?;
+    let mut turned = Rodeo::default(rt.alloc())?;
+    turned.extend(["B", "A"])?;
+    let mut longer = rodeo.try_clone()?;
+    longer.try_get_or_intern("C")?;
+    assert!(rt; rodeo != turned);
+    assert!(rt; rodeo != longer);
+    assert!(rt; longer != rodeo);
+    let reader = rodeo.into_reader();
+    assert!(rt; !reader.eq_rodeo(&turned));
+    assert!(rt; reader != turned.into_reader());
+    assert!(rt; !reader.eq_resolver(&longer.into_resolver()));
+    Ok(())
+}
+
+#[test]
+fn a_reader_of_texts_of_one_hash(rt: HostRuntime) -> Result<(), Fail> {
+    let mut rodeo: Rodeo<Spur, SameState, Global> = Rodeo::with_hasher(
+        rt.alloc(),
+        SameState::new(),
+    )?;
+    for number in 0..300usize {
+        let text = number.to_string(rt.alloc())?;
+        rodeo.try_get_or_intern(text.as_str())?;
+    }
+    let reader = rodeo.into_reader();
+    for number in 0..300usize {
+        let text = number.to_string(rt.alloc())?;
+        let key = reader.get(text.as_str()).ok_or("not there")?;
+        assert_eq!(rt; key.into_usize(), number);
+    }
+    assert!(rt; reader.get("300").is_none());
+    Ok(())
+}
+
+#[test]
+fn keys_with_a_gap_freeze_to_two_texts(rt: HostRuntime) -> Result<(), Fail> {
+    let mut rodeo: Rodeo<Gap<2>, FixedState, Global> = Rodeo::with_capacity_and_memory_limits(
+        rt.alloc(),
+        Capacity::for_bytes(4),
+        MemoryLimits::new(4),
+    )?;
+    rodeo.extend(["p", "q"])?;
+    let refusal = rodeo.try_get_or_intern("r").err().ok_or("not refused")?;
+    assert!(rt; refusal.kind() == LassoErrorKind::KeySpaceExhaustion);
+    let reader = rodeo.into_reader();
+    assert_eq!(rt; reader.len(), 2);
+    let mut walk = reader.iter();
+    let (key, text) = walk.next_back().ok_or("no text")?;
+    assert_eq!(rt; key.into_usize(), 1);
+    assert_eq!(rt; text, "q");
+    assert_eq!(rt; reader.into_resolver().len(), 2);
+    Ok(())
+}

@@ -1,0 +1,168 @@
+//! `RodeoResolver`, a frozen interner that gives the texts of keys alone.
+ghost use Rattle.std.specs.Prelude.{◌≡◌, ◌==◌, ◌<◌, length, Some, IsTrue, ◌↔◌, slice_get, option_map};
+ghost use Rattle.lasso_parts.specs.Texts.{Fits};
+ghost use Rattle.lasso_parts.specs.Walk.{numbered};
+ghost use Rattle.std.specs.Cmp.{partial_equiv_from_equiv};
+ghost use Rattle.lasso_single.specs.Equality.{texts_eq, texts_equivalence};
+
+#[cfg(test)]
+mod tests;
+
+use crate::reader::RodeoReader;
+use crate::rodeo::Rodeo;
+use crate::text_list::TextList;
+use lasso_parts::index::Texts;
+use lasso_parts::iter::{Iter, Strings};
+use lasso_parts::keys::Key;
+use std::alloc::Allocator;
+use std::hash::BuildHasher;
+use std::marker::{Model, PhantomData};
+
+/// A list of texts that does not change any more, and from which texts of keys are found. It is what a
+/// `Rodeo` or a `RodeoReader` freezes to where no text is looked up any more: it has no index and no hasher.
+/// Contracts see it as the list of its texts, where the text at position n has the key of number n.
+/// Threads may share it where they may share its allocator; no call of it takes a lock.
+pub struct RodeoResolver<K: Key, A: Allocator> {
+    list: TextList<A>,
+    keys: PhantomData<K>,
+}
+
+impl<K: Key, A: Allocator> Model for RodeoResolver<K, A> {
+    ghost use Rattle.std.specs.Prelude.{List, length};
+    ghost use Rattle.lasso_parts.specs.Texts.{Text, Fits};
+
+    ghost Value = { List Text };
+
+    ghost view = { λ r. r.list.texts };
+
+    ghost invariant = { λ r. Fits K.key_at (length r.list.texts) };
+}
+
+// One call, so that proofs of callers see nothing of the fields where a resolver is let go.
+impl<K: Key, A: Allocator> Drop for RodeoResolver<K, A> {
+    fn drop(self) {
+        let RodeoResolver { list: _, keys: _ } = self;
+    }
+}
+
+impl<K: Key, A: Allocator> RodeoResolver<K, A> {
+    /// The frozen form of a list, whose positions must each have a key.
+    pub(crate) fn new(list: TextList<A>) -> Self
+        requires { Fits K.key_at (length list.texts) }
+        ensures { result ≡ list.texts }
+    {
+        RodeoResolver {
+            list,
+            keys: PhantomData,
+        }
+    }
+
+    /// The list that was frozen.
+    pub(crate) fn list(&self) -> &TextList<A>
+        ensures { result.now.texts ≡ self.now }
+    {
+        &self.list
+    }
+
+    /// Whether the key stands for a text of this resolver.
+    pub fn contains_key(&self, key: K) -> bool
+        ensures { IsTrue result ↔ (K.number key < length self.now) }
+    {
+        key.into_usize() < self.list.len()
+    }
+
+    /// The key's text, or `None` where the key stands for no text of this resolver.
+    pub fn try_resolve(&self, key: K) -> Option<&str>
+        ensures { option_map (λ t. t.now) result ≡ slice_get self.now (K.number key) }
+    {
+        self.list.get(key.into_usize())
+    }
+
+    /// The key's text. The key must stand for a text of this resolver: `contains_key` is the test.
+    pub fn resolve(&self, key: K) -> &str
+        requires { K.number key < length self.now }
+        ensures { slice_get self.now (K.number key) ≡ Some result.now }
+    {
+        self.list.text_at(key.into_usize())
+    }
+
+    /// The key's text: the same call as `resolve`, with the same condition.
+    pub fn resolve_unchecked(&self, key: K) -> &str
+        requires { K.number key < length self.now }
+        ensures { slice_get self.now (K.number key) ≡ Some result.now }
+    {
+        self.resolve(key)
+    }
+
+    /// The number of texts.
+    pub fn len(&self) -> usize
+        ensures value { result ≡ length self.now }
+        ensures fits { Fits K.key_at (length self.now) }
+    {
+        self.list.len()
+    }
+
+    /// Whether there is no text.
+    pub fn is_empty(&self) -> bool
+        ensures { result ≡ (length self.now == 0) }
+    {
+        self.list.len() == 0
+    }
+
+    /// A walk over the texts and their keys, in the order of the keys.
+    pub fn iter(&self) -> Iter<'_, K>
+        ensures { result ≡ numbered 0 self.now }
+    {
+        self.list.iter()
+    }
+
+    /// A walk over the texts, in the order of their keys.
+    pub fn strings(&self) -> Strings<'_, K>
+        ensures { result ≡ self.now }
+    {
+        self.list.strings()
+    }
+
+    /// Whether the interner has the same texts under the same keys.
+    pub fn eq_rodeo<S: BuildHasher, B: Allocator>(&self, other: &Rodeo<K, S, B>) -> bool
+        ensures { IsTrue result ↔ (self.now ≡ other.now.texts) }
+    {
+        self.list.has_texts_of(other.list())
+    }
+
+    /// Whether the reader has the same texts under the same keys.
+    pub fn eq_reader<S: BuildHasher, B: Allocator>(&self, other: &RodeoReader<K, S, B>) -> bool
+        ensures { IsTrue result ↔ (self.now ≡ other.now) }
+    {
+        self.list.has_texts_of(other.rodeo().list())
+    }
+}
+
+impl<K: Key, A: Allocator> PartialEq for RodeoResolver<K, A> {
+    ghost eq = { texts_eq };
+
+    ghost laws = { partial_equiv_from_equiv texts_equivalence };
+
+    fn eq(&self, other: &Self) -> bool
+        ensures value { result ≡ texts_eq self.now other.now }
+        ensures same { IsTrue result ↔ (self.now ≡ other.now) }
+    {
+        self.list.has_texts_of(&other.list)
+    }
+}
+
+impl<K: Key, A: Allocator> Eq for RodeoResolver<K, A> {
+    ghost laws = { texts_equivalence };
+}
+
+impl<'a, K: Key, A: Allocator> IntoIterator for &'a RodeoResolver<K, A> {
+    type Item = (K, &'a str);
+
+    type IntoIter = Iter<'a, K>;
+
+    ghost into_iter_gives = { λ resolver walk. walk ≡ numbered 0 resolver.now };
+
+    fn into_iter(self) -> Iter<'a, K> {
+        self.iter()
+    }
+}

@@ -1,0 +1,84 @@
+//! Resolvers alone and in two threads.
+
+use super::*;
+use lasso_parts::keys::Spur;
+use lasso_parts::util::{FixedState, LassoResult};
+use std::alloc::Global;
+use std::test::Fail;
+use std::thread;
+
+fn texts(resolver: &RodeoResolver<Spur, Global>, near: Spur, far: Spur) -> (bool, bool) {
+    (
+        resolver.try_resolve(near) == Some("A"),
+        resolver.try_resolve(far).is_none(),
+    )
+}
+
+#[test]
+fn two_threads_share_a_resolver(rt: HostRuntime) -> Result<(), Fail> {
+    let mut rodeo = Rodeo::default(rt.alloc())?;
+    let near = rodeo.try_get_or_intern("A")?;
+    let far = Spur::try_from_usize(10).ok_or("no key")?;
+    let resolver = rodeo.into_resolver();
+    assert_eq!(rt; near.into_usize(), 0);
+    let (here, there) = thread::join(
+        &rt,
+        || texts(&resolver, near, far),
+        || texts(&resolver, near, far),
+    );
+    assert_eq!(rt; here, (true, true));
+    assert_eq!(rt; there, (true, true));
+    assert_eq!(rt; resolver.try_resolve(near), Some("A"));
+    assert_eq!(rt; resolver.try_resolve(far), None);
+    Ok(())
+}
+
+fn of_items(alloc: Global) -> LassoResult<Rodeo<Spur, FixedState, Global>> {
+    Rodeo::from_iter(alloc, ["a", "b", "c", "d", "e"])
+}
+
+#[test]
+fn a_resolver_of_items(rt: HostRuntime) -> Result<(), Fail> {
+    let other = of_items(rt.alloc())?;
+    let resolver = of_items(rt.alloc())?.into_resolver();
+    let mut walk = resolver.iter();
+    for (number, wanted) in ["a", "b", "c", "d", "e"].iter().enumerate() {
+        let (key, text) = walk.next().ok_or("no text")?;
+        assert_eq!(rt; key.into_usize(), number);
+        assert_eq!(rt; text, *wanted);
+        assert!(rt; resolver.contains_key(key));
+        assert_eq!(rt; resolver.try_resolve(key), Some(*wanted));
+    }
+    assert!(rt; walk.next().is_none());
+    assert_eq!(rt; resolver.len(), 5);
+    assert!(rt; !resolver.is_empty());
+    assert_eq!(rt; resolver.strings().next(), Some("a"));
+    let first = Spur::default();
+    if resolver.contains_key(first) {
+        assert_eq!(rt; resolver.resolve(first), "a");
+        assert_eq!(rt; resolver.resolve_unchecked(first), "a");
+    }
+    let mut count = 0;
+    for (key, text) in &resolver {
+        assert_eq!(rt; resolver.try_resolve(key), Some(text));
+        count += 1;
+    }
+    assert_eq!(rt; count, 5);
+    assert!(rt; resolver.eq_rodeo(&other));
+    assert!(rt; other.eq_resolver(&resolver));
+    assert!(rt; resolver == other.into_resolver());
+    Ok(())
+}
+
+#[test]
+fn resolvers_of_other_texts_differ(rt: HostRuntime) -> Result<(), Fail> {
+    let mut rodeo = Rodeo::default(rt.alloc())?;
+    rodeo.extend(["a", "b"])?;
+    let resolver = of_items(rt.alloc())?.into_resolver();
+    assert!(rt; !resolver.eq_rodeo(&rodeo));
+    assert!(rt; !rodeo.eq_resolver(&resolver));
+    let reader = rodeo.into_reader();
+    assert!(rt; !resolver.eq_reader(&reader));
+    assert!(rt; resolver != reader.into_resolver());
+    Ok(())
+}
