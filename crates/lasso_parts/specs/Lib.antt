@@ -16,3 +16,6 @@ pub mod Waste
 pub mod Slots
 pub mod Walk
 pub mod Cells
+pub mod Json
+pub mod JsonErrors
+pub mod JsonLaws

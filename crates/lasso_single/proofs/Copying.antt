@@ -3,11 +3,11 @@
 -- The text at position i is none of those before it, since the list is distinct, and position i has a key,
 -- since the list fits the keys. So interning it either puts it last and stores its bytes, or is refused by the
 -- limit or for want of memory: no text is found, and no key is wanting.
-use Rattle.std.proofs.Common.{◌≡◌, ℕ, ◌+◌, ◌<◌, ◌≤◌, ◌⊎◌, inl, inr, List, [], ◌∷◌, ◌++◌, length, take, drop, slice_get, Option, Some, None, IsSome, is_some, cond, max, Result, Ok, Err, MatchResult, refl, sym, subst, ap, ◌∙◌, arith}
+use Rattle.std.proofs.Common.{◌≡◌, ℕ, ◌+◌, ◌<◌, ◌≤◌, ◌⊎◌, inl, inr, List, [], ◌∷◌, ◌++◌, length, take, slice_get, Option, Some, None, IsSome, is_some, cond, max, Result, Ok, Err, MatchResult, refl, sym, subst, ap, ◌∙◌, arith}
 use Rattle.std.specs.Prelude.{option_and_then}
 use Rattle.std.proofs.lemmas.Grind.{common_steps}
 use Rattle.std.proofs.lemmas.Bool.Decides.{nat_tests}
-use Rattle.std.proofs.lemmas.List.{take-append-drop, length-take-le, take_more}
+use Rattle.std.proofs.lemmas.List.{length-take-le}
 use Rattle.std.proofs.lemmas.List.Sums.{sum_by_more, sum_by-cons, sum_by-take-le}
 use Rattle.std.proofs.lemmas.Option.{option_and_then_some, slice_get_within, get_or_from_slice_get}
 use Rattle.lasso_parts.specs.Account.{Account, fresh, store}
@@ -15,7 +15,8 @@ use Rattle.lasso_parts.specs.Held.{Held}
 use Rattle.lasso_parts.specs.Texts.{Text, position_of, IsDistinct, Fits}
 use Rattle.lasso_parts.specs.declared.util.LassoError.{LassoError}
 use Rattle.lasso_parts.specs.declared.util.LassoErrorKind.TheVariants.{MemoryLimitReached, FailedAllocation}
-use Rattle.lasso_parts.proofs.IndexLaws.{slice_get-append_left, one_position, position_of_none}
+use Rattle.lasso_parts.proofs.IndexLaws.{absent_before}
+use Rattle.lasso_parts.proofs.TextLemmas.{take_more_at}
 use Rattle.lasso_single.specs.Copies.{bytes_of, store_all, StopsAt, clone_size, clone_of}
 use Rattle.lasso_single.specs.Filling.{InternsIn}
 use Rattle.lasso_single.specs.Intern.{Interns, with_text, stored_or_refused, keyed_or_refused, found_or_new}
@@ -58,22 +59,7 @@ interns_new key_at texts account text (Err error) texts' account' h absent has_k
       ],
     )
 
--- ---- the text at a position of a distinct list
-
--- it is none of those before it
-pub absent_before : (texts : List Text) (i : ℕ) (text : Text) → IsDistinct texts → slice_get texts i ≡ Some text → position_of (take i texts) text ≡ None
-absent_before texts i text distinct at =
-    let inside : i < length texts = slice_get_within texts i text at in
-    let count : length (take i texts) ≡ i = length-take-le i texts (omega arith) in
-    position_of_none (take i texts) text (λ n l e.
-    let same : slice_get texts n ≡ slice_get (take i texts) n = ap (λ (ts : List Text). slice_get ts n) (sym (take-append-drop i texts)) ∙ slice_get-append_left (take i texts) (drop i texts) n l in
-    let one : n ≡ i = one_position texts n i text distinct (same ∙ e) at in
-    absurd (omega arith))
-
--- the texts before it and it
-pub take_more_at : (texts : List Text) (i : ℕ) (text : Text) → slice_get texts i ≡ Some text → take (i + 1) texts ≡ take i texts ++ text ∷ []
-take_more_at texts i text at =
-    take_more texts i [] (slice_get_within texts i text at) ∙ ap (λ (t : Text). take i texts ++ t ∷ []) (get_or_from_slice_get texts i text [] at)
+-- ---- the text at a position of a list
 
 -- the bytes of the texts before it and of it
 pub bytes_more_at : (texts : List Text) (i : ℕ) (text : Text) → slice_get texts i ≡ Some text → bytes_of (take (i + 1) texts) ≡ bytes_of (take i texts) + length text

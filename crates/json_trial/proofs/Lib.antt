@@ -1,3 +1,0 @@
-pub mod JsonTexts
-pub mod JsonValues
-pub mod JsonLaws

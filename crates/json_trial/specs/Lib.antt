@@ -1,4 +1,0 @@
-pub mod JsonErrors
-pub mod Json
-pub mod KeyRange
-pub mod JsonLaws

@@ -1,5 +1,0 @@
-//! Trial.
-#![tactic(auto)]
-
-pub mod json;
-pub mod json_laws;

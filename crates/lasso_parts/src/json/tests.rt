@@ -1,0 +1,161 @@
+//! Rows of reading arrays and keys, and printed faults.
+use super::*;
+use crate::keys::{Key, LargeSpur, MicroSpur, MiniSpur, Spur};
+use crate::util::LassoErrorKind;
+use serde_json::{Number, Value};
+use std::alloc::Global;
+use std::process::Abort;
+use std::test::Fail;
+
+// Reads the array that the text is; equal texts count as doubled where `distinct`.
+fn read_gives(
+    rt: &impl Abort,
+    alloc: Global,
+    text: &str,
+    distinct: bool,
+    wanted: Result<&[&str], JsonError>,
+) -> Result<(), Fail> {
+    let value = Value::from_str(alloc, text)?;
+    match read_array::<Spur, Global>(alloc, &value, distinct) {
+        Ok(texts) => assert!(rt; wanted == Ok(texts.as_slice()), "{text} is read"),
+        Err(fault) => assert!(rt; wanted == Err(fault), "{text} is {fault}"),
+    }
+    Ok(())
+}
+
+#[test]
+fn arrays_of_distinct_texts(rt: HostRuntime) -> Result<(), Fail> {
+    let rows: [(&str, Result<&[&str], JsonError>); 11] = [
+        ("[]", Ok(&[])),
+        (r#"["b", "a"]"#, Ok(&["b", "a"])),
+        (r#"["a", "b", "a"]"#, Err(JsonError::Doubled(2))),
+        (r#"["a", 1]"#, Err(JsonError::NotText(1))),
+        (r#"{"a": 1}"#, Err(JsonError::NotAnArray)),
+        ("null", Err(JsonError::NotAnArray)),
+        (r#"["a", "a", null]"#, Err(JsonError::Doubled(1))),
+        (r#"["a", null, "a"]"#, Err(JsonError::NotText(1))),
+        (r#"["a", 1, "a"]"#, Err(JsonError::NotText(1))),
+        ("[[]]", Err(JsonError::NotText(0))),
+        (r#"["a", {}]"#, Err(JsonError::NotText(1))),
+    ];
+    for (text, wanted) in rows {
+        read_gives(&rt, rt.alloc(), text, true, wanted)?;
+    }
+    Ok(())
+}
+
+#[test]
+fn arrays_with_equal_texts(rt: HostRuntime) -> Result<(), Fail> {
+    read_gives(
+        &rt,
+        rt.alloc(),
+        r#"["a", "b", "a"]"#,
+        false,
+        Ok(&["a", "b", "a"]),
+    )?;
+    read_gives(
+        &rt,
+        rt.alloc(),
+        r#"["a", "a", null]"#,
+        false,
+        Err(JsonError::NotText(2)),
+    )?;
+    read_gives(
+        &rt,
+        rt.alloc(),
+        r#"["a", {}]"#,
+        false,
+        Err(JsonError::NotText(1)),
+    )
+}
+
+#[test]
+fn written_texts(rt: HostRuntime) -> Result<(), Fail> {
+    let texts = ["b", "a"].as_slice();
+    let value = write_array(rt.alloc(), &texts, 2)?;
+    assert_eq!(rt; value.to_string(rt.alloc())?.as_str(), r#"["b","a"]"#);
+    Ok(())
+}
+
+// Reads the value as a key: its position, or no key.
+fn read_key<K: JsonKey>(value: Value) -> Option<usize> {
+    match K::key_from_json(&value) {
+        Ok(key) => Some(key.into_usize()),
+        Err(_) => None,
+    }
+}
+
+fn number(n: u64) -> Value {
+    Value::Number(Number::from(n))
+}
+
+#[test]
+fn keys_of_numbers(rt: HostRuntime) {
+    assert_eq!(rt; Spur::key_from_json(&number(0)), Err(JsonError::NotAKey));
+    assert_eq!(rt; read_key::<Spur>(number(1)), Some(0));
+    assert_eq!(rt; read_key::<Spur>(number(4294967295)), Some(4294967294));
+    assert_eq!(rt; read_key::<Spur>(number(4294967296)), None);
+    assert_eq!(rt; read_key::<MiniSpur>(number(65535)), Some(65534));
+    assert_eq!(rt; read_key::<MiniSpur>(number(65536)), None);
+    assert_eq!(rt; read_key::<MicroSpur>(number(255)), Some(254));
+    assert_eq!(rt; read_key::<MicroSpur>(number(256)), None);
+    assert_eq!(rt;
+        read_key::<LargeSpur>(number(u64::MAX)),
+        Some(usize::MAX - 1)
+    );
+    assert_eq!(rt; read_key::<LargeSpur>(number(0)), None);
+    assert_eq!(rt; read_key::<Spur>(Value::from(-1i64)), None);
+    assert_eq!(rt; read_key::<Spur>(Value::from(1.0f64)), None);
+    assert_eq!(rt; read_key::<Spur>(Value::Null), None);
+}
+
+// What number 0 of the key type is written as.
+fn first_written<K: JsonKey>(alloc: Global) -> Result<u64, Fail> {
+    let key = K::try_from_usize(0).ok_or("no key")?;
+    let value = key.key_to_json(alloc)?;
+    Ok(value.as_u64().ok_or("no number")?)
+}
+
+#[test]
+fn number_0_is_written_1(rt: HostRuntime) -> Result<(), Fail> {
+    assert_eq!(rt; first_written::<Spur>(rt.alloc())?, 1);
+    assert_eq!(rt; first_written::<MiniSpur>(rt.alloc())?, 1);
+    assert_eq!(rt; first_written::<MicroSpur>(rt.alloc())?, 1);
+    assert_eq!(rt; first_written::<LargeSpur>(rt.alloc())?, 1);
+    Ok(())
+}
+
+#[test]
+fn faults_print(rt: HostRuntime) -> Result<(), Fail> {
+    let rows = [
+        (JsonError::NotAnArray, "The value is not an array"),
+        (JsonError::NotText(0), "Item 0 is not a text"),
+        (
+            JsonError::Doubled(2),
+            "Item 2 is the text of an earlier item",
+        ),
+        (
+            JsonError::TooMany(255),
+            "Item 255 has a position without a key",
+        ),
+        (JsonError::NotAnObject, "The value is not an object"),
+        (JsonError::NotAPosition(1), "Item 1 is not a position"),
+        (
+            JsonError::Taken(10),
+            "Item 10 is the position of an earlier item",
+        ),
+        (
+            JsonError::Lasso(LassoErrorKind::FailedAllocation),
+            "Lasso encountered an error: Failed to allocate memory",
+        ),
+        (JsonError::NotAKey, "The value is not a key"),
+    ];
+    for (fault, wanted) in rows {
+        assert_eq!(rt; format!(in rt.alloc(); "{fault}")?.as_str(), wanted);
+    }
+    assert_eq!(rt;
+        format!(in rt.alloc(); "{:?}", JsonError::Doubled(2))?.as_str(),
+        "Doubled(2)"
+    );
+    Ok(())
+}
