@@ -13,4 +13,4 @@ mod EmptyStructs
 mod Crossing
 mod JsonTexts
 mod JsonValues
-mod JsonLaws
+pub mod JsonLaws

@@ -4,69 +4,59 @@ use crate::keys::{Key, LargeSpur, MicroSpur, MiniSpur, Spur};
 use crate::util::LassoErrorKind;
 use serde_json::{Number, Value};
 use std::alloc::Global;
-use std::process::Abort;
 use std::test::Fail;
 
-// Reads the array that the text is; equal texts count as doubled where `distinct`.
-fn read_gives(
-    rt: &impl Abort,
-    alloc: Global,
-    text: &str,
-    distinct: bool,
-    wanted: Result<&[&str], JsonError>,
-) -> Result<(), Fail> {
-    let value = Value::from_str(alloc, text)?;
-    match read_array::<Spur, Global>(alloc, &value, distinct) {
-        Ok(texts) => assert!(rt; wanted == Ok(texts.as_slice()), "{text} is read"),
-        Err(fault) => assert!(rt; wanted == Err(fault), "{text} is {fault}"),
+// What the value reads as: each text with a slash behind it, or the fault.
+fn reading<K: Key>(alloc: Global, value: &Value, distinct: bool) -> Result<String, Fail> {
+    match read_array::<K, Global>(alloc, value, distinct) {
+        Ok(texts) => {
+            let mut all = String::new(alloc);
+            for text in &texts {
+                all.push_str(text)?;
+                all.push('/')?;
+            }
+            Ok(all)
+        }
+        Err(fault) => Ok(format!(in alloc; "{fault:?}")?),
     }
-    Ok(())
 }
 
 #[test]
 fn arrays_of_distinct_texts(rt: HostRuntime) -> Result<(), Fail> {
-    let rows: [(&str, Result<&[&str], JsonError>); 11] = [
-        ("[]", Ok(&[])),
-        (r#"["b", "a"]"#, Ok(&["b", "a"])),
-        (r#"["a", "b", "a"]"#, Err(JsonError::Doubled(2))),
-        (r#"["a", 1]"#, Err(JsonError::NotText(1))),
-        (r#"{"a": 1}"#, Err(JsonError::NotAnArray)),
-        ("null", Err(JsonError::NotAnArray)),
-        (r#"["a", "a", null]"#, Err(JsonError::Doubled(1))),
-        (r#"["a", null, "a"]"#, Err(JsonError::NotText(1))),
-        (r#"["a", 1, "a"]"#, Err(JsonError::NotText(1))),
-        ("[[]]", Err(JsonError::NotText(0))),
-        (r#"["a", {}]"#, Err(JsonError::NotText(1))),
+    let rows = [
+        ("[]", ""),
+        (r#"["b", "a"]"#, "b/a/"),
+        (r#"["a", "b", "a"]"#, "Doubled(2)"),
+        (r#"["a", 1]"#, "NotText(1)"),
+        (r#"{"a": 1}"#, "NotAnArray"),
+        ("null", "NotAnArray"),
+        (r#"["a", "a", null]"#, "Doubled(1)"),
+        (r#"["a", null, "a"]"#, "NotText(1)"),
+        (r#"["a", 1, "a"]"#, "NotText(1)"),
+        ("[[]]", "NotText(0)"),
+        (r#"["a", {}]"#, "NotText(1)"),
     ];
     for (text, wanted) in rows {
-        read_gives(&rt, rt.alloc(), text, true, wanted)?;
+        let value = Value::from_str(rt.alloc(), text)?;
+        let read = reading::<Spur>(rt.alloc(), &value, true)?;
+        assert_eq!(rt; read.as_str(), wanted, "{text}");
     }
     Ok(())
 }
 
 #[test]
 fn arrays_with_equal_texts(rt: HostRuntime) -> Result<(), Fail> {
-    read_gives(
-        &rt,
-        rt.alloc(),
-        r#"["a", "b", "a"]"#,
-        false,
-        Ok(&["a", "b", "a"]),
-    )?;
-    read_gives(
-        &rt,
-        rt.alloc(),
-        r#"["a", "a", null]"#,
-        false,
-        Err(JsonError::NotText(2)),
-    )?;
-    read_gives(
-        &rt,
-        rt.alloc(),
-        r#"["a", {}]"#,
-        false,
-        Err(JsonError::NotText(1)),
-    )
+    let rows = [
+        (r#"["a", "b", "a"]"#, "a/b/a/"),
+        (r#"["a", "a", null]"#, "NotText(2)"),
+        (r#"["a", {}]"#, "NotText(1)"),
+    ];
+    for (text, wanted) in rows {
+        let value = Value::from_str(rt.alloc(), text)?;
+        let read = reading::<Spur>(rt.alloc(), &value, false)?;
+        assert_eq!(rt; read.as_str(), wanted, "{text}");
+    }
+    Ok(())
 }
 
 #[test]
