@@ -6,6 +6,7 @@ ghost use Rattle.lasso_single.specs.Interner.{KeepsOrigin, bytes_added};
 
 mod changes;
 mod clones;
+mod copying;
 mod filling;
 mod freezing;
 mod interning;
