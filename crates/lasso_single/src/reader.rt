@@ -145,14 +145,14 @@ impl<K: Key, S: BuildHasher, A: Allocator> RodeoReader<K, S, A> {
     pub fn eq_rodeo<T: BuildHasher, B: Allocator>(&self, other: &Rodeo<K, T, B>) -> bool
         ensures { IsTrue result ↔ (self.now ≡ other.now.texts) }
     {
-        self.rodeo.list().has_texts_of(other.list())
+        other.eq_reader(self)
     }
 
     /// Whether the resolver has the same texts under the same keys.
     pub fn eq_resolver<B: Allocator>(&self, other: &RodeoResolver<K, B>) -> bool
         ensures { IsTrue result ↔ (self.now ≡ other.now) }
     {
-        self.rodeo.list().has_texts_of(other.list())
+        self.rodeo.eq_resolver(other)
     }
 }
 
@@ -165,7 +165,7 @@ impl<K: Key, S: BuildHasher, A: Allocator> PartialEq for RodeoReader<K, S, A> {
         ensures value { result ≡ texts_eq self.now other.now }
         ensures same { IsTrue result ↔ (self.now ≡ other.now) }
     {
-        self.rodeo.list().has_texts_of(other.rodeo.list())
+        self.rodeo == other.rodeo
     }
 }
 

@@ -106,7 +106,7 @@ impl<K: Key, A: Allocator> RodeoResolver<K, A> {
     pub fn is_empty(&self) -> bool
         ensures { result ≡ (length self.now == 0) }
     {
-        self.list.len() == 0
+        self.len() == 0
     }
 
     /// A walk over the texts and their keys, in the order of the keys.
@@ -127,14 +127,14 @@ impl<K: Key, A: Allocator> RodeoResolver<K, A> {
     pub fn eq_rodeo<S: BuildHasher, B: Allocator>(&self, other: &Rodeo<K, S, B>) -> bool
         ensures { IsTrue result ↔ (self.now ≡ other.now.texts) }
     {
-        self.list.has_texts_of(other.list())
+        other.eq_resolver(self)
     }
 
     /// Whether the reader has the same texts under the same keys.
     pub fn eq_reader<S: BuildHasher, B: Allocator>(&self, other: &RodeoReader<K, S, B>) -> bool
         ensures { IsTrue result ↔ (self.now ≡ other.now) }
     {
-        self.list.has_texts_of(other.rodeo().list())
+        other.rodeo().eq_resolver(self)
     }
 }
 

@@ -48,13 +48,10 @@ fn a_reader_shows_the_list_that_was_frozen(rt: HostRuntime) -> Result<(), Fail> 
     let third = Spur::try_from_usize(2).ok_or("no key")?;
     assert!(rt; !reader.contains_key(third));
     assert_eq!(rt; reader.try_resolve(third), None);
-    let mut number = 0;
     for (key, text) in &reader {
-        assert_eq!(rt; key.into_usize(), number);
         assert_eq!(rt; reader.try_resolve(key), Some(text));
-        number += 1;
     }
-    assert_eq!(rt; number, 2);
+    assert_eq!(rt; reader.iter().nth(1), Some((second, "B")));
     assert_eq!(rt; reader.strings().next_back(), Some("B"));
     let twin = other.into_reader();
     assert!(rt; reader == twin);
@@ -114,10 +111,9 @@ fn keys_with_a_gap_freeze_to_two_texts(rt: HostRuntime) -> Result<(), Fail> {
     assert!(rt; refusal.kind() == LassoErrorKind::KeySpaceExhaustion);
     let reader = rodeo.into_reader();
     assert_eq!(rt; reader.len(), 2);
-    let mut walk = reader.iter();
-    let (key, text) = walk.next_back().ok_or("no text")?;
-    assert_eq!(rt; key.into_usize(), 1);
-    assert_eq!(rt; text, "q");
+    let second = Gap::try_from_usize(1).ok_or("no key")?;
+    assert_eq!(rt; reader.try_resolve(second), Some("q"));
+    assert!(rt; reader.get("r").is_none());
     assert_eq!(rt; reader.into_resolver().len(), 2);
     Ok(())
 }

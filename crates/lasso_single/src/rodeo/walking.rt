@@ -7,7 +7,6 @@ ghost use Rattle.lasso_single.specs.Equality.{texts_eq, texts_equivalence};
 use super::Rodeo;
 use crate::reader::RodeoReader;
 use crate::resolver::RodeoResolver;
-use crate::text_list::TextList;
 use lasso_parts::iter::{Iter, Strings};
 use lasso_parts::keys::Key;
 use std::alloc::Allocator;
@@ -40,13 +39,6 @@ impl<K: Key, S: BuildHasher, A: Allocator> Rodeo<K, S, A> {
         ensures { IsTrue result ↔ (self.now.texts ≡ other.now) }
     {
         self.list.has_texts_of(other.list())
-    }
-
-    /// The list of texts.
-    pub(crate) fn list(&self) -> &TextList<A>
-        ensures { result.now ≡ self.now }
-    {
-        &self.list
     }
 }
 
