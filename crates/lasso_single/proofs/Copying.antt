@@ -17,7 +17,7 @@ use Rattle.lasso_parts.specs.declared.util.LassoError.{LassoError}
 use Rattle.lasso_parts.specs.declared.util.LassoErrorKind.TheVariants.{MemoryLimitReached, FailedAllocation}
 use Rattle.lasso_parts.proofs.IndexLaws.{absent_before}
 use Rattle.lasso_parts.proofs.TextLemmas.{take_more_at}
-use Rattle.lasso_single.specs.Copies.{bytes_of, store_all, StopsAt, clone_size, clone_of, read_of}
+use Rattle.lasso_single.specs.Copies.{bytes_of, store_all, StopsAt, clone_size, clone_of}
 use Rattle.lasso_single.specs.Filling.{InternsIn}
 use Rattle.lasso_single.specs.Intern.{Interns, with_text, stored_or_refused, keyed_or_refused, found_or_new}
 use Rattle.lasso_single.specs.Interner.{Interner, IsMadeWith, made_with, KeepsOrigin, bytes_added}
@@ -197,11 +197,3 @@ made_none texts size limit bytes now same empty account made = record {
   copied = made.1;
   origin = (made.0 ∙ same, made.2);
 }
-
--- no limit is above the greatest
-pub greatest_limit : (texts : List Text) → bytes_of texts < 2 ^ 64 → max (2 ^ 64 - 1) (clone_size texts) ≡ 2 ^ 64 - 1
-greatest_limit texts small = grind (arith, common_steps, nat_tests)
-
--- the account of a clone under the greatest limit is that of what was read
-pub read_account : (texts : List Text) (done : Account) → bytes_of texts < 2 ^ 64 → clone_of texts (2 ^ 64 - 1) ≡ Some done → read_of texts ≡ Some done
-read_account texts done small h = ap (λ (m : ℕ). store_all (fresh (clone_size texts) m) texts) (sym (greatest_limit texts small)) ∙ h

@@ -10,6 +10,7 @@ mod copying;
 mod filling;
 mod freezing;
 mod interning;
+mod json;
 mod makers;
 #[cfg(test)]
 mod tests;

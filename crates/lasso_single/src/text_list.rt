@@ -1,5 +1,5 @@
 //! `TextList`: the texts of an interner in order, over the memory that holds them.
-ghost use Rattle.std.specs.Prelude.{◌≡◌, ◌+◌, ◌*◌, ◌^◌, ◌<◌, ◌≤◌, ◌++◌, [], ◌∷◌, true, false, length, IsTrue, ◌↔◌, IsSome, Some, Err, IfOk, IfErr, OnOk, OnErr, slice_get, option_map};
+ghost use Rattle.std.specs.Prelude.{◌≡◌, ◌+◌, ◌*◌, ◌^◌, ◌<◌, ◌≤◌, ◌++◌, [], ◌∷◌, true, false, length, IsTrue, ◌↔◌, IsSome, Some, Err, IfOk, IfErr, OnOk, OnErr, slice_get, option_map, map};
 ghost use Rattle.lasso_parts.specs.Account.{fresh, store, clear, with_limit};
 ghost use Rattle.lasso_parts.specs.Texts.{Fits};
 ghost use Rattle.lasso_parts.specs.Walk.{numbered};
@@ -8,7 +8,7 @@ ghost use Rattle.lasso_single.specs.Equality.{texts_eq};
 ghost use Rattle.lasso_single.specs.Interner.{IsMadeWith, KeepsOrigin};
 ghost use Rattle.lasso_parts.specs.declared.util.LassoErrorKind.TheVariants.{FailedAllocation};
 
-use crate::copying::one_bucket;
+use crate::room::one_bucket;
 use lasso_parts::arena::Arena;
 use lasso_parts::index::Texts;
 use lasso_parts::iter::{Iter, Strings};
@@ -72,19 +72,18 @@ impl<A: Allocator + Clone> TextList<A> {
     }
 
     /// A list of the texts, in order, all copied into one bucket of just their bytes (4096 where they have
-    /// none), with no limit below the greatest number; `len` must be how many there are. It is refused for
-    /// want of memory alone, also where the texts have more bytes than a `usize` counts.
-    pub(crate) fn copy_of<T: Texts>(alloc: A, texts: &T, len: usize) -> LassoResult<Self>
-        requires { len ≡ length (T.list texts.now) }
-        ensures texts { IfOk result (λ l. l.texts ≡ T.list texts.now) }
-        ensures account { IfOk result (λ l. read_of (T.list texts.now) ≡ Some l.account) }
-        ensures made { IfOk result (IsMadeWith (clone_size (T.list texts.now)) (bytes_of (T.list texts.now))) }
+    /// none), with no limit below the greatest number. It is refused for want of memory alone, also where
+    /// the texts have more bytes than a `usize` counts.
+    pub(crate) fn copy_of(alloc: A, texts: &[&str]) -> LassoResult<Self>
+        ensures texts { IfOk result (λ l. l.texts ≡ map (λ t. t.now) texts.now) }
+        ensures account { IfOk result (λ l. read_of (map (λ t. t.now) texts.now) ≡ Some l.account) }
+        ensures made { let list = map (λ t. t.now) texts.now in IfOk result (IsMadeWith (clone_size list) (bytes_of list)) }
         ensures refused { IfErr result (λ error. error ≡ FailedAllocation) }
-        ensures overflow { 2 ^ 64 ≤ bytes_of (T.list texts.now) → result ≡ Err FailedAllocation }
+        ensures overflow { 2 ^ 64 ≤ bytes_of (map (λ t. t.now) texts.now) → result ≡ Err FailedAllocation }
     {
-        let capacity = one_bucket(texts, len)?;
+        let capacity = one_bucket(&texts, texts.len())?;
         let mut list = TextList::new(alloc, capacity, MemoryLimits::default())?;
-        for position in 0..len {
+        for position in 0..texts.len() {
             list.push_copied(texts.text_at(position))?;
         }
         Ok(list)

@@ -4,7 +4,7 @@ use Rattle.std.proofs.lemmas.List.Sums.{sum_by-take-le}
 use Rattle.lasso_parts.specs.Texts.{Text}
 use Rattle.lasso_single.specs.Copies.{bytes_of}
 use Rattle.lasso_single.proofs.Copying.{bytes_more_at}
-use Rattle.lasso_single.proofs.copying.byte_sum.Goals as goal
+use Rattle.lasso_single.proofs.room.byte_sum.Goals as goal
 
 pub returns-in_err-bytes : goal.returns-in_err-bytes
 returns-in_err-bytes g c =
