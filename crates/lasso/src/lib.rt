@@ -10,6 +10,10 @@ pub use lasso_parts::bucket::Bucket;
 pub use lasso_parts::bucket::region::Region;
 pub use lasso_parts::index::{Index, Texts, hash_text};
 pub use lasso_parts::iter::{Iter, Strings};
+pub use lasso_parts::json::{
+    JsonError, JsonKey, json_faults_exactly, json_reads_back, json_reads_exactly, read_array,
+    write_array,
+};
 pub use lasso_parts::keys::{Key, LargeSpur, MicroSpur, MiniSpur, Spur};
 pub use lasso_parts::laws::{
     store_never_grows_past_limit, store_refuses_exactly_past_limit, store_serves_as_worked,

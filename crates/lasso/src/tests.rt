@@ -1,5 +1,7 @@
 //! The examples of the front page.
 use super::*;
+use serde_json::Value;
+use std::alloc::Global;
 use std::cmp::{Eq, PartialEq};
 use std::marker::Model;
 use std::test::Fail;
@@ -130,5 +132,20 @@ fn a_reader_between_two_threads(rt: HostRuntime) -> Result<(), Fail> {
         || reader.try_resolve(key) == Some("Hello, world!"),
     );
     assert!(rt; here && there);
+    Ok(())
+}
+
+#[test]
+fn saved_and_loaded(rt: HostRuntime) -> Result<(), Fail> {
+    let mut rodeo = SpurRodeo::default(rt.alloc())?;
+    rodeo.extend(["red", "green", "blue"])?;
+    let saved = rodeo.serialize(rt.alloc())?.to_string(rt.alloc())?;
+
+    let value = Value::from_str(rt.alloc(), saved.as_str())?;
+    let loaded = SpurRodeo::deserialize(rt.alloc(), &value)?;
+    assert_eq!(rt; loaded.get("green"), rodeo.get("green"));
+    let damaged = Value::from_str(rt.alloc(), r#"["red", "green", "red"]"#)?;
+    let fault = SpurRodeo::deserialize(rt.alloc(), &damaged).err();
+    assert_eq!(rt; fault, Some(JsonError::Doubled(2)));
     Ok(())
 }

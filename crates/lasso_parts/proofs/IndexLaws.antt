@@ -5,11 +5,11 @@
 -- position that has it, and a search that found none shows that no position has it: so its answer is the
 -- text's position in the list. Such an index stays whole when a new text goes last and its position is
 -- entered under the text's hash.
-use Rattle.std.proofs.Common.{◌≡◌, ◌≢◌, ℕ, zero, suc, ◌<◌, ◌⊎◌, ◌↔◌, List, [], ◌∷◌, ◌++◌, Bool, true, false, cond, Option, Some, None, IfSome, IfNone, length, slice_get, get_or, refl, sym, ap, ◌∙◌, subst, inl, inr, arith}
+use Rattle.std.proofs.Common.{◌≡◌, ◌≢◌, ℕ, zero, suc, ◌<◌, ◌⊎◌, ◌↔◌, List, [], ◌∷◌, ◌++◌, Bool, true, false, cond, Option, Some, None, IfSome, IfNone, length, take, drop, slice_get, get_or, refl, sym, ap, ◌∙◌, subst, inl, inr, arith}
 use Rattle.std.specs.List.{position_or_len}
 use Rattle.std.specs.Str.{bytes_eq}
 use Rattle.std.proofs.lemmas.Bool.{cases_lt, cases_Bool, lt-ltb, le-ltb, true≢false}
-use Rattle.std.proofs.lemmas.List.{length-append, length_push}
+use Rattle.std.proofs.lemmas.List.{length-append, length_push, take-append-drop, length-take-le}
 use Rattle.std.proofs.lemmas.List.Sums.{position_or_len_is}
 use Rattle.std.proofs.lemmas.Option.{slice_get_within, slice_get-get_or, get_or_from_slice_get}
 use Rattle.std.proofs.lemmas.Map.Keys.{apart_from_distinct, IsDistinct-from_apart}
@@ -88,6 +88,16 @@ position_of_none texts text none =
     (λ k h. differs (get_or texts k []) text (λ e. none k h (slice_get-get_or texts k [] h ∙ ap Some e)))
     (λ h. absurd (omega arith)) in
     cond_false _ (Some (position_or_len (λ t. bytes_eq t text) texts)) None (le-ltb _ (length texts) (omega (arith, p)))
+
+-- the text at a position of a distinct list is none of those before it
+pub absent_before : (texts : List Text) (i : ℕ) (text : Text) → IsDistinct texts → slice_get texts i ≡ Some text → position_of (take i texts) text ≡ None
+absent_before texts i text distinct at =
+    let inside : i < length texts = slice_get_within texts i text at in
+    let count : length (take i texts) ≡ i = length-take-le i texts (omega arith) in
+    position_of_none (take i texts) text (λ n l e.
+    let same : slice_get texts n ≡ slice_get (take i texts) n = ap (λ (ts : List Text). slice_get ts n) (sym (take-append-drop i texts)) ∙ slice_get-append_left (take i texts) (drop i texts) n l in
+    let one : n ≡ i = one_position texts n i text distinct (same ∙ e) at in
+    absurd (omega arith))
 
 -- ---- the index of a whole list
 

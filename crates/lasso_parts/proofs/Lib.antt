@@ -11,3 +11,6 @@ mod PlacesLent
 mod RowCalls
 mod EmptyStructs
 mod Crossing
+mod JsonTexts
+mod JsonValues
+pub mod JsonLaws

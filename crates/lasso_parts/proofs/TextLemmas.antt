@@ -2,12 +2,13 @@
 --
 -- A text that `position` does not find differs from the text at each position. So a distinct list stays
 -- distinct when the text goes last, and it fits the keys where its length has one.
-use Rattle.std.proofs.Common.{ℕ, ◌≡◌, ◌<◌, ◌+◌, Bool, false, not, cond, List, [], ◌∷◌, ◌++◌, map, length, get_or, Option, Some, None, IsSome, is_some, refl, ap, arith, below_more}
+use Rattle.std.proofs.Common.{ℕ, ◌≡◌, ◌<◌, ◌+◌, Bool, false, not, cond, List, [], ◌∷◌, ◌++◌, map, length, get_or, slice_get, take, Option, Some, None, IsSome, is_some, refl, ap, ◌∙◌, arith, below_more}
 use Rattle.std.specs.List as lists
 use Rattle.std.specs.Str.{bytes_eq}
 use Rattle.std.proofs.lemmas.Grind.{common_steps}
 use Rattle.std.proofs.lemmas.Bool.Decides.{nat_tests}
-use Rattle.std.proofs.lemmas.List.{length_push, length-map}
+use Rattle.std.proofs.lemmas.List.{length_push, length-map, take_more}
+use Rattle.std.proofs.lemmas.Option.{slice_get_within, get_or_from_slice_get}
 use Rattle.std.proofs.lemmas.List.Sums.{fails_before_first}
 use Rattle.std.specs.Option.{option_and_then}
 use Rattle.std.proofs.lemmas.List.Quantifiers.{position-Some}
@@ -42,3 +43,8 @@ present_of key_at (Some i) n fits within = fits i (within i refl)
 -- in a list that fits the keys, the key of a text is there where the text is
 pub key_of_present : {K : Type 0} (key_at : ℕ → Option K) (texts : List Text) (text : Text) → Fits key_at (length texts) → is_some (key_of key_at texts text) ≡ is_some (position_of texts text)
 key_of_present key_at texts text fits = present_of key_at _ (length texts) fits (λ i e. (position-Some (λ t. bytes_eq t text) texts i [] e).0)
+
+-- the texts before a position and the text there
+pub take_more_at : (texts : List Text) (i : ℕ) (text : Text) → slice_get texts i ≡ Some text → take (i + 1) texts ≡ take i texts ++ text ∷ []
+take_more_at texts i text at =
+    take_more texts i [] (slice_get_within texts i text at) ∙ ap (λ (t : Text). take i texts ++ t ∷ []) (get_or_from_slice_get texts i text [] at)

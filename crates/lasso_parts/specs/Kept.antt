@@ -1,5 +1,5 @@
 -- Key types that keep the number of their position plus one, so that what they keep is never 0.
-use Rattle.std.specs.Prelude.{◌≡◌, ◌↔◌, ◌==◌, ℕ, ◌+◌, ◌-◌, ◌<◌, ◌≤◌, ◌^◌, ◌++◌, List, Option, Some, None, IsTrue, nat_lt, if◌then◌else◌, codes, decimal}
+use Rattle.std.specs.Prelude.{◌≡◌, ◌↔◌, ◌==◌, ℕ, ◌+◌, ◌-◌, ◌<◌, ◌≤◌, ◌^◌, ◌++◌, List, Option, Some, None, IsSome, IsTrue, nat_lt, if◌then◌else◌, codes, decimal}
 use Rattle.std.proofs.Common.{arith}
 use Rattle.std.proofs.lemmas.Bool.Decides.{nat_tests}
 
@@ -24,3 +24,7 @@ kept_made_again greatest kept is_kept = grind (arith, nat_tests)
 
 pub kept_equal : (greatest a b : ℕ) → IsKept greatest a → IsKept greatest b → IsTrue (a == b) ↔ (a - 1 ≡ b - 1)
 kept_equal greatest a b is_kept is_kept' = (λ e. grind (arith, nat_tests), λ e. grind (arith, nat_tests))
+
+-- which positions have keys
+pub kept_range : (greatest n : ℕ) → IsSome (kept_at greatest n) ↔ (n < greatest)
+kept_range greatest n = (λ h. grind (arith, nat_tests, h), λ h. grind (arith, nat_tests))

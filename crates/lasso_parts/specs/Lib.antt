@@ -16,3 +16,6 @@ pub mod Places
 pub mod Waste
 pub mod Slots
 pub mod Cells
+pub mod Json
+pub mod JsonErrors
+pub mod JsonLaws

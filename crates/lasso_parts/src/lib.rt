@@ -1,11 +1,12 @@
-//! The parts that every interner is built of: errors, capacities, limits, keys, the memory of texts, and
-//! the index from a text to its position.
+//! The parts that every interner is built of: errors, capacities, limits, keys, the memory of texts, the
+//! index from a text to its position, and texts and keys as JSON.
 #![tactic(auto)]
 
 pub mod arena;
 pub mod bucket;
 pub mod index;
 pub mod iter;
+pub mod json;
 pub mod keys;
 pub mod laws;
 pub mod slots;

@@ -3,11 +3,11 @@
 -- The text at position i is none of those before it, since the list is distinct, and position i has a key,
 -- since the list fits the keys. So interning it either puts it last and stores its bytes, or is refused by the
 -- limit or for want of memory: no text is found, and no key is wanting.
-use Rattle.std.proofs.Common.{◌≡◌, ℕ, ◌+◌, ◌<◌, ◌≤◌, ◌⊎◌, inl, inr, List, [], ◌∷◌, ◌++◌, length, take, drop, slice_get, Option, Some, None, IsSome, is_some, cond, max, Result, Ok, Err, MatchResult, refl, sym, subst, ap, ◌∙◌, arith}
+use Rattle.std.proofs.Common.{◌≡◌, ℕ, ◌+◌, ◌-◌, ◌^◌, ◌<◌, ◌≤◌, ◌⊎◌, inl, inr, List, [], ◌∷◌, ◌++◌, length, take, slice_get, Option, Some, None, IsSome, is_some, cond, max, Result, Ok, Err, MatchResult, refl, sym, subst, ap, ◌∙◌, arith}
 use Rattle.std.specs.Prelude.{option_and_then}
 use Rattle.std.proofs.lemmas.Grind.{common_steps}
 use Rattle.std.proofs.lemmas.Bool.Decides.{nat_tests}
-use Rattle.std.proofs.lemmas.List.{take-append-drop, length-take-le, take_more}
+use Rattle.std.proofs.lemmas.List.{length-take-le}
 use Rattle.std.proofs.lemmas.List.Sums.{sum_by_more, sum_by-cons, sum_by-take-le}
 use Rattle.std.proofs.lemmas.Option.{option_and_then_some, slice_get_within, get_or_from_slice_get}
 use Rattle.lasso_parts.specs.Account.{Account, fresh, store}
@@ -15,11 +15,12 @@ use Rattle.lasso_parts.specs.Held.{Held}
 use Rattle.lasso_parts.specs.Texts.{Text, position_of, IsDistinct, Fits}
 use Rattle.lasso_parts.specs.declared.util.LassoError.{LassoError}
 use Rattle.lasso_parts.specs.declared.util.LassoErrorKind.TheVariants.{MemoryLimitReached, FailedAllocation}
-use Rattle.lasso_parts.proofs.IndexLaws.{slice_get-append_left, one_position, position_of_none}
+use Rattle.lasso_parts.proofs.IndexLaws.{absent_before}
+use Rattle.lasso_parts.proofs.TextLemmas.{take_more_at}
 use Rattle.lasso_single.specs.Copies.{bytes_of, store_all, StopsAt, clone_size, clone_of}
 use Rattle.lasso_single.specs.Filling.{InternsIn}
 use Rattle.lasso_single.specs.Intern.{Interns, with_text, stored_or_refused, keyed_or_refused, found_or_new}
-use Rattle.lasso_single.specs.Interner.{Interner, KeepsOrigin, bytes_added}
+use Rattle.lasso_single.specs.Interner.{Interner, IsMadeWith, made_with, KeepsOrigin, bytes_added}
 
 -- ---- a new text
 
@@ -58,22 +59,7 @@ interns_new key_at texts account text (Err error) texts' account' h absent has_k
       ],
     )
 
--- ---- the text at a position of a distinct list
-
--- it is none of those before it
-pub absent_before : (texts : List Text) (i : ℕ) (text : Text) → IsDistinct texts → slice_get texts i ≡ Some text → position_of (take i texts) text ≡ None
-absent_before texts i text distinct at =
-    let inside : i < length texts = slice_get_within texts i text at in
-    let count : length (take i texts) ≡ i = length-take-le i texts (omega arith) in
-    position_of_none (take i texts) text (λ n l e.
-    let same : slice_get texts n ≡ slice_get (take i texts) n = ap (λ (ts : List Text). slice_get ts n) (sym (take-append-drop i texts)) ∙ slice_get-append_left (take i texts) (drop i texts) n l in
-    let one : n ≡ i = one_position texts n i text distinct (same ∙ e) at in
-    absurd (omega arith))
-
--- the texts before it and it
-pub take_more_at : (texts : List Text) (i : ℕ) (text : Text) → slice_get texts i ≡ Some text → take (i + 1) texts ≡ take i texts ++ text ∷ []
-take_more_at texts i text at =
-    take_more texts i [] (slice_get_within texts i text at) ∙ ap (λ (t : Text). take i texts ++ t ∷ []) (get_or_from_slice_get texts i text [] at)
+-- ---- the text at a position of a list
 
 -- the bytes of the texts before it and of it
 pub bytes_more_at : (texts : List Text) (i : ℕ) (text : Text) → slice_get texts i ≡ Some text → bytes_of (take (i + 1) texts) ≡ bytes_of (take i texts) + length text
@@ -122,6 +108,19 @@ pub record CopiedTo (start : Interner) (source : List Text) (i : ℕ) (now : Int
 pub copied_none : (start : Interner) (texts : List Text) → start.texts ≡ [] → CopiedTo start texts 0 start
 copied_none start texts empty = record { texts = empty; account = refl; copied = omega arith; origin = (refl, refl) }
 
+-- one text more went last, and its bytes were stored
+pub pushed_more : (start : Interner) (texts : List Text) (i : ℕ) (text : Text) (old new : Interner) → slice_get texts i ≡ Some text → CopiedTo start texts i old → new.texts ≡ old.texts ++ text ∷ [] → store old.account (length text) ≡ Some new.account → new.copied ≡ old.copied + length text → KeepsOrigin old new → CopiedTo start texts (i + 1) new
+pushed_more start texts i text old new at so_far left stored copied origin =
+    let more : take (i + 1) texts ≡ take i texts ++ text ∷ [] = take_more_at texts i text at in
+    let bytes = bytes_more_at texts i text at in
+    let all : store_all start.account (take i texts ++ text ∷ []) ≡ Some new.account = store_all_push start.account old.account new.account (take i texts) text so_far.account stored in
+    record {
+      texts = left ∙ ap (λ (ts : List Text). ts ++ text ∷ []) so_far.texts ∙ sym more;
+      account = subst (λ (ts : List Text). store_all start.account ts ≡ Some new.account) (sym more) all;
+      copied = omega (arith, copied, so_far.copied, bytes);
+      origin = (origin.0 ∙ so_far.origin.0, origin.1 ∙ so_far.origin.1);
+    }
+
 pub copied_more : {K : Type 0} (key_at : ℕ → Option K) (start : Interner) (texts : List Text) (i : ℕ) (text : Text) (old : Interner) (reply : Result K LassoError) (new : Interner) → IsDistinct texts → Fits key_at (length texts) → slice_get texts i ≡ Some text → CopiedTo start texts i old → InternsIn key_at old text reply new
     → MatchResult reply (λ _. CopiedTo start texts (i + 1) new) (λ error. StopsAt start.account texts i error new.account × KeepsOrigin start new)
 copied_more {K} key_at start texts i text old reply new distinct fits at so_far interns =
@@ -137,16 +136,8 @@ copied_more {K} key_at start texts i text old reply new distinct fits at so_far 
         → KeepsOrigin old new
         → MatchResult reply (λ _. CopiedTo start texts (i + 1) new) (λ error. StopsAt start.account texts i error new.account × KeepsOrigin start new)
     go (Ok k) new absent left copied origin =
-        let more : take (i + 1) texts ≡ take i texts ++ text ∷ [] = take_more_at texts i text at in
         let added : bytes_added old.texts text ≡ length text = ap (λ (o : Option ℕ). cond (is_some o) 0 (length text)) absent in
-        let bytes = bytes_more_at texts i text at in
-        let stored : store_all start.account (take i texts ++ text ∷ []) ≡ Some new.account = store_all_push start.account old.account new.account (take i texts) text so_far.account left.1 in
-        record {
-          texts = left.0 ∙ ap (λ (ts : List Text). ts ++ text ∷ []) so_far.texts ∙ sym more;
-          account = subst (λ (ts : List Text). store_all start.account ts ≡ Some new.account) (sym more) stored;
-          copied = omega (arith, copied, added, so_far.copied, bytes);
-          origin = (origin.0 ∙ so_far.origin.0, origin.1 ∙ so_far.origin.1);
-        }
+        pushed_more start texts i text old new at so_far left.0 left.1 (copied ∙ ap (λ (n : ℕ). old.copied + n) added) origin
     go (Err error) new absent left copied origin =
         let reached : store_all start.account (take i texts) ≡ Some new.account = so_far.account ∙ ap (λ (a : Account). Some a) (sym left.1) in
         let inside : i < length texts = slice_get_within texts i text at in (
@@ -183,3 +174,26 @@ pub clone_account : (texts : List Text) (limit size greatest : ℕ) (made done :
 clone_account texts limit size greatest made done is_size is_greatest is_made h =
     let same : made ≡ fresh (clone_size texts) (max limit (clone_size texts)) = is_made ∙ ap (λ (m : ℕ). fresh size m) is_greatest ∙ ap (λ (n : ℕ). fresh n (max limit n)) is_size in
     ap (λ (a : Account). store_all a texts) (sym same) ∙ h
+
+-- ---- a list in one bucket of all its bytes
+
+some_unless_none : {A : Type 0} (o : Option A) → (o ≡ None → ⊥) → IsSome o
+some_unless_none None h = absurd (h refl)
+some_unless_none (Some a) h = refl
+
+-- each text has room
+pub has_room : (start : Interner) (texts : List Text) (i : ℕ) (text : Text) (now : Interner) → bytes_of texts ≤ start.account.room → slice_get texts i ≡ Some text → CopiedTo start texts i now → IsSome (store now.account (length text))
+has_room start texts i text now fits at so_far =
+    let more = bytes_more_at texts i text at in
+    let all = sum_by-take-le (λ (t : Text). length t) texts (i + 1) in
+    let room = store_all_room start.account now.account (take i texts) so_far.account (omega arith) in
+    some_unless_none (store now.account (length text)) (store_not_refused now.account (length text) (omega arith))
+
+-- a list that was just made has copied nothing
+pub made_none : (texts : List Text) (size limit bytes : ℕ) (now : Interner) → bytes ≡ size → now.texts ≡ [] → now.account ≡ fresh bytes limit → IsMadeWith bytes 0 now → CopiedTo (made_with size limit) texts 0 now
+made_none texts size limit bytes now same empty account made = record {
+  texts = empty;
+  account = ap (λ (a : Account). Some a) (sym (account ∙ ap (λ (n : ℕ). fresh n limit) same));
+  copied = made.1;
+  origin = (made.0 ∙ same, made.2);
+}

@@ -1,5 +1,5 @@
 -- What clones of an interner hold, and where copying a list of texts may stop.
-use Rattle.std.specs.Prelude.{◌≡◌, ◌⊎◌, ◌≤◌, ℕ, true, List, [], ◌∷◌, length, take, slice_get, sum_by, max, nat_eq, if◌then◌else◌, Option, Some, None, option_and_then, Result, MatchResult}
+use Rattle.std.specs.Prelude.{◌≡◌, ◌⊎◌, ◌≤◌, ◌-◌, ◌^◌, ℕ, true, List, [], ◌∷◌, length, take, slice_get, sum_by, max, nat_eq, if◌then◌else◌, Option, Some, None, option_and_then, Result, MatchResult}
 use Rattle.lasso_parts.specs.Account.{Account, fresh, store, clear}
 use Rattle.lasso_parts.specs.Texts.{Text}
 use Rattle.lasso_parts.specs.declared.util.LassoError.{LassoError}
@@ -42,3 +42,7 @@ clone_into old texts reply new =
     (λ _. (new.texts ≡ texts) × (store_all (clear old.account) texts ≡ Some new.account) × (new.copied ≡ bytes_of texts))
     (λ error. (new.texts ≡ []) × (new.copied ≡ 0) × ((j : ℕ) × (stopped : Account) × StopsAt (clear old.account) texts j error stopped × (new.account ≡ clear stopped)))
     × (new.first ≡ old.first) × (new.is_cleared ≡ true)
+
+-- the account of a list that was read: all texts in one bucket, under the greatest limit
+abbrev pub read_of : List Text → Option Account
+read_of texts = store_all (fresh (clone_size texts) (2 ^ 64 - 1)) texts

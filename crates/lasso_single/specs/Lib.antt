@@ -4,3 +4,4 @@ pub mod Intern
 pub mod Copies
 pub mod Filling
 pub mod Command
+pub mod Json

@@ -6,9 +6,11 @@ ghost use Rattle.lasso_single.specs.Interner.{KeepsOrigin, bytes_added};
 
 mod changes;
 mod clones;
+mod copying;
 mod filling;
 mod freezing;
 mod interning;
+mod json;
 mod makers;
 #[cfg(test)]
 mod tests;

@@ -1,13 +1,14 @@
 //! `TextList`: the texts of an interner in order, over the memory that holds them.
-ghost use Rattle.std.specs.Prelude.{◌≡◌, ◌+◌, ◌*◌, ◌^◌, ◌<◌, ◌≤◌, ◌++◌, [], ◌∷◌, true, false, length, IsTrue, ◌↔◌, IsSome, Some, IfOk, IfErr, OnOk, OnErr, slice_get, option_map, SomeIff};
+ghost use Rattle.std.specs.Prelude.{◌≡◌, ◌+◌, ◌*◌, ◌^◌, ◌<◌, ◌≤◌, ◌++◌, [], ◌∷◌, true, false, length, IsTrue, ◌↔◌, IsSome, Some, Err, IfOk, IfErr, OnOk, OnErr, slice_get, option_map, map};
 ghost use Rattle.std.specs.List.{enumerate_from};
 ghost use Rattle.lasso_parts.specs.Account.{fresh, store, clear, with_limit};
 ghost use Rattle.lasso_parts.specs.Texts.{Fits};
-ghost use Rattle.lasso_single.specs.Copies.{bytes_of};
+ghost use Rattle.lasso_single.specs.Copies.{bytes_of, clone_size, read_of};
 ghost use Rattle.lasso_single.specs.Equality.{texts_eq};
 ghost use Rattle.lasso_single.specs.Interner.{IsMadeWith, KeepsOrigin};
 ghost use Rattle.lasso_parts.specs.declared.util.LassoErrorKind.TheVariants.{FailedAllocation};
 
+use crate::room::one_bucket;
 use lasso_parts::arena::Arena;
 use lasso_parts::index::Texts;
 use lasso_parts::iter::{Iter, Strings};
@@ -68,6 +69,24 @@ impl<A: Allocator + Clone> TextList<A> {
             first: capacity.bytes(),
             is_cleared: false,
         })
+    }
+
+    /// A list of the texts, in order, all copied into one bucket of just their bytes (4096 where they have
+    /// none), with no limit below the greatest number. It is refused for want of memory alone, also where
+    /// the texts have more bytes than a `usize` counts.
+    pub(crate) fn copy_of(alloc: A, texts: &[&str]) -> LassoResult<Self>
+        ensures texts { IfOk result (λ l. l.texts ≡ map (λ t. t.now) texts.now) }
+        ensures account { IfOk result (λ l. read_of (map (λ t. t.now) texts.now) ≡ Some l.account) }
+        ensures made { let list = map (λ t. t.now) texts.now in IfOk result (IsMadeWith (clone_size list) (bytes_of list)) }
+        ensures refused { IfErr result (λ error. error ≡ FailedAllocation) }
+        ensures overflow { 2 ^ 64 ≤ bytes_of (map (λ t. t.now) texts.now) → result ≡ Err FailedAllocation }
+    {
+        let capacity = one_bucket(&texts, texts.len())?;
+        let mut list = TextList::new(alloc, capacity, MemoryLimits::default())?;
+        for position in 0..texts.len() {
+            list.push_copied(texts.text_at(position))?;
+        }
+        Ok(list)
     }
 
     /// Copies a text to the end of the list. The limit must admit it, so that it is refused for want of
@@ -136,17 +155,6 @@ impl<A: Allocator> TextList<A> {
         ensures { length self.now.texts ≤ result }
     {
         self.slots.capacity()
-    }
-
-    /// How many bytes the texts have in all, or `None` where a `usize` can't count them.
-    pub(crate) fn bytes(&self) -> Option<usize>
-        ensures { SomeIff result (bytes_of self.now.texts < 2 ^ 64) (bytes_of self.now.texts) }
-    {
-        let mut bytes: usize = 0;
-        for position in 0..self.len() {
-            bytes = bytes.checked_add(self.text_at(position).len())?;
-        }
-        Some(bytes)
     }
 
     /// A walk over the texts and their keys. Each position must have a key.

@@ -1,13 +1,14 @@
 //! Clones of a `Rodeo`, and copies of one over another.
 ghost use Rattle.std.specs.Prelude.{◌≡◌, ◌≤◌, ◌<◌, ◌+◌, ◌^◌, ℕ, [], Some, Err, IfOk, OnOk, IfErr, length, slice_get};
 ghost use Rattle.lasso_parts.specs.declared.util.LassoErrorKind.TheVariants.{FailedAllocation};
-ghost use Rattle.lasso_single.specs.Copies.{bytes_of, store_all, bucket_for, clone_size, clone_of, clone_into, StopsAt};
+ghost use Rattle.lasso_single.specs.Copies.{bytes_of, store_all, clone_size, clone_of, clone_into, StopsAt};
 ghost use Rattle.lasso_single.specs.Interner.{IsMadeWith, KeepsOrigin};
 
 use super::Rodeo;
+use crate::room::one_bucket;
 use lasso_parts::index::{Index, Texts};
 use lasso_parts::keys::Key;
-use lasso_parts::util::{Capacity, LassoError, LassoErrorKind, LassoResult, MemoryLimits};
+use lasso_parts::util::{LassoResult, MemoryLimits};
 use std::alloc::Allocator;
 use std::hash::BuildHasher;
 
@@ -23,12 +24,9 @@ impl<K: Key, S: BuildHasher + Clone, A: Allocator + Clone> Rodeo<K, S, A> {
         ensures refused { IfErr result (λ error. error ≡ FailedAllocation) }
         ensures overflow { 2 ^ 64 ≤ bytes_of self.now.texts → result ≡ Err FailedAllocation }
     {
-        let Some(bytes) = self.list.bytes() else {
-            return Err(LassoError::new(LassoErrorKind::FailedAllocation));
-        };
-        let size = bucket_for(bytes);
-        let capacity = Capacity::new(self.list.len(), size);
-        let limits = MemoryLimits::new(self.list.max_memory_usage().max(size));
+        let capacity = one_bucket(&self.list, self.list.len())?;
+        let limit = self.list.max_memory_usage().max(capacity.bytes());
+        let limits = MemoryLimits::new(limit);
         let hasher = self.hasher.clone()?;
         let alloc = self.list.allocator().clone()?;
         let mut copy = Rodeo::with_capacity_memory_limits_and_hasher(
@@ -115,12 +113,4 @@ impl<K: Key, S: BuildHasher + Clone, A: Allocator + Clone> Rodeo<K, S, A> {
     {
         self.list.text_at(position)
     }
-}
-
-// The size of one bucket for so many bytes. A bucket has one byte at least.
-fn bucket_for(bytes: usize) -> usize
-    ensures value { result ≡ bucket_for bytes }
-    ensures some { 0 < result }
-{
-    if bytes == 0 { 4096 } else { bytes }
 }

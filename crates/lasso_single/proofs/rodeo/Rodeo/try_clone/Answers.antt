@@ -1,6 +1,6 @@
 use Rattle.std.proofs.Common.{◌≡◌, ◌≤◌, ap, ◌∙◌, arith}
 use Rattle.lasso_parts.specs.Account.{Account}
-use Rattle.lasso_single.specs.Copies.{bytes_of, bucket_for, clone_size}
+use Rattle.lasso_single.specs.Copies.{bytes_of, clone_size}
 use Rattle.lasso_single.specs.Interner.{Interner}
 use Rattle.lasso_single.proofs.Copying.{clone_stops, bytes-le-clone_size}
 use Rattle.lasso_single.proofs.rodeo.Rodeo.try_clone.Goals as goal
@@ -9,9 +9,8 @@ pub returns-in-Err-clause-refused : goal.returns-in-Err-clause-refused
 returns-in-Err-clause-refused g c =
     let texts = c.args.self.now.texts in
     let made = c.in_ok-copy.copy.account in
-    let bytes : c.in-Some.bytes ≡ bytes_of texts = c.in-Some.ensures.1 ∙ ap (λ (i : Interner). bytes_of i.texts) c.self.view_is in
-    let size : c.bucket_for-size.result ≡ clone_size texts = c.bucket_for-size.ensures.value ∙ ap bucket_for bytes in
-    let room : made.room ≡ clone_size texts = ap (λ (a : Account). a.room) c.in_ok-copy.ensures.account ∙ c.new-capacity.ensures.bytes ∙ size in
+    let size = c.in_ok-capacity.ensures.bytes ∙ ap (λ (i : Interner). clone_size i.texts) c.self.view_is in
+    let room : made.room ≡ clone_size texts = ap (λ (a : Account). a.room) c.in_ok-copy.ensures.account ∙ size in
     let fits : bytes_of texts ≤ made.room = omega (arith, room, bytes-le-clone_size texts) in
     let stopped = c.in-Err.ensures.stopped in
     clone_stops made texts stopped.0 c.in-Err.error c.copy_texts.new.self.account fits stopped.1

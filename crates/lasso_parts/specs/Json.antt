@@ -1,0 +1,94 @@
+-- Lists of texts and keys as JSON: what is written, and how a value is read.
+use Rattle.std.specs.Prelude.{◌≡◌, ◌⊎◌, ℕ, zero, suc, List, [], ◌∷◌, ◌++◌, length, map, Bool, true, if◌then◌else◌, Option, Some, None, IsSome, option_and_then, Result, Ok, Err}
+use Rattle.serde_json.specs.Data.{Data, string, array, Items, no_items, item}
+use Rattle.serde_json.specs.Find.{as_str, as_array, as_number, as_u64}
+use Rattle.serde_json.specs.View.{items_of}
+use Rattle.lasso_parts.specs.Texts.{Text, position_of, IsDistinct, Fits}
+use Rattle.lasso_parts.specs.declared.util.LassoErrorKind.TheVariants.{FailedAllocation}
+use Rattle.lasso_parts.specs.declared.json.error.JsonError.{JsonError}
+use Rattle.lasso_parts.specs.declared.json.error.JsonError.TheVariants.{NotAnArray, NotText, Doubled, TooMany, Lasso, NotAKey}
+
+-- ---- lists of texts
+
+-- the array of the texts, in order
+abbrev pub json_array : List Text → Data
+json_array texts = array (items_of (map string texts))
+
+-- the text of an item, where it is one
+abbrev pub item_text : ℕ → Option Text → Result Text JsonError
+item_text at None = Err (NotText at)
+item_text at (Some text) = Ok text
+
+-- the key of a position, where there is one
+abbrev pub key_or_too_many : {K : Type 0} → ℕ → Option K → Result K JsonError
+key_or_too_many at None = Err (TooMany at)
+key_or_too_many at (Some key) = Ok key
+
+-- a result goes on to the next, unless it is a fault
+abbrev pub and_then : {A B : Type 0} → Result A JsonError → (A → Result B JsonError) → Result B JsonError
+and_then (Err fault) rest = Err fault
+and_then (Ok value) rest = rest value
+
+-- where an earlier item has the text; in a list that need not be distinct none counts
+abbrev pub earlier : Bool → List Text → Text → Option ℕ
+earlier distinct seen text = if distinct then position_of seen text else None
+
+-- a text that no earlier item has goes to its position, if that has a key
+abbrev pub new_text : {K : Type 0} → (ℕ → Option K) → ℕ → Text → Option ℕ → Result Text JsonError
+new_text key_at at text (Some _) = Err (Doubled at)
+new_text key_at at text None = and_then (key_or_too_many at (key_at at)) (λ _. Ok text)
+
+-- the next item's text, after those seen; or what is wrong with the item, of which the first holds: it is no
+-- text, or an earlier item has it, or its position has no key
+abbrev pub next_text : {K : Type 0} → (ℕ → Option K) → Bool → List Text → Data → Result Text JsonError
+next_text key_at distinct seen d =
+    and_then (item_text (length seen) (as_str d)) (λ text. new_text key_at (length seen) text (earlier distinct seen text))
+
+-- the texts seen and those of the items, in order; or what is wrong with the first faulty item
+abbrev pub read_items : {K : Type 0} → (ℕ → Option K) → Bool → List Text → Items → Result (List Text) JsonError
+read_items key_at distinct seen no_items = Ok seen
+read_items key_at distinct seen (item d ds) =
+    and_then (next_text key_at distinct seen d) (λ text. read_items key_at distinct (seen ++ text ∷ []) ds)
+
+-- the texts of an array's items
+abbrev pub read_if_array : {K : Type 0} → (ℕ → Option K) → Bool → Option Items → Result (List Text) JsonError
+read_if_array key_at distinct None = Err NotAnArray
+read_if_array key_at distinct (Some ds) = read_items key_at distinct [] ds
+
+-- the list that a value is read as, or what is wrong with it
+abbrev pub read_array : {K : Type 0} → (ℕ → Option K) → Bool → Data → Result (List Text) JsonError
+read_array key_at distinct d = read_if_array key_at distinct (as_array d)
+
+-- a result with what contracts see of its value
+abbrev pub shown : {A B E : Type 0} → (A → B) → Result A E → Result B E
+shown see (Ok value) = Ok (see value)
+shown see (Err error) = Err error
+
+-- the answer of a call that found no memory
+abbrev pub no_memory : {A : Type 0} → Result A JsonError
+no_memory = Err (Lasso FailedAllocation)
+
+-- the value is an array whose first item is a text, for which there is a key: to read it takes memory
+abbrev pub TakesText : {K : Type 0} → (ℕ → Option K) → Data → Type 0
+TakesText key_at d = (first : Data) × (ds : Items) × (text : Text) × (as_array d ≡ Some (item first ds)) × (as_str first ≡ Some text) × IsSome (key_at 0)
+
+-- the answer is what the value is read as; or memory was wanting, and the value is such that it takes some
+abbrev pub ReadsOr : Type 0 → Result (List Text) JsonError → Result (List Text) JsonError → Type 0
+ReadsOr takes_memory read answer = (answer ≡ read) ⊎ ((answer ≡ no_memory) × takes_memory)
+
+-- ---- keys
+
+-- the whole number that a value is, where it is one
+abbrev pub whole_number : Data → Option ℕ
+whole_number d = option_and_then as_u64 (as_number d)
+
+-- the key, or no key
+abbrev pub key_or_fault : {K : Type 0} → Option K → Result K JsonError
+key_or_fault None = Err NotAKey
+key_or_fault (Some key) = Ok key
+
+-- the key that keeps the number: that of the position before it
+abbrev pub key_kept : {K : Type 0} → (ℕ → Option K) → Option ℕ → Result K JsonError
+key_kept key_at None = Err NotAKey
+key_kept key_at (Some zero) = Err NotAKey
+key_kept key_at (Some (suc n)) = key_or_fault (key_at n)

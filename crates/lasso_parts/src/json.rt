@@ -1,0 +1,16 @@
+//! Texts and keys as JSON values: what they are written as, how they are read, and what is wrong with a
+//! value that can't be read.
+mod error;
+mod keys;
+mod laws;
+mod reading;
+mod writing;
+
+pub use error::JsonError;
+pub use keys::JsonKey;
+pub use laws::{json_faults_exactly, json_reads_back, json_reads_exactly};
+pub use reading::read_array;
+pub use writing::write_array;
+
+#[cfg(test)]
+mod tests;

@@ -1,0 +1,21 @@
+//! Laws of the JSON form of lists of texts, each as the contract of a function that does nothing.
+ghost use Rattle.lasso_parts.specs.JsonLaws.{ReadsExactly, ReadsBack, FaultsExactly};
+
+use crate::keys::Key;
+
+/// A value is read as a list of texts exactly where it is the array of these texts, each of their positions
+/// has a key, and, where equal texts are not allowed, no text stands twice.
+pub fn json_reads_exactly<K: Key>()
+    ensures { ReadsExactly K.key_at }
+{}
+
+/// Reading back what was written for a list of distinct texts that fits the keys gives that list.
+#[tactic(auto, using(crate::proofs::JsonLaws::reads_back))]
+pub fn json_reads_back<K: Key>()
+    ensures { ReadsBack K.key_at }
+{}
+
+/// The fault of an array is that of the first item that can't be read after the texts before it.
+pub fn json_faults_exactly<K: Key>()
+    ensures { FaultsExactly K.key_at }
+{}

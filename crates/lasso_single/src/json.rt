@@ -1,0 +1,76 @@
+//! The frozen forms as JSON: the array of their texts, in the order of their keys. The form that grows
+//! stands beside its type; the tests here are of all three.
+ghost use Rattle.std.specs.Prelude.{◌≡◌, ◌≤◌, ◌<◌, ◌^◌, List, Ok, Err, IfOk, IfErr, length, true, false};
+ghost use Rattle.serde_json.specs.View.{view};
+ghost use Rattle.lasso_parts.specs.Json.{json_array, read_array};
+ghost use Rattle.lasso_parts.specs.Texts.{Text};
+ghost use Rattle.lasso_parts.specs.declared.util.LassoErrorKind.TheVariants.{FailedAllocation};
+ghost use Rattle.lasso_single.specs.Copies.{bytes_of};
+ghost use Rattle.lasso_single.specs.Json.{ReadsInto};
+
+#[cfg(test)]
+mod tests;
+
+use crate::reader::RodeoReader;
+use crate::resolver::RodeoResolver;
+use crate::rodeo::Rodeo;
+use crate::text_list::TextList;
+use lasso_parts::json::{JsonError, read_array, write_array};
+use lasso_parts::keys::Key;
+use serde_json::Value;
+use std::alloc::{Allocator, Global};
+use std::hash::BuildHasher;
+
+impl<K: Key, S: BuildHasher, A: Allocator> RodeoReader<K, S, A> {
+    /// The array of the texts, in the order of their keys. It is refused for want of memory alone, and
+    /// never where there is no text.
+    pub fn serialize(&self, alloc: Global) -> Result<Value, JsonError>
+        ensures written { IfOk result (λ value. view value ≡ json_array self.now) }
+        ensures refused { IfErr result (λ error. (error ≡ JsonError.Lasso FailedAllocation) × (0 < length self.now)) }
+    {
+        self.rodeo().serialize(alloc)
+    }
+}
+
+impl<K: Key, S: BuildHasher + Default + Drop, A: Allocator + Clone> RodeoReader<K, S, A> {
+    /// A reader with the texts of an array, in order. It is the frozen form of what `Rodeo::deserialize`
+    /// reads, and refused as that is.
+    pub fn deserialize(alloc: A, value: &Value) -> Result<Self, JsonError>
+        ensures read { ReadsInto K.key_at true (view value.now) result }
+        ensures overflow { (texts : List Text) → read_array K.key_at true (view value.now) ≡ Ok texts → 2 ^ 64 ≤ bytes_of texts → result ≡ Err (JsonError.Lasso FailedAllocation) }
+    {
+        match Rodeo::<K, S, A>::deserialize(alloc, value) {
+            Ok(rodeo) => Ok(rodeo.into_reader()),
+            Err(fault) => Err(fault),
+        }
+    }
+}
+
+impl<K: Key, A: Allocator> RodeoResolver<K, A> {
+    /// The array of the texts, in the order of their keys. It is refused for want of memory alone, and
+    /// never where there is no text.
+    pub fn serialize(&self, alloc: Global) -> Result<Value, JsonError>
+        ensures written { IfOk result (λ value. view value ≡ json_array self.now) }
+        ensures refused { IfErr result (λ error. (error ≡ JsonError.Lasso FailedAllocation) × (0 < length self.now)) }
+    {
+        let list = self.list();
+        write_array(alloc, list, list.len())
+    }
+}
+
+impl<K: Key, A: Allocator + Clone> RodeoResolver<K, A> {
+    /// A resolver with the texts of an array, in order. Texts may be equal, each under its own key. The
+    /// first faulty item decides: it is no text (`NotText`), or the key type has no key for its position
+    /// (`TooMany`). A value that is no array is `NotAnArray`. It may be refused for want of memory
+    /// (`Lasso`) unless the value is no array or its first item is faulty; so it is where the texts have
+    /// more bytes than a `usize` counts.
+    pub fn deserialize(alloc: A, value: &Value) -> Result<Self, JsonError>
+        ensures read { ReadsInto K.key_at false (view value.now) result }
+        ensures overflow { (texts : List Text) → read_array K.key_at false (view value.now) ≡ Ok texts → 2 ^ 64 ≤ bytes_of texts → result ≡ Err (JsonError.Lasso FailedAllocation) }
+    {
+        let texts = read_array::<K, A>(alloc, value, false)?;
+        let alloc = texts.allocator().clone()?;
+        let list = TextList::copy_of(alloc, texts.as_slice())?;
+        Ok(RodeoResolver::new(list))
+    }
+}

@@ -1,0 +1,47 @@
+//! A `Rodeo` as JSON: the array of its texts, in the order of their keys.
+ghost use Rattle.std.specs.Prelude.{◌≡◌, ◌≤◌, ◌<◌, ◌^◌, List, Ok, Err, Some, IfOk, IfErr, length, true};
+ghost use Rattle.serde_json.specs.View.{view};
+ghost use Rattle.lasso_parts.specs.Json.{json_array, read_array, shown};
+ghost use Rattle.lasso_parts.specs.Texts.{Text};
+ghost use Rattle.lasso_parts.specs.declared.util.LassoErrorKind.TheVariants.{FailedAllocation};
+ghost use Rattle.lasso_single.specs.Copies.{bytes_of, clone_size, read_of};
+ghost use Rattle.lasso_single.specs.Interner.{IsMadeWith};
+ghost use Rattle.lasso_single.specs.Json.{ReadsInto};
+
+use super::Rodeo;
+use lasso_parts::json::{JsonError, read_array, write_array};
+use lasso_parts::keys::Key;
+use serde_json::Value;
+use std::alloc::{Allocator, Global};
+use std::hash::BuildHasher;
+
+impl<K: Key, S: BuildHasher, A: Allocator> Rodeo<K, S, A> {
+    /// The array of the texts, in the order of their keys. It is refused for want of memory alone, and
+    /// never where there is no text.
+    pub fn serialize(&self, alloc: Global) -> Result<Value, JsonError>
+        ensures written { IfOk result (λ value. view value ≡ json_array self.now.texts) }
+        ensures refused { IfErr result (λ error. (error ≡ JsonError.Lasso FailedAllocation) × (0 < length self.now.texts)) }
+    {
+        write_array(alloc, &self.list, self.len())
+    }
+}
+
+impl<K: Key, S: BuildHasher + Default + Drop, A: Allocator + Clone> Rodeo<K, S, A> {
+    /// An interner with the texts of an array, in order, all copied into one bucket of just their bytes
+    /// (4096 where they have none), and with no limit below the greatest number. The first faulty item
+    /// decides: it is no text (`NotText`), or an earlier item has its text (`Doubled`), or the key type has
+    /// no key for its position (`TooMany`). A value that is no array is `NotAnArray`. It may be refused for
+    /// want of memory (`Lasso`) unless the value is no array or its first item is faulty; so it is where
+    /// the texts have more bytes than a `usize` counts.
+    pub fn deserialize(alloc: A, value: &Value) -> Result<Self, JsonError>
+        ensures read { ReadsInto K.key_at true (view value.now) (shown (λ r. r.texts) result) }
+        ensures account { IfOk result (λ r. read_of r.texts ≡ Some r.account) }
+        ensures made { IfOk result (λ r. IsMadeWith (clone_size r.texts) (bytes_of r.texts) r) }
+        ensures overflow { (texts : List Text) → read_array K.key_at true (view value.now) ≡ Ok texts → 2 ^ 64 ≤ bytes_of texts → result ≡ Err (JsonError.Lasso FailedAllocation) }
+    {
+        let texts = read_array::<K, A>(alloc, value, true)?;
+        let alloc = texts.allocator().clone()?;
+        let rodeo = Rodeo::of_texts(alloc, S::default(), texts.as_slice())?;
+        Ok(rodeo)
+    }
+}
