@@ -1,16 +1,13 @@
--- What the answer of reading an array says of the list, and of an interner that copies it.
+-- What the answer of reading an array says of the list.
 --
 -- A list that was had is what the value is read as, since an answer for want of memory is no list. So the value
 -- is the array of its texts, each position has a key, and the list is distinct where that was asked for.
-use Rattle.std.proofs.Common.{◌≡◌, ◌⊎◌, inl, inr, ℕ, List, Bool, Option, Result, Ok, Err, refl, sym, subst}
-use Rattle.std.specs.Prelude.{IsOk}
+use Rattle.std.proofs.Common.{◌≡◌, inl, inr, ℕ, List, Bool, Option, Ok, sym}
 use Rattle.serde_json.specs.Data.{Data}
-use Rattle.lasso_parts.specs.Json.{read_array, no_memory, TakesText, ReadsOr}
+use Rattle.lasso_parts.specs.Json.{read_array, ReadsOr}
 use Rattle.lasso_parts.specs.JsonLaws.{IsReadable}
 use Rattle.lasso_parts.specs.Texts.{Text}
-use Rattle.lasso_parts.specs.declared.json.error.JsonError.{JsonError}
 use Rattle.lasso_parts.proofs.JsonLaws.{reads_exactly}
-use Rattle.lasso_single.specs.Json.{ReadsInto}
 
 module _ {K : Type 0} (key_at : ℕ → Option K) (distinct : Bool) (d : Data) where
   -- a list that was had is what the value is read as
@@ -20,11 +17,3 @@ module _ {K : Type 0} (key_at : ℕ → Option K) (distinct : Bool) (d : Data) w
   -- it can be read
   pub was_readable : (texts : List Text) → read_array key_at distinct d ≡ Ok texts → IsReadable key_at distinct texts
   was_readable texts read = ((reads_exactly key_at distinct d texts).0 read).1
-
-  -- a fault, or want of memory, is told
-  pub told : (error : JsonError) → ReadsOr (TakesText key_at d) (read_array key_at distinct d) (Err error) → ReadsInto key_at distinct d (Err error)
-  told error h = elim h [ inl read ↦ inl read | inr memory ↦ inr (memory.0, inl memory.1) ]
-
-  -- memory was wanting after the list was read
-  pub wanting : (texts : List Text) → read_array key_at distinct d ≡ Ok texts → ReadsInto key_at distinct d no_memory
-  wanting texts read = inr (refl, inr (subst (λ (r : Result (List Text) JsonError). IsOk r) (sym read) refl))
