@@ -1,7 +1,9 @@
 //! lasso, a proved string interner: it stores each distinct text once and hands out a small key. This
-//! crate names the public items of the crates below it again.
+//! crate names the public items of the crates below it again, and adds the interfaces that code over any
+//! interner takes.
 #![tactic(auto)]
 
+pub mod interface;
 #[cfg(test)]
 mod tests;
 
@@ -9,6 +11,7 @@ pub use lasso_parts::arena::{Arena, Span};
 pub use lasso_parts::bucket::Bucket;
 pub use lasso_parts::bucket::region::Region;
 pub use lasso_parts::index::{Index, Texts, hash_text};
+pub use lasso_parts::iter::{Iter, Strings};
 pub use lasso_parts::keys::{Key, LargeSpur, MicroSpur, MiniSpur, Spur};
 pub use lasso_parts::laws::{
     store_never_grows_past_limit, store_refuses_exactly_past_limit, store_serves_as_worked,
@@ -18,4 +21,17 @@ pub use lasso_parts::util::{
     Capacity, FixedState, LassoError, LassoErrorKind, LassoResult, MemoryLimits,
 };
 pub use lasso_single::commands::{Command, Reply, run_commands};
+pub use lasso_single::reader::RodeoReader;
+pub use lasso_single::resolver::RodeoResolver;
 pub use lasso_single::rodeo::Rodeo;
+
+use std::alloc::Global;
+
+/// A `Rodeo` with `Spur` keys, the fixed hasher and the global allocator.
+pub type SpurRodeo = Rodeo<Spur, FixedState, Global>;
+
+/// What a `SpurRodeo` freezes to where keys of texts are still found.
+pub type SpurRodeoReader = RodeoReader<Spur, FixedState, Global>;
+
+/// What a `SpurRodeo` freezes to where texts of keys alone are asked for.
+pub type SpurRodeoResolver = RodeoResolver<Spur, Global>;
