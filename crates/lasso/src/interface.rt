@@ -12,9 +12,11 @@ ghost use Rattle.lasso.specs.Interning.{InternsAmong, InternsStaticAmong};
 mod boxed;
 mod exclusive;
 mod frozen;
+pub mod holders;
 pub mod laws;
 mod lent;
 pub mod meanings;
+pub mod object_laws;
 pub mod objects;
 
 use lasso_parts::keys::Key;

@@ -24,7 +24,6 @@ pub use lasso_single::commands::{Command, Reply, run_commands};
 pub use lasso_single::reader::RodeoReader;
 pub use lasso_single::resolver::RodeoResolver;
 pub use lasso_single::rodeo::Rodeo;
-
 use std::alloc::Global;
 
 /// A `Rodeo` with `Spur` keys, the fixed hasher and the global allocator.

@@ -42,11 +42,7 @@ impl<K: Key, S: BuildHasher, A: Allocator + Clone> Interner<K> for Rodeo<K, S, A
         self.try_get_or_intern(text)
     }
 
-    fn try_get_or_intern_static<R: Wait>(
-        &mut self,
-        _rt: &R,
-        text: &'static str,
-    ) -> LassoResult<K> {
+    fn try_get_or_intern_static<R: Wait>(&mut self, _rt: &R, text: &'static str) -> LassoResult<K> {
         self.try_get_or_intern_static(text)
     }
 
@@ -88,6 +84,4 @@ impl<K: Key, S: BuildHasher + Drop, A: Allocator> IntoResolver<K> for Rodeo<K, S
 }
 
 impl<K: Key, S: BuildHasher + Drop, A: Allocator + Clone> IntoReaderAndResolver<K>
-    for Rodeo<K, S, A>
-{
-}
+    for Rodeo<K, S, A> {}

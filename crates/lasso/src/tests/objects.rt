@@ -1,0 +1,81 @@
+//! Boxes of interners and of frozen forms, whose type is not known where they are used.
+use crate::interface::object_laws::{boxed_object_interns_as_one, object_interns_as_one};
+use crate::interface::objects::{SpurInterner, SpurReader, SpurResolver};
+use crate::{Capacity, Key, LassoErrorKind, LassoResult, MemoryLimits, Rodeo, Spur, SpurRodeo};
+use std::alloc::Global;
+use std::process::Abort;
+use std::test::Fail;
+
+fn is_answer(rt: &impl Abort, answer: LassoResult<Spur>, wanted: Result<usize, LassoErrorKind>) {
+    match (answer, wanted) {
+        (Ok(key), Ok(number)) => assert_eq!(rt; key.into_usize(), number),
+        (Err(error), Err(kind)) => assert!(rt; error.kind() == kind),
+        _ => assert!(rt; false),
+    }
+}
+
+#[test]
+fn one_text_through_a_boxed_interner(rt: HostRuntime) -> Result<(), Fail> {
+    let rodeo: SpurRodeo = Rodeo::new(rt.alloc())?;
+    let mut interner: Box<dyn SpurInterner + Drop> = Box::new(rt.alloc(), rodeo)?;
+    is_answer(&rt, interner.try_get_or_intern("Hello, world!"), Ok(0));
+    is_answer(&rt, interner.try_get_or_intern("Hello, world!"), Ok(0));
+    is_answer(
+        &rt,
+        interner.try_get_or_intern_static("Hello, world!"),
+        Ok(0),
+    );
+    assert_eq!(rt; interner.len(), 1);
+    assert!(rt; interner.contains("Hello, world!"));
+    assert!(rt; !interner.contains("Hello"));
+    assert!(rt; interner.get("Hello").is_none());
+    let first = interner.get("Hello, world!").ok_or("not there")?;
+    assert_eq!(rt; first.into_usize(), 0);
+    assert_eq!(rt; interner.try_resolve(first), Some("Hello, world!"));
+    assert!(rt; interner.contains_key(first));
+    let second = Spur::try_from_usize(1).ok_or("no key")?;
+    assert_eq!(rt; interner.try_resolve(second), None);
+    assert!(rt; !interner.contains_key(second));
+    assert!(rt; object_interns_as_one(&mut *interner, "Hello, world!")?);
+    assert!(rt; boxed_object_interns_as_one(interner, "Goodbye!")?);
+    Ok(())
+}
+
+#[test]
+fn static_texts_through_a_boxed_interner(rt: HostRuntime) -> Result<(), Fail> {
+    const LIMIT: LassoErrorKind = LassoErrorKind::MemoryLimitReached;
+    let mut rodeo: SpurRodeo = Rodeo::with_capacity(rt.alloc(), Capacity::for_bytes(10))?;
+    rodeo.try_get_or_intern("abc")?;
+    rodeo.set_memory_limits(MemoryLimits::new(0));
+    let mut interner: Box<dyn SpurInterner + Drop> = Box::new(rt.alloc(), rodeo)?;
+    is_answer(&rt, interner.try_get_or_intern("defg"), Ok(1));
+    is_answer(&rt, interner.try_get_or_intern("0123456789"), Err(LIMIT));
+    is_answer(&rt, interner.try_get_or_intern("abc"), Ok(0));
+    is_answer(&rt, interner.try_get_or_intern_static("0123456789"), Ok(2));
+    assert_eq!(rt; interner.len(), 3);
+    Ok(())
+}
+
+fn hello(alloc: Global) -> LassoResult<SpurRodeo> {
+    let mut rodeo: SpurRodeo = Rodeo::new(alloc)?;
+    rodeo.try_get_or_intern("Hello, world!")?;
+    Ok(rodeo)
+}
+
+#[test]
+fn boxed_frozen_forms(rt: HostRuntime) -> Result<(), Fail> {
+    let frozen = hello(rt.alloc())?.into_reader();
+    let reader: Box<dyn SpurReader + Drop> = Box::new(rt.alloc(), frozen)?;
+    assert!(rt; reader.contains("Hello, world!"));
+    assert!(rt; reader.get("Goodbye!").is_none());
+    let first = reader.get("Hello, world!").ok_or("not there")?;
+    assert_eq!(rt; reader.try_resolve(first), Some("Hello, world!"));
+    assert!(rt; reader.contains_key(first));
+    assert_eq!(rt; reader.len(), 1);
+    let frozen = hello(rt.alloc())?.into_resolver();
+    let resolver: Box<dyn SpurResolver + Drop> = Box::new(rt.alloc(), frozen)?;
+    assert_eq!(rt; resolver.try_resolve(first), Some("Hello, world!"));
+    assert!(rt; resolver.contains_key(first));
+    assert_eq!(rt; resolver.len(), 1);
+    Ok(())
+}
