@@ -15,6 +15,7 @@ mod frozen;
 pub mod holders;
 pub mod laws;
 mod lent;
+mod lent_mut;
 pub mod meanings;
 pub mod object_laws;
 pub mod objects;
@@ -51,7 +52,7 @@ pub trait Resolver<K: Key> {
     fn resolve_unchecked(&self, key: K) -> Option<&str>
         ensures { IfSome (meaning self.now) (λ texts. option_map (λ t. t.now) result ≡ slice_get texts (K.number key)) }
     {
-        self.try_resolve(key)
+        self.resolve(key)
     }
 
     /// Whether there is no text.

@@ -2,3 +2,37 @@
 mod examples;
 mod interfaces;
 mod objects;
+
+use crate::{Capacity, Key, LassoErrorKind, LassoResult, MemoryLimits, Rodeo, SpurRodeo};
+use std::alloc::Global;
+use std::process::Abort;
+
+const LIMIT: LassoErrorKind = LassoErrorKind::MemoryLimitReached;
+
+/// That the answer is the key of the number, or the refusal.
+fn is_answer<K: Key>(
+    rt: &impl Abort,
+    answer: LassoResult<K>,
+    wanted: Result<usize, LassoErrorKind>,
+) {
+    match (answer, wanted) {
+        (Ok(key), Ok(number)) => assert_eq!(rt; key.into_usize(), number),
+        (Err(error), Err(kind)) => assert!(rt; error.kind() == kind),
+        _ => assert!(rt; false),
+    }
+}
+
+/// An interner with `Hello, world!` alone.
+fn hello(alloc: Global) -> LassoResult<SpurRodeo> {
+    let mut rodeo: SpurRodeo = Rodeo::new(alloc)?;
+    rodeo.try_get_or_intern("Hello, world!")?;
+    Ok(rodeo)
+}
+
+/// An interner of 10 bytes with `abc`, and then a limit of 0 bytes.
+fn limited(alloc: Global) -> LassoResult<SpurRodeo> {
+    let mut rodeo: SpurRodeo = Rodeo::with_capacity(alloc, Capacity::for_bytes(10))?;
+    rodeo.try_get_or_intern("abc")?;
+    rodeo.set_memory_limits(MemoryLimits::new(0));
+    Ok(rodeo)
+}

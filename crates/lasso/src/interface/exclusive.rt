@@ -15,43 +15,43 @@ impl<K: Key, S: BuildHasher, A: Allocator> Resolver<K> for Rodeo<K, S, A> {
     ghost meaning = { λ rodeo. Some rodeo.texts };
 
     fn try_resolve(&self, key: K) -> Option<&str> {
-        self.try_resolve(key)
+        Rodeo::try_resolve(self, key)
     }
 
     fn contains_key(&self, key: K) -> bool {
-        self.contains_key(key)
+        Rodeo::contains_key(self, key)
     }
 
     fn len(&self) -> usize {
-        self.len()
+        Rodeo::len(self)
     }
 }
 
 impl<K: Key, S: BuildHasher, A: Allocator> Reader<K> for Rodeo<K, S, A> {
     fn get<R: Wait>(&self, _rt: &R, text: &str) -> Option<K> {
-        self.get(text)
+        Rodeo::get(self, text)
     }
 
     fn contains<R: Wait>(&self, _rt: &R, text: &str) -> bool {
-        self.contains(text)
+        Rodeo::contains(self, text)
     }
 }
 
 impl<K: Key, S: BuildHasher, A: Allocator + Clone> Interner<K> for Rodeo<K, S, A> {
     fn try_get_or_intern<R: Wait>(&mut self, _rt: &R, text: &str) -> LassoResult<K> {
-        self.try_get_or_intern(text)
+        Rodeo::try_get_or_intern(self, text)
     }
 
     fn try_get_or_intern_static<R: Wait>(&mut self, _rt: &R, text: &'static str) -> LassoResult<K> {
-        self.try_get_or_intern_static(text)
+        Rodeo::try_get_or_intern_static(self, text)
     }
 
     fn get_or_intern<R: Wait>(&mut self, _rt: &R, text: &str) -> LassoResult<K> {
-        self.get_or_intern(text)
+        Rodeo::get_or_intern(self, text)
     }
 
     fn get_or_intern_static<R: Wait>(&mut self, _rt: &R, text: &'static str) -> LassoResult<K> {
-        self.get_or_intern_static(text)
+        Rodeo::get_or_intern_static(self, text)
     }
 }
 
@@ -59,7 +59,7 @@ impl<K: Key, S: BuildHasher, A: Allocator + Clone> IntoReader<K> for Rodeo<K, S,
     type Reader = RodeoReader<K, S, A>;
 
     fn into_reader<R: Wait>(self, _rt: &R) -> LassoResult<RodeoReader<K, S, A>> {
-        Ok(self.into_reader())
+        Ok(Rodeo::into_reader(self))
     }
 
     fn into_reader_boxed<R: Wait>(of: Box<Self>, _rt: &R) -> LassoResult<RodeoReader<K, S, A>>
@@ -73,7 +73,7 @@ impl<K: Key, S: BuildHasher + Drop, A: Allocator> IntoResolver<K> for Rodeo<K, S
     type Resolver = RodeoResolver<K, A>;
 
     fn into_resolver<R: Wait>(self, _rt: &R) -> LassoResult<RodeoResolver<K, A>> {
-        Ok(self.into_resolver())
+        Ok(Rodeo::into_resolver(self))
     }
 
     fn into_resolver_boxed<R: Wait>(of: Box<Self>, _rt: &R) -> LassoResult<RodeoResolver<K, A>>

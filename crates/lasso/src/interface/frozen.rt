@@ -14,25 +14,25 @@ impl<K: Key, S: BuildHasher, A: Allocator> Resolver<K> for RodeoReader<K, S, A> 
     ghost meaning = { λ reader. Some reader };
 
     fn try_resolve(&self, key: K) -> Option<&str> {
-        self.try_resolve(key)
+        RodeoReader::try_resolve(self, key)
     }
 
     fn contains_key(&self, key: K) -> bool {
-        self.contains_key(key)
+        RodeoReader::contains_key(self, key)
     }
 
     fn len(&self) -> usize {
-        self.len()
+        RodeoReader::len(self)
     }
 }
 
 impl<K: Key, S: BuildHasher, A: Allocator> Reader<K> for RodeoReader<K, S, A> {
     fn get<R: Wait>(&self, _rt: &R, text: &str) -> Option<K> {
-        self.get(text)
+        RodeoReader::get(self, text)
     }
 
     fn contains<R: Wait>(&self, _rt: &R, text: &str) -> bool {
-        self.contains(text)
+        RodeoReader::contains(self, text)
     }
 }
 
@@ -40,7 +40,7 @@ impl<K: Key, S: BuildHasher + Drop, A: Allocator> IntoResolver<K> for RodeoReade
     type Resolver = RodeoResolver<K, A>;
 
     fn into_resolver<R: Wait>(self, _rt: &R) -> LassoResult<RodeoResolver<K, A>> {
-        Ok(self.into_resolver())
+        Ok(RodeoReader::into_resolver(self))
     }
 
     fn into_resolver_boxed<R: Wait>(of: Box<Self>, _rt: &R) -> LassoResult<RodeoResolver<K, A>>
@@ -54,14 +54,14 @@ impl<K: Key, A: Allocator> Resolver<K> for RodeoResolver<K, A> {
     ghost meaning = { λ resolver. Some resolver };
 
     fn try_resolve(&self, key: K) -> Option<&str> {
-        self.try_resolve(key)
+        RodeoResolver::try_resolve(self, key)
     }
 
     fn contains_key(&self, key: K) -> bool {
-        self.contains_key(key)
+        RodeoResolver::contains_key(self, key)
     }
 
     fn len(&self) -> usize {
-        self.len()
+        RodeoResolver::len(self)
     }
 }

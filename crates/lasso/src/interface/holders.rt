@@ -30,25 +30,25 @@ pub fn rodeo_interns_as_one<K: Key, S: BuildHasher, A: Allocator + Clone, R: Wai
 /// `interns_as_one` of a `Rodeo` that is lent.
 pub fn lent_rodeo_interns_as_one<'a, K: Key, S: BuildHasher, A: Allocator + Clone, R: Wait>(
     rt: &R,
-    rodeo: &mut &'a mut Rodeo<K, S, A>,
+    lent: &mut &'a mut Rodeo<K, S, A>,
     text: &str,
 ) -> LassoResult<bool>
     ensures one { IfOk result IsTrue }
-    ensures list { rodeo.new.now.texts ≡ (if is_ok result then with_last rodeo.old.now.texts text.now else rodeo.old.now.texts) }
+    ensures list { lent.new.now.texts ≡ (if is_ok result then with_last lent.old.now.texts text.now else lent.old.now.texts) }
 {
-    interns_as_one(rt, rodeo, text)
+    interns_as_one(rt, lent, text)
 }
 
 /// `interns_as_one` of a `Rodeo` in a box.
 pub fn boxed_rodeo_interns_as_one<K: Key, S: BuildHasher, A: Allocator + Clone, R: Wait>(
     rt: &R,
-    rodeo: &mut Box<Rodeo<K, S, A>>,
+    boxed: &mut Box<Rodeo<K, S, A>>,
     text: &str,
 ) -> LassoResult<bool>
     ensures one { IfOk result IsTrue }
-    ensures list { rodeo.new.value.texts ≡ (if is_ok result then with_last rodeo.old.value.texts text.now else rodeo.old.value.texts) }
+    ensures list { boxed.new.value.texts ≡ (if is_ok result then with_last boxed.old.value.texts text.now else boxed.old.value.texts) }
 {
-    interns_as_one(rt, rodeo, text)
+    interns_as_one(rt, boxed, text)
 }
 
 /// `reader_knows` of a `Rodeo`.
@@ -65,12 +65,12 @@ pub fn reader_of_rodeo_knows<K: Key, S: BuildHasher + Drop, A: Allocator + Clone
 /// `reader_knows` of a `Rodeo` in a box.
 pub fn reader_of_boxed_rodeo_knows<K: Key, S: BuildHasher + Drop, A: Allocator + Clone, R: Wait>(
     rt: &R,
-    rodeo: Box<Rodeo<K, S, A>>,
+    boxed: Box<Rodeo<K, S, A>>,
     text: &str,
 ) -> LassoResult<bool>
     ensures { IfOk result IsTrue }
 {
-    reader_knows(rt, rodeo, text)
+    reader_knows(rt, boxed, text)
 }
 
 /// `resolver_knows` of a `Rodeo`.
@@ -87,12 +87,12 @@ pub fn resolver_of_rodeo_knows<K: Key, S: BuildHasher + Drop, A: Allocator + Clo
 /// `resolver_knows` of a `Rodeo` in a box.
 pub fn resolver_of_boxed_rodeo_knows<K: Key, S: BuildHasher + Drop, A: Allocator + Clone, R: Wait>(
     rt: &R,
-    rodeo: Box<Rodeo<K, S, A>>,
+    boxed: Box<Rodeo<K, S, A>>,
     text: &str,
 ) -> LassoResult<bool>
     ensures { IfOk result IsTrue }
 {
-    resolver_knows(rt, rodeo, text)
+    resolver_knows(rt, boxed, text)
 }
 
 /// `finds_what_resolves` of a reader, as it stands, lent and in a box.

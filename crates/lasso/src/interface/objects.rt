@@ -60,35 +60,35 @@ impl<S: BuildHasher, A: Allocator> SpurResolver for Rodeo<Spur, S, A> {
     ghost texts = { λ rodeo. rodeo.texts };
 
     fn try_resolve(&self, key: Spur) -> Option<&str> {
-        self.try_resolve(key)
+        Rodeo::try_resolve(self, key)
     }
 
     fn contains_key(&self, key: Spur) -> bool {
-        self.contains_key(key)
+        Rodeo::contains_key(self, key)
     }
 
     fn len(&self) -> usize {
-        self.len()
+        Rodeo::len(self)
     }
 }
 
 impl<S: BuildHasher, A: Allocator> SpurReader for Rodeo<Spur, S, A> {
     fn get(&self, text: &str) -> Option<Spur> {
-        self.get(text)
+        Rodeo::get(self, text)
     }
 
     fn contains(&self, text: &str) -> bool {
-        self.contains(text)
+        Rodeo::contains(self, text)
     }
 }
 
 impl<S: BuildHasher, A: Allocator + Clone> SpurInterner for Rodeo<Spur, S, A> {
     fn try_get_or_intern(&mut self, text: &str) -> LassoResult<Spur> {
-        self.try_get_or_intern(text)
+        Rodeo::try_get_or_intern(self, text)
     }
 
     fn try_get_or_intern_static(&mut self, text: &'static str) -> LassoResult<Spur> {
-        self.try_get_or_intern_static(text)
+        Rodeo::try_get_or_intern_static(self, text)
     }
 }
 
@@ -96,25 +96,25 @@ impl<S: BuildHasher, A: Allocator> SpurResolver for RodeoReader<Spur, S, A> {
     ghost texts = { λ reader. reader };
 
     fn try_resolve(&self, key: Spur) -> Option<&str> {
-        self.try_resolve(key)
+        RodeoReader::try_resolve(self, key)
     }
 
     fn contains_key(&self, key: Spur) -> bool {
-        self.contains_key(key)
+        RodeoReader::contains_key(self, key)
     }
 
     fn len(&self) -> usize {
-        self.len()
+        RodeoReader::len(self)
     }
 }
 
 impl<S: BuildHasher, A: Allocator> SpurReader for RodeoReader<Spur, S, A> {
     fn get(&self, text: &str) -> Option<Spur> {
-        self.get(text)
+        RodeoReader::get(self, text)
     }
 
     fn contains(&self, text: &str) -> bool {
-        self.contains(text)
+        RodeoReader::contains(self, text)
     }
 }
 
@@ -122,14 +122,14 @@ impl<A: Allocator> SpurResolver for RodeoResolver<Spur, A> {
     ghost texts = { λ resolver. resolver };
 
     fn try_resolve(&self, key: Spur) -> Option<&str> {
-        self.try_resolve(key)
+        RodeoResolver::try_resolve(self, key)
     }
 
     fn contains_key(&self, key: Spur) -> bool {
-        self.contains_key(key)
+        RodeoResolver::contains_key(self, key)
     }
 
     fn len(&self) -> usize {
-        self.len()
+        RodeoResolver::len(self)
     }
 }

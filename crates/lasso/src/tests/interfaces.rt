@@ -1,31 +1,17 @@
 //! Each call of the interfaces at each type that has it, and rows of answers through generic code.
 use super::*;
+use crate::interface::holders::{
+    boxed_rodeo_interns_as_one, lent_rodeo_interns_as_one, reader_finds_what_resolves,
+    reader_of_boxed_rodeo_knows, reader_of_rodeo_knows, resolver_looks_up_alike,
+    resolver_of_boxed_rodeo_knows, resolver_of_rodeo_knows, rodeo_interns_as_one,
+};
 use crate::interface::laws::{finds_what_resolves, interns_as_one, looks_up_alike};
 use crate::interface::{
     Interner, IntoReader, IntoReaderAndResolver, IntoResolver, Reader, Resolver,
 };
-use crate::{
-    Capacity, FixedState, Key, LassoErrorKind, LassoResult, MemoryLimits, Rodeo, Spur, SpurRodeo,
-};
-use std::alloc::Global;
-use std::process::Abort;
+use crate::{FixedState, Spur};
 use std::sync::Wait;
 use std::test::Fail;
-
-const LIMIT: LassoErrorKind = LassoErrorKind::MemoryLimitReached;
-
-/// Whether the answer is the key of the number, or the refusal.
-fn is_answer<K: Key>(
-    rt: &impl Abort,
-    answer: LassoResult<K>,
-    wanted: Result<usize, LassoErrorKind>,
-) {
-    match (answer, wanted) {
-        (Ok(key), Ok(number)) => assert_eq!(rt; key.into_usize(), number),
-        (Err(error), Err(kind)) => assert!(rt; error.kind() == kind),
-        _ => assert!(rt; false),
-    }
-}
 
 /// `Hello, world!` by each of the four intern calls, and then all that a reader tells of it. There must be
 /// no text before.
@@ -98,14 +84,6 @@ fn static_texts_under_no_limit<K: Key, R: Abort + Wait, I: Interner<K>>(rt: &R, 
     assert_eq!(rt; interner.len(), 4);
 }
 
-/// An interner of 10 bytes with `abc`, and then a limit of 0 bytes.
-fn limited(alloc: Global) -> LassoResult<SpurRodeo> {
-    let mut rodeo: SpurRodeo = Rodeo::with_capacity(alloc, Capacity::for_bytes(10))?;
-    rodeo.try_get_or_intern("abc")?;
-    rodeo.set_memory_limits(MemoryLimits::new(0));
-    Ok(rodeo)
-}
-
 #[test]
 fn one_text_through_each_interner(rt: HostRuntime) -> Result<(), Fail> {
     let mut rodeo: SpurRodeo = Rodeo::new(rt.alloc())?;
@@ -153,12 +131,6 @@ where
     Ok(())
 }
 
-fn hello(alloc: Global) -> LassoResult<SpurRodeo> {
-    let mut rodeo: SpurRodeo = Rodeo::new(alloc)?;
-    rodeo.try_get_or_intern("Hello, world!")?;
-    Ok(rodeo)
-}
-
 #[test]
 fn plain_interners_freeze(rt: HostRuntime) -> Result<(), Fail> {
     freezes::<Spur, _, _>(&rt, hello(rt.alloc())?, hello(rt.alloc())?)?;
@@ -188,5 +160,26 @@ fn boxed_interners_freeze(rt: HostRuntime) -> Result<(), Fail> {
     has_one_text::<Spur, _, _>(&rt, &IntoReader::into_reader_boxed(twice, &rt)?);
     let twice = Box::new(alloc, Box::new(alloc, hello(alloc)?)?)?;
     resolves_one_text::<Spur, _, _>(&rt, &IntoResolver::into_resolver_boxed(twice, &rt)?);
+    Ok(())
+}
+
+#[test]
+fn laws_at_each_holder(rt: HostRuntime) -> Result<(), Fail> {
+    let alloc = rt.alloc();
+    let mut rodeo: SpurRodeo = Rodeo::new(alloc)?;
+    assert!(rt; rodeo_interns_as_one(&rt, &mut rodeo, "a")?);
+    assert!(rt; lent_rodeo_interns_as_one(&rt, &mut &mut rodeo, "b")?);
+    let mut boxed = Box::new(alloc, rodeo)?;
+    assert!(rt; boxed_rodeo_interns_as_one(&rt, &mut boxed, "c")?);
+    assert_eq!(rt; boxed.len(), 3);
+    assert!(rt; reader_of_boxed_rodeo_knows(&rt, boxed, "d")?);
+    assert!(rt; reader_of_rodeo_knows(&rt, hello(alloc)?, "a")?);
+    assert!(rt; resolver_of_rodeo_knows(&rt, hello(alloc)?, "a")?);
+    assert!(rt; resolver_of_boxed_rodeo_knows(&rt, Box::new(alloc, hello(alloc)?)?, "a")?);
+    let reader = hello(alloc)?.into_reader();
+    assert!(rt; reader_finds_what_resolves(&rt, &reader, "Hello, world!"));
+    assert!(rt; reader_finds_what_resolves(&rt, &reader, "Goodbye!"));
+    let resolver = reader.into_resolver();
+    assert!(rt; resolver_looks_up_alike(&resolver, Spur::default()));
     Ok(())
 }

@@ -1,18 +1,9 @@
 //! Boxes of interners and of frozen forms, whose type is not known where they are used.
+use super::*;
+use crate::Spur;
 use crate::interface::object_laws::{boxed_object_interns_as_one, object_interns_as_one};
 use crate::interface::objects::{SpurInterner, SpurReader, SpurResolver};
-use crate::{Capacity, Key, LassoErrorKind, LassoResult, MemoryLimits, Rodeo, Spur, SpurRodeo};
-use std::alloc::Global;
-use std::process::Abort;
 use std::test::Fail;
-
-fn is_answer(rt: &impl Abort, answer: LassoResult<Spur>, wanted: Result<usize, LassoErrorKind>) {
-    match (answer, wanted) {
-        (Ok(key), Ok(number)) => assert_eq!(rt; key.into_usize(), number),
-        (Err(error), Err(kind)) => assert!(rt; error.kind() == kind),
-        _ => assert!(rt; false),
-    }
-}
 
 #[test]
 fn one_text_through_a_boxed_interner(rt: HostRuntime) -> Result<(), Fail> {
@@ -43,23 +34,13 @@ fn one_text_through_a_boxed_interner(rt: HostRuntime) -> Result<(), Fail> {
 
 #[test]
 fn static_texts_through_a_boxed_interner(rt: HostRuntime) -> Result<(), Fail> {
-    const LIMIT: LassoErrorKind = LassoErrorKind::MemoryLimitReached;
-    let mut rodeo: SpurRodeo = Rodeo::with_capacity(rt.alloc(), Capacity::for_bytes(10))?;
-    rodeo.try_get_or_intern("abc")?;
-    rodeo.set_memory_limits(MemoryLimits::new(0));
-    let mut interner: Box<dyn SpurInterner + Drop> = Box::new(rt.alloc(), rodeo)?;
+    let mut interner: Box<dyn SpurInterner + Drop> = Box::new(rt.alloc(), limited(rt.alloc())?)?;
     is_answer(&rt, interner.try_get_or_intern("defg"), Ok(1));
     is_answer(&rt, interner.try_get_or_intern("0123456789"), Err(LIMIT));
     is_answer(&rt, interner.try_get_or_intern("abc"), Ok(0));
     is_answer(&rt, interner.try_get_or_intern_static("0123456789"), Ok(2));
     assert_eq!(rt; interner.len(), 3);
     Ok(())
-}
-
-fn hello(alloc: Global) -> LassoResult<SpurRodeo> {
-    let mut rodeo: SpurRodeo = Rodeo::new(alloc)?;
-    rodeo.try_get_or_intern("Hello, world!")?;
-    Ok(rodeo)
 }
 
 #[test]
