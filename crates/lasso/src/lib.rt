@@ -26,11 +26,11 @@ pub use lasso_single::resolver::RodeoResolver;
 pub use lasso_single::rodeo::Rodeo;
 use std::alloc::Global;
 
-/// A `Rodeo` with `Spur` keys, the fixed hasher and the global allocator.
+/// A `Rodeo` with `Spur` keys, the hasher of fixed seed and the global allocator.
 pub type SpurRodeo = Rodeo<Spur, FixedState, Global>;
 
-/// What a `SpurRodeo` freezes to where keys of texts are still found.
+/// A `RodeoReader` with `Spur` keys, the hasher of fixed seed and the global allocator.
 pub type SpurRodeoReader = RodeoReader<Spur, FixedState, Global>;
 
-/// What a `SpurRodeo` freezes to where texts of keys alone are asked for.
+/// A `RodeoResolver` with `Spur` keys and the global allocator.
 pub type SpurRodeoResolver = RodeoResolver<Spur, Global>;

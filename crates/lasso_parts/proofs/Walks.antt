@@ -1,40 +1,37 @@
 -- What a walk has left after steps from its ends.
 --
 -- Numbering goes through the list from its front, and adds one at each text. So the text at position k has the
--- first number and k; a part of the list is numbered from the number of its own first text.
+-- first number and k; a part of the list is numbered from the number of its
+-- own first text.
 use Rattle.std.proofs.Common.{◌≡◌, ℕ, zero, suc, ◌+◌, ◌-◌, List, [], ◌∷◌, ◌++◌, length, map, take, drop, get_or, Some, None, ◌<◌, ◌≤◌, refl, sym, ap, ◌∙◌, arith}
 use Rattle.std.specs.Prelude.{slice_get, option_map}
 use Rattle.std.proofs.lemmas.Grind.{common_steps}
-use Rattle.std.specs.List.{drop-map, take-map}
+use Rattle.std.specs.List.{enumerate_from, take-map}
 use Rattle.std.proofs.lemmas.List.{length-map, length-drop, drop_all}
+use Rattle.std.proofs.lemmas.List.FromFn.{length-enumerate_from}
 use Rattle.std.proofs.lemmas.Option.{slice_get-map, slice_get-get_or, slice_get_within, slice_get_past, slice_get_cases}
 use Rattle.lasso_parts.specs.Texts.{Text}
-use Rattle.lasso_parts.specs.Walk.{numbered}
-
-pub length-numbered : (n : ℕ) (ts : List Text) → length (numbered n ts) ≡ length ts
-length-numbered n [] = refl
-length-numbered n (t ∷ ts) = grind (arith, length-numbered (n + 1) ts)
 
 -- a text at the end has the number after the last
-pub numbered-push : (n : ℕ) (ts : List Text) (t : Text) → numbered n (ts ++ t ∷ []) ≡ numbered n ts ++ (n + length ts, t) ∷ []
-numbered-push n [] t = grind arith
-numbered-push n (u ∷ ts) t = grind (arith, numbered-push (n + 1) ts t)
+pub enumerate_from-push : (n : ℕ) (ts : List Text) (t : Text) → enumerate_from n (ts ++ t ∷ []) ≡ enumerate_from n ts ++ (n + length ts, t) ∷ []
+enumerate_from-push n [] t = grind arith
+enumerate_from-push n (u ∷ ts) t = grind (arith, enumerate_from-push (n + 1) ts t)
 
-pub take-numbered : (k n : ℕ) (ts : List Text) → take k (numbered n ts) ≡ numbered n (take k ts)
-take-numbered zero n ts = refl
-take-numbered (suc k) n [] = refl
-take-numbered (suc k) n (t ∷ ts) = grind (arith, take-numbered k (n + 1) ts)
+pub take-enumerate_from : (k n : ℕ) (ts : List Text) → take k (enumerate_from n ts) ≡ enumerate_from n (take k ts)
+take-enumerate_from zero n ts = refl
+take-enumerate_from (suc k) n [] = refl
+take-enumerate_from (suc k) n (t ∷ ts) = grind (arith, take-enumerate_from k (n + 1) ts)
 
-pub drop-numbered : (k n : ℕ) (ts : List Text) → drop k (numbered n ts) ≡ numbered (n + k) (drop k ts)
-drop-numbered zero n ts = grind arith
-drop-numbered (suc k) n [] = refl
-drop-numbered (suc k) n (t ∷ ts) = grind (arith, drop-numbered k (n + 1) ts)
+pub drop-enumerate_from : (k n : ℕ) (ts : List Text) → drop k (enumerate_from n ts) ≡ enumerate_from (n + k) (drop k ts)
+drop-enumerate_from zero n ts = grind arith
+drop-enumerate_from (suc k) n [] = refl
+drop-enumerate_from (suc k) n (t ∷ ts) = grind (arith, drop-enumerate_from k (n + 1) ts)
 
 -- the item at position k
-pub slice_get-numbered : (k n : ℕ) (ts : List Text) → slice_get (numbered n ts) k ≡ option_map (λ t. (n + k, t)) (slice_get ts k)
-slice_get-numbered k n [] = refl
-slice_get-numbered zero n (t ∷ ts) = grind arith
-slice_get-numbered (suc k) n (t ∷ ts) = grind (arith, slice_get-numbered k (n + 1) ts)
+pub slice_get-enumerate_from : (k n : ℕ) (ts : List Text) → slice_get (enumerate_from n ts) k ≡ option_map (λ t. (n + k, t)) (slice_get ts k)
+slice_get-enumerate_from k n [] = refl
+slice_get-enumerate_from zero n (t ∷ ts) = grind arith
+slice_get-enumerate_from (suc k) n (t ∷ ts) = grind (arith, slice_get-enumerate_from k (n + 1) ts)
 
 past_end : (n : ℕ) (ts : List Text) → None ≡ slice_get ts n → length ts ≤ n + 1
 past_end n ts none = grind (arith, common_steps, slice_get_cases ts n)
@@ -47,18 +44,14 @@ left_behind n ts rest t some is =
     omega arith
 
 -- a walk that was asked to pass over more than it has
-pub past_numbered : (n first : ℕ) (ts rest : List Text) (items : List (ℕ × Text)) → numbered first ts ≡ items → None ≡ slice_get ts n → rest ≡ drop (n + 1) ts → numbered first rest ≡ drop (n + 1) items
-past_numbered n first ts rest items e none is =
+pub past_all : (n first : ℕ) (ts rest : List Text) (items : List (ℕ × Text)) → enumerate_from first ts ≡ items → None ≡ slice_get ts n → rest ≡ drop (n + 1) ts → enumerate_from first rest ≡ drop (n + 1) items
+past_all n first ts rest items e none is =
     let empty : drop (n + 1) ts ≡ [] = drop_all (n + 1) ts (past_end n ts none) in
-    ap (numbered first) (is ∙ empty) ∙ sym (ap (numbered (first + (n + 1))) empty) ∙ sym (drop-numbered (n + 1) first ts) ∙ ap (drop (n + 1)) e
+    ap (enumerate_from first) (is ∙ empty) ∙ sym (ap (enumerate_from (first + (n + 1))) empty) ∙ sym (drop-enumerate_from (n + 1) first ts) ∙ ap (drop (n + 1)) e
 
 -- ---- texts of entries
 
 module _ {X : Type 0} (text_of : X → Text) where
-  -- a part of the list without its front
-  pub dropped_texts : (xs : List X) (ts : List Text) (k : ℕ) → map text_of xs ≡ ts → map text_of (drop k xs) ≡ drop k ts
-  dropped_texts xs ts k e = sym (drop-map text_of k xs) ∙ ap (drop k) e
-
   -- a front of the list
   pub taken_texts : (xs : List X) (ts : List Text) (k : ℕ) → map text_of xs ≡ ts → map text_of (take k xs) ≡ take k ts
   taken_texts xs ts k e = sym (take-map text_of k xs) ∙ ap (take k) e
@@ -76,4 +69,4 @@ module _ {X : Type 0} (text_of : X → Text) where
   pub from_back : (xs : List X) (ts : List Text) (n : ℕ) → map text_of xs ≡ ts → length xs - 1 - n ≡ length ts - (n + 1)
   from_back xs ts n e = omega (arith, sym (ap length e) ∙ length-map xs text_of)
 
-pub ruleset walk_steps = (length-numbered, numbered-push, take-numbered, drop-numbered, slice_get-numbered, common_steps)
+pub ruleset walk_steps = (length-enumerate_from, enumerate_from-push, take-enumerate_from, drop-enumerate_from, slice_get-enumerate_from, common_steps)

@@ -14,5 +14,4 @@ pub mod Arena
 pub mod Places
 pub mod Waste
 pub mod Slots
-pub mod Walk
 pub mod Cells

@@ -3,9 +3,9 @@
 ghost use Rattle.std.specs.Prelude.{◌≡◌, ◌+◌, ◌-◌, ◌<◌, ◌≤◌, length, take, drop, None, Some, IsSome, IfSome, option_map, slice_get};
 ghost use Rattle.std.specs.Iterator.{YieldsFirstBy, YieldsLastBy, item_count, at_most, UpTo};
 ghost use Rattle.std.specs.Iterator.SizeHint.{IsWithinCount};
+ghost use Rattle.std.specs.List.{enumerate_from};
 ghost use Rattle.lasso_parts.specs.Slots.{AllThere, texts_of};
 ghost use Rattle.lasso_parts.specs.Texts.{Fits};
-ghost use Rattle.lasso_parts.specs.Walk.{numbered};
 
 use crate::bucket::region::Region;
 use crate::keys::Key;
@@ -34,7 +34,6 @@ impl<'a, K: Key> Model for Strings<'a, K> {
     ghost invariant = { λ s. AllThere s.regions.now s.slots.now };
 }
 
-#[tactic(auto, using(crate::proofs::Walks::walk_steps))]
 impl<'a, K: Key> Strings<'a, K> {
     /// A walk over the texts of all the entries. Each must be there among the regions.
     pub fn new(slots: &'a [Slot], regions: &'a [Region]) -> Self
@@ -85,7 +84,6 @@ impl<'a, K: Key> Strings<'a, K> {
     }
 }
 
-#[tactic(auto, using(crate::proofs::Walks::walk_steps))]
 impl<'a, K: Key> Iterator for Strings<'a, K> {
     type Item = &'a str;
 
@@ -112,7 +110,6 @@ impl<'a, K: Key> Iterator for Strings<'a, K> {
     }
 }
 
-#[tactic(auto, using(crate::proofs::Walks::walk_steps))]
 impl<'a, K: Key> DoubleEndedIterator for Strings<'a, K> {
     ghost next_back_gives = { YieldsLastBy (λ t. t.now) (λ texts. texts) };
 
@@ -127,7 +124,6 @@ impl<'a, K: Key> DoubleEndedIterator for Strings<'a, K> {
     }
 }
 
-#[tactic(auto, using(crate::proofs::Walks::walk_steps))]
 impl<'a, K: Key> ExactSizeIterator for Strings<'a, K> {
     fn len(&self) -> usize {
         self.slots.len()
@@ -160,12 +156,12 @@ pub struct Iter<'a, K: Key> {
 
 impl<'a, K: Key> Model for Iter<'a, K> {
     ghost use Rattle.std.specs.Prelude.{ℕ, ◌+◌, ◌<◌, ◌^◌, List, length};
+    ghost use Rattle.std.specs.List.{enumerate_from};
     ghost use Rattle.lasso_parts.specs.Texts.{Text, Fits};
-    ghost use Rattle.lasso_parts.specs.Walk.{numbered};
 
     ghost Value = { List (ℕ × Text) };
 
-    ghost view = { λ s. numbered s.first s.strings };
+    ghost view = { λ s. enumerate_from s.first s.strings };
 
     ghost invariant = { λ s. (s.first + length s.strings < 2 ^ 64) × Fits K.key_at (s.first + length s.strings) };
 }
@@ -177,7 +173,7 @@ impl<'a, K: Key> Iter<'a, K> {
     pub fn new(slots: &'a [Slot], regions: &'a [Region]) -> Self
         requires there { AllThere regions.now slots.now }
         requires fits { Fits K.key_at (length slots.now) }
-        ensures { result ≡ numbered 0 (texts_of regions.now slots.now) }
+        ensures { result ≡ enumerate_from 0 (texts_of regions.now slots.now) }
     {
         Iter {
             strings: Strings::new(slots, regions),

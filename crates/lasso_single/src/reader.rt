@@ -1,8 +1,8 @@
 //! `RodeoReader`, a frozen interner that still finds the keys of texts.
 ghost use Rattle.std.specs.Prelude.{◌≡◌, ◌==◌, ◌<◌, length, Some, is_some, IsTrue, ◌↔◌, slice_get, option_map};
 ghost use Rattle.lasso_parts.specs.Texts.{position_of, key_of, IsDistinct, Fits};
-ghost use Rattle.lasso_parts.specs.Walk.{numbered};
 ghost use Rattle.std.specs.Cmp.{partial_equiv_from_equiv};
+ghost use Rattle.std.specs.List.{enumerate_from};
 ghost use Rattle.lasso_single.specs.Equality.{texts_eq, texts_equivalence};
 
 #[cfg(test)]
@@ -118,7 +118,7 @@ impl<K: Key, S: BuildHasher, A: Allocator> RodeoReader<K, S, A> {
 
     /// A walk over the texts and their keys, in the order of the keys.
     pub fn iter(&self) -> Iter<'_, K>
-        ensures { result ≡ numbered 0 self.now }
+        ensures { result ≡ enumerate_from 0 self.now }
     {
         self.rodeo.iter()
     }
@@ -145,14 +145,14 @@ impl<K: Key, S: BuildHasher, A: Allocator> RodeoReader<K, S, A> {
     pub fn eq_rodeo<T: BuildHasher, B: Allocator>(&self, other: &Rodeo<K, T, B>) -> bool
         ensures { IsTrue result ↔ (self.now ≡ other.now.texts) }
     {
-        self.rodeo.list().has_texts_of(other.list())
+        other.eq_reader(self)
     }
 
     /// Whether the resolver has the same texts under the same keys.
     pub fn eq_resolver<B: Allocator>(&self, other: &RodeoResolver<K, B>) -> bool
         ensures { IsTrue result ↔ (self.now ≡ other.now) }
     {
-        self.rodeo.list().has_texts_of(other.list())
+        self.rodeo.eq_resolver(other)
     }
 }
 
@@ -165,7 +165,7 @@ impl<K: Key, S: BuildHasher, A: Allocator> PartialEq for RodeoReader<K, S, A> {
         ensures value { result ≡ texts_eq self.now other.now }
         ensures same { IsTrue result ↔ (self.now ≡ other.now) }
     {
-        self.rodeo.list().has_texts_of(other.rodeo.list())
+        self.rodeo == other.rodeo
     }
 }
 
@@ -178,7 +178,7 @@ impl<'a, K: Key, S: BuildHasher, A: Allocator> IntoIterator for &'a RodeoReader<
 
     type IntoIter = Iter<'a, K>;
 
-    ghost into_iter_gives = { λ reader walk. walk ≡ numbered 0 reader.now };
+    ghost into_iter_gives = { λ reader walk. walk ≡ enumerate_from 0 reader.now };
 
     fn into_iter(self) -> Iter<'a, K> {
         self.iter()

@@ -1,8 +1,8 @@
 //! `RodeoResolver`, a frozen interner that gives the texts of keys alone.
 ghost use Rattle.std.specs.Prelude.{◌≡◌, ◌==◌, ◌<◌, length, Some, IsTrue, ◌↔◌, slice_get, option_map};
 ghost use Rattle.lasso_parts.specs.Texts.{Fits};
-ghost use Rattle.lasso_parts.specs.Walk.{numbered};
 ghost use Rattle.std.specs.Cmp.{partial_equiv_from_equiv};
+ghost use Rattle.std.specs.List.{enumerate_from};
 ghost use Rattle.lasso_single.specs.Equality.{texts_eq, texts_equivalence};
 
 #[cfg(test)]
@@ -106,12 +106,12 @@ impl<K: Key, A: Allocator> RodeoResolver<K, A> {
     pub fn is_empty(&self) -> bool
         ensures { result ≡ (length self.now == 0) }
     {
-        self.list.len() == 0
+        self.len() == 0
     }
 
     /// A walk over the texts and their keys, in the order of the keys.
     pub fn iter(&self) -> Iter<'_, K>
-        ensures { result ≡ numbered 0 self.now }
+        ensures { result ≡ enumerate_from 0 self.now }
     {
         self.list.iter()
     }
@@ -127,14 +127,14 @@ impl<K: Key, A: Allocator> RodeoResolver<K, A> {
     pub fn eq_rodeo<S: BuildHasher, B: Allocator>(&self, other: &Rodeo<K, S, B>) -> bool
         ensures { IsTrue result ↔ (self.now ≡ other.now.texts) }
     {
-        self.list.has_texts_of(other.list())
+        other.eq_resolver(self)
     }
 
     /// Whether the reader has the same texts under the same keys.
     pub fn eq_reader<S: BuildHasher, B: Allocator>(&self, other: &RodeoReader<K, S, B>) -> bool
         ensures { IsTrue result ↔ (self.now ≡ other.now) }
     {
-        self.list.has_texts_of(other.rodeo().list())
+        other.rodeo().eq_resolver(self)
     }
 }
 
@@ -160,7 +160,7 @@ impl<'a, K: Key, A: Allocator> IntoIterator for &'a RodeoResolver<K, A> {
 
     type IntoIter = Iter<'a, K>;
 
-    ghost into_iter_gives = { λ resolver walk. walk ≡ numbered 0 resolver.now };
+    ghost into_iter_gives = { λ resolver walk. walk ≡ enumerate_from 0 resolver.now };
 
     fn into_iter(self) -> Iter<'a, K> {
         self.iter()

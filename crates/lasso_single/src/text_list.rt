@@ -1,8 +1,8 @@
 //! `TextList`: the texts of an interner in order, over the memory that holds them.
 ghost use Rattle.std.specs.Prelude.{◌≡◌, ◌+◌, ◌*◌, ◌^◌, ◌<◌, ◌≤◌, ◌++◌, [], ◌∷◌, true, false, length, IsTrue, ◌↔◌, IsSome, Some, IfOk, IfErr, OnOk, OnErr, slice_get, option_map, SomeIff};
+ghost use Rattle.std.specs.List.{enumerate_from};
 ghost use Rattle.lasso_parts.specs.Account.{fresh, store, clear, with_limit};
 ghost use Rattle.lasso_parts.specs.Texts.{Fits};
-ghost use Rattle.lasso_parts.specs.Walk.{numbered};
 ghost use Rattle.lasso_single.specs.Copies.{bytes_of};
 ghost use Rattle.lasso_single.specs.Equality.{texts_eq};
 ghost use Rattle.lasso_single.specs.Interner.{IsMadeWith, KeepsOrigin};
@@ -152,7 +152,7 @@ impl<A: Allocator> TextList<A> {
     /// A walk over the texts and their keys. Each position must have a key.
     pub(crate) fn iter<K: Key>(&self) -> Iter<'_, K>
         requires { Fits K.key_at (length self.now.texts) }
-        ensures { result ≡ numbered 0 self.now.texts }
+        ensures { result ≡ enumerate_from 0 self.now.texts }
     {
         Iter::new(self.slots.as_slice(), self.arena.regions())
     }

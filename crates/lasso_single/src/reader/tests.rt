@@ -1,4 +1,5 @@
 //! Readers alone, in two threads, under one hash, and with keys that ran out.
+ghost use Rattle.std.specs.Prelude.{All, ◌≤◌, length};
 
 use super::*;
 use crate::fixtures::{Gap, SameState};
@@ -17,11 +18,23 @@ fn places(reader: &SpurReader) -> (Option<usize>, Option<usize>) {
     )
 }
 
+fn is_shared<T: Send + Sync>(_value: &T) {}
+
+// Whatever the keys, the hasher and the allocator are, a reader and its walks cross threads where these do.
+fn crosses<K: Key + Send + Sync, S: BuildHasher + Send + Sync, A: Allocator + Send + Sync>(
+    reader: &RodeoReader<K, S, A>,
+) {
+    is_shared(reader);
+    is_shared(&reader.iter());
+    is_shared(&reader.strings());
+}
+
 #[test]
 fn two_threads_share_a_reader(rt: HostRuntime) -> Result<(), Fail> {
     let mut rodeo = Rodeo::default(rt.alloc())?;
     rodeo.try_get_or_intern("A")?;
     let reader = rodeo.into_reader();
+    crosses(&reader);
     let (here, there) = thread::join(&rt, || places(&reader), || places(&reader));
     assert_eq!(rt; here, (Some(0), None));
     assert_eq!(rt; there, (Some(0), None));
@@ -48,19 +61,35 @@ fn a_reader_shows_the_list_that_was_frozen(rt: HostRuntime) -> Result<(), Fail> 
     let third = Spur::try_from_usize(2).ok_or("no key")?;
     assert!(rt; !reader.contains_key(third));
     assert_eq!(rt; reader.try_resolve(third), None);
-    let mut number = 0;
     for (key, text) in &reader {
-        assert_eq!(rt; key.into_usize(), number);
         assert_eq!(rt; reader.try_resolve(key), Some(text));
-        number += 1;
     }
-    assert_eq!(rt; number, 2);
+    assert_eq!(rt; reader.iter().nth(1), Some((second, "B")));
     assert_eq!(rt; reader.strings().next_back(), Some("B"));
     let twin = other.into_reader();
     assert!(rt; reader == twin);
     let resolver = twin.into_resolver();
     assert!(rt; reader.eq_resolver(&resolver));
     assert!(rt; resolver.eq_reader(&reader));
+    Ok(())
+}
+
+// How many bytes the longest text has: what a walk's caller can prove of a loop over it.
+fn longest<K: Key, S: BuildHasher, A: Allocator>(reader: &RodeoReader<K, S, A>) -> usize
+    ensures { All (λ t. length t ≤ result) reader.now }
+{
+    let mut most = 0;
+    for (_key, text) in reader {
+        most = most.max(text.len());
+    }
+    most
+}
+
+#[test]
+fn a_loop_sees_each_text(rt: HostRuntime) -> Result<(), Fail> {
+    let mut rodeo = Rodeo::default(rt.alloc())?;
+    rodeo.extend(["ab", "cdef", "g"])?;
+    assert_eq!(rt; longest(&rodeo.into_reader()), 4);
     Ok(())
 }
 
@@ -114,10 +143,9 @@ fn keys_with_a_gap_freeze_to_two_texts(rt: HostRuntime) -> Result<(), Fail> {
     assert!(rt; refusal.kind() == LassoErrorKind::KeySpaceExhaustion);
     let reader = rodeo.into_reader();
     assert_eq!(rt; reader.len(), 2);
-    let mut walk = reader.iter();
-    let (key, text) = walk.next_back().ok_or("no text")?;
-    assert_eq!(rt; key.into_usize(), 1);
-    assert_eq!(rt; text, "q");
+    let second = Gap::try_from_usize(1).ok_or("no key")?;
+    assert_eq!(rt; reader.try_resolve(second), Some("q"));
+    assert!(rt; reader.get("r").is_none());
     assert_eq!(rt; reader.into_resolver().len(), 2);
     Ok(())
 }

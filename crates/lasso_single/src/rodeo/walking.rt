@@ -1,13 +1,12 @@
 //! Walks over a `Rodeo`, and comparisons of it with another interner or a frozen form.
 ghost use Rattle.std.specs.Prelude.{◌≡◌, ◌↔◌, IsTrue};
-ghost use Rattle.lasso_parts.specs.Walk.{numbered};
 ghost use Rattle.std.specs.Cmp.{partial_equiv_from_equiv, on_per, on_equiv};
+ghost use Rattle.std.specs.List.{enumerate_from};
 ghost use Rattle.lasso_single.specs.Equality.{texts_eq, texts_equivalence};
 
 use super::Rodeo;
 use crate::reader::RodeoReader;
 use crate::resolver::RodeoResolver;
-use crate::text_list::TextList;
 use lasso_parts::iter::{Iter, Strings};
 use lasso_parts::keys::Key;
 use std::alloc::Allocator;
@@ -16,7 +15,7 @@ use std::hash::BuildHasher;
 impl<K: Key, S: BuildHasher, A: Allocator> Rodeo<K, S, A> {
     /// A walk over the texts and their keys, in the order of the keys.
     pub fn iter(&self) -> Iter<'_, K>
-        ensures { result ≡ numbered 0 self.now.texts }
+        ensures { result ≡ enumerate_from 0 self.now.texts }
     {
         self.list.iter()
     }
@@ -40,13 +39,6 @@ impl<K: Key, S: BuildHasher, A: Allocator> Rodeo<K, S, A> {
         ensures { IsTrue result ↔ (self.now.texts ≡ other.now) }
     {
         self.list.has_texts_of(other.list())
-    }
-
-    /// The list of texts.
-    pub(crate) fn list(&self) -> &TextList<A>
-        ensures { result.now ≡ self.now }
-    {
-        &self.list
     }
 }
 
@@ -72,7 +64,7 @@ impl<'a, K: Key, S: BuildHasher, A: Allocator> IntoIterator for &'a Rodeo<K, S, 
 
     type IntoIter = Iter<'a, K>;
 
-    ghost into_iter_gives = { λ rodeo walk. walk ≡ numbered 0 rodeo.now.texts };
+    ghost into_iter_gives = { λ rodeo walk. walk ≡ enumerate_from 0 rodeo.now.texts };
 
     fn into_iter(self) -> Iter<'a, K> {
         self.iter()

@@ -1,9 +1,9 @@
 use Rattle.std.proofs.Common.{◌≡◌, ◌+◌, length, arith}
-use Rattle.lasso_parts.proofs.Walks.{past_numbered, left_behind}
+use Rattle.lasso_parts.proofs.Walks.{past_all, left_behind}
 use Rattle.lasso_parts.proofs.iter.Iter.nth.Goals as goal
 
 pub returns-in_err-text-clause-rest : goal.returns-in_err-text-clause-rest
-returns-in_err-text-clause-rest g c = past_numbered c.args.n c.self.inside.first c.self.inside.strings c.nth.new.self c.args.self.now c.self.view_is c.in_err-text.ensures.text c.in_err-text.ensures.rest
+returns-in_err-text-clause-rest g c = past_all c.args.n c.self.inside.first c.self.inside.strings c.nth.new.self c.args.self.now c.self.view_is c.in_err-text.ensures.text c.in_err-text.ensures.rest
 
 pub overflow_add-number : goal.overflow_add-number
 overflow_add-number g c = omega (arith, left_behind c.args.n c.self.inside.strings c.nth.new.self c.in_ok-text.text.now c.in_ok-text.ensures.text c.in_ok-text.ensures.rest)
