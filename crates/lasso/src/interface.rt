@@ -18,10 +18,11 @@ mod lent;
 mod lent_mut;
 pub mod meanings;
 pub mod object_laws;
-pub mod objects;
+mod objects;
 
 use lasso_parts::keys::Key;
 use lasso_parts::util::LassoResult;
+pub use objects::{SpurInterner, SpurReader, SpurResolver};
 use std::sync::Wait;
 
 /// What gives the texts of keys.

@@ -7,6 +7,10 @@ pub mod interface;
 #[cfg(test)]
 mod tests;
 
+pub use interface::{
+    Interner, IntoReader, IntoReaderAndResolver, IntoResolver, Reader, Resolver, SpurInterner,
+    SpurReader, SpurResolver,
+};
 pub use lasso_parts::arena::{Arena, Span};
 pub use lasso_parts::bucket::Bucket;
 pub use lasso_parts::bucket::region::Region;

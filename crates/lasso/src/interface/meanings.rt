@@ -2,8 +2,7 @@
 //! These functions do nothing; what they say stands in their contracts.
 ghost use Rattle.std.specs.Prelude.{◌≡◌, Some};
 
-use super::Resolver;
-use super::objects::SpurResolver;
+use super::{Resolver, SpurResolver};
 use lasso_parts::keys::{Key, Spur};
 use lasso_single::reader::RodeoReader;
 use lasso_single::resolver::RodeoResolver;
@@ -29,6 +28,11 @@ pub fn resolver_means_its_texts<K: Key, A: Allocator>(_resolver: &RodeoResolver<
 /// The meaning of a shared reference is that of what it lends.
 pub fn lent_means_the_same<'a, K: Key, T: Resolver<K>>(_lent: &&'a T)
     ensures { ⟦<&'a T as Resolver<K>>⟧.meaning _lent.now ≡ T.meaning _lent.now.now }
+{}
+
+/// The meaning of a reference to change something by is that of what it lends.
+pub fn lent_mut_means_the_same<'a, K: Key, T: Resolver<K>>(_lent: &&'a mut T)
+    ensures { ⟦<&'a mut T as Resolver<K>>⟧.meaning _lent.now ≡ T.meaning _lent.now.now }
 {}
 
 /// The meaning of a box is that of what it holds.

@@ -4,8 +4,8 @@ ghost use Rattle.lasso_parts.specs.Texts.{position_of};
 ghost use Rattle.lasso_parts.specs.declared.util.LassoErrorKind.TheVariants.{KeySpaceExhaustion};
 ghost use Rattle.lasso.specs.Interning.{with_last};
 
+use super::SpurInterner;
 use super::laws::{is_key, is_text};
-use super::objects::SpurInterner;
 use lasso_parts::keys::{Key, Spur};
 use lasso_parts::util::LassoResult;
 

@@ -164,6 +164,21 @@ fn boxed_interners_freeze(rt: HostRuntime) -> Result<(), Fail> {
 }
 
 #[test]
+fn a_boxed_interner_of_one_text(rt: HostRuntime) -> Result<(), Fail> {
+    let alloc = rt.alloc();
+    let first = Spur::default();
+    let mut rodeo: SpurRodeo = Rodeo::new(alloc)?;
+    rodeo.try_get_or_intern("A")?;
+    let reader = IntoReader::into_reader_boxed(Box::new(alloc, rodeo)?, &rt)?;
+    assert_eq!(rt; reader.try_resolve(first), Some("A"));
+    let mut other: SpurRodeo = Rodeo::new(alloc)?;
+    other.try_get_or_intern("A")?;
+    let resolver = IntoResolver::into_resolver_boxed(Box::new(alloc, other)?, &rt)?;
+    assert_eq!(rt; resolver.try_resolve(first), Some("A"));
+    Ok(())
+}
+
+#[test]
 fn laws_at_each_holder(rt: HostRuntime) -> Result<(), Fail> {
     let alloc = rt.alloc();
     let mut rodeo: SpurRodeo = Rodeo::new(alloc)?;

@@ -2,7 +2,7 @@
 use super::*;
 use crate::Spur;
 use crate::interface::object_laws::{boxed_object_interns_as_one, object_interns_as_one};
-use crate::interface::objects::{SpurInterner, SpurReader, SpurResolver};
+use crate::interface::{SpurInterner, SpurReader, SpurResolver};
 use std::test::Fail;
 
 #[test]
