@@ -1,10 +1,16 @@
 //! lasso, a proved string interner: it stores each distinct text once and hands out a small key. This
-//! crate names the public items of the crates below it again.
+//! crate names the public items of the crates below it again, and adds the interfaces that code over any
+//! interner takes.
 #![tactic(auto)]
 
+pub mod interface;
 #[cfg(test)]
 mod tests;
 
+pub use interface::{
+    Interner, IntoReader, IntoReaderAndResolver, IntoResolver, Reader, Resolver, SpurInterner,
+    SpurReader, SpurResolver,
+};
 pub use lasso_parts::arena::{Arena, Span};
 pub use lasso_parts::bucket::Bucket;
 pub use lasso_parts::bucket::region::Region;
@@ -26,7 +32,6 @@ pub use lasso_single::commands::{Command, Reply, run_commands};
 pub use lasso_single::reader::RodeoReader;
 pub use lasso_single::resolver::RodeoResolver;
 pub use lasso_single::rodeo::Rodeo;
-
 use std::alloc::Global;
 
 /// A `Rodeo` with `Spur` keys, the hasher of fixed seed and the global allocator.
