@@ -124,7 +124,7 @@ fn zero_words<A: Allocator>(alloc: A, count: usize) -> Result<Vec<u64, A>, Alloc
     Ok(words)
 }
 
-// Makes the keys where there are none, each a copy of the one given.
+// Sees to it that the keys are made.
 #[inline]
 fn make_keys<K: Key, A: Allocator>(keys: &mut Vec<K, A>, count: usize, key: K)
     requires made { (keys.old.items ≡ []) ⊎ (length keys.old.items ≡ count) }
@@ -138,7 +138,7 @@ fn make_keys<K: Key, A: Allocator>(keys: &mut Vec<K, A>, count: usize, key: K)
     }
 }
 
-// As many copies of the key as there is room for.
+// Makes so many keys where there are none, each a copy of the one given.
 #[cold]
 fn fill<K: Key, A: Allocator>(keys: &mut Vec<K, A>, count: usize, key: K)
     requires none { keys.old.items ≡ [] }
