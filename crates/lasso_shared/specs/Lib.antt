@@ -2,3 +2,5 @@ pub mod Buckets
 pub mod History
 pub mod Replies
 pub mod Calls
+pub mod Rows
+pub mod Locks

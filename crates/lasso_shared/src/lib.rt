@@ -1,2 +1,5 @@
 //! The interner that threads share: its history, and the log that they append to.
 #![tactic(auto)]
+
+pub mod locks;
+pub mod rows;
