@@ -4,3 +4,7 @@ pub mod Replies
 pub mod Calls
 pub mod Rows
 pub mod Locks
+pub mod Notes
+pub mod Book
+pub mod Events
+pub mod Sights

@@ -1,0 +1,11 @@
+//! The history that the passes of a shared interner see: a log that only grows, with the words of the
+//! interner and the list of its texts under one rule.
+pub mod look;
+pub mod note;
+pub mod pass;
+pub mod rule;
+pub mod ticket;
+pub mod words;
+
+pub use pass::Pass;
+pub use words::Log;
