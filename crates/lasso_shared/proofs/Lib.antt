@@ -6,3 +6,5 @@ pub mod Words
 pub mod Lengths
 pub mod Steps
 pub mod Logs
+pub mod Places
+pub mod Lined

@@ -21,9 +21,9 @@ abbrev pub row_from : ℕ → ℕ → ℕ → ℕ
 row_from zero row position = row
 row_from (suc more) row position = if nat_lt position (row_start (suc row)) then row else row_from more (suc row) position
 
--- the row of a position below 2 ^ 64: there are 60 rows
+-- the row of a position; its number is at most the position
 abbrev pub row_of : ℕ → ℕ
-row_of position = row_from 59 0 position
+row_of position = row_from position 0 position
 
 -- how far a position lies behind its row's first cell
 abbrev pub offset_of : ℕ → ℕ
