@@ -1,6 +1,8 @@
 //! Tickets: a pass has one for its next event, and its number is the first one's.
 ghost use Rattle.std.specs.Prelude.{◌≡◌, [], MatchOption};
 ghost use Rattle.lasso_shared.specs.Notes.{text_of};
+ghost use Rattle.logbook.specs.Pages.{may_write, nib};
+ghost use Rattle.lasso_shared.specs.Book.{word_of};
 ghost use Rattle.lasso_shared.specs.Rows.{IsPlace};
 ghost use Rattle.lasso_shared.specs.Sights.{first_of};
 ghost use Rattle.lasso_shared.specs.Events.{event_of, note_of, ready};
@@ -20,6 +22,17 @@ use logbook::{Offer, Pen, Plain, Seen, Word};
 pub struct Ticket<K: Key> {
     pub word: Word<Entry, u64, Law<K>>,
     pub pen: Pen,
+}
+
+impl<K: Key> Ticket<K> {
+    /// Writes its word, which no other thread sees yet.
+    pub fn set(&mut self, value: u64)
+        requires { (self.old.word ≡ word_of self.old.pen.book self.old.pen.nib.key) × (self.old.pen.nib.right ≡ may_write) }
+        ensures word { self.new.word ≡ self.old.word }
+        ensures pen { (self.new.pen.book ≡ self.old.pen.book) × (self.new.pen.nib ≡ nib may_write self.old.pen.nib.key value) }
+    {
+        self.word.store(&mut self.pen, value);
+    }
 }
 
 /// The number of a ticket.
@@ -56,15 +69,15 @@ pub type Filing = (Written<Row<Item>>, Written<Item>);
 
 /// The update of a wish, which hands in what shows that an appended text is in its cell.
 pub fn offered<K: Key>(
-    seen: &Seen<Entry, u64, Law<K>>,
-    wish: &Wish<'_, K>,
+    seen: Seen<Entry, u64, Law<K>>,
+    wish: Wish<'_, K>,
     filing: Option<Filing>,
 ) -> Offer<Entry, u64, Law<K>, NoGain>
-    requires filed { MatchOption filing (Unit {0}) (λ f. IsPlace seen.now.names wish.now.place f.0.of f.0.value.items f.1.of × (f.1.value.now ≡ text_of (event_of wish.now.change))) }
-    ensures offer { (result.names ≡ seen.now.names) × (result.ask ≡ note_of (first_of wish.now.number.now.numbers) (event_of wish.now.change) wish.now.place wish.now.ticket.now.pen.nib.key wish.now.next.now.pen.nib.key) × (result.state ≡ ready filing.entry) }
+    requires filed { MatchOption filing (Unit {0}) (λ f. IsPlace seen.names wish.place f.0.of f.0.value.items f.1.of × (f.1.value.now ≡ text_of (event_of wish.change))) }
+    ensures offer { (result.names ≡ seen.entry.names) × (result.ask ≡ note_of (first_of wish.entry.number.now.numbers) (event_of wish.entry.change) wish.entry.place wish.entry.ticket.now.pen.nib.key wish.entry.next.now.pen.nib.key) × (result.state ≡ ready filing.entry) }
 {
     match filing {
-        Some((row, item)) => hand_in::<_, _, _, _, Wish<'_, K>, Add<K>>(seen, &row, &item, wish),
-        None => seen.plain::<NoGain, Wish<'_, K>, Add<K>>(wish),
+        Some((row, item)) => hand_in::<_, _, _, _, Wish<'_, K>, Add<K>>(&seen, &row, &item, &wish),
+        None => seen.plain::<NoGain, Wish<'_, K>, Add<K>>(&wish),
     }
 }

@@ -85,4 +85,57 @@ impl<K: Key> Log<K> {
         look(&mut later, &mut pass.ticket.pen);
         found
     }
+
+    // Adds an event where the word has its old value still, and gives the word that the used ticket has become.
+    // `given` is a log that was seen, in which the event may follow while the word has this value; `filing` shows
+    // that an appended text is in the cell of its place `at`.
+    pub(super) fn exchange(
+        &self,
+        word: &Word<Entry, u64, Law<K>>,
+        place: u64,
+        old: u64,
+        more: u64,
+        value: u64,
+        change: Change<'_>,
+        at: u64,
+        filing: Option<Filing>,
+        given: &Seen<Entry, u64, Law<K>>,
+        pass: &mut Pass<K>,
+    ) -> Option<Word<Entry, u64, Law<K>>>
+        requires of { (pass.old.of ≡ self.now) × (given.now.book ≡ self.now.book) × (word.now ≡ word_of self.now.book word.now.key) }
+        requires sum { old + more < 2 ^ 64 }
+        requires known { IsOpened given.now.log × (opening_of given.now.log ≡ self.now.opening) × IsWord (notes_of given.now.log) place word.now.key }
+        requires may { ((ticket : ℕ) → Moving ticket (event_of change) place more value) × May K.key_at self.now.opening (notes_of given.now.log) place word.now.key old (event_of change) }
+        requires filed { MatchOption filing (IsQuiet (event_of change)) (λ f. IsPlace self.now.rows at f.0.of f.0.value.items f.1.of × (event_of change ≡ Append f.1.value.now) × (place ≡ 0) × (word.now.key ≡ 0) × (at ≡ length self.now.opening.texts + old)) }
+        ensures same { IsSamePass pass.new pass.old }
+        ensures done { MatchOption result (pass.new ≡ pass.old) (λ w. (w ≡ word_of self.now.book w.key) × IsDone K.key_at self.now.opening pass.old.number pass.old.notes (notes_of given.now.log) pass.new.notes (event_of change.entry) place word.now.key old w.key) }
+    {
+        let mut seen = self.seen.again();
+        seen.learn(given);
+        seen.learn(&pass.seen);
+        pass.ticket.set(value);
+        let wish = Wish {
+            change,
+            place: at,
+            number: &pass.number,
+            ticket: &pass.ticket,
+            next: &pass.next,
+        };
+        let known = seen.again();
+        let mut offer = offered(known, wish, filing);
+        let found = word.compare_exchange::<Add<K>, NoGain>(
+            old,
+            old + more,
+            &mut seen,
+            &mut offer,
+            &mut pass.ticket.pen,
+        );
+        if found != old {
+            return None;
+        }
+        let next = std::mem::replace(&mut pass.next, self.ticket());
+        let used = std::mem::replace(&mut pass.ticket, next);
+        pass.seen = seen;
+        Some(used.word)
+    }
 }
