@@ -1,3 +1,4 @@
+pub mod WalkWords
 pub mod Opened
 pub mod Places
 pub mod Lined
