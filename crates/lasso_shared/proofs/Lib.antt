@@ -1,3 +1,4 @@
+pub mod WalkWords
 pub mod Opened
 pub mod PenOut
 pub mod Histories

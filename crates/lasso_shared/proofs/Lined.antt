@@ -132,14 +132,18 @@ module _ {M : Type 1} {𝓤 : Ura M} (𝓛 : Logic 𝓤) (V R : RattleType) (cel
       abbrev rule : Rules E
       rule = rules holds shows keeps
 
+      -- a log that was seen
+      abbrev pub SeesLog : List E → Fml
+      SeesLog = Sees 𝓛 cv rule bk names
+
       -- what is known of position n by one who has seen this log
       abbrev pub Known : List E → ℕ → Fml
       Known log n = Filled names n (slice_index_or (listed (shows log)) n [])
 
       -- whoever has seen a log finds the facts of a position below the length of its list
       pub finds : OnlyGrows shows listed → (seen : List E) (n : ℕ) → n < length (listed (shows seen))
-          → ⟦ Sees 𝓛 cv rule bk names seen ⟧ ⊢ H.⇛ (⟦ Sees 𝓛 cv rule bk names seen ⟧ ∗ ⟦ Known seen n ⟧)
-      finds grows seen n low = let Sees' : List E → Fml = Sees 𝓛 cv rule bk names in let Cells' : List Cell → Fml = Cells 𝓛 cv rule bk names in let X : At 𝓛 cv rule bk names → Pr = λ s. ⟦ Known seen n ⟧ in
+          → ⟦ SeesLog seen ⟧ ⊢ H.⇛ (⟦ SeesLog seen ⟧ ∗ ⟦ Known seen n ⟧)
+      finds grows seen n low = let Cells' : List Cell → Fml = Cells 𝓛 cv rule bk names in let X : At 𝓛 cv rule bk names → Pr = λ s. ⟦ Known seen n ⟧ in
           let here : 0 + n ≡ n = omega arith in
           let step : (s : At 𝓛 cv rule bk names) → holds s.0 s.1 → IsPrefix seen s.1 → ⟦ Cells' s.0 ⟧ ∗ ⟦ keeps names (shows s.1) ⟧ ∗ ⟦ ftrue ⟧ ⊢ ⟦ Cells' s.0 ⟧ ∗ ⟦ keeps names (shows s.1) ⟧ ∗ X s
                 = λ s so begins. let all : List Text = listed (shows s.1) in let long : IsPrefix (listed (shows seen)) all = grows seen s.1 begins in
@@ -148,6 +152,6 @@ module _ {M : Type 1} {𝓤 : Ura M} (𝓛 : Logic 𝓤) (V R : RattleType) (cel
                   use1 𝓛 (‵ (Lined names 0 all) ⊛ ‵ (Filled names (0 + n) (slice_index_or all n []))) (taken names 0 all n (omega arith)) $ split ! $ frame ! $
                   rewrite ! 0 (λ (k : ℕ). ‵ (Filled names k (slice_index_or all n []))) here refl $
                   rewrite ! 0 (λ (t : Text). ‵ (Filled names n t)) (stands_still (listed (shows seen)) all n long low) refl $ move ! (1 ∷ []) $ drop ! $ done ! in
-          qed 𝓛 (‵ (Sees' seen) ∷ []) ∵ updating ! $ nothing ! $ move ! (1 ∷ 0 ∷ []) $
-          use2 𝓛 (later (some (λ (s : At 𝓛 cv rule bk names). given (holds s.0 s.1 × IsPrefix seen s.1) (‵ (Sees' seen) ⊛ ‵ (Sees' s.1) ⊛ ‵ (Known seen n))))) (looks 𝓛 cv rule bk names seen ⟦ ftrue ⟧ X step) $
+          qed 𝓛 (‵ (SeesLog seen) ∷ []) ∵ updating ! $ nothing ! $ move ! (1 ∷ 0 ∷ []) $
+          use2 𝓛 (later (some (λ (s : At 𝓛 cv rule bk names). given (holds s.0 s.1 × IsPrefix seen s.1) (‵ (SeesLog seen) ⊛ ‵ (SeesLog s.1) ⊛ ‵ (Known seen n))))) (looks 𝓛 cv rule bk names seen ⟦ ftrue ⟧ X step) $
           await ! tt $ pick ! (λ s. learn ! (λ so. split ! $ now ! $ frame ! $ split ! $ drop ! $ done !))
