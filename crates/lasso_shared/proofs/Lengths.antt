@@ -1,6 +1,6 @@
 -- The length word: the list is as long as the opening's, and one longer for each append.
 use Rattle.std.proofs.Common.{◌≡◌, ℕ, ◌+◌, List, [], ◌∷◌, ◌++◌, length, refl, ap, sym, ◌∙◌, subst, arith, length-append, Option, Some, None, slice_get, inl, inr}
-use Rattle.std.specs.Prelude.{IsSome}
+use Rattle.std.specs.Prelude.{IsSome, MatchOption}
 use mathlib.Core.List.{IsPrefix}
 use Rattle.logbook.specs.Pages.{Cell, Runs}
 use Rattle.lasso_parts.specs.Texts.{Text}
@@ -8,6 +8,7 @@ use Rattle.lasso_shared.specs.History.{Event, Reserve, Charge, Append, Limit, To
 use Rattle.lasso_shared.specs.Rows.{OnlyGrows}
 use Rattle.lasso_shared.specs.Notes.{Note, history, state, opening_of, notes_of, worded, words_after, words_of, first_words, IsWordWith, titled, texts_titled, texts_in, text_of}
 use Rattle.lasso_shared.specs.Book.{IsKept, May, Moving, Lets, Moved, shown}
+use Rattle.lasso_shared.specs.Events.{IsQuiet, ready}
 use Rattle.lasso_shared.proofs.Histories.{state_past, list_grows, prefix_whole, prefix_tail}
 
 abbrev HasLength : ℕ → ℕ → List (ℕ × ℕ) → Type 0
@@ -81,3 +82,10 @@ module _ {Key : Type 0} (keys : ℕ → Option Key) where
 
 pub moving_append : (t : ℕ) (x : Text) (y : ℕ) → Moving t (Append x) 0 1 y
 moving_append t x y ws = inl refl
+
+-- the update of a note: it files an appended text, or has nothing to do
+pub lets_filed : {Key F : Type 0} (keys : ℕ → Option Key) (o : Totals) (v : List Note) (e : Note) (j k old : ℕ) (filing : Option F) (text : F → Text) (At : F → Type 0)
+    → MatchOption filing (IsQuiet e.event) (λ f. At f × (e.event ≡ Append (text f)) × (j ≡ 0) × (k ≡ 0) × (e.place ≡ length o.texts + old)) → Lets keys o v j k old e (ready filing)
+lets_filed keys o v e j k old None text At quiet = lets_quiet keys o v e j k old (Some 0) quiet
+lets_filed keys o v e j k old (Some f) text At is =
+    subst (λ (i : ℕ). Lets keys o v i k old e None) (sym is.2) (subst (λ (i : ℕ). Lets keys o v 0 i old e None) (sym is.3) (lets_append keys o v e old (text f) is.1 is.4))
