@@ -6,10 +6,11 @@ use Rattle.logbook.specs.Pages.{Cell, Runs}
 use Rattle.lasso_parts.specs.Texts.{Text}
 use Rattle.lasso_shared.specs.History.{Event, Reserve, Charge, Append, Limit, Totals, totals, counted, Lacks, MayFollow}
 use Rattle.lasso_shared.specs.Rows.{OnlyGrows}
-use Rattle.lasso_shared.specs.Notes.{Note, history, state, opening_of, notes_of, worded, words_after, words_of, first_words, IsWordWith, titled, texts_titled, texts_in, text_of}
+use Rattle.lasso_shared.specs.Notes.{Note, history, state, opening_of, notes_of, worded, words_after, words_of, first_words, IsWord, IsWordWith, titled, texts_titled, texts_in, text_of}
 use Rattle.lasso_shared.specs.Book.{IsKept, May, Moving, Lets, Moved, shown}
 use Rattle.lasso_shared.specs.Events.{IsQuiet, ready}
 use Rattle.lasso_shared.proofs.Histories.{state_past, list_grows, prefix_whole, prefix_tail}
+use Rattle.lasso_shared.proofs.Words.{word_later}
 
 abbrev HasLength : ℕ → ℕ → List (ℕ × ℕ) → Type 0
 HasLength first now [] = ⊥
@@ -89,3 +90,7 @@ pub lets_filed : {Key F : Type 0} (keys : ℕ → Option Key) (o : Totals) (v : 
 lets_filed keys o v e j k old None text At quiet = lets_quiet keys o v e j k old (Some 0) quiet
 lets_filed keys o v e j k old (Some f) text At is =
     subst (λ (i : ℕ). Lets keys o v i k old e None) (sym is.2) (subst (λ (i : ℕ). Lets keys o v 0 i old e None) (sym is.3) (lets_append keys o v e old (text f) is.1 is.4))
+
+-- every history has the length word, at place 0 and with key 0
+pub has_head : (notes : List Note) → IsWord notes 0 0
+has_head notes = let r = word_later [] notes 0 0 0 (notes, refl) refl in (r.0, r.1)

@@ -8,3 +8,4 @@ pub mod Notes
 pub mod Book
 pub mod Events
 pub mod Sights
+pub mod Openings

@@ -3,7 +3,8 @@ use Rattle.std.specs.Prelude.{◌≡◌, ℕ, List, [], ◌∷◌}
 use base.Stored.{Coded, coded×, coded_ℕ, coded_list, coded_via}
 use Rattle.logbook.specs.Pages.{Book, book_coded}
 use Rattle.lasso_shared.specs.History.{History, Totals}
-use Rattle.lasso_shared.specs.Notes.{Note, note_coded, totals_coded, history}
+use Rattle.lasso_parts.specs.Texts.{Text}
+use Rattle.lasso_shared.specs.Notes.{Note, note_coded, totals_coded, history, state}
 
 -- which interner a thing is of: its book, the names of the rows that its texts lie in, and what it opened with
 pub record Origin : Type 0 where
@@ -37,3 +38,20 @@ IsSamePass now before = (now.number ≡ before.number) × (now.of ≡ before.of)
 abbrev pub first_of : List ℕ → ℕ
 first_of [] = 0
 first_of (n ∷ ns) = n
+
+-- the list at the end of these notes of an interner
+abbrev pub list_of : Origin → List Note → List Text
+list_of of notes = (state of.opening notes).texts
+
+-- a spine: how many slots it keeps for texts to come, its interner, and the notes that it has seen
+pub record Backbone : Type 0 where
+  pub kept : ℕ
+  pub of : Origin
+  pub notes : List Note
+
+abbrev pub backbone_coded : Coded Backbone
+backbone_coded = coded_via (coded× coded_ℕ (coded× origin_coded (coded_list note_coded))) (λ (s : Backbone). (s.kept, (s.of, s.notes))) (λ x y e i. record { kept = (e i).0; of = (e i).1.0; notes = (e i).1.1 })
+
+-- the spine has seen the same, and is of the same interner
+abbrev pub IsSameSpine : Backbone → Backbone → Type 0
+IsSameSpine now before = (now.of ≡ before.of) × (now.notes ≡ before.notes)

@@ -40,7 +40,7 @@ impl<K: Key> Model for Log<K> {
 
     ghost view = { λ l. origin l.seen.book l.seen.names (opening_of l.seen.log) };
 
-    ghost invariant = { λ l. (l.head ≡ head_of l.seen.book) × (l.rows ≡ l.seen.names) × IsOpened l.seen.log × (notes_of l.seen.log ≡ []) };
+    ghost invariant = { λ l. (l.head ≡ head_of l.seen.book) × (l.rows ≡ l.seen.names) × IsOpened l.seen.log × (notes_of l.seen.log ≡ []) × ((opening_of l.seen.log).texts ≡ []) };
 }
 
 impl<K: Key> Log<K> {
