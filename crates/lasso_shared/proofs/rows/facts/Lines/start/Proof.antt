@@ -23,7 +23,7 @@ start_spec 𝓤 𝓛 𝓜 𝓡 wired T V E B X N _ _ _ _ _ _ gt dt gv dv gb db g
     let lines = a.0 in let shown : List E'.Denot = gn.shown a.1.0.now in let p : Val = vptr a.1.0.ref_ptr.0 a.1.0.ref_ptr.1 in
     let y : (walk_of 𝓛 En hs c).Ghost = ((κs, qs, bounds, a, (token ∷ [], (p ∷ [], tt))), gh) in let Post : Val → SProp 𝓤 = (walk_of 𝓛 En hs c).post y in
     qed 𝓛 ((raw (alive 𝓛 En.signature κs qs) ⊛ ‵ (owns (types_at En.signature.params κs) a y.0.4)) ∷ raw (fact 𝓤 _) ∷ raw (fact 𝓤 _) ∷ raw (fact 𝓤 _) ∷ raw (fact 𝓤 _) ∷ raw (fact 𝓤 _) ∷ raw (fact 𝓤 _)
-      ∷ raw (fact 𝓤 (gb.texts shown ≡ lines.texts)) ∷ []) ∵
+    ∷ raw (fact 𝓤 (gb.texts shown ≡ lines.texts)) ∷ []) ∵
     keep ! (7 ∷ 0 ∷ []) $ heard ! _ (λ same. split ! $
     move ! (1 ∷ []) $ fsplit ! $ fsplit ! $ keep ! (1 ∷ 3 ∷ []) $ rewrite ! 0 (λ (ts : List Text). ‵ (lined V' T' gv.cells gt.meaning lines.names 0 ts)) (sym same) refl $
     enter ! 𝓣.C 𝓣.Λ fn (token ∷ p ∷ []) Post $ alloc_all ! (λ l. pass_all ! refl ((tt, (tt, tt)), ((tt, tt), tt)) $
