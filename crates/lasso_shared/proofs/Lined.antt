@@ -63,7 +63,6 @@ module _ {M : Type 1} {𝓤 : Ura M} (𝓛 : Logic 𝓤) (V R : RattleType) (cel
   infix 26 ◌⊢◌
   infixr 35 ◌∗◌
   infixr 30 ◌-∗◌
-
   -- the cell of position n is filled with this text
   abbrev pub Filled : List ℕ → ℕ → Text → Fml
   Filled names n text = filled V R cells meaning (slice_index names (row_of n)) (offset_of n) text
@@ -146,12 +145,12 @@ module _ {M : Type 1} {𝓤 : Ura M} (𝓛 : Logic 𝓤) (V R : RattleType) (cel
       finds grows seen n low = let Cells' : List Cell → Fml = Cells 𝓛 cv rule bk names in let X : At 𝓛 cv rule bk names → Pr = λ s. ⟦ Known seen n ⟧ in
           let here : 0 + n ≡ n = omega arith in
           let step : (s : At 𝓛 cv rule bk names) → holds s.0 s.1 → IsPrefix seen s.1 → ⟦ Cells' s.0 ⟧ ∗ ⟦ keeps names (shows s.1) ⟧ ∗ ⟦ ftrue ⟧ ⊢ ⟦ Cells' s.0 ⟧ ∗ ⟦ keeps names (shows s.1) ⟧ ∗ X s
-                = λ s so begins. let all : List Text = listed (shows s.1) in let long : IsPrefix (listed (shows seen)) all = grows seen s.1 begins in
-                  let le : length (listed (shows seen)) ≤ length all = prefix_short (listed (shows seen)) all long in
-                  qed 𝓛 (‵ (Cells' s.0) ∷ ‵ (Lined names 0 all) ∷ ‵ ftrue ∷ []) ∵ frame ! $
-                  use1 𝓛 (‵ (Lined names 0 all) ⊛ ‵ (Filled names (0 + n) (slice_index_or all n []))) (taken names 0 all n (omega arith)) $ split ! $ frame ! $
-                  rewrite ! 0 (λ (k : ℕ). ‵ (Filled names k (slice_index_or all n []))) here refl $
-                  rewrite ! 0 (λ (t : Text). ‵ (Filled names n t)) (stands_still (listed (shows seen)) all n long low) refl $ move ! (1 ∷ []) $ drop ! $ done ! in
+          = λ s so begins. let all : List Text = listed (shows s.1) in let long : IsPrefix (listed (shows seen)) all = grows seen s.1 begins in
+          let le : length (listed (shows seen)) ≤ length all = prefix_short (listed (shows seen)) all long in
+          qed 𝓛 (‵ (Cells' s.0) ∷ ‵ (Lined names 0 all) ∷ ‵ ftrue ∷ []) ∵ frame ! $
+          use1 𝓛 (‵ (Lined names 0 all) ⊛ ‵ (Filled names (0 + n) (slice_index_or all n []))) (taken names 0 all n (omega arith)) $ split ! $ frame ! $
+          rewrite ! 0 (λ (k : ℕ). ‵ (Filled names k (slice_index_or all n []))) here refl $
+          rewrite ! 0 (λ (t : Text). ‵ (Filled names n t)) (stands_still (listed (shows seen)) all n long low) refl $ move ! (1 ∷ []) $ drop ! $ done ! in
           qed 𝓛 (‵ (SeesLog seen) ∷ []) ∵ updating ! $ nothing ! $ move ! (1 ∷ 0 ∷ []) $
           use2 𝓛 (later (some (λ (s : At 𝓛 cv rule bk names). given (holds s.0 s.1 × IsPrefix seen s.1) (‵ (SeesLog seen) ⊛ ‵ (SeesLog s.1) ⊛ ‵ (Known seen n))))) (looks 𝓛 cv rule bk names seen ⟦ ftrue ⟧ X step) $
           await ! tt $ pick ! (λ s. learn ! (λ so. split ! $ now ! $ frame ! $ split ! $ drop ! $ done !))

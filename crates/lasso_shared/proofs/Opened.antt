@@ -38,7 +38,6 @@ module _ {M : Type 1} {𝓤 : Ura M} (𝓛 : Logic 𝓤) {E : Type 0} (cv : Code
 
   infix 26 ◌⊢◌
   infixr 35 ◌∗◌
-
   abbrev Inside : Fml
   Inside = contents cv.code rule bk.log_name bk.cells_name names
 

@@ -1,8 +1,8 @@
 -- The row and the offset of a position.
-use Rattle.std.proofs.Common.{◌≡◌, ℕ, zero, suc, ◌+◌, ◌-◌, ◌*◌, ◌^◌, ◌<◌, ◌≤◌, ◌⊎◌, inl, inr, Bool, true, false, refl, sym, ap, subst, ◌∙◌, arith, nat_lt, if◌then◌else◌, pow_mono, pow-suc}
+use Rattle.std.proofs.Common.{◌≡◌, ℕ, zero, suc, ◌+◌, ◌-◌, ◌*◌, ◌^◌, ◌<◌, ◌≤◌, ◌%◌, ◌⊎◌, inl, inr, Bool, true, false, refl, sym, ap, subst, ◌∙◌, arith, nat_lt, if◌then◌else◌, pow_mono, pow-suc}
 use Rattle.std.proofs.Math.Nat.{lt_of_not-le}
 use Rattle.std.proofs.lemmas.Bool.{cases_lt, lt-ltb, le-ltb}
-use Rattle.std.proofs.lemmas.Nat.{pow-add}
+use Rattle.std.proofs.lemmas.Nat.{pow-add, shl_whole}
 use Rattle.lasso_shared.specs.Rows.{row_start, row_length, row_from, row_of, offset_of}
 
 below_power : (k : ℕ) → k < 2 ^ k
@@ -62,3 +62,9 @@ module _ (n top : ℕ) (low : 32 ≤ n) (high : n < 2 ^ 64) (at : 2 ^ top ≤ n)
       let start : 32 * 2 ^ (top - 5) ≡ 2 ^ top = sym (pow-add 2 5 (top - 5)) ∙ ap (λ (k : ℕ). 2 ^ k) split in
       let end : row_start (suc (suc (top - 5))) ≡ row_start (suc (top - 5)) + row_length (suc (top - 5)) = row_end (suc (top - 5)) in
       subst (λ (k : ℕ × ℕ). Lies n k.0 (n - k.1)) (λ i. (number i, start i)) (lies_in (suc (top - 5)) n (omega arith) (omega arith) (omega arith))
+
+-- the shift that `length_of` takes loses no bit
+pub shifted : (row : ℕ) → (row ≡ 0 → ⊥) → row < 60 → (32 * 2 ^ (row - 1)) % 2 ^ 64 ≡ row_length row
+shifted zero not_first few = absurd (not_first refl)
+shifted (suc k) not_first few = let less : k ≡ suc k - 1 = omega arith in
+    subst (λ (j : ℕ). (32 * 2 ^ j) % 2 ^ 64 ≡ 32 * 2 ^ k) less (shl_whole 32 6 k 64 (omega arith) (omega arith))

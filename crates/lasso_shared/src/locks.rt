@@ -5,11 +5,13 @@
 //! of its tag, which is fixed when the lock is made, and a contract sees a lock as that tag.
 //!
 //! A holder has the value itself, and gives it back before the next one can have it. One that never does
-//! leaves the lock empty, and whoever takes it then waits forever.
-ghost use Rattle.std.specs.Prelude.{◌≡◌, ◌⊎◌, true, IfSome};
+//! leaves the lock empty, and whoever takes it then waits forever. No lock is poisoned: a panic under one ends
+//! the process, where the runtime is the host's.
+ghost use Rattle.std.specs.Prelude.{◌≡◌, ◌⊎◌, true, Some, IfSome};
 ghost use Rattle.lasso_shared.specs.Locks.{has_value};
 
 use counted_slot::{Claim, Counted, FREE, Fits, MOST_READERS, ONE_READER, PRESENT, TAKEN};
+use std::hint::spin_loop;
 use std::marker::Model;
 use std::sync::{Mutex, MutexGuard, RwLock, RwLockReadGuard, RwLockWriteGuard, Wait};
 
@@ -49,6 +51,7 @@ impl<X: Fits + Drop> Locked<X> {
             if let Some(value) = pull(&self.slot, FREE) {
                 return (guard, value);
             }
+            spin_loop();
         }
         unreachable!()
     }
@@ -86,11 +89,13 @@ pub struct Reading<'a, X: Fits + Drop> {
 }
 
 impl<'a, X: Fits + Drop> Model for Reading<'a, X> {
-    ghost Value = { X.Tag };
+    ghost use Rattle.lasso_shared.specs.Locks.{Hold, hold_coded, value_of};
 
-    ghost coded = { X.Tag.code };
+    ghost Value = { Hold X.Tag X };
 
-    ghost view = { λ r. r.claim.tag };
+    ghost coded = { hold_coded X.Tag.code X.code };
+
+    ghost view = { λ r. record { tag = r.claim.tag; value = value_of r.claim.value } };
 }
 
 impl<X: Fits + Drop> Ruled<X> {
@@ -107,7 +112,7 @@ impl<X: Fits + Drop> Ruled<X> {
 
     /// Takes the lock to read, beside other readers.
     pub fn read<R: Wait>(&self, rt: &R) -> Reading<'_, X>
-        ensures { result ≡ self.now }
+        ensures { result.tag ≡ self.now }
     {
         let guard = self.lock.read(rt);
         for _ in rt.forever() {
@@ -117,10 +122,11 @@ impl<X: Fits + Drop> Ruled<X> {
                 }
                 claim.leave();
             }
-            // The value has not been read yet.
+            // Nobody has read or changed the value yet, or another reader is at this.
             if let Some(value) = pull(&self.slot, FREE) {
                 push(&self.slot, rt, value, PRESENT);
             }
+            spin_loop();
         }
         unreachable!()
     }
@@ -137,6 +143,7 @@ impl<X: Fits + Drop> Ruled<X> {
             if let Some(value) = pull(&self.slot, FREE) {
                 return (guard, value);
             }
+            spin_loop();
         }
         unreachable!()
     }
@@ -151,9 +158,9 @@ impl<X: Fits + Drop> Ruled<X> {
 }
 
 impl<'a, X: Fits + Drop> Reading<'a, X> {
-    /// The value.
+    /// The value, which stays as it is until the reading ends.
     pub fn get(&self) -> &X
-        ensures { X.fits self.now result.now }
+        ensures { (Some result.now ≡ self.now.value) × X.fits self.now.tag result.now }
     {
         match self.claim.get() {
             Some(value) => value,
@@ -194,6 +201,7 @@ fn push<X: Fits + Drop, R: Wait>(slot: &Counted<Option<X>>, rt: &R, value: X, wo
             return;
         }
         claim.done();
+        spin_loop();
     }
     unreachable!()
 }

@@ -2,13 +2,13 @@
 //!
 //! A cell is filled once, before the list has its position, and never changes after. So a thread that has
 //! seen the list's length reads a cell below it without a lock, and what it reads is lent as long as the rows.
-ghost use Rattle.std.specs.Prelude.{◌≡◌, ◌<◌, ℕ, List, [], ◌∷◌, length, IfOk, IfErr, IfSome, slice_index_or};
+ghost use Rattle.std.specs.Prelude.{◌≡◌, ◌<◌, ℕ, List, [], ◌∷◌, length, IfOk, IfErr, IfSome, slice_index, slice_index_or};
 ghost use Rattle.lasso_shared.specs.Rows.{IsPlace, OnlyGrows, row_of, offset_of, row_length};
 
 pub mod facts;
 pub mod rule;
 
-use crate::rows::facts::{found_item, found_row};
+use crate::rows::facts::{Lines, found_item, found_row};
 use crate::rows::rule::{Cells, InRows, Listed, Text};
 use boxcar::slot::{OnceSlot, SlotRule, Written};
 use boxcar::tag::{Names, Tag};
@@ -108,9 +108,18 @@ impl Names<usize> for Number {
     ghost numbers = { λ n. n ∷ [] };
 }
 
+// The names of the rows.
+struct RowNames;
+
+impl<T: Drop> Names<Rows<T>> for RowNames {
+    ghost numbers = { λ rows. rows };
+}
+
 impl<T: Text + Drop> Rows<T> {
-    /// Rows of which none is made yet. `sample` is dropped: its type shows how a cell is filled.
-    pub fn new(alloc: Global, sample: T) -> Result<Rows<T>, AllocError> {
+    /// Rows of which none is made yet. `sample` is dropped: from it the tokens have their type.
+    pub fn new(alloc: Global, sample: T) -> Result<Rows<T>, AllocError>
+        ensures { IfOk result (λ rows. length rows ≡ 60) }
+    {
         let item: OnceSlot<T, Any> = OnceSlot::new(&Tag::empty());
         let Ok(item) = item.set_written(sample) else {
             return Err(AllocError);
@@ -133,7 +142,7 @@ impl<T: Text + Drop> Rows<T> {
         alloc: Global,
         position: u64,
     ) -> Result<Option<Written<Row<T>>>, AllocError>
-        ensures { IfOk result (λ r. IfSome r (λ w. w.of ≡ slice_index_or self.now (row_of position) 0)) }
+        ensures { IfOk result (λ r. IfSome r (λ row. row.of ≡ slice_index self.now (row_of position))) }
     {
         let (number, _) = place_of(position);
         let slot = &self.rows[number];
@@ -177,6 +186,23 @@ impl<T: Text + Drop> Rows<T> {
         unreachable!()
     }
 
+    /// What shows that no text lies in the rows yet.
+    pub fn lines(&self) -> Lines<T, Row<T>>
+        ensures { (result.names ≡ self.now) × (result.texts ≡ []) }
+    {
+        Lines::none::<Rows<T>, RowNames>(self)
+    }
+
+    /// Lends what the cell of a position holds, to whoever shows that it is filled. It takes no memory and does
+    /// not wait.
+    pub fn value(&self, position: u64, row: &Written<Row<T>>, item: &Written<T>) -> &T
+        requires { IsPlace self.now position row.now.of row.now.value.items item.now.of }
+        ensures { result.now ≡ item.now.value }
+    {
+        let (number, offset) = place_of(position);
+        self.rows[number].value(row)[offset].value(item)
+    }
+
     /// Lends what the cell of a position below the length that was seen holds, as long as the rows. It takes no
     /// memory and does not wait.
     pub fn lend<E, B: Listed<E>>(
@@ -190,9 +216,8 @@ impl<T: Text + Drop> Rows<T> {
         ensures text { T.meaning result.now ≡ slice_index_or (B.texts (B.shows seen.old.log)) position [] }
         ensures same { seen.new ≡ seen.old }
     {
-        let (number, offset) = place_of(position);
         let row = found_row(seen, position, self.row.again());
         let item = found_item(seen, &row, position, self.item.again());
-        self.rows[number].value(&row)[offset].value(&item)
+        self.value(position, &row, &item)
     }
 }

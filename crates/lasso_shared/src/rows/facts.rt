@@ -3,7 +3,8 @@
 //! A `Written` is a fact for good, so a book can keep one for each position of its list, and give out copies.
 ghost use Rattle.std.specs.Prelude.{◌≡◌, ◌<◌, ℕ, List, [], ◌∷◌, ◌++◌, length, None, slice_index, slice_index_or};
 ghost use Rattle.lasso_parts.specs.Texts.{Text};
-ghost use Rattle.lasso_shared.specs.Rows.{IsPlace, OnlyGrows, row_of, offset_of, name_at};
+ghost use Rattle.logbook.specs.Pages.{Calm};
+ghost use Rattle.lasso_shared.specs.Rows.{lined, IsPlace, OnlyGrows, row_of, offset_of, name_at};
 
 use crate::rows::rule::{Cells, InRows, Listed, NoGain, Text};
 use boxcar::slot::Written;
@@ -53,13 +54,15 @@ impl<T: Text, V: Cells> Lines<T, V> {
         let _ = item;
     }
 
-    /// What clients of a book keep at its opening: that the texts of its list lie in the rows.
+    /// What clients of a book keep at its opening: that the texts of its list lie in the rows. That it names no
+    /// token of one thread is what the opening asks for.
     pub fn start<E, B: Listed<E>, X, M: Begins<X, E>>(
         self,
         about: &X,
     ) -> Start<E, u64, InRows<B, T, V>>
         requires { B.texts (M.shown about.now) ≡ self.texts }
-        ensures { (result.names ≡ self.names) × (result.shown ≡ M.shown about.now) }
+        ensures start { (result.names ≡ self.names) × (result.shown ≡ M.shown about.now) }
+        ensures calm { Calm (λ (shown : List E). lined V.row T.row V.cells T.meaning result.names 0 (B.texts shown)) }
     {
         let Self { marker: _ } = self;
         let _ = about;

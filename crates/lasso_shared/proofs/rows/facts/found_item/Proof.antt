@@ -37,7 +37,7 @@ found_item_spec 𝓤 𝓛 𝓜 𝓡 wired E B T V _ _ _ _ gb db gt dt gv dv _ _ 
     let toks : Fml = fsep (flft κs.0 qs.0) (fsep (flft κs.1.0 qs.1.0) (fsep (flft κs.1.1.0 qs.1.1.0) (fsep (flft κs.1.1.1.0 qs.1.1.1.0) (fsep (flft κs.1.1.1.1.0 qs.1.1.1.1.0) (fsep (flft κs.1.1.1.1.1.0 qs.1.1.1.1.1.0) ftrue))))) in
     let y : (walk_of 𝓛 En hs c).Ghost = ((κs, qs, bounds, a, (vptr b o ∷ [], (p ∷ [], (vint w64 n ∷ [], (token ∷ [], tt))))), gh) in let Post : Val → SProp 𝓤 = (walk_of 𝓛 En hs c).post y in
     qed 𝓛 ((‵ toks ⊛ ‵ (owns (types_at En.signature.params κs) a y.0.4)) ∷ raw (fact 𝓤 _) ∷ raw (fact 𝓤 _) ∷ raw (fact 𝓤 _) ∷ raw (fact 𝓤 _)
-      ∷ raw (fact 𝓤 (OnlyGrows gb.shows gb.texts)) ∷ raw (fact 𝓤 (n < length (gb.texts (gb.shows me.log)))) ∷ raw (fact 𝓤 (z.of ≡ g)) ∷ []) ∵
+    ∷ raw (fact 𝓤 (OnlyGrows gb.shows gb.texts)) ∷ raw (fact 𝓤 (n < length (gb.texts (gb.shows me.log)))) ∷ raw (fact 𝓤 (z.of ≡ g)) ∷ []) ∵
     keep ! (5 ∷ 6 ∷ 7 ∷ 0 ∷ []) $ heard ! _ (λ grows. heard ! _ (λ low. heard ! _ (λ of_row. split ! $
     fsplit ! $ move ! (2 ∷ []) $ fsplit ! $ fsplit3 ! $ move ! (3 ∷ []) $ fsplit ! $ fsplit ! $ keep ! (1 ∷ 4 ∷ 5 ∷ 6 ∷ 7 ∷ []) $ unhide ! $ fsplit ! $ let_go ! $
     enter ! 𝓣.C 𝓣.Λ fn (vptr b o ∷ p ∷ vint w64 n ∷ token ∷ []) Post $ alloc_all ! (λ l. pass_all ! refl ((tt, tt), ((tt, tt), ((tt, record { fits = are.1.1.0.1 }), ((tt, (tt, tt)), tt)))) $

@@ -35,7 +35,7 @@ hand_in_spec 𝓤 𝓛 𝓜 𝓡 wired E B T V X N _ _ _ _ _ _ gb db gt dt gv dv
     let p : Val = vptr a.0.ref_ptr.0 a.0.ref_ptr.1 in let p' : Val = vptr a.1.0.ref_ptr.0 a.1.0.ref_ptr.1 in let p'' : Val = vptr a.1.1.0.ref_ptr.0 a.1.1.0.ref_ptr.1 in let p''' : Val = vptr a.1.1.1.0.ref_ptr.0 a.1.1.1.0.ref_ptr.1 in
     let y : (walk_of 𝓛 En hs c).Ghost = ((κs, qs, bounds, a, (p ∷ [], (p' ∷ [], (p'' ∷ [], (p''' ∷ [], tt))))), gh) in let Post : Val → SProp 𝓤 = (walk_of 𝓛 En hs c).post y in
     qed 𝓛 ((raw (alive 𝓛 En.signature κs qs) ⊛ ‵ (owns (types_at En.signature.params κs) a y.0.4)) ∷ raw (fact 𝓤 _) ∷ raw (fact 𝓤 _) ∷ raw (fact 𝓤 _) ∷ raw (fact 𝓤 _) ∷ raw (fact 𝓤 _) ∷ raw (fact 𝓤 _)
-      ∷ raw (fact 𝓤 (IsPlace me.names (gb.place ask) z.of (gv.cells z.value) w.of)) ∷ raw (fact 𝓤 (gt.meaning w.value ≡ gb.text ask)) ∷ []) ∵
+    ∷ raw (fact 𝓤 (IsPlace me.names (gb.place ask) z.of (gv.cells z.value) w.of)) ∷ raw (fact 𝓤 (gt.meaning w.value ≡ gb.text ask)) ∷ []) ∵
     keep ! (7 ∷ 8 ∷ 0 ∷ []) $ heard ! _ (λ at. heard ! _ (λ means. split ! $
     move ! (1 ∷ []) $ fsplit ! $ move ! (1 ∷ []) $ fsplit ! $ fsplit ! $ keep ! (1 ∷ 2 ∷ 4 ∷ []) $ unhide ! $ fsplit ! $ let_go ! $
     move ! (1 ∷ []) $ fsplit ! $ fsplit ! $ keep ! (1 ∷ 3 ∷ 4 ∷ []) $ unhide ! $ fsplit ! $ let_go ! $ move ! (1 ∷ 0 ∷ []) $
