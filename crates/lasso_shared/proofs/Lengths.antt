@@ -52,7 +52,7 @@ only_grows (x ∷ xs) (y ∷ ys) p =
     let r = prefix_tail x y xs ys p in
     subst (λ (f : Note). IsPrefix (state x.opening xs).texts (state f.opening ys).texts) r.0 (texts_past x.opening xs ys r.1)
 
-text_added : (s : Totals) (e : Event) (t : Text) → e ≡ Append t → (counted s e).texts ≡ s.texts ++ t ∷ []
+pub text_added : (s : Totals) (e : Event) (t : Text) → e ≡ Append t → (counted s e).texts ≡ s.texts ++ t ∷ []
 text_added s e t is = ap (λ (f : Event). (counted s f).texts) is
 
 -- the state with one note more

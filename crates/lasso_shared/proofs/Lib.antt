@@ -9,3 +9,4 @@ pub mod Steps
 pub mod Logs
 pub mod Places
 pub mod Lined
+pub mod Reading

@@ -115,3 +115,14 @@ pub word_later : (v log : List Note) (j k n : ℕ) → IsPrefix v log → IsWord
 word_later v log j k n p h =
     let r = words_stay j k n (words_of v) p.0 h in
     (r.0, subst (λ (l : List Note). slice_get (words_of l) j ≡ Some (k, r.0)) p.1 (ap (λ (ws : List (ℕ × ℕ)). slice_get ws j) (words_append first_words v p.0) ∙ r.1), r.2)
+
+bump_head : (k n : ℕ) (ws : List (ℕ × ℕ)) → slice_get ws 0 ≡ Some (k, n) → slice_get (bumped 0 1 ws) 0 ≡ Some (k, n + 1)
+bump_head k n [] h = absurd cc
+bump_head k n (x ∷ ws) h = let e : x ≡ (k, n) = cc h in ap (λ (y : ℕ × ℕ). Some (y.0, y.1 + 1)) e
+
+-- an append makes the length word one more
+pub head_grown : (mid : List Note) (e : Note) (after : List Note) (k n : ℕ) (t : List ℕ) → after ≡ mid ++ e ∷ [] → e.event ≡ Append t → IsWordWith mid 0 k n → IsWordWith after 0 k (n + 1)
+head_grown mid e after k n t last is word =
+    let words : words_of after ≡ worded (words_of mid) e.ticket e.event = ap words_of last ∙ words_append first_words mid (e ∷ []) in
+    let moved : worded (words_of mid) e.ticket e.event ≡ bumped 0 1 (words_of mid) = ap (worded (words_of mid) e.ticket) is in
+    ap (λ (ws : List (ℕ × ℕ)). slice_get ws 0) (words ∙ moved) ∙ bump_head k n (words_of mid) word
