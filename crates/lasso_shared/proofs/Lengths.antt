@@ -69,17 +69,21 @@ module _ {Key : Type 0} (keys : ℕ → Option Key) where
 
   -- the update of an append files the text at the position that was the length
   pub lets_append : (o : Totals) (v : List Note) (e : Note) (old : ℕ) (t : Text) → e.event ≡ Append t → e.place ≡ length o.texts + old → Lets keys o v 0 0 old e None
-  lets_append o v e old t is place =
-      (Some 0, λ cells log kept begins word.
-      let after : (state o (log ++ e ∷ [])).texts ≡ (state o log).texts ++ t ∷ [] = ap (λ (s : Totals). s.texts) (one_more o log e) ∙ text_added (state o log) e.event t is in
-      let last : text_of e.event ≡ t = ap text_of is in
-      inr (0, refl, refl, (after ∙ ap (λ (x : Text). (state o log).texts ++ x ∷ []) (sym last), length_of o log 0 old word ∙ sym place)))
+  lets_append o v e old t is place = (
+    Some 0,
+    λ cells log kept begins word.
+        let after : (state o (log ++ e ∷ [])).texts ≡ (state o log).texts ++ t ∷ [] = ap (λ (s : Totals). s.texts) (one_more o log e) ∙ text_added (state o log) e.event t is in
+        let last : text_of e.event ≡ t = ap text_of is in
+        inr (0, refl, refl, (after ∙ ap (λ (x : Text). (state o log).texts ++ x ∷ []) (sym last), length_of o log 0 old word ∙ sym place)),
+  )
 
   -- an event that leaves the list as it is needs no update
   pub lets_quiet : (o : Totals) (v : List Note) (e : Note) (j k old : ℕ) (s : Option ℕ) → ((t : Totals) → (counted t e.event).texts ≡ t.texts) → Lets keys o v j k old e s
-  lets_quiet o v e j k old s quiet =
-      (s, λ cells log kept begins word.
-      inl (refl, ap titled (ap (λ (x : Totals). x.texts) (one_more o log e) ∙ quiet (state o log))))
+  lets_quiet o v e j k old s quiet = (
+    s,
+    λ cells log kept begins word.
+        inl (refl, ap titled (ap (λ (x : Totals). x.texts) (one_more o log e) ∙ quiet (state o log))),
+  )
 
 pub moving_append : (t : ℕ) (x : Text) (y : ℕ) → Moving t (Append x) 0 1 y
 moving_append t x y ws = inl refl

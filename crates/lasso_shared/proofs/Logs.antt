@@ -69,7 +69,7 @@ module _ {Key : Type 0} (keys : ℕ → Option Key) where
       let may1 : May keys f.opening (notes_of g) j k old e.event = subst (λ (t : Totals). May keys t (notes_of g) j k old e.event) rg.1 may in
       let lets1 : Lets keys f.opening (notes_of g) j k old e s = subst (λ (t : Totals). Lets keys t (notes_of g) j k old e s) rg.1 lets in
       add_moves keys f (notes_of a) v p e s j k old n right is at ra.2 (later.0, later.1) moving (λ cells log kept begins here. may1 cells log kept (prefix_trans (notes_of g) v log rg.2 begins) here)
-        (lets1.0, λ cells log kept begins here. lets1.1 cells log kept (prefix_trans (notes_of g) v log rg.2 begins) here)
+      (lets1.0, λ cells log kept begins here. lets1.1 cells log kept (prefix_trans (notes_of g) v log rg.2 begins) here)
 
   -- what is known once the note is in
   pub record Added (o : Totals) (before given after : List Note) (e : Note) (j k old : ℕ) : Type 0 where

@@ -31,7 +31,6 @@ module _ {M : Type 1} {𝓤 : Ura M} (𝓛 : Logic 𝓤) {E : Type 0} (cv : Code
 
   infix 26 ◌⊢◌
   infixr 35 ◌∗◌
-
   abbrev Away : Nib → List Cell → Type 0
   Away p cells = Out 𝓛 bk.cells_name cells p.key
 
@@ -39,7 +38,7 @@ module _ {M : Type 1} {𝓤 : Ura M} (𝓛 : Logic 𝓤) {E : Type 0} (cv : Code
   unfolding pen_owns
   pen_away p cells right = let Pen : Right → Fml = λ s. nib_holds bk.cells_name s p.key p.value in
       subst (λ (s : Right). ⟦ roster bk.cells_name 0 cells ⟧ ∗ ⟦ Pen s ⟧ ⊢ guard 𝓤 (Away p cells) (⟦ roster bk.cells_name 0 cells ⟧ ∗ ⟦ Pen s ⟧)) (sym right)
-        (away 𝓛 bk.cells_name cells 0 p.key p.key p.value (omega arith))
+      (away 𝓛 bk.cells_name cells 0 p.key p.key p.value (omega arith))
 
   -- a log that was reached while the word of this pen was not at home
   abbrev pub WasOut : Nib → List E → List E → Type 0
@@ -53,7 +52,7 @@ module _ {M : Type 1} {𝓤 : Ura M} (𝓛 : Logic 𝓤) {E : Type 0} (cv : Code
       let X : At 𝓛 cv rule bk names → Pr = λ s. guard 𝓤 (Away p s.0) ⟦ Pen ⟧ in
       qed 𝓛 (‵ (S seen) ∷ ‵ Pen ∷ []) ∵ updating ! $
       use2 𝓛 (later (some (λ (s : At 𝓛 cv rule bk names). given (rule.holds s.0 s.1 × IsPrefix seen s.1) (‵ (S seen) ⊛ ‵ (S s.1) ⊛ given (Away p s.0) (‵ Pen)))))
-        (looks 𝓛 cv rule bk names seen ⟦ Pen ⟧ X (λ s so p'.
-        qed 𝓛 (‵ (Cells 𝓛 cv rule bk names s.0) ∷ ‵ (Kept 𝓛 cv rule bk names s.1) ∷ ‵ Pen ∷ []) ∵ move ! (0 ∷ 2 ∷ []) $
-        use2 𝓛 (given (Away p s.0) (‵ (Cells 𝓛 cv rule bk names s.0) ⊛ ‵ Pen)) (pen_away p s.0 right) $ learn ! (λ out. split ! $ frame ! $ move ! (1 ∷ []) $ frame ! $ check ! out $ done !))) $
+      (looks 𝓛 cv rule bk names seen ⟦ Pen ⟧ X (λ s so p'.
+      qed 𝓛 (‵ (Cells 𝓛 cv rule bk names s.0) ∷ ‵ (Kept 𝓛 cv rule bk names s.1) ∷ ‵ Pen ∷ []) ∵ move ! (0 ∷ 2 ∷ []) $
+      use2 𝓛 (given (Away p s.0) (‵ (Cells 𝓛 cv rule bk names s.0) ⊛ ‵ Pen)) (pen_away p s.0 right) $ learn ! (λ out. split ! $ frame ! $ move ! (1 ∷ []) $ frame ! $ check ! out $ done !))) $
       await ! tt $ pick ! (λ s. learn ! (λ so. split3 ! $ drop ! $ move ! (1 ∷ []) $ learn ! (λ out. now ! $ show ! (FoundOut p seen) s.1 $ check ! (so.1, (s.0, so.0, out.1)) $ move ! (1 ∷ 0 ∷ []) $ done !)))

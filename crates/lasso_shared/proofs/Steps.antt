@@ -176,5 +176,5 @@ module _ {Key : Type 0} (keys : ℕ → Option Key) where
         home_bound cells k home,
         home,
         subst (λ (g : Note). Goes (Kept keys) shown (Moved e) k (o ∷ v, (p, s)) (λ m. either (m == old) (old + n) m) (Adds keys (step k old (old + n) e) (o ∷ v, (p, s))) cells (g ∷ log)) tail.0
-          (add_goes o before v p e s j k old n right is at begun moving may lets cells log kept' tail.1 away w.0 w.1 w.2 ((cell cells k).0 == old) refl),
+            (add_goes o before v p e s j k old n right is at begun moving may lets cells log kept' tail.1 away w.0 w.1 w.2 ((cell cells k).0 == old) refl),
       )

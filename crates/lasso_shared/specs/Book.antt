@@ -77,8 +77,8 @@ pub record IsAdded {Key : Type 0} (keys : ℕ → Option Key) (s : Step Note) (v
   pub out : (cell cells v.1.0.key).1 ≡ false
   pub value : (cell cells s.key).0 ≡ found
   pub done :
-    ((found ≡ s.old) × (w.0 ≡ log ++ s.ask ∷ []) × (w.1.0 ≡ no_nib) × ((after : List Cell) × Kept keys after w.0))
-    ⊎ ((found ≢ s.old) × (w.0 ≡ log) × (w.1.0 ≡ v.1.0))
+      ((found ≡ s.old) × (w.0 ≡ log ++ s.ask ∷ []) × (w.1.0 ≡ no_nib) × ((after : List Cell) × Kept keys after w.0))
+      ⊎ ((found ≢ s.old) × (w.0 ≡ log) × (w.1.0 ≡ v.1.0))
 
 abbrev pub Adds : {Key : Type 0} → (ℕ → Option Key) → Step Note → View Note ℕ → ℕ → View Note ℕ → Type 0
 Adds keys s v found w = IsAdded keys s v found w

@@ -62,14 +62,14 @@ bucket_coded = coded_via (coded× coded_ℕ coded_ℕ) (λ (b : Bucket). (b.size
 abbrev pub totals_coded : Coded Totals
 totals_coded =
     coded_via (coded× (coded_list (coded_list coded_ℕ)) (coded× (coded_list bucket_coded) (coded× coded_ℕ (coded× coded_ℕ coded_ℕ))))
-        (λ (s : Totals). (s.texts, (s.buckets, (s.doubling, (s.usage, s.limit)))))
-        (λ x y e i. record { texts = (e i).0; buckets = (e i).1.0; doubling = (e i).1.1.0; usage = (e i).1.1.1.0; limit = (e i).1.1.1.1 })
+    (λ (s : Totals). (s.texts, (s.buckets, (s.doubling, (s.usage, s.limit)))))
+    (λ x y e i. record { texts = (e i).0; buckets = (e i).1.0; doubling = (e i).1.1.0; usage = (e i).1.1.1.0; limit = (e i).1.1.1.1 })
 
 abbrev pub note_coded : Coded Note
 note_coded =
     coded_via (coded× coded_ℕ (coded× event_coded (coded× coded_ℕ (coded× coded_ℕ (coded× coded_ℕ totals_coded)))))
-        (λ (e : Note). (e.by, (e.event, (e.place, (e.ticket, (e.next, e.opening))))))
-        (λ x y e i. record { by = (e i).0; event = (e i).1.0; place = (e i).1.1.0; ticket = (e i).1.1.1.0; next = (e i).1.1.1.1.0; opening = (e i).1.1.1.1.1 })
+    (λ (e : Note). (e.by, (e.event, (e.place, (e.ticket, (e.next, e.opening))))))
+    (λ x y e i. record { by = (e i).0; event = (e i).1.0; place = (e i).1.1.0; ticket = (e i).1.1.1.0; next = (e i).1.1.1.1.0; opening = (e i).1.1.1.1.1 })
 
 -- the history that the notes past the opening are
 abbrev pub history : List Note → History

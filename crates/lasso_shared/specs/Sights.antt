@@ -1,10 +1,10 @@
 -- What contracts see of a pass, of a log and of a spine.
-use Rattle.std.specs.Prelude.{◌≡◌, ℕ, List, [], ◌∷◌}
+use Rattle.std.specs.Prelude.{◌≡◌, ℕ, ◌+◌, List, [], ◌∷◌, ◌++◌}
 use base.Stored.{Coded, coded×, coded_ℕ, coded_list, coded_via}
 use Rattle.logbook.specs.Pages.{Book, book_coded}
-use Rattle.lasso_shared.specs.History.{History, Totals}
+use Rattle.lasso_shared.specs.History.{History, Append, Totals}
 use Rattle.lasso_parts.specs.Texts.{Text}
-use Rattle.lasso_shared.specs.Notes.{Note, note_coded, totals_coded, history, state}
+use Rattle.lasso_shared.specs.Notes.{Note, note_coded, totals_coded, history, state, Since}
 
 -- which interner a thing is of: its book, the names of the rows that its texts lie in, and what it opened with
 pub record Origin : Type 0 where
@@ -55,3 +55,10 @@ backbone_coded = coded_via (coded× coded_ℕ (coded× origin_coded (coded_list 
 -- the spine has seen the same, and is of the same interner
 abbrev pub IsSameSpine : Backbone → Backbone → Type 0
 IsSameSpine now before = (now.of ≡ before.of) × (now.notes ≡ before.notes)
+
+-- an append: the one event of its pass, which puts the text last in the list that the spine had seen, in one of its slots
+pub record IsAppended (of : Origin) (before after : Sight) (spine_before spine_after : Backbone) (text : Text) : Type 0 where
+  pub event : Since before.number before.notes after.notes (Append text ∷ [])
+  pub list : list_of of after.notes ≡ list_of of spine_before.notes ++ text ∷ []
+  pub spine : spine_after.notes ≡ after.notes
+  pub kept : spine_after.kept + 1 ≡ spine_before.kept

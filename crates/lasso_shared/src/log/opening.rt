@@ -58,7 +58,9 @@ impl<K: Key> Log<K> {
         let rows = Rows::new(alloc, "")?;
         let lines: Lines<Item, Row<Item>> = Lines::none::<Rows<Item>, ByRows>(&rows);
         let start = lines.start::<_, _, Opened, ByOpening>(&opened);
-        let (seen, mut pens) = Seen::<Entry, u64, Law<K>>::open_row::<Opened, ByOpening>(&opened, start, 3);
+        let (seen, mut pens) = Seen::<Entry, u64, Law<K>>::open_row::<Opened, ByOpening>(
+            &opened, start, 3,
+        );
         let mut first = pens.take();
         let head = Word::tracked(0, &mut first);
         let spine = Spine {

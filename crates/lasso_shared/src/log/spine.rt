@@ -1,13 +1,15 @@
 //! The spine: the numbers of the list, which one thread at a time has, and the slots that it keeps.
-ghost use Rattle.std.specs.Prelude.{◌≡◌, ◌+◌, ◌<◌, ◌∷◌, ◌++◌, [], length, OnOk, OnErr, IfErr, slice_get, option_map};
+ghost use Rattle.std.specs.Prelude.{◌≡◌, ◌+◌, ◌<◌, ◌∷◌, ◌++◌, [], length, OnOk, OnErr, IfErr, MatchBool};
 ghost use Rattle.lasso_parts.specs.declared.util.LassoErrorKind.TheVariants.{FailedAllocation};
 ghost use Rattle.lasso_shared.specs.History.{Append, MayFollow, IsLegal};
 ghost use Rattle.lasso_shared.specs.Notes.{Since, state, history};
-ghost use Rattle.lasso_shared.specs.Sights.{Sight, Origin, Backbone, IsSamePass, IsSameSpine, list_of, seen};
+ghost use Rattle.lasso_shared.specs.Sights.{Sight, Origin, Backbone, IsSamePass, IsSameSpine, IsAppended, list_of, seen};
+ghost use Rattle.lasso_shared.specs.Rows.{IsPlace};
 
 use crate::log::note::{Change, Entry};
 use crate::log::pass::Pass;
 use crate::log::rule::{Item, Law};
+use crate::log::ticket::Filing;
 use crate::log::words::Log;
 use lasso_parts::keys::Key;
 use lasso_parts::util::{LassoError, LassoErrorKind, LassoResult};
@@ -102,30 +104,52 @@ impl<K: Key> Log<K> {
         ensures spine { spine.new.notes ≡ pass.new.notes }
         ensures list { list_of self.now pass.new.notes ≡ list_of self.now spine.old.notes ++ text.now ∷ [] }
     {
-        let len = spine.len;
-        let (row, item) = self.rows.fill(rt, len, text);
+        let (row, item) = self.rows.fill(rt, spine.len(), text);
         for _ in rt.forever() {
             let filing = (row.again(), item.again());
-            let change = Change::Append { text };
-            if let Some(word) = self.exchange(
-                &self.head,
-                0,
-                len,
-                1,
-                0,
-                change,
-                len,
-                Some(filing),
-                &spine.seen,
-                pass,
-            ) {
-                drop(word);
-                spine.seen = pass.sighting();
-                spine.len = len + 1;
-                spine.kept -= 1;
+            if self.try_append(spine, pass, text, filing) {
+                pass.show_legal();
                 return;
             }
         }
         unreachable!()
+    }
+
+    // Appends where the length is the spine's. Else nothing is done.
+    fn try_append(
+        &self,
+        spine: &mut Spine<K>,
+        pass: &mut Pass<K>,
+        text: Item,
+        filing: Filing,
+    ) -> bool
+        requires of { (pass.old.of ≡ self.now) × (spine.old.of ≡ self.now) }
+        requires kept { 0 < spine.old.kept }
+        requires may { MayFollow K.key_at (state self.now.opening spine.old.notes) (Append text.now) }
+        requires place { IsPlace self.now.rows (length (list_of self.now spine.old.notes)) filing.0.of filing.0.value.items filing.1.of }
+        requires filled { filing.1.value.now ≡ text.now }
+        ensures same { IsSamePass pass.new pass.old × (spine.new.of ≡ spine.old.of) }
+        ensures done { MatchBool result (IsAppended self.now pass.old pass.new spine.old spine.new text.now) ((pass.new ≡ pass.old) × (spine.new ≡ spine.old)) }
+    {
+        let len = spine.len;
+        let Some(word) = self.exchange(
+            &self.head,
+            0,
+            len,
+            1,
+            0,
+            Change::Append { text },
+            len,
+            Some(filing),
+            &spine.seen,
+            pass,
+        ) else {
+            return false;
+        };
+        drop(word);
+        spine.seen = pass.sighting();
+        spine.len = len + 1;
+        spine.kept -= 1;
+        true
     }
 }

@@ -51,7 +51,8 @@ impl<K: Key> Log<K> {
         let mut seen = self.seen.again();
         let mut offer: Offer<Entry, u64, Law<K>, NoGain> = seen.plain::<NoGain, (), Nothing>(&());
         let mut pen = seen.no_pen();
-        self.head.compare_exchange::<Fetch<K>, NoGain>(0, 0, &mut seen, &mut offer, &mut pen);
+        self.head
+            .compare_exchange::<Fetch<K>, NoGain>(0, 0, &mut seen, &mut offer, &mut pen);
         let word = Word::tracked(0, &mut pen);
         Ticket { word, pen }
     }
@@ -72,14 +73,21 @@ impl<K: Key> Log<K> {
     }
 
     // What a word that the pass knows has at one step. `place` is the word's.
-    pub(super) fn load(&self, word: &Word<Entry, u64, Law<K>>, place: u64, pass: &mut Pass<K>) -> u64
+    pub(super) fn load(
+        &self,
+        word: &Word<Entry, u64, Law<K>>,
+        place: u64,
+        pass: &mut Pass<K>,
+    ) -> u64
         requires of { (pass.old.of ≡ self.now) × (word.now ≡ word_of self.now.book word.now.key) }
         requires known { IsWord pass.old.notes place word.now.key }
         ensures same { IsSamePass pass.new pass.old }
         ensures since { Since pass.old.number pass.old.notes pass.new.notes [] }
         ensures reply { Reads K.key_at pass.old.of.opening pass.new.notes place word.now.key result }
     {
-        let mut offer: Offer<Entry, u64, Law<K>, NoGain> = pass.seen.plain::<NoGain, (), Nothing>(&());
+        let mut offer: Offer<Entry, u64, Law<K>, NoGain> = pass
+            .seen
+            .plain::<NoGain, (), Nothing>(&());
         let found = word.load::<Peek<K>, NoGain>(&mut pass.seen, &mut offer);
         let mut later = pass.seen.again();
         look(&mut later, &mut pass.ticket.pen);

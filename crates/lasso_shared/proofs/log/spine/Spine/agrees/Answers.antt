@@ -17,7 +17,7 @@ returns g c =
     let b = tails other both c.pass.invariant.3 c.learn.ensures.3 in
     let opening : opening_of mine ≡ opening_of other = a.1 ∙ sym b.1 in
     let long : length (state (opening_of mine) (notes_of mine)).texts ≡ length (state (opening_of other) (notes_of other)).texts =
-        ap (λ s. length (list_of s.of s.notes)) c.self.view_is ∙ (c.requires.1 ∙ sym (ap (λ s. length (list_of s.of s.notes)) c.pass.view_is)) in
+    ap (λ s. length (list_of s.of s.notes)) c.self.view_is ∙ (c.requires.1 ∙ sym (ap (λ s. length (list_of s.of s.notes)) c.pass.view_is)) in
     let same = same_list (opening_of mine) (notes_of mine) (notes_of other) (notes_of both) a.2 b.2
-          (subst (λ (o : Totals). length (state (opening_of mine) (notes_of mine)).texts ≡ length (state o (notes_of other)).texts) (sym opening) long) in
+    (subst (λ (o : Totals). length (state (opening_of mine) (notes_of mine)).texts ≡ length (state o (notes_of other)).texts) (sym opening) long) in
     rw (← c.self.view_is, ← c.pass.view_is) (subst (λ (o : Totals). (state (opening_of mine) (notes_of mine)).texts ≡ (state o (notes_of other)).texts) opening same)

@@ -41,5 +41,5 @@ pub returns-clause-reply : goal.returns-clause-reply
 returns-clause-reply g c =
     let word : IsWord (notes_of c.pass.inside.seen.log) c.args.place c.args.word.now.key = rw (ap (λ s. s.notes) c.pass.view_is) c.requires.known in
     let value : Reads g.K.Key.key_at (opening_of c.pass.inside.seen.log) (notes_of c.load-found.new.seen.log) c.args.place c.args.word.now.key c.load-found.result =
-        read_value g.K.Key.key_at c.pass.inside.seen.log c.load-found.new.seen.log c.args.place c.args.word.now.key c.load-found.result c.pass.invariant.3 c.load-found.ensures.5 word c.load-found.ensures.6.1 in
+    read_value g.K.Key.key_at c.pass.inside.seen.log c.load-found.new.seen.log c.args.place c.args.word.now.key c.load-found.result c.pass.invariant.3 c.load-found.ensures.5 word c.load-found.ensures.6.1 in
     rw (← ap (λ s. s.of.opening) c.pass.view_is) value
