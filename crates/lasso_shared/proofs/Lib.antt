@@ -10,3 +10,4 @@ pub mod Logs
 pub mod Places
 pub mod Lined
 pub mod Reading
+pub mod Called

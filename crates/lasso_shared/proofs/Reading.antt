@@ -1,13 +1,15 @@
 -- What a reading of the length tells of the list, and what an opening holds.
-use Rattle.std.proofs.Common.{◌≡◌, ◌≢◌, ◌⊎◌, ℕ, zero, suc, ◌+◌, ◌<◌, ◌≤◌, true, List, [], ◌∷◌, ◌++◌, length, slice_get, slice_index_or, Some, None, Option, refl, ap, sym, ◌∙◌, subst, arith, inl, inr}
+use Rattle.std.proofs.Common.{◌≡◌, ◌≢◌, ◌⊎◌, ℕ, zero, suc, ◌+◌, ◌<◌, ◌≤◌, true, List, [], ◌∷◌, ◌++◌, length, length-append, slice_get, slice_index_or, Some, None, Option, refl, ap, sym, ◌∙◌, subst, arith, inl, inr}
 use Rattle.std.proofs.lemmas.Map.Keys.{IsDistinct-from_apart}
 use Rattle.std.specs.Str.{bytes_eq}
 use mathlib.Core.List.{IsPrefix}
-use Rattle.lasso_parts.specs.Texts.{Text, IsDistinct}
-use Rattle.lasso_shared.specs.History.{Event, Append, Totals, IsOpening, opened, counted}
-use Rattle.lasso_shared.specs.Notes.{Note, state, IsWordWith}
+use Rattle.lasso_parts.specs.Texts.{Text, IsDistinct, Fits}
+use Rattle.logbook.specs.Pages.{Cell}
+use Rattle.lasso_parts.proofs.TextLemmas.{fits_push}
+use Rattle.lasso_shared.specs.History.{Event, Reserve, Charge, Append, Limit, History, Totals, IsOpening, IsLegal, MayFollow, opened, counted, totals}
+use Rattle.lasso_shared.specs.Notes.{Note, history, state, IsWordWith}
 use Rattle.lasso_shared.specs.Book.{IsKept, IsDone, Reads}
-use Rattle.lasso_shared.proofs.Lined.{stands_still}
+use Rattle.lasso_shared.proofs.Lined.{stands_still, prefix_short}
 use Rattle.lasso_shared.proofs.Lengths.{length_of, same_texts, one_more, text_added}
 use Rattle.lasso_shared.proofs.Logs.{either_begins}
 use Rattle.lasso_shared.proofs.Words.{head_grown}
@@ -20,19 +22,35 @@ same_list o a b both p q len = go (either_begins a b both p q)
     go (inl r) = same_texts o a b r len
     go (inr r) = sym (same_texts o b a r (sym len))
 
-get_is : (xs : List Text) (n : ℕ) → n < length xs → slice_get xs n ≡ Some (slice_index_or xs n [])
+pub get_is : (xs : List Text) (n : ℕ) → n < length xs → slice_get xs n ≡ Some (slice_index_or xs n [])
 get_is [] n low = absurd (omega arith)
 get_is (x ∷ xs) zero low = refl
 get_is (x ∷ xs) (suc n) low = get_is xs n (omega arith)
 
 -- what a longer list has at a position of a shorter one is the shorter one's text
-pub text_read : (xs ys : List Text) (n : ℕ) (t : Text) → IsPrefix xs ys → n < length xs → t ≡ slice_index_or ys n [] → Some t ≡ slice_get xs n
-text_read xs ys n t p low is = ap (λ (x : Text). Some x) (is ∙ stands_still xs ys n p low) ∙ sym (get_is xs n low)
+pub text_read : (xs ys : List Text) (n : ℕ) (t : Text) → IsPrefix xs ys → n < length xs → slice_get ys n ≡ Some t → Some t ≡ slice_get xs n
+text_read xs ys n t p low is =
+    let long : length xs ≤ length ys = prefix_short xs ys p in
+    sym is ∙ (get_is ys n (omega (arith, long, low)) ∙ (ap (λ (x : Text). Some x) (stands_still xs ys n p low) ∙ sym (get_is xs n low)))
 
 none_distinct : IsDistinct []
 none_distinct = IsDistinct-from_apart bytes_eq [] (λ i j d below inside. absurd (omega (arith, inside)))
 
+event_fits : {Key : Type 0} (keys : ℕ → Option Key) (s : Totals) (e : Event) → Fits keys (length s.texts) → MayFollow keys s e → Fits keys (length (counted s e).texts)
+event_fits keys s (Append t) fits may = subst (Fits keys) (sym (length-append s.texts (t ∷ []))) (fits_push keys (length s.texts) fits may.1)
+event_fits keys s (Reserve bucket n) fits may = fits
+event_fits keys s (Charge size n) fits may = fits
+event_fits keys s (Limit m) fits may = fits
+
+legal_fits : {Key : Type 0} (keys : ℕ → Option Key) (s : Totals) (h : History) → Fits keys (length s.texts) → IsLegal keys s h → Fits keys (length (totals s h).texts)
+legal_fits keys s [] fits legal = fits
+legal_fits keys s (e ∷ h) fits legal = legal_fits keys (counted s e.1) h (event_fits keys s e.1 fits legal.0) legal.1
+
 module _ {Key : Type 0} (keys : ℕ → Option Key) where
+  -- the list of a history that the rule held of fits the keys
+  pub list_fits : (o : Totals) (notes : List Note) → ((cells : List Cell) × IsKept keys cells o notes) → Fits keys (length (state o notes).texts)
+  list_fits o notes held = legal_fits keys o (history notes) held.1.opened.fits held.1.legal
+
   -- the length word of an interner that opened with no text is the length of the list
   pub length_read : (o : Totals) (notes : List Note) (n : ℕ) → o.texts ≡ [] → Reads keys o notes 0 0 n → n ≡ length (state o notes).texts
   length_read o notes n none reads = let len = length_of o notes 0 n reads.0 in omega (arith, len, ap (λ (ts : List Text). length ts) none)

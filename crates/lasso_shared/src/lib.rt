@@ -4,3 +4,4 @@
 pub mod locks;
 pub mod log;
 pub mod rows;
+pub mod threaded;

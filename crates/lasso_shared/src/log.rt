@@ -6,6 +6,7 @@ pub mod opening;
 pub mod pass;
 pub mod reading;
 pub mod rule;
+pub mod shown;
 pub mod spine;
 pub mod ticket;
 pub mod words;

@@ -1,11 +1,14 @@
 //! What is read off the log: a text, and the length.
-ghost use Rattle.std.specs.Prelude.{◌≡◌, [], length, slice_get, option_map};
-ghost use Rattle.lasso_shared.specs.Notes.{Since};
+ghost use Rattle.std.specs.Prelude.{◌≡◌, ◌<◌, [], Some, length, slice_get, option_map};
+ghost use Rattle.lasso_shared.specs.Notes.{Since, texts_in};
 ghost use Rattle.lasso_shared.specs.Sights.{Sight, Origin, IsSamePass, list_of};
 
+use crate::log::note::Entry;
 use crate::log::pass::Pass;
+use crate::log::rule::Law;
 use crate::log::words::Log;
 use lasso_parts::keys::Key;
+use logbook::Seen;
 
 impl<K: Key> Log<K> {
     /// The number of texts at one step. It takes no memory and does not wait.
@@ -31,6 +34,15 @@ impl<K: Key> Log<K> {
         }
         let mut seen = self.seen.again();
         seen.learn(&pass.seen);
-        Some(*self.rows.lend(&mut seen, position))
+        Some(self.lend(&mut seen, position))
+    }
+
+    // The text at a position below the length of a list that was seen.
+    pub(super) fn lend(&self, seen: &mut Seen<Entry, u64, Law<K>>, position: u64) -> &str
+        requires rows { seen.old.names ≡ self.now.rows }
+        requires below { position < length (texts_in seen.old.log) }
+        ensures text { slice_get (texts_in seen.old.log) position ≡ Some result.now }
+    {
+        *self.rows.lend(seen, position)
     }
 }

@@ -1,6 +1,7 @@
 //! The spine: the numbers of the list, which one thread at a time has, and the slots that it keeps.
 ghost use Rattle.std.specs.Prelude.{◌≡◌, ◌+◌, ◌<◌, ◌∷◌, ◌++◌, [], length, OnOk, OnErr, IfErr, MatchBool};
 ghost use Rattle.lasso_parts.specs.declared.util.LassoErrorKind.TheVariants.{FailedAllocation};
+ghost use Rattle.lasso_parts.specs.Texts.{Fits};
 ghost use Rattle.lasso_shared.specs.History.{Append, MayFollow, IsLegal};
 ghost use Rattle.lasso_shared.specs.Notes.{Since, state, history};
 ghost use Rattle.lasso_shared.specs.Sights.{Sight, Origin, Backbone, IsSamePass, IsSameSpine, IsAppended, list_of, seen};
@@ -46,6 +47,7 @@ impl<K: Key> Spine<K> {
     /// The length of the list that the spine has seen.
     pub fn len(&self) -> u64
         ensures len { result ≡ length (list_of self.now.of self.now.notes) }
+        ensures fits { Fits K.key_at (length (list_of self.now.of self.now.notes)) }
         ensures legal { IsLegal K.key_at self.now.of.opening (history self.now.notes) }
     {
         self.len
