@@ -12,6 +12,9 @@ ghost use Rattle.lasso_shared.specs.Calls.{IsCall};
 ghost use Rattle.lasso_shared.specs.Notes.{Since};
 ghost use Rattle.lasso_shared.specs.Sights.{Sight, Origin, IsSamePass, seen};
 
+#[cfg(test)]
+mod tests;
+
 use crate::locks::Locked;
 use crate::log::{Log, Opened, Pass, Spine};
 use counted_slot::Fits;
@@ -134,6 +137,7 @@ impl<K: Key, S: BuildHasher + Drop> ThreadedRodeo<K, S> {
     /// The key of the text, which goes last in the list if it is not there. The text is kept as it is, with no copy, so
     /// the memory limit never refuses it. A text that is there is never refused. A new one is refused where the key
     /// type has no key for its position, else for want of memory; no event is added then.
+    #[tactic(auto, using(crate::proofs::Tickets::since_trans))]
     pub fn try_get_or_intern_static_as<R: Wait>(
         &self,
         rt: &R,
