@@ -29,8 +29,13 @@ module _ {K : Type 0} (key_at : ℕ → Option K) (o : Totals) (p : ℕ) where
       let x = c.explained in record {
         past = history s.rest ++ c.past;
         begins = sym (append_assoc (history before) (history s.rest) c.past) ∙ (ap (λ (h : History). h ++ c.past) whole ∙ c.begins);
-        explained = (history s.rest ++ x.0, x.1, append_assoc (history s.rest) x.0 x.1 ∙ ap (λ (h : History). history s.rest ++ h) x.2, x.3,
-          subst (λ (h : History). MayReply key_at (totals o h) q r) (sym (sym (append_assoc (history before) (history s.rest) x.0) ∙ ap (λ (h : History). h ++ x.0) whole)) x.4);
+        explained = (
+          history s.rest ++ x.0,
+          x.1,
+          append_assoc (history s.rest) x.0 x.1 ∙ ap (λ (h : History). history s.rest ++ h) x.2,
+          x.3,
+          subst (λ (h : History). MayReply key_at (totals o h) q r) (sym (sym (append_assoc (history before) (history s.rest) x.0) ∙ ap (λ (h : History). h ++ x.0) whole)) x.4,
+        );
         makes = subst (Makes q r) (sym (events_append p (history s.rest) c.past ∙ ap (λ (es : List Event). es ++ events_of p c.past) s.events)) c.makes;
       }
 

@@ -77,10 +77,10 @@ invariant_of-desk-2 g c =
     let of : c.append.new.spine.of ≡ c.self.inside.log = a.same.1 ∙ (same.0 ∙ desk) in
     let before : list_of c.self.inside.log c.reserve_next.new.spine.notes ≡ list = ap (λ of. list_of of c.reserve_next.new.spine.notes) (sym desk) ∙ ap (list_of c.desk.inside.spine.of) same.1 in
     let after : list_of c.append.new.spine.of c.append.new.spine.notes ≡ list ++ t ∷ [] =
-        ap (λ of. list_of of c.append.new.spine.notes) of ∙ (ap (list_of c.self.inside.log) a.spine ∙ (a.list ∙ ap (λ (ts : List Text). ts ++ t ∷ []) before)) in
+    ap (λ of. list_of of c.append.new.spine.notes) of ∙ (ap (list_of c.self.inside.log) a.spine ∙ (a.list ∙ ap (λ (ts : List Text). ts ++ t ∷ []) before)) in
     let whole = IsIndexOf-reserved (text_hash g.S.BuildHasher.build_hasher g.S.Hasher.Hasher.write g.S.Hasher.Hasher.finish c.desk.inside.hasher) list c.desk.inside.index c.reserve_one.new.self c.desk.invariant (subst (λ (ts : List Text). IsFiled (text_hash g.S.BuildHasher.build_hasher g.S.Hasher.Hasher.write g.S.Hasher.Hasher.finish c.desk.inside.hasher) ts c.reserve_one.new.self) mine r.filed) r.same in
     subst (λ (ts : List Text). IsIndexOf (text_hash g.S.BuildHasher.build_hasher g.S.Hasher.Hasher.write g.S.Hasher.Hasher.finish c.desk.inside.hasher) ts c.insert_reserved.new.self) (sym after)
-      (IsIndexOf-push (text_hash g.S.BuildHasher.build_hasher g.S.Hasher.Hasher.write g.S.Hasher.Hasher.finish c.desk.inside.hasher) list t c.hash_text-hash.result (g.K.Key.number key) c.reserve_one.new.self c.insert_reserved.new.self whole absent number c.hash_text-hash.ensures c.insert_reserved.ensures.holds c.insert_reserved.ensures.filed)
+    (IsIndexOf-push (text_hash g.S.BuildHasher.build_hasher g.S.Hasher.Hasher.write g.S.Hasher.Hasher.finish c.desk.inside.hasher) list t c.hash_text-hash.result (g.K.Key.number key) c.reserve_one.new.self c.insert_reserved.new.self whole absent number c.hash_text-hash.ensures c.insert_reserved.ensures.holds c.insert_reserved.ensures.filed)
 
 pub returns-clause-call : goal.returns-clause-call
 returns-clause-call g c =
@@ -98,4 +98,4 @@ returns-clause-call g c =
     let after : (state o c.append.new.pass.notes).texts ≡ list ++ t ∷ [] = ap (λ of. list_of of c.append.new.pass.notes) (sym c.self.view_is) ∙ (a.list ∙ ap (λ (ts : List Text). ts ++ t ∷ []) before) in
     let event : Since c.args.pass.now.number c.len.new.pass.notes c.append.new.pass.notes (Append t ∷ []) = subst (λ (p : ℕ). Since p c.len.new.pass.notes c.append.new.pass.notes (Append t ∷ [])) c.len.ensures.same.0 a.event in
     added g.K.Key.key_at o c.args.pass.now.number c.args.pass.now.notes c.append.new.pass.notes list t key (since_trans c.args.pass.now.number c.args.pass.now.notes c.len.new.pass.notes c.append.new.pass.notes (Append t ∷ []) c.len.ensures.since event)
-      after c.desk.invariant.distinct absent (sym made)
+    after c.desk.invariant.distinct absent (sym made)
