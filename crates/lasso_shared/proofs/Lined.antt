@@ -4,16 +4,16 @@
 -- in that row is written with something that means the text. A lasting fact can be had any number of times.
 -- So one more text is a matter of putting its two facts at the end of the list, and a fact of a position below
 -- the length is had by a walk along the list, which copies it and leaves the list as it was. Assumes `Logic`.
-use Rattle.std.proofs.Common.{◌≡◌, ℕ, zero, suc, ◌+◌, ◌<◌, ◌≤◌, List, [], ◌∷◌, ◌++◌, length, slice_index, slice_index_or, sym, refl, ap, ◌∙◌, subst, arith}
+use Rattle.std.proofs.Common.{◌≡◌, ℕ, zero, suc, ◌+◌, ◌<◌, ◌≤◌, List, [], ◌∷◌, ◌++◌, length, slice_index, slice_index_or, sym, refl, arith}
 use mathlib.Core.List.{IsPrefix}
 use seplogic.Ra.Ura.{Ura}
 use base.Stored.{Coded}
-use base.Logic.{SProp, ent, sep, wand, ex, all, upd, via, upd_i, all_i}
+use base.Logic.{SProp, ent, sep, wand, all, upd, via, upd_i, all_i}
 use base.Fml.{Fml, ftrue}
 use base.Shift.{Keyless}
 use types.Logic.{Logic, sem}
 use types.Tokens.{res_dup}
-use types.Kit.{‵, raw, ◌⊛◌, given, some, later, ◌$◌, ◌∵◌, !, qed, by, move, keep, drop, split, join, fsplit, fjoin, fpick, fpack, pick, learn, show, check, frame, assume, suffices, updating, await, now, done, rewrite, use1, use2}
+use types.Kit.{‵, ◌⊛◌, given, some, later, ◌$◌, ◌∵◌, !, qed, by, move, drop, split, join, fsplit, fjoin, fpick, fpack, pick, learn, frame, assume, suffices, updating, await, now, done, rewrite, use1, use2}
 use denote.Steps.{nothing}
 use denote.RattleType.{RattleType}
 use Rattle.std.specs.declared.option.Option.TheVariants.{None}
@@ -22,7 +22,7 @@ use Rattle.logbook.specs.Kept.{Rules, rules, offer_owns}
 use Rattle.boxcar.specs.Slot.{written, Named}
 use Rattle.lasso_parts.specs.Texts.{Text}
 use Rattle.lasso_shared.specs.Rows.{row_of, offset_of, name_at, IsPlace, held, holds_text, in_row, filled, lined, OnlyGrows, PutsLast}
-use Rattle.lasso_shared.proofs.Opened.{Cells, Kept, Sees, At, Looked, looks}
+use Rattle.lasso_shared.proofs.Opened.{Cells, Sees, At, looks}
 
 module _ (V R : RattleType) (cells : V.Denot → List Named) (meaning : R.Denot → Text) where
   -- what lies in the rows names no token of one thread

@@ -13,7 +13,7 @@ use base.Stored.{Coded}
 use base.Logic.{SProp, ent, sep, ex, guard, upd_i, guard_i, id⊢}
 use base.Fml.{Fml, ftrue, finv, fnamed}
 use base.Growing.{latest}
-use types.Growing.{latest_bounds, latest_shows, at_least_dup}
+use types.Growing.{latest_bounds, latest_shows}
 use types.Logic.{Logic, sem}
 use types.Kit.{‵, raw, ◌⊛◌, given, ◌$◌, ◌∵◌, !, qed, by, move, split, split3, join, fsplit, fsplit3, fjoin, fjoin3, fpick, fpack, learn, show, check, frame, assume, suffices, use1, use2, drop, done}
 use denote.Steps.{nothing}

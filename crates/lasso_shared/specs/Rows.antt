@@ -1,5 +1,5 @@
 -- Where the texts of a shared list lie, and what a book keeps of them: that each cell below the length is filled with its text.
-use Rattle.std.specs.Prelude.{◌≡◌, ℕ, zero, suc, ◌+◌, ◌-◌, ◌*◌, ◌^◌, ◌<◌, List, [], ◌∷◌, ◌++◌, length, map, slice_index, slice_index_or, nat_lt, if◌then◌else◌}
+use Rattle.std.specs.Prelude.{◌≡◌, ℕ, zero, suc, ◌-◌, ◌*◌, ◌^◌, ◌<◌, List, [], ◌∷◌, ◌++◌, length, map, slice_index, slice_index_or, nat_lt, if◌then◌else◌}
 use mathlib.Core.List.{IsPrefix}
 use base.Fml.{Fml, ftrue, fex, fsep}
 use denote.RattleType.{RattleType}

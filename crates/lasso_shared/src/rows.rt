@@ -7,6 +7,8 @@ ghost use Rattle.lasso_shared.specs.Rows.{IsPlace, OnlyGrows, row_of, offset_of,
 
 pub mod facts;
 pub mod rule;
+#[cfg(test)]
+mod tests;
 
 use crate::rows::facts::{Lines, found_item, found_row};
 use crate::rows::rule::{Cells, InRows, Listed, Text};

@@ -1,4 +1,4 @@
-use Rattle.std.proofs.Common.{rules, arith, ◌≡◌, ◌<◌, ◌≤◌, ◌-◌, ◌*◌, ◌^◌, ◌%◌, ap, sym, subst, ℕ}
+use Rattle.std.proofs.Common.{rules, arith, ◌<◌, ◌-◌, ◌*◌, ◌^◌, ◌%◌, sym, subst, ℕ}
 use Rattle.std.proofs.lemmas.Nat.{one_shl}
 use Rattle.lasso_shared.proofs.Places.{top_low, top_high, top_lies, Lies}
 use Rattle.lasso_shared.proofs.rows.place_of.Goals as goal

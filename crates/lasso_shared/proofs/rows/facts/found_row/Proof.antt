@@ -4,11 +4,10 @@
 -- token says is had of the `Seen`: its list is a beginning of the book's list at this moment, and the book
 -- keeps two lasting facts for each text of that. The first of them names the row of the position. The `Seen`
 -- is closed as it was.
-use Rattle.lasso_shared.proofs.WalkWords.{◌≡◌, ◌<◌, ℕ, List, [], ◌∷◌, length, slice_index, slice_index_or, refl, w64, a_type, dcons, dnil, named, inst_fn, Val, vint, vptr, SProp, emp, Fml, ftrue, fsep, flft, ‵, raw, ◌⊛◌, later, ◌$◌, ◌∵◌, !, qed, by, move, keep, let_go, split, fsplit, fsplit3, fjoin, fjoin3, fpick, use1, await, feq_i, of_opd, returns, enter, alloc_all, pass_all, free_all, look_at, get, sets, fact, says_two, tables, yes, no, RattleType, owns, types_at, plain, u64, mut_vals, mut_Tells, uint_vals, uint_Tells, param, bounded, nothing, opens, closes, heard, Stays, stay_dropped, stay_ref, walk_of, Goes-dropped, Goes-ref, proved, token, token_told, ends}
+use Rattle.lasso_shared.proofs.WalkWords.{◌<◌, ℕ, List, [], ◌∷◌, length, slice_index, refl, w64, a_type, dcons, dnil, named, inst_fn, Val, vint, vptr, SProp, Fml, ftrue, fsep, flft, ‵, raw, ◌⊛◌, later, ◌$◌, ◌∵◌, !, qed, by, move, keep, let_go, split, fsplit, fsplit3, fjoin, fjoin3, fpick, use1, await, feq_i, of_opd, returns, enter, alloc_all, pass_all, free_all, look_at, get, sets, fact, says_two, tables, yes, no, RattleType, owns, types_at, plain, u64, mut_vals, mut_Tells, uint_vals, uint_Tells, param, bounded, nothing, opens, closes, heard, Stays, stay_dropped, stay_ref, walk_of, Goes-dropped, Goes-ref, proved, token, token_told, ends}
 use Rattle.logbook.specs.contracts.tokens.Seen as Seen
 use Rattle.boxcar.specs.contracts.slot.Written as Written
 use Rattle.boxcar.proofs.Made.{written_made}
-use Rattle.lasso_parts.specs.Texts.{Text}
 use Rattle.lasso_shared.specs.Rows.{row_of, OnlyGrows}
 use Rattle.lasso_shared.specs.contracts.rows.rule.InRows as InRows
 use Rattle.lasso_shared.specs.contracts.rows.rule.InRowsRuleU64.TheImpl as law

@@ -1,6 +1,5 @@
 -- `none` makes facts of no text, for which nothing is owed.
-use Rattle.lasso_shared.proofs.WalkWords.{◌≡◌, ℕ, List, [], ◌∷◌, refl, a_type, dcons, dnil, named, inst_fn, Val, vptr, SProp, emp, Fml, ftrue, fsep, flft, ‵, raw, ◌⊛◌, ◌$◌, ◌∵◌, !, qed, by, move, keep, let_go, split, fsplit, fjoin, use0, no_more, and_then, returns, enter, alloc_all, pass_all, free_all, look_at, get, sets, agg, fact, says_two, tables, yes, RattleType, owns, types_at, plain, RefOf, shr_vals, shr_Tells, param, bounded, nothing, Tuple, alive, Stays, stay_dropped, walk_of, Goes-dropped, proved, token, Token, token_made, ends}
-use Rattle.lasso_shared.specs.contracts.rows.facts.Lines as Lines
+use Rattle.lasso_shared.proofs.WalkWords.{[], ◌∷◌, refl, a_type, dcons, dnil, named, inst_fn, Val, vptr, SProp, ‵, raw, ◌⊛◌, ◌$◌, ◌∵◌, !, qed, by, keep, split, fjoin, use0, no_more, and_then, returns, enter, alloc_all, pass_all, free_all, look_at, get, sets, agg, says_two, tables, yes, RattleType, owns, types_at, plain, RefOf, shr_vals, shr_Tells, param, bounded, nothing, Tuple, alive, Stays, stay_dropped, walk_of, Goes-dropped, proved, token, Token, token_made, ends}
 use Rattle.lasso_shared.specs.contracts.rows.facts.Lines.none.{ended, clauses}
 use Rattle.lasso_shared.specs.contracts.rows.facts.Lines.none.Key.{name as #self}
 use Rattle.lasso_shared.proofs.rows.facts.Lines.none.Statement.{statement}

@@ -1,6 +1,6 @@
 -- `push` puts two lasting facts at the end of those that the lines own: that the row of the next position is
 -- written, and its cell. The code does nothing, since none of this has bytes.
-use Rattle.lasso_shared.proofs.WalkWords.{◌≡◌, ◌+◌, arith, rewrite, ℕ, List, [], ◌∷◌, ◌++◌, length, refl, sym, a_type, dcons, dnil, named, inst_fn, Val, vptr, vunit, SProp, Fml, ftrue, fsep, flft, ‵, raw, ◌⊛◌, ◌$◌, ◌∵◌, !, qed, by, move, keep, let_go, split, fsplit, fsplit3, fjoin, fjoin3, use2, feq_i, of_opd, unit_lit, returns, enter, alloc_all, pass_all, free_all, look_at, sets, fact, says_two, tables, yes, RattleType, owns, types_at, plain, RefOf, mut_vals, mut_Tells, shr_vals, shr_Tells, param, bounded, unhide, nothing, opens, closes, heard, Stays, stay_dropped, stay_ref, walk_of, Goes-dropped, Goes-ref, proved, ends}
+use Rattle.lasso_shared.proofs.WalkWords.{◌≡◌, ◌+◌, arith, rewrite, ℕ, List, [], ◌∷◌, ◌++◌, length, refl, a_type, dcons, dnil, named, inst_fn, Val, vptr, vunit, SProp, Fml, ftrue, fsep, flft, ‵, raw, ◌⊛◌, ◌$◌, ◌∵◌, !, qed, by, move, keep, let_go, split, fsplit, fsplit3, fjoin, fjoin3, use2, feq_i, of_opd, unit_lit, returns, enter, alloc_all, pass_all, free_all, look_at, sets, fact, says_two, tables, yes, RattleType, owns, types_at, plain, RefOf, mut_vals, mut_Tells, shr_vals, shr_Tells, param, bounded, unhide, nothing, opens, closes, heard, Stays, stay_dropped, stay_ref, walk_of, Goes-dropped, Goes-ref, proved, ends}
 use Rattle.boxcar.specs.contracts.slot.Written as Written
 use Rattle.lasso_parts.specs.Texts.{Text}
 use Rattle.lasso_shared.specs.Rows.{IsPlace}
