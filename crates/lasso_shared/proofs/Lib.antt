@@ -3,3 +3,16 @@ pub mod Legal
 mod Ranges
 mod MachineGood
 mod MachineSteps
+pub mod WalkWords
+pub mod Opened
+pub mod PenOut
+pub mod Histories
+pub mod Tickets
+pub mod Words
+pub mod Lengths
+pub mod Steps
+pub mod Logs
+pub mod Places
+pub mod Lined
+pub mod Reading
+pub mod Called

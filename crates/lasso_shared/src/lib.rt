@@ -2,4 +2,8 @@
 #![tactic(auto)]
 
 pub mod laws;
+pub mod locks;
+pub mod log;
 pub mod machine;
+pub mod rows;
+pub mod threaded;

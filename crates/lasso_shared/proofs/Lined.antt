@@ -1,0 +1,156 @@
+-- Texts that lie in rows, as a resource: how a text is put to them, and how one is taken out of them.
+--
+-- Each text of the list is kept as two lasting facts: that its row is written, and that the cell at its offset
+-- in that row is written with something that means the text. A lasting fact can be had any number of times.
+-- So one more text is a matter of putting its two facts at the end of the list, and a fact of a position below
+-- the length is had by a walk along the list, which copies it and leaves the list as it was. Assumes `Logic`.
+use Rattle.std.proofs.Common.{◌≡◌, ℕ, zero, suc, ◌+◌, ◌<◌, ◌≤◌, List, [], ◌∷◌, ◌++◌, length, slice_index, slice_index_or, sym, refl, arith}
+use mathlib.Core.List.{IsPrefix}
+use seplogic.Ra.Ura.{Ura}
+use base.Stored.{Coded}
+use base.Logic.{SProp, ent, sep, wand, all, upd, via, upd_i, all_i}
+use base.Fml.{Fml, ftrue}
+use base.Shift.{Keyless}
+use types.Logic.{Logic, sem}
+use types.Tokens.{res_dup}
+use types.Kit.{‵, ◌⊛◌, given, some, later, ◌$◌, ◌∵◌, !, qed, by, move, drop, split, join, fsplit, fjoin, fpick, fpack, pick, learn, frame, assume, suffices, updating, await, now, done, rewrite, use1, use2}
+use denote.Steps.{nothing}
+use denote.RattleType.{RattleType}
+use Rattle.std.specs.declared.option.Option.TheVariants.{None}
+use Rattle.logbook.specs.Pages.{Cell, Book}
+use Rattle.logbook.specs.Kept.{Rules, rules, offer_owns}
+use Rattle.boxcar.specs.Slot.{written, Named}
+use Rattle.lasso_parts.specs.Texts.{Text}
+use Rattle.lasso_shared.specs.Rows.{row_of, offset_of, name_at, IsPlace, held, holds_text, in_row, filled, lined, OnlyGrows, PutsLast}
+use Rattle.lasso_shared.proofs.Opened.{Cells, Sees, At, looks}
+
+module _ (V R : RattleType) (cells : V.Denot → List Named) (meaning : R.Denot → Text) where
+  -- what lies in the rows names no token of one thread
+  pub lined_keyless : (names : List ℕ) (n : ℕ) (texts : List Text) → Keyless (lined V R cells meaning names n texts)
+  lined_keyless names n [] = tt
+  lined_keyless names n (t ∷ ts) = ((λ v. (tt, λ x. (tt, λ e. tt))), lined_keyless names (suc n) ts)
+
+-- what stands at a place stays there in a longer list
+pub stands_still : (xs ys : List Text) (n : ℕ) → IsPrefix xs ys → n < length xs → slice_index_or ys n [] ≡ slice_index_or xs n []
+stands_still [] ys n p l = absurd (omega arith)
+stands_still (x ∷ xs) [] n p l = absurd (cc (p.1))
+stands_still (x ∷ xs) (y ∷ ys) zero p l = let h : x ≡ y = cc (p.1) in sym h
+stands_still (x ∷ xs) (y ∷ ys) (suc n) p l = stands_still xs ys n (p.0, cc (p.1)) (omega arith)
+
+pub prefix_short : (xs ys : List Text) → IsPrefix xs ys → length xs ≤ length ys
+prefix_short [] ys p = omega arith
+prefix_short (x ∷ xs) [] p = absurd (cc (p.1))
+prefix_short (x ∷ xs) (y ∷ ys) p = let le : length xs ≤ length ys = prefix_short xs ys (p.0, cc (p.1)) in omega arith
+
+module _ {M : Type 1} {𝓤 : Ura M} (𝓛 : Logic 𝓤) (V R : RattleType) (cells : V.Denot → List Named) (meaning : R.Denot → Text) where
+  open 𝓛 use {H}
+
+  abbrev Pr : Type 2
+  Pr = SProp 𝓤
+
+  abbrev ◌⊢◌ : Pr → Pr → Type 1
+  P ⊢ Q = ent 𝓤 P Q
+
+  abbrev ◌∗◌ : Pr → Pr → Pr
+  P ∗ Q = sep 𝓤 P Q
+
+  abbrev ◌-∗◌ : Pr → Pr → Pr
+  P -∗ Q = wand 𝓤 P Q
+
+  abbrev ⟦◌⟧ : Fml → Pr
+  ⟦ P ⟧ = sem 𝓛 P
+
+  infix 26 ◌⊢◌
+  infixr 35 ◌∗◌
+  infixr 30 ◌-∗◌
+  -- the cell of position n is filled with this text
+  abbrev pub Filled : List ℕ → ℕ → Text → Fml
+  Filled names n text = filled V R cells meaning (slice_index names (row_of n)) (offset_of n) text
+
+  abbrev pub Lined : List ℕ → ℕ → List Text → Fml
+  Lined = lined V R cells meaning
+
+  fills_cell : (cell : ℕ) (x : R.Denot) (text : Text) → meaning x ≡ text → ⟦ written R cell x ⟧ ⊢ ⟦ holds_text V R cells meaning cell text ⟧
+  fills_cell cell x text is = qed 𝓛 (‵ (written R cell x) ∷ []) ∵ nothing ! $ fpack ! (meaning x ≡ text) (λ _. ftrue) is $ move ! (1 ∷ 0 ∷ []) $ fjoin ! $
+      fpack ! R.Denot (held V R cells meaning cell text) x $ done !
+
+  -- the two facts of a position
+  pub fills : (row offset : ℕ) (v : V.Denot) (x : R.Denot) (text : Text) → meaning x ≡ text
+      → ⟦ written V row v ⟧ ∗ ⟦ written R (name_at (cells v) offset) x ⟧ ⊢ ⟦ filled V R cells meaning row offset text ⟧
+  fills row offset v x text is = let cell : ℕ = name_at (cells v) offset in qed 𝓛 (‵ (written V row v) ∷ ‵ (written R cell x) ∷ []) ∵ move ! (1 ∷ []) $
+      use1 𝓛 (‵ (holds_text V R cells meaning cell text)) (fills_cell cell x text is) $ move ! (1 ∷ 0 ∷ []) $ fjoin ! $ fpack ! V.Denot (in_row V R cells meaning row offset text) v $ done !
+
+  pub fills_place : (names : List ℕ) (n : ℕ) (row cell : ℕ) (v : V.Denot) (x : R.Denot) (text : Text) → IsPlace names n row (cells v) cell → meaning x ≡ text
+      → ⟦ written V row v ⟧ ∗ ⟦ written R cell x ⟧ ⊢ ⟦ Filled names n text ⟧
+  fills_place names n row cell v x text at is = qed 𝓛 (‵ (written V row v) ∷ ‵ (written R cell x) ∷ []) ∵ rewrite ! 0 (λ (k : ℕ). ‵ (written V k v)) at.0 refl $
+      rewrite ! 1 (λ (k : ℕ). ‵ (written R k x)) at.1 refl $ by ! (fills (slice_index names (row_of n)) (offset_of n) v x text is)
+
+  twice : (row offset : ℕ) (text : Text) → ⟦ filled V R cells meaning row offset text ⟧ ⊢ ⟦ filled V R cells meaning row offset text ⟧ ∗ ⟦ filled V R cells meaning row offset text ⟧
+  twice row offset text = let F : Fml = filled V R cells meaning row offset text in qed 𝓛 (‵ F ∷ []) ∵
+      fpick ! (λ v. fsplit ! $ res_dup ! $ move ! (2 ∷ []) $ fpick ! (λ x. fsplit ! $ move ! (1 ∷ []) $ fpick ! (λ is. drop ! $ res_dup ! $
+      move ! (2 ∷ 0 ∷ []) $ use2 𝓛 (‵ F) (fills row offset v x text is) $ frame ! $ move ! (1 ∷ 0 ∷ []) $ by ! (fills row offset v x text is))))
+
+  -- one text more, at the end
+  pub grown : (names : List ℕ) (n : ℕ) (texts : List Text) (text : Text) → ⟦ Lined names n texts ⟧ ∗ ⟦ Filled names (n + length texts) text ⟧ ⊢ ⟦ Lined names n (texts ++ text ∷ []) ⟧
+  grown names n [] text = let here : n + 0 ≡ n = omega arith in qed 𝓛 (‵ ftrue ∷ ‵ (Filled names (n + 0) text) ∷ []) ∵ drop ! $
+      rewrite ! 0 (λ (k : ℕ). ‵ (Filled names k text)) here refl $ nothing ! $ move ! (1 ∷ 0 ∷ []) $ join ! $ done !
+  grown names n (t ∷ texts) text = let on : n + suc (length texts) ≡ suc n + length texts = omega arith in
+      qed 𝓛 ((‵ (Filled names n t) ⊛ ‵ (Lined names (suc n) texts)) ∷ ‵ (Filled names (n + suc (length texts)) text) ∷ []) ∵ split ! $ frame ! $ move ! (1 ∷ []) $
+      rewrite ! 0 (λ (k : ℕ). ‵ (Filled names k text)) on refl $ move ! (1 ∷ 0 ∷ []) $ by ! (grown names (suc n) texts text)
+
+  -- a copy of the facts of one position
+  pub taken : (names : List ℕ) (n : ℕ) (texts : List Text) (k : ℕ) → k < length texts → ⟦ Lined names n texts ⟧ ⊢ ⟦ Lined names n texts ⟧ ∗ ⟦ Filled names (n + k) (slice_index_or texts k []) ⟧
+  taken names n [] k low = absurd (omega arith)
+  taken names n (t ∷ texts) zero low = let here : n ≡ n + 0 = omega arith in qed 𝓛 ((‵ (Filled names n t) ⊛ ‵ (Lined names (suc n) texts)) ∷ []) ∵ split ! $
+      use1 𝓛 (‵ (Filled names n t) ⊛ ‵ (Filled names n t)) (twice (slice_index names (row_of n)) (offset_of n) t) $ split ! $ move ! (0 ∷ 2 ∷ 1 ∷ []) $ fjoin ! $ frame ! $
+      rewrite ! 0 (λ (k : ℕ). ‵ (Filled names k t)) here refl $ done !
+  taken names n (t ∷ texts) (suc k) low = let on : suc n + k ≡ n + suc k = omega arith in let found : Text = slice_index_or texts k [] in
+      qed 𝓛 ((‵ (Filled names n t) ⊛ ‵ (Lined names (suc n) texts)) ∷ []) ∵ split ! $ move ! (1 ∷ []) $
+      use1 𝓛 (‵ (Lined names (suc n) texts) ⊛ ‵ (Filled names (suc n + k) found)) (taken names (suc n) texts k (omega arith)) $ split ! $ move ! (2 ∷ 0 ∷ []) $ fjoin ! $ frame ! $
+      rewrite ! 0 (λ (j : ℕ). ‵ (Filled names j found)) on refl $ done !
+
+  module _ {E : Type 0} (listed : List E → List Text) where
+    abbrev pub keeps : List ℕ → List E → Fml
+    keeps names shown = Lined names 0 (listed shown)
+
+    -- an update that puts last what the two facts are of
+    pub offered : (moves : List E → List E → ℕ → Type 0) (names : List ℕ) (place row cell : ℕ) (text : Text) (v : V.Denot) (x : R.Denot)
+        → ((before after : List E) (answer : ℕ) → moves before after answer → PutsLast listed place text before after) → IsPlace names place row (cells v) cell → meaning x ≡ text
+        → ⟦ written V row v ⟧ ∗ ⟦ written R cell x ⟧ ⊢ ⟦ offer_owns (keeps names) moves (λ (_ : ℕ). ftrue) None ⟧
+    offered moves names place row cell text v x puts at is = let F : Fml = Filled names place text in
+        let Goes : List E × List E × ℕ → Pr = λ t. ⟦ keeps names t.0 ⟧ -∗ upd 𝓤 (⟦ keeps names t.1 ⟧ ∗ ⟦ ftrue ⟧) in
+        via 𝓤 _ (fills_place names place row cell v x text at is)
+        (all_i 𝓤 (λ (t : List E × List E × ℕ). all 𝓤 (λ (_ : moves t.0 t.1 t.2). Goes t)) (λ t. all_i 𝓤 (λ (_ : moves t.0 t.1 t.2). Goes t) (λ m.
+        let put : PutsLast listed place text t.0 t.1 = puts t.0 t.1 t.2 m in let last : place ≡ 0 + length (listed t.0) = omega (arith, put.1) in
+        qed 𝓛 (‵ F ∷ []) ∵ assume ! (‵ (keeps names t.0)) $ suffices ! _ (upd_i 𝓤 (⟦ keeps names t.1 ⟧ ∗ ⟦ ftrue ⟧)) $ move ! (1 ∷ []) $
+        rewrite ! 0 (λ (k : ℕ). ‵ (Filled names k text)) last refl $ move ! (1 ∷ 0 ∷ []) $
+        use2 𝓛 (‵ (Lined names 0 (listed t.0 ++ text ∷ []))) (grown names 0 (listed t.0) text) $
+        rewrite ! 0 (λ (ts : List Text). ‵ (Lined names 0 ts)) (sym put.0) refl $ frame ! $ nothing ! $ done !)))
+
+    module _ (cv : Coded E) (holds : List Cell → List E → Type 0) (shows : List E → List E) (bk : Book) (names : List ℕ) where
+      abbrev rule : Rules E
+      rule = rules holds shows keeps
+
+      -- a log that was seen
+      abbrev pub SeesLog : List E → Fml
+      SeesLog = Sees 𝓛 cv rule bk names
+
+      -- what is known of position n by one who has seen this log
+      abbrev pub Known : List E → ℕ → Fml
+      Known log n = Filled names n (slice_index_or (listed (shows log)) n [])
+
+      -- whoever has seen a log finds the facts of a position below the length of its list
+      pub finds : OnlyGrows shows listed → (seen : List E) (n : ℕ) → n < length (listed (shows seen))
+          → ⟦ SeesLog seen ⟧ ⊢ H.⇛ (⟦ SeesLog seen ⟧ ∗ ⟦ Known seen n ⟧)
+      finds grows seen n low = let Cells' : List Cell → Fml = Cells 𝓛 cv rule bk names in let X : At 𝓛 cv rule bk names → Pr = λ s. ⟦ Known seen n ⟧ in
+          let here : 0 + n ≡ n = omega arith in
+          let step : (s : At 𝓛 cv rule bk names) → holds s.0 s.1 → IsPrefix seen s.1 → ⟦ Cells' s.0 ⟧ ∗ ⟦ keeps names (shows s.1) ⟧ ∗ ⟦ ftrue ⟧ ⊢ ⟦ Cells' s.0 ⟧ ∗ ⟦ keeps names (shows s.1) ⟧ ∗ X s
+          = λ s so begins. let all : List Text = listed (shows s.1) in let long : IsPrefix (listed (shows seen)) all = grows seen s.1 begins in
+          let le : length (listed (shows seen)) ≤ length all = prefix_short (listed (shows seen)) all long in
+          qed 𝓛 (‵ (Cells' s.0) ∷ ‵ (Lined names 0 all) ∷ ‵ ftrue ∷ []) ∵ frame ! $
+          use1 𝓛 (‵ (Lined names 0 all) ⊛ ‵ (Filled names (0 + n) (slice_index_or all n []))) (taken names 0 all n (omega arith)) $ split ! $ frame ! $
+          rewrite ! 0 (λ (k : ℕ). ‵ (Filled names k (slice_index_or all n []))) here refl $
+          rewrite ! 0 (λ (t : Text). ‵ (Filled names n t)) (stands_still (listed (shows seen)) all n long low) refl $ move ! (1 ∷ []) $ drop ! $ done ! in
+          qed 𝓛 (‵ (SeesLog seen) ∷ []) ∵ updating ! $ nothing ! $ move ! (1 ∷ 0 ∷ []) $
+          use2 𝓛 (later (some (λ (s : At 𝓛 cv rule bk names). given (holds s.0 s.1 × IsPrefix seen s.1) (‵ (SeesLog seen) ⊛ ‵ (SeesLog s.1) ⊛ ‵ (Known seen n))))) (looks 𝓛 cv rule bk names seen ⟦ ftrue ⟧ X step) $
+          await ! tt $ pick ! (λ s. learn ! (λ so. split ! $ now ! $ frame ! $ split ! $ drop ! $ done !))

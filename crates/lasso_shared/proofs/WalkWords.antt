@@ -1,0 +1,38 @@
+-- The words of the proofs by hand of functions that pass tokens on, which have no bytes.
+pub use Rattle.std.proofs.Common.{◌≡◌, ◌<◌, ◌+◌, arith, ℕ, List, [], ◌∷◌, ◌++◌, length, slice_index, slice_index_or, sym, refl, ap, subst, w64}
+pub use mir.Syntax.{a_type, dcons, dnil, named}
+pub use mir.MapTy.{inst_fn}
+pub use mir.Val.{Val, vint, vptr, vunit}
+pub use base.Logic.{SProp, emp}
+pub use base.Fml.{Fml, ftrue, fsep, flft}
+pub use types.Kit.{‵, raw, ◌⊛◌, some, given, later, ◌$◌, ◌∵◌, !, qed, by, move, keep, drop as let_go, split, join, fsplit, fsplit3, fjoin, fjoin3, fpick, fpack, pick, learn, use0, use1, use2, await, rewrite, feq_i, done}
+pub use types.Run.{of_opd, unit_lit, no_more, and_then, returns, enter}
+pub use types.ByLocal.{alloc_all, pass_all, free_all, look_at, get, sets}
+pub use types.Part.{agg}
+pub use contract.Monad.{fact, fact_i}
+pub use contract.Running.{tables}
+pub use denote.Exit.{yes, no}
+pub use denote.RattleType.{RattleType, owns}
+pub use denote.Signature.{types_at, plain}
+pub use denote.Builtin.{RefOf, u64}
+pub use denote.Ref.{mut_vals, mut_Tells, shr_vals, shr_Tells}
+pub use denote.Plain.{uint_vals, uint_Tells}
+pub use denote.Opens.{unhide}
+pub use denote.Param.{param, bounded}
+pub use denote.Steps.{nothing, opens, closes, heard}
+pub use denote.Struct.Tuple.{Tuple}
+pub use denote.Triple.Entry.{alive}
+pub use denote.Triple.Walked.{Stays, stay_dropped, stay_ref, walk_of, Goes-dropped, Goes-ref}
+pub use Rattle.std.proofs.raw_atomic.Walks.{proved}
+pub use Rattle.logbook.proofs.Fields.{token, Token, token_made, token_told, ends}
+use seplogic.Ra.Ura.{Ura}
+use base.Logic.{ent, sep}
+use types.Logic.{Logic}
+
+-- A plain clause needs nothing but its proof. Assumes `Logic`.
+module _ {M : Type 1} {𝓤 : Ura M} (𝓛 : Logic 𝓤) where
+  pub says_two : (A B : Type 0) → A → B → ent 𝓤 (emp 𝓤) (sep 𝓤 (fact 𝓤 A) (fact 𝓤 B))
+  says_two A B a b = qed 𝓛 [] ∵ use0 𝓛 (raw (fact 𝓤 B)) (fact_i 𝓤 B (emp 𝓤) b) $ use0 𝓛 (raw (fact 𝓤 A)) (fact_i 𝓤 A (emp 𝓤) a) $ join ! $ done !
+
+  pub says_three : (A B C : Type 0) → A → B → C → ent 𝓤 (emp 𝓤) (sep 𝓤 (fact 𝓤 A) (sep 𝓤 (fact 𝓤 B) (fact 𝓤 C)))
+  says_three A B C a b c = qed 𝓛 [] ∵ use0 𝓛 (raw (sep 𝓤 (fact 𝓤 B) (fact 𝓤 C))) (says_two B C b c) $ use0 𝓛 (raw (fact 𝓤 A)) (fact_i 𝓤 A (emp 𝓤) a) $ join ! $ done !

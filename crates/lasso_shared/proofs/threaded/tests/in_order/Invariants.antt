@@ -1,0 +1,6 @@
+use Rattle.std.proofs.Common.{◌≡◌}
+use Rattle.lasso_shared.proofs.threaded.tests.in_order.Given as goal
+
+-- the pass stays one of the interner
+abbrev pub invariant-loop-position : goal.invariant-loop-position
+invariant-loop-position l = l.pass.of ≡ l.shared

@@ -1,0 +1,150 @@
+//! Locks that one thread and two threads take.
+
+ghost use Rattle.std.specs.Prelude.{◌≡◌, ◌≤◌};
+
+use crate::locks::{Locked, Ruled};
+use counted_slot::Fits;
+use std::sync::Wait;
+use std::test::*;
+use std::thread::join;
+
+// A number up to the lock's tag.
+#[derive(Drop)]
+struct Count {
+    number: u64,
+}
+
+impl Fits for Count {
+    type Tag = u64;
+
+    ghost use Rattle.std.specs.Prelude.{◌≤◌};
+
+    ghost fits = { λ most count. count.number ≤ most };
+}
+
+// Counts up by one, that many times.
+fn count_up<R: Wait>(rt: &R, lock: &Locked<Count>, times: u32)
+    requires { lock.now ≡ 5000 }
+{
+    for _ in 0..times {
+        let (guard, mut count) = lock.take(rt);
+        if count.number < 5000 {
+            count.number += 1;
+        }
+        lock.give(rt, guard, count);
+    }
+}
+
+fn count_in<R: Wait>(rt: &R, lock: &Locked<Count>) -> u64
+    requires { lock.now ≡ 5000 }
+    ensures { result ≤ 5000 }
+{
+    let (guard, count) = lock.take(rt);
+    let number = count.number;
+    lock.give(rt, guard, count);
+    number
+}
+
+#[test]
+fn a_taken_value_is_given_back(rt: HostRuntime) {
+    let lock = Locked::new(Count { number: 7 }, &5000);
+    count_up(&rt, &lock, 3);
+    assert_eq!(rt; count_in(&rt, &lock), 10);
+}
+
+#[test]
+fn two_threads_take_turns(rt: HostRuntime) {
+    let lock = Locked::new(Count { number: 0 }, &5000);
+    join(
+        &rt,
+        || -> ()
+            requires { lock ≡ 5000 }
+        { count_up(&rt, &lock, 2000) },
+        || -> ()
+            requires { lock ≡ 5000 }
+        { count_up(&rt, &lock, 2000) },
+    );
+    assert_eq!(rt; count_in(&rt, &lock), 4000);
+}
+
+// Two numbers, of which the second is the first with the lock's tag added.
+#[derive(Drop)]
+struct Pair {
+    first: u64,
+    second: u64,
+}
+
+impl Fits for Pair {
+    type Tag = u64;
+
+    ghost use Rattle.std.specs.Prelude.{◌≡◌, ◌+◌};
+
+    ghost fits = { λ apart pair. pair.second ≡ pair.first + apart };
+}
+
+fn change<R: Wait>(rt: &R, lock: &Ruled<Pair>, times: u32)
+    requires { lock.now ≡ 9 }
+{
+    for i in 0..times {
+        let (guard, mut pair) = lock.take(rt);
+        pair.first = u64::from(i) + 1;
+        pair.second = u64::from(i) + 10;
+        lock.give(rt, guard, pair);
+    }
+}
+
+// Whether each reading found numbers that belong together, and never an earlier pair than the one before.
+fn reads_whole<R: Wait>(rt: &R, lock: &Ruled<Pair>, times: u32) -> bool {
+    let mut whole = true;
+    let mut last = 0;
+    for _ in 0..times {
+        let reading = lock.read(rt);
+        let pair = reading.get();
+        if pair.first < last || pair.second < 9 || pair.second - 9 != pair.first {
+            whole = false;
+        }
+        last = pair.first;
+        reading.leave();
+    }
+    whole
+}
+
+#[test]
+fn readers_share_a_value(rt: HostRuntime) {
+    let lock = Ruled::new(
+        Pair {
+            first: 1,
+            second: 10,
+        },
+        &9,
+    );
+    let one = lock.read(&rt);
+    let other = lock.read(&rt);
+    assert_eq!(rt; (one.get().first, other.get().second), (1, 10));
+    one.leave();
+    other.leave();
+    change(&rt, &lock, 3);
+    assert!(rt; reads_whole(&rt, &lock, 2));
+    let last = lock.read(&rt);
+    assert_eq!(rt; (last.get().first, last.get().second), (3, 12));
+    last.leave();
+}
+
+#[test]
+fn a_thread_reads_while_another_changes(rt: HostRuntime) {
+    let lock = Ruled::new(
+        Pair {
+            first: 0,
+            second: 9,
+        },
+        &9,
+    );
+    let (_, whole) = join(
+        &rt,
+        || -> ()
+            requires { lock ≡ 9 }
+        { change(&rt, &lock, 2000) },
+        || reads_whole(&rt, &lock, 2000),
+    );
+    assert!(rt; whole);
+}

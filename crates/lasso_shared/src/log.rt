@@ -1,0 +1,17 @@
+//! The history that the passes of a shared interner see: a log that only grows, with the words of the
+//! interner and the list of its texts under one rule.
+pub mod look;
+pub mod note;
+pub mod opening;
+pub mod pass;
+pub mod reading;
+pub mod rule;
+pub mod shown;
+pub mod spine;
+pub mod ticket;
+pub mod words;
+
+pub use opening::Opened;
+pub use pass::Pass;
+pub use spine::Spine;
+pub use words::Log;

@@ -1,0 +1,78 @@
+//! The rule of the shared log, and what each kind of step tells.
+use crate::log::note::Entry;
+use crate::rows::Row;
+use crate::rows::rule::{InRows, Listed};
+use lasso_parts::keys::Key;
+use logbook::{Plain, Play};
+use std::marker::PhantomData;
+
+/// What a cell of the list holds.
+pub type Item = &'static str;
+
+/// The log of an interner with keys of type K.
+pub struct Shared<K: Key> {
+    of: PhantomData<K>,
+}
+
+/// The rule of its book: it is kept, and the cell of each position below the length is filled.
+pub type Law<K> = InRows<Shared<K>, Item, Row<Item>>;
+
+impl<K: Key> Listed<Entry> for Shared<K> {
+    ghost use Rattle.lasso_shared.specs.Notes.{texts_titled, text_of};
+    ghost use Rattle.lasso_shared.specs.Book.{Kept, shown};
+
+    ghost holds = { λ cells log. Kept K.key_at cells log };
+
+    ghost shows = { shown };
+
+    ghost texts = { texts_titled };
+
+    ghost place = { λ e. e.place };
+
+    ghost text = { λ e. text_of e.event };
+}
+
+/// A step that looks.
+pub struct Peek<K: Key> {
+    of: PhantomData<K>,
+}
+
+impl<K: Key> Play<Entry, u64> for Peek<K> {
+    ghost use Rattle.lasso_shared.specs.Book.{Peeks};
+
+    ghost then = { Peeks K.key_at };
+}
+
+/// A step that fetches a ticket.
+pub struct Fetch<K: Key> {
+    of: PhantomData<K>,
+}
+
+impl<K: Key> Play<Entry, u64> for Fetch<K> {
+    ghost use Rattle.lasso_shared.specs.Book.{Fetches};
+
+    ghost then = { Fetches K.key_at };
+}
+
+/// A step that adds a note.
+pub struct Add<K: Key> {
+    of: PhantomData<K>,
+}
+
+impl<K: Key> Play<Entry, u64> for Add<K> {
+    ghost use Rattle.lasso_shared.specs.Book.{Adds};
+
+    ghost then = { Adds K.key_at };
+}
+
+/// What a step asks that changes nothing of the list.
+pub struct Nothing;
+
+impl Plain<(), Entry, u64> for Nothing {
+    ghost use Rattle.std.specs.Prelude.{Some};
+    ghost use Rattle.lasso_shared.specs.Notes.{no_note};
+
+    ghost ask = { λ _. no_note };
+
+    ghost state = { λ _. Some 0 };
+}

@@ -1,0 +1,157 @@
+//! The spine: the numbers of the list, which one thread at a time has, and the slots that it keeps.
+ghost use Rattle.std.specs.Prelude.{◌≡◌, ◌+◌, ◌<◌, ◌∷◌, ◌++◌, [], length, OnOk, OnErr, IfErr, MatchBool};
+ghost use Rattle.lasso_parts.specs.declared.util.LassoErrorKind.TheVariants.{FailedAllocation};
+ghost use Rattle.lasso_parts.specs.Texts.{Fits};
+ghost use Rattle.lasso_shared.specs.History.{Append, MayFollow, IsLegal};
+ghost use Rattle.lasso_shared.specs.Notes.{Since, state, history};
+ghost use Rattle.lasso_shared.specs.Sights.{Sight, Origin, Backbone, IsSamePass, IsSameSpine, IsAppended, list_of, seen};
+ghost use Rattle.lasso_shared.specs.Rows.{IsPlace};
+
+use crate::log::note::{Change, Entry};
+use crate::log::pass::Pass;
+use crate::log::rule::{Item, Law};
+use crate::log::ticket::Filing;
+use crate::log::words::Log;
+use lasso_parts::keys::Key;
+use lasso_parts::util::{LassoError, LassoErrorKind, LassoResult};
+use logbook::Seen;
+use std::alloc::Global;
+use std::marker::Model;
+use std::sync::Wait;
+
+/// The length of the list in a history that was seen, and how many slots past it are kept for texts to come.
+/// It lies under a lock. Contracts see the slots kept, the interner, and what the spine has seen.
+#[derive(Drop)]
+pub struct Spine<K: Key> {
+    pub(super) kept: u64,
+    pub(super) len: u64,
+    pub(super) seen: Seen<Entry, u64, Law<K>>,
+}
+
+impl<K: Key> Model for Spine<K> {
+    ghost use Rattle.std.specs.Prelude.{◌≡◌, ◌+◌, ◌<◌, ◌^◌, []};
+    ghost use Rattle.lasso_shared.specs.Notes.{opening_of, notes_of, IsOpened};
+    ghost use Rattle.lasso_shared.specs.Book.{Reads};
+    ghost use Rattle.lasso_shared.specs.Sights.{Backbone, backbone_coded, origin};
+
+    ghost Value = { Backbone };
+
+    ghost coded = { backbone_coded };
+
+    ghost view = { λ s. record { kept = s.kept; of = origin s.seen.book s.seen.names (opening_of s.seen.log); notes = notes_of s.seen.log } };
+
+    ghost invariant = { λ s. IsOpened s.seen.log × ((opening_of s.seen.log).texts ≡ []) × Reads K.key_at (opening_of s.seen.log) (notes_of s.seen.log) 0 0 s.len × (s.len + s.kept < 2 ^ 64) };
+}
+
+impl<K: Key> Spine<K> {
+    /// The length of the list that the spine has seen.
+    pub fn len(&self) -> u64
+        ensures len { result ≡ length (list_of self.now.of self.now.notes) }
+        ensures fits { Fits K.key_at (length (list_of self.now.of self.now.notes)) }
+        ensures legal { IsLegal K.key_at self.now.of.opening (history self.now.notes) }
+    {
+        self.len
+    }
+
+    /// Does nothing. Contracts learn that a pass of the same interner that has seen a list of the same length has
+    /// seen the same list.
+    pub fn agrees(&self, pass: &Pass<K>)
+        requires { (self.now.of ≡ pass.now.of) × (length (list_of self.now.of self.now.notes) ≡ length (list_of pass.now.of pass.now.notes)) }
+        ensures { list_of self.now.of self.now.notes ≡ list_of pass.now.of pass.now.notes }
+    {
+        let mut both = self.seen.again();
+        both.learn(&pass.seen);
+    }
+
+    /// Gives back a slot that `reserve_next` kept. Nothing else changes, and it is never refused.
+    pub fn give_back(&mut self)
+        requires { 0 < self.old.kept }
+        ensures kept { self.new.kept + 1 ≡ self.old.kept }
+        ensures same { IsSameSpine self.new self.old }
+    {
+        self.kept -= 1;
+    }
+}
+
+impl<K: Key> Log<K> {
+    /// Keeps one slot more for a text to come, until it is appended or given back. It is refused for want of memory
+    /// alone, and nothing changes then.
+    pub fn reserve_next(&self, alloc: Global, spine: &mut Spine<K>) -> LassoResult<()>
+        requires { spine.old.of ≡ self.now }
+        ensures kept { OnOk result (spine.new.kept ≡ spine.old.kept + 1) }
+        ensures same { IsSameSpine spine.new spine.old }
+        ensures refused { IfErr result (λ error. error ≡ FailedAllocation) }
+        ensures unchanged { OnErr result (spine.new.kept ≡ spine.old.kept) }
+    {
+        let position = spine.len + spine.kept;
+        if position == u64::MAX {
+            return Err(LassoError::new(LassoErrorKind::FailedAllocation));
+        }
+        self.rows.make_row(alloc, position)?;
+        spine.kept += 1;
+        Ok(())
+    }
+
+    /// Puts the text last, in a slot that `reserve_next` kept. The list of the spine must lack the text, and have a
+    /// key for its length. The text's cell is filled before the length moves. It waits where the length isn't the
+    /// spine's.
+    pub fn append<R: Wait>(&self, rt: &R, spine: &mut Spine<K>, pass: &mut Pass<K>, text: Item)
+        requires of { (pass.old.of ≡ self.now) × (spine.old.of ≡ self.now) }
+        requires kept { 0 < spine.old.kept }
+        requires may { MayFollow K.key_at (state self.now.opening spine.old.notes) (Append text.now) }
+        ensures same { IsSamePass pass.new pass.old × (spine.new.of ≡ spine.old.of) }
+        ensures kept { spine.new.kept + 1 ≡ spine.old.kept }
+        ensures event { Since pass.old.number pass.old.notes pass.new.notes (Append text.now ∷ []) }
+        ensures legal { IsLegal K.key_at self.now.opening (seen pass.new) }
+        ensures spine { spine.new.notes ≡ pass.new.notes }
+        ensures list { list_of self.now pass.new.notes ≡ list_of self.now spine.old.notes ++ text.now ∷ [] }
+    {
+        let (row, item) = self.rows.fill(rt, spine.len(), text);
+        for _ in rt.forever() {
+            let filing = (row.again(), item.again());
+            if self.try_append(spine, pass, text, filing) {
+                pass.show_legal();
+                return;
+            }
+        }
+        unreachable!()
+    }
+
+    // Appends where the length is the spine's. Else nothing is done.
+    fn try_append(
+        &self,
+        spine: &mut Spine<K>,
+        pass: &mut Pass<K>,
+        text: Item,
+        filing: Filing,
+    ) -> bool
+        requires of { (pass.old.of ≡ self.now) × (spine.old.of ≡ self.now) }
+        requires kept { 0 < spine.old.kept }
+        requires may { MayFollow K.key_at (state self.now.opening spine.old.notes) (Append text.now) }
+        requires place { IsPlace self.now.rows (length (list_of self.now spine.old.notes)) filing.0.of filing.0.value.items filing.1.of }
+        requires filled { filing.1.value.now ≡ text.now }
+        ensures same { IsSamePass pass.new pass.old × (spine.new.of ≡ spine.old.of) }
+        ensures done { MatchBool result (IsAppended self.now pass.old pass.new spine.old spine.new text.now) ((pass.new ≡ pass.old) × (spine.new ≡ spine.old)) }
+    {
+        let len = spine.len;
+        let Some(word) = self.exchange(
+            &self.head,
+            0,
+            len,
+            1,
+            0,
+            Change::Append { text },
+            len,
+            Some(filing),
+            &spine.seen,
+            pass,
+        ) else {
+            return false;
+        };
+        drop(word);
+        spine.seen = pass.sighting();
+        spine.len = len + 1;
+        spine.kept -= 1;
+        true
+    }
+}

@@ -1,0 +1,149 @@
+//! The steps of the log: a look at a word, the fetching of a ticket, and the exchange that adds an event.
+ghost use Rattle.std.specs.Prelude.{◌≡◌, ◌+◌, ◌<◌, ◌^◌, [], ℕ, length, MatchOption};
+ghost use Rattle.lasso_shared.specs.History.{Append};
+ghost use Rattle.lasso_shared.specs.Notes.{Since, IsWord, IsOpened, opening_of, notes_of};
+ghost use Rattle.lasso_shared.specs.Book.{word_of, IsTicket, Moving, May, IsDone, Reads};
+ghost use Rattle.lasso_shared.specs.Rows.{IsPlace};
+ghost use Rattle.lasso_shared.specs.Sights.{Origin, IsSamePass};
+ghost use Rattle.lasso_shared.specs.Events.{event_of, IsQuiet};
+
+use crate::log::look::look;
+use crate::log::note::{Change, Entry};
+use crate::log::pass::Pass;
+use crate::log::rule::{Add, Fetch, Item, Law, Nothing, Peek};
+use crate::log::ticket::{ByKey, Filing, Ticket, Wish, offered};
+use crate::rows::Rows;
+use crate::rows::rule::NoGain;
+use boxcar::tag::Tag;
+use lasso_parts::keys::Key;
+use logbook::{Offer, Seen, Word};
+use std::marker::Model;
+
+/// The log of one interner: the word that has the list's length, the rows that its texts lie in, and the log as
+/// it was at the opening. A contract sees which interner it is of.
+#[derive(Drop)]
+pub struct Log<K: Key> {
+    pub(super) head: Word<Entry, u64, Law<K>>,
+    pub(super) rows: Rows<Item>,
+    pub(super) seen: Seen<Entry, u64, Law<K>>,
+}
+
+impl<K: Key> Model for Log<K> {
+    ghost use Rattle.std.specs.Prelude.{◌≡◌, []};
+    ghost use Rattle.lasso_shared.specs.Notes.{opening_of, notes_of, IsOpened};
+    ghost use Rattle.lasso_shared.specs.Book.{head_of};
+    ghost use Rattle.lasso_shared.specs.Sights.{Origin, origin_coded, origin};
+
+    ghost Value = { Origin };
+
+    ghost coded = { origin_coded };
+
+    ghost view = { λ l. origin l.seen.book l.seen.names (opening_of l.seen.log) };
+
+    ghost invariant = { λ l. (l.head ≡ head_of l.seen.book) × (l.rows ≡ l.seen.names) × IsOpened l.seen.log × (notes_of l.seen.log ≡ []) × ((opening_of l.seen.log).texts ≡ []) };
+}
+
+impl<K: Key> Log<K> {
+    // A new ticket, by an exchange of the length word with itself.
+    fn ticket(&self) -> Ticket<K>
+        ensures { IsTicket self.now.book result.word result.pen }
+    {
+        let mut seen = self.seen.again();
+        let mut offer: Offer<Entry, u64, Law<K>, NoGain> = seen.plain::<NoGain, (), Nothing>(&());
+        let mut pen = seen.no_pen();
+        self.head
+            .compare_exchange::<Fetch<K>, NoGain>(0, 0, &mut seen, &mut offer, &mut pen);
+        let word = Word::tracked(0, &mut pen);
+        Ticket { word, pen }
+    }
+
+    /// A pass that has seen nothing yet. It takes no memory and does not wait.
+    pub fn pass(&self) -> Pass<K>
+        ensures of { result.of ≡ self.now }
+        ensures notes { result.notes ≡ [] }
+    {
+        let ticket = self.ticket();
+        let number = Tag::of::<Ticket<K>, ByKey>(&ticket);
+        Pass {
+            seen: self.seen.again(),
+            ticket,
+            next: self.ticket(),
+            number,
+        }
+    }
+
+    // What a word that the pass knows has at one step. `place` is the word's.
+    pub(super) fn load(
+        &self,
+        word: &Word<Entry, u64, Law<K>>,
+        place: u64,
+        pass: &mut Pass<K>,
+    ) -> u64
+        requires of { (pass.old.of ≡ self.now) × (word.now ≡ word_of self.now.book word.now.key) }
+        requires known { IsWord pass.old.notes place word.now.key }
+        ensures same { IsSamePass pass.new pass.old }
+        ensures since { Since pass.old.number pass.old.notes pass.new.notes [] }
+        ensures reply { Reads K.key_at pass.old.of.opening pass.new.notes place word.now.key result }
+    {
+        let mut offer: Offer<Entry, u64, Law<K>, NoGain> = pass
+            .seen
+            .plain::<NoGain, (), Nothing>(&());
+        let found = word.load::<Peek<K>, NoGain>(&mut pass.seen, &mut offer);
+        let mut later = pass.seen.again();
+        look(&mut later, &mut pass.ticket.pen);
+        found
+    }
+
+    // Adds an event where the word has its old value still, and gives the word that the used ticket has become.
+    // `given` is a log that was seen, in which the event may follow while the word has this value; `filing` shows
+    // that an appended text is in the cell of its place `at`.
+    pub(super) fn exchange(
+        &self,
+        word: &Word<Entry, u64, Law<K>>,
+        place: u64,
+        old: u64,
+        more: u64,
+        value: u64,
+        change: Change<'_>,
+        at: u64,
+        filing: Option<Filing>,
+        given: &Seen<Entry, u64, Law<K>>,
+        pass: &mut Pass<K>,
+    ) -> Option<Word<Entry, u64, Law<K>>>
+        requires of { (pass.old.of ≡ self.now) × (given.now.book ≡ self.now.book) × (word.now ≡ word_of self.now.book word.now.key) }
+        requires sum { old + more < 2 ^ 64 }
+        requires known { IsOpened given.now.log × (opening_of given.now.log ≡ self.now.opening) × IsWord (notes_of given.now.log) place word.now.key }
+        requires may { ((ticket : ℕ) → Moving ticket (event_of change) place more value) × May K.key_at self.now.opening (notes_of given.now.log) place word.now.key old (event_of change) }
+        requires filed { MatchOption filing (IsQuiet (event_of change)) (λ f. IsPlace self.now.rows at f.0.of f.0.value.items f.1.of × (event_of change ≡ Append f.1.value.now) × (place ≡ 0) × (word.now.key ≡ 0) × (at ≡ length self.now.opening.texts + old)) }
+        ensures same { IsSamePass pass.new pass.old }
+        ensures done { MatchOption result (pass.new ≡ pass.old) (λ w. (w ≡ word_of self.now.book w.key) × IsDone K.key_at self.now.opening pass.old.number pass.old.notes (notes_of given.now.log) pass.new.notes (event_of change.entry) place word.now.key old w.key) }
+    {
+        let mut seen = self.seen.again();
+        seen.learn(given);
+        seen.learn(&pass.seen);
+        pass.ticket.set(value);
+        let wish = Wish {
+            change,
+            place: at,
+            number: &pass.number,
+            ticket: &pass.ticket,
+            next: &pass.next,
+        };
+        let known = seen.again();
+        let mut offer = offered(known, wish, filing);
+        let found = word.compare_exchange::<Add<K>, NoGain>(
+            old,
+            old + more,
+            &mut seen,
+            &mut offer,
+            &mut pass.ticket.pen,
+        );
+        if found != old {
+            return None;
+        }
+        let next = std::mem::replace(&mut pass.next, self.ticket());
+        let used = std::mem::replace(&mut pass.ticket, next);
+        pass.seen = seen;
+        Some(used.word)
+    }
+}

@@ -1,0 +1,199 @@
+//! Threads that intern static texts in one interner.
+ghost use Rattle.std.specs.Prelude.{◌≡◌};
+
+use super::ThreadedRodeo;
+use crate::log::Pass;
+use lasso_parts::keys::{Key, Spur};
+use lasso_parts::util::{FixedState, LassoErrorKind, LassoResult};
+use std::marker::Model;
+use std::process::Abort;
+use std::sync::Wait;
+use std::test::*;
+use std::thread::{Threads, join};
+
+/// A key type with the numbers 0 and 1.
+#[derive(Clone, Copy, PartialEq, Eq)]
+struct Two {
+    position: u8,
+}
+
+impl Model for Two {
+    ghost use Rattle.std.specs.Prelude.{ℕ};
+
+    ghost Value = { ℕ };
+
+    ghost view = { λ k. k.position };
+
+    ghost inverse = { λ n. record { position = n } };
+}
+
+impl Key for Two {
+    ghost use Rattle.std.specs.Prelude.{◌<◌, ◌^◌, nat_lt, if◌then◌else◌, Some, None};
+    ghost use Rattle.std.proofs.Common.{arith};
+    ghost use Rattle.std.proofs.lemmas.Bool.Decides.{nat_tests};
+
+    ghost is_value = { λ k. k < 2 };
+
+    ghost number = { λ k. k };
+
+    ghost key_at = { λ n. if nat_lt n 2 then Some n else None };
+
+    fn into_usize(self) -> usize {
+        self.position as usize
+    }
+
+    fn try_from_usize(position: usize) -> Option<Self> {
+        if position > 1 {
+            return None;
+        }
+        Some(Two {
+            position: position as u8,
+        })
+    }
+
+    fn show_value(self) {
+        let _position = self.position;
+    }
+
+    ghost made = { λ n k made. Prim.grind (arith, nat_tests) };
+
+    ghost made_again = { λ k is_value. Prim.grind (arith, nat_tests) };
+
+    ghost equal = { λ a b is_value is_value'. Prim.grind (arith, nat_tests) };
+}
+
+const FIRST: [&str; 100] = [
+    "a00", "a01", "a02", "a03", "a04", "a05", "a06", "a07", "a08", "a09", "a10", "a11", "a12",
+    "a13", "a14", "a15", "a16", "a17", "a18", "a19", "a20", "a21", "a22", "a23", "a24", "a25",
+    "a26", "a27", "a28", "a29", "a30", "a31", "a32", "a33", "a34", "a35", "a36", "a37", "a38",
+    "a39", "a40", "a41", "a42", "a43", "a44", "a45", "a46", "a47", "a48", "a49", "a50", "a51",
+    "a52", "a53", "a54", "a55", "a56", "a57", "a58", "a59", "a60", "a61", "a62", "a63", "a64",
+    "a65", "a66", "a67", "a68", "a69", "a70", "a71", "a72", "a73", "a74", "a75", "a76", "a77",
+    "a78", "a79", "a80", "a81", "a82", "a83", "a84", "a85", "a86", "a87", "a88", "a89", "a90",
+    "a91", "a92", "a93", "a94", "a95", "a96", "a97", "a98", "a99",
+];
+
+const SECOND: [&str; 100] = [
+    "b00", "b01", "b02", "b03", "b04", "b05", "b06", "b07", "b08", "b09", "b10", "b11", "b12",
+    "b13", "b14", "b15", "b16", "b17", "b18", "b19", "b20", "b21", "b22", "b23", "b24", "b25",
+    "b26", "b27", "b28", "b29", "b30", "b31", "b32", "b33", "b34", "b35", "b36", "b37", "b38",
+    "b39", "b40", "b41", "b42", "b43", "b44", "b45", "b46", "b47", "b48", "b49", "b50", "b51",
+    "b52", "b53", "b54", "b55", "b56", "b57", "b58", "b59", "b60", "b61", "b62", "b63", "b64",
+    "b65", "b66", "b67", "b68", "b69", "b70", "b71", "b72", "b73", "b74", "b75", "b76", "b77",
+    "b78", "b79", "b80", "b81", "b82", "b83", "b84", "b85", "b86", "b87", "b88", "b89", "b90",
+    "b91", "b92", "b93", "b94", "b95", "b96", "b97", "b98", "b99",
+];
+
+// Interns these texts, and tells whether each was accepted.
+fn fill<R: Wait>(rt: &R, shared: &ThreadedRodeo<Spur, FixedState>, texts: &[&'static str]) -> bool {
+    let mut pass = shared.pass();
+    let mut all = true;
+    for text in texts.iter() {
+        if shared
+            .try_get_or_intern_static_as(rt, &mut pass, *text)
+            .is_err()
+        {
+            all = false;
+        }
+    }
+    all
+}
+
+// The number of an interned text, or why it was refused.
+fn number<K: Key, R: Wait>(
+    rt: &R,
+    shared: &ThreadedRodeo<K, FixedState>,
+    pass: &mut Pass<K>,
+    text: &'static str,
+) -> Result<usize, LassoErrorKind>
+    requires { pass.old.of ≡ shared.now }
+    ensures { pass.new.of ≡ pass.old.of }
+{
+    match shared.try_get_or_intern_static_as(rt, pass, text) {
+        Ok(key) => Ok(key.into_usize()),
+        Err(error) => Err(error.kind()),
+    }
+}
+
+// How many of the texts stand in the list, each past the one before it.
+fn in_order(shared: &ThreadedRodeo<Spur, FixedState>, texts: &[&str]) -> usize {
+    let mut pass = shared.pass();
+    let mut found: usize = 0;
+    for position in 0..200usize {
+        if let Some(key) = Spur::try_from_usize(position)
+            && let Some(text) = shared.try_resolve_as(&mut pass, key)
+            && found < texts.len()
+            && text == texts[found]
+        {
+            found += 1;
+        }
+    }
+    found
+}
+
+#[test]
+fn two_threads_append(rt: HostRuntime) -> Result<(), Fail> {
+    let shared = ThreadedRodeo::default(rt.alloc())?;
+    let (a, b) = join(
+        &rt,
+        || fill(&rt, &shared, &FIRST),
+        || fill(&rt, &shared, &SECOND),
+    );
+    assert!(rt; a && b);
+    let mut pass = shared.pass();
+    assert_eq!(rt; shared.log.len(&mut pass), 200);
+    // 100 texts of each thread in 200 places: each stands once, in its thread's order
+    assert_eq!(rt; in_order(&shared, &FIRST), 100);
+    assert_eq!(rt; in_order(&shared, &SECOND), 100);
+    let mut past = shared.pass();
+    let key = Spur::try_from_usize(200).ok_or("no key")?;
+    assert_eq!(rt; shared.try_resolve_as(&mut past, key), None);
+    Ok(())
+}
+
+#[test]
+fn keys_used_up_refuse_new_texts_alone(rt: HostRuntime) -> Result<(), Fail> {
+    let shared: ThreadedRodeo<Two, FixedState> = ThreadedRodeo::with_hasher(
+        rt.alloc(),
+        FixedState::new(),
+    )?;
+    let mut pass = shared.pass();
+    assert_eq!(rt; number(&rt, &shared, &mut pass, "p"), Ok(0));
+    assert_eq!(rt; number(&rt, &shared, &mut pass, "q"), Ok(1));
+    assert_eq!(rt;
+        number(&rt, &shared, &mut pass, "r"),
+        Err(LassoErrorKind::KeySpaceExhaustion)
+    );
+    assert_eq!(rt; number(&rt, &shared, &mut pass, "p"), Ok(0));
+    Ok(())
+}
+
+// Interns `x` and a text of its own, and gives the number of `x` where both keys stand for their texts.
+fn meets<R: Wait>(
+    rt: &R,
+    shared: &ThreadedRodeo<Spur, FixedState>,
+    own: &'static str,
+) -> LassoResult<Option<usize>> {
+    let mut pass = shared.pass();
+    let x = shared.try_get_or_intern_static_as(rt, &mut pass, "x")?;
+    let mine = shared.try_get_or_intern_static_as(rt, &mut pass, own)?;
+    let both = shared.try_resolve_as(&mut pass, x) == Some("x")
+        && shared.try_resolve_as(&mut pass, mine) == Some(own);
+    Ok(if both { Some(x.into_usize()) } else { None })
+}
+
+#[test]
+fn a_text_of_two_threads_has_one_key(rt: HostRuntime) -> Result<(), Fail> {
+    let shared = ThreadedRodeo::default(rt.alloc())?;
+    let (a, b) = join(
+        &rt,
+        || meets(&rt, &shared, "a"),
+        || meets(&rt, &shared, "b"),
+    );
+    let (a, b) = (a?, b?);
+    assert!(rt; a.is_some());
+    assert_eq!(rt; a, b);
+    let mut pass = shared.pass();
+    assert_eq!(rt; shared.log.len(&mut pass), 3);
+    Ok(())
+}
