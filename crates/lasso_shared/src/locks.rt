@@ -174,7 +174,7 @@ impl<'a, X: Fits + Drop> Reading<'a, X> {
     /// Ends the reading.
     pub fn leave(self) {
         let Reading { guard, claim } = self;
-        claim.leave();
+        let _was = claim.leave();
         drop(guard);
     }
 }
