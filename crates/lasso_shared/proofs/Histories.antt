@@ -1,14 +1,11 @@
 -- Histories and the notes that they are read off, one after the other.
-use Rattle.std.proofs.Common.{◌≡◌, ℕ, ◌==◌, List, [], ◌∷◌, ◌++◌, length, refl, ap, sym, ◌∙◌, subst, arith, append_assoc, Option}
+use Rattle.std.proofs.Common.{◌≡◌, ℕ, ◌==◌, List, [], ◌∷◌, ◌++◌, length, refl, ap, sym, ◌∙◌, arith, append_assoc}
 use Rattle.std.proofs.lemmas.List.{append-nil}
 use mathlib.Core.List.{IsPrefix}
-use Rattle.lasso_shared.specs.History.{Event, Reserve, Charge, Append, Limit, History, Totals, totals, counted, IsLegal, MayFollow}
+use Rattle.lasso_shared.specs.History.{Event, History, Totals, totals}
 use Rattle.lasso_shared.specs.Calls.{events_of}
 use Rattle.lasso_shared.specs.Notes.{Note, history, state}
-
-pub totals_append : (s : Totals) (h g : History) → totals s (h ++ g) ≡ totals (totals s h) g
-totals_append s [] g = refl
-totals_append s (e ∷ h) g = totals_append (counted s e.1) h g
+use Rattle.lasso_shared.proofs.Legal.{totals_append}
 
 pub events_append : (p : ℕ) (h g : History) → events_of p (h ++ g) ≡ events_of p h ++ events_of p g
 events_append p [] g = refl
@@ -24,25 +21,6 @@ own_append p xs ys = ap (events_of p) (history_append xs ys) ∙ events_append p
 -- the state of a longer log, from that of its beginning
 pub state_past : (o : Totals) (v rest : List Note) → state o (v ++ rest) ≡ totals (state o v) (history rest)
 state_past o v rest = ap (totals o) (history_append v rest) ∙ totals_append o (history v) (history rest)
-
-one_grows : (s : Totals) (e : Event) → IsPrefix s.texts (counted s e).texts
-one_grows s (Append t) = (t ∷ [], refl)
-one_grows s (Reserve bucket n) = ([], append-nil s.texts)
-one_grows s (Charge size n) = ([], append-nil s.texts)
-one_grows s (Limit m) = ([], append-nil s.texts)
-
--- the list only grows
-pub list_grows : (s : Totals) (h : History) → IsPrefix s.texts (totals s h).texts
-list_grows s [] = ([], append-nil s.texts)
-list_grows s (e ∷ h) =
-    let a = one_grows s e.1 in
-    let b = list_grows (counted s e.1) h in
-    (a.0 ++ b.0, sym (append_assoc s.texts a.0 b.0) ∙ ap (λ l. l ++ b.0) a.1 ∙ b.1)
-
--- a legal history stays legal with one more event that may follow
-pub legal_push : {Key : Type 0} (keys : ℕ → Option Key) (s : Totals) (h : History) (e : ℕ × Event) → IsLegal keys s h → MayFollow keys (totals s h) e.1 → IsLegal keys s (h ++ e ∷ [])
-legal_push keys s [] e l may = (may, tt)
-legal_push keys s (f ∷ h) e l may = (l.0, legal_push keys (counted s f.1) h e l.1 may)
 
 pub prefix_self : {A : Type 0} (xs : List A) → IsPrefix xs xs
 prefix_self xs = ([], append-nil xs)

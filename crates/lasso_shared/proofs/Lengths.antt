@@ -9,7 +9,8 @@ use Rattle.lasso_shared.specs.Rows.{OnlyGrows}
 use Rattle.lasso_shared.specs.Notes.{Note, history, state, opening_of, notes_of, worded, words_after, words_of, first_words, IsWord, IsWordWith, titled, texts_titled, texts_in, text_of}
 use Rattle.lasso_shared.specs.Book.{IsKept, May, Moving, Lets, Moved, shown}
 use Rattle.lasso_shared.specs.Events.{IsQuiet, ready}
-use Rattle.lasso_shared.proofs.Histories.{state_past, list_grows, prefix_whole, prefix_tail}
+use Rattle.lasso_shared.proofs.Histories.{state_past, prefix_whole, prefix_tail}
+use Rattle.lasso_shared.proofs.Legal.{list_grows}
 use Rattle.lasso_shared.proofs.Words.{word_later}
 
 abbrev HasLength : ℕ → ℕ → List (ℕ × ℕ) → Type 0

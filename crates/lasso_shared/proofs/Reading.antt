@@ -1,14 +1,14 @@
 -- What a reading of the length tells of the list, and what an opening holds.
-use Rattle.std.proofs.Common.{◌≡◌, ◌≢◌, ◌⊎◌, ℕ, zero, suc, ◌+◌, ◌<◌, ◌≤◌, true, List, [], ◌∷◌, ◌++◌, length, length-append, slice_get, slice_index_or, Some, None, Option, refl, ap, sym, ◌∙◌, subst, arith, inl, inr}
+use Rattle.std.proofs.Common.{◌≡◌, ◌⊎◌, ℕ, zero, suc, ◌+◌, ◌<◌, ◌≤◌, true, List, [], ◌∷◌, ◌++◌, length, slice_get, slice_index_or, Some, None, Option, refl, ap, sym, ◌∙◌, subst, arith, inl, inr}
 use Rattle.std.proofs.lemmas.Map.Keys.{IsDistinct-from_apart}
 use Rattle.std.specs.Str.{bytes_eq}
 use mathlib.Core.List.{IsPrefix}
 use Rattle.lasso_parts.specs.Texts.{Text, IsDistinct, Fits}
 use Rattle.logbook.specs.Pages.{Cell}
-use Rattle.lasso_parts.proofs.TextLemmas.{fits_push}
-use Rattle.lasso_shared.specs.History.{Event, Reserve, Charge, Append, Limit, History, Totals, IsOpening, IsLegal, MayFollow, opened, counted, totals}
+use Rattle.lasso_shared.specs.History.{Append, Totals, opened}
 use Rattle.lasso_shared.specs.Notes.{Note, history, state, IsWordWith}
 use Rattle.lasso_shared.specs.Book.{IsKept, IsDone, Reads}
+use Rattle.lasso_shared.proofs.Legal.{list_kept}
 use Rattle.lasso_shared.proofs.Lined.{stands_still, prefix_short}
 use Rattle.lasso_shared.proofs.Lengths.{length_of, same_texts, one_more, text_added}
 use Rattle.lasso_shared.proofs.Logs.{either_begins}
@@ -36,20 +36,10 @@ text_read xs ys n t p low is =
 none_distinct : IsDistinct []
 none_distinct = IsDistinct-from_apart bytes_eq [] (λ i j d below inside. absurd (omega (arith, inside)))
 
-event_fits : {Key : Type 0} (keys : ℕ → Option Key) (s : Totals) (e : Event) → Fits keys (length s.texts) → MayFollow keys s e → Fits keys (length (counted s e).texts)
-event_fits keys s (Append t) fits may = subst (Fits keys) (sym (length-append s.texts (t ∷ []))) (fits_push keys (length s.texts) fits may.1)
-event_fits keys s (Reserve bucket n) fits may = fits
-event_fits keys s (Charge size n) fits may = fits
-event_fits keys s (Limit m) fits may = fits
-
-legal_fits : {Key : Type 0} (keys : ℕ → Option Key) (s : Totals) (h : History) → Fits keys (length s.texts) → IsLegal keys s h → Fits keys (length (totals s h).texts)
-legal_fits keys s [] fits legal = fits
-legal_fits keys s (e ∷ h) fits legal = legal_fits keys (counted s e.1) h (event_fits keys s e.1 fits legal.0) legal.1
-
 module _ {Key : Type 0} (keys : ℕ → Option Key) where
   -- the list of a history that the rule held of fits the keys
   pub list_fits : (o : Totals) (notes : List Note) → ((cells : List Cell) × IsKept keys cells o notes) → Fits keys (length (state o notes).texts)
-  list_fits o notes held = legal_fits keys o (history notes) held.1.opened.fits held.1.legal
+  list_fits o notes held = (list_kept keys o (history notes) held.1.opened.distinct held.1.opened.fits held.1.legal).1
 
   -- the length word of an interner that opened with no text is the length of the list
   pub length_read : (o : Totals) (notes : List Note) (n : ℕ) → o.texts ≡ [] → Reads keys o notes 0 0 n → n ≡ length (state o notes).texts

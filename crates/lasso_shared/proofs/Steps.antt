@@ -8,7 +8,8 @@ use Rattle.logbook.specs.Pages.{Cell, cell, keeps, gives, adds, Nib, nib, no_nib
 use Rattle.lasso_shared.specs.History.{Event, Totals, MayFollow, IsLegal}
 use Rattle.lasso_shared.specs.Notes.{Note, history, state, ticket_of, worded, words_of, first_words, IsWord, IsWordWith, titled}
 use Rattle.lasso_shared.specs.Book.{IsHome, Used, Words, Apart, IsKept, Kept, Peeks, Fetches, Adds, IsAdded, Bumps, Moving, May, Lets, Moved, shown}
-use Rattle.lasso_shared.proofs.Histories.{history_append, legal_push, prefix_tail, prefix_self, prefix_trans}
+use Rattle.lasso_shared.proofs.Histories.{history_append, prefix_tail, prefix_self, prefix_trans}
+use Rattle.lasso_shared.proofs.Legal.{legal_push}
 use Rattle.lasso_shared.proofs.Tickets.{by_cases, not_both, used_still, used_more, chained_more, still}
 use Rattle.lasso_shared.proofs.Words.{words_get, words_more, words_append, word_later}
 
