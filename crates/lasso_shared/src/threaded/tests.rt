@@ -18,11 +18,13 @@ struct Two {
 }
 
 impl Model for Two {
-    ghost use Rattle.std.specs.Prelude.{ℕ};
+    ghost use Rattle.std.specs.Prelude.{ℕ, ◌<◌};
 
     ghost Value = { ℕ };
 
     ghost view = { λ k. k.position };
+
+    ghost invariant = { λ k. k.position < 2 };
 
     ghost inverse = { λ n. record { position = n } };
 }
@@ -43,12 +45,13 @@ impl Key for Two {
     }
 
     fn try_from_usize(position: usize) -> Option<Self> {
-        if position > 1 {
-            return None;
+        if position < 2 {
+            Some(Two {
+                position: position as u8,
+            })
+        } else {
+            None
         }
-        Some(Two {
-            position: position as u8,
-        })
     }
 
     fn show_value(self) {
