@@ -183,7 +183,8 @@ fn laws_at_each_holder(rt: HostRuntime) -> Result<(), Fail> {
     let alloc = rt.alloc();
     let mut rodeo: SpurRodeo = Rodeo::new(alloc)?;
     assert!(rt; rodeo_interns_as_one(&rt, &mut rodeo, "a")?);
-    assert!(rt; lent_rodeo_interns_as_one(&rt, &mut &mut rodeo, "b")?);
+    let mut lent = &mut rodeo;
+    assert!(rt; lent_rodeo_interns_as_one(&rt, &mut lent, "b")?);
     let mut boxed = Box::new(alloc, rodeo)?;
     assert!(rt; boxed_rodeo_interns_as_one(&rt, &mut boxed, "c")?);
     assert_eq!(rt; boxed.len(), 3);
