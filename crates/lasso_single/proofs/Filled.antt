@@ -2,14 +2,15 @@
 --
 -- The definition goes through the list from its first text, and a loop adds texts at the end. So each text of
 -- the list is stepped over, none of which was refused, and the one more comes after the last.
-use Rattle.std.proofs.Common.{◌≡◌, ℕ, List, [], ◌∷◌, ◌++◌, map, Option, Some, Result, Ok, Err, MatchResult, refl, sym, subst}
+use Rattle.std.proofs.Common.{◌≡◌, ℕ, Bool, false, List, [], ◌∷◌, ◌++◌, map, Option, Some, Result, Ok, Err, MatchResult, refl, sym, subst}
 use Rattle.std.specs.Iterator.{Yields}
 use Rattle.std.proofs.lemmas.List.{map_push}
 use Rattle.std.proofs.lemmas.Result.{MatchResult-weaker}
+use Rattle.lasso_parts.specs.Account.{Account, fresh}
 use Rattle.lasso_parts.specs.Texts.{Text}
 use Rattle.lasso_parts.specs.declared.util.LassoError.{LassoError}
 use Rattle.lasso_single.specs.Filling.{InternsIn, extend}
-use Rattle.lasso_single.specs.Interner.{Interner}
+use Rattle.lasso_single.specs.Interner.{Interner, IsMadeWith, made_with}
 
 -- the answer where nothing was refused
 abbrev pub accepted : Result (Unit {0}) LassoError
@@ -51,3 +52,13 @@ pub extend_stopped : {K : Type 0} (key_at : ℕ → Option K) (old new : Interne
 extend_stopped key_at old new [] more error h = let e = h.0 in cc
 extend_stopped key_at old new (t ∷ ts) more error h =
     (h.0, h.1, h.2, MatchResult-weaker h.0 h.3 (λ k others. extend_stopped key_at h.1 new ts more error others) (λ e last. last))
+
+abbrev made_of : List Text → Account → ℕ → ℕ → Bool → Interner
+made_of texts account first copied is_cleared = record { texts = texts; account = account; first = first; copied = copied; is_cleared = is_cleared }
+
+made_fields : (texts : List Text) (account : Account) (first copied bytes limit : ℕ) (is_cleared : Bool) → texts ≡ [] → account ≡ fresh bytes limit → first ≡ bytes → copied ≡ 0 → is_cleared ≡ false → made_of texts account first copied is_cleared ≡ made_with bytes limit
+made_fields texts account first copied bytes limit is_cleared t a f c m = rw (t, a, f, c, m) refl
+
+-- an interner that was just made is known
+pub just_made : (now : Interner) (bytes limit : ℕ) → now.texts ≡ [] → now.account ≡ fresh bytes limit → IsMadeWith bytes 0 now → now ≡ made_with bytes limit
+just_made now bytes limit t a m = made_fields now.texts now.account now.first now.copied bytes limit now.is_cleared t a m.0 m.1 m.2

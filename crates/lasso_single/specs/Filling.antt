@@ -24,7 +24,8 @@ extend {K} key_at old (text ∷ texts) reply new =
     (one : Result K LassoError) × (mid : Interner) × InternsIn key_at old text one mid
     × MatchResult one (λ _. extend key_at mid texts reply new) (λ error. (reply ≡ Err error) × (new ≡ mid))
 
--- of the texts, interned in order, only the last can have been refused: those before it were not
-abbrev pub IsLastRefused : {K : Type 0} → (ℕ → Option K) → Interner → List Text → Type 0
-IsLastRefused key_at old texts =
+-- the texts were interned in order, and the last of them was refused: it changed nothing
+abbrev pub EndsRefused : {K : Type 0} → (ℕ → Option K) → Interner → List Text → LassoError → Interner → Type 0
+EndsRefused {K} key_at old texts error new =
     (before : List Text) × (last : Text) × (mid : Interner) × (texts ≡ before ++ last ∷ []) × extend key_at old before (Ok tt) mid
+    × InternsIn {K = K} key_at mid last (Err error) new

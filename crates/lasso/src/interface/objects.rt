@@ -1,6 +1,6 @@
-//! Interfaces without parameters, for boxes of interners and of frozen forms with `Spur` keys. They are
-//! for what no other thread changes, so no call of theirs waits. A caller makes the box, as
-//! `Box<dyn SpurInterner + Drop>`.
+//! Interfaces without parameters, for `dyn` references to interners and frozen forms with `Spur` keys, and
+//! for boxes. They are for what no other thread changes, so no call of theirs waits. A caller makes the
+//! box, as `Box<dyn SpurInterner + Drop>`.
 ghost use Rattle.std.specs.Prelude.{◌≡◌, ◌<◌, ◌↔◌, List, Some, length, is_some, IsTrue, slice_get, option_map};
 ghost use Rattle.lasso_parts.specs.Texts.{Text, position_of, key_of};
 ghost use Rattle.lasso.specs.Interning.{InternsAmong, InternsStaticAmong};

@@ -2,7 +2,7 @@
 ghost use Rattle.std.specs.Prelude.{◌≡◌, ◌-◌, ◌^◌, ◌⊎◌, ℕ, List, map, MatchResult, IfOk, IfErr};
 ghost use Rattle.std.specs.Iterator.{IsFinite, Drains, Yields};
 ghost use Rattle.lasso_parts.specs.declared.util.LassoErrorKind.TheVariants.{FailedAllocation};
-ghost use Rattle.lasso_single.specs.Filling.{extend, IsLastRefused};
+ghost use Rattle.lasso_single.specs.Filling.{extend, EndsRefused};
 ghost use Rattle.lasso_single.specs.Interner.{Interner, made_with};
 
 use super::Rodeo;
@@ -22,8 +22,8 @@ impl<K: Key, S: BuildHasher, A: Allocator + Clone> Rodeo<K, S, A> {
     ) -> LassoResult<()>
         requires { (it : I.IntoIter) → I.into_iter_gives items it → I.IntoIter.can_next it × IsFinite (I.IntoIter.remaining it) }
         ensures { (it : I.IntoIter) × (xs : List T) × I.into_iter_gives items it
-            × MatchResult result (λ _. Drains I.IntoIter.next_gives it xs) (λ _. ((rest : I.IntoIter) × Yields I.IntoIter.next_gives it xs rest) × IsLastRefused K.key_at self.old (map T.text xs))
-            × extend K.key_at self.old (map T.text xs) result self.new }
+            × MatchResult result (λ _. Drains I.IntoIter.next_gives it xs × extend K.key_at self.old (map T.text xs) (Ok tt) self.new)
+            (λ error. ((rest : I.IntoIter) × Yields I.IntoIter.next_gives it xs rest) × EndsRefused K.key_at self.old (map T.text xs) error self.new) }
     {
         let items = items.into_iter();
         // Where there is no memory for the items that the hint tells of, each asks for its own.
@@ -49,8 +49,7 @@ impl<K: Key, S: BuildHasher + Default + Drop, A: Allocator + Clone> Rodeo<K, S, 
         ensures refused { IfErr result (λ error. (error ≡ FailedAllocation)
             ⊎ ((it : I.IntoIter) × (xs : List T) × I.into_iter_gives items it
             × ((rest : I.IntoIter) × Yields I.IntoIter.next_gives it xs rest)
-            × IsLastRefused K.key_at (made_with 4096 (2 ^ 64 - 1)) (map T.text xs)
-            × ((left : Interner) × extend K.key_at (made_with 4096 (2 ^ 64 - 1)) (map T.text xs) (Err error) left))) }
+            × ((left : Interner) × EndsRefused K.key_at (made_with 4096 (2 ^ 64 - 1)) (map T.text xs) error left))) }
     {
         let mut rodeo = Rodeo::with_hasher(alloc, S::default())?;
         rodeo.extend(items)?;
