@@ -137,7 +137,9 @@ fn slots_of_three_words(rt: HostRuntime) -> Result<(), Fail> {
             assert!(rt; slots.len() == 130);
             assert!(rt; slots.get(j).is_none(), "slot {j}");
         }
+        assert!(rt; slots.len() == 130);
         slots.put(64, key);
+        assert!(rt; slots.len() == 130);
         slots.put(129, key);
         for j in 0..130usize {
             assert!(rt; slots.len() == 130);
