@@ -35,7 +35,7 @@ pub trait TextPool: KeyedTexts {
 
     /// The key's position.
     fn position(key: Self::Key) -> usize
-        ensures { result ≡ number key };
+        ensures { result ≡ Self.number key };
 }
 
 /// The interner of this repository.
