@@ -95,7 +95,7 @@ pub fn resolver_of_boxed_rodeo_knows<K: Key, S: BuildHasher + Drop, A: Allocator
     resolver_knows(rt, boxed, text)
 }
 
-/// `finds_what_resolves` of a reader.
+/// `finds_what_resolves` of a reader, as it stands and lent.
 pub fn reader_finds_what_resolves<K: Key, S: BuildHasher, A: Allocator, R: Wait>(
     rt: &R,
     reader: &RodeoReader<K, S, A>,
