@@ -36,3 +36,8 @@ fn limited(alloc: Global) -> LassoResult<SpurRodeo> {
     rodeo.set_memory_limits(MemoryLimits::new(0));
     Ok(rodeo)
 }
+
+/// An interner of 4 bytes under a limit of 4 bytes, without a text.
+fn of_four_bytes(alloc: Global) -> LassoResult<SpurRodeo> {
+    Rodeo::with_capacity_and_memory_limits(alloc, Capacity::for_bytes(4), MemoryLimits::new(4))
+}

@@ -1,6 +1,8 @@
 //! The laws of interners at each type that holds one: the code is that of `laws`, and what it says of a list
 //! is said here of the list of texts that the held interner has.
-ghost use Rattle.std.specs.Prelude.{◌≡◌, is_ok, if◌then◌else◌, IfOk, IsTrue};
+ghost use Rattle.std.specs.Prelude.{◌≡◌, ◌↔◌, None, length, is_ok, if◌then◌else◌, IfOk, IfErr, IsTrue};
+ghost use Rattle.lasso_parts.specs.Texts.{position_of};
+ghost use Rattle.lasso_parts.specs.declared.util.LassoErrorKind.TheVariants.{KeySpaceExhaustion};
 ghost use Rattle.lasso.specs.Interning.{with_last};
 
 use super::laws::{
@@ -23,6 +25,7 @@ pub fn rodeo_interns_as_one<K: Key, S: BuildHasher, A: Allocator + Clone, R: Wai
 ) -> LassoResult<bool>
     ensures one { IfOk result IsTrue }
     ensures list { rodeo.new.texts ≡ (if is_ok result then with_last rodeo.old.texts text.now else rodeo.old.texts) }
+    ensures refused { IfErr result (λ error. (position_of rodeo.old.texts text.now ≡ None) × ((error ≡ KeySpaceExhaustion) ↔ (K.key_at (length rodeo.old.texts) ≡ None))) }
 {
     interns_as_one(rt, rodeo, text)
 }
@@ -35,6 +38,7 @@ pub fn lent_rodeo_interns_as_one<'a, K: Key, S: BuildHasher, A: Allocator + Clon
 ) -> LassoResult<bool>
     ensures one { IfOk result IsTrue }
     ensures list { lent.new.now.texts ≡ (if is_ok result then with_last lent.old.now.texts text.now else lent.old.now.texts) }
+    ensures refused { IfErr result (λ error. (position_of lent.old.now.texts text.now ≡ None) × ((error ≡ KeySpaceExhaustion) ↔ (K.key_at (length lent.old.now.texts) ≡ None))) }
 {
     interns_as_one(rt, lent, text)
 }
@@ -47,6 +51,7 @@ pub fn boxed_rodeo_interns_as_one<K: Key, S: BuildHasher, A: Allocator + Clone, 
 ) -> LassoResult<bool>
     ensures one { IfOk result IsTrue }
     ensures list { boxed.new.value.texts ≡ (if is_ok result then with_last boxed.old.value.texts text.now else boxed.old.value.texts) }
+    ensures refused { IfErr result (λ error. (position_of boxed.old.value.texts text.now ≡ None) × ((error ≡ KeySpaceExhaustion) ↔ (K.key_at (length boxed.old.value.texts) ≡ None))) }
 {
     interns_as_one(rt, boxed, text)
 }
@@ -57,7 +62,8 @@ pub fn reader_of_rodeo_knows<K: Key, S: BuildHasher + Drop, A: Allocator + Clone
     rodeo: Rodeo<K, S, A>,
     text: &str,
 ) -> LassoResult<bool>
-    ensures { IfOk result IsTrue }
+    ensures known { IfOk result IsTrue }
+    ensures refused { IfErr result (λ error. (position_of rodeo.texts text.now ≡ None) × ((error ≡ KeySpaceExhaustion) ↔ (K.key_at (length rodeo.texts) ≡ None))) }
 {
     reader_knows(rt, rodeo, text)
 }
@@ -68,7 +74,8 @@ pub fn reader_of_boxed_rodeo_knows<K: Key, S: BuildHasher + Drop, A: Allocator +
     boxed: Box<Rodeo<K, S, A>>,
     text: &str,
 ) -> LassoResult<bool>
-    ensures { IfOk result IsTrue }
+    ensures known { IfOk result IsTrue }
+    ensures refused { IfErr result (λ error. (position_of boxed.value.texts text.now ≡ None) × ((error ≡ KeySpaceExhaustion) ↔ (K.key_at (length boxed.value.texts) ≡ None))) }
 {
     reader_knows(rt, boxed, text)
 }
@@ -79,7 +86,8 @@ pub fn resolver_of_rodeo_knows<K: Key, S: BuildHasher + Drop, A: Allocator + Clo
     rodeo: Rodeo<K, S, A>,
     text: &str,
 ) -> LassoResult<bool>
-    ensures { IfOk result IsTrue }
+    ensures known { IfOk result IsTrue }
+    ensures refused { IfErr result (λ error. (position_of rodeo.texts text.now ≡ None) × ((error ≡ KeySpaceExhaustion) ↔ (K.key_at (length rodeo.texts) ≡ None))) }
 {
     resolver_knows(rt, rodeo, text)
 }
@@ -90,7 +98,8 @@ pub fn resolver_of_boxed_rodeo_knows<K: Key, S: BuildHasher + Drop, A: Allocator
     boxed: Box<Rodeo<K, S, A>>,
     text: &str,
 ) -> LassoResult<bool>
-    ensures { IfOk result IsTrue }
+    ensures known { IfOk result IsTrue }
+    ensures refused { IfErr result (λ error. (position_of boxed.value.texts text.now ≡ None) × ((error ≡ KeySpaceExhaustion) ↔ (K.key_at (length boxed.value.texts) ≡ None))) }
 {
     resolver_knows(rt, boxed, text)
 }

@@ -1,9 +1,9 @@
 //! Each call of the interfaces at each type that has it, and rows of answers through generic code.
 use super::*;
 use crate::interface::holders::{
-    boxed_rodeo_interns_as_one, reader_finds_what_resolves, reader_of_boxed_rodeo_knows,
-    reader_of_rodeo_knows, resolver_looks_up_alike, resolver_of_boxed_rodeo_knows,
-    resolver_of_rodeo_knows, rodeo_interns_as_one,
+    boxed_rodeo_interns_as_one, lent_rodeo_interns_as_one, reader_finds_what_resolves,
+    reader_of_boxed_rodeo_knows, reader_of_rodeo_knows, resolver_looks_up_alike,
+    resolver_of_boxed_rodeo_knows, resolver_of_rodeo_knows, rodeo_interns_as_one,
 };
 use crate::interface::laws::{finds_what_resolves, interns_as_one, looks_up_alike};
 use crate::interface::{
@@ -114,6 +114,29 @@ fn static_texts_through_each_interner(rt: HostRuntime) -> Result<(), Fail> {
     Ok(())
 }
 
+/// Two static texts beside 4 free bytes under a limit of 4: they leave all 4 to a copied text.
+fn static_texts_take_no_bytes<K: Key, R: Abort + Wait, I: Interner<K>>(rt: &R, interner: &mut I) {
+    is_answer(rt, interner.try_get_or_intern_static(rt, "abcd"), Ok(0));
+    is_answer(rt, interner.get_or_intern_static(rt, "efgh"), Ok(1));
+    is_answer(rt, interner.get_or_intern(rt, "wxyz"), Ok(2));
+    is_answer(rt, interner.try_get_or_intern(rt, "more"), Err(LIMIT));
+    is_answer(rt, interner.get_or_intern(rt, "more"), Err(LIMIT));
+}
+
+#[test]
+fn static_texts_take_no_bytes_of_each_interner(rt: HostRuntime) -> Result<(), Fail> {
+    let mut rodeo = of_four_bytes(rt.alloc())?;
+    static_texts_take_no_bytes::<Spur, _, _>(&rt, &mut rodeo);
+    assert_eq!(rt; rodeo.current_memory_usage(), 4);
+    let mut other = of_four_bytes(rt.alloc())?;
+    static_texts_take_no_bytes::<Spur, _, _>(&rt, &mut &mut other);
+    assert_eq!(rt; other.current_memory_usage(), 4);
+    let mut boxed = Box::new(rt.alloc(), of_four_bytes(rt.alloc())?)?;
+    static_texts_take_no_bytes::<Spur, _, _>(&rt, &mut boxed);
+    assert_eq!(rt; boxed.current_memory_usage(), 4);
+    Ok(())
+}
+
 /// What each way of freezing gives has `Hello, world!` alone.
 fn freezes<K: Key, R: Abort + Wait, I: IntoReaderAndResolver<K> + Drop>(
     rt: &R,
@@ -183,7 +206,7 @@ fn laws_at_each_holder(rt: HostRuntime) -> Result<(), Fail> {
     let alloc = rt.alloc();
     let mut rodeo: SpurRodeo = Rodeo::new(alloc)?;
     assert!(rt; rodeo_interns_as_one(&rt, &mut rodeo, "a")?);
-    assert!(rt; rodeo_interns_as_one(&rt, &mut rodeo, "b")?);
+    assert!(rt; lent_rodeo_interns_as_one(&rt, &mut &mut rodeo, "b")?);
     let mut boxed = Box::new(alloc, rodeo)?;
     assert!(rt; boxed_rodeo_interns_as_one(&rt, &mut boxed, "c")?);
     assert_eq!(rt; boxed.len(), 3);

@@ -38,6 +38,18 @@ fn static_texts_through_an_interner(rt: HostRuntime) -> Result<(), Fail> {
 }
 
 #[test]
+fn static_texts_take_no_bytes(rt: HostRuntime) -> Result<(), Fail> {
+    let mut rodeo = of_four_bytes(rt.alloc())?;
+    let interner: &mut dyn SpurInterner = &mut rodeo;
+    is_answer(&rt, interner.try_get_or_intern_static("abcd"), Ok(0));
+    is_answer(&rt, interner.try_get_or_intern_static("efgh"), Ok(1));
+    is_answer(&rt, interner.try_get_or_intern("wxyz"), Ok(2));
+    is_answer(&rt, interner.try_get_or_intern("more"), Err(LIMIT));
+    assert_eq!(rt; rodeo.current_memory_usage(), 4);
+    Ok(())
+}
+
+#[test]
 fn frozen_forms(rt: HostRuntime) -> Result<(), Fail> {
     let frozen = hello(rt.alloc())?.into_reader();
     let reader: &dyn SpurReader = &frozen;

@@ -52,9 +52,11 @@ fn a_resolver_may_hold_equal_texts(rt: HostRuntime) -> Result<(), Fail> {
         let key = Spur::try_from_usize(position).ok_or("no key")?;
         assert_eq!(rt; resolver.try_resolve(key), Some(text));
     }
-    let faulty = Value::from_str(rt.alloc(), r#"["a", {}]"#)?;
-    let answer = fault(SpurResolver::deserialize(rt.alloc(), &faulty));
-    assert_eq!(rt; answer, Some(JsonError::NotText(1)));
+    for text in [r#"["a", {}]"#, r#"["a", 1]"#] {
+        let faulty = Value::from_str(rt.alloc(), text)?;
+        let answer = fault(SpurResolver::deserialize(rt.alloc(), &faulty));
+        assert_eq!(rt; answer, Some(JsonError::NotText(1)), "{text}");
+    }
     Ok(())
 }
 
@@ -116,6 +118,17 @@ fn a_position_without_a_key(rt: HostRuntime) -> Result<(), Fail> {
     let one = Value::from_str(rt.alloc(), r#"["pp"]"#)?;
     let answer = fault(Rodeo::<Gap<0>, FixedState, Global>::deserialize(rt.alloc(), &one));
     assert_eq!(rt; answer, Some(JsonError::TooMany(0)));
+    Ok(())
+}
+
+// Each text compared with all before it would be 20 thousand million comparisons.
+#[test]
+fn a_double_behind_many_texts(rt: HostRuntime) -> Result<(), Fail> {
+    let last_as_first = numbered(rt.alloc(), 200_000, 199_999)?;
+    let answer = fault(SpurRodeo::deserialize(rt.alloc(), &last_as_first));
+    assert_eq!(rt; answer, Some(JsonError::Doubled(199_999)));
+    let resolver = SpurResolver::deserialize(rt.alloc(), &last_as_first)?;
+    assert_eq!(rt; resolver.len(), 200_000);
     Ok(())
 }
 

@@ -3,6 +3,7 @@ ghost use Rattle.std.specs.Prelude.{◌<◌};
 
 mod changes;
 mod clones;
+mod filling;
 mod hashing;
 mod walks;
 

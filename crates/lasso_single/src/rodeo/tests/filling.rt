@@ -1,0 +1,36 @@
+//! Interners filled from items that keys, limit or memory have no room for.
+use super::*;
+use std::iter::repeat_n;
+
+#[test]
+fn items_past_the_keys(rt: HostRuntime) -> Result<(), Fail> {
+    let mut texts: Vec<String> = Vec::new(rt.alloc());
+    for number in 0..256usize {
+        texts.push(format!(in rt.alloc(); "{number}")?)?;
+    }
+    let refusal = Rodeo::<MicroSpur, FixedState, Global>::from_iter(rt.alloc(), texts)
+        .err()
+        .ok_or("not refused")?;
+    assert!(rt; refusal.kind() == KEYS);
+    Ok(())
+}
+
+// No memory holds the list that the iterator tells of, and none is needed for its first item.
+#[test]
+fn a_hint_past_all_memory(rt: HostRuntime) -> Result<(), Fail> {
+    let mut rodeo = interner::<Spur>(rt.alloc(), 4, 4)?;
+    let refusal = rodeo
+        .extend(repeat_n("abcde", usize::MAX))
+        .err()
+        .ok_or("not refused")?;
+    assert!(rt; refusal.kind() == LIMIT);
+    assert_eq!(rt; rodeo.len(), 0);
+    let refusal = Rodeo::<Gap<0>, FixedState, Global>::from_iter(
+        rt.alloc(),
+        repeat_n("pp", usize::MAX),
+    )
+    .err()
+    .ok_or("not refused")?;
+    assert!(rt; refusal.kind() == KEYS);
+    Ok(())
+}
