@@ -201,12 +201,16 @@ fn a_boxed_interner_of_one_text(rt: HostRuntime) -> Result<(), Fail> {
     Ok(())
 }
 
+fn through_what_is_lent<'a>(rt: &impl Wait, mut lent: &'a mut SpurRodeo) -> LassoResult<bool> {
+    lent_rodeo_interns_as_one(rt, &mut lent, "b")
+}
+
 #[test]
 fn laws_at_each_holder(rt: HostRuntime) -> Result<(), Fail> {
     let alloc = rt.alloc();
     let mut rodeo: SpurRodeo = Rodeo::new(alloc)?;
     assert!(rt; rodeo_interns_as_one(&rt, &mut rodeo, "a")?);
-    assert!(rt; lent_rodeo_interns_as_one(&rt, &mut &mut rodeo, "b")?);
+    assert!(rt; through_what_is_lent(&rt, &mut rodeo)?);
     let mut boxed = Box::new(alloc, rodeo)?;
     assert!(rt; boxed_rodeo_interns_as_one(&rt, &mut boxed, "c")?);
     assert_eq!(rt; boxed.len(), 3);

@@ -28,9 +28,8 @@ fn a_hint_past_all_memory(rt: HostRuntime) -> Result<(), Fail> {
     let refusal = Rodeo::<Gap<0>, FixedState, Global>::from_iter(
         rt.alloc(),
         repeat_n("pp", usize::MAX),
-    )
-    .err()
-    .ok_or("not refused")?;
+    ).err()
+        .ok_or("not refused")?;
     assert!(rt; refusal.kind() == KEYS);
     Ok(())
 }
