@@ -1,6 +1,6 @@
 //! The program between its ends: the words of the command line, a reader and a writer.
 ghost use Rattle.std.specs.Prelude.{◌≡◌, ℕ, ◌+◌, List, [], Some, None, Err, OnOk, map, string_bytes};
-ghost use Rattle.lasso_lines.specs.Stream.{Grows, Ended, written};
+ghost use Rattle.lasso_lines.specs.Stream.{Grows, OnlyGrows, Ended, written};
 ghost use Rattle.lasso_lines.specs.Report.{Ends};
 ghost use Rattle.lasso_lines.specs.Answer.{failed_reads, failed_writes};
 ghost use Rattle.lasso_lines.specs.Arguments.{limit_of};
@@ -28,6 +28,8 @@ pub fn run_words<R: AllocGlobal + Wait, I: ByteReader, O: ByteWriter>(
     ensures whole { OnOk result (Ended (I.left reader.old) (I.left reader.new)) }
     ensures reads { I.failures reader.new ≡ I.failures reader.old + failed_reads result }
     ensures writes { O.failures writer.new ≡ O.failures writer.old + failed_writes result }
+    ensures delivered { OnlyGrows (O.delivered writer.old) (O.delivered writer.new) }
+    ensures no_usage { (limit : ℕ) → limit_of (map string_bytes words.now) ≡ Some limit → ¬ (result ≡ Err Usage) }
     ensures nothing_pending { (limit : ℕ) → limit_of (map string_bytes words.now) ≡ Some limit → ¬ (result ≡ Err WriteFailed) → O.pending writer.new ≡ Some [] }
 {
     match arguments(words) {

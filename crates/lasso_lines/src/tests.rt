@@ -396,3 +396,27 @@ fn each_answer_is_seen_before_the_next_line(rt: HostRuntime) -> Result<(), Fail>
     assert!(rt; reader.sees(OUTPUT));
     Ok(())
 }
+
+#[test]
+fn no_line_is_read_behind_a_fault(rt: HostRuntime) -> Result<(), Fail> {
+    let screen = RefCell::new(Vec::new(rt.alloc()));
+    let typed: [(&[u8], &[u8]); 3] = [(b"a\n", b""), (b"\xff\n", b"0 a\n"), (b"b\n", b"0 a\n")];
+    let mut reader = TypedReader {
+        at_hand: b"",
+        typed: &typed,
+        screen: &screen,
+        looks: 0,
+        answered: true,
+    };
+    let mut writer = ScreenWriter {
+        pending: Vec::new(rt.alloc()),
+        screen: &screen,
+        failures: Failures::none(),
+    };
+    let result = run(&rt, &mut reader, &mut writer, no_limit());
+    assert_fault(&rt, result, "line 2: not UTF-8", 2)?;
+    assert!(rt; reader.answered);
+    assert_eq!(rt; reader.looks, 2);
+    assert!(rt; reader.sees(b"0 a\n"));
+    Ok(())
+}

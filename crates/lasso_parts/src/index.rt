@@ -2,7 +2,7 @@
 ghost use Rattle.std.specs.Prelude.{◌≡◌, ◌≢◌, ℕ, ◌+◌, ◌<◌, ◌≤◌, ◌⊎◌, ◌↔◌, length, slice_get, Some, IfSome, IfNone, OnOk, OnErr, IfOk, IfErr, IsOk};
 ghost use Rattle.lasso_parts.specs.declared.util.LassoErrorKind.TheVariants.{FailedAllocation};
 ghost use Rattle.lasso_parts.specs.Hashing.{text_hash};
-ghost use Rattle.lasso_parts.specs.Index.{Holds, HoldsNone, IsFiled, IsFiledAnywhere, StaysFiled, IsIndexOf, IsFewest, room, grown_count};
+ghost use Rattle.lasso_parts.specs.Index.{Holds, HoldsNone, IsFiled, IsFiledAnywhere, StaysFiled, IsIndexOf, IsFewest, used, room, grown_count};
 ghost use Rattle.lasso_parts.specs.Texts.{position_of};
 
 #[cfg(test)]
@@ -112,8 +112,8 @@ impl<K: Key, A: Allocator> Index<K, A> {
     }
 
     /// Makes room for one key more. Where there is none, the table gets twice the slots, or 8 where it
-    /// had none, and each key is entered again by the hash of its text. It is refused for want of memory
-    /// alone, and the index is unchanged then.
+    /// had none, and each key is entered again, once, by the hash of its text. It is refused for want of
+    /// memory alone, and the index is unchanged then.
     pub fn reserve_one<T: Texts, S: BuildHasher>(
         &mut self,
         texts: &T,
@@ -124,6 +124,7 @@ impl<K: Key, A: Allocator> Index<K, A> {
         requires { IsFiled (text_hash S.build_hasher S.Hasher.write S.Hasher.finish hasher.now) (T.list texts.now) self.old }
         ensures room { OnOk result (0 < room self.new) }
         ensures same { (n : ℕ) → Holds self.new n ↔ Holds self.old n }
+        ensures used { used self.new ≡ used self.old }
         ensures filed { IsFiled (text_hash S.build_hasher S.Hasher.write S.Hasher.finish hasher.now) (T.list texts.now) self.new }
         ensures enough { 0 < room self.old → IsOk result × (self.new ≡ self.old) }
         ensures grown { room self.old ≡ 0 → OnOk result (length self.new ≡ grown_count (length self.old)) }
@@ -150,6 +151,7 @@ impl<K: Key, A: Allocator> Index<K, A> {
         requires { 0 < room self.old }
         ensures holds { (n : ℕ) → Holds self.new n ↔ (Holds self.old n ⊎ (n ≡ K.number key)) }
         ensures room { room self.new + 1 ≡ room self.old }
+        ensures slots { length self.new ≡ length self.old }
         ensures filed { StaysFiled hash (K.number key) self.old self.new }
     {
         let at = free_slot(&self.slots, hash);

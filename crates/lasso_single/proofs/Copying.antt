@@ -144,7 +144,7 @@ copied_more {K} key_at start texts i text old reply new distinct fits at so_far 
           (
             reached,
             elim left.2 [
-              | inl memory ↦ inl (memory, omega arith)
+              | inl memory ↦ inl (memory, inr inside)
               | inr limit ↦ inr (limit.0, (text, at, subst (λ (a : Account). store a (length text) ≡ None) (sym left.1) limit.1))
             ],
           ),

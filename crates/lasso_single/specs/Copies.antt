@@ -1,5 +1,5 @@
 -- What clones of an interner hold, and where copying a list of texts may stop.
-use Rattle.std.specs.Prelude.{◌≡◌, ◌⊎◌, ◌≤◌, ◌-◌, ◌^◌, ℕ, true, List, [], ◌∷◌, length, take, slice_get, sum_by, max, nat_eq, if◌then◌else◌, Option, Some, None, option_and_then, Result, MatchResult}
+use Rattle.std.specs.Prelude.{◌≡◌, ◌⊎◌, ◌<◌, ◌-◌, ◌^◌, ℕ, true, List, [], ◌∷◌, length, take, slice_get, sum_by, max, nat_eq, if◌then◌else◌, Option, Some, None, option_and_then, Result, MatchResult}
 use Rattle.lasso_parts.specs.Account.{Account, fresh, store, clear}
 use Rattle.lasso_parts.specs.Texts.{Text}
 use Rattle.lasso_parts.specs.declared.util.LassoError.{LassoError}
@@ -28,10 +28,10 @@ abbrev pub clone_of : List Text → ℕ → Option Account
 clone_of texts limit = store_all (fresh (clone_size texts) (max limit (clone_size texts))) texts
 
 -- copying the texts from that account on stopped with j of them copied: the limit refused the next one, or
--- memory was wanting
+-- memory was wanting for it, or before the first
 abbrev pub StopsAt : Account → List Text → ℕ → LassoError → Account → Type 0
 StopsAt account texts j error stopped =
-    (store_all account (take j texts) ≡ Some stopped) × (((error ≡ FailedAllocation) × (j ≤ length texts))
+    (store_all account (take j texts) ≡ Some stopped) × (((error ≡ FailedAllocation) × ((j ≡ 0) ⊎ (j < length texts)))
     ⊎ ((error ≡ MemoryLimitReached) × ((text : Text) × (slice_get texts j ≡ Some text) × (store stopped (length text) ≡ None))))
 
 -- copying the texts into an interner, which is cleared first, leaves just them; or it stops at one of them, and

@@ -1,5 +1,5 @@
 //! Commands of a `Rodeo`, their replies, and runs of many.
-ghost use Rattle.std.specs.Prelude.{◌≡◌, ◌+◌, ◌*◌, ◌≤◌, false, All, map, option_map, IfErr, IfOk, OnOk};
+ghost use Rattle.std.specs.Prelude.{◌≡◌, ◌+◌, ◌*◌, ◌<◌, ◌≤◌, false, All, map, option_map, IfErr, IfOk, OnOk, length};
 ghost use Rattle.lasso_parts.specs.declared.util.LassoErrorKind.TheVariants.{FailedAllocation};
 ghost use Rattle.lasso_single.specs.Command.{intern_reply, done_reply, resolves_to, replies_to, run_of, IsUncleared};
 ghost use Rattle.lasso_single.specs.Filling.{extend};
@@ -65,14 +65,14 @@ pub enum Reply<K> {
 
 /// Carries the commands out in order, and answers one reply for each. A refused command is answered by its
 /// refusal, and the run goes on. There is room for all replies before the first command is carried out: where
-/// memory is wanting for that, the run is refused and nothing changes.
+/// memory is wanting for that, the run is refused and nothing changes; a run of no command never is.
 pub fn run_commands<K: Key, S: BuildHasher + Clone, A: Allocator + Clone>(
     alloc: Global,
     rodeo: &mut Rodeo<K, S, A>,
     commands: &[Command<'_, K, S, A>],
 ) -> LassoResult<Vec<Reply<K>>>
     ensures run { IfOk result (λ replies. run_of K.key_at K.number rodeo.old commands.now replies.items rodeo.new) }
-    ensures refused { IfErr result (λ error. (error ≡ FailedAllocation) × (rodeo.new ≡ rodeo.old)) }
+    ensures refused { IfErr result (λ error. (error ≡ FailedAllocation) × (0 < length commands.now) × (rodeo.new ≡ rodeo.old)) }
     ensures waste { OnOk result (All IsUncleared commands.now → rodeo.old.is_cleared ≡ false → rodeo.new.account.usage ≤ rodeo.old.first + 4 * rodeo.new.copied) }
 {
     let mut replies = Vec::with_capacity(alloc, commands.len())?;

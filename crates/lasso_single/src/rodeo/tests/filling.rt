@@ -1,4 +1,4 @@
-//! Interners filled from items that keys, limit or memory have no room for.
+//! Interners filled from items, also from those that keys, limit or memory have no room for.
 use super::*;
 use std::iter::repeat_n;
 
@@ -31,5 +31,16 @@ fn a_hint_past_all_memory(rt: HostRuntime) -> Result<(), Fail> {
     ).err()
         .ok_or("not refused")?;
     assert!(rt; refusal.kind() == KEYS);
+    Ok(())
+}
+
+#[test]
+fn items_behind_a_refused_one_are_not_taken(rt: HostRuntime) -> Result<(), Fail> {
+    let mut rodeo = interner::<Spur>(rt.alloc(), 4, 4)?;
+    let mut items = ["ab", "cde", "f", "g"].into_iter();
+    let refusal = rodeo.extend(items.by_ref()).err().ok_or("not refused")?;
+    assert!(rt; refusal.kind() == LIMIT);
+    assert_eq!(rt; rodeo.len(), 1);
+    assert_eq!(rt; items.next(), Some("f"));
     Ok(())
 }

@@ -2,6 +2,7 @@
 use crate::fixtures::CountingState;
 use crate::rodeo::Rodeo;
 use lasso_parts::keys::Spur;
+use lasso_parts::util::Capacity;
 use std::alloc::Global;
 use std::cell::Cell;
 use std::test::Fail;
@@ -24,5 +25,47 @@ fn each_call_hashes_its_text_once(rt: HostRuntime) -> Result<(), Fail> {
     assert_eq!(rt; made.get(), 4);
     assert!(rt; rodeo.get("c").is_none());
     assert_eq!(rt; made.get(), 5);
+    Ok(())
+}
+
+// A growth of the index would hash the texts that it holds again, and one of the list would change its room.
+#[test]
+fn texts_given_room_first_go_in_without_a_growth(rt: HostRuntime) -> Result<(), Fail> {
+    let made = Cell::new(0);
+    let mut rodeo: Rodeo<Spur, CountingState<'_>, Global> = Rodeo::with_capacity_and_hasher(
+        rt.alloc(),
+        Capacity::for_strings(1000),
+        CountingState::new(&made),
+    )?;
+    let room = rodeo.capacity();
+    assert!(rt; room >= 1000);
+    for number in 0..1000usize {
+        let text = format!(in rt.alloc(); "{number}")?;
+        rodeo.try_get_or_intern(text.as_str())?;
+    }
+    assert_eq!(rt; made.get(), 1000);
+    assert_eq!(rt; rodeo.capacity(), room);
+    Ok(())
+}
+
+#[test]
+fn a_copy_asks_the_hasher_of_its_source(rt: HostRuntime) -> Result<(), Fail> {
+    let of_source = Cell::new(0);
+    let of_target = Cell::new(0);
+    let mut source: Rodeo<Spur, CountingState<'_>, Global> = Rodeo::with_hasher(
+        rt.alloc(),
+        CountingState::new(&of_source),
+    )?;
+    source.extend(["a", "b"])?;
+    assert_eq!(rt; of_source.get(), 2);
+    let mut target: Rodeo<Spur, CountingState<'_>, Global> = Rodeo::with_hasher(
+        rt.alloc(),
+        CountingState::new(&of_target),
+    )?;
+    target.try_clone_from(&source)?;
+    assert_eq!(rt; of_source.get(), 4);
+    assert!(rt; target.contains("b"));
+    assert_eq!(rt; of_source.get(), 5);
+    assert_eq!(rt; of_target.get(), 0);
     Ok(())
 }
