@@ -72,7 +72,7 @@ begins_equal part whole e = subst (λ bs. Begins bs whole) (sym e) (begins_all w
 
 lack_begins : (held : Held) (first : ℕ) (lines : List (List ℕ)) (part : List ℕ) (number : ℕ) → LacksMemory held first lines part number → Begins part (report_from held first lines)
 lack_begins held first lines part number (inl (before, at, inside, told)) = subst (λ bs. Begins bs (report_from held first lines)) (sym told) (answers_begin lines held first before)
-lack_begins held first lines part number (inr (none, begins)) = begins
+lack_begins held first lines part number (inr (none, whole, empty)) = subst (λ bs. Begins bs (report_from held first lines)) (sym empty) (_, refl)
 
 fault_begins : (held : Held) (first : ℕ) (lines : List (List ℕ)) (part : List ℕ) (fault : RunFault) → EndsWithFault held first lines part fault → Begins part (report_from held first lines)
 fault_begins held first lines part (Refused number error) (inl own) = begins_equal _ _ own.1
@@ -95,22 +95,22 @@ module _ (held after : Held) (number : ℕ) (line : List ℕ) (lines : List (Lis
   told_after : (part : List ℕ) → part ≡ report_from after (number + 1) lines → line_report held line ++ part ≡ report_from held number (line ∷ lines)
   told_after part told = ap (λ bs. line_report held line ++ bs) told ∙ sym (report_good held after number line lines good)
 
-  lack_after : (part : List ℕ) (at : ℕ) → LacksMemory after (number + 1) lines part at → LacksMemory held number (line ∷ lines) (line_report held line ++ part) at
-  lack_after part at (inl (before, is, inside, told)) = inl (suc before, omega arith, omega (arith, reach_good held after number line lines good), ap (λ bs. line_report held line ++ bs) told ∙ sym (answers_good held after number line lines before good))
-  lack_after part at (inr (none, begins)) = inr (none, begins_after part begins)
+  lack_after : 0 < number → (part : List ℕ) (at : ℕ) → LacksMemory after (number + 1) lines part at → LacksMemory held number (line ∷ lines) (line_report held line ++ part) at
+  lack_after counted part at (inl (before, is, inside, told)) = inl (suc before, omega arith, omega (arith, reach_good held after number line lines good), ap (λ bs. line_report held line ++ bs) told ∙ sym (answers_good held after number line lines before good))
+  lack_after counted part at (inr (none, whole, empty)) = let never : ⊥ = omega (arith, whole, counted) in absurd never
 
-  fault_after : (part : List ℕ) (fault : RunFault) → EndsWithFault after (number + 1) lines part fault → EndsWithFault held number (line ∷ lines) (line_report held line ++ part) fault
-  fault_after part (Refused n error) (inl own) = inl (fault_good held after number line lines good ∙ own.0, told_after part own.1)
-  fault_after part (Refused n error) (inr lack) = inr (lack.0, lack_after part n lack.1)
-  fault_after part (NotText n) (inl own) = inl (fault_good held after number line lines good ∙ own.0, told_after part own.1)
-  fault_after part (NotText n) (inr lack) = inr (lack.0, lack_after part n lack.1)
-  fault_after part Usage none = none
-  fault_after part ReadFailed begins = begins_after part begins
-  fault_after part WriteFailed begins = begins_after part begins
+  fault_after : 0 < number → (part : List ℕ) (fault : RunFault) → EndsWithFault after (number + 1) lines part fault → EndsWithFault held number (line ∷ lines) (line_report held line ++ part) fault
+  fault_after counted part (Refused n error) (inl own) = inl (fault_good held after number line lines good ∙ own.0, told_after part own.1)
+  fault_after counted part (Refused n error) (inr lack) = inr (lack.0, lack_after counted part n lack.1)
+  fault_after counted part (NotText n) (inl own) = inl (fault_good held after number line lines good ∙ own.0, told_after part own.1)
+  fault_after counted part (NotText n) (inr lack) = inr (lack.0, lack_after counted part n lack.1)
+  fault_after counted part Usage none = none
+  fault_after counted part ReadFailed begins = begins_after part begins
+  fault_after counted part WriteFailed begins = begins_after part begins
 
-  pub ends_after : (part : List ℕ) (result : Result (Unit {0}) RunFault) → EndsFrom after (number + 1) lines part result → EndsFrom held number (line ∷ lines) (line_report held line ++ part) result
-  ends_after part (Ok x) ends = (fault_good held after number line lines good ∙ ends.0, told_after part ends.1)
-  ends_after part (Err fault) ends = fault_after part fault ends
+  pub ends_after : 0 < number → (part : List ℕ) (result : Result (Unit {0}) RunFault) → EndsFrom after (number + 1) lines part result → EndsFrom held number (line ∷ lines) (line_report held line ++ part) result
+  ends_after counted part (Ok x) ends = (fault_good held after number line lines good ∙ ends.0, told_after part ends.1)
+  ends_after counted part (Err fault) ends = fault_after counted part fault ends
 
 -- a line's own fault says so
 data OwnFault (number : ℕ) : RunFault → Type 0 where
@@ -143,8 +143,11 @@ counts_end held number (Err fault) part w = subst (λ f. EndsWithFault held numb
 -- a last line, and then the counts
 pub last_then : (held after : Held) (number : ℕ) (line : List ℕ) (result : Result (Unit {0}) RunFault) (p q : List ℕ) → 0 < length line → (after_line held number line ≡ Ok after) × (p ≡ line_report held line) → WritesAll (last_report after) result q → EndsFrom held number (last_lines line) (p ++ q) result
 last_then held after number [] result p q some answered w = absurd (omega arith)
-last_then held after number (b ∷ line) result p q some answered w =
-    subst (λ bs. EndsFrom held number ((b ∷ line) ∷ []) (bs ++ q) result) (sym answered.1) (ends_after held after number (b ∷ line) [] answered.0 q result (counts_end after (number + 1) result q w))
+last_then held after number (b ∷ line) (Ok x) p q some answered w =
+    subst (λ bs. EndsFrom held number ((b ∷ line) ∷ []) (bs ++ q) (Ok x)) (sym answered.1) (fault_good held after number (b ∷ line) [] answered.0, told_after held after number (b ∷ line) [] answered.0 q w)
+last_then held after number (b ∷ line) (Err fault) p q some answered w =
+    let begun = begins_after held after number (b ∷ line) [] answered.0 q w.1 in
+    subst (λ bs. EndsFrom held number ((b ∷ line) ∷ []) (bs ++ q) (Err fault)) (sym answered.1) (subst (λ f. EndsWithFault held number ((b ∷ line) ∷ []) (line_report held (b ∷ line) ++ q) f) (sym w.0) begun)
 
 pub last_fails : (held : Held) (number : ℕ) (line : List ℕ) (part : List ℕ) (fault : RunFault) → 0 < length line → LineFails held number line part fault → EndsFrom held number (last_lines line) part (Err fault)
 last_fails held number [] part fault some fails = absurd (omega arith)
@@ -174,7 +177,7 @@ way_answered input limit held after done begun end left part reply none good tol
     let cut : lines_of (begun ++ (end ++ 10 ∷ left)) ≡ line ∷ lines_of left = ap lines_of (sym (append_assoc begun end (10 ∷ left))) ∙ lines_cut line left none in
     record {
       ends = λ more result e.
-          let here : EndsFrom held (done + 1) (line ∷ lines_of left) (reply ++ more) result = subst (λ bs. EndsFrom held (done + 1) (line ∷ lines_of left) (bs ++ more) result) (sym told) (ends_after held after (done + 1) line (lines_of left) good more result e) in
+          let here : EndsFrom held (done + 1) (line ∷ lines_of left) (reply ++ more) result = subst (λ bs. EndsFrom held (done + 1) (line ∷ lines_of left) (bs ++ more) result) (sym told) (ends_after held after (done + 1) line (lines_of left) good (omega arith) more result e) in
           subst (λ bs. Ends input limit bs result) (sym (append_assoc part reply more)) (way.ends (reply ++ more) result (subst (λ ls. EndsFrom held (done + 1) ls (reply ++ more) result) (sym cut) here));
     }
 

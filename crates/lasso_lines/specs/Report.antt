@@ -74,11 +74,11 @@ answers_from held number (line ∷ lines) (suc count) = or_else (after_line held
 
 module _ (held : Held) (first : ℕ) (lines : List (List ℕ)) (part : List ℕ) where
   -- memory was not found at the line of this number, which no faulty line comes before, and the part is exactly
-  -- the answers to the lines before it; or no line was at hand, and the part begins the report
+  -- the answers to the lines before it; or the run found none before its first line, and nothing is written
   abbrev pub LacksMemory : ℕ → Type 0
   LacksMemory number =
       ((before : ℕ) × (number ≡ first + before) × (before < reach_from held first lines) × (part ≡ answers_from held first lines before))
-      ⊎ ((number ≡ 0) × Begins part (report_from held first lines))
+      ⊎ ((number ≡ 0) × (first ≡ 1) × (part ≡ []))
 
   -- the fault is that of the first faulty line, and the part is the report up to it; or memory was not found
   abbrev pub IsLineFault : RunFault → ℕ → Type 0

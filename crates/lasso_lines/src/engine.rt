@@ -23,8 +23,8 @@ type LineRodeo = Rodeo<Spur, FixedState, Global>;
 /// nothing is tried again after a failed read or write.
 ///
 /// A refused line, or one that is not UTF-8, ends the run after the answers to the lines before it. So
-/// does want of memory at a line; at number 0 no line was at hand. After a failed read or write, what
-/// was written is a beginning of the report.
+/// does want of memory at a line; at number 0 no line was at hand, and nothing is written. After a failed
+/// read or write, what was written is a beginning of the report.
 pub fn run<R: AllocGlobal + Wait, I: ByteReader, O: ByteWriter>(
     rt: &R,
     reader: &mut I,

@@ -104,7 +104,7 @@ impl<W: Write + Drop> Model for StandardWriter<W> {
 
 impl<W: Write + Drop> StandardWriter<W> {
     /// A writer to `inner`, which has taken nothing and has not failed. It is refused for want of memory
-    /// alone; it takes no more memory later.
+    /// alone.
     pub fn new(alloc: Global, inner: W) -> Result<Self, AllocError>
         ensures delivered { IfOk result (λ w. w.delivered ≡ W.contents inner) }
         ensures pending { IfOk result (λ w. w.pending ≡ Some []) }

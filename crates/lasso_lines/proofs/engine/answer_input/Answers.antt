@@ -13,7 +13,7 @@ use Rattle.lasso_lines.proofs.engine.answer_input.Goals as goal
 pub returns-in-Err-clause-report : goal.returns-in-Err-clause-report
 returns-in-Err-clause-report g c = λ input e.
     let limit = c.args.limits in
-    nothing_more _ _ (subst (λ error. Ends input limit [] (Err (Refused 0 error))) (sym c.in-Err.ensures.refused) (inr (refl, inr (refl, (report input limit, refl)))))
+    nothing_more _ _ (subst (λ error. Ends input limit [] (Err (Refused 0 error))) (sym c.in-Err.ensures.refused) (inr (refl, inr (refl, refl, refl))))
 
 pub overflow_add-number : goal.overflow_add-number
 overflow_add-number g c = let falls = (c.in-Some.ensures.goes.on tt).2 in omega (arith, c.stretches.invariant.few, falls)
