@@ -4,18 +4,18 @@
 -- definition takes was no earlier one, so the list stays distinct with it, and its position has a key. In a
 -- distinct list that fits the keys, each text is none of those before it and its position has a key, so the
 -- definition takes it.
-use Rattle.std.proofs.Common.{◌≡◌, ◌↔◌, ◌⊎◌, inl, inr, ℕ, ◌+◌, ◌<◌, ◌≤◌, List, [], ◌∷◌, ◌++◌, length, map, slice_get, Bool, true, false, cond, Option, Some, None, IsSome, Result, Ok, Err, refl, sym, ap, subst, ◌∙◌, append_assoc, append-nil, arith}
+use Rattle.std.proofs.Common.{◌≡◌, ◌⊎◌, inl, inr, ℕ, List, [], ◌∷◌, ◌++◌, length, map, slice_get, Bool, true, false, Option, Some, None, IsSome, Result, Ok, Err, refl, sym, ap, subst, ◌∙◌, append_assoc, append-nil, arith}
 use Rattle.std.proofs.lemmas.List.{length-append}
 use Rattle.std.proofs.lemmas.Map.Keys.{IsDistinct-from_apart}
 use Rattle.std.proofs.Math.Seq.{take-append_seam}
 use Rattle.std.specs.Str.{bytes_eq}
-use Rattle.serde_json.specs.Data.{Data, null, boolean, number, string, array, object, Items, no_items, item, Members}
-use Rattle.serde_json.specs.Find.{as_str, as_array}
+use Rattle.serde_json.specs.Data.{Data, null, boolean, number, string, array, object, Items, no_items, item}
+use Rattle.serde_json.specs.Find.{as_str}
 use Rattle.serde_json.specs.View.{items_of}
 use Rattle.lasso_parts.specs.Texts.{Text, position_of, IsDistinct, Fits}
 use Rattle.lasso_parts.proofs.IndexLaws.{absent_before}
 use Rattle.lasso_parts.proofs.TextLemmas.{distinct_push, fits_push}
-use Rattle.lasso_parts.specs.Json.{json_array, read_array, read_items, read_if_array, next_text, new_text, earlier, item_text, key_or_too_many, and_then}
+use Rattle.lasso_parts.specs.Json.{json_array, read_array, read_items, next_text, new_text, earlier, item_text, key_or_too_many, and_then}
 use Rattle.lasso_parts.specs.JsonLaws.{items_after, IsReadable, ReadsExactly, ReadsBack, FaultsExactly}
 use Rattle.lasso_parts.specs.declared.json.error.JsonError.{JsonError}
 

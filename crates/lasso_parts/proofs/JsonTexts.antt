@@ -3,7 +3,7 @@
 -- The definition goes through the items from the first. A loop that has read some items holds their texts, and
 -- what is left to read is what the definition gives for the texts seen and the items left. So the fault of the
 -- next item is the fault of the whole.
-use Rattle.std.proofs.Common.{◌≡◌, ◌≢◌, ◌⊎◌, inl, inr, ℕ, suc, ◌<◌, List, [], ◌∷◌, ◌++◌, length, map, drop, get_or, Bool, true, false, Option, Some, None, Result, Ok, Err, is_some, refl, sym, ap, subst, ◌∙◌, drop-cons, IsTrue}
+use Rattle.std.proofs.Common.{◌≡◌, ℕ, suc, ◌<◌, List, [], ◌∷◌, ◌++◌, length, drop, get_or, Bool, false, Option, Some, None, Result, Ok, Err, is_some, refl, sym, ap, subst, ◌∙◌, drop-cons}
 use Rattle.serde_json.specs.Data.{Data}
 use Rattle.serde_json.specs.Find.{as_str}
 use Rattle.serde_json.specs.View.{view, items_view}

@@ -1,9 +1,9 @@
 -- Lists of texts and keys as JSON: what is written, and how a value is read.
-use Rattle.std.specs.Prelude.{◌≡◌, ◌⊎◌, ℕ, zero, suc, List, [], ◌∷◌, ◌++◌, length, map, Bool, true, if◌then◌else◌, Option, Some, None, IsSome, option_and_then, Result, Ok, Err}
+use Rattle.std.specs.Prelude.{◌≡◌, ◌⊎◌, ℕ, zero, suc, List, [], ◌∷◌, ◌++◌, length, map, Bool, if◌then◌else◌, Option, Some, None, IsSome, option_and_then, Result, Ok, Err}
 use Rattle.serde_json.specs.Data.{Data, string, array, Items, no_items, item}
 use Rattle.serde_json.specs.Find.{as_str, as_array, as_number, as_u64}
 use Rattle.serde_json.specs.View.{items_of}
-use Rattle.lasso_parts.specs.Texts.{Text, position_of, IsDistinct, Fits}
+use Rattle.lasso_parts.specs.Texts.{Text, position_of}
 use Rattle.lasso_parts.specs.declared.util.LassoErrorKind.TheVariants.{FailedAllocation}
 use Rattle.lasso_parts.specs.declared.json.error.JsonError.{JsonError}
 use Rattle.lasso_parts.specs.declared.json.error.JsonError.TheVariants.{NotAnArray, NotText, Doubled, TooMany, Lasso, NotAKey}

@@ -3,7 +3,7 @@
 -- The text at position i is none of those before it, since the list is distinct, and position i has a key,
 -- since the list fits the keys. So interning it either puts it last and stores its bytes, or is refused by the
 -- limit or for want of memory: no text is found, and no key is wanting.
-use Rattle.std.proofs.Common.{◌≡◌, ℕ, ◌+◌, ◌-◌, ◌^◌, ◌<◌, ◌≤◌, ◌⊎◌, inl, inr, List, [], ◌∷◌, ◌++◌, length, take, slice_get, Option, Some, None, IsSome, is_some, cond, max, Result, Ok, Err, MatchResult, refl, sym, subst, ap, ◌∙◌, arith}
+use Rattle.std.proofs.Common.{◌≡◌, ℕ, ◌+◌, ◌<◌, ◌≤◌, ◌⊎◌, inl, inr, List, [], ◌∷◌, ◌++◌, length, take, slice_get, Option, Some, None, IsSome, is_some, cond, max, Result, Ok, Err, MatchResult, refl, sym, subst, ap, ◌∙◌, arith}
 use Rattle.std.specs.Prelude.{option_and_then}
 use Rattle.std.proofs.lemmas.Grind.{common_steps}
 use Rattle.std.proofs.lemmas.Bool.Decides.{nat_tests}

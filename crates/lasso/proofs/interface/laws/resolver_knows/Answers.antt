@@ -1,5 +1,5 @@
 -- The resolver has the list that the intern left, in which the key is the text's and so resolves to it.
-use Rattle.std.proofs.Common.{◌≡◌, ◌∙◌, Some}
+use Rattle.std.proofs.Common.{◌≡◌, ◌∙◌}
 use Rattle.std.specs.Prelude.{slice_get, option_map}
 use Rattle.lasso.specs.Interning.{with_last}
 use Rattle.lasso.proofs.Interned.{key_kept, key_resolves, if_some_at, if_some_map}

@@ -1,6 +1,6 @@
 -- The second call finds the text where the first one left it: it is not refused, gives the same key, and
 -- leaves the list as it is. The key is then the text's in that list, and resolves to it.
-use Rattle.std.proofs.Common.{◌≡◌, ◌∙◌, ◌-◌, Bool, true, false, ◌&&◌, IsTrue, refl, ap, Some, arith}
+use Rattle.std.proofs.Common.{◌∙◌, ◌-◌, Bool, true, false, ◌&&◌, IsTrue, refl, ap, Some, arith}
 use Rattle.lasso_parts.specs.Kept.{kept_at, kept_made}
 use Rattle.lasso.proofs.Interned.{never_refused, twice, key_resolves}
 use Rattle.lasso.proofs.interface.object_laws.object_interns_as_one.Goals as goal

@@ -1,5 +1,5 @@
 -- Where the text was not found, it goes last, and the index that got its position is that of the longer list.
-use Rattle.std.proofs.Common.{◌≡◌, ℕ, Option, Some, None, length, map, sym, ap, ◌∙◌}
+use Rattle.std.proofs.Common.{◌≡◌, length, map, sym, ◌∙◌}
 use Rattle.std.proofs.lemmas.List.{length-map}
 use Rattle.lasso_parts.proofs.IndexLaws.{IsIndexOf-reserved, IsIndexOf-push}
 use Rattle.lasso_parts.proofs.JsonTexts.{key_had, none_there}

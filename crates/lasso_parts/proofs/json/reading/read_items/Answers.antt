@@ -1,4 +1,4 @@
-use Rattle.std.proofs.Common.{◌≡◌, ℕ, Err, inl, inr, length, map, ap, ◌∙◌, sym, refl, List, []}
+use Rattle.std.proofs.Common.{◌≡◌, Err, inl, inr, length, map, ap, ◌∙◌, sym, List, []}
 use Rattle.std.proofs.lemmas.List.{length-map}
 use Rattle.std.proofs.lemmas.Result.{err_from_is_err_and}
 use Rattle.serde_json.specs.View.{view, items_view}

@@ -1,5 +1,4 @@
 use Rattle.std.proofs.Common.{arith}
-use Rattle.lasso_parts.specs.Texts.{Text}
 use Rattle.lasso_parts.proofs.JsonValues.{written_more, written_all}
 use Rattle.lasso_parts.proofs.json.writing.write_array.Goals as goal
 
