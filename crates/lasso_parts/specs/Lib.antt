@@ -14,6 +14,7 @@ pub mod Bucket
 pub mod Arena
 pub mod Places
 pub mod Waste
+pub mod Lasting
 pub mod Slots
 pub mod Cells
 pub mod Json

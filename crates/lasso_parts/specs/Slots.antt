@@ -14,7 +14,7 @@ span_at high low start len = record { region = high * 2 ^ 32 + low; start = star
 -- the text of an entry
 abbrev pub slot_text : List Extent → Slot → Text
 slot_text regions (Copied high low start len) = text_at regions (span_at high low start len)
-slot_text regions (Static text) = text.now
+slot_text regions (Static text) = text
 
 -- a text that was copied is among the regions
 abbrev pub IsThere : List Extent → Slot → Type 0

@@ -55,7 +55,7 @@ impl<'a, K: Key> Strings<'a, K> {
     {
         let slots = self.slots;
         if n < slots.len() {
-            let text = text_of(self.regions, slots[n]);
+            let text = text_of(self.regions, &slots[n]);
             let (_, rest) = slots.split_at(n + 1);
             self.slots = rest;
             Some(text)
@@ -76,7 +76,7 @@ impl<'a, K: Key> Strings<'a, K> {
         if n < slots.len() {
             let at = slots.len() - 1 - n;
             self.slots = &slots[..at];
-            Some(text_of(self.regions, slots[at]))
+            Some(text_of(self.regions, &slots[at]))
         } else {
             self.slots = &[];
             None
@@ -97,7 +97,7 @@ impl<'a, K: Key> Iterator for Strings<'a, K> {
             return None;
         }
         self.slots = &slots[1..];
-        Some(text_of(self.regions, slots[0]))
+        Some(text_of(self.regions, &slots[0]))
     }
 
     fn size_hint(&self) -> (usize, Option<usize>)
@@ -120,7 +120,7 @@ impl<'a, K: Key> DoubleEndedIterator for Strings<'a, K> {
         }
         let last = slots.len() - 1;
         self.slots = &slots[..last];
-        Some(text_of(self.regions, slots[last]))
+        Some(text_of(self.regions, &slots[last]))
     }
 }
 

@@ -4,13 +4,16 @@ ghost use Rattle.lasso_parts.specs.Bucket.{Extent};
 ghost use Rattle.lasso_parts.specs.Arena.{IsStored, text_at};
 ghost use Rattle.lasso_parts.specs.Slots.{slot_text, IsThere};
 
+pub mod lasting;
+
 use crate::arena::Span;
 use crate::bucket::region::Region;
+use lasting::Lasting;
 use std::mem::size_of;
 
 /// An entry of a list of texts, of 24 bytes. The number of a copied text's region stands in two parts,
 /// which fit beside the tag: `high` counts 2 ^ 32.
-#[derive(Clone, Copy)]
+#[derive(Drop)]
 pub enum Slot {
     /// A text that an arena copied.
     Copied {
@@ -20,7 +23,7 @@ pub enum Slot {
         len: usize,
     },
     /// A text that lives as long as the program.
-    Static(&'static str),
+    Static(Lasting),
 }
 
 // An entry is read at every probe of an index.
@@ -43,9 +46,9 @@ impl Slot {
 }
 
 /// The text of an entry, lent by the regions.
-pub fn text_of<'a>(regions: &'a [Region], slot: Slot) -> &'a str
-    requires { IsThere regions.now slot }
-    ensures { result.now ≡ slot_text regions.now slot }
+pub fn text_of<'a>(regions: &'a [Region], slot: &'a Slot) -> &'a str
+    requires { IsThere regions.now slot.now }
+    ensures { result.now ≡ slot_text regions.now slot.now }
 {
     match slot {
         Slot::Copied {
@@ -53,7 +56,7 @@ pub fn text_of<'a>(regions: &'a [Region], slot: Slot) -> &'a str
             low,
             start,
             len,
-        } => regions[high as usize * 0x1_0000_0000 + low as usize].text(start, len),
-        Slot::Static(text) => text,
+        } => regions[*high as usize * 0x1_0000_0000 + *low as usize].text(*start, *len),
+        Slot::Static(text) => text.text(),
     }
 }

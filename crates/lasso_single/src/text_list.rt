@@ -13,6 +13,7 @@ use lasso_parts::arena::Arena;
 use lasso_parts::index::Texts;
 use lasso_parts::iter::{Iter, Strings};
 use lasso_parts::keys::Key;
+use lasso_parts::slots::lasting::Lasting;
 use lasso_parts::slots::{Slot, text_of};
 use lasso_parts::util::{Capacity, LassoResult, MemoryLimits};
 use std::alloc::Allocator;
@@ -49,7 +50,7 @@ impl<A: Allocator> Texts for TextList<A> {
 
     #[inline]
     fn text_at(&self, position: usize) -> &str {
-        text_of(self.arena.regions(), self.slots[position])
+        text_of(self.arena.regions(), &self.slots[position])
     }
 }
 
@@ -214,7 +215,7 @@ impl<A: Allocator> TextList<A> {
         ensures same_texts { OnErr result (self.new.texts ≡ self.old.texts) }
     {
         self.slots.reserve(1)?;
-        self.slots.push_reserved(Slot::Static(text));
+        self.slots.push_reserved(Slot::Static(Lasting::new(text)));
         Ok(())
     }
 

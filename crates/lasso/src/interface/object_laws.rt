@@ -6,6 +6,7 @@ ghost use Rattle.lasso.specs.Interning.{with_last};
 
 use super::SpurInterner;
 use super::laws::{is_key, is_text};
+use crate::SpurRodeo;
 use lasso_parts::keys::{Key, Spur};
 use lasso_parts::util::LassoResult;
 
@@ -33,4 +34,13 @@ pub fn boxed_object_interns_as_one(
     ensures refused { IfErr result (λ error. (position_of (texts interner) text.now ≡ None) × ((error ≡ KeySpaceExhaustion) ↔ (⟦<Spur as Key>⟧.key_at (length (texts interner)) ≡ None))) }
 {
     object_interns_as_one(&mut *interner, text)
+}
+
+/// The same of a box of a `SpurRodeo`, which becomes an object here.
+pub fn boxed_rodeo_interns_as_one(rodeo: Box<SpurRodeo>, text: &str) -> LassoResult<bool>
+    ensures one { IfOk result IsTrue }
+    ensures refused { IfErr result (λ error. (position_of rodeo.value.texts text.now ≡ None) × ((error ≡ KeySpaceExhaustion) ↔ (⟦<Spur as Key>⟧.key_at (length rodeo.value.texts) ≡ None))) }
+{
+    let interner: Box<dyn SpurInterner + Drop> = rodeo;
+    boxed_object_interns_as_one(interner, text)
 }

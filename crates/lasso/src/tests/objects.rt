@@ -1,17 +1,17 @@
 //! Interners and frozen forms whose type is not known where they are used.
 use super::*;
-use crate::interface::object_laws::object_interns_as_one;
+use crate::interface::object_laws::{
+    boxed_object_interns_as_one, boxed_rodeo_interns_as_one, object_interns_as_one,
+};
 use crate::interface::{SpurInterner, SpurReader, SpurResolver};
 use std::test::Fail;
 
-#[test]
-fn one_text_through_an_interner(rt: HostRuntime) -> Result<(), Fail> {
-    let mut rodeo: SpurRodeo = Rodeo::new(rt.alloc())?;
-    let interner: &mut dyn SpurInterner = &mut rodeo;
-    is_answer(&rt, interner.try_get_or_intern("Hello, world!"), Ok(0));
-    is_answer(&rt, interner.try_get_or_intern("Hello, world!"), Ok(0));
+/// An interner with no text takes one, and finds it.
+fn takes_one_text(rt: &impl Abort, interner: &mut dyn SpurInterner) -> Result<(), Fail> {
+    is_answer(rt, interner.try_get_or_intern("Hello, world!"), Ok(0));
+    is_answer(rt, interner.try_get_or_intern("Hello, world!"), Ok(0));
     is_answer(
-        &rt,
+        rt,
         interner.try_get_or_intern_static("Hello, world!"),
         Ok(0),
     );
@@ -21,31 +21,71 @@ fn one_text_through_an_interner(rt: HostRuntime) -> Result<(), Fail> {
     let first = interner.get("Hello, world!").ok_or("not there")?;
     assert_eq!(rt; interner.try_resolve(first), Some("Hello, world!"));
     assert!(rt; interner.contains_key(first));
-    assert!(rt; object_interns_as_one(interner, "Hello, world!")?);
+    Ok(())
+}
+
+/// An interner of 10 bytes with `abc` and a limit of 0 refuses copied texts alone.
+fn takes_a_static_text(rt: &impl Abort, interner: &mut dyn SpurInterner) -> Result<(), Fail> {
+    is_answer(rt, interner.try_get_or_intern("defg"), Ok(1));
+    is_answer(rt, interner.try_get_or_intern("0123456789"), Err(LIMIT));
+    is_answer(rt, interner.try_get_or_intern("abc"), Ok(0));
+    is_answer(rt, interner.try_get_or_intern_static("0123456789"), Ok(2));
+    assert_eq!(rt; interner.len(), 3);
+    let last = interner.get("0123456789").ok_or("not there")?;
+    assert_eq!(rt; interner.try_resolve(last), Some("0123456789"));
+    Ok(())
+}
+
+/// An interner of 4 bytes under a limit of 4 has room for one copied text beside two static ones.
+fn takes_static_texts_first(rt: &impl Abort, interner: &mut dyn SpurInterner) {
+    is_answer(rt, interner.try_get_or_intern_static("abcd"), Ok(0));
+    is_answer(rt, interner.try_get_or_intern_static("efgh"), Ok(1));
+    is_answer(rt, interner.try_get_or_intern("wxyz"), Ok(2));
+    is_answer(rt, interner.try_get_or_intern("more"), Err(LIMIT));
+}
+
+#[test]
+fn one_text_through_an_interner(rt: HostRuntime) -> Result<(), Fail> {
+    let mut rodeo: SpurRodeo = Rodeo::new(rt.alloc())?;
+    takes_one_text(&rt, &mut rodeo)?;
+    assert!(rt; object_interns_as_one(&mut rodeo, "Hello, world!")?);
     Ok(())
 }
 
 #[test]
 fn static_texts_through_an_interner(rt: HostRuntime) -> Result<(), Fail> {
     let mut rodeo = limited(rt.alloc())?;
-    let interner: &mut dyn SpurInterner = &mut rodeo;
-    is_answer(&rt, interner.try_get_or_intern("defg"), Ok(1));
-    is_answer(&rt, interner.try_get_or_intern("0123456789"), Err(LIMIT));
-    is_answer(&rt, interner.try_get_or_intern("abc"), Ok(0));
-    is_answer(&rt, interner.try_get_or_intern_static("0123456789"), Ok(2));
-    assert_eq!(rt; interner.len(), 3);
-    Ok(())
+    takes_a_static_text(&rt, &mut rodeo)
 }
 
 #[test]
 fn static_texts_take_no_bytes(rt: HostRuntime) -> Result<(), Fail> {
     let mut rodeo = of_four_bytes(rt.alloc())?;
-    let interner: &mut dyn SpurInterner = &mut rodeo;
-    is_answer(&rt, interner.try_get_or_intern_static("abcd"), Ok(0));
-    is_answer(&rt, interner.try_get_or_intern_static("efgh"), Ok(1));
-    is_answer(&rt, interner.try_get_or_intern("wxyz"), Ok(2));
-    is_answer(&rt, interner.try_get_or_intern("more"), Err(LIMIT));
+    takes_static_texts_first(&rt, &mut rodeo);
     assert_eq!(rt; rodeo.current_memory_usage(), 4);
+    Ok(())
+}
+
+#[test]
+fn one_text_through_a_box(rt: HostRuntime) -> Result<(), Fail> {
+    let rodeo: SpurRodeo = Rodeo::new(rt.alloc())?;
+    let mut interner: Box<dyn SpurInterner + Drop> = Box::new(rt.alloc(), rodeo)?;
+    takes_one_text(&rt, &mut *interner)?;
+    assert!(rt; boxed_object_interns_as_one(interner, "Hello, world!")?);
+    let rodeo = Box::new(rt.alloc(), hello(rt.alloc())?)?;
+    assert!(rt; boxed_rodeo_interns_as_one(rodeo, "Goodbye!")?);
+    Ok(())
+}
+
+#[test]
+fn static_texts_through_a_box(rt: HostRuntime) -> Result<(), Fail> {
+    let mut interner: Box<dyn SpurInterner + Drop> = Box::new(rt.alloc(), limited(rt.alloc())?)?;
+    takes_a_static_text(&rt, &mut *interner)?;
+    let mut interner: Box<dyn SpurInterner + Drop> = Box::new(
+        rt.alloc(),
+        of_four_bytes(rt.alloc())?,
+    )?;
+    takes_static_texts_first(&rt, &mut *interner);
     Ok(())
 }
 

@@ -47,7 +47,7 @@ fn store(rt: &impl Abort, arena: &mut Arena<Global>, text: &str) -> Option<Lasso
     match arena.store_str(text) {
         Ok(span) => {
             assert!(rt; arena.text(span) == text);
-            assert!(rt; text_of(arena.regions(), Slot::copied(span)) == text);
+            assert!(rt; text_of(arena.regions(), &Slot::copied(span)) == text);
             None
         }
         Err(error) => Some(error.kind()),

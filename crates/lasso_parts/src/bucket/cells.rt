@@ -1,5 +1,5 @@
 //! The places of a block of bytes: how they are had of an allocator, read, written and given back.
-//! No other file of the crate has a pointer.
+//! No other file of the crate but `slots/lasting.rt` has a pointer.
 ghost use Rattle.std.specs.Prelude.{◌≡◌, ℕ, ◌+◌, ◌^◌, ◌<◌, ◌≤◌, ◌++◌, length, take, drop, slice_range, IfOk};
 ghost use base.Fml.{ftrue};
 ghost use denote.RawPtr.{Ptr};

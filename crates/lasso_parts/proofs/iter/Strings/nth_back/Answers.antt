@@ -11,5 +11,5 @@ returns-then-n-slots-clause-rest g c =
 
 pub returns-then-n-slots-clause-text : goal.returns-then-n-slots-clause-text
 returns-then-n-slots-clause-text g c = λ _.
-    shown_text (slot_text c.self.inside.regions.now) c.self.inside.slots.now c.args.self.now _ _ c.text_of.result.now c.self.view_is (omega arith) c.text_of.ensures
+    shown_text (slot_text c.self.inside.regions.now) c.self.inside.slots.now c.args.self.now _ _ c.text_of.result.now c.self.view_is (omega arith) (c.text_of.ensures ∙ ap (slot_text c.self.inside.regions.now) c.index-slots-at.is)
     ∙ ap (slice_get c.args.self.now) (from_back (slot_text c.self.inside.regions.now) c.self.inside.slots.now c.args.self.now c.args.n c.self.view_is)
