@@ -48,19 +48,21 @@ fn texts_given_room_first_go_in_without_a_growth(rt: HostRuntime) -> Result<(), 
     Ok(())
 }
 
-#[test]
-fn a_copy_asks_the_hasher_of_its_source(rt: HostRuntime) -> Result<(), Fail> {
-    let of_source = Cell::new(0);
-    let of_target = Cell::new(0);
-    let mut source: Rodeo<Spur, CountingState<'_>, Global> = Rodeo::with_hasher(
+// A copy of two texts over another interner: the source's hasher is asked for them, once each, and later too.
+fn copies_with<'a>(
+    rt: &HostRuntime,
+    of_source: &'a Cell<u64>,
+    of_target: &'a Cell<u64>,
+) -> Result<(), Fail> {
+    let mut source: Rodeo<Spur, CountingState<'a>, Global> = Rodeo::with_hasher(
         rt.alloc(),
-        CountingState::new(&of_source),
+        CountingState::new(of_source),
     )?;
     source.extend(["a", "b"])?;
     assert_eq!(rt; of_source.get(), 2);
-    let mut target: Rodeo<Spur, CountingState<'_>, Global> = Rodeo::with_hasher(
+    let mut target: Rodeo<Spur, CountingState<'a>, Global> = Rodeo::with_hasher(
         rt.alloc(),
-        CountingState::new(&of_target),
+        CountingState::new(of_target),
     )?;
     target.try_clone_from(&source)?;
     assert_eq!(rt; of_source.get(), 4);
@@ -68,4 +70,11 @@ fn a_copy_asks_the_hasher_of_its_source(rt: HostRuntime) -> Result<(), Fail> {
     assert_eq!(rt; of_source.get(), 5);
     assert_eq!(rt; of_target.get(), 0);
     Ok(())
+}
+
+#[test]
+fn a_copy_asks_the_hasher_of_its_source(rt: HostRuntime) -> Result<(), Fail> {
+    let of_source = Cell::new(0);
+    let of_target = Cell::new(0);
+    copies_with(&rt, &of_source, &of_target)
 }
