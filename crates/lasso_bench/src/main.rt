@@ -1,20 +1,27 @@
-//! Times the interner beside a map and a set of the standard kind: with the word `measure` it prints the
-//! nanoseconds of a call, and without words nothing.
+//! Times the interner beside a map and a set of the standard kind, and the log of a shared one beside another
+//! list that threads share: with the word `measure` it prints the nanoseconds of a call of the first, with
+//! `shared` those of a call of the lists that are shared, and without words nothing.
 #![tactic(auto)]
 
 mod frozen;
 mod pools;
+mod shared;
 #[cfg(test)]
 mod tests;
 mod texts;
+mod threads;
 mod timing;
 
 use anyhow::{Result, bail};
 use frozen::best_frozen_timings;
 use pools::{MapPool, RodeoPool, SetPool};
+use shared::Shelf;
 use std::env;
 use std::rt::Clock;
+use std::sync::Wait;
+use std::thread::Threads;
 use texts::Sample;
+use threads::{CALLS, Walk, best_shared_timings};
 use timing::{Timings, best_timings};
 
 const TEXTS: u32 = 100_000;
@@ -28,7 +35,8 @@ fn main(rt: HostRuntime) -> Result<()> {
     match words.as_slice() {
         [] => Ok(()),
         [word] if word.as_str() == "measure" => print_table(&rt),
-        _ => bail!("usage: lasso_bench [measure]"),
+        [word] if word.as_str() == "shared" => print_shared(&rt),
+        _ => bail!("usage: lasso_bench [measure|shared]"),
     }
 }
 
@@ -58,6 +66,32 @@ fn print_frozen<R: AllocGlobal + Clock + Print>(rt: &R, count: u32) -> Result<()
     print_line(rt, "RodeoReader", "resolve", timings.reader_resolve)?;
     print_line(rt, "RodeoReader", "into_resolver", timings.into_resolver)?;
     print_line(rt, "RodeoResolver", "resolve", timings.resolver_resolve)
+}
+
+// Times the lists that threads share, and prints a line for each call, with a column for each number of threads.
+fn print_shared<R: AllocGlobal + Clock + Print + Threads + Wait + Sync>(rt: &R) -> Result<()> {
+    let shelf = Shelf::new(rt, TEXTS)?;
+    let walk = Walk::new(rt.alloc(), TEXTS, CALLS)?;
+    println!(rt; "{TEXTS} texts")?;
+    println!(rt; "{:<26}{:<10}{:>9}{:>9}{:>9}", "name", "threads", 1, 2, 4)?;
+    let log = best_shared_timings(rt, &shelf.log, &walk)?;
+    print_columns(rt, "Log", "read", log.read)?;
+    print_columns(rt, "Log", "len", log.count)?;
+    let vector = best_shared_timings(rt, &shelf.vector, &walk)?;
+    print_columns(rt, "boxcar::Vec", "get", vector.read)?;
+    print_columns(rt, "boxcar::Vec", "count", vector.count)
+}
+
+// Prints the times of a call, which are given in tenths of a nanosecond.
+fn print_columns(rt: &impl Print, name: &str, call: &str, tenths: [u64; 3]) -> Result<()> {
+    print!(rt; "{name:<26}{call:<10}")?;
+    for time in tenths {
+        let whole = time / 10;
+        let tenth = time % 10;
+        print!(rt; "{whole:>7}.{tenth}")?;
+    }
+    println!(rt; "")?;
+    Ok(())
 }
 
 // Prints a line for each operation of the pool with this name.

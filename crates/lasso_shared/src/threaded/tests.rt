@@ -1,6 +1,8 @@
 //! Threads that intern static texts in one interner.
 ghost use Rattle.std.specs.Prelude.{◌≡◌};
 
+mod passes;
+
 use super::ThreadedRodeo;
 use crate::log::Pass;
 use lasso_parts::keys::{Key, Spur};
@@ -151,6 +153,37 @@ fn two_threads_append(rt: HostRuntime) -> Result<(), Fail> {
     let mut past = shared.pass();
     let key = Spur::try_from_usize(200).ok_or("no key")?;
     assert_eq!(rt; shared.try_resolve_as(&mut past, key), None);
+    Ok(())
+}
+
+// Interns the texts, and asks again where one was refused. Tells whether each refusal was for want of memory and
+// left the list as it was, and whether each text got the next number.
+fn takes_all<R: Wait>(
+    rt: &R,
+    shared: &ThreadedRodeo<Spur, FixedState>,
+    texts: &[&'static str],
+) -> bool {
+    let mut pass = shared.pass();
+    for position in 0..texts.len() {
+        let mut found = number(rt, shared, &mut pass, texts[position]);
+        if found == Err(LassoErrorKind::FailedAllocation) {
+            if shared.log.len(&mut pass) != position as u64 {
+                return false;
+            }
+            found = number(rt, shared, &mut pass, texts[position]);
+        }
+        if found != Ok(position) {
+            return false;
+        }
+    }
+    true
+}
+
+#[test]
+fn a_text_that_was_refused_once_is_taken_later(rt: HostRuntime) -> Result<(), Fail> {
+    let shared = ThreadedRodeo::default(rt.alloc())?;
+    assert!(rt; takes_all(&rt, &shared, &FIRST));
+    assert_eq!(rt; in_order(&shared, &FIRST), 100);
     Ok(())
 }
 

@@ -1,0 +1,113 @@
+//! How long it takes threads to read texts of one list at once, behind a lock and in a plain list, over the same texts
+//! and at the same positions as `lasso_bench` reads them from the log of a shared interner. Prints the nanoseconds
+//! that a call takes each thread.
+use std::hint::black_box;
+use std::sync::RwLock;
+use std::thread;
+use std::time::Instant;
+
+const ROUNDS: usize = 7;
+
+const TEXTS: usize = 100_000;
+
+const CALLS: usize = 2_000_000;
+
+const THREADS: [usize; 3] = [1, 2, 4];
+
+/// A list that threads read at once.
+trait SharedTexts: Sync {
+    fn read(&self, position: usize) -> Option<&'static str>;
+
+    fn count(&self) -> usize;
+}
+
+impl SharedTexts for Vec<&'static str> {
+    #[inline(always)]
+    fn read(&self, position: usize) -> Option<&'static str> {
+        self.get(position).copied()
+    }
+
+    // The list is hidden, so that its length is asked for in each call.
+    #[inline(always)]
+    fn count(&self) -> usize {
+        black_box(self).len()
+    }
+}
+
+impl SharedTexts for RwLock<Vec<&'static str>> {
+    #[inline(always)]
+    fn read(&self, position: usize) -> Option<&'static str> {
+        RwLock::read(self).unwrap().get(position).copied()
+    }
+
+    #[inline(always)]
+    fn count(&self) -> usize {
+        RwLock::read(self).unwrap().len()
+    }
+}
+
+// The sum of the lengths of the texts at these positions.
+#[inline(never)]
+fn read_all<T: SharedTexts>(texts: &T, positions: &[u32]) -> usize {
+    let mut sum = 0usize;
+    for position in positions {
+        if let Some(text) = texts.read(*position as usize) {
+            sum = sum.wrapping_add(text.len());
+        }
+    }
+    sum
+}
+
+// The sum of the lengths of the list, which is asked for so often.
+#[inline(never)]
+fn count_all<T: SharedTexts>(texts: &T, calls: usize) -> usize {
+    let mut sum = 0usize;
+    for _ in 0..calls {
+        sum = sum.wrapping_add(texts.count());
+    }
+    sum
+}
+
+// The nanoseconds of a call, where so many threads make the calls at once and each has to answer this.
+fn time(threads: usize, wanted: usize, work: impl Fn() -> usize + Sync) -> f64 {
+    let start = Instant::now();
+    thread::scope(|scope| {
+        let others: Vec<_> = (1..threads).map(|_| scope.spawn(&work)).collect();
+        assert_eq!(work(), wanted);
+        for other in others {
+            assert_eq!(other.join().unwrap(), wanted);
+        }
+    });
+    start.elapsed().as_secs_f64() * 1e9 / CALLS as f64
+}
+
+// Prints a line for each call, with a column for each number of threads.
+fn measure<T: SharedTexts>(name: &str, call: &str, texts: &T, positions: &[u32]) {
+    let lengths: usize = positions.iter().map(|position| format!("text {position}").len()).sum();
+    let mut read = [f64::INFINITY; 3];
+    let mut count = [f64::INFINITY; 3];
+    for _ in 0..ROUNDS {
+        for (place, threads) in THREADS.iter().enumerate() {
+            let once = time(*threads, lengths, || read_all(black_box(texts), black_box(positions)));
+            read[place] = read[place].min(once);
+            let once = time(*threads, TEXTS * CALLS, || count_all(black_box(texts), CALLS));
+            count[place] = count[place].min(once);
+        }
+    }
+    for (call, times) in [(call, read), ("len", count)] {
+        println!("{name:<26}{call:<10}{:>9.1}{:>9.1}{:>9.1}", times[0], times[1], times[2]);
+    }
+}
+
+fn main() {
+    let texts: Vec<&'static str> = (0..TEXTS).map(|n| &*format!("text {n}").leak()).collect();
+    let mut state = 0u64;
+    let positions: Vec<u32> = (0..CALLS)
+        .map(|_| {
+            state = state.wrapping_mul(6_364_136_223_846_793_005).wrapping_add(1_442_695_040_888_963_407);
+            (state >> 33) as u32 % TEXTS as u32
+        })
+        .collect();
+    measure("RwLock<Vec<&str>>", "index", &RwLock::new(texts.clone()), &positions);
+    measure("Vec<&str>", "index", &texts, &positions);
+}

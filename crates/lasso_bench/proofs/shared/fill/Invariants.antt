@@ -1,0 +1,8 @@
+use Rattle.std.proofs.Common.{◌≡◌}
+use Rattle.lasso_shared.specs.Sights.{list_of}
+use Rattle.lasso_bench.proofs.Named.{LacksFrom}
+use Rattle.lasso_bench.proofs.shared.fill.Given as goal
+
+-- the pass and the spine are of the log, and the texts to come are not in the list
+abbrev pub invariant-loop-number : goal.invariant-loop-number
+invariant-loop-number g l = (l.pass.of ≡ l.shelf.log) × (l.spine.of ≡ l.shelf.log) × LacksFrom l.number (list_of l.shelf.log l.spine.notes)

@@ -1,0 +1,133 @@
+//! Threads that read the same texts at once, and how long a call takes each of them.
+ghost use Rattle.std.specs.Prelude.{◌<◌};
+
+use crate::shared::{SharedTexts, Shelf};
+use crate::timing::{ROUNDS, tenths_a_call};
+use anyhow::{Result, ensure};
+use std::alloc::{AllocError, Global};
+use std::rt::Clock;
+use std::thread::{Threads, map_indices};
+use std::time::Instant;
+
+/// How many threads read at once.
+pub const THREADS: [usize; 3] = [1, 2, 4];
+
+/// How many calls each thread makes.
+pub const CALLS: u32 = 2_000_000;
+
+// The bytes of a text before its number.
+const BEFORE_NUMBER: usize = 5;
+
+/// Positions that follow no order, with what reading them has to answer.
+#[derive(Drop)]
+pub struct Walk {
+    /// How many texts there are.
+    count: u32,
+    /// Positions of texts.
+    positions: Vec<u32>,
+    /// The sum of the lengths of the texts there, in bytes.
+    lengths: usize,
+}
+
+impl Walk {
+    /// So many positions of so many texts. It is refused for want of memory alone.
+    pub fn new(alloc: Global, count: u32, calls: u32) -> Result<Walk, AllocError>
+        requires { 0 < count }
+    {
+        let mut positions = Vec::new(alloc);
+        let mut lengths = 0usize;
+        let mut state = 0u64;
+        for _ in 0..calls {
+            state = state
+                .wrapping_mul(6_364_136_223_846_793_005)
+                .wrapping_add(1_442_695_040_888_963_407);
+            let position = (state >> 33) as u32 % count;
+            lengths = lengths
+                .wrapping_add(BEFORE_NUMBER)
+                .wrapping_add(digits(position));
+            positions.push(position)?;
+        }
+        Ok(Walk {
+            count,
+            positions,
+            lengths,
+        })
+    }
+}
+
+// How many decimal digits the number has.
+fn digits(number: u32) -> usize {
+    number.checked_ilog10().map_or(1, |top| top as usize + 1)
+}
+
+/// How long a call takes with each number of threads, in tenths of a nanosecond.
+#[derive(Clone, Copy, Debug)]
+pub struct SharedTimings {
+    /// To read a text by its position.
+    pub read: [u64; 3],
+    /// To ask how many texts there are.
+    pub count: [u64; 3],
+}
+
+/// The least that each call took in several rounds. It fails where the clock does, for want of memory, and
+/// where an answer was wrong.
+pub fn best_shared_timings<T: SharedTexts, R: AllocGlobal + Clock + Threads + Sync>(
+    rt: &R,
+    texts: &T,
+    walk: &Walk,
+) -> Result<SharedTimings> {
+    let mut best = SharedTimings {
+        read: [u64::MAX; 3],
+        count: [u64::MAX; 3],
+    };
+    for _ in 0..ROUNDS {
+        for place in 0..3usize {
+            best.read[place] = best.read[place].min(time_reads(rt, texts, walk, THREADS[place])?);
+            best.count[place] = best.count[place].min(time_counts(
+                rt,
+                texts,
+                walk,
+                THREADS[place],
+            )?);
+        }
+    }
+    Ok(best)
+}
+
+// Has so many threads read all texts of the walk at once.
+fn time_reads<T: SharedTexts, R: AllocGlobal + Clock + Threads + Sync>(
+    rt: &R,
+    texts: &T,
+    walk: &Walk,
+    threads: usize,
+) -> Result<u64> {
+    let start = Instant::now(rt)?;
+    let sums = map_indices(
+        rt,
+        rt.alloc(),
+        threads,
+        &|_| texts.read_all(&walk.positions),
+    )?;
+    let elapsed = start.elapsed(rt)?;
+    ensure!(
+        sums.iter().all(|sum| *sum == walk.lengths),
+        "a text is wrong"
+    );
+    Ok(tenths_a_call(elapsed, walk.positions.len()))
+}
+
+// Has so many threads ask for the number of texts at once, as often as the walk has positions.
+fn time_counts<T: SharedTexts, R: AllocGlobal + Clock + Threads + Sync>(
+    rt: &R,
+    texts: &T,
+    walk: &Walk,
+    threads: usize,
+) -> Result<u64> {
+    let calls = walk.positions.len();
+    let start = Instant::now(rt)?;
+    let sums = map_indices(rt, rt.alloc(), threads, &|_| texts.count_all(calls))?;
+    let elapsed = start.elapsed(rt)?;
+    let wanted = calls.wrapping_mul(walk.count as usize);
+    ensure!(sums.iter().all(|sum| *sum == wanted), "a count is wrong");
+    Ok(tenths_a_call(elapsed, calls))
+}

@@ -1,0 +1,87 @@
+//! Passes that meet and that are compared, where one has seen more than the other.
+ghost use Rattle.std.specs.Prelude.{◌≡◌, ◌≤◌, ◌<◌, ◌⊎◌, length};
+ghost use Rattle.lasso_shared.specs.Sights.{list_of};
+
+use crate::log::Pass;
+use crate::threaded::ThreadedRodeo;
+use lasso_parts::index::Texts;
+use lasso_parts::keys::{Key, Spur};
+use lasso_parts::util::FixedState;
+use std::test::*;
+
+const TEXTS: [&str; 3] = ["p", "q", "Bär"];
+
+// Whether the pass, once it has met the other, is lent the texts that either had seen, from the first on.
+fn lends_after_meeting(
+    shared: &ThreadedRodeo<Spur, FixedState>,
+    pass: &mut Pass<Spur>,
+    other: &Pass<Spur>,
+    texts: &[&str],
+) -> bool
+    requires of { (pass.old.of ≡ shared.now) × (other.now.of ≡ shared.now) }
+    requires seen { (length texts.now ≤ length (list_of pass.old.of pass.old.notes)) ⊎ (length texts.now ≤ length (list_of other.now.of other.now.notes)) }
+    ensures of { pass.new.of ≡ shared.now }
+{
+    pass.meet(other);
+    let shown = shared.log.shown(pass);
+    let mut all = true;
+    for position in 0..texts.len() {
+        if shown.text_at(position) != texts[position] {
+            all = false;
+        }
+    }
+    all
+}
+
+#[test]
+fn a_pass_that_meets_another_has_seen_its_texts(rt: HostRuntime) -> Result<(), Fail> {
+    let shared = ThreadedRodeo::default(rt.alloc())?;
+    let mut ahead = shared.pass();
+    let mut behind = shared.pass();
+    shared.try_get_or_intern_static_as(&rt, &mut behind, "p")?;
+    shared.try_get_or_intern_static_as(&rt, &mut ahead, "q")?;
+    shared.try_get_or_intern_static_as(&rt, &mut ahead, "Bär")?;
+    assert_eq!(rt; shared.log.len(&mut ahead), 3);
+    assert!(rt; lends_after_meeting(&shared, &mut behind, &ahead, &TEXTS));
+    // what it has seen stays, and both go on interning
+    let nothing = shared.pass();
+    assert!(rt; lends_after_meeting(&shared, &mut ahead, &nothing, &TEXTS));
+    let new = shared.try_get_or_intern_static_as(&rt, &mut behind, "r")?;
+    assert_eq!(rt; new.into_usize(), 3);
+    let old = shared.try_get_or_intern_static_as(&rt, &mut ahead, "p")?;
+    assert_eq!(rt; old.into_usize(), 0);
+    Ok(())
+}
+
+// Whether both passes are lent this text at the position. Where one is, the other is.
+fn both_lend(
+    shared: &ThreadedRodeo<Spur, FixedState>,
+    one: &Pass<Spur>,
+    other: &Pass<Spur>,
+    position: usize,
+    text: &str,
+) -> (bool, bool)
+    requires of { (one.now.of ≡ shared.now) × (other.now.of ≡ shared.now) }
+    requires one { position < length (list_of one.now.of one.now.notes) }
+    requires other { position < length (list_of other.now.of other.now.notes) }
+    ensures same { result.0 ≡ result.1 }
+{
+    one.compare(other);
+    let here = shared.log.shown(one).text_at(position) == text;
+    let there = shared.log.shown(other).text_at(position) == text;
+    (here, there)
+}
+
+#[test]
+fn passes_have_seen_the_same_text_at_a_position(rt: HostRuntime) -> Result<(), Fail> {
+    let shared = ThreadedRodeo::default(rt.alloc())?;
+    let mut one = shared.pass();
+    let mut other = shared.pass();
+    shared.try_get_or_intern_static_as(&rt, &mut one, "p")?;
+    assert_eq!(rt; shared.log.len(&mut one), 1);
+    shared.try_get_or_intern_static_as(&rt, &mut other, "q")?;
+    assert_eq!(rt; shared.log.len(&mut other), 2);
+    assert_eq!(rt; both_lend(&shared, &one, &other, 0, "p"), (true, true));
+    assert_eq!(rt; both_lend(&shared, &other, &one, 0, "q"), (false, false));
+    Ok(())
+}
