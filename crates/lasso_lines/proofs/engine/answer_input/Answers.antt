@@ -1,7 +1,7 @@
 use Rattle.std.proofs.Common.{◌≡◌, ◌+◌, [], ◌++◌, Some, Err, inr, arith, refl, sym, subst, take, drop, length, ◌∙◌}
 use Rattle.std.proofs.lemmas.Result.{err_from_is_err_and}
 use Rattle.std.proofs.lemmas.Grind.{common_steps}
-use Rattle.lasso_lines.specs.Report.{Ends, EndsFrom, report, holding}
+use Rattle.lasso_lines.specs.Report.{Ends, EndsFrom, holding}
 use Rattle.lasso_lines.specs.Answer.{last_lines}
 use Rattle.lasso_lines.specs.declared.fault.RunFault.TheVariants.{Refused}
 use Rattle.lasso_lines.proofs.Known.{nothing_more, grows_as, grows_then, grows_stays, stays_grows, only_grows_then}

@@ -5,6 +5,7 @@ use lasso_parts::keys::Spur;
 use lasso_parts::util::Capacity;
 use std::alloc::Global;
 use std::cell::Cell;
+use std::process::Abort;
 use std::test::Fail;
 
 #[test]
@@ -49,8 +50,8 @@ fn texts_given_room_first_go_in_without_a_growth(rt: HostRuntime) -> Result<(), 
 }
 
 // A copy of two texts over another interner: the source's hasher is asked for them, once each, and later too.
-fn copies_with<'a>(
-    rt: &HostRuntime,
+fn copies_with<'a, R: AllocGlobal + Abort>(
+    rt: &R,
     of_source: &'a Cell<u64>,
     of_target: &'a Cell<u64>,
 ) -> Result<(), Fail> {
