@@ -9,8 +9,7 @@ ghost use Rattle.lasso_parts.specs.declared.util.LassoErrorKind.TheVariants.{Fai
 ghost use Rattle.lasso_shared.specs.History.{IsLegal, opened};
 ghost use Rattle.lasso_shared.specs.Replies.{Static, Intern, Resolve, Interned, Resolved};
 ghost use Rattle.lasso_shared.specs.Calls.{IsCall};
-ghost use Rattle.lasso_shared.specs.Notes.{Since};
-ghost use Rattle.lasso_shared.specs.Sights.{Sight, Origin, IsSamePass, seen};
+ghost use Rattle.lasso_shared.specs.Sights.{Sight, Origin, IsSamePass, IsIdle, IsInternedAt, seen};
 
 #[cfg(test)]
 mod tests;
@@ -171,8 +170,10 @@ impl<K: Key, S: BuildHasher + Drop> ThreadedRodeo<K, S> {
     ) -> Option<LassoResult<K>>
         requires of { (pass.old.of ≡ self.now) × (desk.old.of ≡ self.now) }
         ensures same { IsSamePass pass.new pass.old × (desk.new.of ≡ desk.old.of) }
-        ensures none { IfNone result (Since pass.old.number pass.old.notes pass.new.notes []) }
+        ensures kept { desk.new.kept ≡ desk.old.kept }
+        ensures none { IfNone result (IsIdle pass.old pass.new desk.old desk.new) }
         ensures call { IfSome result (λ r. IsCall K.key_at self.now.opening (seen pass.old) (seen pass.new) pass.old.number (Intern Static text.now) (Interned r)) }
+        ensures desk { IfSome result (λ r. IsInternedAt K.key_at self.now pass.old pass.new desk.old desk.new text.now r) }
     {
         if self.log.len(pass) != desk.spine.len() {
             return None;
