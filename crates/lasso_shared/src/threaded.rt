@@ -52,7 +52,8 @@ impl<K: Key, S: BuildHasher + Drop> Fits for Desk<K, S> {
 
     ghost use Rattle.std.specs.Prelude.{◌≡◌};
 
-    ghost fits = { λ tag d. d.of ≡ tag };
+    // between two calls it keeps no slot
+    ghost fits = { λ tag d. (d.of ≡ tag) × (d.kept ≡ 0) };
 }
 
 /// An interner that threads share. A contract sees its book and what it opened with, which its maker fixes; what is
