@@ -150,9 +150,9 @@ impl<K: Key, S: BuildHasher + Drop> ThreadedRodeo<K, S> {
         ensures legal { IsLegal K.key_at self.now.opening (seen pass.new) }
     {
         for _ in rt.forever() {
-            let (guard, mut desk) = self.desk.take(rt);
+            let (taken, mut desk) = self.desk.take(rt);
             let reply = self.intern_at(rt, &mut desk, pass, text);
-            self.desk.give(rt, guard, desk);
+            taken.give(rt, desk);
             if let Some(reply) = reply {
                 pass.show_legal();
                 return reply;
