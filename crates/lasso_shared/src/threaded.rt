@@ -6,7 +6,7 @@
 //! texts go through a desk, which one thread at a time has.
 ghost use Rattle.std.specs.Prelude.{◌≡◌, ◌-◌, ◌^◌, [], IfOk, IfErr, IfSome, IfNone, option_map};
 ghost use Rattle.lasso_parts.specs.declared.util.LassoErrorKind.TheVariants.{FailedAllocation};
-ghost use Rattle.lasso_shared.specs.History.{IsLegal, opened};
+ghost use Rattle.lasso_shared.specs.History.{IsLegal, IsOpening, opened};
 ghost use Rattle.lasso_shared.specs.Replies.{Static, Intern, Resolve, Interned, Resolved};
 ghost use Rattle.lasso_shared.specs.Calls.{IsCall};
 ghost use Rattle.lasso_shared.specs.Sights.{Sight, Origin, IsSamePass, IsIdle, IsInternedAt, seen};
@@ -127,6 +127,7 @@ impl<K: Key, S: BuildHasher + Drop> ThreadedRodeo<K, S> {
         requires { pass.old.of ≡ self.now }
         ensures same { IsSamePass pass.new pass.old }
         ensures call { IsCall K.key_at self.now.opening (seen pass.old) (seen pass.new) pass.old.number (Resolve (K.number key)) (Resolved (option_map (λ t. t.now) result)) }
+        ensures opening { IsOpening K.key_at self.now.opening }
         ensures legal { IsLegal K.key_at self.now.opening (seen pass.new) }
     {
         let found = self.log.read(key.into_usize() as u64, pass);
@@ -147,6 +148,7 @@ impl<K: Key, S: BuildHasher + Drop> ThreadedRodeo<K, S> {
         requires { pass.old.of ≡ self.now }
         ensures same { IsSamePass pass.new pass.old }
         ensures call { IsCall K.key_at self.now.opening (seen pass.old) (seen pass.new) pass.old.number (Intern Static text.now) (Interned result) }
+        ensures opening { IsOpening K.key_at self.now.opening }
         ensures legal { IsLegal K.key_at self.now.opening (seen pass.new) }
     {
         for _ in rt.forever() {
