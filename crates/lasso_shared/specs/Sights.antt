@@ -1,5 +1,6 @@
 -- What contracts see of a pass, of a log and of a spine.
 use Rattle.std.specs.Prelude.{◌≡◌, ℕ, ◌+◌, List, [], ◌∷◌, ◌++◌, Option, Some, IsSomeAnd, Result, Ok, OnOk, OnErr}
+use mathlib.Core.List.{IsPrefix}
 use base.Stored.{Coded, coded×, coded_ℕ, coded_list, coded_via}
 use Rattle.logbook.specs.Pages.{Book, book_coded}
 use Rattle.lasso_shared.specs.History.{History, Append, Totals, Lacks}
@@ -62,6 +63,7 @@ pub record IsAppended (of : Origin) (before after : Sight) (spine_before spine_a
   pub event : Since before.number before.notes after.notes (Append text ∷ [])
   pub list : list_of of after.notes ≡ list_of of spine_before.notes ++ text ∷ []
   pub spine : spine_after.notes ≡ after.notes
+  pub begins : IsPrefix spine_before.notes spine_after.notes
   pub kept : spine_after.kept + 1 ≡ spine_before.kept
 
 -- nothing was added: no event of the pass came, and the spine has seen what it had

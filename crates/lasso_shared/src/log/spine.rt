@@ -1,5 +1,6 @@
 //! The spine: the numbers of the list, which one thread at a time has, and the slots that it keeps.
 ghost use Rattle.std.specs.Prelude.{◌≡◌, ◌+◌, ◌<◌, ◌∷◌, ◌++◌, [], length, OnOk, OnErr, IfErr, MatchBool};
+ghost use mathlib.Core.List.{IsPrefix};
 ghost use Rattle.lasso_parts.specs.declared.util.LassoErrorKind.TheVariants.{FailedAllocation};
 ghost use Rattle.lasso_parts.specs.Texts.{Fits};
 ghost use Rattle.lasso_shared.specs.History.{Append, MayFollow, IsLegal};
@@ -104,6 +105,7 @@ impl<K: Key> Log<K> {
         ensures event { Since pass.old.number pass.old.notes pass.new.notes (Append text.now ∷ []) }
         ensures legal { IsLegal K.key_at self.now.opening (seen pass.new) }
         ensures spine { spine.new.notes ≡ pass.new.notes }
+        ensures begins { IsPrefix spine.old.notes spine.new.notes }
         ensures list { list_of self.now pass.new.notes ≡ list_of self.now spine.old.notes ++ text.now ∷ [] }
     {
         let (row, item) = self.rows.fill(rt, spine.len(), text);
