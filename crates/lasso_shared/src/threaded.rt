@@ -136,8 +136,8 @@ impl<K: Key, S: BuildHasher + Drop> ThreadedRodeo<K, S> {
     }
 
     /// The key of the text, which goes last in the list if it is not there. The text is kept as it is, with no copy, so
-    /// the memory limit never refuses it. A text that is there is never refused. A new one is refused where the key
-    /// type has no key for its position, else for want of memory; no event is added then.
+    /// the memory limit never refuses it. A text that the pass had seen is never refused. A new one is refused where
+    /// the key type has no key for its position, else for want of memory; no event is added then.
     #[tactic(auto, using(crate::proofs::Tickets::since_trans))]
     pub fn try_get_or_intern_static_as<R: Wait>(
         &self,

@@ -76,7 +76,7 @@ impl<K: Key> Spine<K> {
 
 impl<K: Key> Log<K> {
     /// Keeps one slot more for a text to come, until it is appended or given back. It is refused for want of memory
-    /// alone, and nothing changes then.
+    /// alone, which is told of position 2^64 - 1 too, and nothing changes then.
     pub fn reserve_next(&self, alloc: Global, spine: &mut Spine<K>) -> LassoResult<()>
         requires { spine.old.of ≡ self.now }
         ensures kept { OnOk result (spine.new.kept ≡ spine.old.kept + 1) }
@@ -95,7 +95,7 @@ impl<K: Key> Log<K> {
 
     /// Puts the text last, in a slot that `reserve_next` kept. The list of the spine must lack the text, and have a
     /// key for its length. The text's cell is filled before the length moves. It waits where the length isn't the
-    /// spine's.
+    /// spine's, where the row of its position isn't made, and where the cell is filled.
     pub fn append<R: Wait>(&self, rt: &R, spine: &mut Spine<K>, pass: &mut Pass<K>, text: Item)
         requires of { (pass.old.of ≡ self.now) × (spine.old.of ≡ self.now) }
         requires kept { 0 < spine.old.kept }
