@@ -8,6 +8,8 @@ pub mod reading;
 pub mod rule;
 pub mod shown;
 pub mod spine;
+#[cfg(test)]
+mod tests;
 pub mod ticket;
 pub mod words;
 
