@@ -1,9 +1,11 @@
 -- What contracts see of a pass, of a log and of a spine.
-use Rattle.std.specs.Prelude.{◌≡◌, ℕ, ◌+◌, List, [], ◌∷◌, ◌++◌}
+use Rattle.std.specs.Prelude.{◌≡◌, ℕ, ◌+◌, List, [], ◌∷◌, ◌++◌, Option, Some, IsSomeAnd, Result, Ok, OnOk, OnErr}
+use mathlib.Core.List.{IsPrefix}
 use base.Stored.{Coded, coded×, coded_ℕ, coded_list, coded_via}
 use Rattle.logbook.specs.Pages.{Book, book_coded}
-use Rattle.lasso_shared.specs.History.{History, Append, Totals}
-use Rattle.lasso_parts.specs.Texts.{Text}
+use Rattle.lasso_shared.specs.History.{History, Append, Totals, Lacks}
+use Rattle.lasso_parts.specs.Texts.{Text, position_of}
+use Rattle.lasso_parts.specs.declared.util.LassoErrorKind.{LassoErrorKind}
 use Rattle.lasso_shared.specs.Notes.{Note, note_coded, totals_coded, history, state, Since}
 
 -- which interner a thing is of: its book, the names of the rows that its texts lie in, and what it opened with
@@ -61,4 +63,20 @@ pub record IsAppended (of : Origin) (before after : Sight) (spine_before spine_a
   pub event : Since before.number before.notes after.notes (Append text ∷ [])
   pub list : list_of of after.notes ≡ list_of of spine_before.notes ++ text ∷ []
   pub spine : spine_after.notes ≡ after.notes
+  pub begins : IsPrefix spine_before.notes spine_after.notes
   pub kept : spine_after.kept + 1 ≡ spine_before.kept
+
+-- nothing was added: no event of the pass came, and the spine has seen what it had
+abbrev pub IsIdle : (before after : Sight) (spine_before spine_after : Backbone) → Type 0
+IsIdle before after spine_before spine_after = Since before.number before.notes after.notes [] × IsSameSpine spine_after spine_before
+
+-- An intern at the desk, by the list that the spine had seen. A text of the list is answered by its key, and nothing is
+-- added. Another one that is answered was put last by the one event of the pass. Where it is refused, nothing is added.
+pub record IsInternedAt {K : Type 0} (key_at : ℕ → Option K) (of : Origin) (before after : Sight) (spine_before spine_after : Backbone) (text : Text) (reply : Result K LassoErrorKind) : Type 0 where
+  pub found :
+      (n : ℕ) → position_of (list_of of spine_before.notes) text ≡ Some n
+      → IsSomeAnd (key_at n) (λ k. reply ≡ Ok k) × IsIdle before after spine_before spine_after
+  pub added :
+      Lacks (list_of of spine_before.notes) text
+      → OnOk reply (Since before.number before.notes after.notes (Append text ∷ []) × (list_of of spine_after.notes ≡ list_of of spine_before.notes ++ text ∷ []))
+  pub refused : OnErr reply (IsIdle before after spine_before spine_after)

@@ -4,9 +4,9 @@
 //! the log that a list was read off. Here the content lies in a slot beside the lock. The slot keeps `fits`
 //! of its tag, which is fixed when the lock is made, and a contract sees a lock as that tag.
 //!
-//! A holder has the value itself, and gives it back before the next one can have it. One that never does
-//! leaves the lock empty, and whoever takes it then waits forever. No lock is poisoned: a panic under one ends
-//! the process, where the runtime is the host's.
+//! A holder has the value itself, and gives it back before the next one can have it. What a holder has beside
+//! the value can't be let go but by giving a value back. No lock is poisoned: a panic under one ends the
+//! process, where the runtime is the host's.
 ghost use Rattle.std.specs.Prelude.{◌≡◌, ◌⊎◌, true, Some, IfSome};
 ghost use Rattle.lasso_shared.specs.Locks.{has_value};
 
@@ -33,6 +33,20 @@ impl<X: Fits + Drop> Model for Locked<X> {
     ghost view = { λ l. l.slot };
 }
 
+/// The lock of whoever has its value. It ends by `give`, and nothing else ends it. A contract sees the lock's tag.
+pub struct Taken<'a, X: Fits + Drop> {
+    lock: &'a Locked<X>,
+    guard: MutexGuard<'a, ()>,
+}
+
+impl<'a, X: Fits + Drop> Model for Taken<'a, X> {
+    ghost Value = { X.Tag };
+
+    ghost coded = { X.Tag.code };
+
+    ghost view = { λ t. t.lock.now };
+}
+
 impl<X: Fits + Drop> Locked<X> {
     /// A lock with this value, which nobody has taken.
     pub fn new(value: X, tag: &X::Tag) -> Locked<X>
@@ -46,24 +60,27 @@ impl<X: Fits + Drop> Locked<X> {
     }
 
     /// Takes the lock, and the value.
-    pub fn take<R: Wait>(&self, rt: &R) -> (MutexGuard<'_, ()>, X)
-        ensures { X.fits self.now result.1 }
+    pub fn take<R: Wait>(&self, rt: &R) -> (Taken<'_, X>, X)
+        ensures { (result.0 ≡ self.now) × X.fits self.now result.1 }
     {
         let guard = self.lock.lock(rt);
         for _ in rt.forever() {
             if let Some(value) = pull(&self.slot, FREE) {
-                return (guard, value);
+                return (Taken { lock: self, guard }, value);
             }
             spin_loop();
         }
         unreachable!()
     }
+}
 
+impl<'a, X: Fits + Drop> Taken<'a, X> {
     /// Puts the value back, and ends the lock.
-    pub fn give<R: Wait>(&self, rt: &R, guard: MutexGuard<'_, ()>, value: X)
-        requires { X.fits self.now value }
+    pub fn give<R: Wait>(self, rt: &R, value: X)
+        requires { X.fits self value }
     {
-        push(&self.slot, rt, value, FREE);
+        let Taken { lock, guard } = self;
+        push(&lock.slot, rt, value, FREE);
         drop(guard);
     }
 }
@@ -101,6 +118,20 @@ impl<'a, X: Fits + Drop> Model for Reading<'a, X> {
     ghost view = { λ r. record { tag = r.claim.tag; value = value_of r.claim.value } };
 }
 
+/// The lock of whoever changes its value. It ends by `give`, and nothing else ends it. A contract sees the lock's tag.
+pub struct Changing<'a, X: Fits + Drop> {
+    lock: &'a Ruled<X>,
+    guard: RwLockWriteGuard<'a, ()>,
+}
+
+impl<'a, X: Fits + Drop> Model for Changing<'a, X> {
+    ghost Value = { X.Tag };
+
+    ghost coded = { X.Tag.code };
+
+    ghost view = { λ c. c.lock.now };
+}
+
 impl<X: Fits + Drop> Ruled<X> {
     /// A lock with this value, which nobody has taken.
     pub fn new(value: X, tag: &X::Tag) -> Ruled<X>
@@ -135,27 +166,30 @@ impl<X: Fits + Drop> Ruled<X> {
     }
 
     /// Takes the lock to change the value, and the value.
-    pub fn take<R: Wait>(&self, rt: &R) -> (RwLockWriteGuard<'_, ()>, X)
-        ensures { X.fits self.now result.1 }
+    pub fn take<R: Wait>(&self, rt: &R) -> (Changing<'_, X>, X)
+        ensures { (result.0 ≡ self.now) × X.fits self.now result.1 }
     {
         let guard = self.lock.write(rt);
         for _ in rt.forever() {
             if let Some(value) = pull(&self.slot, PRESENT) {
-                return (guard, value);
+                return (Changing { lock: self, guard }, value);
             }
             if let Some(value) = pull(&self.slot, FREE) {
-                return (guard, value);
+                return (Changing { lock: self, guard }, value);
             }
             spin_loop();
         }
         unreachable!()
     }
+}
 
+impl<'a, X: Fits + Drop> Changing<'a, X> {
     /// Puts the value back, and ends the lock.
-    pub fn give<R: Wait>(&self, rt: &R, guard: RwLockWriteGuard<'_, ()>, value: X)
-        requires { X.fits self.now value }
+    pub fn give<R: Wait>(self, rt: &R, value: X)
+        requires { X.fits self value }
     {
-        push(&self.slot, rt, value, PRESENT);
+        let Changing { lock, guard } = self;
+        push(&lock.slot, rt, value, PRESENT);
         drop(guard);
     }
 }

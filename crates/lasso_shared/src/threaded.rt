@@ -6,11 +6,10 @@
 //! texts go through a desk, which one thread at a time has.
 ghost use Rattle.std.specs.Prelude.{◌≡◌, ◌-◌, ◌^◌, [], IfOk, IfErr, IfSome, IfNone, option_map};
 ghost use Rattle.lasso_parts.specs.declared.util.LassoErrorKind.TheVariants.{FailedAllocation};
-ghost use Rattle.lasso_shared.specs.History.{IsLegal, opened};
+ghost use Rattle.lasso_shared.specs.History.{IsLegal, IsOpening, opened};
 ghost use Rattle.lasso_shared.specs.Replies.{Static, Intern, Resolve, Interned, Resolved};
 ghost use Rattle.lasso_shared.specs.Calls.{IsCall};
-ghost use Rattle.lasso_shared.specs.Notes.{Since};
-ghost use Rattle.lasso_shared.specs.Sights.{Sight, Origin, IsSamePass, seen};
+ghost use Rattle.lasso_shared.specs.Sights.{Sight, Origin, IsSamePass, IsIdle, IsInternedAt, seen};
 
 #[cfg(test)]
 mod tests;
@@ -53,7 +52,8 @@ impl<K: Key, S: BuildHasher + Drop> Fits for Desk<K, S> {
 
     ghost use Rattle.std.specs.Prelude.{◌≡◌};
 
-    ghost fits = { λ tag d. d.of ≡ tag };
+    // between two calls it keeps no slot
+    ghost fits = { λ tag d. (d.of ≡ tag) × (d.kept ≡ 0) };
 }
 
 /// An interner that threads share. A contract sees its book and what it opened with, which its maker fixes; what is
@@ -127,6 +127,7 @@ impl<K: Key, S: BuildHasher + Drop> ThreadedRodeo<K, S> {
         requires { pass.old.of ≡ self.now }
         ensures same { IsSamePass pass.new pass.old }
         ensures call { IsCall K.key_at self.now.opening (seen pass.old) (seen pass.new) pass.old.number (Resolve (K.number key)) (Resolved (option_map (λ t. t.now) result)) }
+        ensures opening { IsOpening K.key_at self.now.opening }
         ensures legal { IsLegal K.key_at self.now.opening (seen pass.new) }
     {
         let found = self.log.read(key.into_usize() as u64, pass);
@@ -135,8 +136,8 @@ impl<K: Key, S: BuildHasher + Drop> ThreadedRodeo<K, S> {
     }
 
     /// The key of the text, which goes last in the list if it is not there. The text is kept as it is, with no copy, so
-    /// the memory limit never refuses it. A text that is there is never refused. A new one is refused where the key
-    /// type has no key for its position, else for want of memory; no event is added then.
+    /// the memory limit never refuses it. A text that the pass had seen is never refused. A new one is refused where
+    /// the key type has no key for its position, else for want of memory; no event is added then.
     #[tactic(auto, using(crate::proofs::Tickets::since_trans))]
     pub fn try_get_or_intern_static_as<R: Wait>(
         &self,
@@ -147,12 +148,13 @@ impl<K: Key, S: BuildHasher + Drop> ThreadedRodeo<K, S> {
         requires { pass.old.of ≡ self.now }
         ensures same { IsSamePass pass.new pass.old }
         ensures call { IsCall K.key_at self.now.opening (seen pass.old) (seen pass.new) pass.old.number (Intern Static text.now) (Interned result) }
+        ensures opening { IsOpening K.key_at self.now.opening }
         ensures legal { IsLegal K.key_at self.now.opening (seen pass.new) }
     {
         for _ in rt.forever() {
-            let (guard, mut desk) = self.desk.take(rt);
+            let (taken, mut desk) = self.desk.take(rt);
             let reply = self.intern_at(rt, &mut desk, pass, text);
-            self.desk.give(rt, guard, desk);
+            taken.give(rt, desk);
             if let Some(reply) = reply {
                 pass.show_legal();
                 return reply;
@@ -171,8 +173,10 @@ impl<K: Key, S: BuildHasher + Drop> ThreadedRodeo<K, S> {
     ) -> Option<LassoResult<K>>
         requires of { (pass.old.of ≡ self.now) × (desk.old.of ≡ self.now) }
         ensures same { IsSamePass pass.new pass.old × (desk.new.of ≡ desk.old.of) }
-        ensures none { IfNone result (Since pass.old.number pass.old.notes pass.new.notes []) }
+        ensures kept { desk.new.kept ≡ desk.old.kept }
+        ensures none { IfNone result (IsIdle pass.old pass.new desk.old desk.new) }
         ensures call { IfSome result (λ r. IsCall K.key_at self.now.opening (seen pass.old) (seen pass.new) pass.old.number (Intern Static text.now) (Interned r)) }
+        ensures desk { IfSome result (λ r. IsInternedAt K.key_at self.now pass.old pass.new desk.old desk.new text.now r) }
     {
         if self.log.len(pass) != desk.spine.len() {
             return None;

@@ -27,11 +27,11 @@ fn count_up<R: Wait>(rt: &R, lock: &Locked<Count>, times: u32)
     requires { lock.now ≡ 5000 }
 {
     for _ in 0..times {
-        let (guard, mut count) = lock.take(rt);
+        let (taken, mut count) = lock.take(rt);
         if count.number < 5000 {
             count.number += 1;
         }
-        lock.give(rt, guard, count);
+        taken.give(rt, count);
     }
 }
 
@@ -39,9 +39,9 @@ fn count_in<R: Wait>(rt: &R, lock: &Locked<Count>) -> u64
     requires { lock.now ≡ 5000 }
     ensures { result ≤ 5000 }
 {
-    let (guard, count) = lock.take(rt);
+    let (taken, count) = lock.take(rt);
     let number = count.number;
-    lock.give(rt, guard, count);
+    taken.give(rt, count);
     number
 }
 
@@ -86,10 +86,10 @@ fn change<R: Wait>(rt: &R, lock: &Ruled<Pair>, times: u32)
     requires { lock.now ≡ 9 }
 {
     for i in 0..times {
-        let (guard, mut pair) = lock.take(rt);
+        let (taken, mut pair) = lock.take(rt);
         pair.first = u64::from(i) + 1;
         pair.second = u64::from(i) + 10;
-        lock.give(rt, guard, pair);
+        taken.give(rt, pair);
     }
 }
 

@@ -1,7 +1,7 @@
 //! Passes: what a thread has seen of the history, with its number and its tickets.
 ghost use Rattle.std.specs.Prelude.{◌≡◌, ◌⊎◌, []};
 ghost use mathlib.Core.List.{IsPrefix};
-ghost use Rattle.lasso_shared.specs.History.{IsLegal};
+ghost use Rattle.lasso_shared.specs.History.{IsLegal, IsOpening};
 ghost use Rattle.lasso_shared.specs.Notes.{Since, opening_of, notes_of, IsOpened};
 ghost use Rattle.lasso_shared.specs.Sights.{Sight, origin, seen, IsSamePass};
 
@@ -26,7 +26,7 @@ pub struct Pass<K: Key> {
 
 impl<K: Key> Model for Pass<K> {
     ghost use Rattle.std.specs.Prelude.{◌≡◌};
-    ghost use Rattle.lasso_shared.specs.History.{IsLegal};
+    ghost use Rattle.lasso_shared.specs.History.{IsLegal, IsOpening};
     ghost use Rattle.lasso_shared.specs.Notes.{opening_of, notes_of, history, IsOpened, ticket_of};
     ghost use Rattle.lasso_shared.specs.Book.{IsTicket};
     ghost use Rattle.lasso_shared.specs.Sights.{Sight, sight_coded, origin, first_of};
@@ -37,12 +37,13 @@ impl<K: Key> Model for Pass<K> {
 
     ghost view = { λ p. record { number = first_of p.number.numbers; of = origin p.seen.book p.seen.names (opening_of p.seen.log); notes = notes_of p.seen.log } };
 
-    ghost invariant = { λ p. IsTicket p.seen.book p.ticket.word p.ticket.pen × IsTicket p.seen.book p.next.word p.next.pen × (p.ticket.pen.nib.key ≡ ticket_of (first_of p.number.numbers) (notes_of p.seen.log)) × IsOpened p.seen.log × IsLegal K.key_at (opening_of p.seen.log) (history (notes_of p.seen.log)) };
+    ghost invariant = { λ p. IsTicket p.seen.book p.ticket.word p.ticket.pen × IsTicket p.seen.book p.next.word p.next.pen × (p.ticket.pen.nib.key ≡ ticket_of (first_of p.number.numbers) (notes_of p.seen.log)) × IsOpened p.seen.log × IsLegal K.key_at (opening_of p.seen.log) (history (notes_of p.seen.log)) × IsOpening K.key_at (opening_of p.seen.log) };
 }
 
 impl<K: Key> Pass<K> {
-    /// Does nothing. Contracts learn that what the pass has seen is a legal history.
+    /// Does nothing. Contracts learn that what the pass has seen is a legal history of what an interner may begin with.
     pub fn show_legal(&self)
+        ensures opening { IsOpening K.key_at self.now.of.opening }
         ensures legal { IsLegal K.key_at self.now.of.opening (seen self.now) }
     {
         let _ = &self.seen;

@@ -1,5 +1,6 @@
 //! The spine: the numbers of the list, which one thread at a time has, and the slots that it keeps.
 ghost use Rattle.std.specs.Prelude.{◌≡◌, ◌+◌, ◌<◌, ◌∷◌, ◌++◌, [], length, OnOk, OnErr, IfErr, MatchBool};
+ghost use mathlib.Core.List.{IsPrefix};
 ghost use Rattle.lasso_parts.specs.declared.util.LassoErrorKind.TheVariants.{FailedAllocation};
 ghost use Rattle.lasso_parts.specs.Texts.{Fits};
 ghost use Rattle.lasso_shared.specs.History.{Append, MayFollow, IsLegal};
@@ -75,7 +76,7 @@ impl<K: Key> Spine<K> {
 
 impl<K: Key> Log<K> {
     /// Keeps one slot more for a text to come, until it is appended or given back. It is refused for want of memory
-    /// alone, and nothing changes then.
+    /// alone, which is told of position 2^64 - 1 too, and nothing changes then.
     pub fn reserve_next(&self, alloc: Global, spine: &mut Spine<K>) -> LassoResult<()>
         requires { spine.old.of ≡ self.now }
         ensures kept { OnOk result (spine.new.kept ≡ spine.old.kept + 1) }
@@ -94,7 +95,7 @@ impl<K: Key> Log<K> {
 
     /// Puts the text last, in a slot that `reserve_next` kept. The list of the spine must lack the text, and have a
     /// key for its length. The text's cell is filled before the length moves. It waits where the length isn't the
-    /// spine's.
+    /// spine's, where the row of its position isn't made, and where the cell is filled.
     pub fn append<R: Wait>(&self, rt: &R, spine: &mut Spine<K>, pass: &mut Pass<K>, text: Item)
         requires of { (pass.old.of ≡ self.now) × (spine.old.of ≡ self.now) }
         requires kept { 0 < spine.old.kept }
@@ -104,6 +105,7 @@ impl<K: Key> Log<K> {
         ensures event { Since pass.old.number pass.old.notes pass.new.notes (Append text.now ∷ []) }
         ensures legal { IsLegal K.key_at self.now.opening (seen pass.new) }
         ensures spine { spine.new.notes ≡ pass.new.notes }
+        ensures begins { IsPrefix spine.old.notes spine.new.notes }
         ensures list { list_of self.now pass.new.notes ≡ list_of self.now spine.old.notes ++ text.now ∷ [] }
     {
         let (row, item) = self.rows.fill(rt, spine.len(), text);

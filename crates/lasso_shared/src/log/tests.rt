@@ -1,75 +1,144 @@
-//! Slots that the spine keeps and gives back, and texts that take them.
-ghost use Rattle.std.specs.Prelude.{◌≡◌, ◌+◌, ◌-◌, ◌≤◌, ◌∷◌, ◌++◌, [], OnOk, OnErr, IfOk, codes};
-ghost use Rattle.lasso_shared.specs.History.{Lacks};
-ghost use Rattle.lasso_shared.specs.Sights.{IsSameSpine, list_of};
+//! Slots that a spine keeps ahead of its list.
+ghost use Rattle.std.specs.Prelude.{◌≡◌, ◌<◌, [], All, length};
+ghost use Rattle.lasso_shared.specs.Sights.{Origin, IsSameSpine, list_of};
+
+mod given_back;
 
 use crate::log::{Log, Opened, Pass, Spine};
 use lasso_parts::keys::{Key, Spur};
-use lasso_parts::util::{LassoError, LassoErrorKind, LassoResult};
 use std::alloc::Global;
 use std::sync::Wait;
 use std::test::*;
 
-const OPENED: Opened = Opened {
-    size: 4096,
-    used: 0,
-    limit: u64::MAX,
-};
+// A text of each length below 39: the first row has 32 cells.
+const TEXTS: [&str; 39] = [
+    "",
+    "a",
+    "ab",
+    "abc",
+    "abcd",
+    "abcde",
+    "abcdef",
+    "abcdefg",
+    "abcdefgh",
+    "abcdefghi",
+    "abcdefghij",
+    "abcdefghijk",
+    "abcdefghijkl",
+    "abcdefghijklm",
+    "abcdefghijklmn",
+    "abcdefghijklmno",
+    "abcdefghijklmnop",
+    "abcdefghijklmnopq",
+    "abcdefghijklmnopqr",
+    "abcdefghijklmnopqrs",
+    "abcdefghijklmnopqrst",
+    "abcdefghijklmnopqrstu",
+    "abcdefghijklmnopqrstuv",
+    "abcdefghijklmnopqrstuvw",
+    "abcdefghijklmnopqrstuvwx",
+    "abcdefghijklmnopqrstuvwxy",
+    "abcdefghijklmnopqrstuvwxyz",
+    "abcdefghijklmnopqrstuvwxyzA",
+    "abcdefghijklmnopqrstuvwxyzAB",
+    "abcdefghijklmnopqrstuvwxyzABC",
+    "abcdefghijklmnopqrstuvwxyzABCD",
+    "abcdefghijklmnopqrstuvwxyzABCDE",
+    "abcdefghijklmnopqrstuvwxyzABCDEF",
+    "abcdefghijklmnopqrstuvwxyzABCDEFG",
+    "abcdefghijklmnopqrstuvwxyzABCDEFGH",
+    "abcdefghijklmnopqrstuvwxyzABCDEFGHI",
+    "abcdefghijklmnopqrstuvwxyzABCDEFGHIJ",
+    "abcdefghijklmnopqrstuvwxyzABCDEFGHIJK",
+    "abcdefghijklmnopqrstuvwxyzABCDEFGHIJKL",
+];
 
-// Keeps so many slots more, and gives them back.
-fn keep_and_give_back(
-    alloc: Global,
-    log: &Log<Spur>,
-    spine: &mut Spine<Spur>,
-    slots: u32,
-) -> LassoResult<()>
+// Keeps so many slots more, and tells whether none was refused.
+fn keeps(alloc: Global, log: &Log<Spur>, spine: &mut Spine<Spur>, slots: u32) -> bool
     requires { spine.old.of ≡ log.now }
-    ensures same { IsSameSpine spine.new spine.old }
-    ensures kept { OnOk result (spine.new.kept ≡ spine.old.kept) }
+    ensures { IsSameSpine spine.new spine.old }
 {
+    let mut all = true;
     for _ in 0..slots {
-        log.reserve_next(alloc, spine)?;
+        if log.reserve_next(alloc, spine).is_err() {
+            all = false;
+        }
     }
-    for _ in 0..slots {
-        spine.give_back();
-    }
-    Ok(())
+    all
 }
 
-// Puts a new text last, in a slot that is kept for it.
-fn add<R: Wait>(
+// Appends a text that is longer than each of the list, where a slot is kept.
+fn appends<R: Wait>(
     rt: &R,
-    alloc: Global,
     log: &Log<Spur>,
     spine: &mut Spine<Spur>,
     pass: &mut Pass<Spur>,
     text: &'static str,
-) -> LassoResult<()>
+) -> bool
     requires of { (pass.old.of ≡ log.now) × (spine.old.of ≡ log.now) }
-    requires new { Lacks (list_of log.now spine.old.notes) text.now }
+    requires short { All (λ t. length t < length (list_of log.now spine.old.notes)) (list_of log.now spine.old.notes) }
     ensures of { (pass.new.of ≡ log.now) × (spine.new.of ≡ log.now) }
-    ensures list { OnOk result (list_of log.now spine.new.notes ≡ list_of log.now spine.old.notes ++ text.now ∷ []) }
+    ensures short { All (λ t. length t < length (list_of log.now spine.new.notes)) (list_of log.now spine.new.notes) }
 {
-    if Spur::try_from_usize(spine.len() as usize).is_none() {
-        return Err(LassoError::new(LassoErrorKind::KeySpaceExhaustion));
+    let len = spine.len();
+    let Some(_key) = Spur::try_from_usize(len as usize) else {
+        return false;
+    };
+    if spine.kept == 0 || text.len() as u64 != len {
+        return false;
     }
-    log.reserve_next(alloc, spine)?;
     log.append(rt, spine, pass, text);
-    Ok(())
+    true
+}
+
+// Appends each of these texts, and tells how many it appended.
+fn append_all<R: Wait>(
+    rt: &R,
+    log: &Log<Spur>,
+    spine: &mut Spine<Spur>,
+    texts: &[&'static str],
+) -> usize
+    requires { (spine.old.of ≡ log.now) × (list_of log.now spine.old.notes ≡ []) }
+{
+    let mut pass = log.pass();
+    let mut appended: usize = 0;
+    for text in texts.iter() {
+        if appends(rt, log, spine, &mut pass, *text) && appended < texts.len() {
+            appended += 1;
+        }
+    }
+    appended
+}
+
+// How many of these texts the list has in their places.
+fn read_all(log: &Log<Spur>, texts: &[&'static str]) -> usize {
+    let mut pass = log.pass();
+    let mut found: usize = 0;
+    for position in 0..texts.len() {
+        if log.read(position as u64, &mut pass) == Some(texts[position]) && found < texts.len() {
+            found += 1;
+        }
+    }
+    found
 }
 
 #[test]
-fn slots_that_were_given_back_are_kept_again(rt: HostRuntime) -> Result<(), Fail> {
-    let (log, mut spine) = Log::<Spur>::open(rt.alloc(), OPENED)?;
+fn slots_kept_ahead_have_their_rows(rt: HostRuntime) -> Result<(), Fail> {
+    let opened = Opened {
+        size: 4096,
+        used: 0,
+        limit: 10_000,
+    };
+    let (log, mut spine) = Log::open(rt.alloc(), opened)?;
+    assert!(rt; keeps(rt.alloc(), &log, &mut spine, 40));
+    assert_eq!(rt; spine.kept, 40);
+    if spine.kept == 40 {
+        spine.give_back();
+    }
+    assert_eq!(rt; append_all(&rt, &log, &mut spine, &TEXTS), 39);
+    assert_eq!(rt; spine.kept, 0);
+    assert_eq!(rt; read_all(&log, &TEXTS), 39);
     let mut pass = log.pass();
-    // the first row has 32 slots
-    keep_and_give_back(rt.alloc(), &log, &mut spine, 33)?;
-    add(&rt, rt.alloc(), &log, &mut spine, &mut pass, "p")?;
-    keep_and_give_back(rt.alloc(), &log, &mut spine, 1)?;
-    add(&rt, rt.alloc(), &log, &mut spine, &mut pass, "q")?;
-    assert_eq!(rt; spine.len(), 2);
-    assert_eq!(rt; log.read(0, &mut pass), Some("p"));
-    assert_eq!(rt; log.read(1, &mut pass), Some("q"));
-    assert_eq!(rt; log.read(2, &mut pass), None);
+    assert_eq!(rt; log.read(39, &mut pass), None);
     Ok(())
 }

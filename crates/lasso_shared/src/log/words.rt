@@ -30,6 +30,7 @@ pub struct Log<K: Key> {
 
 impl<K: Key> Model for Log<K> {
     ghost use Rattle.std.specs.Prelude.{◌≡◌, []};
+    ghost use Rattle.lasso_shared.specs.History.{IsOpening};
     ghost use Rattle.lasso_shared.specs.Notes.{opening_of, notes_of, IsOpened};
     ghost use Rattle.lasso_shared.specs.Book.{head_of};
     ghost use Rattle.lasso_shared.specs.Sights.{Origin, origin_coded, origin};
@@ -40,7 +41,7 @@ impl<K: Key> Model for Log<K> {
 
     ghost view = { λ l. origin l.seen.book l.seen.names (opening_of l.seen.log) };
 
-    ghost invariant = { λ l. (l.head ≡ head_of l.seen.book) × (l.rows ≡ l.seen.names) × IsOpened l.seen.log × (notes_of l.seen.log ≡ []) × ((opening_of l.seen.log).texts ≡ []) };
+    ghost invariant = { λ l. (l.head ≡ head_of l.seen.book) × (l.rows ≡ l.seen.names) × IsOpened l.seen.log × (notes_of l.seen.log ≡ []) × ((opening_of l.seen.log).texts ≡ []) × IsOpening K.key_at (opening_of l.seen.log) };
 }
 
 impl<K: Key> Log<K> {

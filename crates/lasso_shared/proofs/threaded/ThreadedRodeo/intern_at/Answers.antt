@@ -1,4 +1,4 @@
-use Rattle.std.proofs.Common.{◌≡◌, ◌++◌, ◌∷◌, [], sym, ◌∙◌, ap, subst, ℕ, List, length, Some, None, Option, IsSome}
+use Rattle.std.proofs.Common.{◌≡◌, ◌++◌, ◌∷◌, [], sym, ◌∙◌, ap, subst, ℕ, List, length, Some, None, Option, IsSome, refl}
 use Rattle.lasso_parts.specs.Texts.{Text, position_of}
 use Rattle.lasso_parts.specs.Hashing.{text_hash}
 use Rattle.lasso_parts.specs.Index.{IsIndexOf, IsFiled}
@@ -8,6 +8,7 @@ use Rattle.lasso_shared.specs.Notes.{Note, Since, state}
 use Rattle.lasso_shared.specs.Sights.{list_of}
 use Rattle.lasso_shared.proofs.Tickets.{since_trans}
 use Rattle.lasso_shared.proofs.Called.{found, keyless, wanting, added}
+use Rattle.lasso_shared.proofs.Desks.{found_at, added_at, refused_at}
 use Rattle.lasso_shared.proofs.threaded.ThreadedRodeo.intern_at.Goals as goal
 
 pub returns-in-Some-clause-call : goal.returns-in-Some-clause-call
@@ -99,3 +100,61 @@ returns-clause-call g c =
     let event : Since c.args.pass.now.number c.len.new.pass.notes c.append.new.pass.notes (Append t ∷ []) = subst (λ (p : ℕ). Since p c.len.new.pass.notes c.append.new.pass.notes (Append t ∷ [])) c.len.ensures.same.0 a.event in
     added g.K.Key.key_at o c.args.pass.now.number c.args.pass.now.notes c.append.new.pass.notes list t key (since_trans c.args.pass.now.number c.args.pass.now.notes c.len.new.pass.notes c.append.new.pass.notes (Append t ∷ []) c.len.ensures.since event)
     after c.desk.invariant.distinct absent (sym made)
+
+pub returns-in-Some-clause-desk : goal.returns-in-Some-clause-desk
+returns-in-Some-clause-desk g c =
+    let t = c.args.text.now in
+    let of = c.args.self.now in
+    let list = list_of c.desk.inside.spine.of c.desk.inside.spine.notes in
+    let was : list ≡ list_of of c.args.desk.now.notes = ap (λ s. list_of s.of s.notes) c.desk.view_is ∙ ap (λ o. list_of o c.args.desk.now.notes) c.requires.of.1 in
+    let mine : c.shown-shown.result ≡ list = c.shown-shown.ensures ∙ sym c.agrees.ensures in
+    let at : Some c.in-Some.position ≡ position_of c.shown-shown.result t = c.in-Some.ensures.whole (subst (λ (ts : List Text). IsIndexOf (text_hash g.S.BuildHasher.build_hasher g.S.Hasher.Hasher.write g.S.Hasher.Hasher.finish c.desk.inside.hasher) ts c.desk.inside.index) (sym mine) c.desk.invariant) in
+    let key : g.K.Key.key_at c.in-Some.position ≡ Some c.unwrap.result = cc (c.try_from_usize.ensures, c.unwrap.ensures) in
+    found_at g.K.Key.key_at of c.args.pass.now c.len.new.pass c.args.desk.now c.args.desk.now t c.in-Some.position c.unwrap.result (ap (λ (ts : List Text). position_of ts t) (sym (mine ∙ was)) ∙ sym at) key (c.len.ensures.since, (refl, refl))
+
+pub returns-in_default-try_from_usize-clause-desk : goal.returns-in_default-try_from_usize-clause-desk
+returns-in_default-try_from_usize-clause-desk g c =
+    let t = c.args.text.now in
+    let of = c.args.self.now in
+    let list = list_of c.desk.inside.spine.of c.desk.inside.spine.notes in
+    let was : list ≡ list_of of c.args.desk.now.notes = ap (λ s. list_of s.of s.notes) c.desk.view_is ∙ ap (λ o. list_of o c.args.desk.now.notes) c.requires.of.1 in
+    let mine : c.shown-shown.result ≡ list = c.shown-shown.ensures ∙ sym c.agrees.ensures in
+    let absent : position_of list t ≡ None = ap (λ (ts : List Text). position_of ts t) (sym mine) ∙ sym (c.in_default.ensures.whole (subst (λ (ts : List Text). IsIndexOf (text_hash g.S.BuildHasher.build_hasher g.S.Hasher.Hasher.write g.S.Hasher.Hasher.finish c.desk.inside.hasher) ts c.desk.inside.index) (sym mine) c.desk.invariant)) in
+    refused_at g.K.Key.key_at of c.args.pass.now c.len.new.pass c.args.desk.now c.args.desk.now t c.new.result (ap (λ (ts : List Text). position_of ts t) (sym was) ∙ absent) (c.len.ensures.since, (refl, refl))
+
+pub returns-in-Err-clause-desk : goal.returns-in-Err-clause-desk
+returns-in-Err-clause-desk g c =
+    let t = c.args.text.now in
+    let of = c.args.self.now in
+    let list = list_of c.desk.inside.spine.of c.desk.inside.spine.notes in
+    let was : list ≡ list_of of c.args.desk.now.notes = ap (λ s. list_of s.of s.notes) c.desk.view_is ∙ ap (λ o. list_of o c.args.desk.now.notes) c.requires.of.1 in
+    let mine : c.shown-shown.result ≡ list = c.shown-shown.ensures ∙ sym c.agrees.ensures in
+    let absent : position_of list t ≡ None = ap (λ (ts : List Text). position_of ts t) (sym mine) ∙ sym (c.in_default.ensures.whole (subst (λ (ts : List Text). IsIndexOf (text_hash g.S.BuildHasher.build_hasher g.S.Hasher.Hasher.write g.S.Hasher.Hasher.finish c.desk.inside.hasher) ts c.desk.inside.index) (sym mine) c.desk.invariant)) in
+    refused_at g.K.Key.key_at of c.args.pass.now c.len.new.pass c.args.desk.now c.desk.inside.spine t c.in-Err.error (ap (λ (ts : List Text). position_of ts t) (sym was) ∙ absent) (c.len.ensures.since, (ap (λ s. s.of) c.desk.view_is, ap (λ s. s.notes) c.desk.view_is))
+
+pub returns-in-Err-reserve_next-clause-desk : goal.returns-in-Err-reserve_next-clause-desk
+returns-in-Err-reserve_next-clause-desk g c =
+    let t = c.args.text.now in
+    let of = c.args.self.now in
+    let list = list_of c.desk.inside.spine.of c.desk.inside.spine.notes in
+    let was : list ≡ list_of of c.args.desk.now.notes = ap (λ s. list_of s.of s.notes) c.desk.view_is ∙ ap (λ o. list_of o c.args.desk.now.notes) c.requires.of.1 in
+    let mine : c.shown-shown.result ≡ list = c.shown-shown.ensures ∙ sym c.agrees.ensures in
+    let absent : position_of list t ≡ None = ap (λ (ts : List Text). position_of ts t) (sym mine) ∙ sym (c.in_default.ensures.whole (subst (λ (ts : List Text). IsIndexOf (text_hash g.S.BuildHasher.build_hasher g.S.Hasher.Hasher.write g.S.Hasher.Hasher.finish c.desk.inside.hasher) ts c.desk.inside.index) (sym mine) c.desk.invariant)) in
+    let same = c.reserve_next.ensures.same in
+    refused_at g.K.Key.key_at of c.args.pass.now c.len.new.pass c.args.desk.now c.reserve_next.new.spine t c.in-Err-reserve_next.error (ap (λ (ts : List Text). position_of ts t) (sym was) ∙ absent) (c.len.ensures.since, (same.0 ∙ ap (λ s. s.of) c.desk.view_is, same.1 ∙ ap (λ s. s.notes) c.desk.view_is))
+
+pub returns-clause-desk : goal.returns-clause-desk
+returns-clause-desk g c =
+    let t = c.args.text.now in
+    let of = c.args.self.now in
+    let list = list_of c.desk.inside.spine.of c.desk.inside.spine.notes in
+    let was : list ≡ list_of of c.args.desk.now.notes = ap (λ s. list_of s.of s.notes) c.desk.view_is ∙ ap (λ o. list_of o c.args.desk.now.notes) c.requires.of.1 in
+    let mine : c.shown-shown.result ≡ list = c.shown-shown.ensures ∙ sym c.agrees.ensures in
+    let absent : position_of list t ≡ None = ap (λ (ts : List Text). position_of ts t) (sym mine) ∙ sym (c.in_default.ensures.whole (subst (λ (ts : List Text). IsIndexOf (text_hash g.S.BuildHasher.build_hasher g.S.Hasher.Hasher.write g.S.Hasher.Hasher.finish c.desk.inside.hasher) ts c.desk.inside.index) (sym mine) c.desk.invariant)) in
+    let a = c.append.ensures in
+    let event : Since c.args.pass.now.number c.len.new.pass.notes c.append.new.pass.notes (Append t ∷ []) = subst (λ (p : ℕ). Since p c.len.new.pass.notes c.append.new.pass.notes (Append t ∷ [])) c.len.ensures.same.0 a.event in
+    let begins : list_of of c.reserve_next.new.spine.notes ≡ list_of of c.args.desk.now.notes = ap (list_of of) (c.reserve_next.ensures.same.1 ∙ ap (λ s. s.notes) c.desk.view_is) in
+    let after : list_of of c.append.new.spine.notes ≡ list_of of c.args.desk.now.notes ++ t ∷ [] =
+    ap (list_of of) a.spine ∙ (ap (λ o. list_of o c.append.new.pass.notes) (sym c.self.view_is) ∙ (a.list ∙ (ap (λ o. list_of o c.reserve_next.new.spine.notes ++ t ∷ []) c.self.view_is ∙ ap (λ (ts : List Text). ts ++ t ∷ []) begins))) in
+    added_at g.K.Key.key_at of c.args.pass.now c.append.new.pass c.args.desk.now c.append.new.spine t c.in-Some-try_from_usize.key (ap (λ (ts : List Text). position_of ts t) (sym was) ∙ absent)
+    (since_trans c.args.pass.now.number c.args.pass.now.notes c.len.new.pass.notes c.append.new.pass.notes (Append t ∷ []) c.len.ensures.since event) after

@@ -67,7 +67,7 @@ invariant_of-pass-2 g c =
     let by : e.by ≡ first_of c.pass.inside.number.numbers = ap (λ (w : Note). w.by) offer.1 in
     let self : c.compare_exchange-found.new.seen.book ≡ c.args.self.now.book = c.compare_exchange-found.ensures.0 ∙ (c.learn-2.ensures.0 ∙ (c.learn.ensures.0 ∙ (ap (λ s. s.book) c.again-seen.ensures ∙ ap (λ o. o.book) c.self.view_is))) in
     let mine : c.compare_exchange-found.new.seen.book ≡ c.pass.inside.seen.book = self ∙ sym (ap (λ s. s.of.book) c.pass.view_is ∙ ap (λ o. o.book) c.requires.of.0) in
-    (rw (used.after, next.value, mine) i.1, rw (next.after, self) c.ticket.ensures, rw (used.after, next.value, sym by) (sym (f.ticket ∙ ap (λ (w : Note). w.next) offer.1)), f.opened, rw f.opening f.legal)
+    (rw (used.after, next.value, mine) i.1, rw (next.after, self) c.ticket.ensures, rw (used.after, next.value, sym by) (sym (f.ticket ∙ ap (λ (w : Note). w.next) offer.1)), f.opened, rw f.opening f.legal, rw f.opening i.5)
 
 pub returns-clause-done : goal.returns-clause-done
 returns-clause-done g c =

@@ -32,7 +32,7 @@ invariant_of-pass g c =
     let e = c.load-found.ensures in
     let t = tails c.pass.inside.seen.log c.load-found.new.seen.log i.3 e.5 in
     let legal = legal_opened g.K.Key.key_at c.pass.inside.seen.log c.load-found.new.seen.log i.3 e.5 (e.6.1.0, e.6.1.1) in
-    rw (e.0, c.look.ensures.2, c.look.ensures.3) (i.0, i.1, i.2 ∙ sym (facts g c).1, t.0, rw (← t.1) legal)
+    rw (e.0, c.look.ensures.2, c.look.ensures.3) (i.0, i.1, i.2 ∙ sym (facts g c).1, t.0, rw (← t.1) legal, rw (← t.1) i.5)
 
 pub returns-clause-since : goal.returns-clause-since
 returns-clause-since g c = rw (← c.pass.view_is) (facts g c).0

@@ -4,6 +4,7 @@ use Rattle.lasso_shared.specs.History.{Event, Append, Totals, MayFollow}
 use Rattle.lasso_shared.specs.Notes.{Note, notes_of, opening_of, state}
 use Rattle.lasso_shared.specs.Book.{IsDone, Reads, word_of}
 use Rattle.lasso_shared.specs.Sights.{list_of}
+use Rattle.lasso_shared.proofs.Histories.{prefix_trans}
 use Rattle.lasso_shared.proofs.Lengths.{length_of, may_append, moving_append}
 use Rattle.lasso_shared.proofs.Reading.{length_read, list_after, length_after_append}
 use Rattle.lasso_shared.proofs.log.words.Log.try_append.Goals as goal
@@ -64,5 +65,6 @@ returns-clause-done g c =
       event = done.since;
       list = list ∙ ap (λ s. (state o s.notes).texts ++ c.args.text.now ∷ []) c.spine.view_is;
       spine = s.log.1;
+      begins = rw (s.log.1, ← ap (λ s. s.notes) c.spine.view_is) (prefix_trans v done.mid c.exchange.new.pass.notes done.begins (done.note ∷ [], sym done.last));
       kept = omega (arith, some, ap (λ s. s.kept) c.spine.view_is);
     }

@@ -1,0 +1,7 @@
+use Rattle.std.proofs.Common.{◌≡◌}
+use Rattle.lasso_shared.specs.Sights.{IsSameSpine}
+use Rattle.lasso_shared.proofs.log.tests.keeps.Given as goal
+
+-- the spine has seen what it had
+abbrev pub invariant-loop : goal.invariant-loop
+invariant-loop l = IsSameSpine l.spine l.fn.spine

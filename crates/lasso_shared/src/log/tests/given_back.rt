@@ -1,0 +1,75 @@
+//! Slots that the spine keeps and gives back, and texts that take them.
+ghost use Rattle.std.specs.Prelude.{◌≡◌, ◌+◌, ◌-◌, ◌≤◌, ◌∷◌, ◌++◌, [], OnOk, OnErr, IfOk, codes};
+ghost use Rattle.lasso_shared.specs.History.{Lacks};
+ghost use Rattle.lasso_shared.specs.Sights.{IsSameSpine, list_of};
+
+use crate::log::{Log, Opened, Pass, Spine};
+use lasso_parts::keys::{Key, Spur};
+use lasso_parts::util::{LassoError, LassoErrorKind, LassoResult};
+use std::alloc::Global;
+use std::sync::Wait;
+use std::test::*;
+
+const OPENED: Opened = Opened {
+    size: 4096,
+    used: 0,
+    limit: u64::MAX,
+};
+
+// Keeps so many slots more, and gives them back.
+fn keep_and_give_back(
+    alloc: Global,
+    log: &Log<Spur>,
+    spine: &mut Spine<Spur>,
+    slots: u32,
+) -> LassoResult<()>
+    requires { spine.old.of ≡ log.now }
+    ensures same { IsSameSpine spine.new spine.old }
+    ensures kept { OnOk result (spine.new.kept ≡ spine.old.kept) }
+{
+    for _ in 0..slots {
+        log.reserve_next(alloc, spine)?;
+    }
+    for _ in 0..slots {
+        spine.give_back();
+    }
+    Ok(())
+}
+
+// Puts a new text last, in a slot that is kept for it.
+fn add<R: Wait>(
+    rt: &R,
+    alloc: Global,
+    log: &Log<Spur>,
+    spine: &mut Spine<Spur>,
+    pass: &mut Pass<Spur>,
+    text: &'static str,
+) -> LassoResult<()>
+    requires of { (pass.old.of ≡ log.now) × (spine.old.of ≡ log.now) }
+    requires new { Lacks (list_of log.now spine.old.notes) text.now }
+    ensures of { (pass.new.of ≡ log.now) × (spine.new.of ≡ log.now) }
+    ensures list { OnOk result (list_of log.now spine.new.notes ≡ list_of log.now spine.old.notes ++ text.now ∷ []) }
+{
+    if Spur::try_from_usize(spine.len() as usize).is_none() {
+        return Err(LassoError::new(LassoErrorKind::KeySpaceExhaustion));
+    }
+    log.reserve_next(alloc, spine)?;
+    log.append(rt, spine, pass, text);
+    Ok(())
+}
+
+#[test]
+fn slots_that_were_given_back_are_kept_again(rt: HostRuntime) -> Result<(), Fail> {
+    let (log, mut spine) = Log::<Spur>::open(rt.alloc(), OPENED)?;
+    let mut pass = log.pass();
+    // the first row has 32 slots
+    keep_and_give_back(rt.alloc(), &log, &mut spine, 33)?;
+    add(&rt, rt.alloc(), &log, &mut spine, &mut pass, "p")?;
+    keep_and_give_back(rt.alloc(), &log, &mut spine, 1)?;
+    add(&rt, rt.alloc(), &log, &mut spine, &mut pass, "q")?;
+    assert_eq!(rt; spine.len(), 2);
+    assert_eq!(rt; log.read(0, &mut pass), Some("p"));
+    assert_eq!(rt; log.read(1, &mut pass), Some("q"));
+    assert_eq!(rt; log.read(2, &mut pass), None);
+    Ok(())
+}
