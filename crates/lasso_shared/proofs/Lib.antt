@@ -16,3 +16,4 @@ pub mod Places
 pub mod Lined
 pub mod Reading
 pub mod Called
+pub mod Alike
