@@ -29,6 +29,14 @@ pub use lasso_parts::slots::{Slot, text_of};
 pub use lasso_parts::util::{
     Capacity, FixedState, LassoError, LassoErrorKind, LassoResult, MemoryLimits,
 };
+pub use lasso_shared::laws::{
+    charge_refuses_exactly_past_limit, legal_histories_hold, worked_calls_are_calls,
+    wrong_calls_are_none,
+};
+pub use lasso_shared::log::shown::Shown;
+pub use lasso_shared::log::{Log, Opened, Pass, Spine};
+pub use lasso_shared::machine::{all_runs, all_runs_of, some_run};
+pub use lasso_shared::threaded::ThreadedRodeo;
 pub use lasso_single::commands::{Command, Reply, run_commands};
 pub use lasso_single::reader::RodeoReader;
 pub use lasso_single::resolver::RodeoResolver;
@@ -43,3 +51,6 @@ pub type SpurRodeoReader = RodeoReader<Spur, FixedState, Global>;
 
 /// A `RodeoResolver` with `Spur` keys and the global allocator.
 pub type SpurRodeoResolver = RodeoResolver<Spur, Global>;
+
+/// A `ThreadedRodeo` with `Spur` keys and the hasher of fixed seed.
+pub type SpurThreadedRodeo = ThreadedRodeo<Spur, FixedState>;

@@ -36,7 +36,7 @@ length_get first now k n (w ∷ ws) h e = let is : w ≡ (k, n) = cc e in h ∙ 
 pub length_of : (o : Totals) (log : List Note) (k n : ℕ) → IsWordWith log 0 k n → length (state o log).texts ≡ length o.texts + n
 length_of o log k n word = length_get (length o.texts) (length (state o log).texts) k n (words_of log) (length_after (length o.texts) o first_words log (omega arith)) word
 
-texts_past : (o : Totals) (v log : List Note) → IsPrefix v log → IsPrefix (state o v).texts (state o log).texts
+pub texts_past : (o : Totals) (v log : List Note) → IsPrefix v log → IsPrefix (state o v).texts (state o log).texts
 texts_past o v log p =
     let is : state o log ≡ totals (state o v) (history p.0) = ap (state o) (sym p.1) ∙ state_past o v p.0 in
     subst (λ (s : Totals). IsPrefix (state o v).texts s.texts) (sym is) (list_grows (state o v) (history p.0))

@@ -16,4 +16,5 @@ pub mod Places
 pub mod Lined
 pub mod Reading
 pub mod Called
+pub mod Alike
 pub mod Desks

@@ -67,9 +67,13 @@ fn both_lend(
     ensures same { result.0 ≡ result.1 }
 {
     one.compare(other);
-    let here = shared.log.shown(one).text_at(position) == text;
-    let there = shared.log.shown(other).text_at(position) == text;
-    (here, there)
+    let mine = shared.log.shown(one);
+    let theirs = shared.log.shown(other);
+    let here = mine.text_at(position);
+    let there = theirs.text_at(position);
+    let first = here == text;
+    let second = there == text;
+    (first, second)
 }
 
 #[test]
