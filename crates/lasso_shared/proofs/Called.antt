@@ -1,7 +1,7 @@
 -- Calls of a pass, from what it had seen and has seen: a reply that is explained at the end of it.
-use Rattle.std.proofs.Common.{◌≡◌, ℕ, ◌+◌, ◌<◌, List, [], ◌∷◌, ◌++◌, length, slice_get, Option, Some, None, refl, ap, sym, ◌∙◌, subst, inl, inr, append_assoc, append-nil}
-use Rattle.std.specs.Prelude.{Result, Ok, Err, option_and_then}
-use Rattle.lasso_parts.specs.Texts.{Text, IsDistinct, position_of, key_of}
+use Rattle.std.proofs.Common.{◌≡◌, ℕ, List, [], ◌∷◌, ◌++◌, length, slice_get, Option, Some, None, refl, ap, sym, ◌∙◌, subst, inl, inr, append_assoc, append-nil}
+use Rattle.std.specs.Prelude.{Ok, Err, option_and_then}
+use Rattle.lasso_parts.specs.Texts.{Text, IsDistinct, position_of}
 use Rattle.lasso_parts.proofs.TextLemmas.{distinct_push}
 use Rattle.lasso_parts.proofs.IndexLaws.{position_of_at, slice_get_push}
 use Rattle.lasso_parts.specs.declared.util.LassoErrorKind.TheVariants.{KeySpaceExhaustion, FailedAllocation}

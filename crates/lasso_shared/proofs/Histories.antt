@@ -1,8 +1,8 @@
 -- Histories and the notes that they are read off, one after the other.
-use Rattle.std.proofs.Common.{◌≡◌, ℕ, ◌==◌, List, [], ◌∷◌, ◌++◌, length, refl, ap, sym, ◌∙◌, arith, append_assoc}
+use Rattle.std.proofs.Common.{◌≡◌, ℕ, List, [], ◌∷◌, ◌++◌, length, refl, ap, sym, ◌∙◌, arith, append_assoc}
 use Rattle.std.proofs.lemmas.List.{append-nil}
 use mathlib.Core.List.{IsPrefix}
-use Rattle.lasso_shared.specs.History.{Event, History, Totals, totals}
+use Rattle.lasso_shared.specs.History.{History, Totals, totals}
 use Rattle.lasso_shared.specs.Calls.{events_of}
 use Rattle.lasso_shared.specs.Notes.{Note, history, state}
 use Rattle.lasso_shared.proofs.Legal.{totals_append}

@@ -2,12 +2,11 @@
 use Rattle.std.proofs.Common.{◌≡◌, ℕ, ◌+◌, List, [], ◌∷◌, ◌++◌, length, refl, ap, sym, ◌∙◌, subst, arith, length-append, Option, Some, None, slice_get, inl, inr}
 use Rattle.std.specs.Prelude.{IsSome, MatchOption}
 use mathlib.Core.List.{IsPrefix}
-use Rattle.logbook.specs.Pages.{Cell, Runs}
 use Rattle.lasso_parts.specs.Texts.{Text}
 use Rattle.lasso_shared.specs.History.{Event, Reserve, Charge, Append, Limit, Totals, totals, counted, Lacks, MayFollow}
 use Rattle.lasso_shared.specs.Rows.{OnlyGrows}
-use Rattle.lasso_shared.specs.Notes.{Note, history, state, opening_of, notes_of, worded, words_after, words_of, first_words, IsWord, IsWordWith, titled, texts_titled, texts_in, text_of}
-use Rattle.lasso_shared.specs.Book.{IsKept, May, Moving, Lets, Moved, shown}
+use Rattle.lasso_shared.specs.Notes.{Note, history, state, worded, words_after, words_of, first_words, IsWord, IsWordWith, titled, texts_titled, text_of}
+use Rattle.lasso_shared.specs.Book.{May, Moving, Lets, shown}
 use Rattle.lasso_shared.specs.Events.{IsQuiet, ready}
 use Rattle.lasso_shared.proofs.Histories.{state_past, prefix_whole, prefix_tail}
 use Rattle.lasso_shared.proofs.Legal.{list_grows}

@@ -1,11 +1,11 @@
 -- The steps on whole logs, which begin with the note of their opening.
-use Rattle.std.proofs.Common.{◌≡◌, ◌≢◌, ◌⊎◌, ℕ, ◌+◌, ◌==◌, Bool, true, false, List, [], ◌∷◌, ◌++◌, refl, ap, sym, ◌∙◌, subst, inl, inr, Option, None, Some}
+use Rattle.std.proofs.Common.{◌≡◌, ◌≢◌, ◌⊎◌, ℕ, ◌+◌, ◌==◌, false, List, [], ◌∷◌, ◌++◌, refl, ap, sym, ◌∙◌, subst, inl, inr, Option}
 use mathlib.Core.List.{IsPrefix}
 use prog.Atomic.{either}
-use Rattle.logbook.specs.Pages.{Cell, cell, Nib, no_nib, may_write, step, Step, View, Moves}
-use Rattle.lasso_shared.specs.History.{Event, Totals, IsLegal, MayFollow}
-use Rattle.lasso_shared.specs.Notes.{Note, history, state, opening_of, notes_of, IsOpened, ticket_of, Since, IsWord, IsWordWith}
-use Rattle.lasso_shared.specs.Book.{IsKept, Kept, Peeks, Fetches, Adds, IsAdded, Moving, May, Lets, Moved, IsDone, Reads, shown}
+use Rattle.logbook.specs.Pages.{Cell, cell, Nib, no_nib, may_write, step, View, Moves}
+use Rattle.lasso_shared.specs.History.{Totals, IsLegal}
+use Rattle.lasso_shared.specs.Notes.{Note, history, opening_of, notes_of, IsOpened, ticket_of, Since, IsWord, IsWordWith}
+use Rattle.lasso_shared.specs.Book.{IsKept, Kept, Peeks, Fetches, Adds, Moving, May, Lets, Moved, IsDone, Reads, shown}
 use Rattle.lasso_shared.proofs.Histories.{prefix_tail, prefix_trans, prefix_self}
 use Rattle.lasso_shared.proofs.Tickets.{still, grown, next_ticket}
 use Rattle.lasso_shared.proofs.Words.{word_later}

@@ -1,18 +1,18 @@
 -- What a pen that is out tells of a log. The pen holds a part of its word's cell that the book would hold too if
 -- the word were at home, and both can't be had. So at any moment at which the book is opened beside the pen,
 -- the cell isn't at home, and the log is past what was seen. Assumes `Logic`.
-use Rattle.std.proofs.Common.{◌≡◌, ℕ, ◌+◌, false, List, [], ◌∷◌, sym, subst, arith}
+use Rattle.std.proofs.Common.{◌≡◌, ℕ, false, List, [], ◌∷◌, sym, subst, arith}
 use mathlib.Core.List.{IsPrefix}
 use seplogic.Ra.Ura.{Ura}
 use base.Stored.{Coded}
 use base.Logic.{SProp, ent, sep, ex, guard}
 use base.Fml.{Fml}
 use types.Logic.{Logic, sem}
-use types.Kit.{‵, raw, ◌⊛◌, some, given, later, ◌$◌, ◌∵◌, !, qed, by, move, keep, drop, split, split3, pick, learn, show, check, frame, updating, await, now, done, use2}
+use types.Kit.{‵, ◌⊛◌, some, given, later, ◌$◌, ◌∵◌, !, qed, move, drop, split, split3, pick, learn, show, check, frame, updating, await, now, done, use2}
 use Rattle.logbook.specs.Pages.{Cell, cell, Book, Nib, Right, may_write}
 use Rattle.logbook.specs.Kept.{Rules, roster, nib_holds, pen_owns}
 use Rattle.logbook.proofs.Roster.{Out, away}
-use Rattle.lasso_shared.proofs.Opened.{At, Cells, Kept, Sees, Looked, looks}
+use Rattle.lasso_shared.proofs.Opened.{At, Cells, Kept, Sees, looks}
 
 module _ {M : Type 1} {𝓤 : Ura M} (𝓛 : Logic 𝓤) {E : Type 0} (cv : Coded E) (rule : Rules E) (bk : Book) (names : List ℕ) where
   open 𝓛 use {H}

@@ -1,12 +1,12 @@
 -- What a reading of the length tells of the list, and what an opening holds.
-use Rattle.std.proofs.Common.{◌≡◌, ◌⊎◌, ℕ, zero, suc, ◌+◌, ◌<◌, ◌≤◌, true, List, [], ◌∷◌, ◌++◌, length, slice_get, slice_index_or, Some, None, Option, refl, ap, sym, ◌∙◌, subst, arith, inl, inr}
+use Rattle.std.proofs.Common.{◌≡◌, ◌⊎◌, ℕ, zero, suc, ◌+◌, ◌<◌, ◌≤◌, true, List, [], ◌∷◌, ◌++◌, length, slice_get, slice_index_or, Some, Option, refl, ap, sym, ◌∙◌, arith, inl, inr}
 use Rattle.std.proofs.lemmas.Map.Keys.{IsDistinct-from_apart}
 use Rattle.std.specs.Str.{bytes_eq}
 use mathlib.Core.List.{IsPrefix}
 use Rattle.lasso_parts.specs.Texts.{Text, IsDistinct, Fits}
 use Rattle.logbook.specs.Pages.{Cell}
 use Rattle.lasso_shared.specs.History.{Append, Totals, opened}
-use Rattle.lasso_shared.specs.Notes.{Note, history, state, IsWordWith}
+use Rattle.lasso_shared.specs.Notes.{Note, history, state}
 use Rattle.lasso_shared.specs.Book.{IsKept, IsDone, Reads}
 use Rattle.lasso_shared.proofs.Legal.{list_kept}
 use Rattle.lasso_shared.proofs.Lined.{stands_still, prefix_short}

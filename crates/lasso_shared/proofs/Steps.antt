@@ -1,13 +1,13 @@
 -- The three kinds of step keep the rule: a look, the fetching of a ticket, and the exchange that adds a note.
-use Rattle.std.proofs.Common.{◌≡◌, ◌≢◌, ℕ, zero, suc, ◌+◌, ◌≤◌, ◌<◌, ◌==◌, Bool, true, false, List, [], ◌∷◌, ◌++◌, length, set, refl, ap, sym, ◌∙◌, subst, arith, inl, inr, length-set, Option, None, Some}
+use Rattle.std.proofs.Common.{◌≡◌, ◌≢◌, ℕ, zero, suc, ◌+◌, ◌<◌, ◌==◌, Bool, true, false, List, [], ◌∷◌, ◌++◌, length, set, refl, ap, sym, ◌∙◌, subst, arith, inl, inr, length-set, Option}
 use Rattle.std.proofs.lemmas.List.{append-nil, set-get_or}
 use Rattle.std.proofs.lemmas.Bool.Decides.{nat_tests}
 use mathlib.Core.List.{IsPrefix}
 use prog.Atomic.{either}
-use Rattle.logbook.specs.Pages.{Cell, cell, keeps, gives, adds, Nib, nib, no_nib, may_write, Away, step, View, Moves, Goes, Runs}
-use Rattle.lasso_shared.specs.History.{Event, Totals, MayFollow, IsLegal}
-use Rattle.lasso_shared.specs.Notes.{Note, history, state, ticket_of, worded, words_of, first_words, IsWord, IsWordWith, titled}
-use Rattle.lasso_shared.specs.Book.{IsHome, Used, Words, Apart, IsKept, Kept, Peeks, Fetches, Adds, IsAdded, Bumps, Moving, May, Lets, Moved, shown}
+use Rattle.logbook.specs.Pages.{Cell, cell, keeps, gives, adds, Nib, no_nib, may_write, Away, step, Moves, Goes}
+use Rattle.lasso_shared.specs.History.{Totals, MayFollow, IsLegal}
+use Rattle.lasso_shared.specs.Notes.{Note, history, state, ticket_of, worded, words_of, first_words, IsWord, IsWordWith}
+use Rattle.lasso_shared.specs.Book.{IsHome, Words, Apart, IsKept, Kept, Peeks, Fetches, Adds, Bumps, Moving, May, Lets, Moved, shown}
 use Rattle.lasso_shared.proofs.Histories.{history_append, prefix_tail, prefix_self, prefix_trans}
 use Rattle.lasso_shared.proofs.Legal.{legal_push}
 use Rattle.lasso_shared.proofs.Tickets.{by_cases, not_both, used_still, used_more, chained_more, still}

@@ -1,5 +1,5 @@
 -- The rule of the book: what holds between any two steps, and what each step tells the one who takes it.
-use Rattle.std.specs.Prelude.{◌≡◌, ◌≢◌, ℕ, ◌⊎◌, true, false, List, [], ◌∷◌, ◌++◌, length, Option}
+use Rattle.std.specs.Prelude.{◌≡◌, ◌≢◌, ℕ, ◌⊎◌, true, false, List, [], ◌∷◌, ◌++◌, Option}
 use mathlib.Core.List.{IsPrefix}
 use Rattle.logbook.specs.Pages.{Cell, cell, Step, View, Book, Named, may_write, may_make, nib, no_nib, Runs}
 use Rattle.logbook.specs.declared.tokens.Pen.{Pen}
