@@ -33,7 +33,8 @@ impl<X: Fits + Drop> Model for Locked<X> {
     ghost view = { λ l. l.slot };
 }
 
-/// The lock of whoever has its value. It ends by `give`, and nothing else ends it. A contract sees the lock's tag.
+/// What a holder has beside the value that it took. It ends by `give` and by nothing else. A contract sees the
+/// lock's tag.
 pub struct Taken<'a, X: Fits + Drop> {
     lock: &'a Locked<X>,
     guard: MutexGuard<'a, ()>,
@@ -118,7 +119,8 @@ impl<'a, X: Fits + Drop> Model for Reading<'a, X> {
     ghost view = { λ r. record { tag = r.claim.tag; value = value_of r.claim.value } };
 }
 
-/// The lock of whoever changes its value. It ends by `give`, and nothing else ends it. A contract sees the lock's tag.
+/// What a writer has beside the value that it took. It ends by `give` and by nothing else. A contract sees the
+/// lock's tag.
 pub struct Changing<'a, X: Fits + Drop> {
     lock: &'a Ruled<X>,
     guard: RwLockWriteGuard<'a, ()>,
