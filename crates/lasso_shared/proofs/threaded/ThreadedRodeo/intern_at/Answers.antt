@@ -1,10 +1,10 @@
-use Rattle.std.proofs.Common.{◌≡◌, ◌++◌, ◌∷◌, [], sym, ◌∙◌, ap, subst, ℕ, List, length, Some, None, Option, IsSome}
+use Rattle.std.proofs.Common.{◌≡◌, ◌++◌, ◌∷◌, [], sym, ◌∙◌, ap, subst, ℕ, List, length, Some, None}
 use Rattle.lasso_parts.specs.Texts.{Text, position_of}
 use Rattle.lasso_parts.specs.Hashing.{text_hash}
 use Rattle.lasso_parts.specs.Index.{IsIndexOf, IsFiled}
 use Rattle.lasso_parts.proofs.IndexLaws.{IsIndexOf-reserved, IsIndexOf-push}
 use Rattle.lasso_shared.specs.History.{Append}
-use Rattle.lasso_shared.specs.Notes.{Note, Since, state}
+use Rattle.lasso_shared.specs.Notes.{Since, state}
 use Rattle.lasso_shared.specs.Sights.{list_of}
 use Rattle.lasso_shared.proofs.Tickets.{since_trans}
 use Rattle.lasso_shared.proofs.Called.{found, keyless, wanting, added}

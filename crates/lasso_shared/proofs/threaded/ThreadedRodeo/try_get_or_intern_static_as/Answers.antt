@@ -1,4 +1,4 @@
-use Rattle.std.proofs.Common.{◌≡◌, ℕ, subst, sym}
+use Rattle.std.proofs.Common.{ℕ, subst}
 use Rattle.lasso_shared.specs.Replies.{Static, Intern, Interned}
 use Rattle.lasso_shared.specs.Calls.{IsCall}
 use Rattle.lasso_shared.specs.Notes.{history}

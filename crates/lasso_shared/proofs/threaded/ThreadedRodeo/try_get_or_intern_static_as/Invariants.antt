@@ -1,4 +1,4 @@
-use Rattle.std.proofs.Common.{◌≡◌, []}
+use Rattle.std.proofs.Common.{[]}
 use Rattle.lasso_shared.specs.Notes.{Since}
 use Rattle.lasso_shared.specs.Sights.{IsSamePass}
 use Rattle.lasso_shared.proofs.threaded.ThreadedRodeo.try_get_or_intern_static_as.Given as goal

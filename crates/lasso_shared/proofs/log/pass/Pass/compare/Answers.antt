@@ -1,4 +1,4 @@
-use Rattle.std.proofs.Common.{◌≡◌, sym, ap, subst, List}
+use Rattle.std.proofs.Common.{ap, subst, List}
 use mathlib.Core.List.{IsPrefix}
 use Rattle.lasso_shared.specs.Notes.{Note}
 use Rattle.lasso_shared.proofs.Logs.{either_begins, tails}

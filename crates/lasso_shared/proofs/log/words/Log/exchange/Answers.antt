@@ -1,8 +1,7 @@
 use Rattle.std.proofs.Common.{◌≡◌, ◌+◌, sym, ◌∙◌, ap, subst, ℕ, List}
 use mathlib.Core.List.{IsPrefix}
-use Rattle.logbook.specs.Pages.{nib, may_write}
 use Rattle.lasso_shared.specs.History.{Event, Totals}
-use Rattle.lasso_shared.specs.Notes.{Note, notes_of, ticket_of, opening_of, IsWord}
+use Rattle.lasso_shared.specs.Notes.{Note, notes_of, ticket_of, opening_of}
 use Rattle.lasso_shared.specs.Book.{Moving, May, Lets, IsDone, word_of}
 use Rattle.lasso_shared.specs.Rows.{IsPlace}
 use Rattle.lasso_shared.specs.Sights.{first_of}

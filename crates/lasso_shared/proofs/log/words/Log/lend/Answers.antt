@@ -1,4 +1,4 @@
-use Rattle.std.proofs.Common.{◌≡◌, sym, ◌∙◌, ap, Some, List, ℕ}
+use Rattle.std.proofs.Common.{sym, ◌∙◌, ap, Some, List, ℕ}
 use Rattle.lasso_shared.specs.Notes.{texts_in}
 use Rattle.lasso_shared.proofs.Lengths.{only_grows}
 use Rattle.lasso_shared.proofs.Reading.{get_is}

@@ -1,4 +1,4 @@
-use Rattle.std.proofs.Common.{◌≡◌, ap, ◌∙◌, sym, refl, true, [], ◌∷◌, arith}
+use Rattle.std.proofs.Common.{ap, refl, true, [], ◌∷◌, arith}
 use Rattle.lasso_shared.proofs.Reading.{opens}
 use Rattle.lasso_shared.proofs.log.words.Log.open.Goals as goal
 

@@ -1,4 +1,4 @@
-use Rattle.std.proofs.Common.{◌≡◌, ◌<◌, ◌≤◌, sym, ◌∙◌, ap, subst, length, arith}
+use Rattle.std.proofs.Common.{◌≡◌, ◌<◌, ◌≤◌, sym, ◌∙◌, ap, length, arith}
 use Rattle.lasso_shared.specs.Notes.{texts_in}
 use Rattle.lasso_shared.specs.Sights.{list_of}
 use Rattle.lasso_shared.proofs.Lined.{prefix_short}

@@ -1,11 +1,11 @@
 use Rattle.std.proofs.Common.{◌≡◌, ◌+◌, ◌<◌, ◌++◌, ◌∷◌, sym, ◌∙◌, ap, subst, ℕ, [], List, length, refl, arith}
 use Rattle.lasso_parts.specs.Texts.{Text}
-use Rattle.lasso_shared.specs.History.{Event, Append, Totals, MayFollow}
-use Rattle.lasso_shared.specs.Notes.{Note, notes_of, opening_of, state}
+use Rattle.lasso_shared.specs.History.{Append, Totals, MayFollow}
+use Rattle.lasso_shared.specs.Notes.{notes_of, opening_of, state}
 use Rattle.lasso_shared.specs.Book.{IsDone, Reads, word_of}
 use Rattle.lasso_shared.specs.Sights.{list_of}
 use Rattle.lasso_shared.proofs.Lengths.{length_of, may_append, moving_append}
-use Rattle.lasso_shared.proofs.Reading.{length_read, list_after, length_after_append}
+use Rattle.lasso_shared.proofs.Reading.{list_after, length_after_append}
 use Rattle.lasso_shared.proofs.log.words.Log.try_append.Goals as goal
 
 pub exchange-requires-clause-of : goal.exchange-requires-clause-of
