@@ -44,3 +44,12 @@ fn items_behind_a_refused_one_are_not_taken(rt: HostRuntime) -> Result<(), Fail>
     assert_eq!(rt; items.next(), Some("f"));
     Ok(())
 }
+
+#[test]
+fn texts_of_a_lent_array(rt: HostRuntime) -> Result<(), Fail> {
+    let mut rodeo = interner::<Spur>(rt.alloc(), 4, 4)?;
+    let texts = ["ab", "c", "ab"];
+    rodeo.extend(texts.iter().copied())?;
+    assert_eq!(rt; rodeo.len(), 2);
+    Ok(())
+}
