@@ -75,27 +75,37 @@ fn round<R: AllocGlobal + Clock>(rt: &R, sample: &Sample) -> Result<FrozenTiming
     let mut pool = RodeoPool::new(rt.alloc())?;
     intern_all(&mut pool, &sample.texts)?;
     let keys = keys_of(rt, &pool, &sample.again)?;
+    let wanted = sum_of_last_bytes(&sample.again);
     let start = Instant::now(rt)?;
     let reader = pool.into_rodeo().into_reader();
     let into_reader = start.elapsed(rt)?;
-    let start = Instant::now(rt)?;
-    let from_reader = resolve_all(&reader, &keys);
-    let reader_resolve = start.elapsed(rt)?;
+    let reader_resolve = best_resolve(rt, &reader, &keys, wanted)?;
     let start = Instant::now(rt)?;
     let resolver = reader.into_resolver();
     let into_resolver = start.elapsed(rt)?;
-    let start = Instant::now(rt)?;
-    let from_resolver = resolve_all(&resolver, &keys);
-    let resolver_resolve = start.elapsed(rt)?;
-    let wanted = sum_of_last_bytes(&sample.again);
-    ensure!(
-        from_reader == wanted && from_resolver == wanted,
-        "a text is wrong"
-    );
+    let resolver_resolve = best_resolve(rt, &resolver, &keys, wanted)?;
     Ok(FrozenTimings {
         into_reader: tenths_a_call(into_reader, 1),
-        reader_resolve: tenths_a_call(reader_resolve, keys.len()),
+        reader_resolve,
         into_resolver: tenths_a_call(into_resolver, 1),
-        resolver_resolve: tenths_a_call(resolver_resolve, keys.len()),
+        resolver_resolve,
     })
+}
+
+// The least that a call took in several passes over the keys, whose texts end with bytes of this sum.
+fn best_resolve<T: KeyedTexts, R: Clock>(
+    rt: &R,
+    texts: &T,
+    keys: &[T::Key],
+    wanted: usize,
+) -> Result<u64> {
+    let mut best = u64::MAX;
+    for _ in 0..ROUNDS {
+        let start = Instant::now(rt)?;
+        let sum = resolve_all(texts, keys);
+        let elapsed = start.elapsed(rt)?;
+        ensure!(sum == wanted, "a text is wrong");
+        best = best.min(tenths_a_call(elapsed, keys.len()));
+    }
+    Ok(best)
 }
