@@ -24,7 +24,6 @@ pub use lasso_parts::keys::{Key, LargeSpur, MicroSpur, MiniSpur, Spur};
 pub use lasso_parts::laws::{
     store_never_grows_past_limit, store_refuses_exactly_past_limit, store_serves_as_worked,
 };
-pub use lasso_parts::slots::lasting::Lasting;
 pub use lasso_parts::slots::{Slot, text_of};
 pub use lasso_parts::util::{
     Capacity, FixedState, LassoError, LassoErrorKind, LassoResult, MemoryLimits,

@@ -1,10 +1,10 @@
--- The parts of a bucket may cross threads, and so may a loan that never ends.
+-- The parts of a bucket may cross threads, and so may an entry's loan.
 --
 -- What names no thread may go to another: that is what has to be shown of all that a value owns, or, where it
 -- is to be shared, of all that a `&` to it holds. The places of a block own their bytes and the room between
 -- them, and lend a `&` to each byte, and bytes go anywhere. A deed owns the allocator's token, which goes where
--- the allocator goes, and a `&` to it holds nothing. A loan is a `&` to each of its bytes, and a `&` to the loan
--- is that too.
+-- the allocator goes, and a `&` to it holds nothing. A loan is nothing, or a `&` to each byte of a text, and a
+-- `&` to the loan is that too.
 use Rattle.std.proofs.Common.{ℕ, Bool, true, false, List, [], ◌∷◌}
 use base.Shift.{Keyless}
 use mir.Syntax.{Ty, w8, ty_int}
@@ -19,11 +19,12 @@ use Rattle.core.specs.declared.alloc.Allocator.{Ghosts}
 use Rattle.core.specs.contracts.slots.Slots as row
 use Rattle.std_alloc.proofs.SendSync.{FreesAnywhere, quiet, lies, seen}
 use Rattle.lasso_parts.specs.Cells.{bytes_type}
-use Rattle.lasso_parts.specs.Lasting.{lent_for_ever}
+use Rattle.lasso_parts.specs.Loans.{lent_for_ever}
+use Rattle.lasso_parts.specs.Slots.{Source, Copied, Static}
 use Rattle.lasso_parts.specs.contracts.bucket.cells.Cells as cells
 use Rattle.lasso_parts.specs.contracts.bucket.cells.Cells.TheInside as fields
 use Rattle.lasso_parts.specs.contracts.bucket.cells.Deed as deed
-use Rattle.lasso_parts.specs.contracts.slots.lasting.Loan as loan
+use Rattle.lasso_parts.specs.contracts.slots.loan.Loan as loan
 
 byte_send : IsSend u8
 byte_send = search sendable
@@ -85,11 +86,12 @@ module _ (A : RattleType) (heap : Ghosts A.Denot) where
   pub deed_sync : IsSync (deed.the_row A heap)
   deed_sync = let O = deed.the_type A heap in record { shared = λ d b o κ. ((struct_sync (owning.shape O) (search sendable, tt)).shared (owning.to O d) b o κ, tt) }
 
-lent_keyless : (p : Ptr) (bytes : List ℕ) → Keyless (lent_for_ever p bytes)
-lent_keyless p bytes = ((array_sync u8 0 byte_sync).shared bytes (block_of p) (count_of p) []).1
+lent_keyless : (source : Source) (p : Ptr) → Keyless (lent_for_ever source p)
+lent_keyless (Copied span) p = tt
+lent_keyless (Static text) p = ((array_sync u8 0 byte_sync).shared text (block_of p) (count_of p) []).1
 
 pub loan_send : IsSend loan.the_row
-loan_send = owning_send loan.the_type tt (λ d. lent_keyless d.at d.bytes) (λ k x w. tt)
+loan_send = owning_send loan.the_type tt (λ d. lent_keyless d.entry.source d.entry.at) (λ k x w. tt)
 
 pub loan_sync : IsSync loan.the_row
-loan_sync = let O = loan.the_type in record { shared = λ d b o κ. ((struct_sync (owning.shape O) tt).shared (owning.to O d) b o κ, lent_keyless d.at d.bytes) }
+loan_sync = let O = loan.the_type in record { shared = λ d b o κ. ((struct_sync (owning.shape O) tt).shared (owning.to O d) b o κ, lent_keyless d.entry.source d.entry.at) }

@@ -8,6 +8,7 @@ pub mod Wasted
 pub mod Entries
 pub mod Walks
 mod PlacesLent
+pub mod TextsLent
 mod RowCalls
 mod EmptyStructs
 mod Crossing

@@ -1,7 +1,7 @@
 -- Lists of regions while texts are copied in, and while they are cleared.
 --
 -- Where one region gets more bytes, each region of the earlier list begins the one at its place in the
--- later list. A span that is stored lies within the bytes of its region, so the bytes that it names stay
+-- later list, and lies where that lies. A span that is stored lies within the bytes of its region, so the bytes that it names stay
 -- the same. A text in a region that was just opened is the same as a region more that holds the text.
 -- Neither bytes nor clearing change a region's place or capacity, so the list of blocks stays the same.
 use Rattle.std.proofs.Common.{◌≡◌, ℕ, zero, suc, ◌+◌, ◌-◌, ◌<◌, ◌≤◌, List, [], ◌∷◌, ◌++◌, length, get_or, set, take, drop, map, sym, ap, subst, refl, ◌∙◌, arith, inl, inr, append_assoc}
@@ -9,7 +9,7 @@ use Rattle.std.specs.Prelude.{slice_range, IsUtf8}
 use Rattle.std.proofs.lemmas.List.{take-append-le, drop-append-le, length-append, length-drop, get_or_at, get_or-set_same, get_or-set_other, length-set, set_at, append-nil, drop_more, take_more, length-map, length-take-le, map-append}
 use Rattle.std.proofs.lemmas.Bool.{cases_eq}
 use Rattle.std.proofs.lemmas.Grind.{common_steps}
-use denote.RawPtr.{Ptr}
+use denote.RawPtr.{Ptr, ◌+ₚ◌}
 use Rattle.lasso_parts.specs.Bucket.{Extent, Block, block_of}
 use Rattle.lasso_parts.specs.Arena.{no_region, region_at, emptied, with_bytes, copied_in, text_at, KeepsTexts}
 
@@ -32,6 +32,7 @@ range-append xs more i n fits =
 -- each region of the earlier list begins that of the later one
 record Grows (xs ys : List Extent) : Type 0 where
   count : length xs ≤ length ys
+  place : (k : ℕ) → k < length xs → (region_at ys k).at ≡ (region_at xs k).at
   more : (k : ℕ) → k < length xs → (m : List ℕ) × ((region_at ys k).bytes ≡ (region_at xs k).bytes ++ m)
 
 kept : (xs ys : List Extent) → Grows xs ys → KeepsTexts xs ys
@@ -41,13 +42,21 @@ kept xs ys grows span had =
     let same : text_at ys span ≡ text_at xs span = ap (λ (bs : List ℕ). slice_range bs span.start (span.start + span.len)) m.1 ∙ range-append (region_at xs span.region).bytes m.0 span.start span.len fits in
     let longer : length (region_at ys span.region).bytes ≡ length (region_at xs span.region).bytes + length m.0 = ap length m.1 ∙ length-append (region_at xs span.region).bytes m.0 in
     let inside : span.region < length ys = omega (arith, had.region, grows.count) in
-    (record { region = inside; bytes = omega (arith, fits, longer); text = subst IsUtf8 (sym same) had.text }, same)
+    record {
+      stored = record { region = inside; bytes = omega (arith, fits, longer); text = subst IsUtf8 (sym same) had.text };
+      text = same;
+      place = ap (λ (p : Ptr). p +ₚ span.start) (grows.place span.region had.region);
+    }
 
 Grows-set : (xs : List Extent) (at : ℕ) (t : List ℕ) → at < length xs → Grows xs (set xs at (with_bytes (region_at xs at) t))
 Grows-set xs at t inside =
     let new = with_bytes (region_at xs at) t in
     record {
       count = omega (arith, length-set xs at new);
+      place = λ k h. elim (cases_eq k at) [
+        | inl e ↦ ap (λ (b : Extent). b.at) (ap (λ (i : ℕ). region_at (set xs at new) i) e ∙ get_or-set_same xs at new no_region inside) ∙ ap (λ (i : ℕ). (region_at xs i).at) (sym e)
+        | inr ne ↦ ap (λ (b : Extent). b.at) (get_or-set_other xs at k new no_region ne)
+      ];
       more = λ k h. elim (cases_eq k at) [
         | inl e ↦ (t, ap (λ (b : Extent). b.bytes) (ap (λ (i : ℕ). region_at (set xs at new) i) e ∙ get_or-set_same xs at new no_region inside) ∙ ap (λ (i : ℕ). (region_at xs i).bytes ++ t) (sym e))
         | inr ne ↦ ([], ap (λ (b : Extent). b.bytes) (get_or-set_other xs at k new no_region ne) ∙ sym (append-nil (region_at xs k).bytes))
@@ -60,7 +69,7 @@ kept_set xs ys at t inside e = kept xs ys (subst (Grows xs) (sym e) (Grows-set x
 
 -- texts stay where nothing changes
 pub kept_same : (regions : List Extent) → KeepsTexts regions regions
-kept_same regions span had = (had, refl)
+kept_same regions span had = record { stored = had; text = refl; place = refl }
 
 -- a region that was just opened, and then a text in it
 pub set_last : (xs ys zs : List Extent) (p : Ptr) (t : List ℕ) (z at : ℕ) → at ≡ length xs → ys ≡ xs ++ opened p z ∷ []

@@ -1,7 +1,7 @@
 -- What an arena shows: the regions that it copies texts into, each a bucket of the account, and the texts
 -- that lie in them.
 use Rattle.std.specs.Prelude.{◌≡◌, ℕ, ◌+◌, ◌-◌, ◌<◌, ◌≤◌, List, [], ◌++◌, length, get_or, sum_by, slice_range, IsUtf8}
-use denote.RawPtr.{null_ptr}
+use denote.RawPtr.{Ptr, null_ptr, ◌+ₚ◌}
 use Rattle.lasso_parts.specs.Account.{Account}
 use Rattle.lasso_parts.specs.Bucket.{Extent}
 use Rattle.lasso_parts.specs.declared.arena.Span.{Span}
@@ -60,12 +60,22 @@ with_bytes r more = record r { bytes = r.bytes ++ more }
 abbrev pub text_at : List Extent → Span → List ℕ
 text_at regions span = slice_range (region_at regions span.region).bytes span.start (span.start + span.len)
 
+-- where the first of these bytes lies
+abbrev pub place_of : List Extent → Span → Ptr
+place_of regions span = (region_at regions span.region).at +ₚ span.start
+
 -- the regions have the text of this span
 pub record IsStored (regions : List Extent) (span : Span) : Type 0 where
   pub region : span.region < length regions
   pub bytes : span.start + span.len ≤ length (region_at regions span.region).bytes
   pub text : IsUtf8 (text_at regions span)
 
--- the later regions have each text that the earlier ones have, at the same span
+-- the later regions have the text of this span, and where it lay
+pub record Keeps (earlier later : List Extent) (span : Span) : Type 0 where
+  pub stored : IsStored later span
+  pub text : text_at later span ≡ text_at earlier span
+  pub place : place_of later span ≡ place_of earlier span
+
+-- the later regions have each text that the earlier ones have, at the same span and the same place
 abbrev pub KeepsTexts : List Extent → List Extent → Type 0
-KeepsTexts earlier later = (span : Span) → IsStored earlier span → IsStored later span × (text_at later span ≡ text_at earlier span)
+KeepsTexts earlier later = (span : Span) → IsStored earlier span → Keeps earlier later span

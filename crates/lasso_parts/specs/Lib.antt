@@ -14,9 +14,9 @@ pub mod Bucket
 pub mod Arena
 pub mod Places
 pub mod Waste
-pub mod Lasting
-pub mod Slots
 pub mod Cells
+pub mod Slots
+pub mod Loans
 pub mod Json
 pub mod JsonErrors
 pub mod JsonLaws

@@ -1,30 +1,61 @@
 -- The entries of a list of texts, and the texts that they stand for among the regions of an arena.
-use Rattle.std.specs.Prelude.{ℕ, ◌+◌, ◌*◌, ◌^◌, List, map, All}
+use Rattle.std.specs.Prelude.{◌≡◌, ℕ, ◌^◌, ◌<◌, List, length, map, All, IsUtf8}
+use denote.RawPtr.{Ptr}
 use Rattle.lasso_parts.specs.Texts.{Text}
 use Rattle.lasso_parts.specs.Bucket.{Extent}
-use Rattle.lasso_parts.specs.Arena.{text_at, IsStored}
+use Rattle.lasso_parts.specs.Cells.{LeadsToBlock}
+use Rattle.lasso_parts.specs.Arena.{text_at, place_of, IsStored}
 use Rattle.lasso_parts.specs.declared.arena.Span.{Span}
-use Rattle.lasso_parts.specs.declared.slots.Slot.{Slot}
-use Rattle.lasso_parts.specs.declared.slots.Slot.TheVariants.{Copied, Static}
 
--- the span of an entry, whose region's number stands in two parts
-abbrev pub span_at : ℕ → ℕ → ℕ → ℕ → Span
-span_at high low start len = record { region = high * 2 ^ 32 + low; start = start; len = len }
+-- whose memory the bytes of a text are
+pub data Source : Type 0 where
+  -- an arena's, which copied the text to this span
+  Copied : Span → Source
+  -- the program's: these bytes are never freed
+  Static : Text → Source
+
+-- an entry: where the first byte of its text lies, and whose memory that is
+pub record Entry : Type 0 where
+  pub at : Ptr
+  pub source : Source
+
+abbrev pub source_text : List Extent → Source → Text
+source_text regions (Copied span) = text_at regions span
+source_text regions (Static text) = text
+
+abbrev pub source_len : Source → ℕ
+source_len (Copied span) = span.len
+source_len (Static text) = length text
+
+-- a text that was copied is among the regions, and lies there
+abbrev pub LiesAt : List Extent → Ptr → Source → Type 0
+LiesAt regions at (Copied span) = IsStored regions span × (at ≡ place_of regions span)
+LiesAt regions at (Static text) = Unit {0}
+
+-- a text that lives as long as the program is one, and no longer than memory is
+abbrev pub IsWhole : Source → Type 0
+IsWhole (Copied span) = Unit {0}
+IsWhole (Static text) = (length text < 2 ^ 63) × IsUtf8 text
+
+-- the two words of an entry
+pub record IsKept (e : Entry) (at : Ptr) (len : ℕ) : Type 0 where
+  pub place : at ≡ e.at
+  pub block : LeadsToBlock e.at
+  pub count : len ≡ source_len e.source
+  pub whole : IsWhole e.source
 
 -- the text of an entry
-abbrev pub slot_text : List Extent → Slot → Text
-slot_text regions (Copied high low start len) = text_at regions (span_at high low start len)
-slot_text regions (Static text) = text
+abbrev pub slot_text : List Extent → Entry → Text
+slot_text regions e = source_text regions e.source
 
--- a text that was copied is among the regions
-abbrev pub IsThere : List Extent → Slot → Type 0
-IsThere regions (Copied high low start len) = IsStored regions (span_at high low start len)
-IsThere regions (Static text) = Unit {0}
+-- the text of an entry is there, whatever else the regions hold
+abbrev pub IsThere : List Extent → Entry → Type 0
+IsThere regions e = LiesAt regions e.at e.source
 
 -- so for each entry of a list
-abbrev pub AllThere : List Extent → List Slot → Type 0
+abbrev pub AllThere : List Extent → List Entry → Type 0
 AllThere regions slots = All (IsThere regions) slots
 
 -- the texts of a list of entries
-abbrev pub texts_of : List Extent → List Slot → List Text
+abbrev pub texts_of : List Extent → List Entry → List Text
 texts_of regions slots = map (slot_text regions) slots

@@ -53,14 +53,14 @@ pub struct Arena<A: Allocator> {
 }
 
 impl<A: Allocator> Model for Arena<A> {
-    ghost use Rattle.std.specs.Prelude.{◌≡◌, ◌<◌, ◌^◌, length};
+    ghost use Rattle.std.specs.Prelude.{◌≡◌, ◌<◌, length};
     ghost use Rattle.lasso_parts.specs.Arena.{Regions, usage_of};
 
     ghost Value = { Regions };
 
     ghost view = { λ a. record { all = a.regions; current = a.current; doubling = a.doubling; limit = a.limit } };
 
-    ghost invariant = { λ a. (a.current < length a.regions) × (a.current < 2 ^ 48) × (a.usage ≡ usage_of a.regions) };
+    ghost invariant = { λ a. (a.current < length a.regions) × (a.usage ≡ usage_of a.regions) };
 }
 
 impl<A: Allocator + Clone> Arena<A> {
@@ -193,15 +193,14 @@ impl<A: Allocator + Clone> Arena<A> {
     /// text of no bytes takes no memory. A text longer than twice the doubling size gets a region of just
     /// its bytes, which does not become the current one. A text that the limit refuses is refused before
     /// any memory is asked for; else it is refused for want of memory alone, and only where it needs a new
-    /// region (the region after 2 ^ 48 others counts as such). A refusal changes nothing: no region, no
-    /// byte of one, nor the current region, the doubling size or the limit.
+    /// region. A refusal changes nothing: no region, no byte of one, nor the current region, the doubling
+    /// size or the limit.
     pub fn store_str(&mut self, text: &str) -> LassoResult<Span>
         ensures account { IsOk result → store (account_of self.old) (length text.now) ≡ Some (account_of self.new) }
         ensures first { first_of self.new ≡ first_of self.old }
         ensures stored { IfOk result (λ span. IsStored self.new.all span × (text_at self.new.all span ≡ text.now)) }
         ensures kept { KeepsTexts self.old.all self.new.all }
         ensures copied { IsOk result → copied_of self.new ≡ copied_of self.old + length text.now }
-        ensures number { IfOk result (λ span. span.region < 2 ^ 48) }
         ensures limit { (result ≡ Err MemoryLimitReached) ↔ (store (account_of self.old) (length text.now) ≡ None) }
         ensures memory { IfErr result (λ error. (error ≡ MemoryLimitReached) ⊎ (error ≡ FailedAllocation) × ((account_of self.old).room < length text.now)) }
         ensures err { OnErr result (self.new ≡ self.old) }
@@ -247,7 +246,6 @@ impl<A: Allocator + Clone> Arena<A> {
         ensures span { IfOk result (λ span. span ≡ record { region = length self.old.all; start = 0; len = length text.now }) }
         ensures err { OnErr result (self.new ≡ self.old) }
         ensures refused { IfErr result (λ error. error ≡ FailedAllocation) }
-        ensures number { IfOk result (λ span. span.region < 2 ^ 48) }
         ensures added { IsOk result → (at : Ptr) × (self.new ≡ record self.old { all = self.old.all ++ record { at = at; bytes = text.now; capacity = size } ∷ [] }) }
     {
         let region = self.regions.as_slice().len();

@@ -1,62 +1,78 @@
 //! The entries of a list of texts.
-ghost use Rattle.std.specs.Prelude.{◌≡◌, ◌<◌, ◌^◌, List};
-ghost use Rattle.lasso_parts.specs.Bucket.{Extent};
-ghost use Rattle.lasso_parts.specs.Arena.{IsStored, text_at};
-ghost use Rattle.lasso_parts.specs.Slots.{slot_text, IsThere};
+ghost use Rattle.std.specs.Prelude.{◌≡◌};
+ghost use Rattle.lasso_parts.specs.Arena.{IsStored, place_of};
+ghost use Rattle.lasso_parts.specs.Slots.{slot_text, IsThere, Copied, Static};
 
-pub mod lasting;
+mod loan;
 
 use crate::arena::Span;
 use crate::bucket::region::Region;
-use lasting::Lasting;
+use loan::Loan;
+use std::marker::{Model, Send, Sync};
 use std::mem::size_of;
+use std::str::from_utf8_unchecked;
 
-/// An entry of a list of texts, of 24 bytes. The number of a copied text's region stands in two parts,
-/// which fit beside the tag: `high` counts 2 ^ 32.
+/// An entry of a list of texts, of 16 bytes: where its text lies and how many bytes it has. Contracts see
+/// the place, and whose memory that is: an arena's, which copied the text, or the program's, which keeps
+/// it for as long as it runs.
 #[derive(Drop)]
-pub enum Slot {
-    /// A text that an arena copied.
-    Copied {
-        high: u16,
-        low: u32,
-        start: usize,
-        len: usize,
-    },
-    /// A text that lives as long as the program.
-    Static(Lasting),
+pub struct Slot {
+    ptr: *const u8,
+    len: usize,
+    loan: Loan,
 }
 
+impl Model for Slot {
+    ghost use Rattle.lasso_parts.specs.Slots.{Entry, IsKept};
+
+    ghost Value = { Entry };
+
+    ghost view = { λ s. s.loan.entry };
+
+    ghost invariant = { λ s. IsKept s.loan.entry s.ptr s.len };
+}
+
+unsafe impl Send for Slot {}
+
+unsafe impl Sync for Slot {}
+
 // An entry is read at every probe of an index.
-const _: () = prove!(size_of::<Slot>() == 24);
+const _: () = prove!(size_of::<Slot>() == 16);
 
 impl Slot {
-    /// The entry of a text that an arena copied.
-    pub fn copied(span: Span) -> Self
-        requires { span.region < 2 ^ 48 }
-        ensures text { (regions : List Extent) → slot_text regions result ≡ text_at regions span }
-        ensures there { (regions : List Extent) → IsStored regions span → IsThere regions result }
+    /// The entry of a text that an arena copied to this span.
+    pub fn copied(regions: &[Region], span: Span) -> Self
+        requires { IsStored regions.now span }
+        ensures { result ≡ record { at = place_of regions.now span; source = Copied span } }
     {
-        Slot::Copied {
-            high: (span.region / 0x1_0000_0000) as u16,
-            low: (span.region % 0x1_0000_0000) as u32,
-            start: span.start,
+        let ptr = regions[span.region].place(span.start);
+        let loan = Loan::among_regions(ptr, span.region, span.start, span.len);
+        Slot {
+            ptr,
             len: span.len,
+            loan,
+        }
+    }
+
+    /// The entry of a text that lives as long as the program. It is kept where it lies.
+    pub fn lasting(text: &'static str) -> Self
+        ensures { result.source ≡ Static text.now }
+    {
+        let bytes = text.as_bytes();
+        let (ptr, loan) = Loan::for_ever(bytes);
+        Slot {
+            ptr,
+            len: bytes.len(),
+            loan,
         }
     }
 }
 
-/// The text of an entry, lent by the regions.
+/// The text of an entry, lent by the regions. Nothing is copied, and nothing tested.
+#[inline]
 pub fn text_of<'a>(regions: &'a [Region], slot: &'a Slot) -> &'a str
     requires { IsThere regions.now slot.now }
     ensures { result.now ≡ slot_text regions.now slot.now }
 {
-    match slot {
-        Slot::Copied {
-            high,
-            low,
-            start,
-            len,
-        } => regions[*high as usize * 0x1_0000_0000 + *low as usize].text(*start, *len),
-        Slot::Static(text) => text.text(),
-    }
+    unsafe { from_utf8_unchecked(slot.loan.read(regions, slot.ptr, slot.len)) }
 }

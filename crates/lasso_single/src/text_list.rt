@@ -13,7 +13,6 @@ use lasso_parts::arena::Arena;
 use lasso_parts::index::Texts;
 use lasso_parts::iter::{Iter, Strings};
 use lasso_parts::keys::Key;
-use lasso_parts::slots::lasting::Lasting;
 use lasso_parts::slots::{Slot, text_of};
 use lasso_parts::util::{Capacity, LassoResult, MemoryLimits};
 use std::alloc::Allocator;
@@ -105,7 +104,8 @@ impl<A: Allocator + Clone> TextList<A> {
     {
         self.slots.reserve(1)?;
         let span = self.arena.store_str(text)?;
-        self.slots.push_reserved(Slot::copied(span));
+        self.slots
+            .push_reserved(Slot::copied(self.arena.regions(), span));
         Ok(())
     }
 }
@@ -215,7 +215,7 @@ impl<A: Allocator> TextList<A> {
         ensures same_texts { OnErr result (self.new.texts ≡ self.old.texts) }
     {
         self.slots.reserve(1)?;
-        self.slots.push_reserved(Slot::Static(Lasting::new(text)));
+        self.slots.push_reserved(Slot::lasting(text));
         Ok(())
     }
 

@@ -1,17 +1,13 @@
 //! Regions in the order in which they were opened, each beside the right to free it.
-ghost use Rattle.std.specs.Prelude.{◌≡◌, ◌+◌, ◌<◌, ◌≤◌, ◌^◌, ◌++◌, [], ◌∷◌, length, map, slice_set, IfOk, IfErr, IsOk, OnErr};
+ghost use Rattle.std.specs.Prelude.{◌≡◌, ◌+◌, ◌<◌, ◌≤◌, ◌++◌, [], ◌∷◌, length, map, slice_set, IfOk, IfErr, IsOk, OnErr};
 ghost use denote.RawPtr.{Ptr};
 ghost use Rattle.lasso_parts.specs.Arena.{region_at, with_bytes, emptied};
 ghost use Rattle.lasso_parts.specs.declared.util.LassoErrorKind.TheVariants.{FailedAllocation};
 
 use crate::bucket::region::{Region, Right, close, open};
-use crate::util::{LassoError, LassoErrorKind, LassoResult};
+use crate::util::LassoResult;
 use std::alloc::Allocator;
 use std::marker::Model;
-
-// How many regions there may be at most, so that the number of each fits into 6 bytes. A list of so many
-// takes more than 2 ^ 52 bytes, which is past what processors address, so it refuses nothing that memory allows.
-const MOST_REGIONS: usize = 0x1_0000_0000_0000;
 
 /// A list of regions, and beside it the list of the rights to free them. Contracts see the regions.
 pub(crate) struct OwnedRegions<A: Allocator> {
@@ -20,14 +16,14 @@ pub(crate) struct OwnedRegions<A: Allocator> {
 }
 
 impl<A: Allocator> Model for OwnedRegions<A> {
-    ghost use Rattle.std.specs.Prelude.{◌≡◌, ◌≤◌, ◌^◌, List, map, length};
+    ghost use Rattle.std.specs.Prelude.{◌≡◌, List, map};
     ghost use Rattle.lasso_parts.specs.Bucket.{Extent, block_of};
 
     ghost Value = { List Extent };
 
     ghost view = { λ o. o.regions.items };
 
-    ghost invariant = { λ o. (o.rights.items ≡ map block_of o.regions.items) × (length o.regions.items ≤ 2 ^ 48) };
+    ghost invariant = { λ o. o.rights.items ≡ map block_of o.regions.items };
 }
 
 impl<A: Allocator> Drop for OwnedRegions<A> {
@@ -91,11 +87,7 @@ impl<A: Allocator + Clone> OwnedRegions<A> {
         ensures added { IsOk result → (at : Ptr) × (self.new ≡ self.old ++ record { at = at; bytes = []; capacity = capacity } ∷ []) }
         ensures err { OnErr result (self.new ≡ self.old) }
         ensures refused { IfErr result (λ error. error ≡ FailedAllocation) }
-        ensures number { IsOk result → length self.old < 2 ^ 48 }
     {
-        if self.regions.len() == MOST_REGIONS {
-            return Err(LassoError::new(LassoErrorKind::FailedAllocation));
-        }
         self.regions.reserve(1)?;
         self.rights.reserve(1)?;
         let (region, right) = open(self.regions.allocator().clone()?, capacity)?;

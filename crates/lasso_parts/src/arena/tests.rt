@@ -46,8 +46,9 @@ fn run_row(rt: &impl Abort, arena: &mut Arena<Global>, row: &[(Call, usize)]) {
 fn store(rt: &impl Abort, arena: &mut Arena<Global>, text: &str) -> Option<LassoErrorKind> {
     match arena.store_str(text) {
         Ok(span) => {
+            let regions = arena.regions();
             assert!(rt; arena.text(span) == text);
-            assert!(rt; text_of(arena.regions(), &Slot::copied(span)) == text);
+            assert!(rt; text_of(regions, &Slot::copied(regions, span)) == text);
             None
         }
         Err(error) => Some(error.kind()),

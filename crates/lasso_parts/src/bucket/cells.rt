@@ -1,8 +1,8 @@
 //! The places of a block of bytes: how they are had of an allocator, read, written and given back.
-//! No other file of the crate but `slots/lasting.rt` has a pointer.
+//! No other file of the crate but `region.rt` and those of entries, `slots.rt` and `slots/loan.rt`, has a pointer.
 ghost use Rattle.std.specs.Prelude.{◌≡◌, ℕ, ◌+◌, ◌^◌, ◌<◌, ◌≤◌, ◌++◌, length, take, drop, slice_range, IfOk};
 ghost use base.Fml.{ftrue};
-ghost use denote.RawPtr.{Ptr};
+ghost use denote.RawPtr.{Ptr, ◌+ₚ◌};
 ghost use Rattle.core.specs.Mem.Slots.{slots_items, slots_ptr, slots_len, SamePlaces};
 ghost use Rattle.lasso_parts.specs.Cells.{LeadsToBlock, deed_owns, Holds, SameBefore};
 
@@ -106,6 +106,14 @@ impl Cells {
         ensures places { SamePlaces self.old self.new }
     {
         self.slots.copy_in(start, bytes);
+    }
+
+    /// Where the place at `start` lies.
+    #[inline]
+    pub(crate) fn place(&self, start: usize) -> *const u8
+        ensures { (result ≡ slots_ptr self.now +ₚ start) × LeadsToBlock result }
+    {
+        unsafe { self.ptr.add(start) }
     }
 
     /// The `len` bytes from `start` on, where they lie.

@@ -1,7 +1,9 @@
 //! One region of memory, which fills with bytes from its start, and apart from it the right to free it.
 ghost use Rattle.std.specs.Prelude.{◌≡◌, ◌+◌, ◌<◌, ◌≤◌, ◌++◌, [], length, slice_range, IfOk, IfErr, IsUtf8};
 ghost use Rattle.lasso_parts.specs.declared.util.LassoErrorKind.TheVariants.{FailedAllocation};
+ghost use denote.RawPtr.{◌+ₚ◌};
 ghost use Rattle.lasso_parts.specs.Bucket.{block_of};
+ghost use Rattle.lasso_parts.specs.Cells.{LeadsToBlock};
 
 use super::cells::{Cells, Deed, allocate, deallocate};
 use crate::util::{LassoError, LassoErrorKind, LassoResult};
@@ -104,6 +106,14 @@ impl Region {
         self.cells.write(start, bytes);
         self.used = start + bytes.len();
         start
+    }
+
+    /// Where the byte at `start` lies, or will lie.
+    #[inline]
+    pub(crate) fn place(&self, start: usize) -> *const u8
+        ensures { (result ≡ self.now.at +ₚ start) × LeadsToBlock result }
+    {
+        self.cells.place(start)
     }
 
     /// The text in the `len` bytes from `start` on. Nothing is copied, and nothing tested.

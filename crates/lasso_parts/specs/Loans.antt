@@ -1,0 +1,16 @@
+-- What an entry owns of its text's bytes, beside the regions of an arena.
+use Rattle.std.specs.Prelude.{[]}
+use base.Fml.{Lft, Fml, ftrue}
+use denote.Builtin.{u8}
+use denote.RawPtr.{Ptr, block_of, count_of}
+use denote.Slice.{elements_shared}
+use Rattle.lasso_parts.specs.Slots.{Source, Copied, Static}
+
+-- nothing of a text that an arena copied; of another a `&` to each of its bytes, of which the first lies at p
+abbrev pub lent : Source → Ptr → Lft → Fml
+lent (Copied span) p κ = ftrue
+lent (Static text) p κ = elements_shared u8 text (block_of p) (count_of p) κ
+
+-- the same for the lifetime that never ends
+abbrev pub lent_for_ever : Source → Ptr → Fml
+lent_for_ever source p = lent source p []
