@@ -104,8 +104,8 @@ impl<A: Allocator + Clone> TextList<A> {
     {
         self.slots.reserve(1)?;
         let span = self.arena.store_str(text)?;
-        self.slots
-            .push_reserved(Slot::copied(self.arena.regions(), span));
+        let slot = Slot::copied(self.arena.regions(), span);
+        self.slots.push_reserved(slot);
         Ok(())
     }
 }
