@@ -1,6 +1,9 @@
 //! How long it takes threads to read texts of one list at once, behind a lock and in a plain list, over the same texts
 //! and at the same positions as `lasso_bench` reads them from the log of a shared interner. Prints the nanoseconds
 //! that a call takes each thread.
+mod positions;
+
+use positions::random_positions;
 use std::hint::black_box;
 use std::sync::RwLock;
 use std::thread;
@@ -101,13 +104,7 @@ fn measure<T: SharedTexts>(name: &str, call: &str, texts: &T, positions: &[u32])
 
 fn main() {
     let texts: Vec<&'static str> = (0..TEXTS).map(|n| &*format!("text {n}").leak()).collect();
-    let mut state = 0u64;
-    let positions: Vec<u32> = (0..CALLS)
-        .map(|_| {
-            state = state.wrapping_mul(6_364_136_223_846_793_005).wrapping_add(1_442_695_040_888_963_407);
-            (state >> 33) as u32 % TEXTS as u32
-        })
-        .collect();
+    let positions = random_positions(TEXTS as u32, CALLS as u32);
     measure("RwLock<Vec<&str>>", "index", &RwLock::new(texts.clone()), &positions);
     measure("Vec<&str>", "index", &texts, &positions);
 }

@@ -1,34 +1,87 @@
 //! Frozen interners: how long it takes to freeze one, and to read a key's text from it.
-use crate::pools::{KeyedTexts, RodeoPool, TextPool};
-use crate::texts::Sample;
-use crate::timing::{ROUNDS, intern_all, keys_of, resolve_all, sum_of_last_bytes, tenths_a_call};
+ghost use Rattle.std.specs.Prelude.{◌≡◌, ◌<◌, ◌↔◌, ℕ, All, IfOk, IsTrue, List, Some, length, slice_get};
+
+use crate::pools::{RodeoPool, TextPool};
+use crate::positions::random_positions;
+use crate::texts::text_of;
+use crate::timing::{ROUNDS, intern_all, last_byte, tenths_a_call};
 use anyhow::{Result, ensure};
 use lasso::{FixedState, Key, RodeoReader, RodeoResolver, Spur};
-use std::alloc::Global;
+use std::alloc::{AllocError, Global};
 use std::rt::Clock;
 use std::time::Instant;
 
-impl KeyedTexts for RodeoReader<Spur, FixedState, Global> {
-    type Key = Spur;
+/// Texts that do not change any more, and that are read by keys which stand for one of them.
+pub trait FrozenTexts: Drop {
+    // the texts in the order of their keys
+    ghost texts: { Self → List (List ℕ) };
 
+    /// Whether the key stands for a text.
+    fn contains_key(&self, key: Spur) -> bool
+        ensures { IsTrue result ↔ (⟦<Spur as Key>⟧.number key < length (texts self.now)) };
+
+    /// The key's text. The key must stand for one.
+    fn resolve(&self, key: Spur) -> &str
+        requires { ⟦<Spur as Key>⟧.number key < length (texts self.now) }
+        ensures { slice_get (texts self.now) (⟦<Spur as Key>⟧.number key) ≡ Some result.now };
+}
+
+impl FrozenTexts for RodeoReader<Spur, FixedState, Global> {
     ghost texts = { λ reader. reader };
 
-    ghost number = { ⟦<Spur as Key>⟧.number };
+    fn contains_key(&self, key: Spur) -> bool {
+        self.contains_key(key)
+    }
 
-    fn resolve(&self, key: Spur) -> Option<&str> {
-        self.try_resolve(key)
+    fn resolve(&self, key: Spur) -> &str {
+        self.resolve(key)
     }
 }
 
-impl KeyedTexts for RodeoResolver<Spur, Global> {
-    type Key = Spur;
-
+impl FrozenTexts for RodeoResolver<Spur, Global> {
     ghost texts = { λ resolver. resolver };
 
-    ghost number = { ⟦<Spur as Key>⟧.number };
+    fn contains_key(&self, key: Spur) -> bool {
+        self.contains_key(key)
+    }
 
-    fn resolve(&self, key: Spur) -> Option<&str> {
-        self.try_resolve(key)
+    fn resolve(&self, key: Spur) -> &str {
+        self.resolve(key)
+    }
+}
+
+/// Texts to freeze, and positions to read them at.
+#[derive(Drop)]
+pub struct FrozenSample {
+    /// Distinct texts, in the order in which they are interned.
+    texts: Vec<String>,
+    /// Positions of them in a random order.
+    positions: Vec<u32>,
+    /// The sum of the last bytes of the texts there.
+    last_bytes: usize,
+}
+
+impl FrozenSample {
+    /// So many texts, and as many positions. It is refused for want of memory alone.
+    pub fn new(alloc: Global, count: u32) -> Result<Self, AllocError>
+        requires { 0 < count }
+    {
+        let mut texts = Vec::new(alloc);
+        for number in 0..count {
+            texts.push(text_of(alloc, u64::from(number))?)?;
+        }
+        let positions = random_positions(alloc, count, count)?;
+        let mut last_bytes = 0usize;
+        for position in &positions {
+            if let Some(text) = texts.get(*position as usize) {
+                last_bytes = last_bytes.wrapping_add(last_byte(text.as_str()));
+            }
+        }
+        Ok(FrozenSample {
+            texts,
+            positions,
+            last_bytes,
+        })
     }
 }
 
@@ -61,7 +114,7 @@ impl FrozenTimings {
 /// memory, and where a text was wrong.
 pub fn best_frozen_timings<R: AllocGlobal + Clock>(
     rt: &R,
-    sample: &Sample,
+    sample: &FrozenSample,
 ) -> Result<FrozenTimings> {
     let mut best = round(rt, sample)?;
     for _ in 1..ROUNDS {
@@ -71,19 +124,17 @@ pub fn best_frozen_timings<R: AllocGlobal + Clock>(
 }
 
 // Times each operation once, over all texts.
-fn round<R: AllocGlobal + Clock>(rt: &R, sample: &Sample) -> Result<FrozenTimings> {
+fn round<R: AllocGlobal + Clock>(rt: &R, sample: &FrozenSample) -> Result<FrozenTimings> {
     let mut pool = RodeoPool::new(rt.alloc())?;
     intern_all(&mut pool, &sample.texts)?;
-    let keys = keys_of(rt, &pool, &sample.again)?;
-    let wanted = sum_of_last_bytes(&sample.again);
     let start = Instant::now(rt)?;
     let reader = pool.into_rodeo().into_reader();
     let into_reader = start.elapsed(rt)?;
-    let reader_resolve = best_resolve(rt, &reader, &keys, wanted)?;
+    let reader_resolve = best_resolve(rt, &reader, sample)?;
     let start = Instant::now(rt)?;
     let resolver = reader.into_resolver();
     let into_resolver = start.elapsed(rt)?;
-    let resolver_resolve = best_resolve(rt, &resolver, &keys, wanted)?;
+    let resolver_resolve = best_resolve(rt, &resolver, sample)?;
     Ok(FrozenTimings {
         into_reader: tenths_a_call(into_reader, 1),
         reader_resolve,
@@ -92,20 +143,51 @@ fn round<R: AllocGlobal + Clock>(rt: &R, sample: &Sample) -> Result<FrozenTiming
     })
 }
 
-// The least that a call took in several passes over the keys, whose texts end with bytes of this sum.
-fn best_resolve<T: KeyedTexts, R: Clock>(
+// The least that a call took in several passes over the sample's positions.
+fn best_resolve<T: FrozenTexts, R: AllocGlobal + Clock>(
     rt: &R,
     texts: &T,
-    keys: &[T::Key],
-    wanted: usize,
+    sample: &FrozenSample,
 ) -> Result<u64> {
+    let keys = keys_at(rt.alloc(), texts, &sample.positions)?;
+    ensure!(keys.len() == sample.positions.len(), "a key is missing");
     let mut best = u64::MAX;
     for _ in 0..ROUNDS {
         let start = Instant::now(rt)?;
-        let sum = resolve_all(texts, keys);
+        let sum = resolve_all(texts, &keys);
         let elapsed = start.elapsed(rt)?;
-        ensure!(sum == wanted, "a text is wrong");
+        ensure!(sum == sample.last_bytes, "a text is wrong");
         best = best.min(tenths_a_call(elapsed, keys.len()));
     }
     Ok(best)
+}
+
+/// The keys of the texts at these positions; a position with no text has none.
+pub fn keys_at<T: FrozenTexts>(
+    alloc: Global,
+    texts: &T,
+    positions: &[u32],
+) -> Result<Vec<Spur>, AllocError>
+    ensures { IfOk result (λ keys. All (λ key. ⟦<Spur as Key>⟧.number key < length (T.texts texts.now)) keys.items) }
+{
+    let mut keys = Vec::new(alloc);
+    for position in positions {
+        if let Some(key) = Spur::try_from_usize(*position as usize)
+            && texts.contains_key(key)
+        {
+            keys.push(key)?;
+        }
+    }
+    Ok(keys)
+}
+
+/// Resolves the keys, which all stand for texts, and answers the sum of their texts' last bytes.
+pub fn resolve_all<T: FrozenTexts>(texts: &T, keys: &[Spur]) -> usize
+    requires { All (λ key. ⟦<Spur as Key>⟧.number key < length (T.texts texts.now)) keys.now }
+{
+    let mut sum = 0usize;
+    for key in keys {
+        sum = sum.wrapping_add(last_byte(texts.resolve(*key)));
+    }
+    sum
 }

@@ -3,8 +3,11 @@
 //! `shared` those of a call of the lists that are shared, and without words nothing.
 #![tactic(auto)]
 
+ghost use Rattle.std.specs.Prelude.{◌<◌};
+
 mod frozen;
 mod pools;
+mod positions;
 mod shared;
 #[cfg(test)]
 mod tests;
@@ -13,7 +16,7 @@ mod threads;
 mod timing;
 
 use anyhow::{Result, bail};
-use frozen::best_frozen_timings;
+use frozen::{FrozenSample, best_frozen_timings};
 use pools::{MapPool, RodeoPool, SetPool};
 use shared::Shelf;
 use std::env;
@@ -51,15 +54,15 @@ fn print_table<R: AllocGlobal + Clock + Print>(rt: &R) -> Result<()> {
         best_timings::<MapPool, R>(rt, &sample)?,
     )?;
     print_timings(rt, "IndexSet", best_timings::<SetPool, R>(rt, &sample)?)?;
-    for count in [TEXTS, MANY_TEXTS] {
-        print_frozen(rt, count)?;
-    }
-    Ok(())
+    print_frozen(rt, TEXTS)?;
+    print_frozen(rt, MANY_TEXTS)
 }
 
 // Times frozen interners of so many texts, and prints a line for each operation.
-fn print_frozen<R: AllocGlobal + Clock + Print>(rt: &R, count: u32) -> Result<()> {
-    let sample = Sample::new(rt.alloc(), count)?;
+fn print_frozen<R: AllocGlobal + Clock + Print>(rt: &R, count: u32) -> Result<()>
+    requires { 0 < count }
+{
+    let sample = FrozenSample::new(rt.alloc(), count)?;
     let timings = best_frozen_timings(rt, &sample)?;
     println!(rt; "{count} texts")?;
     print_line(rt, "Rodeo", "into_reader", timings.into_reader)?;

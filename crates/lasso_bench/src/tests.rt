@@ -1,6 +1,7 @@
 //! One run of each pool over a few texts.
-use crate::frozen::best_frozen_timings;
+use crate::frozen::{FrozenSample, FrozenTexts, best_frozen_timings, keys_at, resolve_all};
 use crate::pools::{KeyedTexts, MapPool, RodeoPool, SetPool, TextPool};
+use crate::positions::random_positions;
 use crate::shared::{SharedTexts, Shelf};
 use crate::texts::{Sample, jumped};
 use crate::threads::{Walk, best_shared_timings};
@@ -14,8 +15,36 @@ fn pools_answer_right(rt: HostRuntime) -> Result<(), Fail> {
     assert!(rt; best_timings::<RodeoPool, _>(&rt, &sample).is_ok());
     assert!(rt; best_timings::<MapPool, _>(&rt, &sample).is_ok());
     assert!(rt; best_timings::<SetPool, _>(&rt, &sample).is_ok());
+    Ok(())
+}
+
+#[test]
+fn frozen_interners_answer_right(rt: HostRuntime) -> Result<(), Fail> {
+    let sample = FrozenSample::new(rt.alloc(), 1000)?;
     assert!(rt; best_frozen_timings(&rt, &sample).is_ok());
     Ok(())
+}
+
+fn few_frozen_texts<T: FrozenTexts>(
+    rt: &(impl AllocGlobal + Abort),
+    texts: &T,
+) -> Result<(), Fail> {
+    // no text stands at 2
+    let keys = keys_at(rt.alloc(), texts, &[1, 2, 0, 1])?;
+    assert_eq!(rt; keys.len(), 3);
+    // the bytes of b, a and b
+    assert_eq!(rt; resolve_all(texts, &keys), 98 + 97 + 98);
+    Ok(())
+}
+
+#[test]
+fn few_texts_in_each_frozen(rt: HostRuntime) -> Result<(), Fail> {
+    let mut pool = RodeoPool::new(rt.alloc())?;
+    pool.intern("a")?;
+    pool.intern("ab")?;
+    let reader = pool.into_rodeo().into_reader();
+    few_frozen_texts(&rt, &reader)?;
+    few_frozen_texts(&rt, &reader.into_resolver())
 }
 
 #[test]
@@ -59,5 +88,13 @@ fn few_texts_in_each(rt: HostRuntime) -> Result<(), Fail> {
 fn other_order(rt: HostRuntime) -> Result<(), Fail> {
     assert_eq!(rt; jumped(1, 100_000), 7919);
     assert_eq!(rt; jumped(13, 100_000), 2947);
+    Ok(())
+}
+
+// The first words that the generator gives are 167951807, 218396424, 1299921937, 861605236 and 823830125.
+#[test]
+fn random_order(rt: HostRuntime) -> Result<(), Fail> {
+    let positions = random_positions(rt.alloc(), 1000, 5)?;
+    assert_eq!(rt; positions.as_slice(), [807, 424, 937, 236, 125].as_slice());
     Ok(())
 }

@@ -1,6 +1,7 @@
 //! Threads that read the same texts at once, and how long a call takes each of them.
 ghost use Rattle.std.specs.Prelude.{◌<◌};
 
+use crate::positions::random_positions;
 use crate::shared::{SharedTexts, Shelf};
 use crate::timing::{ROUNDS, tenths_a_call};
 use anyhow::{Result, ensure};
@@ -18,7 +19,7 @@ pub const CALLS: u32 = 2_000_000;
 // The bytes of a text before its number.
 const BEFORE_NUMBER: usize = 5;
 
-/// Positions that follow no order, with what reading them has to answer.
+/// Positions in a random order, with what reading them has to answer.
 #[derive(Drop)]
 pub struct Walk {
     /// How many texts there are.
@@ -34,18 +35,12 @@ impl Walk {
     pub fn new(alloc: Global, count: u32, calls: u32) -> Result<Walk, AllocError>
         requires { 0 < count }
     {
-        let mut positions = Vec::new(alloc);
+        let positions = random_positions(alloc, count, calls)?;
         let mut lengths = 0usize;
-        let mut state = 0u64;
-        for _ in 0..calls {
-            state = state
-                .wrapping_mul(6_364_136_223_846_793_005)
-                .wrapping_add(1_442_695_040_888_963_407);
-            let position = (state >> 33) as u32 % count;
+        for position in &positions {
             lengths = lengths
                 .wrapping_add(BEFORE_NUMBER)
-                .wrapping_add(digits(position));
-            positions.push(position)?;
+                .wrapping_add(digits(*position));
         }
         Ok(Walk {
             count,

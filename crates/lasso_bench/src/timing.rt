@@ -123,8 +123,8 @@ fn count_missing<P: TextPool>(pool: &P, texts: &[String]) -> usize {
     missing
 }
 
-/// The keys of the texts that are there.
-pub fn keys_of<P: TextPool, R: AllocGlobal>(
+// The keys of the texts that are there.
+fn keys_of<P: TextPool, R: AllocGlobal>(
     rt: &R,
     pool: &P,
     texts: &[String],
@@ -138,8 +138,8 @@ pub fn keys_of<P: TextPool, R: AllocGlobal>(
     Ok(keys)
 }
 
-/// Resolves the keys, and answers the sum of their texts' last bytes.
-pub fn resolve_all<P: KeyedTexts>(texts: &P, keys: &[P::Key]) -> usize {
+// Resolves the keys, and answers the sum of their texts' last bytes.
+fn resolve_all<P: KeyedTexts>(texts: &P, keys: &[P::Key]) -> usize {
     let mut sum = 0usize;
     for key in keys {
         if let Some(text) = texts.resolve(*key) {
@@ -149,8 +149,8 @@ pub fn resolve_all<P: KeyedTexts>(texts: &P, keys: &[P::Key]) -> usize {
     sum
 }
 
-/// The sum of the texts' last bytes.
-pub fn sum_of_last_bytes(texts: &[String]) -> usize {
+// The sum of the texts' last bytes.
+fn sum_of_last_bytes(texts: &[String]) -> usize {
     let mut sum = 0usize;
     for text in texts {
         sum = sum.wrapping_add(last_byte(text.as_str()));
@@ -158,8 +158,8 @@ pub fn sum_of_last_bytes(texts: &[String]) -> usize {
     sum
 }
 
-// The text's last byte, or 0 where it has none.
-fn last_byte(text: &str) -> usize {
+/// The text's last byte, or 0 where it has none.
+pub fn last_byte(text: &str) -> usize {
     text.as_bytes().last().map_or(0, |byte| usize::from(*byte))
 }
 
