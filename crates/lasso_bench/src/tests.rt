@@ -91,7 +91,8 @@ fn other_order(rt: HostRuntime) -> Result<(), Fail> {
     Ok(())
 }
 
-// The first words that the generator gives are 167951807, 218396424, 1299921937, 861605236 and 823830125.
+// Reckoned apart: the upper 31 bits of the generator's first states are 167951807, 218396424, 1299921937,
+// 861605236 and 823830125.
 #[test]
 fn random_order(rt: HostRuntime) -> Result<(), Fail> {
     let positions = random_positions(rt.alloc(), 1000, 5)?;
