@@ -37,7 +37,7 @@ pub fn boxed_object_interns_as_one(
 }
 
 /// The same of a box of a `SpurRodeo`, which becomes an object here.
-pub fn boxed_rodeo_interns_as_one(rodeo: Box<SpurRodeo>, text: &str) -> LassoResult<bool>
+pub fn boxed_rodeo_object_interns_as_one(rodeo: Box<SpurRodeo>, text: &str) -> LassoResult<bool>
     ensures one { IfOk result IsTrue }
     ensures refused { IfErr result (λ error. (position_of rodeo.value.texts text.now ≡ None) × ((error ≡ KeySpaceExhaustion) ↔ (⟦<Spur as Key>⟧.key_at (length rodeo.value.texts) ≡ None))) }
 {

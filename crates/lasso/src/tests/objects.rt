@@ -1,7 +1,7 @@
 //! Interners and frozen forms whose type is not known where they are used.
 use super::*;
 use crate::interface::object_laws::{
-    boxed_object_interns_as_one, boxed_rodeo_interns_as_one, object_interns_as_one,
+    boxed_object_interns_as_one, boxed_rodeo_object_interns_as_one, object_interns_as_one,
 };
 use crate::interface::{SpurInterner, SpurReader, SpurResolver};
 use std::test::Fail;
@@ -73,7 +73,7 @@ fn one_text_through_a_box(rt: HostRuntime) -> Result<(), Fail> {
     takes_one_text(&rt, &mut *interner)?;
     assert!(rt; boxed_object_interns_as_one(interner, "Hello, world!")?);
     let rodeo = Box::new(rt.alloc(), hello(rt.alloc())?)?;
-    assert!(rt; boxed_rodeo_interns_as_one(rodeo, "Goodbye!")?);
+    assert!(rt; boxed_rodeo_object_interns_as_one(rodeo, "Goodbye!")?);
     Ok(())
 }
 

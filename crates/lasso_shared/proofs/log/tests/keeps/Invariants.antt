@@ -1,4 +1,3 @@
-use Rattle.std.proofs.Common.{◌≡◌}
 use Rattle.lasso_shared.specs.Sights.{IsSameSpine}
 use Rattle.lasso_shared.proofs.log.tests.keeps.Given as goal
 
