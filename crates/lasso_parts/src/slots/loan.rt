@@ -38,12 +38,7 @@ impl Loan {
     }
 
     // The right to read the bytes of a span, of which the first lies there.
-    pub(super) fn among_regions(
-        _ptr: *const u8,
-        _region: usize,
-        _start: usize,
-        _len: usize,
-    ) -> Loan
+    pub(super) fn among_regions(_ptr: *const u8, _region: usize, _start: usize, _len: usize) -> Loan
         ensures { result.entry ≡ record { at = _ptr; source = Copied (record { region = _region; start = _start; len = _len }) } }
     {
         Loan {}
