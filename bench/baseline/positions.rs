@@ -1,4 +1,4 @@
-//! Positions of texts in a random order.
+//! Random positions of texts, which may repeat.
 
 /// So many draws of a position below the count, the same as `lasso_bench` draws. Each is drawn by itself, so that a
 /// position may come more than once or not at all.

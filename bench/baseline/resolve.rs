@@ -1,5 +1,5 @@
-//! How long it takes to read a text of a plain list by its position, over the same texts and at the same positions in
-//! the same random order as `lasso_bench` reads them from frozen interners. Prints the nanoseconds of a read.
+//! How long it takes to read a text of a plain list by its position, over the same texts and at the same random
+//! positions as `lasso_bench` reads them from frozen interners. Prints the nanoseconds of a read.
 mod positions;
 
 use positions::random_positions;

@@ -55,7 +55,7 @@ impl FrozenTexts for RodeoResolver<Spur, Global> {
 pub struct FrozenSample {
     /// Distinct texts, in the order in which they are interned.
     texts: Vec<String>,
-    /// Positions of them in a random order.
+    /// Random positions of them, which may repeat.
     positions: Vec<u32>,
     /// The sum of the last bytes of the texts there.
     last_bytes: usize,
@@ -123,7 +123,7 @@ pub fn best_frozen_timings<R: AllocGlobal + Clock>(
     Ok(best)
 }
 
-// Times each operation once, over all texts.
+// Times each freezing once, and resolving in several passes.
 fn round<R: AllocGlobal + Clock>(rt: &R, sample: &FrozenSample) -> Result<FrozenTimings> {
     let mut pool = RodeoPool::new(rt.alloc())?;
     intern_all(&mut pool, &sample.texts)?;

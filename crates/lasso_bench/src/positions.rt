@@ -1,4 +1,4 @@
-//! Positions of texts in a random order.
+//! Random positions of texts, which may repeat.
 ghost use Rattle.std.specs.Prelude.{◌≡◌, ◌<◌, All, IfOk, vec_len};
 
 use std::alloc::{AllocError, Global};

@@ -19,7 +19,7 @@ pub const CALLS: u32 = 2_000_000;
 // The bytes of a text before its number.
 const BEFORE_NUMBER: usize = 5;
 
-/// Positions in a random order, with what reading them has to answer.
+/// Random positions, which may repeat, with what reading them has to answer.
 #[derive(Drop)]
 pub struct Walk {
     /// How many texts there are.

@@ -1,8 +1,8 @@
 -- Lists of regions while texts are copied in, and while they are cleared.
 --
 -- Where one region gets more bytes, each region of the earlier list begins the one at its place in the
--- later list, and lies where that lies. A span that is stored lies within the bytes of its region, so the bytes that it names stay
--- the same. A text in a region that was just opened is the same as a region more that holds the text.
+-- later list, and both lie at the same place. A span that is stored lies within the bytes of its region, so the
+-- bytes that it names stay the same. A text in a region that was just opened is the same as a region more that holds the text.
 -- Neither bytes nor clearing change a region's place or capacity, so the list of blocks stays the same.
 use Rattle.std.proofs.Common.{◌≡◌, ℕ, zero, suc, ◌+◌, ◌-◌, ◌<◌, ◌≤◌, List, [], ◌∷◌, ◌++◌, length, get_or, set, take, drop, map, sym, ap, subst, refl, ◌∙◌, arith, inl, inr, append_assoc}
 use Rattle.std.specs.Prelude.{slice_range, IsUtf8}

@@ -70,7 +70,7 @@ pub record IsStored (regions : List Extent) (span : Span) : Type 0 where
   pub bytes : span.start + span.len ≤ length (region_at regions span.region).bytes
   pub text : IsUtf8 (text_at regions span)
 
--- the later regions have the text of this span, and where it lay
+-- the later regions have this span's text, the same and at the same place
 pub record Keeps (earlier later : List Extent) (span : Span) : Type 0 where
   pub stored : IsStored later span
   pub text : text_at later span ≡ text_at earlier span

@@ -1,4 +1,4 @@
--- What an entry owns of its text's bytes, beside the regions of an arena.
+-- What an entry's loan owns: nothing of a text that an arena copied, since the regions own its bytes.
 use Rattle.std.specs.Prelude.{[]}
 use base.Fml.{Lft, Fml, ftrue}
 use denote.Builtin.{u8}
@@ -6,7 +6,8 @@ use denote.RawPtr.{Ptr, block_of, count_of}
 use denote.Slice.{elements_shared}
 use Rattle.lasso_parts.specs.Slots.{Source, Copied, Static}
 
--- nothing of a text that an arena copied; of another a `&` to each of its bytes, of which the first lies at p
+-- nothing of a text that an arena copied; of another a `&` to each of its bytes, of which the first lies at p, at
+-- the lifetime κ
 abbrev pub lent : Source → Ptr → Lft → Fml
 lent (Copied span) p κ = ftrue
 lent (Static text) p κ = elements_shared u8 text (block_of p) (count_of p) κ

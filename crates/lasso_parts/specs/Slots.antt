@@ -27,17 +27,17 @@ abbrev pub source_len : Source → ℕ
 source_len (Copied span) = span.len
 source_len (Static text) = length text
 
--- a text that was copied is among the regions, and lies there
+-- a text that was copied is stored among these regions, at this place
 abbrev pub LiesAt : List Extent → Ptr → Source → Type 0
 LiesAt regions at (Copied span) = IsStored regions span × (at ≡ place_of regions span)
 LiesAt regions at (Static text) = Unit {0}
 
--- a text that lives as long as the program is one, and no longer than memory is
+-- the bytes of a static text are UTF-8, and fewer than 2 ^ 63
 abbrev pub IsWhole : Source → Type 0
 IsWhole (Copied span) = Unit {0}
 IsWhole (Static text) = (length text < 2 ^ 63) × IsUtf8 text
 
--- the two words of an entry
+-- these are the two words of an entry: where its text lies, which is not null, and how many bytes it has
 pub record IsKept (e : Entry) (at : Ptr) (len : ℕ) : Type 0 where
   pub place : at ≡ e.at
   pub block : LeadsToBlock e.at
@@ -48,7 +48,7 @@ pub record IsKept (e : Entry) (at : Ptr) (len : ℕ) : Type 0 where
 abbrev pub slot_text : List Extent → Entry → Text
 slot_text regions e = source_text regions e.source
 
--- the text of an entry is there, whatever else the regions hold
+-- a copied text is stored among these regions, at the entry's place; a static text is always there
 abbrev pub IsThere : List Extent → Entry → Type 0
 IsThere regions e = LiesAt regions e.at e.source
 

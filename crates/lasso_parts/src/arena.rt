@@ -148,7 +148,8 @@ impl<A: Allocator> Arena<A> {
         self.limit = limit;
     }
 
-    /// Forgets every text, and keeps the memory. What was handed out before names no text any more.
+    /// Forgets every text, and keeps the memory. A span or an entry from before names only what is stored
+    /// there since, or no bytes.
     #[tactic(auto, using(crate::proofs::Regions::copied_emptied))]
     pub fn clear(&mut self)
         ensures emptied { self.new ≡ record self.old { all = map emptied self.old.all } }

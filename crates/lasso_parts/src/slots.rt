@@ -1,6 +1,7 @@
 //! The entries of a list of texts.
-ghost use Rattle.std.specs.Prelude.{◌≡◌};
-ghost use Rattle.lasso_parts.specs.Arena.{IsStored, place_of};
+ghost use Rattle.std.specs.Prelude.{◌≡◌, List};
+ghost use Rattle.lasso_parts.specs.Arena.{IsStored, place_of, text_at};
+ghost use Rattle.lasso_parts.specs.Bucket.{Extent};
 ghost use Rattle.lasso_parts.specs.Slots.{slot_text, IsThere, Copied, Static};
 
 mod loan;
@@ -13,8 +14,8 @@ use std::mem::size_of;
 use std::str::from_utf8_unchecked;
 
 /// An entry of a list of texts, of 16 bytes: where its text lies and how many bytes it has. Contracts see
-/// the place, and whose memory that is: an arena's, which copied the text, or the program's, which keeps
-/// it for as long as it runs.
+/// the place and the source: the span that an arena copied the text to, or the text that the program keeps
+/// for as long as it runs.
 #[derive(Drop)]
 pub struct Slot {
     ptr: *const u8,
@@ -43,7 +44,9 @@ impl Slot {
     /// The entry of a text that an arena copied to this span.
     pub fn copied(regions: &[Region], span: Span) -> Self
         requires { IsStored regions.now span }
-        ensures { result ≡ record { at = place_of regions.now span; source = Copied span } }
+        ensures entry { result ≡ record { at = place_of regions.now span; source = Copied span } }
+        ensures text { slot_text regions.now result ≡ text_at regions.now span }
+        ensures there { IsThere regions.now result }
     {
         let ptr = regions[span.region].place(span.start);
         let loan = Loan::among_regions(ptr, span.region, span.start, span.len);
@@ -56,7 +59,9 @@ impl Slot {
 
     /// The entry of a text that lives as long as the program. It is kept where it lies.
     pub fn lasting(text: &'static str) -> Self
-        ensures { result.source ≡ Static text.now }
+        ensures source { result.source ≡ Static text.now }
+        ensures text { (regions : List Extent) → slot_text regions result ≡ text.now }
+        ensures there { (regions : List Extent) → IsThere regions result }
     {
         let bytes = text.as_bytes();
         let (ptr, loan) = Loan::for_ever(bytes);
@@ -75,4 +80,11 @@ pub fn text_of<'a>(regions: &'a [Region], slot: &'a Slot) -> &'a str
     ensures { result.now ≡ slot_text regions.now slot.now }
 {
     unsafe { from_utf8_unchecked(slot.loan.read(regions, slot.ptr, slot.len)) }
+}
+
+fn crosses<T: Send + Sync>(_: &T) {}
+
+// An entry goes to another thread, and is shared.
+fn crosses_freely(slot: &Slot) {
+    crosses(slot);
 }

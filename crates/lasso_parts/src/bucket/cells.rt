@@ -1,5 +1,5 @@
 //! The places of a block of bytes: how they are had of an allocator, read, written and given back.
-//! No other file of the crate but `region.rt` and those of entries, `slots.rt` and `slots/loan.rt`, has a pointer.
+//! Beside this file `region.rt` passes a pointer on, and `slots.rt` and `slots/loan.rt` keep one and read by it.
 ghost use Rattle.std.specs.Prelude.{◌≡◌, ℕ, ◌+◌, ◌^◌, ◌<◌, ◌≤◌, ◌++◌, length, take, drop, slice_range, IfOk};
 ghost use base.Fml.{ftrue};
 ghost use denote.RawPtr.{Ptr, ◌+ₚ◌};
@@ -108,9 +108,10 @@ impl Cells {
         self.slots.copy_in(start, bytes);
     }
 
-    /// Where the place at `start` lies.
+    /// Where the place at `start` lies, or where the places end.
     #[inline]
     pub(crate) fn place(&self, start: usize) -> *const u8
+        requires { start ≤ slots_len self.now }
         ensures { (result ≡ slots_ptr self.now +ₚ start) × LeadsToBlock result }
     {
         unsafe { self.ptr.add(start) }

@@ -108,9 +108,10 @@ impl Region {
         start
     }
 
-    /// Where the byte at `start` lies, or will lie.
+    /// Where the byte at `start` lies, or where the bytes end.
     #[inline]
     pub(crate) fn place(&self, start: usize) -> *const u8
+        requires { start ≤ length self.now.bytes }
         ensures { (result ≡ self.now.at +ₚ start) × LeadsToBlock result }
     {
         self.cells.place(start)

@@ -1,7 +1,8 @@
-//! The right to read the bytes of an entry's text, without their place and their number.
+//! The right to read the bytes of an entry's text; where they lie and how many they are stand in the entry's
+//! two words.
 //!
-//! An arena's bytes are read by a `&` to its regions, so an entry of such a text owns nothing, and its right
-//! is but the span. A `&'static str` is two words, and a `&` to each of its bytes that never ends. A loan keeps
+//! An arena's bytes are read by a `&` to its regions, so the loan of such a text owns nothing: it is the span,
+//! in proofs alone. A `&'static str` is two words, and a `&` to each of its bytes that never ends. A loan keeps
 //! that without the words, so that it names no lifetime: a `&'static str` in its stead would give each type that
 //! holds a list of entries a lifetime, and a value of such a type goes into no box of a trait object.
 ghost use Rattle.std.specs.Prelude.{◌≡◌, length, IsUtf8};

@@ -12,7 +12,7 @@ invariant_of-self-2 g c =
     let now : List Extent = c.store_str.new.self.all in
     let grown = c.push_reserved.ensures.items ∙ ap (λ (xs : List Entry). xs ++ c.copied-slot.result ∷ []) c.in_ok-reserve.ensures.items in
     let same = ap (λ (rs : List Extent). place_of rs c.in_ok-span.span) c.regions.ensures in
-    let new : IsThere now c.copied-slot.result = subst (IsThere now) (sym c.copied-slot.ensures) (c.in_ok-span.ensures.stored.0, same) in
+    let new : IsThere now c.copied-slot.result = subst (IsThere now) (sym c.copied-slot.ensures.entry) (c.in_ok-span.ensures.stored.0, same) in
     let there = there_pushed c.self.inside.arena.all now c.self.inside.slots.items c.push_reserved.new.self.items c.copied-slot.result c.self.invariant.0 c.in_ok-span.ensures.kept grown new in
     let ok = refl {a = true} in
     (there, λ h. rw (c.in_ok-span.ensures.copied ok) (thrifty_store c.self.inside.first (copied_of c.self.inside.arena) (length c.args.text.now) (account_of c.self.inside.arena) (account_of c.store_str.new.self) (c.self.invariant.1 h) (c.in_ok-span.ensures.account ok)))
@@ -21,5 +21,5 @@ pub returns-clause-texts : goal.returns-clause-texts
 returns-clause-texts g c =
     let now : List Extent = c.store_str.new.self.all in
     let grown = c.push_reserved.ensures.items ∙ ap (λ (xs : List Entry). xs ++ c.copied-slot.result ∷ []) c.in_ok-reserve.ensures.items in
-    let text = ap (slot_text now) c.copied-slot.ensures ∙ c.in_ok-span.ensures.stored.1 in
+    let text = ap (slot_text now) c.copied-slot.ensures.entry ∙ c.in_ok-span.ensures.stored.1 in
     texts_pushed c.self.inside.arena.all now c.self.inside.slots.items c.push_reserved.new.self.items c.copied-slot.result c.args.text.now c.self.invariant.0 c.in_ok-span.ensures.kept grown text ∙ ap (λ (h : Interner). h.texts ++ c.args.text.now ∷ []) c.self.view_is

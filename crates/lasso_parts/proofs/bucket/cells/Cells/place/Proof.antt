@@ -2,13 +2,14 @@
 --
 -- A `&` to the places is a `&` to their pointer and one to the row of slots. The pointer is where the row begins,
 -- and it leads to a block, in which the machine moves it.
-use Rattle.std.proofs.Common.{◌≡◌, ℕ, ◌+◌, List, [], ◌∷◌, refl, sym, ap, ◌∙◌, arith, w64}
+use Rattle.std.proofs.Common.{◌≡◌, ℕ, ◌+◌, ◌≤◌, List, [], ◌∷◌, refl, sym, ap, ◌∙◌, arith, w64}
 use base.Fml.{Lft, Share, ftrue, flft}
 use mir.Syntax.{named}
 use mir.Val.{Val, vptr}
-use types.Kit.{‵, ◌⊛◌, at_ret, ◌$◌, ◌∵◌, !, qed, move, keep, split, join, fsplit, fjoin, fpick, feq_i, suffices, drop as let_go, done}
+use types.Kit.{‵, raw, ◌⊛◌, at_ret, ◌$◌, ◌∵◌, !, qed, move, keep, split, join, fsplit, fjoin, fpick, feq_i, suffices, drop as let_go, done}
 use types.Run.{look, stop, fld, load, of_opd, bin, first, blocks, exec, enter, returns}
 use types.ByLocal.{alloc_all, pass_all, free_all, look_at, get, through, sets, sets_last, env}
+use contract.Monad.{fact}
 use contract.Running.{tables}
 use denote.Builtin.{usize, RefOf}
 use denote.Exit.{yes}
@@ -21,7 +22,7 @@ use denote.Signature.{plain, types_at}
 use denote.Steps.{nothing}
 use denote.Triple.Walked.{Stays, stay_dropped, Goes-dropped, walk_of, says, ends_at}
 use Rattle.std.proofs.raw_atomic.Walks.{proved}
-use Rattle.core.specs.Mem.Slots.{slots_ptr}
+use Rattle.core.specs.Mem.Slots.{slots_ptr, slots_len}
 use Rattle.core.specs.declared.slots.Slots.{Slots}
 use Rattle.core.proofs.slots.Lent.{pointer_in, pointer_out}
 use Rattle.lasso_parts.specs.contracts.bucket.cells.Cells.{the_row as Places}
@@ -41,7 +42,7 @@ place_spec 𝓤 𝓛 𝓜 𝓡 wired =
     let κ : Lft = κs.0 in let q : Share = qs.0 in let row : Slots ℕ = a.0.now in let start : ℕ = a.1.0 in
     let rb : ℕ = a.0.ref_ptr.0 in let ro : ℕ = a.0.ref_ptr.1 in
     let y : W.Ghost = ((κs, qs, bounds, a, (shr_vals a.0, (uint_vals w64 start, tt))), tt) in
-    qed 𝓛 (((‵ (flft κ q) ⊛ ‵ ftrue) ⊛ ‵ (owns (types_at f.ended.signature.params κs) a y.0.4)) ∷ ‵ ftrue ∷ []) ∵
+    qed 𝓛 (((‵ (flft κ q) ⊛ ‵ ftrue) ⊛ ‵ (owns (types_at f.ended.signature.params κs) a y.0.4)) ∷ raw (fact 𝓤 (start ≤ slots_len row)) ∷ []) ∵
     keep ! (0 ∷ []) $ split ! $ split ! $ move ! (2 ∷ []) $ fsplit ! $ fsplit ! $ let_go ! $ unhide ! $ fpick ! (λ x. let d = x.0 in fsplit ! $ fsplit ! $
     fsplit ! $ fsplit ! $
     -- [a `&` to the pointer; ..; the token]
