@@ -14,7 +14,7 @@ use Rattle.std.proofs.lemmas.List.Quantifiers.{position-Some}
 use Rattle.std.proofs.lemmas.Option.{slice_get-get_or}
 use Rattle.lasso_parts.specs.Texts.{Text, position_of, key_of}
 use Rattle.lasso_parts.specs.declared.util.LassoError.{LassoError}
-use Rattle.lasso_single.specs.Intern.{place}
+use Rattle.lasso_single.specs.Intern.{interned_position}
 use Rattle.lasso.specs.Interning.{with_last, InternsAmong}
 
 -- a text stands where it is found
@@ -31,7 +31,7 @@ position_last texts text none =
     grind (arith, common_steps, nat_tests, prefix_len-append, prefix_len-le-length, length_push texts text, itself, none)
 
 -- a text that was interned stands at its place
-pub position_with_last : (texts : List Text) (text : Text) (o : Option ℕ) → position_of texts text ≡ o → position_of (with_last texts text) text ≡ Some (place texts text)
+pub position_with_last : (texts : List Text) (text : Text) (o : Option ℕ) → position_of texts text ≡ o → position_of (with_last texts text) text ≡ Some (interned_position texts text)
 position_with_last texts text None e = rw (e) (position_last texts text e)
 position_with_last texts text (Some i) e = rw (e) e
 
@@ -60,14 +60,14 @@ module _ {K : Type 0} (key_at : ℕ → Option K) where
   pub never_refused : (texts after : List Text) (new : Option (List Text)) (text : Text) (k : K) (error : LassoError) → InternsAmong key_at texts text (Ok k) (Some after) → InternsAmong key_at after text (Err error) new → ⊥
   never_refused texts after new text k error h j =
       let left : after ≡ with_last texts text = cc in
-      let there : position_of after text ≡ Some (place texts text) = rw (left) (position_with_last texts text (position_of texts text) refl) in
+      let there : position_of after text ≡ Some (interned_position texts text) = rw (left) (position_with_last texts text (position_of texts text) refl) in
       cc
 
   -- interning a text twice gives its key twice, and leaves the list with it
   pub twice : (texts after new : List Text) (text : Text) (first again : K) → InternsAmong key_at texts text (Ok first) (Some after) → InternsAmong key_at after text (Ok again) (Some new) → (new ≡ with_last texts text) × (again ≡ first) × (key_of key_at new text ≡ Some first)
   twice texts after new text first again h j =
       let left : after ≡ with_last texts text = cc in
-      let there : position_of (with_last texts text) text ≡ Some (place texts text) = position_with_last texts text (position_of texts text) refl in
+      let there : position_of (with_last texts text) text ≡ Some (interned_position texts text) = position_with_last texts text (position_of texts text) refl in
       let same : with_last (with_last texts text) text ≡ with_last texts text = with_last_again texts text in
       let last : new ≡ with_last texts text = cc in
       let key : key_of key_at new text ≡ Some first = rw (last, there) h.0 in

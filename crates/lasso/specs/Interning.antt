@@ -3,7 +3,7 @@ use Rattle.std.specs.Prelude.{ℕ, ◌≡◌, ◌↔◌, ◌⊎◌, List, [], �
 use Rattle.lasso_parts.specs.Texts.{Text, position_of}
 use Rattle.lasso_parts.specs.declared.util.LassoError.{LassoError}
 use Rattle.lasso_parts.specs.declared.util.LassoErrorKind.TheVariants.{KeySpaceExhaustion, FailedAllocation}
-use Rattle.lasso_single.specs.Intern.{place}
+use Rattle.lasso_single.specs.Intern.{interned_position}
 
 -- the list once the text is in it: the same where it is there, else the text goes last
 abbrev pub with_last : List Text → Text → List Text
@@ -14,7 +14,7 @@ with_last texts text = if is_some (position_of texts text) then texts else texts
 abbrev pub InternsAmong : {K : Type 0} → (ℕ → Option K) → List Text → Text → Result K LassoError → Option (List Text) → Type 0
 InternsAmong key_at texts text reply after =
     MatchResult reply
-    (λ k. (key_at (place texts text) ≡ Some k) × (after ≡ Some (with_last texts text)))
+    (λ k. (key_at (interned_position texts text) ≡ Some k) × (after ≡ Some (with_last texts text)))
     (λ error. (position_of texts text ≡ None) × (after ≡ Some texts) × ((error ≡ KeySpaceExhaustion) ↔ (key_at (length texts) ≡ None)))
 
 -- the same of a text that is kept as it is: a memory limit never refuses it

@@ -3,7 +3,7 @@ ghost use Rattle.std.specs.Prelude.{◌≡◌, ◌<◌, ◌↔◌, ℕ, All, IfO
 
 use crate::pools::{RodeoPool, TextPool};
 use crate::positions::random_positions;
-use crate::texts::text_of;
+use crate::texts::numbered_text;
 use crate::timing::{ROUNDS, intern_all, last_byte, tenths_a_call};
 use anyhow::{Result, ensure};
 use lasso::{FixedState, Key, RodeoReader, RodeoResolver, Spur};
@@ -68,7 +68,7 @@ impl FrozenSample {
     {
         let mut texts = Vec::new(alloc);
         for number in 0..count {
-            texts.push(text_of(alloc, u64::from(number))?)?;
+            texts.push(numbered_text(alloc, u64::from(number))?)?;
         }
         let positions = random_positions(alloc, count, count)?;
         let mut last_bytes = 0usize;

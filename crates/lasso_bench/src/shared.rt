@@ -3,7 +3,7 @@ ghost use Rattle.std.specs.Prelude.{◌≡◌, [], IfOk};
 ghost use Rattle.lasso_shared.specs.Sights.{list_of};
 ghost use Rattle.lasso_bench.specs.Names.{named};
 
-use crate::texts::text_of;
+use crate::texts::numbered_text;
 use anyhow::{Result, bail, ensure};
 use lasso_parts::keys::{Key, Spur};
 use lasso_shared::log::{Log, Opened, Spine};
@@ -70,7 +70,7 @@ fn fill<R: AllocGlobal + Wait>(rt: &R, shelf: &Shelf, spine: Spine<Spur>, count:
 fn kept_text(alloc: Global, number: u32) -> Result<&'static str, AllocError>
     ensures { IfOk result (λ text. text.now ≡ named number) }
 {
-    let text = text_of(alloc, u64::from(number))?;
+    let text = numbered_text(alloc, u64::from(number))?;
     let bytes: &'static [u8] = text.into_bytes().leak();
     match std::str::from_utf8(bytes) {
         Ok(text) => Ok(text),

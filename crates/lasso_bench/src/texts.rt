@@ -23,9 +23,9 @@ impl Sample {
         let mut again = Vec::new(alloc);
         let mut missing = Vec::new(alloc);
         for number in 0..count {
-            texts.push(text_of(alloc, u64::from(number))?)?;
-            again.push(text_of(alloc, jumped(number, count))?)?;
-            missing.push(text_of(alloc, u64::from(count) + u64::from(number))?)?;
+            texts.push(numbered_text(alloc, u64::from(number))?)?;
+            again.push(numbered_text(alloc, jumped(number, count))?)?;
+            missing.push(numbered_text(alloc, u64::from(count) + u64::from(number))?)?;
         }
         Ok(Sample {
             texts,
@@ -36,18 +36,18 @@ impl Sample {
 }
 
 /// The text with this number: no other number has it.
-pub fn text_of(alloc: Global, number: u64) -> Result<String, AllocError>
+pub fn numbered_text(alloc: Global, number: u64) -> Result<String, AllocError>
     ensures { IfOk result (λ text. string_bytes text ≡ codes "text " ++ decimal number) }
 {
     format!(in alloc; "text {number}")
 }
 
-/// The number at this place of the other order. Where the stride and the count have no common divisor,
+/// The number at this position of the other order. Where the stride and the count have no common divisor,
 /// each number below the count comes once.
-pub fn jumped(place: u32, count: u32) -> u64
-    requires { place < count }
-    ensures value { result ≡ (place * STRIDE) % count }
+pub fn jumped(position: u32, count: u32) -> u64
+    requires { position < count }
+    ensures value { result ≡ (position * STRIDE) % count }
     ensures below { result < count }
 {
-    u64::from(place) * STRIDE % u64::from(count)
+    u64::from(position) * STRIDE % u64::from(count)
 }

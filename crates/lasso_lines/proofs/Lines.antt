@@ -11,7 +11,7 @@ use Rattle.std.proofs.lemmas.Option.{cond_some}
 use Rattle.lasso_parts.specs.declared.util.LassoError.{LassoError}
 use Rattle.lasso_parts.specs.declared.util.LassoErrorKind.TheVariants.{FailedAllocation}
 use Rattle.lasso_parts.specs.Held.{Held}
-use Rattle.lasso_single.specs.Intern.{interned, place}
+use Rattle.lasso_single.specs.Intern.{interned, interned_position}
 use Rattle.lasso_lines.specs.Stream.{Begins}
 use Rattle.lasso_lines.specs.Report.{is_line_feed, lines_of, spur_at, after_line, with_number, line_report}
 use Rattle.lasso_lines.specs.Answer.{AnswersLine, WritesAll, LineFails, faulty, no_memory, not_written, last_lines}
@@ -80,13 +80,13 @@ line_is_text : (held after : Held) (number : ℕ) (line text : List ℕ) → (te
 line_is_text held after number line text is reply = text_line held number line is.1 ∙ ap (λ r. with_number number r) (subst (λ t. interned spur_at held t ≡ Ok after) is.0 reply)
 
 -- the position in front of the line
-report_is : (held : Held) (line text : List ℕ) (position key : ℕ) → text ≡ line → spur_at (place held.texts text) ≡ Some key → position ≡ key - 1 → decimal position ++ (32 ∷ (line ++ 10 ∷ [])) ≡ line_report held line
-report_is held line text position key is found at = ap (λ n. decimal n ++ (32 ∷ (line ++ 10 ∷ []))) (at ∙ sym (place_of (place held.texts text) key found) ∙ ap (λ t. place held.texts t) is)
+report_is : (held : Held) (line text : List ℕ) (position key : ℕ) → text ≡ line → spur_at (interned_position held.texts text) ≡ Some key → position ≡ key - 1 → decimal position ++ (32 ∷ (line ++ 10 ∷ [])) ≡ line_report held line
+report_is held line text position key is found at = ap (λ n. decimal n ++ (32 ∷ (line ++ 10 ∷ []))) (at ∙ sym (place_of (interned_position held.texts text) key found) ∙ ap (λ t. interned_position held.texts t) is)
 
 answered_by : (held after : Held) (number : ℕ) (line : List ℕ) (result : Result (Unit {0}) RunFault) (bytes : List ℕ) → after_line held number line ≡ Ok after → bytes ≡ line_report held line → (part : List ℕ) → WritesAll bytes result part → AnswersLine held number line result after part
 answered_by held after number line (Ok x) bytes good is part wrote = (good, wrote ∙ is)
 answered_by held after number line (Err fault) bytes good is part wrote = subst (λ f. LineFails held number line part f) (sym wrote.0) (not_written after good (subst (λ bs. Begins part bs) is wrote.1))
 
 -- a text that is interned, and its answer
-pub answered_line : (held after : Held) (number : ℕ) (line text : List ℕ) (position key : ℕ) (result : Result (Unit {0}) RunFault) → (text ≡ line) × IsUtf8 line → (interned spur_at held text ≡ Ok after) × (spur_at (place held.texts text) ≡ Some key) → position ≡ key - 1 → (part : List ℕ) → WritesAll (decimal position ++ (32 ∷ (line ++ 10 ∷ []))) result part → AnswersLine held number line result after part
+pub answered_line : (held after : Held) (number : ℕ) (line text : List ℕ) (position key : ℕ) (result : Result (Unit {0}) RunFault) → (text ≡ line) × IsUtf8 line → (interned spur_at held text ≡ Ok after) × (spur_at (interned_position held.texts text) ≡ Some key) → position ≡ key - 1 → (part : List ℕ) → WritesAll (decimal position ++ (32 ∷ (line ++ 10 ∷ []))) result part → AnswersLine held number line result after part
 answered_line held after number line text position key result is reply at = answered_by held after number line result _ (line_is_text held after number line text is reply.0) (report_is held line text position key is.0 reply.1 at)

@@ -8,7 +8,7 @@ use Rattle.lasso_parts.specs.Texts.{Text}
 use Rattle.lasso_parts.specs.Kept.{kept_at}
 use Rattle.lasso_parts.specs.declared.util.LassoError.{LassoError}
 use Rattle.lasso_parts.specs.declared.util.LassoErrorKind.TheVariants.{FailedAllocation}
-use Rattle.lasso_single.specs.Intern.{interned, place}
+use Rattle.lasso_single.specs.Intern.{interned, interned_position}
 use Rattle.lasso_lines.specs.Stream.{Begins}
 use Rattle.lasso_lines.specs.declared.fault.RunFault.{RunFault}
 use Rattle.lasso_lines.specs.declared.fault.RunFault.TheVariants.{Refused, NotText, Usage, ReadFailed, WriteFailed}
@@ -40,7 +40,7 @@ after_line held number line = cond (is_utf8 line) (with_number number (interned 
 
 -- the answer to a line: the position of its text, and the line
 abbrev pub line_report : Held → List ℕ → List ℕ
-line_report held line = decimal (place held.texts line) ++ (32 ∷ (line ++ 10 ∷ []))
+line_report held line = decimal (interned_position held.texts line) ++ (32 ∷ (line ++ 10 ∷ []))
 
 -- how many texts and bytes there are
 abbrev pub last_report : Held → List ℕ

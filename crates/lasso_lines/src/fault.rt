@@ -1,6 +1,6 @@
 //! Why a run ends before its report is whole.
 ghost use Rattle.std.specs.Prelude.{◌≡◌, Some};
-ghost use Rattle.lasso_lines.specs.Fault.{status_of, words_of};
+ghost use Rattle.lasso_lines.specs.Fault.{status_of, fault_text};
 
 use lasso::LassoError;
 use std::fmt;
@@ -36,7 +36,7 @@ impl RunFault {
 }
 
 impl fmt::Display for RunFault {
-    ghost output = { λ fault. Some (words_of fault) };
+    ghost output = { λ fault. Some (fault_text fault) };
 
     fn fmt<W: fmt::Write>(&self, f: &mut fmt::Formatter<W>) -> fmt::Result {
         match self {

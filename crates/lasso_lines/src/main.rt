@@ -38,7 +38,7 @@ fn report_lines<R>(rt: &R) -> Result<(), RunFault>
 where
     R: AllocGlobal + Env + Input + Print + Wait,
 {
-    let words = words_of(rt)?;
+    let words = fault_text(rt)?;
     let input = StandardReader::new(rt.alloc(), rt.reader());
     let mut reader = input.map_err(no_memory)?;
     let output = StandardWriter::new(rt.alloc(), io::writer(rt));
@@ -47,7 +47,7 @@ where
 }
 
 // The words behind the program's name. Words that are not text are bad arguments.
-fn words_of<R: AllocGlobal + Env>(rt: &R) -> Result<Vec<String>, RunFault> {
+fn fault_text<R: AllocGlobal + Env>(rt: &R) -> Result<Vec<String>, RunFault> {
     let mut all = match env::args(rt) {
         Ok(all) => all,
         Err(error) if error.kind() == ErrorKind::OutOfMemory => return Err(no_memory(AllocError)),

@@ -20,11 +20,11 @@ use Rattle.core.specs.contracts.slots.Slots as row
 use Rattle.std_alloc.proofs.SendSync.{FreesAnywhere, quiet, lies, seen}
 use Rattle.lasso_parts.specs.Cells.{bytes_type}
 use Rattle.lasso_parts.specs.Loans.{lent_for_ever}
-use Rattle.lasso_parts.specs.Slots.{Source, Copied, Static}
+use Rattle.lasso_parts.specs.Entries.{Source, Copied, Static}
 use Rattle.lasso_parts.specs.contracts.bucket.cells.Cells as cells
 use Rattle.lasso_parts.specs.contracts.bucket.cells.Cells.TheInside as fields
 use Rattle.lasso_parts.specs.contracts.bucket.cells.Deed as deed
-use Rattle.lasso_parts.specs.contracts.slots.loan.Loan as loan
+use Rattle.lasso_parts.specs.contracts.entries.loan.Loan as loan
 
 byte_send : IsSend u8
 byte_send = search sendable

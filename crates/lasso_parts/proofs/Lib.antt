@@ -5,7 +5,7 @@ mod IndexTables
 mod KeySlots
 pub mod Regions
 pub mod Wasted
-pub mod Entries
+pub mod EntryTexts
 pub mod Walks
 mod PlacesLent
 pub mod TextsLent

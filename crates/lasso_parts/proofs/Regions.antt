@@ -32,7 +32,7 @@ range-append xs more i n fits =
 -- each region of the earlier list begins that of the later one
 record Grows (xs ys : List Extent) : Type 0 where
   count : length xs ≤ length ys
-  place : (k : ℕ) → k < length xs → (region_at ys k).at ≡ (region_at xs k).at
+  address : (k : ℕ) → k < length xs → (region_at ys k).at ≡ (region_at xs k).at
   more : (k : ℕ) → k < length xs → (m : List ℕ) × ((region_at ys k).bytes ≡ (region_at xs k).bytes ++ m)
 
 kept : (xs ys : List Extent) → Grows xs ys → KeepsTexts xs ys
@@ -45,7 +45,7 @@ kept xs ys grows span had =
     record {
       stored = record { region = inside; bytes = omega (arith, fits, longer); text = subst IsUtf8 (sym same) had.text };
       text = same;
-      place = ap (λ (p : Ptr). p +ₚ span.start) (grows.place span.region had.region);
+      address = ap (λ (p : Ptr). p +ₚ span.start) (grows.address span.region had.region);
     }
 
 Grows-set : (xs : List Extent) (at : ℕ) (t : List ℕ) → at < length xs → Grows xs (set xs at (with_bytes (region_at xs at) t))
@@ -53,7 +53,7 @@ Grows-set xs at t inside =
     let new = with_bytes (region_at xs at) t in
     record {
       count = omega (arith, length-set xs at new);
-      place = λ k h. elim (cases_eq k at) [
+      address = λ k h. elim (cases_eq k at) [
         | inl e ↦ ap (λ (b : Extent). b.at) (ap (λ (i : ℕ). region_at (set xs at new) i) e ∙ get_or-set_same xs at new no_region inside) ∙ ap (λ (i : ℕ). (region_at xs i).at) (sym e)
         | inr ne ↦ ap (λ (b : Extent). b.at) (get_or-set_other xs at k new no_region ne)
       ];
@@ -69,7 +69,7 @@ kept_set xs ys at t inside e = kept xs ys (subst (Grows xs) (sym e) (Grows-set x
 
 -- texts stay where nothing changes
 pub kept_same : (regions : List Extent) → KeepsTexts regions regions
-kept_same regions span had = record { stored = had; text = refl; place = refl }
+kept_same regions span had = record { stored = had; text = refl; address = refl }
 
 -- a region that was just opened, and then a text in it
 pub set_last : (xs ys zs : List Extent) (p : Ptr) (t : List ℕ) (z at : ℕ) → at ≡ length xs → ys ≡ xs ++ opened p z ∷ []

@@ -27,9 +27,9 @@ use Rattle.core.specs.Mem.Slots.Ownership.{slots_lent}
 use Rattle.core.specs.declared.slots.Slots.{Slots}
 use Rattle.lasso_parts.specs.Arena.{region_at, text_at}
 use Rattle.lasso_parts.specs.Bucket.{Extent}
-use Rattle.lasso_parts.specs.Cells.{Holds, LeadsToBlock}
+use Rattle.lasso_parts.specs.Cells.{AreFilled, LeadsToBlock}
 use Rattle.lasso_parts.specs.Loans.{lent}
-use Rattle.lasso_parts.specs.Slots.{Source, Entry, Copied, Static, IsKept, IsThere, IsWhole, LiesAt, source_len, source_text, slot_text}
+use Rattle.lasso_parts.specs.Entries.{Source, EntryView, Copied, Static, AreWordsOf, IsThere, IsWhole, LiesAt, source_len, source_text, entry_text}
 use Rattle.lasso_parts.specs.contracts.bucket.region.Region.{the_row as Part}
 use Rattle.lasso_parts.proofs.PlacesLent.{run_lent}
 
@@ -72,7 +72,7 @@ module _ {M : Type 1} {𝓤 : Ura M} (𝓛 : Logic 𝓤) (κ : Lft) where
       let b : ℕ = block_of d.ptr in let o : ℕ = count_of d.ptr in
       let begins : d.slots.ptr ≡ block_ptr b o = sym y.1.1.0 ∙ y.1.1.1 in
       let lies : block_ptr b o ≡ r.at = sym begins ∙ ap slots_ptr y.1.0 ∙ ap (λ (e : Extent). e.at) x.1.0 in
-      let held : Holds d.slots 0 used = subst (λ (s : Slots ℕ). Holds s 0 used) (sym y.1.0) x.1.1 in
+      let held : AreFilled d.slots 0 used = subst (λ (s : Slots ℕ). AreFilled s 0 used) (sym y.1.0) x.1.1 in
       let bytes : take used xs ≡ r.bytes = ap (λ (s : Slots ℕ). take used s.items) y.1.0 ∙ ap (λ (e : Extent). e.bytes) x.1.0 in
       let some : start + len ≤ used = omega (arith, fits, ap length bytes, length-take used xs) in
       let inside : start + len ≤ length xs = omega (arith, some, held.within, d.slots.ok.0) in
@@ -95,8 +95,8 @@ module _ {M : Type 1} {𝓤 : Ura M} (𝓛 : Logic 𝓤) (κ : Lft) where
       (one_lent n rs rb (ro + (mem Part).size) start len (omega arith) fits)
 
   -- what the loan and the regions lend of the bytes of an entry's text
-  pub text_lent : (regions : List Extent) (e : Entry) (ptr : Ptr) (len rb ro : ℕ) → IsThere regions e → IsKept e ptr len
-      → ent 𝓤 (sem 𝓛 (fsep (lent e.source e.at []) (elements_shared Part regions rb ro κ))) (sem 𝓛 (fsep (flt len (2 ^ 63)) (elements_shared u8 (slot_text regions e) (block_of e.at) (count_of e.at) κ)))
+  pub text_lent : (regions : List Extent) (e : EntryView) (ptr : Ptr) (len rb ro : ℕ) → IsThere regions e → AreWordsOf e ptr len
+      → ent 𝓤 (sem 𝓛 (fsep (lent e.source e.at []) (elements_shared Part regions rb ro κ))) (sem 𝓛 (fsep (flt len (2 ^ 63)) (elements_shared u8 (entry_text regions e) (block_of e.at) (count_of e.at) κ)))
   text_lent regions e ptr len rb ro there kept = by_source e.source e.at there kept.block kept.count kept.whole
     where
       by_source : (s : Source) (at : Ptr) → LiesAt regions at s → LeadsToBlock at → len ≡ source_len s → IsWhole s
@@ -116,7 +116,7 @@ module _ {M : Type 1} {𝓤 : Ura M} (𝓛 : Logic 𝓤) (κ : Lft) where
           rewrite ! 0 (λ (o : ℕ). ‵ (fsep (flt len (2 ^ 63)) (elements_shared u8 (text_at regions span) (block_of at) o κ))) (sym on.1) refl $ done !
 
 -- an entry's text has so many bytes
-pub text_len : (regions : List Extent) (e : Entry) (ptr : Ptr) (len : ℕ) → IsThere regions e → IsKept e ptr len → length (slot_text regions e) ≡ len
+pub text_len : (regions : List Extent) (e : EntryView) (ptr : Ptr) (len : ℕ) → IsThere regions e → AreWordsOf e ptr len → length (entry_text regions e) ≡ len
 text_len regions e ptr len there kept = by_source e.source e.at there kept.count
   where
     by_source : (s : Source) (at : Ptr) → LiesAt regions at s → len ≡ source_len s → length (source_text regions s) ≡ len

@@ -2,32 +2,32 @@
 use Rattle.std.specs.Prelude.{◌≡◌, ℕ, ◌^◌, ◌-◌, List, [], ◌∷◌, Option, Some, None}
 use Rattle.lasso_parts.specs.Account.{Account, fresh, store, clear, with_limit}
 
-pub data Step : Type 0 where
+pub data AccountStep : Type 0 where
   -- a text of so many bytes is stored
-  bytes : ℕ → Step
+  bytes : ℕ → AccountStep
   -- the list is emptied
-  empty : Step
+  empty : AccountStep
   -- the limit becomes this one
-  limit : ℕ → Step
+  limit : ℕ → AccountStep
 
-abbrev pub stepped : Account → Step → Option Account
+abbrev pub stepped : Account → AccountStep → Option Account
 stepped a (bytes n) = store a n
 stepped a empty = Some (clear a)
 stepped a (limit m) = Some (with_limit a m)
 
--- the account after the steps, or none from the first refused one on
-abbrev pub after : Option Account → List Step → Option Account
-after None steps = None
-after (Some a) [] = Some a
-after (Some a) (step ∷ steps) = after (stepped a step) steps
+-- the account account_after the steps, or none from the first refused one on
+abbrev pub account_after : Option Account → List AccountStep → Option Account
+account_after None steps = None
+account_after (Some a) [] = Some a
+account_after (Some a) (step ∷ steps) = account_after (stepped a step) steps
 
 -- room, size of the current bucket, doubling size, usage
 abbrev pub figures : Option Account → Option (ℕ × ℕ × ℕ × ℕ)
 figures None = None
 figures (Some a) = Some (a.room, a.size, a.doubling, a.usage)
 
-abbrev pub Gives : Account → List Step → Option (ℕ × ℕ × ℕ × ℕ) → Type 0
-Gives a steps wanted = figures (after (Some a) steps) ≡ wanted
+abbrev pub Gives : Account → List AccountStep → Option (ℕ × ℕ × ℕ × ℕ) → Type 0
+Gives a steps wanted = figures (account_after (Some a) steps) ≡ wanted
 
 abbrev pub no_limit : ℕ
 no_limit = 2 ^ 64 - 1

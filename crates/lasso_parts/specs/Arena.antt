@@ -61,8 +61,8 @@ abbrev pub text_at : List Extent → Span → List ℕ
 text_at regions span = slice_range (region_at regions span.region).bytes span.start (span.start + span.len)
 
 -- where the first of these bytes lies
-abbrev pub place_of : List Extent → Span → Ptr
-place_of regions span = (region_at regions span.region).at +ₚ span.start
+abbrev pub address_of : List Extent → Span → Ptr
+address_of regions span = (region_at regions span.region).at +ₚ span.start
 
 -- the regions have the text of this span
 pub record IsStored (regions : List Extent) (span : Span) : Type 0 where
@@ -74,7 +74,7 @@ pub record IsStored (regions : List Extent) (span : Span) : Type 0 where
 pub record Keeps (earlier later : List Extent) (span : Span) : Type 0 where
   pub stored : IsStored later span
   pub text : text_at later span ≡ text_at earlier span
-  pub place : place_of later span ≡ place_of earlier span
+  pub address : address_of later span ≡ address_of earlier span
 
 -- the later regions have each text that the earlier ones have, at the same span and the same place
 abbrev pub KeepsTexts : List Extent → List Extent → Type 0

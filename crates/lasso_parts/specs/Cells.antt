@@ -24,7 +24,7 @@ abbrev pub bytes_in : ℕ → Slots ℕ → List ℕ
 bytes_in used row = take used (slots_items row)
 
 -- each place from `from` up to `to` holds its byte
-pub record Holds (row : Slots ℕ) (from to : ℕ) : Type 0 where
+pub record AreFilled (row : Slots ℕ) (from to : ℕ) : Type 0 where
   pub within : to ≤ slots_len row
   pub full : ownership.Filled (slots_filled row) from to
 

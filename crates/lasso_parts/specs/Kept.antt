@@ -4,8 +4,8 @@ use Rattle.std.proofs.Common.{arith}
 use Rattle.std.proofs.lemmas.Bool.Decides.{nat_tests}
 
 -- what a key keeps is from 1 to the greatest number of its width
-abbrev pub IsKept : ℕ → ℕ → Type 0
-IsKept greatest kept = (0 < kept) × (kept ≤ greatest)
+abbrev pub IsKeptNumber : ℕ → ℕ → Type 0
+IsKeptNumber greatest kept = (0 < kept) × (kept ≤ greatest)
 
 -- the key of a position, where there is one
 abbrev pub kept_at : ℕ → ℕ → Option ℕ
@@ -16,13 +16,13 @@ abbrev pub kept_text : List ℕ → ℕ → List ℕ
 kept_text name kept = name ++ (codes "(" ++ (decimal kept ++ codes ")"))
 
 -- the laws of keys, for any width below 2 ^ 64
-pub kept_made : (greatest : ℕ) → greatest ≤ 2 ^ 64 → (n kept : ℕ) → kept_at greatest n ≡ Some kept → (n < 2 ^ 64) × IsKept greatest kept × (kept - 1 ≡ n)
+pub kept_made : (greatest : ℕ) → greatest ≤ 2 ^ 64 → (n kept : ℕ) → kept_at greatest n ≡ Some kept → (n < 2 ^ 64) × IsKeptNumber greatest kept × (kept - 1 ≡ n)
 kept_made greatest width n kept made = grind (arith, nat_tests)
 
-pub kept_made_again : (greatest kept : ℕ) → IsKept greatest kept → kept_at greatest (kept - 1) ≡ Some kept
+pub kept_made_again : (greatest kept : ℕ) → IsKeptNumber greatest kept → kept_at greatest (kept - 1) ≡ Some kept
 kept_made_again greatest kept is_kept = grind (arith, nat_tests)
 
-pub kept_equal : (greatest a b : ℕ) → IsKept greatest a → IsKept greatest b → IsTrue (a == b) ↔ (a - 1 ≡ b - 1)
+pub kept_equal : (greatest a b : ℕ) → IsKeptNumber greatest a → IsKeptNumber greatest b → IsTrue (a == b) ↔ (a - 1 ≡ b - 1)
 kept_equal greatest a b is_kept is_kept' = (λ e. grind (arith, nat_tests), λ e. grind (arith, nat_tests))
 
 -- which positions have keys

@@ -12,10 +12,10 @@ pub mod KeySlots
 pub mod Scan
 pub mod Bucket
 pub mod Arena
-pub mod Places
+pub mod Placements
 pub mod Waste
 pub mod Cells
-pub mod Slots
+pub mod Entries
 pub mod Loans
 pub mod Json
 pub mod JsonErrors

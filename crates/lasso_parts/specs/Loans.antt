@@ -4,7 +4,7 @@ use base.Fml.{Lft, Fml, ftrue}
 use denote.Builtin.{u8}
 use denote.RawPtr.{Ptr, block_of, count_of}
 use denote.Slice.{elements_shared}
-use Rattle.lasso_parts.specs.Slots.{Source, Copied, Static}
+use Rattle.lasso_parts.specs.Entries.{Source, Copied, Static}
 
 -- nothing of a text that an arena copied; of another a `&` to each of its bytes, of which the first lies at p, at
 -- the lifetime κ

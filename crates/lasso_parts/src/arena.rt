@@ -27,7 +27,7 @@ pub struct Span {
 
 // Where the next text goes.
 #[derive(Clone, Copy)]
-enum Place {
+enum Placement {
     // the current region, which has room
     Current,
     // a new region of exactly the text's bytes, which does not become the current one
@@ -100,7 +100,7 @@ impl<A: Allocator + Clone> Arena<A> {
 
 impl<A: Allocator> Arena<A> {
     ghost use Rattle.lasso_parts.specs.Arena.{account_of, copied_of, usage_of, first_of, IsStored, text_at, emptied};
-    ghost use Rattle.lasso_parts.specs.Places.{IsPlaceFor};
+    ghost use Rattle.lasso_parts.specs.Placements.{IsPlacementFor};
 
     /// The bytes that all regions take.
     pub fn memory_usage(&self) -> usize
@@ -129,7 +129,7 @@ impl<A: Allocator> Arena<A> {
         ensures account { IsTrue result ↔ IsSome (store (account_of self.now) n) }
         ensures sums { IsTrue result ↔ (n ≤ (account_of self.now).room) ⊎ ((account_of self.now).usage + n ≤ self.now.limit) }
     {
-        n == 0 || !matches!(self.place_for(n), Place::Refused)
+        n == 0 || !matches!(self.placement_for(n), Placement::Refused)
     }
 
     /// The text of a span that was handed out since the last `clear`.
@@ -161,29 +161,29 @@ impl<A: Allocator> Arena<A> {
     }
 
     // Where a text of n bytes goes. No sum is made that can wrap.
-    fn place_for(&self, n: usize) -> Place
+    fn placement_for(&self, n: usize) -> Placement
         requires { 0 < n }
-        ensures { IsPlaceFor (account_of self.now) n result }
+        ensures { IsPlacementFor (account_of self.now) n result }
     {
         if n <= self.regions.as_slice()[self.current].free_elements() {
-            return Place::Current;
+            return Placement::Current;
         }
         let left = self.limit.saturating_sub(self.usage);
         if self.doubling < n - self.doubling.min(n) {
             return if left < n {
-                Place::Refused
+                Placement::Refused
             } else {
-                Place::Exact
+                Placement::Exact
             };
         }
         if left / 2 < self.doubling {
             return if left < n {
-                Place::Refused
+                Placement::Refused
             } else {
-                Place::Remnant(left)
+                Placement::Remnant(left)
             };
         }
-        Place::Doubled(2 * self.doubling)
+        Placement::Doubled(2 * self.doubling)
     }
 }
 
@@ -214,9 +214,9 @@ impl<A: Allocator + Clone> Arena<A> {
                 len: 0,
             });
         }
-        match self.place_for(n) {
-            Place::Refused => Err(LassoError::new(LassoErrorKind::MemoryLimitReached)),
-            Place::Current => {
+        match self.placement_for(n) {
+            Placement::Refused => Err(LassoError::new(LassoErrorKind::MemoryLimitReached)),
+            Placement::Current => {
                 let start = self.regions.push_text(self.current, text);
                 Ok(Span {
                     region: self.current,
@@ -224,13 +224,13 @@ impl<A: Allocator + Clone> Arena<A> {
                     len: n,
                 })
             }
-            Place::Exact => self.store_in_new(n, text),
-            Place::Remnant(size) => {
+            Placement::Exact => self.store_in_new(n, text),
+            Placement::Remnant(size) => {
                 let span = self.store_in_new(size, text)?;
                 self.current = span.region;
                 Ok(span)
             }
-            Place::Doubled(size) => {
+            Placement::Doubled(size) => {
                 let span = self.store_in_new(size, text)?;
                 self.current = span.region;
                 self.doubling = size;

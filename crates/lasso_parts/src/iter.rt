@@ -4,12 +4,12 @@ ghost use Rattle.std.specs.Prelude.{◌≡◌, ◌+◌, ◌-◌, ◌<◌, ◌≤
 ghost use Rattle.std.specs.Iterator.{YieldsFirstBy, YieldsLastBy, item_count, at_most, UpTo};
 ghost use Rattle.std.specs.Iterator.SizeHint.{IsWithinCount};
 ghost use Rattle.std.specs.List.{enumerate_from};
-ghost use Rattle.lasso_parts.specs.Slots.{AllThere, texts_of};
+ghost use Rattle.lasso_parts.specs.Entries.{AllThere, texts_of};
 ghost use Rattle.lasso_parts.specs.Texts.{Fits};
 
 use crate::bucket::region::Region;
+use crate::entries::{Entry, text_of};
 use crate::keys::Key;
-use crate::slots::{Slot, text_of};
 use std::alloc::AllocError;
 use std::iter::FusedIterator;
 use std::marker::{Model, PhantomData};
@@ -17,31 +17,31 @@ use std::marker::{Model, PhantomData};
 /// A walk over texts in the order of their keys. Contracts see it as the list of the texts that are left.
 #[derive(Drop)]
 pub struct Strings<'a, K: Key> {
-    slots: &'a [Slot],
+    entries: &'a [Entry],
     regions: &'a [Region],
     keys: PhantomData<K>,
 }
 
 impl<'a, K: Key> Model for Strings<'a, K> {
     ghost use Rattle.std.specs.Prelude.{List};
-    ghost use Rattle.lasso_parts.specs.Slots.{AllThere, texts_of};
+    ghost use Rattle.lasso_parts.specs.Entries.{AllThere, texts_of};
     ghost use Rattle.lasso_parts.specs.Texts.{Text};
 
     ghost Value = { List Text };
 
-    ghost view = { λ s. texts_of s.regions.now s.slots.now };
+    ghost view = { λ s. texts_of s.regions.now s.entries.now };
 
-    ghost invariant = { λ s. AllThere s.regions.now s.slots.now };
+    ghost invariant = { λ s. AllThere s.regions.now s.entries.now };
 }
 
 impl<'a, K: Key> Strings<'a, K> {
     /// A walk over the texts of all the entries. Each must be there among the regions.
-    pub fn new(slots: &'a [Slot], regions: &'a [Region]) -> Self
-        requires { AllThere regions.now slots.now }
-        ensures { result ≡ texts_of regions.now slots.now }
+    pub fn new(entries: &'a [Entry], regions: &'a [Region]) -> Self
+        requires { AllThere regions.now entries.now }
+        ensures { result ≡ texts_of regions.now entries.now }
     {
         Strings {
-            slots,
+            entries,
             regions,
             keys: PhantomData,
         }
@@ -53,14 +53,14 @@ impl<'a, K: Key> Strings<'a, K> {
         ensures rest { self.new ≡ drop (n + 1) self.old }
         ensures text { option_map (λ t. t.now) result ≡ slice_get self.old n }
     {
-        let slots = self.slots;
-        if n < slots.len() {
-            let text = text_of(self.regions, &slots[n]);
-            let (_, rest) = slots.split_at(n + 1);
-            self.slots = rest;
+        let entries = self.entries;
+        if n < entries.len() {
+            let text = text_of(self.regions, &entries[n]);
+            let (_, rest) = entries.split_at(n + 1);
+            self.entries = rest;
             Some(text)
         } else {
-            self.slots = &[];
+            self.entries = &[];
             None
         }
     }
@@ -72,13 +72,13 @@ impl<'a, K: Key> Strings<'a, K> {
         ensures text { n < length self.old → option_map (λ t. t.now) result ≡ slice_get self.old (length self.old - (n + 1)) }
         ensures ended { length self.old ≤ n → result ≡ None }
     {
-        let slots = self.slots;
-        if n < slots.len() {
-            let at = slots.len() - 1 - n;
-            self.slots = &slots[..at];
-            Some(text_of(self.regions, &slots[at]))
+        let entries = self.entries;
+        if n < entries.len() {
+            let at = entries.len() - 1 - n;
+            self.entries = &entries[..at];
+            Some(text_of(self.regions, &entries[at]))
         } else {
-            self.slots = &[];
+            self.entries = &[];
             None
         }
     }
@@ -92,12 +92,12 @@ impl<'a, K: Key> Iterator for Strings<'a, K> {
     ghost remaining = { item_count (λ texts. texts) };
 
     fn next(&mut self) -> Option<&'a str> {
-        let slots = self.slots;
-        if slots.is_empty() {
+        let entries = self.entries;
+        if entries.is_empty() {
             return None;
         }
-        self.slots = &slots[1..];
-        Some(text_of(self.regions, &slots[0]))
+        self.entries = &entries[1..];
+        Some(text_of(self.regions, &entries[0]))
     }
 
     fn size_hint(&self) -> (usize, Option<usize>)
@@ -106,7 +106,7 @@ impl<'a, K: Key> Iterator for Strings<'a, K> {
         ensures least { result.0 ≡ length self.now }
         ensures most { result.1 ≡ Some (length self.now) }
     {
-        (self.slots.len(), Some(self.slots.len()))
+        (self.entries.len(), Some(self.entries.len()))
     }
 }
 
@@ -114,19 +114,19 @@ impl<'a, K: Key> DoubleEndedIterator for Strings<'a, K> {
     ghost next_back_gives = { YieldsLastBy (λ t. t.now) (λ texts. texts) };
 
     fn next_back(&mut self) -> Option<&'a str> {
-        let slots = self.slots;
-        if slots.is_empty() {
+        let entries = self.entries;
+        if entries.is_empty() {
             return None;
         }
-        let last = slots.len() - 1;
-        self.slots = &slots[..last];
-        Some(text_of(self.regions, &slots[last]))
+        let last = entries.len() - 1;
+        self.entries = &entries[..last];
+        Some(text_of(self.regions, &entries[last]))
     }
 }
 
 impl<'a, K: Key> ExactSizeIterator for Strings<'a, K> {
     fn len(&self) -> usize {
-        self.slots.len()
+        self.entries.len()
     }
 }
 
@@ -139,7 +139,7 @@ impl<'a, K: Key> Clone for Strings<'a, K> {
 
     fn clone(&self) -> Result<Self, AllocError> {
         Ok(Strings {
-            slots: self.slots,
+            entries: self.entries,
             regions: self.regions,
             keys: PhantomData,
         })
@@ -170,13 +170,13 @@ impl<'a, K: Key> Model for Iter<'a, K> {
 impl<'a, K: Key> Iter<'a, K> {
     /// A walk over the texts of all the entries, numbered from 0. Each entry must be there among the
     /// regions, and each of the numbers must have a key.
-    pub fn new(slots: &'a [Slot], regions: &'a [Region]) -> Self
-        requires there { AllThere regions.now slots.now }
-        requires fits { Fits K.key_at (length slots.now) }
-        ensures { result ≡ enumerate_from 0 (texts_of regions.now slots.now) }
+    pub fn new(entries: &'a [Entry], regions: &'a [Region]) -> Self
+        requires there { AllThere regions.now entries.now }
+        requires fits { Fits K.key_at (length entries.now) }
+        ensures { result ≡ enumerate_from 0 (texts_of regions.now entries.now) }
     {
         Iter {
-            strings: Strings::new(slots, regions),
+            strings: Strings::new(entries, regions),
             first: 0,
         }
     }

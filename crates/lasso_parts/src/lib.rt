@@ -4,10 +4,10 @@
 
 pub mod arena;
 pub mod bucket;
+pub mod entries;
 pub mod index;
 pub mod iter;
 pub mod json;
 pub mod keys;
 pub mod laws;
-pub mod slots;
 pub mod util;

@@ -8,12 +8,12 @@ use Rattle.lasso_parts.specs.declared.util.LassoErrorKind.TheVariants.{KeySpaceE
 use Rattle.lasso_shared.specs.History.{Event, Append, History, Totals, totals, Lacks}
 use Rattle.lasso_shared.specs.Replies.{Static, Question, Intern, Resolve, Reply, Interned, Resolved, MayReply}
 use Rattle.lasso_shared.specs.Calls.{events_of, Makes, MayComeAfter, IsCall}
-use Rattle.lasso_shared.specs.Notes.{Note, history, state, Since}
+use Rattle.lasso_shared.specs.Notes.{NoteView, history, state, Since}
 use Rattle.lasso_shared.proofs.Histories.{history_append, events_append}
 
 module _ {K : Type 0} (key_at : ℕ → Option K) (o : Totals) (p : ℕ) where
   -- the reply is that of the list at the end
-  explained_last : (before after : List Note) (own : List Event) (q : Question) (r : Reply K) → Since p before after own → MayComeAfter q [] → MayReply key_at (state o after) q r → Makes q r own → IsCall key_at o (history before) (history after) p q r
+  explained_last : (before after : List NoteView) (own : List Event) (q : Question) (r : Reply K) → Since p before after own → MayComeAfter q [] → MayReply key_at (state o after) q r → Makes q r own → IsCall key_at o (history before) (history after) p q r
   explained_last before after own q r s last reply makes =
       let whole : history before ++ history s.rest ≡ history after = sym (history_append before s.rest) ∙ ap history s.begins in record {
         past = history s.rest;
@@ -23,7 +23,7 @@ module _ {K : Type 0} (key_at : ℕ → Option K) (o : Totals) (p : ℕ) where
       }
 
   -- what the pass saw before the call, without an event of its own, may be counted to the call
-  pub called_later : (before mid : List Note) (after : History) (q : Question) (r : Reply K) → Since p before mid [] → IsCall key_at o (history mid) after p q r → IsCall key_at o (history before) after p q r
+  pub called_later : (before mid : List NoteView) (after : History) (q : Question) (r : Reply K) → Since p before mid [] → IsCall key_at o (history mid) after p q r → IsCall key_at o (history before) after p q r
   called_later before mid after q r s c =
       let whole : history before ++ history s.rest ≡ history mid = sym (history_append before s.rest) ∙ ap history s.begins in
       let x = c.explained in record {
@@ -39,23 +39,23 @@ module _ {K : Type 0} (key_at : ℕ → Option K) (o : Totals) (p : ℕ) where
         makes = subst (Makes q r) (sym (events_append p (history s.rest) c.past ∙ ap (λ (es : List Event). es ++ events_of p c.past) s.events)) c.makes;
       }
 
-  pub resolved : (before after : List Note) (n : ℕ) (r : Option Text) → Since p before after [] → r ≡ slice_get (state o after).texts n → IsCall key_at o (history before) (history after) p (Resolve n) (Resolved r)
+  pub resolved : (before after : List NoteView) (n : ℕ) (r : Option Text) → Since p before after [] → r ≡ slice_get (state o after).texts n → IsCall key_at o (history before) (history after) p (Resolve n) (Resolved r)
   resolved before after n r s is = explained_last before after [] (Resolve n) (Resolved r) s tt is refl
 
   -- the text is there
-  pub found : (before after : List Note) (t : Text) (n : ℕ) (k : K) → Since p before after [] → position_of (state o after).texts t ≡ Some n → key_at n ≡ Some k → IsCall key_at o (history before) (history after) p (Intern Static t) (Interned (Ok k))
+  pub found : (before after : List NoteView) (t : Text) (n : ℕ) (k : K) → Since p before after [] → position_of (state o after).texts t ≡ Some n → key_at n ≡ Some k → IsCall key_at o (history before) (history after) p (Intern Static t) (Interned (Ok k))
   found before after t n k s at key = explained_last before after [] (Intern Static t) (Interned (Ok k)) s tt (ap (option_and_then key_at) at ∙ key) (inl refl)
 
   -- the text is new, and no key is left for it
-  pub keyless : (before after : List Note) (t : Text) → Since p before after [] → Lacks (state o after).texts t → key_at (length (state o after).texts) ≡ None → IsCall key_at o (history before) (history after) p (Intern Static t) (Interned (Err KeySpaceExhaustion))
+  pub keyless : (before after : List NoteView) (t : Text) → Since p before after [] → Lacks (state o after).texts t → key_at (length (state o after).texts) ≡ None → IsCall key_at o (history before) (history after) p (Intern Static t) (Interned (Err KeySpaceExhaustion))
   keyless before after t s lacks none = explained_last before after [] (Intern Static t) (Interned (Err KeySpaceExhaustion)) s tt (lacks, none) refl
 
   -- the text is new, and memory is wanting
-  pub wanting : (before after : List Note) (t : Text) → Since p before after [] → Lacks (state o after).texts t → IsCall key_at o (history before) (history after) p (Intern Static t) (Interned (Err FailedAllocation))
+  pub wanting : (before after : List NoteView) (t : Text) → Since p before after [] → Lacks (state o after).texts t → IsCall key_at o (history before) (history after) p (Intern Static t) (Interned (Err FailedAllocation))
   wanting before after t s lacks = explained_last before after [] (Intern Static t) (Interned (Err FailedAllocation)) s tt lacks refl
 
   -- the text is new, and was put last
-  pub added : (before after : List Note) (texts : List Text) (t : Text) (k : K) → Since p before after (Append t ∷ []) → (state o after).texts ≡ texts ++ t ∷ [] → IsDistinct texts → Lacks texts t → key_at (length texts) ≡ Some k
+  pub added : (before after : List NoteView) (texts : List Text) (t : Text) (k : K) → Since p before after (Append t ∷ []) → (state o after).texts ≡ texts ++ t ∷ [] → IsDistinct texts → Lacks texts t → key_at (length texts) ≡ Some k
       → IsCall key_at o (history before) (history after) p (Intern Static t) (Interned (Ok k))
   added before after texts t k s is distinct lacks key =
       let at : position_of (state o after).texts t ≡ Some (length texts) = ap (λ (ts : List Text). position_of ts t) is ∙ position_of_at (texts ++ t ∷ []) t (length texts) (distinct_push texts t distinct lacks) (slice_get_push texts t) in

@@ -5,9 +5,9 @@ use Rattle.lasso_parts.specs.Texts.{Text, position_of}
 use Rattle.lasso_parts.specs.declared.util.LassoErrorKind.{LassoErrorKind}
 use Rattle.lasso_shared.specs.History.{Append, Lacks}
 use Rattle.lasso_shared.specs.Notes.{Since}
-use Rattle.lasso_shared.specs.Sights.{Origin, Sight, Backbone, list_of, IsIdle, IsInternedAt}
+use Rattle.lasso_shared.specs.Views.{InternerId, PassView, SpineView, list_of, IsIdle, IsInternedAt}
 
-module _ {K : Type 0} (key_at : ℕ → Option K) (of : Origin) (before after : Sight) (spine spine_after : Backbone) (text : Text) where
+module _ {K : Type 0} (key_at : ℕ → Option K) (of : InternerId) (before after : PassView) (spine spine_after : SpineView) (text : Text) where
   abbrev reply : K → Result K LassoErrorKind
   reply k = Ok k
 

@@ -4,22 +4,22 @@ use Rattle.std.proofs.lemmas.List.{append-nil}
 use mathlib.Core.List.{IsPrefix}
 use Rattle.lasso_shared.specs.History.{History, Totals, totals}
 use Rattle.lasso_shared.specs.Calls.{events_of}
-use Rattle.lasso_shared.specs.Notes.{Note, history, state}
+use Rattle.lasso_shared.specs.Notes.{NoteView, history, state}
 use Rattle.lasso_shared.proofs.Legal.{totals_append}
 
 pub events_append : (p : ℕ) (h g : History) → events_of p (h ++ g) ≡ events_of p h ++ events_of p g
 events_append p [] g = refl
 events_append p (e ∷ h) g = let rest = events_append p h g in grind (arith, rest)
 
-pub history_append : (xs ys : List Note) → history (xs ++ ys) ≡ history xs ++ history ys
+pub history_append : (xs ys : List NoteView) → history (xs ++ ys) ≡ history xs ++ history ys
 history_append [] ys = refl
 history_append (e ∷ xs) ys = ap (λ (h : History). (e.by, e.event) ∷ h) (history_append xs ys)
 
-pub own_append : (p : ℕ) (xs ys : List Note) → events_of p (history (xs ++ ys)) ≡ events_of p (history xs) ++ events_of p (history ys)
+pub own_append : (p : ℕ) (xs ys : List NoteView) → events_of p (history (xs ++ ys)) ≡ events_of p (history xs) ++ events_of p (history ys)
 own_append p xs ys = ap (events_of p) (history_append xs ys) ∙ events_append p (history xs) (history ys)
 
 -- the state of a longer log, from that of its beginning
-pub state_past : (o : Totals) (v rest : List Note) → state o (v ++ rest) ≡ totals (state o v) (history rest)
+pub state_past : (o : Totals) (v rest : List NoteView) → state o (v ++ rest) ≡ totals (state o v) (history rest)
 state_past o v rest = ap (totals o) (history_append v rest) ∙ totals_append o (history v) (history rest)
 
 pub prefix_self : {A : Type 0} (xs : List A) → IsPrefix xs xs

@@ -13,9 +13,9 @@ use Rattle.std.proofs.lemmas.List.Elements.{All-from_recursion, recursion_from_A
 use Rattle.std.proofs.lemmas.List.Sums.{sum_by-append, sum_by-cons}
 use Rattle.lasso_parts.specs.Texts.{IsDistinct, Fits}
 use Rattle.lasso_parts.proofs.TextLemmas.{distinct_push, fits_push}
-use Rattle.lasso_shared.specs.Buckets.{Bucket, with_taken, changed_at, bucket_size}
+use Rattle.lasso_shared.specs.Buckets.{CountedBucket, with_taken, changed_at, bucket_size}
 use Rattle.lasso_shared.specs.History.{Event, Reserve, Charge, Append, Limit, History, Totals, IsOpening, opened, totals, counted, MayFollow, IsLegal}
-use Rattle.lasso_shared.specs.Laws.{IsKept, HoldsOfHistory}
+use Rattle.lasso_shared.specs.Laws.{KeepsRule, HoldsOfHistory}
 
 pub totals_append : (s : Totals) (h g : History) → totals s (h ++ g) ≡ totals (totals s h) g
 totals_append s [] g = refl
@@ -80,49 +80,49 @@ usage_limited key_at s (Reserve bucket n) may grew = absurd (omega arith)
 usage_limited key_at s (Append text) may grew = absurd (omega arith)
 usage_limited key_at s (Limit limit) may grew = absurd (omega arith)
 
-taken_within : (n place : ℕ) (bs : List Bucket) → AllByRecursion (λ (b : Bucket). b.used ≤ b.size) bs → IsSomeAnd (slice_get bs place) (λ (b : Bucket). b.used + n ≤ b.size) → AllByRecursion (λ (b : Bucket). b.used ≤ b.size) (changed_at place (with_taken n) bs)
+taken_within : (n place : ℕ) (bs : List CountedBucket) → AllByRecursion (λ (b : CountedBucket). b.used ≤ b.size) bs → IsSomeAnd (slice_get bs place) (λ (b : CountedBucket). b.used + n ≤ b.size) → AllByRecursion (λ (b : CountedBucket). b.used ≤ b.size) (changed_at place (with_taken n) bs)
 taken_within n place [] within room = within
 taken_within n zero (b ∷ bs) within room = (room, within.1)
 taken_within n (suc place) (b ∷ bs) within room = (within.0, taken_within n place bs within.1 room)
 
-taken_sizes : (n place : ℕ) (bs : List Bucket) → sum_by (λ (b : Bucket). b.size) (changed_at place (with_taken n) bs) ≡ sum_by (λ (b : Bucket). b.size) bs
+taken_sizes : (n place : ℕ) (bs : List CountedBucket) → sum_by (λ (b : CountedBucket). b.size) (changed_at place (with_taken n) bs) ≡ sum_by (λ (b : CountedBucket). b.size) bs
 taken_sizes n place [] = refl
 taken_sizes n zero (b ∷ bs) = grind arith
 taken_sizes n (suc place) (b ∷ bs) =
-    sum_by-cons (λ (b : Bucket). b.size) b (changed_at place (with_taken n) bs) ∙ ap (λ k. b.size + k) (taken_sizes n place bs) ∙ sym (sum_by-cons (λ (b : Bucket). b.size) b bs)
+    sum_by-cons (λ (b : CountedBucket). b.size) b (changed_at place (with_taken n) bs) ∙ ap (λ k. b.size + k) (taken_sizes n place bs) ∙ sym (sum_by-cons (λ (b : CountedBucket). b.size) b bs)
 
 -- one event keeps the buckets within their sizes, and the usage their sum
-keeps_buckets : {K : Type 0} (key_at : ℕ → Option K) (s : Totals) (e : Event) → All (λ (b : Bucket). b.used ≤ b.size) s.buckets → s.usage ≡ sum_by (λ (b : Bucket). b.size) s.buckets → MayFollow key_at s e → All (λ (b : Bucket). b.used ≤ b.size) (counted s e).buckets × ((counted s e).usage ≡ sum_by (λ (b : Bucket). b.size) (counted s e).buckets)
+keeps_buckets : {K : Type 0} (key_at : ℕ → Option K) (s : Totals) (e : Event) → All (λ (b : CountedBucket). b.used ≤ b.size) s.buckets → s.usage ≡ sum_by (λ (b : CountedBucket). b.size) s.buckets → MayFollow key_at s e → All (λ (b : CountedBucket). b.used ≤ b.size) (counted s e).buckets × ((counted s e).usage ≡ sum_by (λ (b : CountedBucket). b.size) (counted s e).buckets)
 keeps_buckets key_at s (Reserve bucket n) within usage may = (
-  All-from_recursion (λ (b : Bucket). b.used ≤ b.size) (changed_at bucket (with_taken n) s.buckets) (taken_within n bucket s.buckets (recursion_from_All (λ (b : Bucket). b.used ≤ b.size) s.buckets within) may.1),
+  All-from_recursion (λ (b : CountedBucket). b.used ≤ b.size) (changed_at bucket (with_taken n) s.buckets) (taken_within n bucket s.buckets (recursion_from_All (λ (b : CountedBucket). b.used ≤ b.size) s.buckets within) may.1),
   usage ∙ sym (taken_sizes n bucket s.buckets),
 )
 keeps_buckets key_at s (Charge size n) within usage may = (
-  All-push (λ (b : Bucket). b.used ≤ b.size) s.buckets (record { size = size; used = n }) within (bucket_fits s.doubling s.usage s.limit n size may.0 may.2).0,
-  (let sum = sum_by-append (λ (b : Bucket). b.size) s.buckets (record { size = size; used = n } ∷ []) in omega (arith, sum, usage)),
+  All-push (λ (b : CountedBucket). b.used ≤ b.size) s.buckets (record { size = size; used = n }) within (bucket_fits s.doubling s.usage s.limit n size may.0 may.2).0,
+  (let sum = sum_by-append (λ (b : CountedBucket). b.size) s.buckets (record { size = size; used = n } ∷ []) in omega (arith, sum, usage)),
 )
 keeps_buckets key_at s (Append text) within usage may = (within, usage)
 keeps_buckets key_at s (Limit limit) within usage may = (within, usage)
 
 -- ---- all of it
 
-kept_by : {K : Type 0} (key_at : ℕ → Option K) (s : Totals) (e : Event) → IsKept key_at s → MayFollow key_at s e → IsKept key_at (counted s e)
+kept_by : {K : Type 0} (key_at : ℕ → Option K) (s : Totals) (e : Event) → KeepsRule key_at s → MayFollow key_at s e → KeepsRule key_at (counted s e)
 kept_by key_at s e kept may =
     let list = keeps_list key_at s e kept.distinct kept.fits may in
     let buckets = keeps_buckets key_at s e kept.within kept.usage may in
     record { distinct = list.0; fits = list.1; within = buckets.0; usage = buckets.1 }
 
-kept_after : {K : Type 0} (key_at : ℕ → Option K) (s : Totals) (h : History) → IsKept key_at s → IsLegal key_at s h → IsKept key_at (totals s h)
+kept_after : {K : Type 0} (key_at : ℕ → Option K) (s : Totals) (h : History) → KeepsRule key_at s → IsLegal key_at s h → KeepsRule key_at (totals s h)
 kept_after key_at s [] kept legal = kept
 kept_after key_at s (e ∷ h) kept legal = kept_after key_at (counted s e.1) h (kept_by key_at s e.1 kept legal.0) legal.1
 
-kept_opening : {K : Type 0} (key_at : ℕ → Option K) (opening : Totals) → IsOpening key_at opening → IsKept key_at opening
+kept_opening : {K : Type 0} (key_at : ℕ → Option K) (opening : Totals) → IsOpening key_at opening → KeepsRule key_at opening
 kept_opening key_at opening opens = record {
   distinct = opens.distinct;
   fits = opens.fits;
-  within = subst (λ (t : Totals). All (λ (b : Bucket). b.used ≤ b.size) t.buckets) (sym is)
-      (All-cons (λ (b : Bucket). b.used ≤ b.size) (record { size = opens.bucket.0; used = opens.bucket.1 }) [] opens.bucket.2 (All-nil (λ (b : Bucket). b.used ≤ b.size)));
-  usage = subst (λ (t : Totals). t.usage ≡ sum_by (λ (b : Bucket). b.size) t.buckets) (sym is) (omega arith);
+  within = subst (λ (t : Totals). All (λ (b : CountedBucket). b.used ≤ b.size) t.buckets) (sym is)
+      (All-cons (λ (b : CountedBucket). b.used ≤ b.size) (record { size = opens.bucket.0; used = opens.bucket.1 }) [] opens.bucket.2 (All-nil (λ (b : CountedBucket). b.used ≤ b.size)));
+  usage = subst (λ (t : Totals). t.usage ≡ sum_by (λ (b : CountedBucket). b.size) t.buckets) (sym is) (omega arith);
 }
   where
     is : opening ≡ opened opening.texts opens.bucket.0 opens.bucket.1 opening.limit

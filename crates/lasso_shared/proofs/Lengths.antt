@@ -4,9 +4,9 @@ use Rattle.std.specs.Prelude.{IsSome, MatchOption}
 use mathlib.Core.List.{IsPrefix}
 use Rattle.lasso_parts.specs.Texts.{Text}
 use Rattle.lasso_shared.specs.History.{Event, Reserve, Charge, Append, Limit, Totals, totals, counted, Lacks, MayFollow}
-use Rattle.lasso_shared.specs.Rows.{OnlyGrows}
-use Rattle.lasso_shared.specs.Notes.{Note, history, state, worded, words_after, words_of, first_words, IsWord, IsWordWith, titled, texts_titled, text_of}
-use Rattle.lasso_shared.specs.Book.{May, Moving, Lets, shown}
+use Rattle.lasso_shared.specs.Chunks.{ListOnlyGrows}
+use Rattle.lasso_shared.specs.Notes.{NoteView, history, state, worded, words_after, words_of, first_words, IsWord, IsWordWith, titled, texts_titled, appended_text}
+use Rattle.lasso_shared.specs.Book.{May, Moving, Lets, titles_of}
 use Rattle.lasso_shared.specs.Events.{IsQuiet, ready}
 use Rattle.lasso_shared.proofs.Histories.{state_past, prefix_whole, prefix_tail}
 use Rattle.lasso_shared.proofs.Legal.{list_grows}
@@ -23,7 +23,7 @@ event_length first s (w ∷ ws) t (Charge size n) h = h
 event_length first s (w ∷ ws) t (Append x) h = let one = length-append s.texts (x ∷ []) in omega (arith, h, one)
 event_length first s (w ∷ ws) t (Limit m) h = h
 
-length_after : (first : ℕ) (s : Totals) (ws : List (ℕ × ℕ)) (es : List Note) → HasLength first (length s.texts) ws → HasLength first (length (totals s (history es)).texts) (words_after ws es)
+length_after : (first : ℕ) (s : Totals) (ws : List (ℕ × ℕ)) (es : List NoteView) → HasLength first (length s.texts) ws → HasLength first (length (totals s (history es)).texts) (words_after ws es)
 length_after first s ws [] h = h
 length_after first s ws (e ∷ es) h = length_after first (counted s e.event) (worded ws e.ticket e.event) es (event_length first s ws e.ticket e.event h)
 
@@ -32,53 +32,53 @@ length_get first now k n [] h e = absurd h
 length_get first now k n (w ∷ ws) h e = let is : w ≡ (k, n) = cc e in h ∙ ap (λ (y : ℕ × ℕ). first + y.1) is
 
 -- the length of the list is what the first word says
-pub length_of : (o : Totals) (log : List Note) (k n : ℕ) → IsWordWith log 0 k n → length (state o log).texts ≡ length o.texts + n
+pub length_of : (o : Totals) (log : List NoteView) (k n : ℕ) → IsWordWith log 0 k n → length (state o log).texts ≡ length o.texts + n
 length_of o log k n word = length_get (length o.texts) (length (state o log).texts) k n (words_of log) (length_after (length o.texts) o first_words log (omega arith)) word
 
-pub texts_past : (o : Totals) (v log : List Note) → IsPrefix v log → IsPrefix (state o v).texts (state o log).texts
+pub texts_past : (o : Totals) (v log : List NoteView) → IsPrefix v log → IsPrefix (state o v).texts (state o log).texts
 texts_past o v log p =
     let is : state o log ≡ totals (state o v) (history p.0) = ap (state o) (sym p.1) ∙ state_past o v p.0 in
     subst (λ (s : Totals). IsPrefix (state o v).texts s.texts) (sym is) (list_grows (state o v) (history p.0))
 
 -- a longer log with a list of the same length has the same list
-pub same_texts : (o : Totals) (v log : List Note) → IsPrefix v log → length (state o v).texts ≡ length (state o log).texts → (state o v).texts ≡ (state o log).texts
+pub same_texts : (o : Totals) (v log : List NoteView) → IsPrefix v log → length (state o v).texts ≡ length (state o log).texts → (state o v).texts ≡ (state o log).texts
 same_texts o v log p len = prefix_whole (state o v).texts (state o log).texts (texts_past o v log p) (sym len)
 
 -- what the cells of the texts see only grows
-pub only_grows : OnlyGrows shown texts_titled
-only_grows [] after p = (texts_titled (shown after), refl)
+pub only_grows : ListOnlyGrows titles_of texts_titled
+only_grows [] after p = (texts_titled (titles_of after), refl)
 only_grows (x ∷ xs) [] p = absurd (cc (p.1))
 only_grows (x ∷ xs) (y ∷ ys) p =
     let r = prefix_tail x y xs ys p in
-    subst (λ (f : Note). IsPrefix (state x.opening xs).texts (state f.opening ys).texts) r.0 (texts_past x.opening xs ys r.1)
+    subst (λ (f : NoteView). IsPrefix (state x.opening xs).texts (state f.opening ys).texts) r.0 (texts_past x.opening xs ys r.1)
 
 pub text_added : (s : Totals) (e : Event) (t : Text) → e ≡ Append t → (counted s e).texts ≡ s.texts ++ t ∷ []
 text_added s e t is = ap (λ (f : Event). (counted s f).texts) is
 
 -- the state with one note more
-pub one_more : (o : Totals) (log : List Note) (e : Note) → state o (log ++ e ∷ []) ≡ counted (state o log) e.event
+pub one_more : (o : Totals) (log : List NoteView) (e : NoteView) → state o (log ++ e ∷ []) ≡ counted (state o log) e.event
 one_more o log e = state_past o log (e ∷ [])
 
 module _ {Key : Type 0} (keys : ℕ → Option Key) where
   -- a text that the list lacked when it was seen may be appended wherever the list has still the same length
-  pub may_append : (o : Totals) (v : List Note) (t : Text) (old : ℕ) → length (state o v).texts ≡ length o.texts + old → MayFollow keys (state o v) (Append t) → May keys o v 0 0 old (Append t)
+  pub may_append : (o : Totals) (v : List NoteView) (t : Text) (old : ℕ) → length (state o v).texts ≡ length o.texts + old → MayFollow keys (state o v) (Append t) → May keys o v 0 0 old (Append t)
   may_append o v t old len may cells log kept begins word =
       let here = length_of o log 0 old word in
       let same = same_texts o v log begins (len ∙ sym here) in
       subst (λ (ts : List Text). Lacks ts t × IsSome (keys (length ts))) same may
 
   -- the update of an append files the text at the position that was the length
-  pub lets_append : (o : Totals) (v : List Note) (e : Note) (old : ℕ) (t : Text) → e.event ≡ Append t → e.place ≡ length o.texts + old → Lets keys o v 0 0 old e None
+  pub lets_append : (o : Totals) (v : List NoteView) (e : NoteView) (old : ℕ) (t : Text) → e.event ≡ Append t → e.position ≡ length o.texts + old → Lets keys o v 0 0 old e None
   lets_append o v e old t is place = (
     Some 0,
     λ cells log kept begins word.
         let after : (state o (log ++ e ∷ [])).texts ≡ (state o log).texts ++ t ∷ [] = ap (λ (s : Totals). s.texts) (one_more o log e) ∙ text_added (state o log) e.event t is in
-        let last : text_of e.event ≡ t = ap text_of is in
+        let last : appended_text e.event ≡ t = ap appended_text is in
         inr (0, refl, refl, (after ∙ ap (λ (x : Text). (state o log).texts ++ x ∷ []) (sym last), length_of o log 0 old word ∙ sym place)),
   )
 
   -- an event that leaves the list as it is needs no update
-  pub lets_quiet : (o : Totals) (v : List Note) (e : Note) (j k old : ℕ) (s : Option ℕ) → ((t : Totals) → (counted t e.event).texts ≡ t.texts) → Lets keys o v j k old e s
+  pub lets_quiet : (o : Totals) (v : List NoteView) (e : NoteView) (j k old : ℕ) (s : Option ℕ) → ((t : Totals) → (counted t e.event).texts ≡ t.texts) → Lets keys o v j k old e s
   lets_quiet o v e j k old s quiet = (
     s,
     λ cells log kept begins word.
@@ -89,12 +89,12 @@ pub moving_append : (t : ℕ) (x : Text) (y : ℕ) → Moving t (Append x) 0 1 y
 moving_append t x y ws = inl refl
 
 -- the update of a note: it files an appended text, or has nothing to do
-pub lets_filed : {Key F : Type 0} (keys : ℕ → Option Key) (o : Totals) (v : List Note) (e : Note) (j k old : ℕ) (filing : Option F) (text : F → Text) (At : F → Type 0)
-    → MatchOption filing (IsQuiet e.event) (λ f. At f × (e.event ≡ Append (text f)) × (j ≡ 0) × (k ≡ 0) × (e.place ≡ length o.texts + old)) → Lets keys o v j k old e (ready filing)
+pub lets_filed : {Key F : Type 0} (keys : ℕ → Option Key) (o : Totals) (v : List NoteView) (e : NoteView) (j k old : ℕ) (cell_proof : Option F) (text : F → Text) (At : F → Type 0)
+    → MatchOption cell_proof (IsQuiet e.event) (λ f. At f × (e.event ≡ Append (text f)) × (j ≡ 0) × (k ≡ 0) × (e.position ≡ length o.texts + old)) → Lets keys o v j k old e (ready cell_proof)
 lets_filed keys o v e j k old None text At quiet = lets_quiet keys o v e j k old (Some 0) quiet
 lets_filed keys o v e j k old (Some f) text At is =
     subst (λ (i : ℕ). Lets keys o v i k old e None) (sym is.2) (subst (λ (i : ℕ). Lets keys o v 0 i old e None) (sym is.3) (lets_append keys o v e old (text f) is.1 is.4))
 
 -- every history has the length word, at place 0 and with key 0
-pub has_head : (notes : List Note) → IsWord notes 0 0
+pub has_head : (notes : List NoteView) → IsWord notes 0 0
 has_head notes = let r = word_later [] notes 0 0 0 (notes, refl) refl in (r.0, r.1)

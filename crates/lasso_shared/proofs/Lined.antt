@@ -1,7 +1,7 @@
--- Texts that lie in rows, as a resource: how a text is put to them, and how one is taken out of them.
+-- Texts that lie in chunks, as a resource: how a text is put to them, and how one is taken out of them.
 --
--- Each text of the list is kept as two lasting facts: that its row is written, and that the cell at its offset
--- in that row is written with something that means the text. A lasting fact can be had any number of times.
+-- Each text of the list is kept as two lasting facts: that its chunk is written, and that the cell at its offset
+-- in that chunk is written with something that means the text. A lasting fact can be had any number of times.
 -- So one more text is a matter of putting its two facts at the end of the list, and a fact of a position below
 -- the length is had by a walk along the list, which copies it and leaves the list as it was. Assumes `Logic`.
 use Rattle.std.proofs.Common.{◌≡◌, ℕ, zero, suc, ◌+◌, ◌<◌, ◌≤◌, List, [], ◌∷◌, ◌++◌, length, slice_index, slice_index_or, sym, refl, arith}
@@ -18,14 +18,14 @@ use denote.Steps.{nothing}
 use denote.RattleType.{RattleType}
 use Rattle.std.specs.declared.option.Option.TheVariants.{None}
 use Rattle.logbook.specs.Pages.{Cell, Book}
-use Rattle.logbook.specs.Kept.{Rules, rules, offer_owns}
+use Rattle.logbook.specs.LogKeepsRule.{Rules, rules, offer_owns}
 use Rattle.boxcar.specs.Slot.{written, Named}
 use Rattle.lasso_parts.specs.Texts.{Text}
-use Rattle.lasso_shared.specs.Rows.{row_of, offset_of, name_at, IsPlace, held, holds_text, in_row, filled, lined, OnlyGrows, PutsLast}
+use Rattle.lasso_shared.specs.Chunks.{chunk_of, offset_of, name_at, IsCellAt, held, holds_text, in_chunk, filled, lined, ListOnlyGrows, PutsLast}
 use Rattle.lasso_shared.proofs.Opened.{Cells, Sees, At, looks}
 
 module _ (V R : RattleType) (cells : V.Denot → List Named) (meaning : R.Denot → Text) where
-  -- what lies in the rows names no token of one thread
+  -- what lies in the chunks names no token of one thread
   pub lined_keyless : (names : List ℕ) (n : ℕ) (texts : List Text) → Keyless (lined V R cells meaning names n texts)
   lined_keyless names n [] = tt
   lined_keyless names n (t ∷ ts) = ((λ v. (tt, λ x. (tt, λ e. tt))), lined_keyless names (suc n) ts)
@@ -65,7 +65,7 @@ module _ {M : Type 1} {𝓤 : Ura M} (𝓛 : Logic 𝓤) (V R : RattleType) (cel
   infixr 30 ◌-∗◌
   -- the cell of position n is filled with this text
   abbrev pub Filled : List ℕ → ℕ → Text → Fml
-  Filled names n text = filled V R cells meaning (slice_index names (row_of n)) (offset_of n) text
+  Filled names n text = filled V R cells meaning (slice_index names (chunk_of n)) (offset_of n) text
 
   abbrev pub Lined : List ℕ → ℕ → List Text → Fml
   Lined = lined V R cells meaning
@@ -75,20 +75,20 @@ module _ {M : Type 1} {𝓤 : Ura M} (𝓛 : Logic 𝓤) (V R : RattleType) (cel
       fpack ! R.Denot (held V R cells meaning cell text) x $ done !
 
   -- the two facts of a position
-  pub fills : (row offset : ℕ) (v : V.Denot) (x : R.Denot) (text : Text) → meaning x ≡ text
-      → ⟦ written V row v ⟧ ∗ ⟦ written R (name_at (cells v) offset) x ⟧ ⊢ ⟦ filled V R cells meaning row offset text ⟧
-  fills row offset v x text is = let cell : ℕ = name_at (cells v) offset in qed 𝓛 (‵ (written V row v) ∷ ‵ (written R cell x) ∷ []) ∵ move ! (1 ∷ []) $
-      use1 𝓛 (‵ (holds_text V R cells meaning cell text)) (fills_cell cell x text is) $ move ! (1 ∷ 0 ∷ []) $ fjoin ! $ fpack ! V.Denot (in_row V R cells meaning row offset text) v $ done !
+  pub fills : (chunk offset : ℕ) (v : V.Denot) (x : R.Denot) (text : Text) → meaning x ≡ text
+      → ⟦ written V chunk v ⟧ ∗ ⟦ written R (name_at (cells v) offset) x ⟧ ⊢ ⟦ filled V R cells meaning chunk offset text ⟧
+  fills chunk offset v x text is = let cell : ℕ = name_at (cells v) offset in qed 𝓛 (‵ (written V chunk v) ∷ ‵ (written R cell x) ∷ []) ∵ move ! (1 ∷ []) $
+      use1 𝓛 (‵ (holds_text V R cells meaning cell text)) (fills_cell cell x text is) $ move ! (1 ∷ 0 ∷ []) $ fjoin ! $ fpack ! V.Denot (in_chunk V R cells meaning chunk offset text) v $ done !
 
-  pub fills_place : (names : List ℕ) (n : ℕ) (row cell : ℕ) (v : V.Denot) (x : R.Denot) (text : Text) → IsPlace names n row (cells v) cell → meaning x ≡ text
-      → ⟦ written V row v ⟧ ∗ ⟦ written R cell x ⟧ ⊢ ⟦ Filled names n text ⟧
-  fills_place names n row cell v x text at is = qed 𝓛 (‵ (written V row v) ∷ ‵ (written R cell x) ∷ []) ∵ rewrite ! 0 (λ (k : ℕ). ‵ (written V k v)) at.0 refl $
-      rewrite ! 1 (λ (k : ℕ). ‵ (written R k x)) at.1 refl $ by ! (fills (slice_index names (row_of n)) (offset_of n) v x text is)
+  pub fills_place : (names : List ℕ) (n : ℕ) (chunk cell : ℕ) (v : V.Denot) (x : R.Denot) (text : Text) → IsCellAt names n chunk (cells v) cell → meaning x ≡ text
+      → ⟦ written V chunk v ⟧ ∗ ⟦ written R cell x ⟧ ⊢ ⟦ Filled names n text ⟧
+  fills_place names n chunk cell v x text at is = qed 𝓛 (‵ (written V chunk v) ∷ ‵ (written R cell x) ∷ []) ∵ rewrite ! 0 (λ (k : ℕ). ‵ (written V k v)) at.0 refl $
+      rewrite ! 1 (λ (k : ℕ). ‵ (written R k x)) at.1 refl $ by ! (fills (slice_index names (chunk_of n)) (offset_of n) v x text is)
 
-  twice : (row offset : ℕ) (text : Text) → ⟦ filled V R cells meaning row offset text ⟧ ⊢ ⟦ filled V R cells meaning row offset text ⟧ ∗ ⟦ filled V R cells meaning row offset text ⟧
-  twice row offset text = let F : Fml = filled V R cells meaning row offset text in qed 𝓛 (‵ F ∷ []) ∵
+  twice : (chunk offset : ℕ) (text : Text) → ⟦ filled V R cells meaning chunk offset text ⟧ ⊢ ⟦ filled V R cells meaning chunk offset text ⟧ ∗ ⟦ filled V R cells meaning chunk offset text ⟧
+  twice chunk offset text = let F : Fml = filled V R cells meaning chunk offset text in qed 𝓛 (‵ F ∷ []) ∵
       fpick ! (λ v. fsplit ! $ res_dup ! $ move ! (2 ∷ []) $ fpick ! (λ x. fsplit ! $ move ! (1 ∷ []) $ fpick ! (λ is. drop ! $ res_dup ! $
-      move ! (2 ∷ 0 ∷ []) $ use2 𝓛 (‵ F) (fills row offset v x text is) $ frame ! $ move ! (1 ∷ 0 ∷ []) $ by ! (fills row offset v x text is))))
+      move ! (2 ∷ 0 ∷ []) $ use2 𝓛 (‵ F) (fills chunk offset v x text is) $ frame ! $ move ! (1 ∷ 0 ∷ []) $ by ! (fills chunk offset v x text is))))
 
   -- one text more, at the end
   pub grown : (names : List ℕ) (n : ℕ) (texts : List Text) (text : Text) → ⟦ Lined names n texts ⟧ ∗ ⟦ Filled names (n + length texts) text ⟧ ⊢ ⟦ Lined names n (texts ++ text ∷ []) ⟧
@@ -102,7 +102,7 @@ module _ {M : Type 1} {𝓤 : Ura M} (𝓛 : Logic 𝓤) (V R : RattleType) (cel
   pub taken : (names : List ℕ) (n : ℕ) (texts : List Text) (k : ℕ) → k < length texts → ⟦ Lined names n texts ⟧ ⊢ ⟦ Lined names n texts ⟧ ∗ ⟦ Filled names (n + k) (slice_index_or texts k []) ⟧
   taken names n [] k low = absurd (omega arith)
   taken names n (t ∷ texts) zero low = let here : n ≡ n + 0 = omega arith in qed 𝓛 ((‵ (Filled names n t) ⊛ ‵ (Lined names (suc n) texts)) ∷ []) ∵ split ! $
-      use1 𝓛 (‵ (Filled names n t) ⊛ ‵ (Filled names n t)) (twice (slice_index names (row_of n)) (offset_of n) t) $ split ! $ move ! (0 ∷ 2 ∷ 1 ∷ []) $ fjoin ! $ frame ! $
+      use1 𝓛 (‵ (Filled names n t) ⊛ ‵ (Filled names n t)) (twice (slice_index names (chunk_of n)) (offset_of n) t) $ split ! $ move ! (0 ∷ 2 ∷ 1 ∷ []) $ fjoin ! $ frame ! $
       rewrite ! 0 (λ (k : ℕ). ‵ (Filled names k t)) here refl $ done !
   taken names n (t ∷ texts) (suc k) low = let on : suc n + k ≡ n + suc k = omega arith in let found : Text = slice_index_or texts k [] in
       qed 𝓛 ((‵ (Filled names n t) ⊛ ‵ (Lined names (suc n) texts)) ∷ []) ∵ split ! $ move ! (1 ∷ []) $
@@ -114,12 +114,12 @@ module _ {M : Type 1} {𝓤 : Ura M} (𝓛 : Logic 𝓤) (V R : RattleType) (cel
     keeps names shown = Lined names 0 (listed shown)
 
     -- an update that puts last what the two facts are of
-    pub offered : (moves : List E → List E → ℕ → Type 0) (names : List ℕ) (place row cell : ℕ) (text : Text) (v : V.Denot) (x : R.Denot)
-        → ((before after : List E) (answer : ℕ) → moves before after answer → PutsLast listed place text before after) → IsPlace names place row (cells v) cell → meaning x ≡ text
-        → ⟦ written V row v ⟧ ∗ ⟦ written R cell x ⟧ ⊢ ⟦ offer_owns (keeps names) moves (λ (_ : ℕ). ftrue) None ⟧
-    offered moves names place row cell text v x puts at is = let F : Fml = Filled names place text in
+    pub offered : (moves : List E → List E → ℕ → Type 0) (names : List ℕ) (place chunk cell : ℕ) (text : Text) (v : V.Denot) (x : R.Denot)
+        → ((before after : List E) (answer : ℕ) → moves before after answer → PutsLast listed place text before after) → IsCellAt names place chunk (cells v) cell → meaning x ≡ text
+        → ⟦ written V chunk v ⟧ ∗ ⟦ written R cell x ⟧ ⊢ ⟦ offer_owns (keeps names) moves (λ (_ : ℕ). ftrue) None ⟧
+    offered moves names place chunk cell text v x puts at is = let F : Fml = Filled names place text in
         let Goes : List E × List E × ℕ → Pr = λ t. ⟦ keeps names t.0 ⟧ -∗ upd 𝓤 (⟦ keeps names t.1 ⟧ ∗ ⟦ ftrue ⟧) in
-        via 𝓤 _ (fills_place names place row cell v x text at is)
+        via 𝓤 _ (fills_place names place chunk cell v x text at is)
         (all_i 𝓤 (λ (t : List E × List E × ℕ). all 𝓤 (λ (_ : moves t.0 t.1 t.2). Goes t)) (λ t. all_i 𝓤 (λ (_ : moves t.0 t.1 t.2). Goes t) (λ m.
         let put : PutsLast listed place text t.0 t.1 = puts t.0 t.1 t.2 m in let last : place ≡ 0 + length (listed t.0) = omega (arith, put.1) in
         qed 𝓛 (‵ F ∷ []) ∵ assume ! (‵ (keeps names t.0)) $ suffices ! _ (upd_i 𝓤 (⟦ keeps names t.1 ⟧ ∗ ⟦ ftrue ⟧)) $ move ! (1 ∷ []) $
@@ -140,7 +140,7 @@ module _ {M : Type 1} {𝓤 : Ura M} (𝓛 : Logic 𝓤) (V R : RattleType) (cel
       Known log n = Filled names n (slice_index_or (listed (shows log)) n [])
 
       -- whoever has seen a log finds the facts of a position below the length of its list
-      pub finds : OnlyGrows shows listed → (seen : List E) (n : ℕ) → n < length (listed (shows seen))
+      pub finds : ListOnlyGrows shows listed → (seen : List E) (n : ℕ) → n < length (listed (shows seen))
           → ⟦ SeesLog seen ⟧ ⊢ H.⇛ (⟦ SeesLog seen ⟧ ∗ ⟦ Known seen n ⟧)
       finds grows seen n low = let Cells' : List Cell → Fml = Cells 𝓛 cv rule bk names in let X : At 𝓛 cv rule bk names → Pr = λ s. ⟦ Known seen n ⟧ in
           let here : 0 + n ≡ n = omega arith in

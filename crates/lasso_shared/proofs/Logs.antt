@@ -4,38 +4,38 @@ use mathlib.Core.List.{IsPrefix}
 use prog.Atomic.{either}
 use Rattle.logbook.specs.Pages.{Cell, cell, Nib, no_nib, may_write, step, View, Moves}
 use Rattle.lasso_shared.specs.History.{Totals, IsLegal}
-use Rattle.lasso_shared.specs.Notes.{Note, history, opening_of, notes_of, IsOpened, ticket_of, Since, IsWord, IsWordWith}
-use Rattle.lasso_shared.specs.Book.{IsKept, Kept, Peeks, Fetches, Adds, Moving, May, Lets, Moved, IsDone, Reads, shown}
+use Rattle.lasso_shared.specs.Notes.{NoteView, history, opening_of, notes_of, IsOpened, ticket_of, Since, IsWord, IsWordWith}
+use Rattle.lasso_shared.specs.Book.{KeepsRule, LogKeepsRule, Peeks, Fetches, Adds, Moving, May, Lets, Moved, IsDone, Reads, titles_of}
 use Rattle.lasso_shared.proofs.Histories.{prefix_tail, prefix_trans, prefix_self}
 use Rattle.lasso_shared.proofs.Tickets.{still, grown, next_ticket}
 use Rattle.lasso_shared.proofs.Words.{word_later}
 use Rattle.lasso_shared.proofs.Steps.{peek_moves, fetch_moves, add_moves, stands}
 
 -- a longer log has the same opening, and more notes
-pub tails : (xs ys : List Note) → IsOpened xs → IsPrefix xs ys → IsOpened ys × (opening_of xs ≡ opening_of ys) × IsPrefix (notes_of xs) (notes_of ys)
+pub tails : (xs ys : List NoteView) → IsOpened xs → IsPrefix xs ys → IsOpened ys × (opening_of xs ≡ opening_of ys) × IsPrefix (notes_of xs) (notes_of ys)
 tails [] ys o p = absurd o
 tails (x ∷ xs) [] o p = absurd (cc (p.1))
-tails (x ∷ xs) (y ∷ ys) o p = let r = prefix_tail x y xs ys p in (tt, ap (λ (e : Note). e.opening) r.0, r.1)
+tails (x ∷ xs) (y ∷ ys) o p = let r = prefix_tail x y xs ys p in (tt, ap (λ (e : NoteView). e.opening) r.0, r.1)
 
-notes_push : (xs : List Note) (e : Note) → IsOpened xs → notes_of (xs ++ e ∷ []) ≡ notes_of xs ++ e ∷ []
+notes_push : (xs : List NoteView) (e : NoteView) → IsOpened xs → notes_of (xs ++ e ∷ []) ≡ notes_of xs ++ e ∷ []
 notes_push [] e o = absurd o
 notes_push (x ∷ xs) e o = refl
 
 module _ {Key : Type 0} (keys : ℕ → Option Key) where
-  pub kept_opened : (cells : List Cell) (log : List Note) → Kept keys cells log → IsOpened log × IsKept keys cells (opening_of log) (notes_of log)
+  pub kept_opened : (cells : List Cell) (log : List NoteView) → LogKeepsRule keys cells log → IsOpened log × KeepsRule keys cells (opening_of log) (notes_of log)
   kept_opened cells [] kept = absurd kept
   kept_opened cells (o ∷ log) kept = (tt, kept)
 
-  pub peek_opened : (log : List Note) (e : Note) (s : Option ℕ) (j k : ℕ) → IsOpened log → IsWord (notes_of log) j k → Moves (Kept keys) shown (Moved e) k (log, (no_nib, s)) (λ n. n) (Peeks keys (step k 0 0 e) (log, (no_nib, s)))
+  pub peek_opened : (log : List NoteView) (e : NoteView) (s : Option ℕ) (j k : ℕ) → IsOpened log → IsWord (notes_of log) j k → Moves (LogKeepsRule keys) titles_of (Moved e) k (log, (no_nib, s)) (λ n. n) (Peeks keys (step k 0 0 e) (log, (no_nib, s)))
   peek_opened [] e s j k o word = absurd o
   peek_opened (f ∷ log) e s j k o word = peek_moves keys f log e s j k word
 
-  pub fetch_opened : (log : List Note) (e : Note) (s : Option ℕ) → IsOpened log → Moves (Kept keys) shown (Moved e) 0 (log, (no_nib, s)) (λ n. either (n == 0) 0 n) (Fetches keys (step 0 0 0 e) (log, (no_nib, s)))
+  pub fetch_opened : (log : List NoteView) (e : NoteView) (s : Option ℕ) → IsOpened log → Moves (LogKeepsRule keys) titles_of (Moved e) 0 (log, (no_nib, s)) (λ n. either (n == 0) 0 n) (Fetches keys (step 0 0 0 e) (log, (no_nib, s)))
   fetch_opened [] e s o = absurd o
   fetch_opened (f ∷ log) e s o = fetch_moves keys f log e s
 
   -- what a pass knows of `b`, where its ticket was out at the later log `c`
-  pub still_opened : (a b c : List Note) (p t : ℕ) → IsOpened a → IsPrefix a b → IsPrefix b c → t ≡ ticket_of p (notes_of a) → ((cells : List Cell) × Kept keys cells c × ((cell cells t).1 ≡ false))
+  pub still_opened : (a b c : List NoteView) (p t : ℕ) → IsOpened a → IsPrefix a b → IsPrefix b c → t ≡ ticket_of p (notes_of a) → ((cells : List Cell) × LogKeepsRule keys cells c × ((cell cells t).1 ≡ false))
       → Since p (notes_of a) (notes_of b) [] × (ticket_of p (notes_of b) ≡ ticket_of p (notes_of a))
   still_opened a b c p t o ab bc is out =
       let r = tails a b o ab in
@@ -44,23 +44,23 @@ module _ {Key : Type 0} (keys : ℕ → Option Key) where
       still keys out.0 (opening_of c) p (notes_of a) (notes_of b) (notes_of c) r.2 s.2 k.1 (subst (λ (i : ℕ). (cell out.0 i).1 ≡ false) is out.2)
 
   -- a log that the rule held of has a legal history
-  pub legal_opened : (a b : List Note) → IsOpened a → IsPrefix a b → ((cells : List Cell) × Kept keys cells b) → IsLegal keys (opening_of a) (history (notes_of b))
+  pub legal_opened : (a b : List NoteView) → IsOpened a → IsPrefix a b → ((cells : List Cell) × LogKeepsRule keys cells b) → IsLegal keys (opening_of a) (history (notes_of b))
   legal_opened a b o ab held =
       let r = tails a b o ab in
       subst (λ (t : Totals). IsLegal keys t (history (notes_of b))) (sym r.1) (kept_opened held.0 b held.1).1.legal
 
-  pub read_value : (a b : List Note) (j k found : ℕ) → IsOpened a → IsPrefix a b → IsWord (notes_of a) j k → ((cells : List Cell) × Kept keys cells b × ((cell cells k).0 ≡ found)) → Reads keys (opening_of a) (notes_of b) j k found
+  pub read_value : (a b : List NoteView) (j k found : ℕ) → IsOpened a → IsPrefix a b → IsWord (notes_of a) j k → ((cells : List Cell) × LogKeepsRule keys cells b × ((cell cells k).0 ≡ found)) → Reads keys (opening_of a) (notes_of b) j k found
   read_value a b j k found o ab word at =
       let r = tails a b o ab in
-      let kept : IsKept keys at.0 (opening_of a) (notes_of b) = subst (λ (t : Totals). IsKept keys at.0 t (notes_of b)) (sym r.1) (kept_opened at.0 b at.1).1 in
+      let kept : KeepsRule keys at.0 (opening_of a) (notes_of b) = subst (λ (t : Totals). KeepsRule keys at.0 t (notes_of b)) (sym r.1) (kept_opened at.0 b at.1).1 in
       let s = stands keys at.0 (opening_of a) (notes_of a) (notes_of b) j k kept r.2 word in
       let n : s.0 ≡ found = ap (λ (c : Cell). c.0) (sym s.2) ∙ at.2 in
       (subst (IsWordWith (notes_of b) j k) n s.1, (at.0, kept))
 
   -- the exchange, where `a` is what the pass had seen, `g` what was given, and `v` both
-  pub add_opened : (a g v : List Note) (p : Nib) (e : Note) (s : Option ℕ) (j k old n : ℕ) → IsOpened a → IsPrefix a v → IsOpened g → IsPrefix g v → p.right ≡ may_write → e.ticket ≡ p.key → p.key ≡ ticket_of e.by (notes_of a)
+  pub add_opened : (a g v : List NoteView) (p : Nib) (e : NoteView) (s : Option ℕ) (j k old n : ℕ) → IsOpened a → IsPrefix a v → IsOpened g → IsPrefix g v → p.right ≡ may_write → e.ticket ≡ p.key → p.key ≡ ticket_of e.by (notes_of a)
       → IsWord (notes_of g) j k → Moving e.ticket e.event j n p.value → May keys (opening_of g) (notes_of g) j k old e.event → Lets keys (opening_of g) (notes_of g) j k old e s
-      → Moves (Kept keys) shown (Moved e) k (v, (p, s)) (λ m. either (m == old) (old + n) m) (Adds keys (step k old (old + n) e) (v, (p, s)))
+      → Moves (LogKeepsRule keys) titles_of (Moved e) k (v, (p, s)) (λ m. either (m == old) (old + n) m) (Adds keys (step k old (old + n) e) (v, (p, s)))
   add_opened a g [] p e s j k old n oa av og gv right is at word moving may lets = absurd ((tails a [] oa av).0)
   add_opened a g (f ∷ v) p e s j k old n oa av og gv right is at word moving may lets =
       let ra = tails a (f ∷ v) oa av in
@@ -72,18 +72,18 @@ module _ {Key : Type 0} (keys : ℕ → Option Key) where
       (lets1.0, λ cells log kept begins here. lets1.1 cells log kept (prefix_trans (notes_of g) v log rg.2 begins) here)
 
   -- what is known once the note is in
-  pub record Added (o : Totals) (before given after : List Note) (e : Note) (j k old : ℕ) : Type 0 where
+  pub record Added (o : Totals) (before given after : List NoteView) (e : NoteView) (j k old : ℕ) : Type 0 where
     pub opened : IsOpened after
     pub opening : opening_of after ≡ o
     pub done : IsDone keys o e.by (notes_of before) (notes_of given) (notes_of after) e.event j k old e.ticket
     pub ticket : ticket_of e.by (notes_of after) ≡ e.next
     pub legal : IsLegal keys o (history (notes_of after))
 
-  pub added : (a g v : List Note) (p : Nib) (e : Note) (j k old new found : ℕ) (s : Option ℕ) (w : View Note ℕ) → IsOpened a → IsPrefix a v → IsOpened g → IsPrefix g v → p.key ≡ ticket_of e.by (notes_of a) → IsWord (notes_of g) j k
+  pub added : (a g v : List NoteView) (p : Nib) (e : NoteView) (j k old new found : ℕ) (s : Option ℕ) (w : View NoteView ℕ) → IsOpened a → IsPrefix a v → IsOpened g → IsPrefix g v → p.key ≡ ticket_of e.by (notes_of a) → IsWord (notes_of g) j k
       → found ≡ old → Adds keys (step k old new e) (v, (p, s)) found w → Added (opening_of a) a g w.0 e j k old
   added a g v p e j k old new found s w oa av og gv at word here add = go add.done
     where
-      go : ((found ≡ old) × (w.0 ≡ add.log ++ e ∷ []) × (w.1.0 ≡ no_nib) × ((after : List Cell) × Kept keys after w.0)) ⊎ ((found ≢ old) × (w.0 ≡ add.log) × (w.1.0 ≡ p)) → Added (opening_of a) a g w.0 e j k old
+      go : ((found ≡ old) × (w.0 ≡ add.log ++ e ∷ []) × (w.1.0 ≡ no_nib) × ((after : List Cell) × LogKeepsRule keys after w.0)) ⊎ ((found ≢ old) × (w.0 ≡ add.log) × (w.1.0 ≡ p)) → Added (opening_of a) a g w.0 e j k old
       go (inr r) = absurd (r.0 here)
       go (inl r) =
           let al : IsPrefix a add.log = prefix_trans a v add.log av add.begins in
@@ -92,8 +92,8 @@ module _ {Key : Type 0} (keys : ℕ → Option Key) where
           let rg = tails g add.log og gl in
           let aw : IsPrefix a w.0 = prefix_trans a add.log w.0 al (e ∷ [], sym r.1) in
           let rw' = tails a w.0 oa aw in
-          let kept : IsKept keys add.cells (opening_of add.log) (notes_of add.log) = (kept_opened add.cells add.log add.kept).1 in
-          let after : IsKept keys r.3.0 (opening_of a) (notes_of w.0) = subst (λ (t : Totals). IsKept keys r.3.0 t (notes_of w.0)) (sym rw'.1) (kept_opened r.3.0 w.0 r.3.1).1 in
+          let kept : KeepsRule keys add.cells (opening_of add.log) (notes_of add.log) = (kept_opened add.cells add.log add.kept).1 in
+          let after : KeepsRule keys r.3.0 (opening_of a) (notes_of w.0) = subst (λ (t : Totals). KeepsRule keys r.3.0 t (notes_of w.0)) (sym rw'.1) (kept_opened r.3.0 w.0 r.3.1).1 in
           let st = stands keys add.cells (opening_of add.log) (notes_of g) (notes_of add.log) j k kept rg.2 word in
           let value : st.0 ≡ old = ap (λ (c : Cell). c.0) (sym st.2) ∙ (add.value ∙ here) in
           let notes : notes_of w.0 ≡ notes_of add.log ++ e ∷ [] = ap notes_of r.1 ∙ notes_push add.log e ra.0 in
@@ -108,7 +108,7 @@ module _ {Key : Type 0} (keys : ℕ → Option Key) where
               ticket = refl;
               last = notes;
               begins = rg.2;
-              since = subst (λ (l : List Note). Since e.by (notes_of a) l (e.event ∷ [])) (sym notes) (grown e.by (notes_of a) (notes_of add.log) e alone.0 refl);
+              since = subst (λ (l : List NoteView). Since e.by (notes_of a) l (e.event ∷ [])) (sym notes) (grown e.by (notes_of a) (notes_of add.log) e alone.0 refl);
               value = subst (IsWordWith (notes_of add.log) j k) value st.1;
               kept = (r.3.0, after);
             };
@@ -117,10 +117,10 @@ module _ {Key : Type 0} (keys : ℕ → Option Key) where
           }
 
   -- where another value was found, the pen stays
-  pub refused : (v : List Note) (p : Nib) (e : Note) (k old new found : ℕ) (s : Option ℕ) (w : View Note ℕ) → found ≢ old → Adds keys (step k old new e) (v, (p, s)) found w → w.1.0 ≡ p
+  pub refused : (v : List NoteView) (p : Nib) (e : NoteView) (k old new found : ℕ) (s : Option ℕ) (w : View NoteView ℕ) → found ≢ old → Adds keys (step k old new e) (v, (p, s)) found w → w.1.0 ≡ p
   refused v p e k old new found s w ne add = go add.done
     where
-      go : ((found ≡ old) × (w.0 ≡ add.log ++ e ∷ []) × (w.1.0 ≡ no_nib) × ((after : List Cell) × Kept keys after w.0)) ⊎ ((found ≢ old) × (w.0 ≡ add.log) × (w.1.0 ≡ p)) → w.1.0 ≡ p
+      go : ((found ≡ old) × (w.0 ≡ add.log ++ e ∷ []) × (w.1.0 ≡ no_nib) × ((after : List Cell) × LogKeepsRule keys after w.0)) ⊎ ((found ≢ old) × (w.0 ≡ add.log) × (w.1.0 ≡ p)) → w.1.0 ≡ p
       go (inl r) = absurd (ne r.0)
       go (inr r) = r.2
 

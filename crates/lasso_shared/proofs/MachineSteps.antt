@@ -14,11 +14,11 @@ use Rattle.lasso_parts.specs.declared.util.LassoErrorKind.{LassoErrorKind}
 use Rattle.lasso_parts.specs.declared.util.LassoErrorKind.TheVariants.{MemoryLimitReached, KeySpaceExhaustion, FailedAllocation}
 use Rattle.lasso_parts.proofs.TextLemmas.{key_of_present}
 use Rattle.lasso_parts.proofs.IndexLaws.{position_of_at}
-use Rattle.lasso_shared.specs.Buckets.{Bucket, with_taken, changed_at, doubling_after}
+use Rattle.lasso_shared.specs.Buckets.{CountedBucket, with_taken, changed_at, doubling_after}
 use Rattle.lasso_shared.specs.History.{Totals, totals, IsLegal}
 use Rattle.lasso_shared.specs.Replies.{Keeping, Question, Intern, Get, Contains, ContainsKey, Resolve, Len, IsEmpty, Usage, MaxUsage, Iterate, Strings, Serialize, Freeze, Interned, MayReply}
-use Rattle.lasso_shared.specs.Machine.{RangedBucket, Phase, Missing, Stored, Appended, Call, State, Step, Take, Reserve, Charge, Append, Release, Refuse, Read, SetLimit, IsInFlight, IsFree, IsReady, MayRefuse, MayRead, MayStep, new_call, taken, after, events, replied, interned, with_key, entries_from, read, reply, sums, reserved, charged}
-use Rattle.lasso_shared.specs.Runs.{IsFilled, StandsBy, IsGood, IsStart, IsRun, run, history, OwesReply, IsSound, HoldsInRun}
+use Rattle.lasso_shared.specs.Machine.{RangedBucket, Phase, Missing, Stored, Appended, Call, State, Step, Take, Reserve, Charge, Append, Release, Refuse, Read, SetLimit, IsInFlight, IsFree, IsReady, MayRefuse, MayRead, MayStep, new_call, taken, after, events, replied, found_reply, with_key, entries_from, read, reply, sums, reserved, charged}
+use Rattle.lasso_shared.specs.Runs.{IsFilled, StandsBy, IsGood, IsStart, IsRun, run, run_history, OwesReply, IsSound, HoldsInRun}
 use Rattle.lasso_shared.proofs.Legal.{totals_append, legal_append, bucket_fits}
 use Rattle.lasso_shared.proofs.Ranges.{map_changed, reserved_filled, charged_filled}
 use Rattle.lasso_shared.proofs.MachineGood.{HasAppendedNone, found_free, lacks_own, good_begun, good_stored, good_appended, good_refused, good_released, good_limited}
@@ -51,11 +51,11 @@ whatever P None p = tt
 whatever P (Some x) p = p
 
 -- an intern's key is the key of the text's position
-key_explained : {K : Type 0} (key_at : ℕ → Option K) (s : Totals) (keeping : Keeping) (text : Text) (key : Option K) → key_of key_at s.texts text ≡ key → IfSome (interned keeping text key) (λ r. MayReply key_at s r.0 r.1)
+key_explained : {K : Type 0} (key_at : ℕ → Option K) (s : Totals) (keeping : Keeping) (text : Text) (key : Option K) → key_of key_at s.texts text ≡ key → IfSome (found_reply keeping text key) (λ r. MayReply key_at s r.0 r.1)
 key_explained key_at s keeping text None e = tt
 key_explained key_at s keeping text (Some k) e = e
 
-some_interned : {K : Type 0} (keeping : Keeping) (text : Text) (key : Option K) → IsSome key → IsSome (interned keeping text key)
+some_interned : {K : Type 0} (keeping : Keeping) (text : Text) (key : Option K) → IsSome key → IsSome (found_reply keeping text key)
 some_interned keeping text None e = absurd (grind arith)
 some_interned keeping text (Some k) e = refl
 
@@ -175,8 +175,8 @@ module _ {K : Type 0} (key_at : ℕ → Option K) (shard : Text → ℕ) (s : St
 
   stays : (step : Step) → IfSome (reply key_at shard s step) (λ r. sums (after shard s step) ≡ sums s)
   stays (Take number keeping text) =
-      whatever (sums (after shard s (Take number keeping text)) ≡ sums s) (interned keeping text (option_and_then key_at (s.index (shard text) text))) (took_sums number keeping text)
-  stays (Release c position) = whatever (sums s ≡ sums s) (interned c.keeping c.text (key_at position)) refl
+      whatever (sums (after shard s (Take number keeping text)) ≡ sums s) (found_reply keeping text (option_and_then key_at (s.index (shard text) text))) (took_sums number keeping text)
+  stays (Release c position) = whatever (sums s ≡ sums s) (found_reply c.keeping c.text (key_at position)) refl
   stays (Refuse c why) = refl
   stays (Read question) = whatever (sums s ≡ sums s) (replied question (read key_at shard s question)) refl
   stays (Reserve c place) = tt
@@ -225,10 +225,10 @@ module _ {K : Type 0} (key_at : ℕ → Option K) (shard : Text → ℕ) (s : St
 
   pub counted_step : (step : Step) → totals (sums s) (events step) ≡ sums (after shard s step)
   counted_step (Reserve c place) =
-      ap (λ (bs : List Bucket). record (sums s) { buckets = bs })
+      ap (λ (bs : List CountedBucket). record (sums s) { buckets = bs })
       (sym (map_changed (λ (b : RangedBucket). b.bucket) (reserved (length c.text)) (with_taken (length c.text)) (λ b. refl) place s.buckets))
   counted_step (Charge c size) =
-      ap (λ (bs : List Bucket). record (sums s) { buckets = bs; doubling = doubling_after s.doubling s.usage s.limit (length c.text); usage = s.usage + size })
+      ap (λ (bs : List CountedBucket). record (sums s) { buckets = bs; doubling = doubling_after s.doubling s.usage s.limit (length c.text); usage = s.usage + size })
       (sym (map-append (λ (b : RangedBucket). b.bucket) s.buckets (charged size (length c.text) ∷ [])))
   counted_step (Append c) = refl
   counted_step (SetLimit number limit) = refl
@@ -259,9 +259,9 @@ holds key_at shard s (step ∷ steps) good may =
       good = rest.good;
       grows = begins_on s.texts next.texts (run shard next steps).texts (grows key_at shard s good step) rest.grows;
       sound = rest.sound;
-      legal = legal_append key_at (sums s) (events step) (history steps) (legal_step key_at shard s good step may.0)
-          (subst (λ (t : Totals). IsLegal key_at t (history steps)) (sym counted) rest.legal);
-      adds_up = totals_append (sums s) (events step) (history steps) ∙ ap (λ (t : Totals). totals t (history steps)) counted ∙ rest.adds_up;
+      legal = legal_append key_at (sums s) (events step) (run_history steps) (legal_step key_at shard s good step may.0)
+          (subst (λ (t : Totals). IsLegal key_at t (run_history steps)) (sym counted) rest.legal);
+      adds_up = totals_append (sums s) (events step) (run_history steps) ∙ ap (λ (t : Totals). totals t (run_history steps)) counted ∙ rest.adds_up;
     }
 
 -- a start is good

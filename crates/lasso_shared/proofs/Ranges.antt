@@ -3,7 +3,7 @@ use Rattle.std.proofs.Common.{◌≡◌, ℕ, zero, suc, ◌+◌, ◌≤◌, Lis
 use Rattle.std.specs.Prelude.{IsSomeAnd}
 use Rattle.std.specs.List.{AllByRecursion}
 use Rattle.std.proofs.lemmas.List.Elements.{All-from_recursion, recursion_from_All}
-use Rattle.lasso_shared.specs.Buckets.{Bucket, changed_at}
+use Rattle.lasso_shared.specs.Buckets.{CountedBucket, changed_at}
 use Rattle.lasso_shared.specs.Machine.{Range, RangedBucket, reserved, charged}
 use Rattle.lasso_shared.specs.Runs.{Follow, IsFilled}
 
@@ -17,13 +17,13 @@ follow_push : (start end n : ℕ) (rs : List Range) → Follow start end rs → 
 follow_push start end n [] e = (sym e, ap (λ k. k + n) e)
 follow_push start end n (r ∷ rs) f = (f.0, follow_push (start + r.bytes) end n rs f.1)
 
-reserved_at : (n place : ℕ) (bs : List RangedBucket) → AllByRecursion IsFilled bs → IsSomeAnd (slice_get (map (λ (b : RangedBucket). b.bucket) bs) place) (λ (b : Bucket). b.used + n ≤ b.size) → AllByRecursion IsFilled (changed_at place (reserved n) bs)
+reserved_at : (n place : ℕ) (bs : List RangedBucket) → AllByRecursion IsFilled bs → IsSomeAnd (slice_get (map (λ (b : RangedBucket). b.bucket) bs) place) (λ (b : CountedBucket). b.used + n ≤ b.size) → AllByRecursion IsFilled (changed_at place (reserved n) bs)
 reserved_at n place [] filled room = filled
 reserved_at n zero (b ∷ bs) filled room = ((follow_push 0 b.bucket.used n b.ranges filled.0.0, room), filled.1)
 reserved_at n (suc place) (b ∷ bs) filled room = (filled.0, reserved_at n place bs filled.1 room)
 
 -- bytes are taken in a bucket that has room
-pub reserved_filled : (n place : ℕ) (bs : List RangedBucket) → All IsFilled bs → IsSomeAnd (slice_get (map (λ (b : RangedBucket). b.bucket) bs) place) (λ (b : Bucket). b.used + n ≤ b.size) → All IsFilled (changed_at place (reserved n) bs)
+pub reserved_filled : (n place : ℕ) (bs : List RangedBucket) → All IsFilled bs → IsSomeAnd (slice_get (map (λ (b : RangedBucket). b.bucket) bs) place) (λ (b : CountedBucket). b.used + n ≤ b.size) → All IsFilled (changed_at place (reserved n) bs)
 reserved_filled n place bs filled room = All-from_recursion IsFilled (changed_at place (reserved n) bs) (reserved_at n place bs (recursion_from_All IsFilled bs filled) room)
 
 -- a new bucket

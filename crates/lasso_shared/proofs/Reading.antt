@@ -6,8 +6,8 @@ use mathlib.Core.List.{IsPrefix}
 use Rattle.lasso_parts.specs.Texts.{Text, IsDistinct, Fits}
 use Rattle.logbook.specs.Pages.{Cell}
 use Rattle.lasso_shared.specs.History.{Append, Totals, opened}
-use Rattle.lasso_shared.specs.Notes.{Note, history, state}
-use Rattle.lasso_shared.specs.Book.{IsKept, IsDone, Reads}
+use Rattle.lasso_shared.specs.Notes.{NoteView, history, state}
+use Rattle.lasso_shared.specs.Book.{KeepsRule, IsDone, Reads}
 use Rattle.lasso_shared.proofs.Legal.{list_kept}
 use Rattle.lasso_shared.proofs.Lined.{stands_still, prefix_short}
 use Rattle.lasso_shared.proofs.Lengths.{length_of, same_texts, one_more, text_added}
@@ -15,7 +15,7 @@ use Rattle.lasso_shared.proofs.Logs.{either_begins}
 use Rattle.lasso_shared.proofs.Words.{head_grown}
 
 -- two histories of one interner with lists of one length have one list
-pub same_list : (o : Totals) (a b both : List Note) → IsPrefix a both → IsPrefix b both → length (state o a).texts ≡ length (state o b).texts → (state o a).texts ≡ (state o b).texts
+pub same_list : (o : Totals) (a b both : List NoteView) → IsPrefix a both → IsPrefix b both → length (state o a).texts ≡ length (state o b).texts → (state o a).texts ≡ (state o b).texts
 same_list o a b both p q len = go (either_begins a b both p q)
   where
     go : IsPrefix a b ⊎ IsPrefix b a → (state o a).texts ≡ (state o b).texts
@@ -38,15 +38,15 @@ none_distinct = IsDistinct-from_apart bytes_eq [] (λ i j d below inside. absurd
 
 module _ {Key : Type 0} (keys : ℕ → Option Key) where
   -- the list of a history that the rule held of fits the keys
-  pub list_fits : (o : Totals) (notes : List Note) → ((cells : List Cell) × IsKept keys cells o notes) → Fits keys (length (state o notes).texts)
+  pub list_fits : (o : Totals) (notes : List NoteView) → ((cells : List Cell) × KeepsRule keys cells o notes) → Fits keys (length (state o notes).texts)
   list_fits o notes held = (list_kept keys o (history notes) held.1.opened.distinct held.1.opened.fits held.1.legal).1
 
   -- the length word of an interner that opened with no text is the length of the list
-  pub length_read : (o : Totals) (notes : List Note) (n : ℕ) → o.texts ≡ [] → Reads keys o notes 0 0 n → n ≡ length (state o notes).texts
+  pub length_read : (o : Totals) (notes : List NoteView) (n : ℕ) → o.texts ≡ [] → Reads keys o notes 0 0 n → n ≡ length (state o notes).texts
   length_read o notes n none reads = let len = length_of o notes 0 n reads.0 in omega (arith, len, ap (λ (ts : List Text). length ts) none)
 
   -- a new book holds its rule
-  pub opens : (size used limit : ℕ) → used ≤ size → IsKept keys ((0, true) ∷ (0, true) ∷ (0, true) ∷ []) (opened [] size used limit) []
+  pub opens : (size used limit : ℕ) → used ≤ size → KeepsRule keys ((0, true) ∷ (0, true) ∷ (0, true) ∷ []) (opened [] size used limit) []
   opens size used limit le = record {
     opened = record { distinct = none_distinct; fits = λ i low. absurd (omega (arith, low)); bucket = (size, used, le, refl) };
     used = tt;
@@ -57,12 +57,12 @@ module _ {Key : Type 0} (keys : ℕ → Option Key) where
   }
 
   -- the list after an append, from the one at which the text was lacking
-  pub list_after : (o : Totals) (p : ℕ) (before given after : List Note) (t : Text) (old u : ℕ) → o.texts ≡ [] → IsDone keys o p before given after (Append t) 0 0 old u → Reads keys o given 0 0 old → (state o after).texts ≡ (state o given).texts ++ t ∷ []
+  pub list_after : (o : Totals) (p : ℕ) (before given after : List NoteView) (t : Text) (old u : ℕ) → o.texts ≡ [] → IsDone keys o p before given after (Append t) 0 0 old u → Reads keys o given 0 0 old → (state o after).texts ≡ (state o given).texts ++ t ∷ []
   list_after o p before given after t old u none d reads =
       let mid : length (state o d.mid).texts ≡ length (state o given).texts = length_of o d.mid 0 old d.value ∙ sym (length_of o given 0 old reads.0) in
       let same = same_texts o given d.mid d.begins (sym mid) in
-      ap (λ (l : List Note). (state o l).texts) d.last ∙ (ap (λ (s : Totals). s.texts) (one_more o d.mid d.note) ∙ (text_added (state o d.mid) d.note.event t d.is ∙ ap (λ (ts : List Text). ts ++ t ∷ []) (sym same)))
+      ap (λ (l : List NoteView). (state o l).texts) d.last ∙ (ap (λ (s : Totals). s.texts) (one_more o d.mid d.note) ∙ (text_added (state o d.mid) d.note.event t d.is ∙ ap (λ (ts : List Text). ts ++ t ∷ []) (sym same)))
 
   -- the length word after an append
-  pub length_after_append : (o : Totals) (p : ℕ) (before given after : List Note) (t : Text) (old u : ℕ) → IsDone keys o p before given after (Append t) 0 0 old u → Reads keys o after 0 0 (old + 1)
+  pub length_after_append : (o : Totals) (p : ℕ) (before given after : List NoteView) (t : Text) (old u : ℕ) → IsDone keys o p before given after (Append t) 0 0 old u → Reads keys o after 0 0 (old + 1)
   length_after_append o p before given after t old u d = (head_grown d.mid d.note after 0 old t d.last d.is d.value, d.kept)

@@ -6,8 +6,8 @@ use mathlib.Core.List.{IsPrefix}
 use prog.Atomic.{either}
 use Rattle.logbook.specs.Pages.{Cell, cell, keeps, gives, adds, Nib, no_nib, may_write, Away, step, Moves, Goes}
 use Rattle.lasso_shared.specs.History.{Totals, MayFollow, IsLegal}
-use Rattle.lasso_shared.specs.Notes.{Note, history, state, ticket_of, worded, words_of, first_words, IsWord, IsWordWith}
-use Rattle.lasso_shared.specs.Book.{IsHome, Words, Apart, IsKept, Kept, Peeks, Fetches, Adds, Bumps, Moving, May, Lets, Moved, shown}
+use Rattle.lasso_shared.specs.Notes.{NoteView, history, state, ticket_of, worded, words_of, first_words, IsWord, IsWordWith}
+use Rattle.lasso_shared.specs.Book.{IsHome, Words, Apart, KeepsRule, LogKeepsRule, Peeks, Fetches, Adds, Bumps, Moving, May, Lets, Moved, titles_of}
 use Rattle.lasso_shared.proofs.Histories.{history_append, prefix_tail, prefix_self, prefix_trans}
 use Rattle.lasso_shared.proofs.Legal.{legal_push}
 use Rattle.lasso_shared.proofs.Tickets.{by_cases, not_both, used_still, used_more, chained_more, still}
@@ -47,12 +47,12 @@ zero_stays n = by_cases (n == 0) (λ is. let z : n ≡ 0 = grind (arith, nat_tes
 
 module _ {Key : Type 0} (keys : ℕ → Option Key) where
   -- a word that was seen stands in the book
-  pub stands : (cells : List Cell) (o : Totals) (v log : List Note) (j k : ℕ) → IsKept keys cells o log → IsPrefix v log → IsWord v j k → (m : ℕ) × IsWordWith log j k m × (cell cells k ≡ (m, true))
+  pub stands : (cells : List Cell) (o : Totals) (v log : List NoteView) (j k : ℕ) → KeepsRule keys cells o log → IsPrefix v log → IsWord v j k → (m : ℕ) × IsWordWith log j k m × (cell cells k ≡ (m, true))
   stands cells o v log j k kept begins word =
       let later = word_later v log j k word.0 begins word.1 in
       (later.0, later.1, words_get cells (words_of log) j k later.0 kept.words later.1)
 
-  pub peek_moves : (o : Note) (v : List Note) (e : Note) (s : Option ℕ) (j k : ℕ) → IsWord v j k → Moves (Kept keys) shown (Moved e) k (o ∷ v, (no_nib, s)) (λ n. n) (Peeks keys (step k 0 0 e) (o ∷ v, (no_nib, s)))
+  pub peek_moves : (o : NoteView) (v : List NoteView) (e : NoteView) (s : Option ℕ) (j k : ℕ) → IsWord v j k → Moves (LogKeepsRule keys) titles_of (Moved e) k (o ∷ v, (no_nib, s)) (λ n. n) (Peeks keys (step k 0 0 e) (o ∷ v, (no_nib, s)))
   peek_moves o v e s j k word cells [] kept begins away = absurd kept
   peek_moves o v e s j k word cells (p ∷ log) kept begins away =
       let tail = prefix_tail o p v log begins in
@@ -61,13 +61,13 @@ module _ {Key : Type 0} (keys : ℕ → Option Key) where
       let home : IsHome cells k = ap (λ (c : Cell). c.1) at.2 in
       let same : set cells k ((cell cells k).0, true) ≡ cells = ap (λ (m : ℕ). set cells k (m, true)) n ∙ untouched cells k at.0 at.2 in
       let all : (p ∷ log) ++ [] ≡ p ∷ log = append-nil (p ∷ log) in
-      let kept' : Kept keys cells ((p ∷ log) ++ []) = subst (Kept keys cells) (sym all) kept in (
+      let kept' : LogKeepsRule keys cells ((p ∷ log) ++ []) = subst (LogKeepsRule keys cells) (sym all) kept in (
         home_bound cells k home,
         home,
-        (keeps, [], s, tt, subst (λ (ds : List Cell). Kept keys ds ((p ∷ log) ++ [])) (sym same) kept', inl (refl, ap shown all), (cells, kept', refl)),
+        (keeps, [], s, tt, subst (λ (ds : List Cell). LogKeepsRule keys ds ((p ∷ log) ++ [])) (sym same) kept', inl (refl, ap titles_of all), (cells, kept', refl)),
       )
 
-  with_ticket : (cells : List Cell) (o : Totals) (log : List Note) → IsKept keys cells o log → IsKept keys (cells ++ (0, false) ∷ []) o log
+  with_ticket : (cells : List Cell) (o : Totals) (log : List NoteView) → KeepsRule keys cells o log → KeepsRule keys (cells ++ (0, false) ∷ []) o log
   with_ticket cells o log kept = record {
     opened = kept.opened;
     used = used_still cells (cells ++ (0, false) ∷ []) log (λ k h. ap (λ (c : Cell). c.1) (cell_kept cells ((0, false) ∷ []) k (home_bound cells k h)) ∙ h) kept.used;
@@ -78,7 +78,7 @@ module _ {Key : Type 0} (keys : ℕ → Option Key) where
   }
 
   -- a ticket is fetched by an exchange of the length word with itself
-  pub fetch_moves : (o : Note) (v : List Note) (e : Note) (s : Option ℕ) → Moves (Kept keys) shown (Moved e) 0 (o ∷ v, (no_nib, s)) (λ n. either (n == 0) 0 n) (Fetches keys (step 0 0 0 e) (o ∷ v, (no_nib, s)))
+  pub fetch_moves : (o : NoteView) (v : List NoteView) (e : NoteView) (s : Option ℕ) → Moves (LogKeepsRule keys) titles_of (Moved e) 0 (o ∷ v, (no_nib, s)) (λ n. either (n == 0) 0 n) (Fetches keys (step 0 0 0 e) (o ∷ v, (no_nib, s)))
   fetch_moves o v e s cells [] kept begins away = absurd kept
   fetch_moves o v e s cells (p ∷ log) kept begins away =
       let at = stands cells p.opening [] log 0 0 kept (log, refl) (0, refl) in
@@ -86,15 +86,15 @@ module _ {Key : Type 0} (keys : ℕ → Option Key) where
       let home : IsHome cells 0 = ap (λ (c : Cell). c.1) at.2 in
       let same : set cells 0 (either ((cell cells 0).0 == 0) 0 (cell cells 0).0, true) ≡ cells = ap (λ (m : ℕ). set cells 0 (m, true)) (zero_stays (cell cells 0).0 ∙ n) ∙ untouched cells 0 at.0 at.2 in
       let all : (p ∷ log) ++ [] ≡ p ∷ log = append-nil (p ∷ log) in
-      let more : Kept keys (cells ++ (0, false) ∷ []) ((p ∷ log) ++ []) = subst (Kept keys (cells ++ (0, false) ∷ [])) (sym all) (with_ticket cells p.opening log kept) in (
+      let more : LogKeepsRule keys (cells ++ (0, false) ∷ []) ((p ∷ log) ++ []) = subst (LogKeepsRule keys (cells ++ (0, false) ∷ [])) (sym all) (with_ticket cells p.opening log kept) in (
         home_bound cells 0 home,
         home,
-        (adds, [], s, tt, subst (λ (ds : List Cell). Kept keys (ds ++ (0, false) ∷ []) ((p ∷ log) ++ [])) (sym same) more, inl (refl, ap shown all), (length cells, refl, (cells ++ (0, false) ∷ [], more))),
+        (adds, [], s, tt, subst (λ (ds : List Cell). LogKeepsRule keys (ds ++ (0, false) ∷ []) ((p ∷ log) ++ [])) (sym same) more, inl (refl, ap titles_of all), (length cells, refl, (cells ++ (0, false) ∷ [], more))),
       )
 
-  with_event : (cells : List Cell) (o : Totals) (log : List Note) (e : Note) (j k v n t x : ℕ) → IsKept keys cells o log → IsWordWith log j k v → t < length cells → (cell cells t).1 ≡ false → e.ticket ≡ t
+  with_event : (cells : List Cell) (o : Totals) (log : List NoteView) (e : NoteView) (j k v n t x : ℕ) → KeepsRule keys cells o log → IsWordWith log j k v → t < length cells → (cell cells t).1 ≡ false → e.ticket ≡ t
       → Bumps (words_of log) (worded (words_of log) e.ticket e.event) j n t x → e.ticket ≡ ticket_of e.by log → MayFollow keys (state o log) e.event
-      → IsKept keys (set (set cells k (v + n, true)) t (x, true)) o (log ++ e ∷ [])
+      → KeepsRule keys (set (set cells k (v + n, true)) t (x, true)) o (log ++ e ∷ [])
   with_event cells o log e j k v n t x kept word l out is bumps at may =
       let ds : List Cell = set cells k (v + n, true) in
       let w = words_get cells (words_of log) j k v kept.words word in
@@ -111,10 +111,10 @@ module _ {Key : Type 0} (keys : ℕ → Option Key) where
         legal = subst (IsLegal keys o) (sym (history_append log (e ∷ []))) (legal_push keys o (history log) (e.by, e.event) kept.legal may);
       }
 
-  add_goes : (o : Note) (before v : List Note) (p : Nib) (e : Note) (s : Option ℕ) (j k old n : ℕ) → p.right ≡ may_write → e.ticket ≡ p.key → p.key ≡ ticket_of e.by before → IsPrefix before v
+  add_goes : (o : NoteView) (before v : List NoteView) (p : Nib) (e : NoteView) (s : Option ℕ) (j k old n : ℕ) → p.right ≡ may_write → e.ticket ≡ p.key → p.key ≡ ticket_of e.by before → IsPrefix before v
       → Moving e.ticket e.event j n p.value → May keys o.opening v j k old e.event → Lets keys o.opening v j k old e s
-      → (cells : List Cell) (log : List Note) → IsKept keys cells o.opening log → IsPrefix v log → Away p cells → (m : ℕ) → IsWordWith log j k m → cell cells k ≡ (m, true) → (b : Bool) → ((cell cells k).0 == old) ≡ b
-      → Goes (Kept keys) shown (Moved e) k (o ∷ v, (p, s)) (λ n'. either (n' == old) (old + n) n') (Adds keys (step k old (old + n) e) (o ∷ v, (p, s))) cells (o ∷ log)
+      → (cells : List Cell) (log : List NoteView) → KeepsRule keys cells o.opening log → IsPrefix v log → Away p cells → (m : ℕ) → IsWordWith log j k m → cell cells k ≡ (m, true) → (b : Bool) → ((cell cells k).0 == old) ≡ b
+      → Goes (LogKeepsRule keys) titles_of (Moved e) k (o ∷ v, (p, s)) (λ n'. either (n' == old) (old + n) n') (Adds keys (step k old (old + n) e) (o ∷ v, (p, s))) cells (o ∷ log)
   add_goes o before v p e s j k old n right is at begun moving may lets cells log kept begins away m word here true test =
       let found : (cell cells k).0 ≡ old = grind (arith, nat_tests) in
       let m_is : m ≡ old = sym (ap (λ (c : Cell). c.0) here) ∙ found in
@@ -123,18 +123,18 @@ module _ {Key : Type 0} (keys : ℕ → Option Key) where
       let alone = still keys cells o.opening e.by before log log (prefix_trans before v log begun begins) (prefix_self log) kept (subst (λ (i : ℕ). (cell cells i).1 ≡ false) at gone.1) in
       let at' : e.ticket ≡ ticket_of e.by log = is ∙ (at ∙ sym alone.1) in
       let bumps : Bumps (words_of log) (worded (words_of log) e.ticket e.event) j n p.key p.value = subst (λ (t : ℕ). Bumps (words_of log) (worded (words_of log) e.ticket e.event) j n t p.value) is (moving (words_of log)) in
-      let kept' : Kept keys (set (set cells k (old + n, true)) p.key (p.value, true)) ((o ∷ log) ++ e ∷ []) = with_event cells o.opening log e j k old n p.key p.value kept word' gone.0 gone.1 is bumps at' (may cells log kept begins word') in
+      let kept' : LogKeepsRule keys (set (set cells k (old + n, true)) p.key (p.value, true)) ((o ∷ log) ++ e ∷ []) = with_event cells o.opening log e j k old n p.key p.value kept word' gone.0 gone.1 is bumps at' (may cells log kept begins word') in
       let becomes : either ((cell cells k).0 == old) (old + n) (cell cells k).0 ≡ old + n = rw test refl in (
         gives,
         e ∷ [],
         lets.0,
         right,
-        subst (λ (i : ℕ). Kept keys (set (set cells k (i, true)) p.key (p.value, true)) ((o ∷ log) ++ e ∷ [])) (sym becomes) kept',
+        subst (λ (i : ℕ). LogKeepsRule keys (set (set cells k (i, true)) p.key (p.value, true)) ((o ∷ log) ++ e ∷ [])) (sym becomes) kept',
         lets.1 cells log kept begins word',
         record {
           log = o ∷ log;
           cells = cells;
-          begins = (begins.0, ap (λ (l : List Note). o ∷ l) begins.1);
+          begins = (begins.0, ap (λ (l : List NoteView). o ∷ l) begins.1);
           kept = kept;
           out = gone.1;
           value = refl;
@@ -145,18 +145,18 @@ module _ {Key : Type 0} (keys : ℕ → Option Key) where
       let all : (o ∷ log) ++ [] ≡ o ∷ log = append-nil (o ∷ log) in
       let becomes : either ((cell cells k).0 == old) (old + n) (cell cells k).0 ≡ m = rw test (ap (λ (c : Cell). c.0) here) in
       let same : set cells k (either ((cell cells k).0 == old) (old + n) (cell cells k).0, true) ≡ cells = ap (λ (i : ℕ). set cells k (i, true)) becomes ∙ untouched cells k m here in
-      let kept' : Kept keys cells ((o ∷ log) ++ []) = subst (Kept keys cells) (sym all) kept in
+      let kept' : LogKeepsRule keys cells ((o ∷ log) ++ []) = subst (LogKeepsRule keys cells) (sym all) kept in
       let ne : (cell cells k).0 ≢ old = λ found. let t : ((cell cells k).0 == old) ≡ true = grind (arith, nat_tests, found) in not_both ((cell cells k).0 == old) t test in (
         keeps,
         [],
         s,
         tt,
-        subst (λ (ds : List Cell). Kept keys ds ((o ∷ log) ++ [])) (sym same) kept',
-        inl (refl, ap shown all),
+        subst (λ (ds : List Cell). LogKeepsRule keys ds ((o ∷ log) ++ [])) (sym same) kept',
+        inl (refl, ap titles_of all),
         record {
           log = o ∷ log;
           cells = cells;
-          begins = (begins.0, ap (λ (l : List Note). o ∷ l) begins.1);
+          begins = (begins.0, ap (λ (l : List NoteView). o ∷ l) begins.1);
           kept = kept;
           out = (away right).1;
           value = refl;
@@ -165,17 +165,17 @@ module _ {Key : Type 0} (keys : ℕ → Option Key) where
       )
 
   -- the exchange of a word that adds a note, where `before` is what the pass had seen and `v` what is seen now
-  pub add_moves : (o : Note) (before v : List Note) (p : Nib) (e : Note) (s : Option ℕ) (j k old n : ℕ) → p.right ≡ may_write → e.ticket ≡ p.key → p.key ≡ ticket_of e.by before → IsPrefix before v
+  pub add_moves : (o : NoteView) (before v : List NoteView) (p : Nib) (e : NoteView) (s : Option ℕ) (j k old n : ℕ) → p.right ≡ may_write → e.ticket ≡ p.key → p.key ≡ ticket_of e.by before → IsPrefix before v
       → IsWord v j k → Moving e.ticket e.event j n p.value → May keys o.opening v j k old e.event → Lets keys o.opening v j k old e s
-      → Moves (Kept keys) shown (Moved e) k (o ∷ v, (p, s)) (λ m. either (m == old) (old + n) m) (Adds keys (step k old (old + n) e) (o ∷ v, (p, s)))
+      → Moves (LogKeepsRule keys) titles_of (Moved e) k (o ∷ v, (p, s)) (λ m. either (m == old) (old + n) m) (Adds keys (step k old (old + n) e) (o ∷ v, (p, s)))
   add_moves o before v p e s j k old n right is at begun seen moving may lets cells [] kept begins away = absurd kept
   add_moves o before v p e s j k old n right is at begun seen moving may lets cells (f ∷ log) kept begins away =
       let tail = prefix_tail o f v log begins in
-      let kept' : IsKept keys cells o.opening log = subst (λ (g : Note). IsKept keys cells g.opening log) (sym tail.0) kept in
+      let kept' : KeepsRule keys cells o.opening log = subst (λ (g : NoteView). KeepsRule keys cells g.opening log) (sym tail.0) kept in
       let w = stands cells o.opening v log j k kept' tail.1 seen in
       let home : IsHome cells k = ap (λ (c : Cell). c.1) w.2 in (
         home_bound cells k home,
         home,
-        subst (λ (g : Note). Goes (Kept keys) shown (Moved e) k (o ∷ v, (p, s)) (λ m. either (m == old) (old + n) m) (Adds keys (step k old (old + n) e) (o ∷ v, (p, s))) cells (g ∷ log)) tail.0
+        subst (λ (g : NoteView). Goes (LogKeepsRule keys) titles_of (Moved e) k (o ∷ v, (p, s)) (λ m. either (m == old) (old + n) m) (Adds keys (step k old (old + n) e) (o ∷ v, (p, s))) cells (g ∷ log)) tail.0
             (add_goes o before v p e s j k old n right is at begun moving may lets cells log kept' tail.1 away w.0 w.1 w.2 ((cell cells k).0 == old) refl),
       )

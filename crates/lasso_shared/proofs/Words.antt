@@ -4,7 +4,7 @@ use Rattle.std.proofs.Common.{◌≡◌, ◌≢◌, ℕ, zero, suc, ◌+◌, ◌
 use mathlib.Core.List.{IsPrefix}
 use Rattle.logbook.specs.Pages.{Cell, cell}
 use Rattle.lasso_shared.specs.History.{Event, Reserve, Charge, Append, Limit}
-use Rattle.lasso_shared.specs.Notes.{Note, bumped, worded, words_after, words_of, first_words, IsWordWith}
+use Rattle.lasso_shared.specs.Notes.{NoteView, bumped, worded, words_after, words_of, first_words, IsWordWith}
 use Rattle.lasso_shared.specs.Book.{Words, Others, Apart, Bumps}
 
 -- a word's cell is at home with its value
@@ -81,7 +81,7 @@ words_more cells ws more j k v n t x w a h l lt out bumps =
     go w a o at (inl e) = subst (λ (m : List (ℕ × ℕ)). Words (set (set cells k (v + n, true)) t (x, true)) m × Apart m) (sym e) (w, a)
     go w a o at (inr e) = subst (λ (m : List (ℕ × ℕ)). Words (set (set cells k (v + n, true)) t (x, true)) m × Apart m) (sym e) (words_push (set (set cells k (v + n, true)) t (x, true)) (bumped j n ws) t x w at, apart_push t x (bumped j n ws) a o)
 
-pub words_append : (ws : List (ℕ × ℕ)) (xs ys : List Note) → words_after ws (xs ++ ys) ≡ words_after (words_after ws xs) ys
+pub words_append : (ws : List (ℕ × ℕ)) (xs ys : List NoteView) → words_after ws (xs ++ ys) ≡ words_after (words_after ws xs) ys
 words_append ws [] ys = refl
 words_append ws (e ∷ xs) ys = words_append (worded ws e.ticket e.event) xs ys
 
@@ -103,7 +103,7 @@ event_stays i k v t ws (Charge size n) h = let r = bump_stays 1 1 i k v ws h in 
 event_stays i k v t ws (Append x) h = bump_stays 0 1 i k v ws h
 event_stays i k v t ws (Limit m) h = bump_stays 1 1 i k v ws h
 
-words_stay : (i k v : ℕ) (ws : List (ℕ × ℕ)) (es : List Note) → slice_get ws i ≡ Some (k, v) → (m : ℕ) × (slice_get (words_after ws es) i ≡ Some (k, m)) × (v ≤ m)
+words_stay : (i k v : ℕ) (ws : List (ℕ × ℕ)) (es : List NoteView) → slice_get ws i ≡ Some (k, v) → (m : ℕ) × (slice_get (words_after ws es) i ≡ Some (k, m)) × (v ≤ m)
 words_stay i k v ws [] h = (v, h, omega arith)
 words_stay i k v ws (e ∷ es) h =
     let a = event_stays i k v e.ticket ws e.event h in
@@ -111,17 +111,17 @@ words_stay i k v ws (e ∷ es) h =
     (b.0, b.1, omega (arith, a.2, b.2))
 
 -- a longer log has the word at the same place, with a value that is no less
-pub word_later : (v log : List Note) (j k n : ℕ) → IsPrefix v log → IsWordWith v j k n → (m : ℕ) × IsWordWith log j k m × (n ≤ m)
+pub word_later : (v log : List NoteView) (j k n : ℕ) → IsPrefix v log → IsWordWith v j k n → (m : ℕ) × IsWordWith log j k m × (n ≤ m)
 word_later v log j k n p h =
     let r = words_stay j k n (words_of v) p.0 h in
-    (r.0, subst (λ (l : List Note). slice_get (words_of l) j ≡ Some (k, r.0)) p.1 (ap (λ (ws : List (ℕ × ℕ)). slice_get ws j) (words_append first_words v p.0) ∙ r.1), r.2)
+    (r.0, subst (λ (l : List NoteView). slice_get (words_of l) j ≡ Some (k, r.0)) p.1 (ap (λ (ws : List (ℕ × ℕ)). slice_get ws j) (words_append first_words v p.0) ∙ r.1), r.2)
 
 bump_head : (k n : ℕ) (ws : List (ℕ × ℕ)) → slice_get ws 0 ≡ Some (k, n) → slice_get (bumped 0 1 ws) 0 ≡ Some (k, n + 1)
 bump_head k n [] h = absurd cc
 bump_head k n (x ∷ ws) h = let e : x ≡ (k, n) = cc h in ap (λ (y : ℕ × ℕ). Some (y.0, y.1 + 1)) e
 
 -- an append makes the length word one more
-pub head_grown : (mid : List Note) (e : Note) (after : List Note) (k n : ℕ) (t : List ℕ) → after ≡ mid ++ e ∷ [] → e.event ≡ Append t → IsWordWith mid 0 k n → IsWordWith after 0 k (n + 1)
+pub head_grown : (mid : List NoteView) (e : NoteView) (after : List NoteView) (k n : ℕ) (t : List ℕ) → after ≡ mid ++ e ∷ [] → e.event ≡ Append t → IsWordWith mid 0 k n → IsWordWith after 0 k (n + 1)
 head_grown mid e after k n t last is word =
     let words : words_of after ≡ worded (words_of mid) e.ticket e.event = ap words_of last ∙ words_append first_words mid (e ∷ []) in
     let moved : worded (words_of mid) e.ticket e.event ≡ bumped 0 1 (words_of mid) = ap (worded (words_of mid) e.ticket) is in

@@ -4,15 +4,15 @@ use mathlib.Core.List.{IsPrefix}
 use Rattle.logbook.specs.Pages.{Cell, cell, Step, View, Book, Named, may_write, may_make, nib, no_nib, Runs}
 use Rattle.logbook.specs.declared.tokens.Pen.{Pen}
 use Rattle.lasso_shared.specs.History.{Event, Totals, IsOpening, IsLegal, MayFollow}
-use Rattle.lasso_shared.specs.Notes.{Note, history, state, Chained, words_of, worded, bumped, titled, texts_in, texts_titled, text_of, Since, IsWordWith}
-use Rattle.lasso_shared.specs.Rows.{PutsLast}
+use Rattle.lasso_shared.specs.Notes.{NoteView, history, state, Chained, words_of, worded, bumped, titled, texts_in, texts_titled, appended_text, Since, IsWordWith}
+use Rattle.lasso_shared.specs.Chunks.{PutsLast}
 
 -- the cell is at home: the book holds its value
 abbrev pub IsHome : List Cell → ℕ → Type 0
 IsHome cells k = (cell cells k).1 ≡ true
 
 -- each ticket that was used has come home
-abbrev pub Used : List Cell → List Note → Type 0
+abbrev pub Used : List Cell → List NoteView → Type 0
 Used cells [] = Unit {0}
 Used cells (e ∷ es) = IsHome cells e.ticket × Used cells es
 
@@ -32,7 +32,7 @@ Apart [] = Unit {0}
 Apart (w ∷ ws) = Others w.0 ws × Apart ws
 
 -- the cells hold the words of a legal history, whose events each used the ticket of its pass
-pub record IsKept {Key : Type 0} (keys : ℕ → Option Key) (cells : List Cell) (opening : Totals) (notes : List Note) : Type 0 where
+pub record KeepsRule {Key : Type 0} (keys : ℕ → Option Key) (cells : List Cell) (opening : Totals) (notes : List NoteView) : Type 0 where
   pub opened : IsOpening keys opening
   pub used : Used cells notes
   pub chained : Chained [] notes
@@ -41,13 +41,13 @@ pub record IsKept {Key : Type 0} (keys : ℕ → Option Key) (cells : List Cell)
   pub legal : IsLegal keys opening (history notes)
 
 -- the same of a whole log, whose first note has the opening
-abbrev pub Kept : {Key : Type 0} → (ℕ → Option Key) → List Cell → List Note → Type 0
-Kept keys cells [] = ⊥
-Kept keys cells (first ∷ notes) = IsKept keys cells first.opening notes
+abbrev pub LogKeepsRule : {Key : Type 0} → (ℕ → Option Key) → List Cell → List NoteView → Type 0
+LogKeepsRule keys cells [] = ⊥
+LogKeepsRule keys cells (first ∷ notes) = KeepsRule keys cells first.opening notes
 
 -- what the cells of the texts see of a log
-abbrev pub shown : List Note → List Note
-shown log = titled (texts_in log)
+abbrev pub titles_of : List NoteView → List NoteView
+titles_of log = titled (texts_in log)
 
 abbrev pub word_of : Book → ℕ → Named
 word_of b k = record { tracked = true; key = k; book = b }
@@ -60,27 +60,27 @@ abbrev pub turn_of : Book → Named
 turn_of b = word_of b 1
 
 -- a step that looks: the word had this value at the end of the log that was then seen
-abbrev pub Peeks : {Key : Type 0} → (ℕ → Option Key) → Step Note → View Note ℕ → ℕ → View Note ℕ → Type 0
-Peeks keys s v found w = (cells : List Cell) × Kept keys cells w.0 × ((cell cells s.key).0 ≡ found)
+abbrev pub Peeks : {Key : Type 0} → (ℕ → Option Key) → Step NoteView → View NoteView ℕ → ℕ → View NoteView ℕ → Type 0
+Peeks keys s v found w = (cells : List Cell) × LogKeepsRule keys cells w.0 × ((cell cells s.key).0 ≡ found)
 
 -- a step that fetches a ticket
-abbrev pub Fetches : {Key : Type 0} → (ℕ → Option Key) → Step Note → View Note ℕ → ℕ → View Note ℕ → Type 0
-Fetches keys s v found w = (k : ℕ) × (w.1.0 ≡ nib may_make k 0) × ((cells : List Cell) × Kept keys cells w.0)
+abbrev pub Fetches : {Key : Type 0} → (ℕ → Option Key) → Step NoteView → View NoteView ℕ → ℕ → View NoteView ℕ → Type 0
+Fetches keys s v found w = (k : ℕ) × (w.1.0 ≡ nib may_make k 0) × ((cells : List Cell) × LogKeepsRule keys cells w.0)
 
 -- A step that adds a note: to a log at which the ticket was out and the word had the value that was found,
 -- where that was the old one. Else the log stayed, and so did the pen.
-pub record IsAdded {Key : Type 0} (keys : ℕ → Option Key) (s : Step Note) (v : View Note ℕ) (found : ℕ) (w : View Note ℕ) : Type 0 where
-  pub log : List Note
+pub record IsAdded {Key : Type 0} (keys : ℕ → Option Key) (s : Step NoteView) (v : View NoteView ℕ) (found : ℕ) (w : View NoteView ℕ) : Type 0 where
+  pub log : List NoteView
   pub cells : List Cell
   pub begins : IsPrefix v.0 log
-  pub kept : Kept keys cells log
+  pub kept : LogKeepsRule keys cells log
   pub out : (cell cells v.1.0.key).1 ≡ false
   pub value : (cell cells s.key).0 ≡ found
   pub done :
-      ((found ≡ s.old) × (w.0 ≡ log ++ s.ask ∷ []) × (w.1.0 ≡ no_nib) × ((after : List Cell) × Kept keys after w.0))
+      ((found ≡ s.old) × (w.0 ≡ log ++ s.ask ∷ []) × (w.1.0 ≡ no_nib) × ((after : List Cell) × LogKeepsRule keys after w.0))
       ⊎ ((found ≢ s.old) × (w.0 ≡ log) × (w.1.0 ≡ v.1.0))
 
-abbrev pub Adds : {Key : Type 0} → (ℕ → Option Key) → Step Note → View Note ℕ → ℕ → View Note ℕ → Type 0
+abbrev pub Adds : {Key : Type 0} → (ℕ → Option Key) → Step NoteView → View NoteView ℕ → ℕ → View NoteView ℕ → Type 0
 Adds keys s v found w = IsAdded keys s v found w
 
 -- the word and its pen are of this book, and the word isn't at home yet
@@ -96,14 +96,14 @@ abbrev pub Moving : ℕ → Event → ℕ → ℕ → ℕ → Type 0
 Moving ticket e place n value = (words : List (ℕ × ℕ)) → Bumps words (worded words ticket e) place n ticket value
 
 -- the event may follow wherever these notes were seen and the word has its old value
-abbrev pub May : {Key : Type 0} → (ℕ → Option Key) → Totals → List Note → ℕ → ℕ → ℕ → Event → Type 0
+abbrev pub May : {Key : Type 0} → (ℕ → Option Key) → Totals → List NoteView → ℕ → ℕ → ℕ → Event → Type 0
 May keys o notes place key old e =
-    (cells : List Cell) (log : List Note) → IsKept keys cells o log → IsPrefix notes log → IsWordWith log place key old → MayFollow keys (state o log) e
+    (cells : List Cell) (log : List NoteView) → KeepsRule keys cells o log → IsPrefix notes log → IsWordWith log place key old → MayFollow keys (state o log) e
 
 -- the event was added as the one event of the pass p, past what was given, where the word had its old value
-pub record IsDone {Key : Type 0} (keys : ℕ → Option Key) (o : Totals) (p : ℕ) (before given after : List Note) (event : Event) (place key old used_up : ℕ) : Type 0 where
-  pub mid : List Note
-  pub note : Note
+pub record IsDone {Key : Type 0} (keys : ℕ → Option Key) (o : Totals) (p : ℕ) (before given after : List NoteView) (event : Event) (place key old used_up : ℕ) : Type 0 where
+  pub mid : List NoteView
+  pub note : NoteView
   pub own : note.by ≡ p
   pub is : note.event ≡ event
   pub ticket : note.ticket ≡ used_up
@@ -111,19 +111,19 @@ pub record IsDone {Key : Type 0} (keys : ℕ → Option Key) (o : Totals) (p : �
   pub begins : IsPrefix given mid
   pub since : Since p before after (event ∷ [])
   pub value : IsWordWith mid place key old
-  pub kept : (cells : List Cell) × IsKept keys cells o after
+  pub kept : (cells : List Cell) × KeepsRule keys cells o after
 
 -- the word had this value at the end of a log that the rule held of
-abbrev pub Reads : {Key : Type 0} → (ℕ → Option Key) → Totals → List Note → ℕ → ℕ → ℕ → Type 0
-Reads keys o notes place key n = IsWordWith notes place key n × ((cells : List Cell) × IsKept keys cells o notes)
+abbrev pub Reads : {Key : Type 0} → (ℕ → Option Key) → Totals → List NoteView → ℕ → ℕ → ℕ → Type 0
+Reads keys o notes place key n = IsWordWith notes place key n × ((cells : List Cell) × KeepsRule keys cells o notes)
 
 -- how the update of a note moves what the cells of the texts see
-abbrev pub Moved : Note → List Note → List Note → ℕ → Type 0
-Moved e before after answer = PutsLast texts_titled e.place (text_of e.event) before after
+abbrev pub Moved : NoteView → List NoteView → List NoteView → ℕ → Type 0
+Moved e before after answer = PutsLast texts_titled e.position (appended_text e.event) before after
 
 -- wherever the note comes while the word has its old value, the update runs or has nothing to do
-abbrev pub Lets : {Key : Type 0} → (ℕ → Option Key) → Totals → List Note → ℕ → ℕ → ℕ → Note → Option ℕ → Type 0
+abbrev pub Lets : {Key : Type 0} → (ℕ → Option Key) → Totals → List NoteView → ℕ → ℕ → ℕ → NoteView → Option ℕ → Type 0
 Lets keys o notes place key old e s =
     (t : Option ℕ)
-    × ((cells : List Cell) (log : List Note) → IsKept keys cells o log → IsPrefix notes log → IsWordWith log place key old
+    × ((cells : List Cell) (log : List NoteView) → KeepsRule keys cells o log → IsPrefix notes log → IsWordWith log place key old
     → Runs (Moved e) s t (titled (state o log).texts) (titled (state o (log ++ e ∷ [])).texts))

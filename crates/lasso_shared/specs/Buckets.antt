@@ -2,14 +2,14 @@
 use Rattle.std.specs.Prelude.{ℕ, zero, suc, ◌+◌, ◌-◌, ◌<◌, List, [], ◌∷◌, All, Option, option_map, unwrap_or}
 use Rattle.lasso_parts.specs.Account.{Account, store}
 
-pub record Bucket : Type 0 where
+pub record CountedBucket : Type 0 where
   -- how many bytes it has
   pub size : ℕ
   -- how many of them were taken, from its start on
   pub used : ℕ
 
 -- the bucket with n more bytes taken
-abbrev pub with_taken : ℕ → Bucket → Bucket
+abbrev pub with_taken : ℕ → CountedBucket → CountedBucket
 with_taken n b = record b { used = b.used + n }
 
 -- the list with the item at this place changed
@@ -19,8 +19,8 @@ changed_at zero f (x ∷ xs) = f x ∷ xs
 changed_at (suc place) f (x ∷ xs) = x ∷ changed_at place f xs
 
 -- no bucket has room for n bytes
-abbrev pub HasNoRoom : List Bucket → ℕ → Type 0
-HasNoRoom buckets n = All (λ (b : Bucket). b.size < b.used + n) buckets
+abbrev pub HasNoRoom : List CountedBucket → ℕ → Type 0
+HasNoRoom buckets n = All (λ (b : CountedBucket). b.size < b.used + n) buckets
 
 -- the account of an interner whose buckets have no room
 abbrev pub full : (doubling usage limit : ℕ) → Account

@@ -21,12 +21,12 @@ Stores Copied [] es = es ≡ []
 Stores Copied (byte ∷ bytes) es = TakesBytes (length (byte ∷ bytes)) es
 
 -- the bytes of a new text are stored, and then it is put last
-abbrev pub Adds : Keeping → Text → List Event → Type 0
-Adds keeping text es = (stored : List Event) × Stores keeping text stored × (es ≡ stored ++ Append text ∷ [])
+abbrev pub StoresAndAppends : Keeping → Text → List Event → Type 0
+StoresAndAppends keeping text es = (stored : List Event) × Stores keeping text stored × (es ≡ stored ++ Append text ∷ [])
 
 -- the events that a call makes, by its reply
 abbrev pub Makes : {K : Type 0} → Question → Reply K → List Event → Type 0
-Makes (Intern keeping text) (Interned (Ok k)) es = (es ≡ []) ⊎ Adds keeping text es
+Makes (Intern keeping text) (Interned (Ok k)) es = (es ≡ []) ⊎ StoresAndAppends keeping text es
 Makes (Intern keeping text) (Interned (Err KeySpaceExhaustion)) es = Stores keeping text es
 Makes (SetLimit limit) reply es = es ≡ Limit limit ∷ []
 Makes question reply es = es ≡ []

@@ -1,7 +1,7 @@
 -- The event that a change stands for, and its note.
 use Rattle.std.specs.Prelude.{◌≡◌, ℕ, Option, Some, None}
 use Rattle.lasso_shared.specs.History.{Event, Totals, counted}
-use Rattle.lasso_shared.specs.Notes.{Note, no_totals}
+use Rattle.lasso_shared.specs.Notes.{NoteView, no_totals}
 use Rattle.lasso_shared.specs.declared.log.note.Change.{Change}
 use Rattle.lasso_shared.specs.declared.log.note.Change.TheVariants.{Reserve, Charge, Append, Limit}
 
@@ -13,9 +13,9 @@ event_of (Append text) = Event.Append text.now
 event_of (Limit limit) = Event.Limit limit
 
 -- the note of an event
-abbrev pub note_of : (by : ℕ) (event : Event) (place ticket next : ℕ) → Note
-note_of by event place ticket next =
-    record { by = by; event = event; place = place; ticket = ticket; next = next; opening = no_totals }
+abbrev pub note_of : (by : ℕ) (event : Event) (position ticket next : ℕ) → NoteView
+note_of by event position ticket next =
+    record { by = by; event = event; position = position; ticket = ticket; next = next; opening = no_totals }
 
 -- the event leaves the list as it is
 abbrev pub IsQuiet : Event → Type 0

@@ -3,9 +3,9 @@ use Rattle.std.specs.Prelude.{◌≡◌, ℕ, ◌%◌, List, [], ◌∷◌, Opti
 use Rattle.lasso_parts.specs.Texts.{Text}
 use Rattle.lasso_parts.specs.declared.util.LassoErrorKind.TheVariants.{MemoryLimitReached, KeySpaceExhaustion, FailedAllocation}
 use Rattle.lasso_shared.specs.History.{Event}
-use Rattle.lasso_shared.specs.Replies.{Keeping, Copied, Static, Intern, Get, Resolve, Usage, MaxUsage, Iterate, Interned, Found, Resolved, Number, Entries}
+use Rattle.lasso_shared.specs.Replies.{Keeping, Copied, Static, Intern, Get, Resolve, Usage, MaxUsage, Iterate, Interned, Found, Resolved, Number, Pairs}
 use Rattle.lasso_shared.specs.Machine.{State, Call, Phase, Missing, Stored, Appended, Step, Take, Reserve, Charge, Append, Release, Refuse, Read, SetLimit}
-use Rattle.lasso_shared.specs.Runs.{IsStart, IsRun, run, history, replies}
+use Rattle.lasso_shared.specs.Runs.{IsStart, IsRun, run, run_history, replies}
 
 -- keys for three positions
 abbrev pub three_keys : ℕ → Option ℕ
@@ -98,7 +98,7 @@ pub record IsWorked : Type 0 where
   pub runs : IsRun three_keys shard_of empty steps
   pub texts : (run shard_of empty steps).texts ≡ bc ∷ a ∷ ddd ∷ []
   pub doubling : (run shard_of empty steps).doubling ≡ 4
-  pub events : history steps ≡ (7, Event.Reserve 0 1) ∷ (8, Event.Charge 4 2) ∷ (8, Event.Append bc) ∷ (7, Event.Append a) ∷ (9, Event.Limit 100) ∷ (9, Event.Append ddd) ∷ []
+  pub events : run_history steps ≡ (7, Event.Reserve 0 1) ∷ (8, Event.Charge 4 2) ∷ (8, Event.Append bc) ∷ (7, Event.Append a) ∷ (9, Event.Limit 100) ∷ (9, Event.Append ddd) ∷ []
   pub replies : replies three_keys shard_of empty steps
       ≡ (Intern Copied bc, Interned (Ok 0))
       ∷ (Intern Copied a, Interned (Ok 1))
@@ -109,7 +109,7 @@ pub record IsWorked : Type 0 where
       ∷ (Intern Static ddd, Interned (Ok 2))
       ∷ (Intern Static e, Interned (Err KeySpaceExhaustion))
       ∷ (Intern Copied e, Interned (Err FailedAllocation))
-      ∷ (Iterate, Entries ((0, bc) ∷ (1, a) ∷ (2, ddd) ∷ []))
+      ∷ (Iterate, Pairs ((0, bc) ∷ (1, a) ∷ (2, ddd) ∷ []))
       ∷ (Usage, Number 6)
       ∷ (MaxUsage, Number 100)
       ∷ []

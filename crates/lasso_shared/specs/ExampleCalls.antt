@@ -2,7 +2,7 @@
 use Rattle.std.specs.Prelude.{ℕ, [], ◌∷◌, ◌++◌, Some, None, Ok, Err}
 use Rattle.lasso_parts.specs.declared.util.LassoErrorKind.TheVariants.{MemoryLimitReached, KeySpaceExhaustion}
 use Rattle.lasso_shared.specs.History.{Reserve, Charge, Append, Limit, History, Totals, opened, IsLegal}
-use Rattle.lasso_shared.specs.Replies.{Copied, Static, Question, Intern, Get, Iterate, Strings, SetLimit, Reply, Interned, Found, Done, Entries, Listed}
+use Rattle.lasso_shared.specs.Replies.{Copied, Static, Question, Intern, Get, Iterate, Strings, SetLimit, Reply, Interned, Found, Done, Pairs, Listed}
 use Rattle.lasso_shared.specs.Calls.{IsCall}
 use Rattle.lasso_shared.specs.Example.{three_keys, a, bc, ddd, e}
 
@@ -35,7 +35,7 @@ pub record AreCalls : Type 0 where
   -- what was asked at the entry may be answered by what came meanwhile, or not
   pub missed : Calls [] two 9 (Get bc) (Found None)
   pub seen : Calls [] two 9 (Get bc) (Found (Some 0))
-  pub walk : Calls [] two 9 Iterate (Entries ((0, bc) ∷ (1, a) ∷ []))
+  pub walk : Calls [] two 9 Iterate (Pairs ((0, bc) ∷ (1, a) ∷ []))
 
 pub record AreNoCalls : Type 0 where
   -- a key for a text that was not appended, or was twice
@@ -53,6 +53,6 @@ pub record AreNoCalls : Type 0 where
   pub old_list : Calls [] two 9 Strings (Listed (Ok [])) → ⊥
   -- a pass that forgets what it had seen
   pub forgotten : Calls two [] 9 (Get bc) (Found None) → ⊥
-  -- a history in which a bucket comes while another has room, or a text stands twice
+  -- a run_history in which a bucket comes while another has room, or a text stands twice
   pub charged_early : IsLegal three_keys opening ((7, Charge 4 1) ∷ []) → ⊥
   pub appended_twice : IsLegal three_keys opening ((7, Append a) ∷ (8, Append a) ∷ []) → ⊥

@@ -1,7 +1,7 @@
 -- The history of a shared interner: its events, what they add up to, and which may follow.
 use Rattle.std.specs.Prelude.{◌≡◌, ◌≢◌, ℕ, ◌+◌, ◌≤◌, List, [], ◌∷◌, ◌++◌, length, Option, Some, None, IsSome, IsSomeAnd, slice_get}
 use Rattle.lasso_parts.specs.Texts.{Text, position_of, IsDistinct, Fits}
-use Rattle.lasso_shared.specs.Buckets.{Bucket, with_taken, changed_at, HasNoRoom, bucket_size, doubling_after}
+use Rattle.lasso_shared.specs.Buckets.{CountedBucket, with_taken, changed_at, HasNoRoom, bucket_size, doubling_after}
 
 pub data Event : Type 0 where
   -- bytes were taken in the bucket at this place
@@ -21,7 +21,7 @@ History = List (ℕ × Event)
 pub record Totals : Type 0 where
   -- the texts in the order of their keys
   pub texts : List Text
-  pub buckets : List Bucket
+  pub buckets : List CountedBucket
   -- the size that the next growth doubles
   pub doubling : ℕ
   -- bytes that all buckets take
@@ -69,7 +69,7 @@ Lacks texts text = position_of texts text ≡ None
 
 -- whether the event may come where this stands
 abbrev pub MayFollow : {K : Type 0} → (ℕ → Option K) → Totals → Event → Type 0
-MayFollow key_at s (Reserve bucket n) = (n ≢ 0) × IsSomeAnd (slice_get s.buckets bucket) (λ (b : Bucket). b.used + n ≤ b.size)
+MayFollow key_at s (Reserve bucket n) = (n ≢ 0) × IsSomeAnd (slice_get s.buckets bucket) (λ (b : CountedBucket). b.used + n ≤ b.size)
 MayFollow key_at s (Charge size n) =
     (n ≢ 0) × HasNoRoom s.buckets n × (bucket_size s.doubling s.usage s.limit n ≡ Some size) × (s.usage + size ≤ s.limit)
 MayFollow key_at s (Append text) = Lacks s.texts text × IsSome (key_at (length s.texts))

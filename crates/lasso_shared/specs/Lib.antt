@@ -7,10 +7,10 @@ pub mod Runs
 pub mod Example
 pub mod ExampleCalls
 pub mod Laws
-pub mod Rows
+pub mod Chunks
 pub mod Locks
 pub mod Notes
 pub mod Book
 pub mod Events
-pub mod Sights
+pub mod Views
 pub mod Openings

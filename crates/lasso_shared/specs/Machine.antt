@@ -3,9 +3,9 @@ use Rattle.std.specs.Prelude.{◌≡◌, ◌≢◌, ◌⊎◌, ◌==◌, ℕ, �
 use Rattle.lasso_parts.specs.Texts.{Text}
 use Rattle.lasso_parts.specs.declared.util.LassoErrorKind.{LassoErrorKind}
 use Rattle.lasso_parts.specs.declared.util.LassoErrorKind.TheVariants.{MemoryLimitReached, KeySpaceExhaustion, FailedAllocation}
-use Rattle.lasso_shared.specs.Buckets.{Bucket, with_taken, changed_at, HasNoRoom, bucket_size, doubling_after}
+use Rattle.lasso_shared.specs.Buckets.{CountedBucket, with_taken, changed_at, HasNoRoom, bucket_size, doubling_after}
 use Rattle.lasso_shared.specs.History.{Event, History, Totals}
-use Rattle.lasso_shared.specs.Replies.{Keeping, Copied, Static, Question, Intern, Get, Contains, ContainsKey, Resolve, Len, IsEmpty, Usage, MaxUsage, Iterate, Strings, Serialize, Reply, Interned, Found, Flag, Resolved, Number, Entries, Listed}
+use Rattle.lasso_shared.specs.Replies.{Keeping, Copied, Static, Question, Intern, Get, Contains, ContainsKey, Resolve, Len, IsEmpty, Usage, MaxUsage, Iterate, Strings, Serialize, Reply, Interned, Found, Flag, Resolved, Number, Pairs, Listed}
 
 -- bytes that were taken in a bucket: where they begin, and how many they are
 pub record Range : Type 0 where
@@ -14,7 +14,7 @@ pub record Range : Type 0 where
 
 -- a bucket, and the ranges that were taken in it
 pub record RangedBucket : Type 0 where
-  pub bucket : Bucket
+  pub bucket : CountedBucket
   pub ranges : List Range
 
 -- how far a call that interns a text has come
@@ -84,7 +84,7 @@ abbrev pub IsReady : Call → Type 0
 IsReady c = (c.phase ≡ Stored) ⊎ ((c.phase ≡ Missing) × NeedsNone c)
 
 -- the buckets without their ranges
-abbrev pub buckets_of : State → List Bucket
+abbrev pub buckets_of : State → List CountedBucket
 buckets_of s = map (λ (b : RangedBucket). b.bucket) s.buckets
 
 -- whether a call may be refused like this
@@ -109,7 +109,7 @@ abbrev pub MayStep : {K : Type 0} → (ℕ → Option K) → (Text → ℕ) → 
 MayStep key_at shard s (Take number keeping text) = (s.calls number ≡ None) × IsFree s (shard text)
 MayStep key_at shard s (Reserve c place) =
     IsInFlight s c × (c.phase ≡ Missing) × NeedsBytes c
-    × IsSomeAnd (slice_get (buckets_of s) place) (λ (b : Bucket). b.used + length c.text ≤ b.size)
+    × IsSomeAnd (slice_get (buckets_of s) place) (λ (b : CountedBucket). b.used + length c.text ≤ b.size)
 MayStep key_at shard s (Charge c size) =
     IsInFlight s c × (c.phase ≡ Missing) × NeedsBytes c × HasNoRoom (buckets_of s) (length c.text)
     × (bucket_size s.doubling s.usage s.limit (length c.text) ≡ Some size)
@@ -197,8 +197,8 @@ abbrev pub replied : {K : Type 0} → Question → Option (Reply K) → Option (
 replied question given = option_map (λ r. (question, r)) given
 
 -- the reply to an intern whose text has this key
-abbrev pub interned : {K : Type 0} → Keeping → Text → Option K → Option (Question × Reply K)
-interned keeping text key = replied (Intern keeping text) (option_map (λ k. Interned (Ok k)) key)
+abbrev pub found_reply : {K : Type 0} → Keeping → Text → Option K → Option (Question × Reply K)
+found_reply keeping text key = replied (Intern keeping text) (option_map (λ k. Interned (Ok k)) key)
 
 -- the entries of a walk: the texts beside their keys, where there are keys
 abbrev pub with_key : {K : Type 0} → Option K → Text → List (K × Text) → List (K × Text)
@@ -219,15 +219,15 @@ read key_at shard s Len = Some (Number (length s.texts))
 read key_at shard s IsEmpty = Some (Flag (nat_eq (length s.texts) 0))
 read key_at shard s Usage = Some (Number s.usage)
 read key_at shard s MaxUsage = Some (Number s.limit)
-read key_at shard s Iterate = Some (Entries (entries_from key_at 0 s.texts))
+read key_at shard s Iterate = Some (Pairs (entries_from key_at 0 s.texts))
 read key_at shard s Strings = Some (Listed (Ok s.texts))
 read key_at shard s Serialize = Some (Listed (Ok s.texts))
 read key_at shard s question = None
 
 -- what a step replies, and to what; none, where it replies nothing
 abbrev pub reply : {K : Type 0} → (ℕ → Option K) → (Text → ℕ) → State → Step → Option (Question × Reply K)
-reply key_at shard s (Take number keeping text) = interned keeping text (option_and_then key_at (s.index (shard text) text))
-reply key_at shard s (Release c position) = interned c.keeping c.text (key_at position)
+reply key_at shard s (Take number keeping text) = found_reply keeping text (option_and_then key_at (s.index (shard text) text))
+reply key_at shard s (Release c position) = found_reply c.keeping c.text (key_at position)
 reply key_at shard s (Refuse c why) = Some (Intern c.keeping c.text, Interned (Err why))
 reply key_at shard s (Read question) = replied question (read key_at shard s question)
 reply key_at shard s step = None

@@ -6,15 +6,15 @@ use Rattle.std.specs.Coded.{Coded, code_by, coded×, coded⊎, coded_ℕ, coded_
 use base.Stored.{coded_via}
 use Rattle.lasso_parts.specs.Texts.{Text}
 use Rattle.lasso_shared.specs.History.{Event, Reserve, Charge, Append, Limit, History, Totals, totals}
-use Rattle.lasso_shared.specs.Buckets.{Bucket, changed_at}
+use Rattle.lasso_shared.specs.Buckets.{CountedBucket, changed_at}
 use Rattle.lasso_shared.specs.Calls.{events_of}
 
-pub record Note : Type 0 where
+pub record NoteView : Type 0 where
   -- the number of the pass whose event it is
   pub by : ℕ
   pub event : Event
   -- where an appended text stands in the list
-  pub place : ℕ
+  pub position : ℕ
   -- the cell that the event used up, and the one that its pass has after it
   pub ticket : ℕ
   pub next : ℕ
@@ -25,10 +25,10 @@ abbrev pub no_totals : Totals
 no_totals = record { texts = []; buckets = []; doubling = 0; usage = 0; limit = 0 }
 
 -- a note that stands for an opening
-abbrev pub opening_note : Totals → Note
-opening_note o = record { by = 0; event = Limit 0; place = 0; ticket = 0; next = 0; opening = o }
+abbrev pub opening_note : Totals → NoteView
+opening_note o = record { by = 0; event = Limit 0; position = 0; ticket = 0; next = 0; opening = o }
 
-abbrev pub no_note : Note
+abbrev pub no_note : NoteView
 no_note = opening_note no_totals
 
 -- how a note is kept as data
@@ -56,8 +56,8 @@ from-parts (Limit limit) = refl
 abbrev pub event_coded : Coded Event
 event_coded = code_by Parts (coded⊎ (coded× coded_ℕ coded_ℕ) (coded⊎ (coded× coded_ℕ coded_ℕ) (coded⊎ (coded_list coded_ℕ) coded_ℕ))) parts_of event_from from-parts
 
-abbrev pub bucket_coded : Coded Bucket
-bucket_coded = coded_via (coded× coded_ℕ coded_ℕ) (λ (b : Bucket). (b.size, b.used)) (λ x y e i. record { size = (e i).0; used = (e i).1 })
+abbrev pub bucket_coded : Coded CountedBucket
+bucket_coded = coded_via (coded× coded_ℕ coded_ℕ) (λ (b : CountedBucket). (b.size, b.used)) (λ x y e i. record { size = (e i).0; used = (e i).1 })
 
 abbrev pub totals_coded : Coded Totals
 totals_coded =
@@ -65,61 +65,61 @@ totals_coded =
     (λ (s : Totals). (s.texts, (s.buckets, (s.doubling, (s.usage, s.limit)))))
     (λ x y e i. record { texts = (e i).0; buckets = (e i).1.0; doubling = (e i).1.1.0; usage = (e i).1.1.1.0; limit = (e i).1.1.1.1 })
 
-abbrev pub note_coded : Coded Note
+abbrev pub note_coded : Coded NoteView
 note_coded =
     coded_via (coded× coded_ℕ (coded× event_coded (coded× coded_ℕ (coded× coded_ℕ (coded× coded_ℕ totals_coded)))))
-    (λ (e : Note). (e.by, (e.event, (e.place, (e.ticket, (e.next, e.opening))))))
-    (λ x y e i. record { by = (e i).0; event = (e i).1.0; place = (e i).1.1.0; ticket = (e i).1.1.1.0; next = (e i).1.1.1.1.0; opening = (e i).1.1.1.1.1 })
+    (λ (e : NoteView). (e.by, (e.event, (e.position, (e.ticket, (e.next, e.opening))))))
+    (λ x y e i. record { by = (e i).0; event = (e i).1.0; position = (e i).1.1.0; ticket = (e i).1.1.1.0; next = (e i).1.1.1.1.0; opening = (e i).1.1.1.1.1 })
 
 -- the history that the notes past the opening are
-abbrev pub history : List Note → History
-history notes = map (λ (e : Note). (e.by, e.event)) notes
+abbrev pub history : List NoteView → History
+history notes = map (λ (e : NoteView). (e.by, e.event)) notes
 
 -- what stands after these notes
-abbrev pub state : Totals → List Note → Totals
+abbrev pub state : Totals → List NoteView → Totals
 state o notes = totals o (history notes)
 
 -- what stood at the opening of a log, and its notes past the first
-abbrev pub opening_of : List Note → Totals
+abbrev pub opening_of : List NoteView → Totals
 opening_of [] = no_totals
 opening_of (e ∷ es) = e.opening
 
-abbrev pub notes_of : List Note → List Note
+abbrev pub notes_of : List NoteView → List NoteView
 notes_of [] = []
 notes_of (e ∷ es) = es
 
 -- the log begins with the note of its opening
-abbrev pub IsOpened : List Note → Type 0
+abbrev pub IsOpened : List NoteView → Type 0
 IsOpened [] = ⊥
 IsOpened (e ∷ es) = Unit {0}
 
 -- the list that a log has
-abbrev pub texts_in : List Note → List Text
+abbrev pub texts_in : List NoteView → List Text
 texts_in log = (state (opening_of log) (notes_of log)).texts
 
 -- What is shown of a log to the cells that hold its texts: one note, which has the list.
-abbrev pub titled : List Text → List Note
+abbrev pub titled : List Text → List NoteView
 titled texts = opening_note record no_totals { texts = texts } ∷ []
 
-abbrev pub texts_titled : List Note → List Text
+abbrev pub texts_titled : List NoteView → List Text
 texts_titled shown = (opening_of shown).texts
 
 -- the text of an append
-abbrev pub text_of : Event → Text
-text_of (Append t) = t
-text_of e = []
+abbrev pub appended_text : Event → Text
+appended_text (Append t) = t
+appended_text e = []
 
 -- the ticket of the pass p after these notes, where it was d before them
-abbrev pub ticket_after : ℕ → ℕ → List Note → ℕ
+abbrev pub ticket_after : ℕ → ℕ → List NoteView → ℕ
 ticket_after p d [] = d
 ticket_after p d (e ∷ es) = ticket_after p (if e.by == p then e.next else d) es
 
 -- the number of a pass is its first ticket
-abbrev pub ticket_of : ℕ → List Note → ℕ
+abbrev pub ticket_of : ℕ → List NoteView → ℕ
 ticket_of p notes = ticket_after p p notes
 
 -- each of the notes uses the ticket that its pass then has, where these stand before
-abbrev pub Chained : List Note → List Note → Type 0
+abbrev pub Chained : List NoteView → List NoteView → Type 0
 Chained before [] = Unit {0}
 Chained before (e ∷ es) = (e.ticket ≡ ticket_of e.by before) × Chained (before ++ e ∷ []) es
 
@@ -135,7 +135,7 @@ worded words ticket (Charge size n) = bumped 1 1 words ++ (ticket, n) ∷ []
 worded words ticket (Append t) = bumped 0 1 words
 worded words ticket (Limit m) = bumped 1 1 words
 
-abbrev pub words_after : List (ℕ × ℕ) → List Note → List (ℕ × ℕ)
+abbrev pub words_after : List (ℕ × ℕ) → List NoteView → List (ℕ × ℕ)
 words_after words [] = words
 words_after words (e ∷ es) = words_after (worded words e.ticket e.event) es
 
@@ -143,18 +143,18 @@ words_after words (e ∷ es) = words_after (worded words e.ticket e.event) es
 abbrev pub first_words : List (ℕ × ℕ)
 first_words = (0, 0) ∷ (1, 0) ∷ (2, 0) ∷ []
 
-abbrev pub words_of : List Note → List (ℕ × ℕ)
+abbrev pub words_of : List NoteView → List (ℕ × ℕ)
 words_of notes = words_after first_words notes
 
 -- the word at this place has this key and this value
-abbrev pub IsWordWith : List Note → ℕ → ℕ → ℕ → Type 0
+abbrev pub IsWordWith : List NoteView → ℕ → ℕ → ℕ → Type 0
 IsWordWith notes place key value = slice_get (words_of notes) place ≡ Some (key, value)
 
-abbrev pub IsWord : List Note → ℕ → ℕ → Type 0
+abbrev pub IsWord : List NoteView → ℕ → ℕ → Type 0
 IsWord notes place key = (n : ℕ) × IsWordWith notes place key n
 
 -- `before` begins `after`, and these are the events of the pass p that `after` has past it
-pub record Since (p : ℕ) (before after : List Note) (own : List Event) : Type 0 where
-  pub rest : List Note
+pub record Since (p : ℕ) (before after : List NoteView) (own : List Event) : Type 0 where
+  pub rest : List NoteView
   pub begins : before ++ rest ≡ after
   pub events : events_of p (history rest) ≡ own

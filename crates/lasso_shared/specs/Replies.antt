@@ -42,7 +42,7 @@ pub data Reply (K : Type 0) : Type 0 where
   Number : ℕ → Reply K
   Done : Reply K
   -- what a walk over keys and texts gives
-  Entries : List (K × Text) → Reply K
+  Pairs : List (K × Text) → Reply K
   -- the list that a walk gives, or that was written or copied
   Listed : Result (List Text) LassoErrorKind → Reply K
 
@@ -79,7 +79,7 @@ MayReply key_at s IsEmpty (Flag reply) = reply ≡ nat_eq (length s.texts) 0
 MayReply key_at s Usage (Number reply) = reply ≡ s.usage
 MayReply key_at s MaxUsage (Number reply) = reply ≡ s.limit
 MayReply key_at s (SetLimit limit) Done = Unit {0}
-MayReply key_at s Iterate (Entries reply) = IsWalkOf key_at s.texts reply
+MayReply key_at s Iterate (Pairs reply) = IsWalkOf key_at s.texts reply
 MayReply key_at s Strings (Listed reply) = reply ≡ Ok s.texts
 MayReply key_at s Serialize (Listed reply) = MayCopy s.texts reply
 MayReply key_at s Freeze (Listed reply) = MayCopy s.texts reply

@@ -65,9 +65,9 @@ run shard s [] = s
 run shard s (step ∷ steps) = run shard (after shard s step) steps
 
 -- the events of the steps
-abbrev pub history : List Step → History
-history [] = []
-history (step ∷ steps) = events step ++ history steps
+abbrev pub run_history : List Step → History
+run_history [] = []
+run_history (step ∷ steps) = events step ++ run_history steps
 
 -- what the steps reply, in order
 abbrev pub replies : {K : Type 0} → (ℕ → Option K) → (Text → ℕ) → State → List Step → List (Question × Reply K)
@@ -96,8 +96,8 @@ pub record HoldsInRun {K : Type 0} (key_at : ℕ → Option K) (shard : Text →
   pub good : IsGood key_at shard (run shard start steps)
   pub grows : IsPrefix start.texts (run shard start steps).texts
   pub sound : (step : Step) → MayStep key_at shard (run shard start steps) step → IsSound key_at shard (run shard start steps) step
-  pub legal : IsLegal key_at (sums start) (history steps)
-  pub adds_up : totals (sums start) (history steps) ≡ sums (run shard start steps)
+  pub legal : IsLegal key_at (sums start) (run_history steps)
+  pub adds_up : totals (sums start) (run_history steps) ≡ sums (run shard start steps)
 
 -- the law, for keys that are given by this function
 abbrev pub EachRunHolds : {K : Type 0} → (ℕ → Option K) → Type 0

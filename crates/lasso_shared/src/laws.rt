@@ -1,7 +1,7 @@
 //! Laws of the shared history, each as the contract of a function that does nothing.
 
 ghost use Rattle.lasso_shared.specs.ExampleCalls.{AreCalls, AreNoCalls};
-ghost use Rattle.lasso_shared.specs.Laws.{EachHistoryHolds, RefusesExactlyPastLimit};
+ghost use Rattle.lasso_shared.specs.Laws.{EachHistoryHolds, ChargeRefusesExactlyPastLimit};
 
 use lasso_parts::keys::Key;
 
@@ -15,7 +15,7 @@ pub fn legal_histories_hold<K: Key>()
 /// Where no bucket has room, a text's bytes get no new bucket exactly where the usage and the bytes
 /// pass the limit: so such a text may always be stored or refused, and never both.
 pub fn charge_refuses_exactly_past_limit()
-    ensures { RefusesExactlyPastLimit }
+    ensures { ChargeRefusesExactlyPastLimit }
 {}
 
 /// Calls that were worked by hand are calls by the definition.

@@ -20,12 +20,12 @@ use std::sync::{Mutex, MutexGuard, RwLock, RwLockReadGuard, RwLockWriteGuard, Wa
 
 /// A value that one thread at a time has.
 #[derive(Drop)]
-pub struct Locked<X: Fits + Drop> {
+pub struct TaggedMutex<X: Fits + Drop> {
     lock: Mutex<()>,
     slot: Counted<Option<X>>,
 }
 
-impl<X: Fits + Drop> Model for Locked<X> {
+impl<X: Fits + Drop> Model for TaggedMutex<X> {
     ghost Value = { X.Tag };
 
     ghost coded = { X.Tag.code };
@@ -35,12 +35,12 @@ impl<X: Fits + Drop> Model for Locked<X> {
 
 /// What a holder has beside the value that it took. It ends by `give` and by nothing else. A contract sees the
 /// lock's tag.
-pub struct Taken<'a, X: Fits + Drop> {
-    lock: &'a Locked<X>,
+pub struct TaggedMutexGuard<'a, X: Fits + Drop> {
+    lock: &'a TaggedMutex<X>,
     guard: MutexGuard<'a, ()>,
 }
 
-impl<'a, X: Fits + Drop> Model for Taken<'a, X> {
+impl<'a, X: Fits + Drop> Model for TaggedMutexGuard<'a, X> {
     ghost Value = { X.Tag };
 
     ghost coded = { X.Tag.code };
@@ -48,26 +48,26 @@ impl<'a, X: Fits + Drop> Model for Taken<'a, X> {
     ghost view = { λ t. t.lock.now };
 }
 
-impl<X: Fits + Drop> Locked<X> {
+impl<X: Fits + Drop> TaggedMutex<X> {
     /// A lock with this value, which nobody has taken.
-    pub fn new(value: X, tag: &X::Tag) -> Locked<X>
+    pub fn new(value: X, tag: &X::Tag) -> TaggedMutex<X>
         requires { X.fits tag.now value }
         ensures { result ≡ tag.now }
     {
-        Locked {
+        TaggedMutex {
             lock: Mutex::new(()),
             slot: Counted::new(Some(value), tag),
         }
     }
 
     /// Takes the lock, and the value.
-    pub fn take<R: Wait>(&self, rt: &R) -> (Taken<'_, X>, X)
+    pub fn take<R: Wait>(&self, rt: &R) -> (TaggedMutexGuard<'_, X>, X)
         ensures { (result.0 ≡ self.now) × X.fits self.now result.1 }
     {
         let guard = self.lock.lock(rt);
         for _ in rt.forever() {
             if let Some(value) = pull(&self.slot, FREE) {
-                return (Taken { lock: self, guard }, value);
+                return (TaggedMutexGuard { lock: self, guard }, value);
             }
             spin_loop();
         }
@@ -75,12 +75,12 @@ impl<X: Fits + Drop> Locked<X> {
     }
 }
 
-impl<'a, X: Fits + Drop> Taken<'a, X> {
+impl<'a, X: Fits + Drop> TaggedMutexGuard<'a, X> {
     /// Puts the value back, and ends the lock.
     pub fn give<R: Wait>(self, rt: &R, value: X)
         requires { X.fits self value }
     {
-        let Taken { lock, guard } = self;
+        let TaggedMutexGuard { lock, guard } = self;
         push(&lock.slot, rt, value, FREE);
         drop(guard);
     }
@@ -88,12 +88,12 @@ impl<'a, X: Fits + Drop> Taken<'a, X> {
 
 /// A value that many threads read at once, or one has.
 #[derive(Drop)]
-pub struct Ruled<X: Fits + Drop> {
+pub struct TaggedRwLock<X: Fits + Drop> {
     lock: RwLock<()>,
     slot: Counted<Option<X>>,
 }
 
-impl<X: Fits + Drop> Model for Ruled<X> {
+impl<X: Fits + Drop> Model for TaggedRwLock<X> {
     ghost Value = { X.Tag };
 
     ghost coded = { X.Tag.code };
@@ -102,14 +102,14 @@ impl<X: Fits + Drop> Model for Ruled<X> {
 }
 
 /// A reader's hold of a value. It ends by `leave`.
-pub struct Reading<'a, X: Fits + Drop> {
+pub struct TaggedRwLockReadGuard<'a, X: Fits + Drop> {
     guard: RwLockReadGuard<'a, ()>,
     claim: Claim<'a, Option<X>>,
     ghost right: { claim.right ≡ 1 },
     ghost there: { has_value claim.value ≡ true },
 }
 
-impl<'a, X: Fits + Drop> Model for Reading<'a, X> {
+impl<'a, X: Fits + Drop> Model for TaggedRwLockReadGuard<'a, X> {
     ghost use Rattle.lasso_shared.specs.Locks.{Hold, hold_coded, value_of};
 
     ghost Value = { Hold X.Tag X };
@@ -121,12 +121,12 @@ impl<'a, X: Fits + Drop> Model for Reading<'a, X> {
 
 /// What a writer has beside the value that it took. It ends by `give` and by nothing else. A contract sees the
 /// lock's tag.
-pub struct Changing<'a, X: Fits + Drop> {
-    lock: &'a Ruled<X>,
+pub struct TaggedRwLockWriteGuard<'a, X: Fits + Drop> {
+    lock: &'a TaggedRwLock<X>,
     guard: RwLockWriteGuard<'a, ()>,
 }
 
-impl<'a, X: Fits + Drop> Model for Changing<'a, X> {
+impl<'a, X: Fits + Drop> Model for TaggedRwLockWriteGuard<'a, X> {
     ghost Value = { X.Tag };
 
     ghost coded = { X.Tag.code };
@@ -134,27 +134,27 @@ impl<'a, X: Fits + Drop> Model for Changing<'a, X> {
     ghost view = { λ c. c.lock.now };
 }
 
-impl<X: Fits + Drop> Ruled<X> {
+impl<X: Fits + Drop> TaggedRwLock<X> {
     /// A lock with this value, which nobody has taken.
-    pub fn new(value: X, tag: &X::Tag) -> Ruled<X>
+    pub fn new(value: X, tag: &X::Tag) -> TaggedRwLock<X>
         requires { X.fits tag.now value }
         ensures { result ≡ tag.now }
     {
-        Ruled {
+        TaggedRwLock {
             lock: RwLock::new(()),
             slot: Counted::new(Some(value), tag),
         }
     }
 
     /// Takes the lock to read, beside other readers.
-    pub fn read<R: Wait>(&self, rt: &R) -> Reading<'_, X>
+    pub fn read<R: Wait>(&self, rt: &R) -> TaggedRwLockReadGuard<'_, X>
         ensures { result.tag ≡ self.now }
     {
         let guard = self.lock.read(rt);
         for _ in rt.forever() {
             if let Some(claim) = enter(&self.slot) {
                 if claim.get().is_some() {
-                    return Reading { guard, claim };
+                    return TaggedRwLockReadGuard { guard, claim };
                 }
                 claim.leave();
             }
@@ -168,16 +168,16 @@ impl<X: Fits + Drop> Ruled<X> {
     }
 
     /// Takes the lock to change the value, and the value.
-    pub fn take<R: Wait>(&self, rt: &R) -> (Changing<'_, X>, X)
+    pub fn take<R: Wait>(&self, rt: &R) -> (TaggedRwLockWriteGuard<'_, X>, X)
         ensures { (result.0 ≡ self.now) × X.fits self.now result.1 }
     {
         let guard = self.lock.write(rt);
         for _ in rt.forever() {
             if let Some(value) = pull(&self.slot, PRESENT) {
-                return (Changing { lock: self, guard }, value);
+                return (TaggedRwLockWriteGuard { lock: self, guard }, value);
             }
             if let Some(value) = pull(&self.slot, FREE) {
-                return (Changing { lock: self, guard }, value);
+                return (TaggedRwLockWriteGuard { lock: self, guard }, value);
             }
             spin_loop();
         }
@@ -185,18 +185,18 @@ impl<X: Fits + Drop> Ruled<X> {
     }
 }
 
-impl<'a, X: Fits + Drop> Changing<'a, X> {
+impl<'a, X: Fits + Drop> TaggedRwLockWriteGuard<'a, X> {
     /// Puts the value back, and ends the lock.
     pub fn give<R: Wait>(self, rt: &R, value: X)
         requires { X.fits self value }
     {
-        let Changing { lock, guard } = self;
+        let TaggedRwLockWriteGuard { lock, guard } = self;
         push(&lock.slot, rt, value, PRESENT);
         drop(guard);
     }
 }
 
-impl<'a, X: Fits + Drop> Reading<'a, X> {
+impl<'a, X: Fits + Drop> TaggedRwLockReadGuard<'a, X> {
     /// The value, which stays as it is until the reading ends.
     pub fn get(&self) -> &X
         ensures { (Some result.now ≡ self.now.value) × X.fits self.now.tag result.now }
@@ -209,7 +209,7 @@ impl<'a, X: Fits + Drop> Reading<'a, X> {
 
     /// Ends the reading.
     pub fn leave(self) {
-        let Reading { guard, claim } = self;
+        let TaggedRwLockReadGuard { guard, claim } = self;
         let _was = claim.leave();
         drop(guard);
     }

@@ -6,7 +6,7 @@ pub mod opening;
 pub mod pass;
 pub mod reading;
 pub mod rule;
-pub mod shown;
+pub mod seen_texts;
 pub mod spine;
 #[cfg(test)]
 mod tests;

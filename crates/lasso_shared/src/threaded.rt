@@ -9,12 +9,12 @@ ghost use Rattle.lasso_parts.specs.declared.util.LassoErrorKind.TheVariants.{Fai
 ghost use Rattle.lasso_shared.specs.History.{IsLegal, IsOpening, opened};
 ghost use Rattle.lasso_shared.specs.Replies.{Static, Intern, Resolve, Interned, Resolved};
 ghost use Rattle.lasso_shared.specs.Calls.{IsCall};
-ghost use Rattle.lasso_shared.specs.Sights.{Sight, Origin, IsSamePass, IsIdle, IsInternedAt, seen};
+ghost use Rattle.lasso_shared.specs.Views.{PassView, InternerId, IsSamePass, IsIdle, IsInternedAt, seen};
 
 #[cfg(test)]
 mod tests;
 
-use crate::locks::Locked;
+use crate::locks::TaggedMutex;
 use crate::log::{Log, Opened, Pass, Spine};
 use counted_slot::Fits;
 use lasso_parts::index::{Index, hash_text};
@@ -36,11 +36,11 @@ pub struct Desk<K: Key, S: BuildHasher + Drop> {
 impl<K: Key, S: BuildHasher + Drop> Model for Desk<K, S> {
     ghost use Rattle.lasso_parts.specs.Hashing.{text_hash};
     ghost use Rattle.lasso_parts.specs.Index.{IsIndexOf};
-    ghost use Rattle.lasso_shared.specs.Sights.{Backbone, backbone_coded, list_of};
+    ghost use Rattle.lasso_shared.specs.Views.{SpineView, spine_view_coded, list_of};
 
-    ghost Value = { Backbone };
+    ghost Value = { SpineView };
 
-    ghost coded = { backbone_coded };
+    ghost coded = { spine_view_coded };
 
     ghost view = { λ d. d.spine };
 
@@ -61,17 +61,17 @@ impl<K: Key, S: BuildHasher + Drop> Fits for Desk<K, S> {
 #[derive(Drop)]
 pub struct ThreadedRodeo<K: Key, S: BuildHasher + Drop> {
     log: Log<K>,
-    desk: Locked<Desk<K, S>>,
+    desk: TaggedMutex<Desk<K, S>>,
     alloc: Global,
 }
 
 impl<K: Key, S: BuildHasher + Drop> Model for ThreadedRodeo<K, S> {
     ghost use Rattle.std.specs.Prelude.{◌≡◌};
-    ghost use Rattle.lasso_shared.specs.Sights.{Origin, origin_coded};
+    ghost use Rattle.lasso_shared.specs.Views.{InternerId, interner_id_coded};
 
-    ghost Value = { Origin };
+    ghost Value = { InternerId };
 
-    ghost coded = { origin_coded };
+    ghost coded = { interner_id_coded };
 
     ghost view = { λ t. t.log };
 
@@ -109,7 +109,7 @@ impl<K: Key, S: BuildHasher + Drop> ThreadedRodeo<K, S> {
             hasher,
             spine,
         };
-        let desk = Locked::new(desk, &log);
+        let desk = TaggedMutex::new(desk, &log);
         Ok(ThreadedRodeo { log, desk, alloc })
     }
 
@@ -182,15 +182,18 @@ impl<K: Key, S: BuildHasher + Drop> ThreadedRodeo<K, S> {
             return None;
         }
         desk.spine.agrees(pass);
-        let shown = self.log.shown(pass);
+        let seen_texts = self.log.seen_texts(pass);
         let hash = hash_text(&desk.hasher, text);
-        if let Some(position) = desk.index.find_hashed(&shown, &desk.hasher, hash, text) {
+        if let Some(position) = desk
+            .index
+            .find_hashed(&seen_texts, &desk.hasher, hash, text)
+        {
             return Some(Ok(K::try_from_usize(position).unwrap()));
         }
         let Some(key) = K::try_from_usize(desk.spine.len() as usize) else {
             return Some(Err(LassoError::new(LassoErrorKind::KeySpaceExhaustion)));
         };
-        if let Err(error) = desk.index.reserve_one(&shown, &desk.hasher) {
+        if let Err(error) = desk.index.reserve_one(&seen_texts, &desk.hasher) {
             return Some(Err(error));
         }
         if let Err(error) = self.log.reserve_next(self.alloc, &mut desk.spine) {

@@ -20,7 +20,7 @@ use Rattle.lasso_parts.proofs.TextLemmas.{take_more_at}
 use Rattle.lasso_single.specs.Copies.{bytes_of, store_all, StopsAt, clone_size, clone_of}
 use Rattle.lasso_single.specs.Filling.{InternsIn}
 use Rattle.lasso_single.specs.Intern.{Interns, with_text, stored_or_refused, keyed_or_refused, found_or_new}
-use Rattle.lasso_single.specs.Interner.{Interner, IsMadeWith, made_with, KeepsOrigin, bytes_added}
+use Rattle.lasso_single.specs.Interner.{InternerView, IsMadeWith, made_with, KeepsOrigin, bytes_added}
 
 -- ---- a new text
 
@@ -99,17 +99,17 @@ store_all_room a b (t ∷ ts) e fits =
 -- ---- one text more is copied
 
 -- the texts before position i are copied to the end of a list that was empty
-pub record CopiedTo (start : Interner) (source : List Text) (i : ℕ) (now : Interner) : Type 0 where
+pub record CopiedTo (start : InternerView) (source : List Text) (i : ℕ) (now : InternerView) : Type 0 where
   pub texts : now.texts ≡ take i source
   pub account : store_all start.account (take i source) ≡ Some now.account
   pub copied : now.copied ≡ start.copied + bytes_of (take i source)
   pub origin : KeepsOrigin start now
 
-pub copied_none : (start : Interner) (texts : List Text) → start.texts ≡ [] → CopiedTo start texts 0 start
+pub copied_none : (start : InternerView) (texts : List Text) → start.texts ≡ [] → CopiedTo start texts 0 start
 copied_none start texts empty = record { texts = empty; account = refl; copied = omega arith; origin = (refl, refl) }
 
 -- one text more went last, and its bytes were stored
-pub pushed_more : (start : Interner) (texts : List Text) (i : ℕ) (text : Text) (old new : Interner) → slice_get texts i ≡ Some text → CopiedTo start texts i old → new.texts ≡ old.texts ++ text ∷ [] → store old.account (length text) ≡ Some new.account → new.copied ≡ old.copied + length text → KeepsOrigin old new → CopiedTo start texts (i + 1) new
+pub pushed_more : (start : InternerView) (texts : List Text) (i : ℕ) (text : Text) (old new : InternerView) → slice_get texts i ≡ Some text → CopiedTo start texts i old → new.texts ≡ old.texts ++ text ∷ [] → store old.account (length text) ≡ Some new.account → new.copied ≡ old.copied + length text → KeepsOrigin old new → CopiedTo start texts (i + 1) new
 pushed_more start texts i text old new at so_far left stored copied origin =
     let more : take (i + 1) texts ≡ take i texts ++ text ∷ [] = take_more_at texts i text at in
     let bytes = bytes_more_at texts i text at in
@@ -121,7 +121,7 @@ pushed_more start texts i text old new at so_far left stored copied origin =
       origin = (origin.0 ∙ so_far.origin.0, origin.1 ∙ so_far.origin.1);
     }
 
-pub copied_more : {K : Type 0} (key_at : ℕ → Option K) (start : Interner) (texts : List Text) (i : ℕ) (text : Text) (old : Interner) (reply : Result K LassoError) (new : Interner) → IsDistinct texts → Fits key_at (length texts) → slice_get texts i ≡ Some text → CopiedTo start texts i old → InternsIn key_at old text reply new
+pub copied_more : {K : Type 0} (key_at : ℕ → Option K) (start : InternerView) (texts : List Text) (i : ℕ) (text : Text) (old : InternerView) (reply : Result K LassoError) (new : InternerView) → IsDistinct texts → Fits key_at (length texts) → slice_get texts i ≡ Some text → CopiedTo start texts i old → InternsIn key_at old text reply new
     → MatchResult reply (λ _. CopiedTo start texts (i + 1) new) (λ error. StopsAt start.account texts i error new.account × KeepsOrigin start new)
 copied_more {K} key_at start texts i text old reply new distinct fits at so_far interns =
     let inside : i < length texts = slice_get_within texts i text at in
@@ -130,7 +130,7 @@ copied_more {K} key_at start texts i text old reply new distinct fits at so_far 
     let has_key : IsSome (key_at (length old.texts)) = subst (λ (n : ℕ). IsSome (key_at n)) (sym count) (fits i inside) in
     go reply new absent (interns_new key_at old.texts old.account text reply new.texts new.account interns.0 absent has_key) interns.1 interns.2
   where
-    go : (reply : Result K LassoError) (new : Interner) → position_of old.texts text ≡ None
+    go : (reply : Result K LassoError) (new : InternerView) → position_of old.texts text ≡ None
         → MatchResult reply (λ _. (new.texts ≡ old.texts ++ text ∷ []) × (store old.account (length text) ≡ Some new.account)) (λ error. (new.texts ≡ old.texts) × (new.account ≡ old.account) × ((error ≡ FailedAllocation) ⊎ ((error ≡ MemoryLimitReached) × (store old.account (length text) ≡ None))))
         → MatchResult reply (λ _. new.copied ≡ old.copied + bytes_added old.texts text) (λ _. new.copied ≡ old.copied)
         → KeepsOrigin old new
@@ -182,7 +182,7 @@ some_unless_none None h = absurd (h refl)
 some_unless_none (Some a) h = refl
 
 -- each text has room
-pub has_room : (start : Interner) (texts : List Text) (i : ℕ) (text : Text) (now : Interner) → bytes_of texts ≤ start.account.room → slice_get texts i ≡ Some text → CopiedTo start texts i now → IsSome (store now.account (length text))
+pub has_room : (start : InternerView) (texts : List Text) (i : ℕ) (text : Text) (now : InternerView) → bytes_of texts ≤ start.account.room → slice_get texts i ≡ Some text → CopiedTo start texts i now → IsSome (store now.account (length text))
 has_room start texts i text now fits at so_far =
     let more = bytes_more_at texts i text at in
     let all = sum_by-take-le (λ (t : Text). length t) texts (i + 1) in
@@ -190,7 +190,7 @@ has_room start texts i text now fits at so_far =
     some_unless_none (store now.account (length text)) (store_not_refused now.account (length text) (omega arith))
 
 -- a list that was just made has copied nothing
-pub made_none : (texts : List Text) (size limit bytes : ℕ) (now : Interner) → bytes ≡ size → now.texts ≡ [] → now.account ≡ fresh bytes limit → IsMadeWith bytes 0 now → CopiedTo (made_with size limit) texts 0 now
+pub made_none : (texts : List Text) (size limit bytes : ℕ) (now : InternerView) → bytes ≡ size → now.texts ≡ [] → now.account ≡ fresh bytes limit → IsMadeWith bytes 0 now → CopiedTo (made_with size limit) texts 0 now
 made_none texts size limit bytes now same empty account made = record {
   texts = empty;
   account = ap (λ (a : Account). Some a) (sym (account ∙ ap (λ (n : ℕ). fresh n limit) same));

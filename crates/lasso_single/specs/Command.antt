@@ -8,7 +8,7 @@ use Rattle.lasso_parts.specs.declared.util.LassoError.{LassoError}
 use Rattle.lasso_parts.specs.declared.util.LassoErrorKind.TheVariants.{FailedAllocation}
 use Rattle.lasso_single.specs.Copies.{clone_into}
 use Rattle.lasso_single.specs.Filling.{InternsIn, InternsStaticIn, extend}
-use Rattle.lasso_single.specs.Interner.{Interner}
+use Rattle.lasso_single.specs.Interner.{InternerView}
 use Rattle.lasso_single.specs.declared.commands.Command.{Command}
 use Rattle.lasso_single.specs.declared.commands.Command.TheVariants.{Intern, InternStatic, Get, Contains, ContainsKey, TryResolve, Len, Usage, MaxUsage, SetLimit, Clear, Extend, CloneFrom}
 use Rattle.lasso_single.specs.declared.commands.Reply.{Reply}
@@ -31,7 +31,7 @@ resolves_to found reply =
     ⊎ ((reply ≡ Refused FailedAllocation) × IsSome found)
 
 -- what a command answers, and what it leaves of the interner; H is the type of the hashers that S makes
-abbrev pub replies_to : {K S A H : Type 0} → (ℕ → Option K) → (K → ℕ) → Interner → Command K S A H → Reply K → Interner → Type 0
+abbrev pub replies_to : {K S A H : Type 0} → (ℕ → Option K) → (K → ℕ) → InternerView → Command K S A H → Reply K → InternerView → Type 0
 replies_to {K} key_at number old (Intern text) reply new = (outcome : Result K LassoError) × InternsIn key_at old text.now outcome new × (reply ≡ intern_reply outcome)
 replies_to {K} key_at number old (InternStatic text) reply new = (outcome : Result K LassoError) × InternsStaticIn key_at old text.now outcome new × (reply ≡ intern_reply outcome)
 replies_to key_at number old (Get text) reply new = (reply ≡ Found (key_of key_at old.texts text.now)) × (new ≡ old)
@@ -47,10 +47,10 @@ replies_to key_at number old (Extend texts) reply new = (outcome : Result (Unit 
 replies_to key_at number old (CloneFrom source) reply new = (outcome : Result (Unit {0}) LassoError) × clone_into old source.now.texts outcome new × (reply ≡ done_reply outcome)
 
 -- the definitions folded over a list of commands: one reply each, in order, each from what the one before left
-abbrev pub run_of : {K S A H : Type 0} → (ℕ → Option K) → (K → ℕ) → Interner → List (Command K S A H) → List (Reply K) → Interner → Type 0
+abbrev pub run_of : {K S A H : Type 0} → (ℕ → Option K) → (K → ℕ) → InternerView → List (Command K S A H) → List (Reply K) → InternerView → Type 0
 run_of key_at number old [] replies new = (replies ≡ []) × (new ≡ old)
 run_of {K} key_at number old (command ∷ commands) replies new =
-    (reply : Reply K) × (others : List (Reply K)) × (mid : Interner)
+    (reply : Reply K) × (others : List (Reply K)) × (mid : InternerView)
     × (replies ≡ reply ∷ others) × replies_to key_at number old command reply mid × run_of key_at number mid commands others new
 
 -- a command that clears nothing

@@ -4,7 +4,7 @@ use Rattle.lasso_parts.specs.Account.{Account, fresh, store, clear}
 use Rattle.lasso_parts.specs.Texts.{Text}
 use Rattle.lasso_parts.specs.declared.util.LassoError.{LassoError}
 use Rattle.lasso_parts.specs.declared.util.LassoErrorKind.TheVariants.{MemoryLimitReached, FailedAllocation}
-use Rattle.lasso_single.specs.Interner.{Interner}
+use Rattle.lasso_single.specs.Interner.{InternerView}
 
 -- how many bytes the texts have in all
 abbrev pub bytes_of : List Text → ℕ
@@ -36,7 +36,7 @@ StopsAt account texts j error stopped =
 
 -- copying the texts into an interner, which is cleared first, leaves just them; or it stops at one of them, and
 -- then leaves no text and the account that was reached, cleared
-abbrev pub clone_into : Interner → List Text → Result (Unit {0}) LassoError → Interner → Type 0
+abbrev pub clone_into : InternerView → List Text → Result (Unit {0}) LassoError → InternerView → Type 0
 clone_into old texts reply new =
     MatchResult reply
     (λ _. (new.texts ≡ texts) × (store_all (clear old.account) texts ≡ Some new.account) × (new.copied ≡ bytes_of texts))

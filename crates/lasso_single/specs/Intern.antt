@@ -30,8 +30,8 @@ abbrev pub interned : {K : Type 0} → (ℕ → Option K) → Held → Text → 
 interned key_at held text = found_or_new key_at held text (position_of held.texts text)
 
 -- the text's position once it is interned
-abbrev pub place : List Text → Text → ℕ
-place texts text = unwrap_or (position_of texts text) (length texts)
+abbrev pub interned_position : List Text → Text → ℕ
+interned_position texts text = unwrap_or (position_of texts text) (length texts)
 
 -- interning the text answers the key of its position and leaves what the definition says; or it is refused
 -- and leaves all as it was, for want of memory only where the list would grow
@@ -39,7 +39,7 @@ abbrev pub Interns : {K : Type 0} → (ℕ → Option K) → List Text → Accou
 Interns key_at texts account text reply texts' account' =
     let before : Held = record { texts = texts; account = account } in
     MatchResult reply
-    (λ k. (interned key_at before text ≡ Ok (record { texts = texts'; account = account' })) × (key_at (place texts text) ≡ Some k))
+    (λ k. (interned key_at before text ≡ Ok (record { texts = texts'; account = account' })) × (key_at (interned_position texts text) ≡ Some k))
     (λ error. (texts' ≡ texts) × (account' ≡ account) × ((interned key_at before text ≡ Err error)
     ⊎ ((error ≡ FailedAllocation) × (position_of texts text ≡ None) × IsOk (interned key_at before text))))
 
@@ -62,6 +62,6 @@ abbrev pub InternsStatic : {K : Type 0} → (ℕ → Option K) → List Text →
 InternsStatic key_at texts account text reply texts' account' =
     let before : Held = record { texts = texts; account = account } in
     MatchResult reply
-    (λ k. (interned_static key_at before text ≡ Ok (record { texts = texts'; account = account' })) × (key_at (place texts text) ≡ Some k))
+    (λ k. (interned_static key_at before text ≡ Ok (record { texts = texts'; account = account' })) × (key_at (interned_position texts text) ≡ Some k))
     (λ error. (texts' ≡ texts) × (account' ≡ account) × ((interned_static key_at before text ≡ Err error)
     ⊎ ((error ≡ FailedAllocation) × (position_of texts text ≡ None) × IsOk (interned_static key_at before text))))

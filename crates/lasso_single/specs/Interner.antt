@@ -3,7 +3,7 @@ use Rattle.std.specs.Prelude.{◌≡◌, ℕ, Bool, false, List, [], length, is_
 use Rattle.lasso_parts.specs.Texts.{Text, position_of}
 use Rattle.lasso_parts.specs.Account.{Account, fresh}
 
-pub record Interner : Type 0 where
+pub record InternerView : Type 0 where
   -- the texts in the order of their keys
   pub texts : List Text
   -- the account of the buckets that copied texts lie in
@@ -16,15 +16,15 @@ pub record Interner : Type 0 where
   pub is_cleared : Bool
 
 -- an interner that was just made, with a first bucket of so many bytes and that limit
-abbrev pub made_with : ℕ → ℕ → Interner
+abbrev pub made_with : ℕ → ℕ → InternerView
 made_with bytes limit = record { texts = []; account = fresh bytes limit; first = bytes; copied = 0; is_cleared = false }
 
 -- an interner that was just made with a first bucket of so many bytes, into which so many were copied
-abbrev pub IsMadeWith : ℕ → ℕ → Interner → Type 0
+abbrev pub IsMadeWith : ℕ → ℕ → InternerView → Type 0
 IsMadeWith first copied made = (made.first ≡ first) × (made.copied ≡ copied) × (made.is_cleared ≡ false)
 
 -- the first bucket is the same, and nothing was cleared
-abbrev pub KeepsOrigin : Interner → Interner → Type 0
+abbrev pub KeepsOrigin : InternerView → InternerView → Type 0
 KeepsOrigin old new = (new.first ≡ old.first) × (new.is_cleared ≡ old.is_cleared)
 
 -- how many bytes a copied text adds to the list: none where it is there

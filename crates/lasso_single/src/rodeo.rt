@@ -39,9 +39,9 @@ impl<K: Key, S: BuildHasher, A: Allocator> Model for Rodeo<K, S, A> {
     ghost use Rattle.lasso_parts.specs.Hashing.{text_hash};
     ghost use Rattle.lasso_parts.specs.Index.{IsIndexOf};
     ghost use Rattle.lasso_parts.specs.Texts.{Fits};
-    ghost use Rattle.lasso_single.specs.Interner.{Interner};
+    ghost use Rattle.lasso_single.specs.Interner.{InternerView};
 
-    ghost Value = { Interner };
+    ghost Value = { InternerView };
 
     ghost view = { λ r. r.list };
 

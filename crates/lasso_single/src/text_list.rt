@@ -10,10 +10,10 @@ ghost use Rattle.lasso_parts.specs.declared.util.LassoErrorKind.TheVariants.{Fai
 
 use crate::room::one_bucket;
 use lasso_parts::arena::Arena;
+use lasso_parts::entries::{Entry, text_of};
 use lasso_parts::index::Texts;
 use lasso_parts::iter::{Iter, Strings};
 use lasso_parts::keys::Key;
-use lasso_parts::slots::{Slot, text_of};
 use lasso_parts::util::{Capacity, LassoResult, MemoryLimits};
 use std::alloc::Allocator;
 use std::marker::Model;
@@ -24,7 +24,7 @@ use std::marker::Model;
 /// copied in are taken.
 #[derive(Drop)]
 pub(crate) struct TextList<A: Allocator> {
-    slots: Vec<Slot, A>,
+    entries: Vec<Entry, A>,
     arena: Arena<A>,
     first: usize,
     is_cleared: bool,
@@ -33,15 +33,15 @@ pub(crate) struct TextList<A: Allocator> {
 impl<A: Allocator> Model for TextList<A> {
     ghost use Rattle.std.specs.Prelude.{◌≡◌, false};
     ghost use Rattle.lasso_parts.specs.Arena.{account_of, copied_of};
-    ghost use Rattle.lasso_parts.specs.Slots.{texts_of, AllThere};
+    ghost use Rattle.lasso_parts.specs.Entries.{texts_of, AllThere};
     ghost use Rattle.lasso_parts.specs.Waste.{IsThrifty};
-    ghost use Rattle.lasso_single.specs.Interner.{Interner};
+    ghost use Rattle.lasso_single.specs.Interner.{InternerView};
 
-    ghost Value = { Interner };
+    ghost Value = { InternerView };
 
-    ghost view = { λ l. record { texts = texts_of l.arena.all l.slots.items; account = account_of l.arena; first = l.first; copied = copied_of l.arena; is_cleared = l.is_cleared } };
+    ghost view = { λ l. record { texts = texts_of l.arena.all l.entries.items; account = account_of l.arena; first = l.first; copied = copied_of l.arena; is_cleared = l.is_cleared } };
 
-    ghost invariant = { λ l. AllThere l.arena.all l.slots.items × (l.is_cleared ≡ false → IsThrifty l.first (copied_of l.arena) (account_of l.arena)) };
+    ghost invariant = { λ l. AllThere l.arena.all l.entries.items × (l.is_cleared ≡ false → IsThrifty l.first (copied_of l.arena) (account_of l.arena)) };
 }
 
 impl<A: Allocator> Texts for TextList<A> {
@@ -49,7 +49,7 @@ impl<A: Allocator> Texts for TextList<A> {
 
     #[inline]
     fn text_at(&self, position: usize) -> &str {
-        text_of(self.arena.regions(), &self.slots[position])
+        text_of(self.arena.regions(), &self.entries[position])
     }
 }
 
@@ -61,10 +61,10 @@ impl<A: Allocator + Clone> TextList<A> {
         ensures made { IfOk result (IsMadeWith capacity.bytes 0) }
         ensures refused { IfErr result (λ error. error ≡ FailedAllocation) }
     {
-        let slots = Vec::with_capacity(alloc.clone()?, capacity.strings())?;
+        let entries = Vec::with_capacity(alloc.clone()?, capacity.strings())?;
         let arena = Arena::new(alloc, capacity.bytes(), limits.max_memory_usage())?;
         Ok(TextList {
-            slots,
+            entries,
             arena,
             first: capacity.bytes(),
             is_cleared: false,
@@ -102,10 +102,10 @@ impl<A: Allocator + Clone> TextList<A> {
         ensures same_account { OnErr result (self.new.account ≡ self.old.account) }
         ensures same_copied { OnErr result (self.new.copied ≡ self.old.copied) }
     {
-        self.slots.reserve(1)?;
+        self.entries.reserve(1)?;
         let span = self.arena.store_str(text)?;
-        let slot = Slot::copied(self.arena.regions(), span);
-        self.slots.push_reserved(slot);
+        let entry = Entry::copied(self.arena.regions(), span);
+        self.entries.push_reserved(entry);
         Ok(())
     }
 }
@@ -115,14 +115,14 @@ impl<A: Allocator> TextList<A> {
     pub(crate) fn len(&self) -> usize
         ensures { result ≡ length self.now.texts }
     {
-        self.slots.len()
+        self.entries.len()
     }
 
     /// The text at the position, or `None` past the end.
     pub(crate) fn get(&self, position: usize) -> Option<&str>
         ensures { option_map (λ t. t.now) result ≡ slice_get self.now.texts position }
     {
-        if position < self.slots.len() {
+        if position < self.entries.len() {
             Some(self.text_at(position))
         } else {
             None
@@ -155,7 +155,7 @@ impl<A: Allocator> TextList<A> {
     pub(crate) fn capacity(&self) -> usize
         ensures { length self.now.texts ≤ result }
     {
-        self.slots.capacity()
+        self.entries.capacity()
     }
 
     /// A walk over the texts and their keys. Each position must have a key.
@@ -163,14 +163,14 @@ impl<A: Allocator> TextList<A> {
         requires { Fits K.key_at (length self.now.texts) }
         ensures { result ≡ enumerate_from 0 self.now.texts }
     {
-        Iter::new(self.slots.as_slice(), self.arena.regions())
+        Iter::new(self.entries.as_slice(), self.arena.regions())
     }
 
     /// A walk over the texts.
     pub(crate) fn strings<K: Key>(&self) -> Strings<'_, K>
         ensures { result ≡ self.now.texts }
     {
-        Strings::new(self.slots.as_slice(), self.arena.regions())
+        Strings::new(self.entries.as_slice(), self.arena.regions())
     }
 
     /// Whether another list has the same texts in the same order.
@@ -192,7 +192,7 @@ impl<A: Allocator> TextList<A> {
 
     /// The allocator of the list.
     pub(crate) fn allocator(&self) -> &A {
-        self.slots.allocator()
+        self.entries.allocator()
     }
 
     /// Makes room for so many texts more. Where memory is wanting, the list is the same too.
@@ -200,7 +200,7 @@ impl<A: Allocator> TextList<A> {
         ensures same { self.new ≡ self.old }
         ensures refused { IfErr result (λ error. error ≡ FailedAllocation) }
     {
-        self.slots.reserve(additional)?;
+        self.entries.reserve(additional)?;
         Ok(())
     }
 
@@ -214,8 +214,8 @@ impl<A: Allocator> TextList<A> {
         ensures refused { IfErr result (λ error. error ≡ FailedAllocation) }
         ensures same_texts { OnErr result (self.new.texts ≡ self.old.texts) }
     {
-        self.slots.reserve(1)?;
-        self.slots.push_reserved(Slot::lasting(text));
+        self.entries.reserve(1)?;
+        self.entries.push_reserved(Entry::lasting(text));
         Ok(())
     }
 
@@ -238,7 +238,7 @@ impl<A: Allocator> TextList<A> {
         ensures mark { self.new.is_cleared ≡ true }
     {
         self.is_cleared = true;
-        self.slots.clear();
+        self.entries.clear();
         self.arena.clear();
     }
 }

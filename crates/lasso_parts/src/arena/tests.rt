@@ -1,7 +1,7 @@
 //! Worked rows of the arena: what it accepts, what it refuses, and the bytes that its regions then take.
 
 use crate::arena::Arena;
-use crate::slots::{Slot, text_of};
+use crate::entries::{Entry, text_of};
 use crate::util::LassoErrorKind;
 use std::alloc::Global;
 use std::process::Abort;
@@ -48,7 +48,7 @@ fn store(rt: &impl Abort, arena: &mut Arena<Global>, text: &str) -> Option<Lasso
         Ok(span) => {
             let regions = arena.regions();
             assert!(rt; arena.text(span) == text);
-            assert!(rt; text_of(regions, &Slot::copied(regions, span)) == text);
+            assert!(rt; text_of(regions, &Entry::copied(regions, span)) == text);
             None
         }
         Err(error) => Some(error.kind()),

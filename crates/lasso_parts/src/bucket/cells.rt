@@ -1,10 +1,10 @@
 //! The places of a block of bytes: how they are had of an allocator, read, written and given back.
-//! Beside this file `region.rt` passes a pointer on, and `slots.rt` and `slots/loan.rt` keep one and read by it.
+//! Beside this file `region.rt` passes a pointer on, and `entries.rt` and `entries/loan.rt` keep one and read by it.
 ghost use Rattle.std.specs.Prelude.{◌≡◌, ℕ, ◌+◌, ◌^◌, ◌<◌, ◌≤◌, ◌++◌, length, take, drop, slice_range, IfOk};
 ghost use base.Fml.{ftrue};
 ghost use denote.RawPtr.{Ptr, ◌+ₚ◌};
 ghost use Rattle.core.specs.Mem.Slots.{slots_items, slots_ptr, slots_len, SamePlaces};
-ghost use Rattle.lasso_parts.specs.Cells.{LeadsToBlock, deed_owns, Holds, SameBefore};
+ghost use Rattle.lasso_parts.specs.Cells.{LeadsToBlock, deed_owns, AreFilled, SameBefore};
 
 use core::slots::Slots;
 use std::alloc::{AllocError, Allocator};
@@ -101,7 +101,7 @@ impl Cells {
     pub(crate) fn write(&mut self, start: usize, bytes: &[u8])
         requires { start + length bytes.now ≤ slots_len self.old }
         ensures items { slots_items self.new ≡ take start (slots_items self.old) ++ bytes.now ++ drop (start + length bytes.now) (slots_items self.old) }
-        ensures written { Holds self.new start (start + length bytes.now) }
+        ensures written { AreFilled self.new start (start + length bytes.now) }
         ensures before { SameBefore self.old self.new start }
         ensures places { SamePlaces self.old self.new }
     {
@@ -110,7 +110,7 @@ impl Cells {
 
     /// Where the place at `start` lies, or where the places end.
     #[inline]
-    pub(crate) fn place(&self, start: usize) -> *const u8
+    pub(crate) fn address(&self, start: usize) -> *const u8
         requires { start ≤ slots_len self.now }
         ensures { (result ≡ slots_ptr self.now +ₚ start) × LeadsToBlock result }
     {
@@ -120,7 +120,7 @@ impl Cells {
     /// The `len` bytes from `start` on, where they lie.
     #[inline]
     pub(crate) fn read(&self, start: usize, len: usize) -> &[u8]
-        requires { Holds self.now start (start + len) }
+        requires { AreFilled self.now start (start + len) }
         ensures { result.now ≡ slice_range (slots_items self.now) start (start + len) }
     {
         unsafe { slice::from_raw_parts(self.ptr.add(start), len) }

@@ -21,13 +21,13 @@ impl Model for Region {
     ghost use Rattle.std.specs.Prelude.{◌<◌};
     ghost use Rattle.core.specs.Mem.Slots.{slots_ptr, slots_len};
     ghost use Rattle.lasso_parts.specs.Bucket.{Extent};
-    ghost use Rattle.lasso_parts.specs.Cells.{bytes_in, Holds};
+    ghost use Rattle.lasso_parts.specs.Cells.{bytes_in, AreFilled};
 
     ghost Value = { Extent };
 
     ghost view = { λ r. record { at = slots_ptr r.cells; bytes = bytes_in r.used r.cells; capacity = slots_len r.cells } };
 
-    ghost invariant = { λ r. Holds r.cells 0 r.used };
+    ghost invariant = { λ r. AreFilled r.cells 0 r.used };
 }
 
 /// The right to free a region, with the allocator that gave it. Only `close` lets it go.
@@ -110,11 +110,11 @@ impl Region {
 
     /// Where the byte at `start` lies, or where the bytes end.
     #[inline]
-    pub(crate) fn place(&self, start: usize) -> *const u8
+    pub(crate) fn address(&self, start: usize) -> *const u8
         requires { start ≤ length self.now.bytes }
         ensures { (result ≡ self.now.at +ₚ start) × LeadsToBlock result }
     {
-        self.cells.place(start)
+        self.cells.address(start)
     }
 
     /// The text in the `len` bytes from `start` on. Nothing is copied, and nothing tested.

@@ -10,7 +10,7 @@ use std::marker::Model;
 // How many slots have their bits in one word.
 const WORD_SLOTS: usize = 64;
 
-/// The slots of a table. Slot j is empty where its bit is 0, which is bit `j % 64` of word `j / 64`; what
+/// The slots of a table. Entry j is empty where its bit is 0, which is bit `j % 64` of word `j / 64`; what
 /// stands at its place among the keys then says nothing. No key of the type is at hand before the first
 /// one is put, so the keys are made then, in memory that was had before. Contracts see the position that
 /// each slot's key stands for.

@@ -57,7 +57,7 @@ fn read_items<'a, K: Key, S: BuildHasher, A: Allocator + Clone>(
     let mut index = index;
     for item in items {
         let text = text_of(item, texts.len())?;
-        place(&mut index, texts.as_slice(), hasher, text, distinct)?;
+        enter_text(&mut index, texts.as_slice(), hasher, text, distinct)?;
         texts.push(text)?;
     }
     Ok(texts)
@@ -85,7 +85,7 @@ fn key_for<K: Key>(at: usize) -> Result<K, JsonError>
 
 // Sees that a text may go last in the list. Where no text may stand twice, its position is entered in the
 // index, which must be that of the list.
-fn place<K: Key, S: BuildHasher, A: Allocator + Clone>(
+fn enter_text<K: Key, S: BuildHasher, A: Allocator + Clone>(
     index: &mut Index<K, A>,
     texts: &[&str],
     hasher: &S,

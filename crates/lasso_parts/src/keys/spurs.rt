@@ -1,7 +1,7 @@
 //! The key types that keep a number of 8 to 64 bits. What they keep is the position plus one, never 0.
 ghost use Rattle.std.specs.Prelude.{◌≡◌, ◌-◌, Some, codes};
 ghost use Rattle.std.proofs.Common.{lit≤};
-ghost use Rattle.lasso_parts.specs.Kept.{IsKept, kept_at, kept_text, kept_made, kept_made_again, kept_equal};
+ghost use Rattle.lasso_parts.specs.Kept.{IsKeptNumber, kept_at, kept_text, kept_made, kept_made_again, kept_equal};
 
 use crate::keys::Key;
 use std::fmt;
@@ -15,13 +15,13 @@ pub struct Spur {
 
 impl Model for Spur {
     ghost use Rattle.std.specs.Prelude.{ℕ};
-    ghost use Rattle.lasso_parts.specs.Kept.{IsKept};
+    ghost use Rattle.lasso_parts.specs.Kept.{IsKeptNumber};
 
     ghost Value = { ℕ };
 
     ghost view = { λ k. k.kept };
 
-    ghost invariant = { λ k. IsKept 4294967295 k.kept };
+    ghost invariant = { λ k. IsKeptNumber 4294967295 k.kept };
 
     ghost inverse = { λ kept. record { kept = kept } };
 }
@@ -30,14 +30,14 @@ impl Spur {
     /// The number that the key keeps: its position plus one.
     pub fn into_inner(self) -> u32
         ensures kept { result ≡ self }
-        ensures range { IsKept 4294967295 result }
+        ensures range { IsKeptNumber 4294967295 result }
     {
         self.kept
     }
 }
 
 impl Key for Spur {
-    ghost is_value = { IsKept 4294967295 };
+    ghost is_value = { IsKeptNumber 4294967295 };
 
     ghost number = { λ k. k - 1 };
 
@@ -93,13 +93,13 @@ pub struct MiniSpur {
 
 impl Model for MiniSpur {
     ghost use Rattle.std.specs.Prelude.{ℕ};
-    ghost use Rattle.lasso_parts.specs.Kept.{IsKept};
+    ghost use Rattle.lasso_parts.specs.Kept.{IsKeptNumber};
 
     ghost Value = { ℕ };
 
     ghost view = { λ k. k.kept };
 
-    ghost invariant = { λ k. IsKept 65535 k.kept };
+    ghost invariant = { λ k. IsKeptNumber 65535 k.kept };
 
     ghost inverse = { λ kept. record { kept = kept } };
 }
@@ -108,14 +108,14 @@ impl MiniSpur {
     /// The number that the key keeps: its position plus one.
     pub fn into_inner(self) -> u16
         ensures kept { result ≡ self }
-        ensures range { IsKept 65535 result }
+        ensures range { IsKeptNumber 65535 result }
     {
         self.kept
     }
 }
 
 impl Key for MiniSpur {
-    ghost is_value = { IsKept 65535 };
+    ghost is_value = { IsKeptNumber 65535 };
 
     ghost number = { λ k. k - 1 };
 
@@ -171,13 +171,13 @@ pub struct MicroSpur {
 
 impl Model for MicroSpur {
     ghost use Rattle.std.specs.Prelude.{ℕ};
-    ghost use Rattle.lasso_parts.specs.Kept.{IsKept};
+    ghost use Rattle.lasso_parts.specs.Kept.{IsKeptNumber};
 
     ghost Value = { ℕ };
 
     ghost view = { λ k. k.kept };
 
-    ghost invariant = { λ k. IsKept 255 k.kept };
+    ghost invariant = { λ k. IsKeptNumber 255 k.kept };
 
     ghost inverse = { λ kept. record { kept = kept } };
 }
@@ -186,14 +186,14 @@ impl MicroSpur {
     /// The number that the key keeps: its position plus one.
     pub fn into_inner(self) -> u8
         ensures kept { result ≡ self }
-        ensures range { IsKept 255 result }
+        ensures range { IsKeptNumber 255 result }
     {
         self.kept
     }
 }
 
 impl Key for MicroSpur {
-    ghost is_value = { IsKept 255 };
+    ghost is_value = { IsKeptNumber 255 };
 
     ghost number = { λ k. k - 1 };
 
@@ -249,13 +249,13 @@ pub struct LargeSpur {
 
 impl Model for LargeSpur {
     ghost use Rattle.std.specs.Prelude.{ℕ};
-    ghost use Rattle.lasso_parts.specs.Kept.{IsKept};
+    ghost use Rattle.lasso_parts.specs.Kept.{IsKeptNumber};
 
     ghost Value = { ℕ };
 
     ghost view = { λ k. k.kept };
 
-    ghost invariant = { λ k. IsKept 18446744073709551615 k.kept };
+    ghost invariant = { λ k. IsKeptNumber 18446744073709551615 k.kept };
 
     ghost inverse = { λ kept. record { kept = kept } };
 }
@@ -264,14 +264,14 @@ impl LargeSpur {
     /// The number that the key keeps: its position plus one.
     pub fn into_inner(self) -> usize
         ensures kept { result ≡ self }
-        ensures range { IsKept 18446744073709551615 result }
+        ensures range { IsKeptNumber 18446744073709551615 result }
     {
         self.kept
     }
 }
 
 impl Key for LargeSpur {
-    ghost is_value = { IsKept 18446744073709551615 };
+    ghost is_value = { IsKeptNumber 18446744073709551615 };
 
     ghost number = { λ k. k - 1 };
 

@@ -2,7 +2,7 @@
 
 ghost use Rattle.std.specs.Prelude.{◌≡◌, ◌≤◌};
 
-use crate::locks::{Locked, Ruled};
+use crate::locks::{TaggedMutex, TaggedRwLock};
 use counted_slot::Fits;
 use std::sync::Wait;
 use std::test::*;
@@ -23,7 +23,7 @@ impl Fits for Count {
 }
 
 // Counts up by one, that many times.
-fn count_up<R: Wait>(rt: &R, lock: &Locked<Count>, times: u32)
+fn count_up<R: Wait>(rt: &R, lock: &TaggedMutex<Count>, times: u32)
     requires { lock.now ≡ 5000 }
 {
     for _ in 0..times {
@@ -35,7 +35,7 @@ fn count_up<R: Wait>(rt: &R, lock: &Locked<Count>, times: u32)
     }
 }
 
-fn count_in<R: Wait>(rt: &R, lock: &Locked<Count>) -> u64
+fn count_in<R: Wait>(rt: &R, lock: &TaggedMutex<Count>) -> u64
     requires { lock.now ≡ 5000 }
     ensures { result ≤ 5000 }
 {
@@ -47,14 +47,14 @@ fn count_in<R: Wait>(rt: &R, lock: &Locked<Count>) -> u64
 
 #[test]
 fn a_taken_value_is_given_back(rt: HostRuntime) {
-    let lock = Locked::new(Count { number: 7 }, &5000);
+    let lock = TaggedMutex::new(Count { number: 7 }, &5000);
     count_up(&rt, &lock, 3);
     assert_eq!(rt; count_in(&rt, &lock), 10);
 }
 
 #[test]
 fn two_threads_take_turns(rt: HostRuntime) {
-    let lock = Locked::new(Count { number: 0 }, &5000);
+    let lock = TaggedMutex::new(Count { number: 0 }, &5000);
     join(
         &rt,
         || -> ()
@@ -82,7 +82,7 @@ impl Fits for Pair {
     ghost fits = { λ apart pair. pair.second ≡ pair.first + apart };
 }
 
-fn change<R: Wait>(rt: &R, lock: &Ruled<Pair>, times: u32)
+fn change<R: Wait>(rt: &R, lock: &TaggedRwLock<Pair>, times: u32)
     requires { lock.now ≡ 9 }
 {
     for i in 0..times {
@@ -94,7 +94,7 @@ fn change<R: Wait>(rt: &R, lock: &Ruled<Pair>, times: u32)
 }
 
 // Whether each reading found numbers that belong together, and never an earlier pair than the one before.
-fn reads_whole<R: Wait>(rt: &R, lock: &Ruled<Pair>, times: u32) -> bool {
+fn reads_whole<R: Wait>(rt: &R, lock: &TaggedRwLock<Pair>, times: u32) -> bool {
     let mut whole = true;
     let mut last = 0;
     for _ in 0..times {
@@ -111,7 +111,7 @@ fn reads_whole<R: Wait>(rt: &R, lock: &Ruled<Pair>, times: u32) -> bool {
 
 #[test]
 fn readers_share_a_value(rt: HostRuntime) {
-    let lock = Ruled::new(
+    let lock = TaggedRwLock::new(
         Pair {
             first: 1,
             second: 10,
@@ -132,7 +132,7 @@ fn readers_share_a_value(rt: HostRuntime) {
 
 #[test]
 fn a_thread_reads_while_another_changes(rt: HostRuntime) {
-    let lock = Ruled::new(
+    let lock = TaggedRwLock::new(
         Pair {
             first: 0,
             second: 9,

@@ -2,12 +2,12 @@
 use std::marker::Model;
 
 /// A note of the log. It exists in proofs alone: no value of it is made.
-pub struct Entry {}
+pub struct Note {}
 
-impl Model for Entry {
-    ghost use Rattle.lasso_shared.specs.Notes.{Note, note_coded, no_note};
+impl Model for Note {
+    ghost use Rattle.lasso_shared.specs.Notes.{NoteView, note_coded, no_note};
 
-    ghost Value = { Note };
+    ghost Value = { NoteView };
 
     ghost coded = { note_coded };
 
@@ -17,7 +17,7 @@ impl Model for Entry {
 /// A change of what an interner holds.
 #[derive(Clone, Copy)]
 pub enum Change<'t> {
-    /// Bytes are taken in the bucket at this place.
+    /// Bytes are taken in the bucket at this position.
     Reserve { bucket: u64, bytes: u64 },
     /// A bucket of this size is added, with these bytes taken.
     Charge { size: u64, bytes: u64 },

@@ -1,14 +1,14 @@
 //! The opening of a log.
 ghost use Rattle.std.specs.Prelude.{◌≡◌, ◌≤◌, [], IfOk};
 ghost use Rattle.lasso_shared.specs.Openings.{opening_with};
-ghost use Rattle.lasso_shared.specs.Sights.{Origin};
+ghost use Rattle.lasso_shared.specs.Views.{InternerId};
 
-use crate::log::note::Entry;
-use crate::log::rule::{Item, Law};
+use crate::chunks::facts::{Lines, OpensWith};
+use crate::chunks::{Chunk, Chunks};
+use crate::log::note::Note;
+use crate::log::rule::{LogRule, StoredText};
 use crate::log::spine::Spine;
 use crate::log::words::Log;
-use crate::rows::facts::{Begins, Lines};
-use crate::rows::{Row, Rows};
 use boxcar::tag::Names;
 use lasso_parts::keys::Key;
 use logbook::{Opening, Seen, Word};
@@ -26,7 +26,7 @@ pub struct Opened {
 /// The first note of a log.
 pub struct ByOpening;
 
-impl Opening<Opened, Entry> for ByOpening {
+impl Opening<Opened, Note> for ByOpening {
     ghost use Rattle.std.specs.Prelude.{[], ◌∷◌};
     ghost use Rattle.lasso_shared.specs.Notes.{opening_note};
     ghost use Rattle.lasso_shared.specs.Openings.{opening_with};
@@ -34,17 +34,17 @@ impl Opening<Opened, Entry> for ByOpening {
     ghost log = { λ count o. opening_note (opening_with o) ∷ [] };
 }
 
-impl Begins<Opened, Entry> for ByOpening {
+impl OpensWith<Opened, Note> for ByOpening {
     ghost use Rattle.std.specs.Prelude.{[]};
     ghost use Rattle.lasso_shared.specs.Notes.{titled};
 
     ghost shown = { λ o. titled [] };
 }
 
-/// The names of the rows.
-pub struct ByRows;
+/// The names of the chunks.
+pub struct ByChunks;
 
-impl Names<Rows<Item>> for ByRows {
+impl Names<Chunks<StoredText>> for ByChunks {
     ghost numbers = { λ r. r };
 }
 
@@ -55,10 +55,13 @@ impl<K: Key> Log<K> {
         ensures opening { IfOk result (λ r. r.0.opening ≡ opening_with opened) }
         ensures spine { IfOk result (λ r. (r.1.of ≡ r.0) × (r.1.notes ≡ []) × (r.1.kept ≡ 0)) }
     {
-        let rows = Rows::new(alloc, "")?;
-        let lines: Lines<Item, Row<Item>> = Lines::none::<Rows<Item>, ByRows>(&rows);
+        let chunks = Chunks::new(alloc, "")?;
+        let lines: Lines<StoredText, Chunk<StoredText>> = Lines::none::<
+            Chunks<StoredText>,
+            ByChunks,
+        >(&chunks);
         let start = lines.start::<_, _, Opened, ByOpening>(&opened);
-        let (seen, mut pens) = Seen::<Entry, u64, Law<K>>::open_row::<Opened, ByOpening>(
+        let (seen, mut pens) = Seen::<Note, u64, LogRule<K>>::open_row::<Opened, ByOpening>(
             &opened, start, 3,
         );
         let mut first = pens.take();
@@ -68,6 +71,6 @@ impl<K: Key> Log<K> {
             len: 0,
             seen: seen.again(),
         };
-        Ok((Log { head, rows, seen }, spine))
+        Ok((Log { head, chunks, seen }, spine))
     }
 }

@@ -3,11 +3,11 @@ ghost use Rattle.std.specs.Prelude.{◌≡◌, ◌⊎◌, []};
 ghost use mathlib.Core.List.{IsPrefix};
 ghost use Rattle.lasso_shared.specs.History.{IsLegal, IsOpening};
 ghost use Rattle.lasso_shared.specs.Notes.{Since, opening_of, notes_of, IsOpened};
-ghost use Rattle.lasso_shared.specs.Sights.{Sight, origin, seen, IsSamePass};
+ghost use Rattle.lasso_shared.specs.Views.{PassView, interner_id, seen, IsSamePass};
 
 use crate::log::look::look;
-use crate::log::note::Entry;
-use crate::log::rule::Law;
+use crate::log::note::Note;
+use crate::log::rule::LogRule;
 use crate::log::ticket::Ticket;
 use boxcar::tag::Tag;
 use lasso_parts::keys::Key;
@@ -18,7 +18,7 @@ use std::marker::Model;
 /// notes that it has seen. It has no bytes but those of its tickets.
 #[derive(Drop)]
 pub struct Pass<K: Key> {
-    pub(super) seen: Seen<Entry, u64, Law<K>>,
+    pub(super) seen: Seen<Note, u64, LogRule<K>>,
     pub(super) ticket: Ticket<K>,
     pub(super) next: Ticket<K>,
     pub(super) number: Tag,
@@ -29,15 +29,15 @@ impl<K: Key> Model for Pass<K> {
     ghost use Rattle.lasso_shared.specs.History.{IsLegal, IsOpening};
     ghost use Rattle.lasso_shared.specs.Notes.{opening_of, notes_of, history, IsOpened, ticket_of};
     ghost use Rattle.lasso_shared.specs.Book.{IsTicket};
-    ghost use Rattle.lasso_shared.specs.Sights.{Sight, sight_coded, origin, first_of};
+    ghost use Rattle.lasso_shared.specs.Views.{PassView, pass_view_coded, interner_id, first_number};
 
-    ghost Value = { Sight };
+    ghost Value = { PassView };
 
-    ghost coded = { sight_coded };
+    ghost coded = { pass_view_coded };
 
-    ghost view = { λ p. record { number = first_of p.number.numbers; of = origin p.seen.book p.seen.names (opening_of p.seen.log); notes = notes_of p.seen.log } };
+    ghost view = { λ p. record { number = first_number p.number.numbers; of = interner_id p.seen.book p.seen.names (opening_of p.seen.log); notes = notes_of p.seen.log } };
 
-    ghost invariant = { λ p. IsTicket p.seen.book p.ticket.word p.ticket.pen × IsTicket p.seen.book p.next.word p.next.pen × (p.ticket.pen.nib.key ≡ ticket_of (first_of p.number.numbers) (notes_of p.seen.log)) × IsOpened p.seen.log × IsLegal K.key_at (opening_of p.seen.log) (history (notes_of p.seen.log)) × IsOpening K.key_at (opening_of p.seen.log) };
+    ghost invariant = { λ p. IsTicket p.seen.book p.ticket.word p.ticket.pen × IsTicket p.seen.book p.next.word p.next.pen × (p.ticket.pen.nib.key ≡ ticket_of (first_number p.number.numbers) (notes_of p.seen.log)) × IsOpened p.seen.log × IsLegal K.key_at (opening_of p.seen.log) (history (notes_of p.seen.log)) × IsOpening K.key_at (opening_of p.seen.log) };
 }
 
 impl<K: Key> Pass<K> {
@@ -50,15 +50,15 @@ impl<K: Key> Pass<K> {
     }
 
     /// The log that it has seen.
-    pub(super) fn sighting(&self) -> Seen<Entry, u64, Law<K>>
-        ensures of { (result.book ≡ self.now.of.book) × (result.names ≡ self.now.of.rows) × (opening_of result.log ≡ self.now.of.opening) }
+    pub(super) fn sighting(&self) -> Seen<Note, u64, LogRule<K>>
+        ensures of { (result.book ≡ self.now.of.book) × (result.names ≡ self.now.of.chunks) × (opening_of result.log ≡ self.now.of.opening) }
         ensures log { IsOpened result.log × (notes_of result.log ≡ self.now.notes) }
     {
         self.seen.again()
     }
 
     /// Afterwards it has seen what was given too.
-    pub(super) fn learn(&mut self, given: &Seen<Entry, u64, Law<K>>)
+    pub(super) fn learn(&mut self, given: &Seen<Note, u64, LogRule<K>>)
         requires { self.old.of.book ≡ given.now.book }
         ensures same { IsSamePass self.new self.old }
         ensures since { Since self.old.number self.old.notes self.new.notes [] }

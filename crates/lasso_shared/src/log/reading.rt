@@ -1,11 +1,11 @@
 //! What is read off the log: a text, and the length.
 ghost use Rattle.std.specs.Prelude.{◌≡◌, ◌<◌, [], Some, length, slice_get, option_map};
 ghost use Rattle.lasso_shared.specs.Notes.{Since, texts_in};
-ghost use Rattle.lasso_shared.specs.Sights.{Sight, Origin, IsSamePass, list_of};
+ghost use Rattle.lasso_shared.specs.Views.{PassView, InternerId, IsSamePass, list_of};
 
-use crate::log::note::Entry;
+use crate::log::note::Note;
 use crate::log::pass::Pass;
-use crate::log::rule::Law;
+use crate::log::rule::LogRule;
 use crate::log::words::Log;
 use lasso_parts::keys::Key;
 use logbook::Seen;
@@ -38,11 +38,11 @@ impl<K: Key> Log<K> {
     }
 
     // The text at a position below the length of a list that was seen.
-    pub(super) fn lend(&self, seen: &mut Seen<Entry, u64, Law<K>>, position: u64) -> &str
-        requires rows { seen.old.names ≡ self.now.rows }
+    pub(super) fn lend(&self, seen: &mut Seen<Note, u64, LogRule<K>>, position: u64) -> &str
+        requires chunks { seen.old.names ≡ self.now.chunks }
         requires below { position < length (texts_in seen.old.log) }
         ensures text { slice_get (texts_in seen.old.log) position ≡ Some result.now }
     {
-        *self.rows.lend(seen, position)
+        *self.chunks.lend(seen, position)
     }
 }

@@ -1,13 +1,13 @@
 //! The rule of the shared log, and what each kind of step tells.
-use crate::log::note::Entry;
-use crate::rows::Row;
-use crate::rows::rule::{InRows, Listed};
+use crate::chunks::Chunk;
+use crate::chunks::rule::{InChunks, Listed};
+use crate::log::note::Note;
 use lasso_parts::keys::Key;
 use logbook::{Plain, Play};
 use std::marker::PhantomData;
 
 /// What a cell of the list holds.
-pub type Item = &'static str;
+pub type StoredText = &'static str;
 
 /// The log of an interner with keys of type K.
 pub struct Shared<K: Key> {
@@ -15,21 +15,21 @@ pub struct Shared<K: Key> {
 }
 
 /// The rule of its book: it is kept, and the cell of each position below the length is filled.
-pub type Law<K> = InRows<Shared<K>, Item, Row<Item>>;
+pub type LogRule<K> = InChunks<Shared<K>, StoredText, Chunk<StoredText>>;
 
-impl<K: Key> Listed<Entry> for Shared<K> {
-    ghost use Rattle.lasso_shared.specs.Notes.{texts_titled, text_of};
-    ghost use Rattle.lasso_shared.specs.Book.{Kept, shown};
+impl<K: Key> Listed<Note> for Shared<K> {
+    ghost use Rattle.lasso_shared.specs.Notes.{texts_titled, appended_text};
+    ghost use Rattle.lasso_shared.specs.Book.{LogKeepsRule, titles_of};
 
-    ghost holds = { λ cells log. Kept K.key_at cells log };
+    ghost holds = { λ cells log. LogKeepsRule K.key_at cells log };
 
-    ghost shows = { shown };
+    ghost shows = { titles_of };
 
     ghost texts = { texts_titled };
 
-    ghost place = { λ e. e.place };
+    ghost appended_at = { λ e. e.position };
 
-    ghost text = { λ e. text_of e.event };
+    ghost text = { λ e. appended_text e.event };
 }
 
 /// A step that looks.
@@ -37,7 +37,7 @@ pub struct Peek<K: Key> {
     of: PhantomData<K>,
 }
 
-impl<K: Key> Play<Entry, u64> for Peek<K> {
+impl<K: Key> Play<Note, u64> for Peek<K> {
     ghost use Rattle.lasso_shared.specs.Book.{Peeks};
 
     ghost then = { Peeks K.key_at };
@@ -48,7 +48,7 @@ pub struct Fetch<K: Key> {
     of: PhantomData<K>,
 }
 
-impl<K: Key> Play<Entry, u64> for Fetch<K> {
+impl<K: Key> Play<Note, u64> for Fetch<K> {
     ghost use Rattle.lasso_shared.specs.Book.{Fetches};
 
     ghost then = { Fetches K.key_at };
@@ -59,7 +59,7 @@ pub struct Add<K: Key> {
     of: PhantomData<K>,
 }
 
-impl<K: Key> Play<Entry, u64> for Add<K> {
+impl<K: Key> Play<Note, u64> for Add<K> {
     ghost use Rattle.lasso_shared.specs.Book.{Adds};
 
     ghost then = { Adds K.key_at };
@@ -68,7 +68,7 @@ impl<K: Key> Play<Entry, u64> for Add<K> {
 /// What a step asks that changes nothing of the list.
 pub struct Nothing;
 
-impl Plain<(), Entry, u64> for Nothing {
+impl Plain<(), Note, u64> for Nothing {
     ghost use Rattle.std.specs.Prelude.{Some};
     ghost use Rattle.lasso_shared.specs.Notes.{no_note};
 

@@ -5,13 +5,13 @@ ghost use Rattle.lasso_parts.specs.declared.util.LassoErrorKind.TheVariants.{Fai
 ghost use Rattle.lasso_parts.specs.Texts.{Fits};
 ghost use Rattle.lasso_shared.specs.History.{Append, MayFollow, IsLegal};
 ghost use Rattle.lasso_shared.specs.Notes.{Since, state, history};
-ghost use Rattle.lasso_shared.specs.Sights.{Sight, Origin, Backbone, IsSamePass, IsSameSpine, IsAppended, list_of, seen};
-ghost use Rattle.lasso_shared.specs.Rows.{IsPlace};
+ghost use Rattle.lasso_shared.specs.Views.{PassView, InternerId, SpineView, IsSamePass, IsSameSpine, IsAppended, list_of, seen};
+ghost use Rattle.lasso_shared.specs.Chunks.{IsCellAt};
 
-use crate::log::note::{Change, Entry};
+use crate::log::note::{Change, Note};
 use crate::log::pass::Pass;
-use crate::log::rule::{Item, Law};
-use crate::log::ticket::Filing;
+use crate::log::rule::{LogRule, StoredText};
+use crate::log::ticket::CellProof;
 use crate::log::words::Log;
 use lasso_parts::keys::Key;
 use lasso_parts::util::{LassoError, LassoErrorKind, LassoResult};
@@ -26,20 +26,20 @@ use std::sync::Wait;
 pub struct Spine<K: Key> {
     pub(super) kept: u64,
     pub(super) len: u64,
-    pub(super) seen: Seen<Entry, u64, Law<K>>,
+    pub(super) seen: Seen<Note, u64, LogRule<K>>,
 }
 
 impl<K: Key> Model for Spine<K> {
     ghost use Rattle.std.specs.Prelude.{◌≡◌, ◌+◌, ◌<◌, ◌^◌, []};
     ghost use Rattle.lasso_shared.specs.Notes.{opening_of, notes_of, IsOpened};
     ghost use Rattle.lasso_shared.specs.Book.{Reads};
-    ghost use Rattle.lasso_shared.specs.Sights.{Backbone, backbone_coded, origin};
+    ghost use Rattle.lasso_shared.specs.Views.{SpineView, spine_view_coded, interner_id};
 
-    ghost Value = { Backbone };
+    ghost Value = { SpineView };
 
-    ghost coded = { backbone_coded };
+    ghost coded = { spine_view_coded };
 
-    ghost view = { λ s. record { kept = s.kept; of = origin s.seen.book s.seen.names (opening_of s.seen.log); notes = notes_of s.seen.log } };
+    ghost view = { λ s. record { kept = s.kept; of = interner_id s.seen.book s.seen.names (opening_of s.seen.log); notes = notes_of s.seen.log } };
 
     ghost invariant = { λ s. IsOpened s.seen.log × ((opening_of s.seen.log).texts ≡ []) × Reads K.key_at (opening_of s.seen.log) (notes_of s.seen.log) 0 0 s.len × (s.len + s.kept < 2 ^ 64) };
 }
@@ -88,15 +88,21 @@ impl<K: Key> Log<K> {
         if position == u64::MAX {
             return Err(LassoError::new(LassoErrorKind::FailedAllocation));
         }
-        self.rows.make_row(alloc, position)?;
+        self.chunks.make_chunk(alloc, position)?;
         spine.kept += 1;
         Ok(())
     }
 
     /// Puts the text last, in a slot that `reserve_next` kept. The list of the spine must lack the text, and have a
     /// key for its length. The text's cell is filled before the length moves. It waits where the length isn't the
-    /// spine's, where the row of its position isn't made, and where the cell is filled.
-    pub fn append<R: Wait>(&self, rt: &R, spine: &mut Spine<K>, pass: &mut Pass<K>, text: Item)
+    /// spine's, where the chunk of its position isn't made, and where the cell is filled.
+    pub fn append<R: Wait>(
+        &self,
+        rt: &R,
+        spine: &mut Spine<K>,
+        pass: &mut Pass<K>,
+        text: StoredText,
+    )
         requires of { (pass.old.of ≡ self.now) × (spine.old.of ≡ self.now) }
         requires kept { 0 < spine.old.kept }
         requires may { MayFollow K.key_at (state self.now.opening spine.old.notes) (Append text.now) }
@@ -108,10 +114,10 @@ impl<K: Key> Log<K> {
         ensures begins { IsPrefix spine.old.notes spine.new.notes }
         ensures list { list_of self.now pass.new.notes ≡ list_of self.now spine.old.notes ++ text.now ∷ [] }
     {
-        let (row, item) = self.rows.fill(rt, spine.len(), text);
+        let (chunk, item) = self.chunks.fill(rt, spine.len(), text);
         for _ in rt.forever() {
-            let filing = (row.again(), item.again());
-            if self.try_append(spine, pass, text, filing) {
+            let cell_proof = (chunk.again(), item.again());
+            if self.try_append(spine, pass, text, cell_proof) {
                 pass.show_legal();
                 return;
             }
@@ -124,14 +130,14 @@ impl<K: Key> Log<K> {
         &self,
         spine: &mut Spine<K>,
         pass: &mut Pass<K>,
-        text: Item,
-        filing: Filing,
+        text: StoredText,
+        cell_proof: CellProof,
     ) -> bool
         requires of { (pass.old.of ≡ self.now) × (spine.old.of ≡ self.now) }
         requires kept { 0 < spine.old.kept }
         requires may { MayFollow K.key_at (state self.now.opening spine.old.notes) (Append text.now) }
-        requires place { IsPlace self.now.rows (length (list_of self.now spine.old.notes)) filing.0.of filing.0.value.items filing.1.of }
-        requires filled { filing.1.value.now ≡ text.now }
+        requires cell { IsCellAt self.now.chunks (length (list_of self.now spine.old.notes)) cell_proof.0.of cell_proof.0.value.items cell_proof.1.of }
+        requires filled { cell_proof.1.value.now ≡ text.now }
         ensures same { IsSamePass pass.new pass.old × (spine.new.of ≡ spine.old.of) }
         ensures done { MatchBool result (IsAppended self.now pass.old pass.new spine.old spine.new text.now) ((pass.new ≡ pass.old) × (spine.new ≡ spine.old)) }
     {
@@ -144,7 +150,7 @@ impl<K: Key> Log<K> {
             0,
             Change::Append { text },
             len,
-            Some(filing),
+            Some(cell_proof),
             &spine.seen,
             pass,
         ) else {

@@ -1,6 +1,6 @@
 //! Slots that a spine keeps ahead of its list.
 ghost use Rattle.std.specs.Prelude.{◌≡◌, ◌<◌, [], All, length};
-ghost use Rattle.lasso_shared.specs.Sights.{Origin, IsSameSpine, list_of};
+ghost use Rattle.lasso_shared.specs.Views.{InternerId, IsSameSpine, list_of};
 
 mod given_back;
 
@@ -10,7 +10,7 @@ use std::alloc::Global;
 use std::sync::Wait;
 use std::test::*;
 
-// A text of each length below 39: the first row has 32 cells.
+// A text of each length below 39: the first chunk has 32 cells.
 const TEXTS: [&str; 39] = [
     "",
     "a",
@@ -110,7 +110,7 @@ fn append_all<R: Wait>(
     appended
 }
 
-// How many of these texts the list has in their places.
+// How many of these texts the list has in their positions.
 fn read_all(log: &Log<Spur>, texts: &[&'static str]) -> usize {
     let mut pass = log.pass();
     let mut found: usize = 0;

@@ -3,29 +3,29 @@ ghost use Rattle.std.specs.Prelude.{◌≡◌, ◌+◌, ◌<◌, ◌^◌, [], �
 ghost use Rattle.lasso_shared.specs.History.{Append};
 ghost use Rattle.lasso_shared.specs.Notes.{Since, IsWord, IsOpened, opening_of, notes_of};
 ghost use Rattle.lasso_shared.specs.Book.{word_of, IsTicket, Moving, May, IsDone, Reads};
-ghost use Rattle.lasso_shared.specs.Rows.{IsPlace};
-ghost use Rattle.lasso_shared.specs.Sights.{Origin, IsSamePass};
+ghost use Rattle.lasso_shared.specs.Chunks.{IsCellAt};
+ghost use Rattle.lasso_shared.specs.Views.{InternerId, IsSamePass};
 ghost use Rattle.lasso_shared.specs.Events.{event_of, IsQuiet};
 
+use crate::chunks::Chunks;
+use crate::chunks::rule::NoGain;
 use crate::log::look::look;
-use crate::log::note::{Change, Entry};
+use crate::log::note::{Change, Note};
 use crate::log::pass::Pass;
-use crate::log::rule::{Add, Fetch, Item, Law, Nothing, Peek};
-use crate::log::ticket::{ByKey, Filing, Ticket, Wish, offered};
-use crate::rows::Rows;
-use crate::rows::rule::NoGain;
+use crate::log::rule::{Add, Fetch, LogRule, Nothing, Peek, StoredText};
+use crate::log::ticket::{ByKey, CellProof, Proposal, Ticket, offered};
 use boxcar::tag::Tag;
 use lasso_parts::keys::Key;
 use logbook::{Offer, Seen, Word};
 use std::marker::Model;
 
-/// The log of one interner: the word that has the list's length, the rows that its texts lie in, and the log as
+/// The log of one interner: the word that has the list's length, the chunks that its texts lie in, and the log as
 /// it was at the opening. A contract sees which interner it is of.
 #[derive(Drop)]
 pub struct Log<K: Key> {
-    pub(super) head: Word<Entry, u64, Law<K>>,
-    pub(super) rows: Rows<Item>,
-    pub(super) seen: Seen<Entry, u64, Law<K>>,
+    pub(super) head: Word<Note, u64, LogRule<K>>,
+    pub(super) chunks: Chunks<StoredText>,
+    pub(super) seen: Seen<Note, u64, LogRule<K>>,
 }
 
 impl<K: Key> Model for Log<K> {
@@ -33,15 +33,15 @@ impl<K: Key> Model for Log<K> {
     ghost use Rattle.lasso_shared.specs.History.{IsOpening};
     ghost use Rattle.lasso_shared.specs.Notes.{opening_of, notes_of, IsOpened};
     ghost use Rattle.lasso_shared.specs.Book.{head_of};
-    ghost use Rattle.lasso_shared.specs.Sights.{Origin, origin_coded, origin};
+    ghost use Rattle.lasso_shared.specs.Views.{InternerId, interner_id_coded, interner_id};
 
-    ghost Value = { Origin };
+    ghost Value = { InternerId };
 
-    ghost coded = { origin_coded };
+    ghost coded = { interner_id_coded };
 
-    ghost view = { λ l. origin l.seen.book l.seen.names (opening_of l.seen.log) };
+    ghost view = { λ l. interner_id l.seen.book l.seen.names (opening_of l.seen.log) };
 
-    ghost invariant = { λ l. (l.head ≡ head_of l.seen.book) × (l.rows ≡ l.seen.names) × IsOpened l.seen.log × (notes_of l.seen.log ≡ []) × ((opening_of l.seen.log).texts ≡ []) × IsOpening K.key_at (opening_of l.seen.log) };
+    ghost invariant = { λ l. (l.head ≡ head_of l.seen.book) × (l.chunks ≡ l.seen.names) × IsOpened l.seen.log × (notes_of l.seen.log ≡ []) × ((opening_of l.seen.log).texts ≡ []) × IsOpening K.key_at (opening_of l.seen.log) };
 }
 
 impl<K: Key> Log<K> {
@@ -50,7 +50,9 @@ impl<K: Key> Log<K> {
         ensures { IsTicket self.now.book result.word result.pen }
     {
         let mut seen = self.seen.again();
-        let mut offer: Offer<Entry, u64, Law<K>, NoGain> = seen.plain::<NoGain, (), Nothing>(&());
+        let mut offer: Offer<Note, u64, LogRule<K>, NoGain> = seen.plain::<NoGain, (), Nothing>(
+            &(),
+        );
         let mut pen = seen.no_pen();
         self.head
             .compare_exchange::<Fetch<K>, NoGain>(0, 0, &mut seen, &mut offer, &mut pen);
@@ -73,20 +75,20 @@ impl<K: Key> Log<K> {
         }
     }
 
-    // What a word that the pass knows has at one step. `place` is the word's.
+    // What a word that the pass knows has at one step. `word_index` says which word it is.
     pub(super) fn load(
         &self,
-        word: &Word<Entry, u64, Law<K>>,
-        place: u64,
+        word: &Word<Note, u64, LogRule<K>>,
+        word_index: u64,
         pass: &mut Pass<K>,
     ) -> u64
         requires of { (pass.old.of ≡ self.now) × (word.now ≡ word_of self.now.book word.now.key) }
-        requires known { IsWord pass.old.notes place word.now.key }
+        requires known { IsWord pass.old.notes word_index word.now.key }
         ensures same { IsSamePass pass.new pass.old }
         ensures since { Since pass.old.number pass.old.notes pass.new.notes [] }
-        ensures reply { Reads K.key_at pass.old.of.opening pass.new.notes place word.now.key result }
+        ensures reply { Reads K.key_at pass.old.of.opening pass.new.notes word_index word.now.key result }
     {
-        let mut offer: Offer<Entry, u64, Law<K>, NoGain> = pass
+        let mut offer: Offer<Note, u64, LogRule<K>, NoGain> = pass
             .seen
             .plain::<NoGain, (), Nothing>(&());
         let found = word.load::<Peek<K>, NoGain>(&mut pass.seen, &mut offer);
@@ -96,42 +98,42 @@ impl<K: Key> Log<K> {
     }
 
     // Adds an event where the word has its old value still, and gives the word that the used ticket has become.
-    // `given` is a log that was seen, in which the event may follow while the word has this value; `filing` shows
-    // that an appended text is in the cell of its place `at`.
+    // `given` is a log that was seen, in which the event may follow while the word has this value; `cell_proof` shows
+    // that an appended text is in the cell of `position`.
     pub(super) fn exchange(
         &self,
-        word: &Word<Entry, u64, Law<K>>,
-        place: u64,
+        word: &Word<Note, u64, LogRule<K>>,
+        word_index: u64,
         old: u64,
         more: u64,
         value: u64,
         change: Change<'_>,
-        at: u64,
-        filing: Option<Filing>,
-        given: &Seen<Entry, u64, Law<K>>,
+        position: u64,
+        cell_proof: Option<CellProof>,
+        given: &Seen<Note, u64, LogRule<K>>,
         pass: &mut Pass<K>,
-    ) -> Option<Word<Entry, u64, Law<K>>>
+    ) -> Option<Word<Note, u64, LogRule<K>>>
         requires of { (pass.old.of ≡ self.now) × (given.now.book ≡ self.now.book) × (word.now ≡ word_of self.now.book word.now.key) }
         requires sum { old + more < 2 ^ 64 }
-        requires known { IsOpened given.now.log × (opening_of given.now.log ≡ self.now.opening) × IsWord (notes_of given.now.log) place word.now.key }
-        requires may { ((ticket : ℕ) → Moving ticket (event_of change) place more value) × May K.key_at self.now.opening (notes_of given.now.log) place word.now.key old (event_of change) }
-        requires filed { MatchOption filing (IsQuiet (event_of change)) (λ f. IsPlace self.now.rows at f.0.of f.0.value.items f.1.of × (event_of change ≡ Append f.1.value.now) × (place ≡ 0) × (word.now.key ≡ 0) × (at ≡ length self.now.opening.texts + old)) }
+        requires known { IsOpened given.now.log × (opening_of given.now.log ≡ self.now.opening) × IsWord (notes_of given.now.log) word_index word.now.key }
+        requires may { ((ticket : ℕ) → Moving ticket (event_of change) word_index more value) × May K.key_at self.now.opening (notes_of given.now.log) word_index word.now.key old (event_of change) }
+        requires filed { MatchOption cell_proof (IsQuiet (event_of change)) (λ f. IsCellAt self.now.chunks position f.0.of f.0.value.items f.1.of × (event_of change ≡ Append f.1.value.now) × (word_index ≡ 0) × (word.now.key ≡ 0) × (position ≡ length self.now.opening.texts + old)) }
         ensures same { IsSamePass pass.new pass.old }
-        ensures done { MatchOption result (pass.new ≡ pass.old) (λ w. (w ≡ word_of self.now.book w.key) × IsDone K.key_at self.now.opening pass.old.number pass.old.notes (notes_of given.now.log) pass.new.notes (event_of change.entry) place word.now.key old w.key) }
+        ensures done { MatchOption result (pass.new ≡ pass.old) (λ w. (w ≡ word_of self.now.book w.key) × IsDone K.key_at self.now.opening pass.old.number pass.old.notes (notes_of given.now.log) pass.new.notes (event_of change.entry) word_index word.now.key old w.key) }
     {
         let mut seen = self.seen.again();
         seen.learn(given);
         seen.learn(&pass.seen);
         pass.ticket.set(value);
-        let wish = Wish {
+        let proposal = Proposal {
             change,
-            place: at,
+            position,
             number: &pass.number,
             ticket: &pass.ticket,
             next: &pass.next,
         };
         let known = seen.again();
-        let mut offer = offered(known, wish, filing);
+        let mut offer = offered(known, proposal, cell_proof);
         let found = word.compare_exchange::<Add<K>, NoGain>(
             old,
             old + more,

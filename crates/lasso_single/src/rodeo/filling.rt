@@ -3,7 +3,7 @@ ghost use Rattle.std.specs.Prelude.{◌≡◌, ◌-◌, ◌^◌, ◌⊎◌, ℕ,
 ghost use Rattle.std.specs.Iterator.{IsFinite, Drains, Yields};
 ghost use Rattle.lasso_parts.specs.declared.util.LassoErrorKind.TheVariants.{FailedAllocation};
 ghost use Rattle.lasso_single.specs.Filling.{extend, EndsRefused};
-ghost use Rattle.lasso_single.specs.Interner.{Interner, made_with};
+ghost use Rattle.lasso_single.specs.Interner.{InternerView, made_with};
 
 use super::Rodeo;
 use lasso_parts::keys::Key;
@@ -49,7 +49,7 @@ impl<K: Key, S: BuildHasher + Default + Drop, A: Allocator + Clone> Rodeo<K, S, 
         ensures refused { IfErr result (λ error. (error ≡ FailedAllocation)
             ⊎ ((it : I.IntoIter) × (xs : List T) × I.into_iter_gives items it
             × ((rest : I.IntoIter) × Yields I.IntoIter.next_gives it xs rest)
-            × ((left : Interner) × EndsRefused K.key_at (made_with 4096 (2 ^ 64 - 1)) (map T.text xs) error left))) }
+            × ((left : InternerView) × EndsRefused K.key_at (made_with 4096 (2 ^ 64 - 1)) (map T.text xs) error left))) }
     {
         let mut rodeo = Rodeo::with_hasher(alloc, S::default())?;
         rodeo.extend(items)?;

@@ -1,18 +1,18 @@
 -- Each call with the place at which its reply is read.
 use Rattle.std.proofs.Common.{◌<◌, ◌+◌, ℕ, List, [], ◌∷◌, refl, inl, inr, arith}
 use Rattle.std.proofs.lemmas.List.Elements.{All-cons, All-nil}
-use Rattle.lasso_shared.specs.Buckets.{Bucket, HasNoRoom}
+use Rattle.lasso_shared.specs.Buckets.{CountedBucket, HasNoRoom}
 use Rattle.lasso_shared.specs.History.{Reserve, Charge, Append, Limit}
 use Rattle.lasso_shared.specs.Example.{ddd}
 use Rattle.lasso_shared.specs.ExampleCalls.{two}
 use Rattle.lasso_shared.proofs.laws.worked_calls_are_calls.Goals as goal
 
 -- a bucket without room, before others
-full_too : (n size used : ℕ) (bs : List Bucket) → size < used + n → HasNoRoom bs n → HasNoRoom (record { size = size; used = used } ∷ bs) n
-full_too n size used bs full others = All-cons (λ (b : Bucket). b.size < b.used + n) (record { size = size; used = used }) bs full others
+full_too : (n size used : ℕ) (bs : List CountedBucket) → size < used + n → HasNoRoom bs n → HasNoRoom (record { size = size; used = used } ∷ bs) n
+full_too n size used bs full others = All-cons (λ (b : CountedBucket). b.size < b.used + n) (record { size = size; used = used }) bs full others
 
 none_left : (n : ℕ) → HasNoRoom [] n
-none_left n = All-nil (λ (b : Bucket). b.size < b.used + n)
+none_left n = All-nil (λ (b : CountedBucket). b.size < b.used + n)
 
 pub returns : goal.returns
 returns c = record {

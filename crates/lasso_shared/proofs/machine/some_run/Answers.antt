@@ -5,7 +5,7 @@ use Rattle.std.proofs.lemmas.Bool.Decides.{nat_tests}
 use Rattle.std.proofs.lemmas.List.Elements.{All-cons, All-nil}
 use Rattle.std.proofs.lemmas.Map.Keys.{IsDistinct-from_apart}
 use Rattle.std.specs.Str.{bytes_eq}
-use Rattle.lasso_shared.specs.Buckets.{Bucket}
+use Rattle.lasso_shared.specs.Buckets.{CountedBucket}
 use Rattle.lasso_shared.specs.Machine.{Step}
 use Rattle.lasso_shared.specs.Runs.{IsStart, IsRun, IsFilled, run}
 use Rattle.lasso_shared.specs.Example.{three_keys, shard_of, empty, two_calls, one_refused, keys_used_up, readings, steps}
@@ -24,11 +24,11 @@ starts = record {
 }
 
 -- a bucket without room, before others
-full_too : (n size used : ℕ) (bs : List Bucket) → size < used + n → All (λ (b : Bucket). b.size < b.used + n) bs → All (λ (b : Bucket). b.size < b.used + n) (record { size = size; used = used } ∷ bs)
-full_too n size used bs h hs = All-cons (λ (b : Bucket). b.size < b.used + n) (record { size = size; used = used }) bs h hs
+full_too : (n size used : ℕ) (bs : List CountedBucket) → size < used + n → All (λ (b : CountedBucket). b.size < b.used + n) bs → All (λ (b : CountedBucket). b.size < b.used + n) (record { size = size; used = used } ∷ bs)
+full_too n size used bs h hs = All-cons (λ (b : CountedBucket). b.size < b.used + n) (record { size = size; used = used }) bs h hs
 
-none_left : (n : ℕ) → All (λ (b : Bucket). b.size < b.used + n) []
-none_left n = All-nil (λ (b : Bucket). b.size < b.used + n)
+none_left : (n : ℕ) → All (λ (b : CountedBucket). b.size < b.used + n) []
+none_left n = All-nil (λ (b : CountedBucket). b.size < b.used + n)
 
 -- each part of the run, before steps that may be taken after it
 two_calls_run : (more : List Step) → IsRun three_keys shard_of (run shard_of empty (two_calls [])) more → IsRun three_keys shard_of empty (two_calls more)

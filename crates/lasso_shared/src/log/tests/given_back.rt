@@ -1,7 +1,7 @@
 //! Slots that the spine keeps and gives back, and texts that take them.
 ghost use Rattle.std.specs.Prelude.{◌≡◌, ◌+◌, ◌-◌, ◌≤◌, ◌∷◌, ◌++◌, [], OnOk, OnErr, IfOk, codes};
 ghost use Rattle.lasso_shared.specs.History.{Lacks};
-ghost use Rattle.lasso_shared.specs.Sights.{IsSameSpine, list_of};
+ghost use Rattle.lasso_shared.specs.Views.{IsSameSpine, list_of};
 
 use crate::log::{Log, Opened, Pass, Spine};
 use lasso_parts::keys::{Key, Spur};
@@ -62,7 +62,7 @@ fn add<R: Wait>(
 fn slots_that_were_given_back_are_kept_again(rt: HostRuntime) -> Result<(), Fail> {
     let (log, mut spine) = Log::<Spur>::open(rt.alloc(), OPENED)?;
     let mut pass = log.pass();
-    // the first row has 32 slots
+    // the first chunk has 32 slots
     keep_and_give_back(rt.alloc(), &log, &mut spine, 33)?;
     add(&rt, rt.alloc(), &log, &mut spine, &mut pass, "p")?;
     keep_and_give_back(rt.alloc(), &log, &mut spine, 1)?;

@@ -1,6 +1,6 @@
 //! Passes that meet and that are compared, where one has seen more than the other.
 ghost use Rattle.std.specs.Prelude.{◌≡◌, ◌≤◌, ◌<◌, ◌⊎◌, length};
-ghost use Rattle.lasso_shared.specs.Sights.{list_of};
+ghost use Rattle.lasso_shared.specs.Views.{list_of};
 
 use crate::log::Pass;
 use crate::threaded::ThreadedRodeo;
@@ -23,10 +23,10 @@ fn lends_after_meeting(
     ensures of { pass.new.of ≡ shared.now }
 {
     pass.meet(other);
-    let shown = shared.log.shown(pass);
+    let seen_texts = shared.log.seen_texts(pass);
     let mut all = true;
     for position in 0..texts.len() {
-        if shown.text_at(position) != texts[position] {
+        if seen_texts.text_at(position) != texts[position] {
             all = false;
         }
     }
@@ -67,8 +67,8 @@ fn both_lend(
     ensures same { result.0 ≡ result.1 }
 {
     one.compare(other);
-    let mine = shared.log.shown(one);
-    let theirs = shared.log.shown(other);
+    let mine = shared.log.seen_texts(one);
+    let theirs = shared.log.seen_texts(other);
     let here = mine.text_at(position);
     let there = theirs.text_at(position);
     let first = here == text;

@@ -22,17 +22,17 @@ returns-in_err-text g c =
     let here = no_text g.K.Key.key_at c.args.distinct seen c.len.result (view c.item-item.result) c.in_err-text.field-0.0 last c.in_err-text.ensures in
     rw (p.1, p.2) (inl (faulty_item g.K.Key.key_at c.args.distinct _ seen c.args.items.now c.loop-item.item-index c.item-item.result c.in_err-text.field-0.0 c.loop-item.invariant.read c.loop-item-test.true c.item-item.is here))
 
-pub returns-in_err-place : goal.returns-in_err-place
-returns-in_err-place g c =
-    let p = err_from_is_err_and c.from_residual-in_err-place.result c.from_residual-in_err-place.ensures.1 in
+pub returns-in_err-enter_text : goal.returns-in_err-enter_text
+returns-in_err-enter_text g c =
+    let p = err_from_is_err_and c.from_residual-in_err-enter_text.result c.from_residual-in_err-enter_text.ensures.1 in
     let seen = map (λ t. t.now) c.loop-item.texts.items in
     let last : c.len.result ≡ length seen = c.len.ensures ∙ c.loop-item.texts.ok.0 ∙ sym (length-map c.loop-item.texts.items (λ t. t.now)) in
     let items = c.loop-item.texts.items in
     let text = c.in_ok-text.text.now in
-    let fault = c.in_err-place.field-0.0 in
+    let fault = c.in_err-enter_text.field-0.0 in
     let as_read = c.as_slice.ensures.value in
     let whole : new_text g.K.Key.key_at (length c.as_slice.result.now) text (earlier c.args.distinct (map (λ t. t.now) c.as_slice.result.now) text) ≡ Err fault → Err fault ≡ read_items g.K.Key.key_at c.args.distinct [] (items_view c.args.items.now) = λ h.
     let misplaced : new_text g.K.Key.key_at (length items) text (earlier c.args.distinct seen text) ≡ Err fault = rw as_read at h in
     let here = placed_text g.K.Key.key_at c.args.distinct seen c.len.result (length items) (view c.item-item.result) text (Err fault) last (sym (length-map items (λ t. t.now))) c.in_ok-text.ensures misplaced in
     faulty_item g.K.Key.key_at c.args.distinct _ seen c.args.items.now c.loop-item.item-index c.item-item.result fault c.loop-item.invariant.read c.loop-item-test.true c.item-item.is here in
-    rw (p.1, p.2) (elim c.in_err-place.ensures.fault [ inl h ↦ inl (whole h) | inr memory ↦ inr (ap Err memory) ])
+    rw (p.1, p.2) (elim c.in_err-enter_text.ensures.fault [ inl h ↦ inl (whole h) | inr memory ↦ inr (ap Err memory) ])

@@ -1,6 +1,6 @@
 use Rattle.std.proofs.Common.{◌≡◌, ◌<◌, length}
 use Rattle.std.specs.Prelude.{All}
-use Rattle.lasso_shared.specs.Sights.{list_of}
+use Rattle.lasso_shared.specs.Views.{list_of}
 use Rattle.lasso_shared.proofs.log.tests.append_all.Given as goal
 
 -- pass and spine stay those of the log, and each text is shorter than the list is long

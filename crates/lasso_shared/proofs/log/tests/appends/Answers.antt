@@ -5,7 +5,7 @@ use Rattle.std.proofs.lemmas.List.Elements.{All-push, All-weaker}
 use Rattle.std.proofs.lemmas.Option.{get_or_from_slice_get}
 use Rattle.lasso_parts.specs.Texts.{Text, position_of}
 use Rattle.lasso_parts.proofs.IndexLaws.{position_of_none}
-use Rattle.lasso_shared.specs.Sights.{list_of}
+use Rattle.lasso_shared.specs.Views.{list_of}
 use Rattle.lasso_shared.proofs.log.tests.appends.Goals as goal
 
 -- each text is shorter than n

@@ -1,4 +1,4 @@
-use Rattle.lasso_shared.specs.Sights.{IsSameSpine}
+use Rattle.lasso_shared.specs.Views.{IsSameSpine}
 use Rattle.lasso_shared.proofs.log.tests.keeps.Given as goal
 
 -- the spine has seen what it had

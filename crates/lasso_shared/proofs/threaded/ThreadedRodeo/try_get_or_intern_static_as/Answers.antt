@@ -2,7 +2,7 @@ use Rattle.std.proofs.Common.{ℕ, subst}
 use Rattle.lasso_shared.specs.Replies.{Static, Intern, Interned}
 use Rattle.lasso_shared.specs.Calls.{IsCall}
 use Rattle.lasso_shared.specs.Notes.{history}
-use Rattle.lasso_shared.specs.Sights.{seen}
+use Rattle.lasso_shared.specs.Views.{seen}
 use Rattle.lasso_shared.proofs.Called.{called_later}
 use Rattle.lasso_shared.proofs.threaded.ThreadedRodeo.try_get_or_intern_static_as.Goals as goal
 

@@ -1,6 +1,6 @@
 use Rattle.std.proofs.Common.{[]}
 use Rattle.lasso_shared.specs.Notes.{Since}
-use Rattle.lasso_shared.specs.Sights.{IsSamePass}
+use Rattle.lasso_shared.specs.Views.{IsSamePass}
 use Rattle.lasso_shared.proofs.threaded.ThreadedRodeo.try_get_or_intern_static_as.Given as goal
 
 -- no event of its own was added yet

@@ -1,7 +1,7 @@
 use Rattle.std.proofs.Common.{◌≡◌, ◌≤◌, ap, ◌∙◌, arith}
 use Rattle.lasso_parts.specs.Account.{Account}
 use Rattle.lasso_single.specs.Copies.{bytes_of, clone_size}
-use Rattle.lasso_single.specs.Interner.{Interner}
+use Rattle.lasso_single.specs.Interner.{InternerView}
 use Rattle.lasso_single.proofs.Copying.{clone_stops, bytes-le-clone_size}
 use Rattle.lasso_single.proofs.rodeo.Rodeo.try_clone.Goals as goal
 
@@ -9,7 +9,7 @@ pub returns-in-Err-clause-refused : goal.returns-in-Err-clause-refused
 returns-in-Err-clause-refused g c =
     let texts = c.args.self.now.texts in
     let made = c.in_ok-copy.copy.account in
-    let size = c.in_ok-capacity.ensures.bytes ∙ ap (λ (i : Interner). clone_size i.texts) c.self.view_is in
+    let size = c.in_ok-capacity.ensures.bytes ∙ ap (λ (i : InternerView). clone_size i.texts) c.self.view_is in
     let room : made.room ≡ clone_size texts = ap (λ (a : Account). a.room) c.in_ok-copy.ensures.account ∙ size in
     let fits : bytes_of texts ≤ made.room = omega (arith, room, bytes-le-clone_size texts) in
     let stopped = c.in-Err.ensures.stopped in

@@ -1,25 +1,25 @@
 use Rattle.std.proofs.Common.{◌∙◌, List, [], ◌∷◌, ◌++◌, length, true, refl, sym, ap, subst}
 use Rattle.lasso_parts.specs.Arena.{account_of, copied_of, place_of}
 use Rattle.lasso_parts.specs.Bucket.{Extent}
-use Rattle.lasso_parts.specs.Slots.{Entry, IsThere, slot_text}
+use Rattle.lasso_parts.specs.Entries.{EntryView, IsThere, entry_text}
 use Rattle.lasso_parts.proofs.Wasted.{thrifty_store}
-use Rattle.lasso_single.specs.Interner.{Interner}
-use Rattle.lasso_parts.proofs.Entries.{there_pushed, texts_pushed}
+use Rattle.lasso_single.specs.Interner.{InternerView}
+use Rattle.lasso_parts.proofs.EntryTexts.{there_pushed, texts_pushed}
 use Rattle.lasso_single.proofs.text_list.TextList.push_copied.Goals as goal
 
 pub invariant_of-self-2 : goal.invariant_of-self-2
 invariant_of-self-2 g c =
     let now : List Extent = c.store_str.new.self.all in
-    let grown = c.push_reserved.ensures.items ∙ ap (λ (xs : List Entry). xs ++ c.copied-slot.result ∷ []) c.in_ok-reserve.ensures.items in
+    let grown = c.push_reserved.ensures.items ∙ ap (λ (xs : List EntryView). xs ++ c.copied-entry.result ∷ []) c.in_ok-reserve.ensures.items in
     let same = ap (λ (rs : List Extent). place_of rs c.in_ok-span.span) c.regions.ensures in
-    let new : IsThere now c.copied-slot.result = subst (IsThere now) (sym c.copied-slot.ensures.entry) (c.in_ok-span.ensures.stored.0, same) in
-    let there = there_pushed c.self.inside.arena.all now c.self.inside.slots.items c.push_reserved.new.self.items c.copied-slot.result c.self.invariant.0 c.in_ok-span.ensures.kept grown new in
+    let new : IsThere now c.copied-entry.result = subst (IsThere now) (sym c.copied-entry.ensures.entry) (c.in_ok-span.ensures.stored.0, same) in
+    let there = there_pushed c.self.inside.arena.all now c.self.inside.entries.items c.push_reserved.new.self.items c.copied-entry.result c.self.invariant.0 c.in_ok-span.ensures.kept grown new in
     let ok = refl {a = true} in
     (there, λ h. rw (c.in_ok-span.ensures.copied ok) (thrifty_store c.self.inside.first (copied_of c.self.inside.arena) (length c.args.text.now) (account_of c.self.inside.arena) (account_of c.store_str.new.self) (c.self.invariant.1 h) (c.in_ok-span.ensures.account ok)))
 
 pub returns-clause-texts : goal.returns-clause-texts
 returns-clause-texts g c =
     let now : List Extent = c.store_str.new.self.all in
-    let grown = c.push_reserved.ensures.items ∙ ap (λ (xs : List Entry). xs ++ c.copied-slot.result ∷ []) c.in_ok-reserve.ensures.items in
-    let text = ap (slot_text now) c.copied-slot.ensures.entry ∙ c.in_ok-span.ensures.stored.1 in
-    texts_pushed c.self.inside.arena.all now c.self.inside.slots.items c.push_reserved.new.self.items c.copied-slot.result c.args.text.now c.self.invariant.0 c.in_ok-span.ensures.kept grown text ∙ ap (λ (h : Interner). h.texts ++ c.args.text.now ∷ []) c.self.view_is
+    let grown = c.push_reserved.ensures.items ∙ ap (λ (xs : List EntryView). xs ++ c.copied-entry.result ∷ []) c.in_ok-reserve.ensures.items in
+    let text = ap (entry_text now) c.copied-entry.ensures.entry ∙ c.in_ok-span.ensures.stored.1 in
+    texts_pushed c.self.inside.arena.all now c.self.inside.entries.items c.push_reserved.new.self.items c.copied-entry.result c.args.text.now c.self.invariant.0 c.in_ok-span.ensures.kept grown text ∙ ap (λ (h : InternerView). h.texts ++ c.args.text.now ∷ []) c.self.view_is

@@ -29,7 +29,7 @@ use Rattle.std.specs.Prelude.{slice_range}
 use Rattle.core.specs.Mem.Slots.Ownership.{slots_lent}
 use Rattle.core.specs.declared.slots.Slots.{Slots}
 use Rattle.core.proofs.slots.Lent.{pointer_in, pointer_out}
-use Rattle.lasso_parts.specs.Cells.{Holds}
+use Rattle.lasso_parts.specs.Cells.{AreFilled}
 use Rattle.lasso_parts.specs.contracts.bucket.cells.Cells.{the_row as Places}
 use Rattle.lasso_parts.specs.contracts.bucket.cells.Cells.read as f
 use Rattle.lasso_parts.proofs.PlacesLent.{run_lent}
@@ -49,14 +49,14 @@ read_spec 𝓤 𝓛 𝓜 𝓡 wired =
     let κ : Lft = κs.0 in let q : Share = qs.0 in let row : Slots ℕ = a.0.now in let start : ℕ = a.1.0 in let len : ℕ = a.1.1.0 in
     let rb : ℕ = a.0.ref_ptr.0 in let ro : ℕ = a.0.ref_ptr.1 in
     let y : W.Ghost = ((κs, qs, bounds, a, (shr_vals a.0, (uint_vals w64 start, (uint_vals w64 len, tt)))), tt) in
-    qed 𝓛 (((‵ (flft κ q) ⊛ ‵ ftrue) ⊛ ‵ (owns (types_at f.ended.signature.params κs) a y.0.4)) ∷ raw (fact 𝓤 (Holds row start (start + len))) ∷ []) ∵
+    qed 𝓛 (((‵ (flft κ q) ⊛ ‵ ftrue) ⊛ ‵ (owns (types_at f.ended.signature.params κs) a y.0.4)) ∷ raw (fact 𝓤 (AreFilled row start (start + len))) ∷ []) ∵
     move ! (1 ∷ []) $ heard ! _ (λ asked. split ! $ split ! $ move ! (2 ∷ []) $ fsplit ! $ fsplit ! $ let_go ! $ unhide ! $ fpick ! (λ x. let d = x.0 in fsplit ! $ fsplit ! $
     -- [a `&` to the two fields; nothing; nothing; the numbers; the token]
     fsplit ! $ fsplit ! $ move ! (1 ∷ []) $ fsplit ! $ fsplit ! $ move ! (1 ∷ []) $ fsplit ! $ flt_l ! (λ fit.
     -- [what the row lends; the row's words; nothing; a `&` to the pointer; ..; the numbers; the token]
     let b : ℕ = block_of d.ptr in let o : ℕ = count_of d.ptr in let xs = d.slots.items in
     let begins : d.slots.ptr ≡ block_ptr b o = sym x.1.1.0 ∙ x.1.1.1 in
-    let held : Holds d.slots start (start + len) = subst (λ (r : Slots ℕ). Holds r start (start + len)) (sym x.1.0) asked in
+    let held : AreFilled d.slots start (start + len) = subst (λ (r : Slots ℕ). AreFilled r start (start + len)) (sym x.1.0) asked in
     let run : List ℕ = take len (drop start xs) in
     let inside : start + len ≤ length xs = omega (arith, held.within, d.slots.ok.0) in
     let long : length run ≡ len = omega (arith, length-take len (drop start xs), length-drop start xs) in

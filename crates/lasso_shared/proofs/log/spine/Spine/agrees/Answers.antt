@@ -1,8 +1,8 @@
 use Rattle.std.proofs.Common.{◌≡◌, sym, ◌∙◌, ap, subst, List, length}
 use mathlib.Core.List.{IsPrefix}
 use Rattle.lasso_shared.specs.History.{Totals}
-use Rattle.lasso_shared.specs.Notes.{Note, state, notes_of, opening_of}
-use Rattle.lasso_shared.specs.Sights.{list_of}
+use Rattle.lasso_shared.specs.Notes.{NoteView, state, notes_of, opening_of}
+use Rattle.lasso_shared.specs.Views.{list_of}
 use Rattle.lasso_shared.proofs.Logs.{tails}
 use Rattle.lasso_shared.proofs.Reading.{same_list}
 use Rattle.lasso_shared.proofs.log.spine.Spine.agrees.Goals as goal
@@ -12,7 +12,7 @@ returns g c =
     let both = c.learn.new.self.log in
     let mine = c.self.inside.seen.log in
     let other = c.pass.inside.seen.log in
-    let one : IsPrefix mine both = subst (λ (l : List Note). IsPrefix l both) (ap (λ s. s.log) c.again-both.ensures) c.learn.ensures.2 in
+    let one : IsPrefix mine both = subst (λ (l : List NoteView). IsPrefix l both) (ap (λ s. s.log) c.again-both.ensures) c.learn.ensures.2 in
     let a = tails mine both c.self.invariant.0 one in
     let b = tails other both c.pass.invariant.3 c.learn.ensures.3 in
     let opening : opening_of mine ≡ opening_of other = a.1 ∙ sym b.1 in

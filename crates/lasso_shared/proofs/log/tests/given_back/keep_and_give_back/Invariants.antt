@@ -1,5 +1,5 @@
 use Rattle.std.proofs.Common.{◌≡◌, ◌+◌}
-use Rattle.lasso_shared.specs.Sights.{IsSameSpine}
+use Rattle.lasso_shared.specs.Views.{IsSameSpine}
 use Rattle.lasso_shared.proofs.log.tests.given_back.keep_and_give_back.Given as goal
 
 -- one slot more in each round

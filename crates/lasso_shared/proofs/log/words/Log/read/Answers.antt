@@ -1,6 +1,6 @@
 use Rattle.std.proofs.Common.{◌≡◌, ◌<◌, ◌≤◌, sym, ◌∙◌, ap, length, arith}
 use Rattle.lasso_shared.specs.Notes.{texts_in}
-use Rattle.lasso_shared.specs.Sights.{list_of}
+use Rattle.lasso_shared.specs.Views.{list_of}
 use Rattle.lasso_shared.proofs.Lined.{prefix_short}
 use Rattle.lasso_shared.proofs.Lengths.{only_grows}
 use Rattle.lasso_shared.proofs.Reading.{text_read}

@@ -3,7 +3,7 @@ use Rattle.lasso_parts.specs.Texts.{Text}
 use Rattle.lasso_shared.specs.History.{Append, Totals, MayFollow}
 use Rattle.lasso_shared.specs.Notes.{notes_of, opening_of, state}
 use Rattle.lasso_shared.specs.Book.{IsDone, Reads, word_of}
-use Rattle.lasso_shared.specs.Sights.{list_of}
+use Rattle.lasso_shared.specs.Views.{list_of}
 use Rattle.lasso_shared.proofs.Histories.{prefix_trans}
 use Rattle.lasso_shared.proofs.Lengths.{length_of, may_append, moving_append}
 use Rattle.lasso_shared.proofs.Reading.{list_after, length_after_append}
@@ -33,7 +33,7 @@ exchange-requires-clause-filed g c =
     let none : o.texts ≡ [] = sym (ap (λ of. of.opening.texts) c.self.view_is) ∙ c.self.invariant.4 in
     let len : length (state o v).texts ≡ length o.texts + c.spine.inside.len = length_of o v 0 c.spine.inside.len c.spine.invariant.2.0 in
     let here : c.spine.inside.len ≡ length (list_of c.args.self.now c.args.spine.now.notes) = omega (arith, len, ap (λ (ts : List Text). length ts) none, ap (λ s. length (state o s.notes).texts) c.spine.view_is) in
-    (rw here c.requires.place, ap (λ t. Append t) (sym c.requires.filled), refl, ap (λ w. w.key) c.self.invariant.0, omega (arith, ap (λ (ts : List Text). length ts) none))
+    (rw here c.requires.cell, ap (λ t. Append t) (sym c.requires.filled), refl, ap (λ w. w.key) c.self.invariant.0, omega (arith, ap (λ (ts : List Text). length ts) none))
 
 pub invariant_of-spine : goal.invariant_of-spine
 invariant_of-spine g c =

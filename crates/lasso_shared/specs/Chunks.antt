@@ -1,0 +1,79 @@
+-- Where the texts of a shared list lie, and what a book keeps of them: that each cell below the length is filled with its text.
+use Rattle.std.specs.Prelude.{◌≡◌, ℕ, zero, suc, ◌-◌, ◌*◌, ◌^◌, ◌<◌, List, [], ◌∷◌, ◌++◌, length, map, slice_index, slice_index_or, nat_lt, if◌then◌else◌}
+use mathlib.Core.List.{IsPrefix}
+use base.Fml.{Fml, ftrue, fex, fsep}
+use denote.RattleType.{RattleType}
+use Rattle.boxcar.specs.Slot.{written, Named}
+use Rattle.lasso_parts.specs.Texts.{Text}
+
+-- how many cells a chunk has: the first two have 32, and each later one has twice as many as the one before
+abbrev pub chunk_length : ℕ → ℕ
+chunk_length zero = 32
+chunk_length (suc chunk) = 32 * 2 ^ chunk
+
+-- the position of a chunk's first cell
+abbrev pub chunk_start : ℕ → ℕ
+chunk_start zero = 0
+chunk_start (suc chunk) = 32 * 2 ^ chunk
+
+-- the chunk of a position that lies in this chunk or in one of the `more` chunks past it
+abbrev pub chunk_from : ℕ → ℕ → ℕ → ℕ
+chunk_from zero chunk position = chunk
+chunk_from (suc more) chunk position = if nat_lt position (chunk_start (suc chunk)) then chunk else chunk_from more (suc chunk) position
+
+-- the chunk of a position; its number is at most the position
+abbrev pub chunk_of : ℕ → ℕ
+chunk_of position = chunk_from position 0 position
+
+-- how far a position lies behind its chunk's first cell
+abbrev pub offset_of : ℕ → ℕ
+offset_of position = position - chunk_start (chunk_of position)
+
+-- the names of these cells
+abbrev pub names_of : List Named → List ℕ
+names_of cells = map (λ (c : Named). c.id) cells
+
+-- the name of the cell at this place
+abbrev pub name_at : List Named → ℕ → ℕ
+name_at cells place = (slice_index_or cells place record { id = 0; tag = [] }).id
+
+-- a chunk and a cell that have these names are those of the position, where `cells` is what the chunk has
+abbrev pub IsCellAt : List ℕ → ℕ → ℕ → List Named → ℕ → Type 0
+IsCellAt names position chunk cells cell = (chunk ≡ slice_index names (chunk_of position)) × (cell ≡ name_at cells (offset_of position))
+
+abbrev pub first_number : List ℕ → ℕ
+first_number [] = 0
+first_number (n ∷ ns) = n
+
+-- a chunk's cell is tagged with the chunk's number
+abbrev pub IsNumbered : ℕ → List Named → Type 0
+IsNumbered count cells = (length cells ≡ count) × ((chunk : ℕ) (d : Named) → chunk < count → (slice_index_or cells chunk d).tag ≡ chunk ∷ [])
+
+-- V is a chunk, and `cells` what it has; R is what a cell holds, and `meaning` its text
+module _ (V R : RattleType) (cells : V.Denot → List Named) (meaning : R.Denot → Text) where
+  abbrev pub held : ℕ → Text → R.Denot → Fml
+  held cell text x = fsep (written R cell x) (fex (meaning x ≡ text) (λ _. ftrue))
+
+  -- the cell holds this text, for good
+  abbrev pub holds_text : ℕ → Text → Fml
+  holds_text cell text = fex R.Denot (held cell text)
+
+  abbrev pub in_chunk : ℕ → ℕ → Text → V.Denot → Fml
+  in_chunk chunk offset text v = fsep (written V chunk v) (holds_text (name_at (cells v) offset) text)
+
+  -- the chunk is there, and its cell at this offset holds this text
+  abbrev pub filled : ℕ → ℕ → Text → Fml
+  filled chunk offset text = fex V.Denot (in_chunk chunk offset text)
+
+  -- these texts lie from position n on, in the chunks with these names
+  abbrev pub lined : List ℕ → ℕ → List Text → Fml
+  lined names n [] = ftrue
+  lined names n (text ∷ texts) = fsep (filled (slice_index names (chunk_of n)) (offset_of n) text) (lined names (suc n) texts)
+
+-- a longer log has all the texts of a shorter one, in their places
+abbrev pub ListOnlyGrows : {E : Type 0} → (List E → List E) → (List E → List Text) → Type 0
+ListOnlyGrows {E} shows texts = (before after : List E) → IsPrefix before after → IsPrefix (texts (shows before)) (texts (shows after))
+
+-- an update puts its text last, at its place
+abbrev pub PutsLast : {E : Type 0} → (List E → List Text) → ℕ → Text → List E → List E → Type 0
+PutsLast texts place text before after = (texts after ≡ texts before ++ text ∷ []) × (length (texts before) ≡ place)

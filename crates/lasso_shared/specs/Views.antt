@@ -1,0 +1,82 @@
+-- What contracts see of a pass, of a log and of a spine.
+use Rattle.std.specs.Prelude.{◌≡◌, ℕ, ◌+◌, List, [], ◌∷◌, ◌++◌, Option, Some, IsSomeAnd, Result, Ok, OnOk, OnErr}
+use mathlib.Core.List.{IsPrefix}
+use base.Stored.{Coded, coded×, coded_ℕ, coded_list, coded_via}
+use Rattle.logbook.specs.Pages.{Book, book_coded}
+use Rattle.lasso_shared.specs.History.{History, Append, Totals, Lacks}
+use Rattle.lasso_parts.specs.Texts.{Text, position_of}
+use Rattle.lasso_parts.specs.declared.util.LassoErrorKind.{LassoErrorKind}
+use Rattle.lasso_shared.specs.Notes.{NoteView, note_coded, totals_coded, history, state, Since}
+
+-- which interner a thing is of: its book, the names of the chunks that its texts lie in, and what it opened with
+pub record InternerId : Type 0 where
+  pub book : Book
+  pub chunks : List ℕ
+  pub opening : Totals
+
+abbrev pub interner_id_coded : Coded InternerId
+interner_id_coded = coded_via (coded× book_coded (coded× (coded_list coded_ℕ) totals_coded)) (λ (o : InternerId). (o.book, (o.chunks, o.opening))) (λ x y e i. record { book = (e i).0; chunks = (e i).1.0; opening = (e i).1.1 })
+
+abbrev pub interner_id : Book → List ℕ → Totals → InternerId
+interner_id book chunks opening = record { book = book; chunks = chunks; opening = opening }
+
+-- a pass: its number, its interner, and the notes that it has seen past the opening
+pub record PassView : Type 0 where
+  pub number : ℕ
+  pub of : InternerId
+  pub notes : List NoteView
+
+abbrev pub pass_view_coded : Coded PassView
+pass_view_coded = coded_via (coded× coded_ℕ (coded× interner_id_coded (coded_list note_coded))) (λ (s : PassView). (s.number, (s.of, s.notes))) (λ x y e i. record { number = (e i).0; of = (e i).1.0; notes = (e i).1.1 })
+
+-- the history that it has seen
+abbrev pub seen : PassView → History
+seen s = history s.notes
+
+-- the pass is the same one: its number and its interner
+abbrev pub IsSamePass : PassView → PassView → Type 0
+IsSamePass now before = (now.number ≡ before.number) × (now.of ≡ before.of)
+
+abbrev pub first_number : List ℕ → ℕ
+first_number [] = 0
+first_number (n ∷ ns) = n
+
+-- the list at the end of these notes of an interner
+abbrev pub list_of : InternerId → List NoteView → List Text
+list_of of notes = (state of.opening notes).texts
+
+-- a spine: how many slots it keeps for texts to come, its interner, and the notes that it has seen
+pub record SpineView : Type 0 where
+  pub kept : ℕ
+  pub of : InternerId
+  pub notes : List NoteView
+
+abbrev pub spine_view_coded : Coded SpineView
+spine_view_coded = coded_via (coded× coded_ℕ (coded× interner_id_coded (coded_list note_coded))) (λ (s : SpineView). (s.kept, (s.of, s.notes))) (λ x y e i. record { kept = (e i).0; of = (e i).1.0; notes = (e i).1.1 })
+
+-- the spine has seen the same, and is of the same interner
+abbrev pub IsSameSpine : SpineView → SpineView → Type 0
+IsSameSpine now before = (now.of ≡ before.of) × (now.notes ≡ before.notes)
+
+-- an append: the one event of its pass, which puts the text last in the list that the spine had seen, in one of its slots
+pub record IsAppended (of : InternerId) (before after : PassView) (spine_before spine_after : SpineView) (text : Text) : Type 0 where
+  pub event : Since before.number before.notes after.notes (Append text ∷ [])
+  pub list : list_of of after.notes ≡ list_of of spine_before.notes ++ text ∷ []
+  pub spine : spine_after.notes ≡ after.notes
+  pub begins : IsPrefix spine_before.notes spine_after.notes
+  pub kept : spine_after.kept + 1 ≡ spine_before.kept
+
+-- nothing was added: no event of the pass came, and the spine has seen what it had
+abbrev pub IsIdle : (before after : PassView) (spine_before spine_after : SpineView) → Type 0
+IsIdle before after spine_before spine_after = Since before.number before.notes after.notes [] × IsSameSpine spine_after spine_before
+
+-- An intern at the desk, by the list that the spine had seen. A text of the list is answered by its key, and nothing is
+-- added. Another one that is answered was put last by the one event of the pass. Where it is refused, nothing is added.
+pub record IsInternedAt {K : Type 0} (key_at : ℕ → Option K) (of : InternerId) (before after : PassView) (spine_before spine_after : SpineView) (text : Text) (reply : Result K LassoErrorKind) : Type 0 where
+  pub found :
+      (n : ℕ) → position_of (list_of of spine_before.notes) text ≡ Some n
+      → IsSomeAnd (key_at n) (λ k. reply ≡ Ok k) × IsIdle before after spine_before spine_after
+  pub added :
+      Lacks (list_of of spine_before.notes) text
+      → OnOk reply (Since before.number before.notes after.notes (Append text ∷ []) × (list_of of spine_after.notes ≡ list_of of spine_before.notes ++ text ∷ []))
+  pub refused : OnErr reply (IsIdle before after spine_before spine_after)
