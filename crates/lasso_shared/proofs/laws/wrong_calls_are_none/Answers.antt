@@ -6,7 +6,7 @@ use Rattle.lasso_shared.specs.History.{Append, History, totals}
 use Rattle.lasso_parts.specs.Texts.{Text}
 use Rattle.lasso_parts.specs.declared.util.LassoErrorKind.TheVariants.{MemoryLimitReached, KeySpaceExhaustion}
 use Rattle.lasso_shared.specs.Replies.{Copied, Static, Question, Intern, Get, Strings, Reply, Interned, Found, Listed, MayReply}
-use Rattle.lasso_shared.specs.Calls.{Adds, Makes, events_of}
+use Rattle.lasso_shared.specs.Calls.{StoresAndAppends, Makes, events_of}
 use Rattle.lasso_shared.specs.Example.{three_keys, a, bc, ddd, e}
 use Rattle.lasso_shared.specs.ExampleCalls.{opening, two, three, Calls}
 use Rattle.lasso_shared.proofs.laws.wrong_calls_are_none.Goals as goal
@@ -26,7 +26,7 @@ read_there h pass question reply c =
     let front = none_front c.explained.0 c.explained.1 (c.explained.2 ∙ past) in
     subst (λ (g : History). MayReply three_keys (totals opening g) question reply) (ap (λ (f : History). h ++ f) front ∙ append-nil h) c.explained.4
 
-twice : Adds Static a (Append a ∷ Append a ∷ []) → ⊥
+twice : StoresAndAppends Static a (Append a ∷ Append a ∷ []) → ⊥
 twice added = absurd (cc (ap (λ es. es ++ Append a ∷ []) added.1, added.2))
 
 -- a list that is read at the exit is the exit's
