@@ -1,10 +1,10 @@
 -- What clones of an interner hold, and where copying a list of texts may stop.
-use Rattle.std.specs.Prelude.{◌≡◌, ◌⊎◌, ◌<◌, ◌-◌, ◌^◌, ℕ, true, List, [], ◌∷◌, length, take, slice_get, sum_by, max, nat_eq, if◌then◌else◌, Option, Some, None, option_and_then, Result, MatchResult}
+use Rattle.std.specs.Prelude.{◌≡◌, ◌⊎◌, ◌<◌, ◌+◌, ◌-◌, ◌^◌, ℕ, true, List, [], ◌∷◌, ◌++◌, length, take, slice_get, sum_by, max, nat_eq, if◌then◌else◌, Option, Some, None, option_and_then, Result, MatchResult}
 use Rattle.lasso_parts.specs.Account.{Account, fresh, store, clear}
 use Rattle.lasso_parts.specs.Texts.{Text}
 use Rattle.lasso_parts.specs.declared.util.LassoError.{LassoError}
 use Rattle.lasso_parts.specs.declared.util.LassoErrorKind.TheVariants.{MemoryLimitReached, FailedAllocation}
-use Rattle.lasso_single.specs.Interner.{InternerView}
+use Rattle.lasso_single.specs.Interner.{InternerView, KeepsOrigin}
 
 -- how many bytes the texts have in all
 abbrev pub bytes_of : List Text → ℕ
@@ -26,6 +26,15 @@ clone_size texts = bucket_for (bytes_of texts)
 -- the account of a clone: all texts in one bucket, under a limit that is no lower than before and has room for them
 abbrev pub clone_of : List Text → ℕ → Option Account
 clone_of texts limit = store_all (fresh (clone_size texts) (max limit (clone_size texts))) texts
+
+-- copying one text puts it last and stores its bytes; or the limit refuses it, or memory is wanting, and then
+-- nothing changes
+abbrev pub CopiesOne : InternerView → Text → Result (Unit {0}) LassoError → InternerView → Type 0
+CopiesOne old text reply new =
+    MatchResult reply
+    (λ _. (new.texts ≡ old.texts ++ text ∷ []) × (store old.account (length text) ≡ Some new.account) × (new.copied ≡ old.copied + length text))
+    (λ error. (new.texts ≡ old.texts) × (new.account ≡ old.account) × (new.copied ≡ old.copied) × ((error ≡ FailedAllocation) ⊎ ((error ≡ MemoryLimitReached) × (store old.account (length text) ≡ None))))
+    × KeepsOrigin old new
 
 -- copying the texts from that account on stopped with j of them copied: the limit refused the next one, or
 -- memory was wanting for it, or before the first

@@ -8,13 +8,14 @@ ghost use Rattle.lasso_single.specs.Equality.{texts_eq};
 ghost use Rattle.lasso_single.specs.Interner.{IsMadeWith, KeepsOrigin};
 ghost use Rattle.lasso_parts.specs.declared.util.LassoErrorKind.TheVariants.{FailedAllocation};
 
+use crate::copying::{CopyTarget, copy_all};
 use crate::room::one_bucket;
 use lasso_parts::arena::Arena;
 use lasso_parts::entries::{Entry, text_of};
 use lasso_parts::index::Texts;
 use lasso_parts::iter::{Iter, Strings};
 use lasso_parts::keys::Key;
-use lasso_parts::util::{Capacity, LassoResult, MemoryLimits};
+use lasso_parts::util::{Capacity, LassoError, LassoErrorKind, LassoResult, MemoryLimits};
 use std::alloc::Allocator;
 use std::marker::Model;
 
@@ -53,6 +54,22 @@ impl<A: Allocator> Texts for TextList<A> {
     }
 }
 
+impl<A: Allocator + Clone> CopyTarget for TextList<A> {
+    ghost use Rattle.std.specs.Prelude.{⊤};
+
+    ghost holds = { λ l. l };
+
+    // equal texts too
+    ghost takes = { λ _ _. ⊤ };
+
+    fn copy_text(&mut self, text: &str) -> LassoResult<()> {
+        if !self.admits(text.len()) {
+            return Err(LassoError::new(LassoErrorKind::MemoryLimitReached));
+        }
+        self.push_copied(text)
+    }
+}
+
 impl<A: Allocator + Clone> TextList<A> {
     /// An empty list. It is refused for want of memory alone.
     pub(crate) fn new(alloc: A, capacity: Capacity, limits: MemoryLimits) -> LassoResult<Self>
@@ -83,10 +100,10 @@ impl<A: Allocator + Clone> TextList<A> {
     {
         let capacity = one_bucket(&texts, texts.len())?;
         let mut list = TextList::new(alloc, capacity, MemoryLimits::default())?;
-        for position in 0..texts.len() {
-            list.push_copied(texts.text_at(position))?;
+        match copy_all(&mut list, &texts, texts.len()) {
+            Ok(()) => Ok(list),
+            Err(error) => Err(error),
         }
-        Ok(list)
     }
 
     /// Copies a text to the end of the list. The limit must admit it, so that it is refused for want of

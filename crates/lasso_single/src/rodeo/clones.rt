@@ -1,12 +1,13 @@
 //! Clones of a `Rodeo`, and copies of one over another.
-ghost use Rattle.std.specs.Prelude.{◌≡◌, ◌≤◌, ◌<◌, ◌+◌, ◌^◌, ℕ, [], Some, Err, IfOk, OnOk, IfErr, length, slice_get};
+ghost use Rattle.std.specs.Prelude.{◌≡◌, ◌≤◌, ◌^◌, [], Some, Err, IfOk, IfErr};
 ghost use Rattle.lasso_parts.specs.declared.util.LassoErrorKind.TheVariants.{FailedAllocation};
-ghost use Rattle.lasso_single.specs.Copies.{bytes_of, store_all, clone_size, clone_of, clone_into, StopsAt};
-ghost use Rattle.lasso_single.specs.Interner.{IsMadeWith, KeepsOrigin};
+ghost use Rattle.lasso_single.specs.Copies.{bytes_of, clone_size, clone_of, clone_into};
+ghost use Rattle.lasso_single.specs.Interner.{IsMadeWith};
 
 use super::Rodeo;
+use crate::copying::copy_all;
 use crate::room::one_bucket;
-use lasso_parts::index::{Index, Texts};
+use lasso_parts::index::Index;
 use lasso_parts::keys::Key;
 use lasso_parts::util::{LassoResult, MemoryLimits};
 use std::alloc::Allocator;
@@ -24,7 +25,8 @@ impl<K: Key, S: BuildHasher + Clone, A: Allocator + Clone> Rodeo<K, S, A> {
         ensures refused { IfErr result (λ error. error ≡ FailedAllocation) }
         ensures overflow { 2 ^ 64 ≤ bytes_of self.now.texts → result ≡ Err FailedAllocation }
     {
-        let capacity = one_bucket(&self.list, self.list.len())?;
+        let len = self.len();
+        let capacity = one_bucket(self, len)?;
         let limit = self.list.max_memory_usage().max(capacity.bytes());
         let limits = MemoryLimits::new(limit);
         let hasher = self.hasher.clone()?;
@@ -32,7 +34,7 @@ impl<K: Key, S: BuildHasher + Clone, A: Allocator + Clone> Rodeo<K, S, A> {
         let mut copy = Rodeo::with_capacity_memory_limits_and_hasher(
             alloc, capacity, limits, hasher,
         )?;
-        match copy.copy_texts(self) {
+        match copy_all(&mut copy, self, len) {
             Ok(()) => Ok(copy),
             Err(error) => Err(error),
         }
@@ -59,7 +61,8 @@ impl<K: Key, S: BuildHasher + Clone, A: Allocator + Clone> Rodeo<K, S, A> {
     {
         self.clear();
         self.make_room_for(source)?;
-        if let Err(error) = self.copy_texts(source) {
+        let len = source.len();
+        if let Err(error) = copy_all(self, source, len) {
             self.clear();
             return Err(error);
         }
@@ -88,29 +91,5 @@ impl<K: Key, S: BuildHasher + Clone, A: Allocator + Clone> Rodeo<K, S, A> {
         self.hasher = hasher;
         self.index = index;
         Ok(())
-    }
-
-    // Copies each text of the source to the end of the list, which must be empty, up to the first refusal.
-    fn copy_texts(&mut self, source: &Self) -> LassoResult<()>
-        requires { self.old.texts ≡ [] }
-        ensures texts { OnOk result (self.new.texts ≡ source.now.texts) }
-        ensures account { OnOk result (store_all self.old.account source.now.texts ≡ Some self.new.account) }
-        ensures copied { OnOk result (self.new.copied ≡ self.old.copied + bytes_of source.now.texts) }
-        ensures origin { KeepsOrigin self.old self.new }
-        ensures stopped { IfErr result (λ error. (j : ℕ) × StopsAt self.old.account source.now.texts j error self.new.account) }
-    {
-        let len = source.len();
-        for position in 0..len {
-            self.try_get_or_intern(source.text_at(position))?;
-        }
-        Ok(())
-    }
-
-    // The text at the position.
-    fn text_at(&self, position: usize) -> &str
-        requires { position < length self.now.texts }
-        ensures { slice_get self.now.texts position ≡ Some result.now }
-    {
-        self.list.text_at(position)
     }
 }

@@ -1,17 +1,43 @@
-//! A `Rodeo` that copies a list of texts.
-ghost use Rattle.std.specs.Prelude.{◌≡◌, ◌≤◌, ◌+◌, ◌^◌, ℕ, [], Some, Err, IfOk, OnOk, IfErr, length, map};
+//! A `Rodeo` that copies a list of texts, and the list that it shows to another that copies it.
+ghost use Rattle.std.specs.Prelude.{◌≡◌, ◌≤◌, ◌^◌, Some, Err, IfOk, IfErr, length, map};
 ghost use Rattle.lasso_parts.specs.Texts.{IsDistinct, Fits};
 ghost use Rattle.lasso_parts.specs.declared.util.LassoErrorKind.TheVariants.{FailedAllocation};
-ghost use Rattle.lasso_single.specs.Copies.{bytes_of, store_all, clone_size, read_of, StopsAt};
-ghost use Rattle.lasso_single.specs.Interner.{IsMadeWith, KeepsOrigin};
+ghost use Rattle.lasso_single.specs.Copies.{bytes_of, clone_size, read_of};
+ghost use Rattle.lasso_single.specs.Interner.{IsMadeWith};
 
 use super::Rodeo;
+use crate::copying::{CopyTarget, copy_all};
 use crate::room::one_bucket;
 use lasso_parts::index::Texts;
 use lasso_parts::keys::Key;
 use lasso_parts::util::LassoResult;
 use std::alloc::Allocator;
 use std::hash::BuildHasher;
+
+impl<K: Key, S: BuildHasher, A: Allocator> Texts for Rodeo<K, S, A> {
+    ghost list = { λ r. r.texts };
+
+    fn text_at(&self, position: usize) -> &str {
+        self.list.text_at(position)
+    }
+}
+
+impl<K: Key, S: BuildHasher, A: Allocator + Clone> CopyTarget for Rodeo<K, S, A> {
+    ghost use Rattle.std.specs.Prelude.{None, IsSome};
+    ghost use Rattle.lasso_parts.specs.Texts.{position_of};
+
+    ghost holds = { λ r. r };
+
+    // a text that is not there, at a position that has a key
+    ghost takes = { λ texts text. (position_of texts text ≡ None) × IsSome (K.key_at (length texts)) };
+
+    fn copy_text(&mut self, text: &str) -> LassoResult<()> {
+        match self.try_get_or_intern(text) {
+            Ok(_key) => Ok(()),
+            Err(error) => Err(error),
+        }
+    }
+}
 
 impl<K: Key, S: BuildHasher + Drop, A: Allocator + Clone> Rodeo<K, S, A> {
     /// An interner with the texts of a distinct list that fits the keys, in order, all copied into one bucket
@@ -28,27 +54,9 @@ impl<K: Key, S: BuildHasher + Drop, A: Allocator + Clone> Rodeo<K, S, A> {
     {
         let capacity = one_bucket(&texts, texts.len())?;
         let mut copy = Rodeo::with_capacity_and_hasher(alloc, capacity, hasher)?;
-        match copy.copy_list(texts) {
+        match copy_all(&mut copy, &texts, texts.len()) {
             Ok(()) => Ok(copy),
             Err(error) => Err(error),
         }
-    }
-
-    // Copies each text of a distinct list that fits the keys to the end of the list, which must be empty, up to
-    // the first refusal.
-    fn copy_list(&mut self, texts: &[&str]) -> LassoResult<()>
-        requires empty { self.old.texts ≡ [] }
-        requires distinct { IsDistinct (map (λ t. t.now) texts.now) }
-        requires fits { Fits K.key_at (length (map (λ t. t.now) texts.now)) }
-        ensures texts { OnOk result (self.new.texts ≡ map (λ t. t.now) texts.now) }
-        ensures account { OnOk result (store_all self.old.account (map (λ t. t.now) texts.now) ≡ Some self.new.account) }
-        ensures copied { OnOk result (self.new.copied ≡ self.old.copied + bytes_of (map (λ t. t.now) texts.now)) }
-        ensures origin { KeepsOrigin self.old self.new }
-        ensures stopped { IfErr result (λ error. (j : ℕ) × StopsAt self.old.account (map (λ t. t.now) texts.now) j error self.new.account) }
-    {
-        for position in 0..texts.len() {
-            self.try_get_or_intern(texts.text_at(position))?;
-        }
-        Ok(())
     }
 }

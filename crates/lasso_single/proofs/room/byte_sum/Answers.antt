@@ -3,7 +3,7 @@ use Rattle.std.proofs.lemmas.List.{take_all}
 use Rattle.std.proofs.lemmas.List.Sums.{sum_by-take-le}
 use Rattle.lasso_parts.specs.Texts.{Text}
 use Rattle.lasso_single.specs.Copies.{bytes_of}
-use Rattle.lasso_single.proofs.Copying.{bytes_more_at}
+use Rattle.lasso_single.proofs.Copied.{bytes_more_at}
 use Rattle.lasso_single.proofs.room.byte_sum.Goals as goal
 
 pub returns-in_err-bytes : goal.returns-in_err-bytes

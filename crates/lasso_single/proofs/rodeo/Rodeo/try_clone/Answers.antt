@@ -1,16 +1,17 @@
 use Rattle.std.proofs.Common.{◌≡◌, ◌≤◌, ap, ◌∙◌, arith}
 use Rattle.lasso_parts.specs.Account.{Account}
 use Rattle.lasso_single.specs.Copies.{bytes_of, clone_size}
-use Rattle.lasso_single.specs.Interner.{InternerView}
-use Rattle.lasso_single.proofs.Copying.{clone_stops, bytes-le-clone_size}
+use Rattle.lasso_single.proofs.Copied.{clone_stops, bytes-le-clone_size, taken_at}
 use Rattle.lasso_single.proofs.rodeo.Rodeo.try_clone.Goals as goal
+
+pub copy_all-requires-clause-taken : goal.copy_all-requires-clause-taken
+copy_all-requires-clause-taken g c = taken_at g.K.Key.key_at c.args.self.now.texts c.len-len.ensures.distinct c.len-len.ensures.fits
 
 pub returns-in-Err-clause-refused : goal.returns-in-Err-clause-refused
 returns-in-Err-clause-refused g c =
     let texts = c.args.self.now.texts in
     let made = c.in_ok-copy.copy.account in
-    let size = c.in_ok-capacity.ensures.bytes ∙ ap (λ (i : InternerView). clone_size i.texts) c.self.view_is in
-    let room : made.room ≡ clone_size texts = ap (λ (a : Account). a.room) c.in_ok-copy.ensures.account ∙ size in
+    let room : made.room ≡ clone_size texts = ap (λ (a : Account). a.room) c.in_ok-copy.ensures.account ∙ c.in_ok-capacity.ensures.bytes in
     let fits : bytes_of texts ≤ made.room = omega (arith, room, bytes-le-clone_size texts) in
     let stopped = c.in-Err.ensures.stopped in
-    clone_stops made texts stopped.0 c.in-Err.error c.copy_texts.new.self.account fits stopped.1
+    clone_stops made texts stopped.0 c.in-Err.error c.copy_all.new.target.account fits stopped.1

@@ -17,9 +17,9 @@ use Rattle.lasso_parts.specs.declared.util.LassoError.{LassoError}
 use Rattle.lasso_parts.specs.declared.util.LassoErrorKind.TheVariants.{MemoryLimitReached, FailedAllocation}
 use Rattle.lasso_parts.proofs.IndexLaws.{absent_before}
 use Rattle.lasso_parts.proofs.TextLemmas.{take_more_at}
-use Rattle.lasso_single.specs.Copies.{bytes_of, store_all, StopsAt, clone_size, clone_of}
+use Rattle.lasso_single.specs.Copies.{bytes_of, store_all, CopiesOne, StopsAt, clone_size, clone_of}
 use Rattle.lasso_single.specs.Intern.{Interns, InternsIn, with_text, stored_or_refused, keyed_or_refused, found_or_new}
-use Rattle.lasso_single.specs.Interner.{InternerView, IsMadeWith, made_with, KeepsOrigin, bytes_added}
+use Rattle.lasso_single.specs.Interner.{InternerView, KeepsOrigin, bytes_added}
 
 -- ---- a new text
 
@@ -107,48 +107,52 @@ pub record CopiedTo (start : InternerView) (source : List Text) (i : ℕ) (now :
 pub copied_none : (start : InternerView) (texts : List Text) → start.texts ≡ [] → CopiedTo start texts 0 start
 copied_none start texts empty = record { texts = empty; account = refl; copied = omega arith; origin = (refl, refl) }
 
--- one text more went last, and its bytes were stored
-pub pushed_more : (start : InternerView) (texts : List Text) (i : ℕ) (text : Text) (old new : InternerView) → slice_get texts i ≡ Some text → CopiedTo start texts i old → new.texts ≡ old.texts ++ text ∷ [] → store old.account (length text) ≡ Some new.account → new.copied ≡ old.copied + length text → KeepsOrigin old new → CopiedTo start texts (i + 1) new
-pushed_more start texts i text old new at so_far left stored copied origin =
+-- one text more went last and its bytes were stored; or copying stopped there
+pub copied_more : (start : InternerView) (texts : List Text) (i : ℕ) (text : Text) (old : InternerView) (reply : Result (Unit {0}) LassoError) (new : InternerView) → slice_get texts i ≡ Some text → CopiedTo start texts i old → CopiesOne old text reply new
+    → MatchResult reply (λ _. CopiedTo start texts (i + 1) new) (λ error. StopsAt start.account texts i error new.account × KeepsOrigin start new)
+copied_more start texts i text old (Ok done) new at so_far one =
     let more : take (i + 1) texts ≡ take i texts ++ text ∷ [] = take_more_at texts i text at in
     let bytes = bytes_more_at texts i text at in
-    let all : store_all start.account (take i texts ++ text ∷ []) ≡ Some new.account = store_all_push start.account old.account new.account (take i texts) text so_far.account stored in
+    let all : store_all start.account (take i texts ++ text ∷ []) ≡ Some new.account = store_all_push start.account old.account new.account (take i texts) text so_far.account one.0.1 in
     record {
-      texts = left ∙ ap (λ (ts : List Text). ts ++ text ∷ []) so_far.texts ∙ sym more;
+      texts = one.0.0 ∙ ap (λ (ts : List Text). ts ++ text ∷ []) so_far.texts ∙ sym more;
       account = subst (λ (ts : List Text). store_all start.account ts ≡ Some new.account) (sym more) all;
-      copied = omega (arith, copied, so_far.copied, bytes);
-      origin = (origin.0 ∙ so_far.origin.0, origin.1 ∙ so_far.origin.1);
+      copied = omega (arith, one.0.2, so_far.copied, bytes);
+      origin = (one.1.0 ∙ so_far.origin.0, one.1.1 ∙ so_far.origin.1);
     }
+copied_more start texts i text old (Err error) new at so_far one =
+    let left = one.0 in
+    let reached : store_all start.account (take i texts) ≡ Some new.account = so_far.account ∙ ap (λ (a : Account). Some a) (sym left.1) in
+    let inside : i < length texts = slice_get_within texts i text at in (
+      (
+        reached,
+        elim left.3 [
+          | inl memory ↦ inl (memory, inr inside)
+          | inr limit ↦ inr (limit.0, (text, at, subst (λ (a : Account). store a (length text) ≡ None) (sym left.1) limit.1))
+        ],
+      ),
+      (one.1.0 ∙ so_far.origin.0, one.1.1 ∙ so_far.origin.1),
+    )
 
-pub copied_more : {K : Type 0} (key_at : ℕ → Option K) (start : InternerView) (texts : List Text) (i : ℕ) (text : Text) (old : InternerView) (reply : Result K LassoError) (new : InternerView) → IsDistinct texts → Fits key_at (length texts) → slice_get texts i ≡ Some text → CopiedTo start texts i old → InternsIn key_at old text reply new
-    → MatchResult reply (λ _. CopiedTo start texts (i + 1) new) (λ error. StopsAt start.account texts i error new.account × KeepsOrigin start new)
-copied_more {K} key_at start texts i text old reply new distinct fits at so_far interns =
+-- ---- an interner that a text is copied to
+
+-- the text at a position of a distinct list that fits the keys is none of those before it, and has a key
+pub taken_at : {K : Type 0} (key_at : ℕ → Option K) (texts : List Text) → IsDistinct texts → Fits key_at (length texts) → (i : ℕ) (text : Text) → slice_get texts i ≡ Some text → (position_of (take i texts) text ≡ None) × IsSome (key_at (length (take i texts)))
+taken_at key_at texts distinct fits i text at =
     let inside : i < length texts = slice_get_within texts i text at in
-    let absent : position_of old.texts text ≡ None = subst (λ (ts : List Text). position_of ts text ≡ None) (sym so_far.texts) (absent_before texts i text distinct at) in
-    let count : length old.texts ≡ i = ap length so_far.texts ∙ length-take-le i texts (omega arith) in
-    let has_key : IsSome (key_at (length old.texts)) = subst (λ (n : ℕ). IsSome (key_at n)) (sym count) (fits i inside) in
-    go reply new absent (interns_new key_at old.texts old.account text reply new.texts new.account interns.0 absent has_key) interns.1 interns.2
-  where
-    go : (reply : Result K LassoError) (new : InternerView) → position_of old.texts text ≡ None
-        → MatchResult reply (λ _. (new.texts ≡ old.texts ++ text ∷ []) × (store old.account (length text) ≡ Some new.account)) (λ error. (new.texts ≡ old.texts) × (new.account ≡ old.account) × ((error ≡ FailedAllocation) ⊎ ((error ≡ MemoryLimitReached) × (store old.account (length text) ≡ None))))
-        → MatchResult reply (λ _. new.copied ≡ old.copied + bytes_added old.texts text) (λ _. new.copied ≡ old.copied)
-        → KeepsOrigin old new
-        → MatchResult reply (λ _. CopiedTo start texts (i + 1) new) (λ error. StopsAt start.account texts i error new.account × KeepsOrigin start new)
-    go (Ok k) new absent left copied origin =
-        let added : bytes_added old.texts text ≡ length text = ap (λ (o : Option ℕ). cond (is_some o) 0 (length text)) absent in
-        pushed_more start texts i text old new at so_far left.0 left.1 (copied ∙ ap (λ (n : ℕ). old.copied + n) added) origin
-    go (Err error) new absent left copied origin =
-        let reached : store_all start.account (take i texts) ≡ Some new.account = so_far.account ∙ ap (λ (a : Account). Some a) (sym left.1) in
-        let inside : i < length texts = slice_get_within texts i text at in (
-          (
-            reached,
-            elim left.2 [
-              | inl memory ↦ inl (memory, inr inside)
-              | inr limit ↦ inr (limit.0, (text, at, subst (λ (a : Account). store a (length text) ≡ None) (sym left.1) limit.1))
-            ],
-          ),
-          (origin.0 ∙ so_far.origin.0, origin.1 ∙ so_far.origin.1),
-        )
+    (absent_before texts i text distinct at, subst (λ (n : ℕ). IsSome (key_at n)) (sym (length-take-le i texts (omega arith))) (fits i inside))
+
+-- interning a text that is not there and has a key copies it
+pub interned_copies : {K : Type 0} (key_at : ℕ → Option K) (old : InternerView) (text : Text) (k : K) (new : InternerView) → position_of old.texts text ≡ None → IsSome (key_at (length old.texts)) → InternsIn key_at old text (Ok k) new → CopiesOne old text (Ok tt) new
+interned_copies key_at old text k new absent has_key interns =
+    let left = interns_new key_at old.texts old.account text (Ok k) new.texts new.account interns.0 absent has_key in
+    let added : bytes_added old.texts text ≡ length text = ap (λ (o : Option ℕ). cond (is_some o) 0 (length text)) absent in
+    ((left.0, left.1, interns.1 ∙ ap (λ (n : ℕ). old.copied + n) added), interns.2)
+
+pub refused_copies : {K : Type 0} (key_at : ℕ → Option K) (old : InternerView) (text : Text) (error : LassoError) (new : InternerView) → position_of old.texts text ≡ None → IsSome (key_at (length old.texts)) → InternsIn {K = K} key_at old text (Err error) new → CopiesOne old text (Err error) new
+refused_copies {K} key_at old text error new absent has_key interns =
+    let left = interns_new {K = K} key_at old.texts old.account text (Err error) new.texts new.account interns.0 absent has_key in
+    ((left.0, left.1, interns.1, left.2), interns.2)
 
 -- ---- a clone
 
@@ -173,26 +177,3 @@ pub clone_account : (texts : List Text) (limit size greatest : ℕ) (made done :
 clone_account texts limit size greatest made done is_size is_greatest is_made h =
     let same : made ≡ fresh (clone_size texts) (max limit (clone_size texts)) = is_made ∙ ap (λ (m : ℕ). fresh size m) is_greatest ∙ ap (λ (n : ℕ). fresh n (max limit n)) is_size in
     ap (λ (a : Account). store_all a texts) (sym same) ∙ h
-
--- ---- a list in one bucket of all its bytes
-
-some_unless_none : {A : Type 0} (o : Option A) → (o ≡ None → ⊥) → IsSome o
-some_unless_none None h = absurd (h refl)
-some_unless_none (Some a) h = refl
-
--- each text has room
-pub has_room : (start : InternerView) (texts : List Text) (i : ℕ) (text : Text) (now : InternerView) → bytes_of texts ≤ start.account.room → slice_get texts i ≡ Some text → CopiedTo start texts i now → IsSome (store now.account (length text))
-has_room start texts i text now fits at so_far =
-    let more = bytes_more_at texts i text at in
-    let all = sum_by-take-le (λ (t : Text). length t) texts (i + 1) in
-    let room = store_all_room start.account now.account (take i texts) so_far.account (omega arith) in
-    some_unless_none (store now.account (length text)) (store_not_refused now.account (length text) (omega arith))
-
--- a list that was just made has copied nothing
-pub made_none : (texts : List Text) (size limit bytes : ℕ) (now : InternerView) → bytes ≡ size → now.texts ≡ [] → now.account ≡ fresh bytes limit → IsMadeWith bytes 0 now → CopiedTo (made_with size limit) texts 0 now
-made_none texts size limit bytes now same empty account made = record {
-  texts = empty;
-  account = ap (λ (a : Account). Some a) (sym (account ∙ ap (λ (n : ℕ). fresh n limit) same));
-  copied = made.1;
-  origin = (made.0 ∙ same, made.2);
-}
