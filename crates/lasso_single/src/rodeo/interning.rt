@@ -36,7 +36,7 @@ impl<K: Key, S: BuildHasher, A: Allocator + Clone> Rodeo<K, S, A> {
         let Some(key) = K::try_from_usize(self.list.len()) else {
             return Err(LassoError::new(LassoErrorKind::KeySpaceExhaustion));
         };
-        self.index.reserve_one(&self.list, &self.hasher)?;
+        self.index.reserve_in_order(&self.list, &self.hasher)?;
         self.list.push_static(text)?;
         self.index.insert_reserved(hash, key);
         Ok(key)
