@@ -16,5 +16,6 @@ pub mod Places
 pub mod Lined
 pub mod Reading
 pub mod Called
+pub mod CallerLaws
 pub mod Alike
 pub mod Desks
