@@ -6,6 +6,7 @@ mod MachineSteps
 pub mod WalkWords
 pub mod Opened
 pub mod PenOut
+pub mod PensApart
 pub mod Histories
 pub mod Tickets
 pub mod Words
