@@ -5,7 +5,7 @@
 -- position that has it, and a search that found none shows that no position has it: so its answer is the
 -- text's position in the list. Such an index stays whole when a new text goes last and its position is
 -- entered under the text's hash.
-use Rattle.std.proofs.Common.{◌≡◌, ◌≢◌, ℕ, zero, suc, ◌<◌, ◌⊎◌, ◌↔◌, List, [], ◌∷◌, ◌++◌, Bool, true, false, cond, Option, Some, None, IfSome, IfNone, length, take, drop, slice_get, get_or, refl, sym, ap, ◌∙◌, subst, inl, inr, arith}
+use Rattle.std.proofs.Common.{◌≡◌, ◌≢◌, ℕ, zero, suc, ◌+◌, ◌<◌, ◌⊎◌, ◌↔◌, List, [], ◌∷◌, ◌++◌, Bool, true, false, cond, Option, Some, None, IfSome, IfNone, length, take, drop, slice_get, get_or, refl, sym, ap, ◌∙◌, subst, inl, inr, arith}
 use Rattle.std.specs.List.{position_or_len}
 use Rattle.std.specs.Str.{bytes_eq}
 use Rattle.std.proofs.lemmas.Bool.{cases_lt, cases_Bool, lt-ltb, le-ltb, true≢false}
@@ -15,16 +15,17 @@ use Rattle.std.proofs.lemmas.Option.{slice_get_within, slice_get-get_or, get_or_
 use Rattle.std.proofs.lemmas.Map.Keys.{apart_from_distinct, IsDistinct-from_apart}
 use Rattle.std.proofs.lemmas.Slice.Eq.{bytes_eq-Decides}
 use Rattle.lasso_parts.specs.Texts.{Text, position_of, IsDistinct}
-use Rattle.lasso_parts.specs.Index.{Holds, HoldsNone, IsFiled, IsFiledAnywhere, StaysFiled, IsIndexOf}
+use Rattle.lasso_parts.specs.Index.{Table, used, Holds, HoldsNone, IsFiled, IsFiledAnywhere, StaysFiled, IsIndexOf}
 use Rattle.lasso_parts.proofs.TextLemmas.{distinct_push}
 
 -- ---- filed under a list
 
 -- an index that holds nothing is filed under any list
-pub IsFiled-from_none : (xs : List (Option ℕ)) → HoldsNone xs → IsFiledAnywhere xs
-IsFiled-from_none xs none hash_of texts = record {
+pub IsFiled-from_none : (table : Table) → HoldsNone table.slots → IsFiledAnywhere table
+IsFiled-from_none table none hash_of texts = record {
   in_list = λ j n e. absurd (none n (j, e));
   reached = λ j n t e g. absurd (none n (j, e));
+  tagged = λ j n t e g. absurd (none n (j, e));
 }
 
 pub slice_get-append_left : {A : Type 0} (xs ys : List A) (n : ℕ) → n < length xs → slice_get (xs ++ ys) n ≡ slice_get xs n
@@ -37,10 +38,11 @@ slice_get_push [] y = refl
 slice_get_push (x ∷ xs) y = slice_get_push xs y
 
 -- an index stays filed when the list grows
-pub IsFiled-append : (hash_of : Text → ℕ) (texts more : List Text) (xs : List (Option ℕ)) → IsFiled hash_of texts xs → IsFiled hash_of (texts ++ more) xs
-IsFiled-append hash_of texts more xs filed = record {
+pub IsFiled-append : (hash_of : Text → ℕ) (texts more : List Text) (table : Table) → IsFiled hash_of texts table → IsFiled hash_of (texts ++ more) table
+IsFiled-append hash_of texts more table filed = record {
   in_list = λ j n e. let l = filed.in_list j n e in omega (arith, length-append texts more);
   reached = λ j n t e g. filed.reached j n t e (sym (slice_get-append_left texts more n (filed.in_list j n e)) ∙ g);
+  tagged = λ j n t e g. filed.tagged j n t e (sym (slice_get-append_left texts more n (filed.in_list j n e)) ∙ g);
 }
 
 -- ---- positions in a distinct list
@@ -102,33 +104,41 @@ absent_before texts i text distinct at =
 -- ---- the index of a whole list
 
 -- what a search answers in the index of a whole list is the text's position
-pub position_found : (hash_of : Text → ℕ) (texts : List Text) (xs : List (Option ℕ)) (text : Text) (r : Option ℕ) → IsIndexOf hash_of texts xs → IfSome r (λ n. Holds xs n × (slice_get texts n ≡ Some text)) → IfNone r ((n : ℕ) → Holds xs n → slice_get texts n ≢ Some text) → r ≡ position_of texts text
-position_found hash_of texts xs text None whole found missing = sym (position_of_none texts text (λ n l. missing n ((whole.holds n).1 l)))
-position_found hash_of texts xs text (Some n) whole found missing = sym (position_of_at texts text n whole.distinct found.1)
+pub position_found : (hash_of : Text → ℕ) (texts : List Text) (table : Table) (text : Text) (r : Option ℕ) → IsIndexOf hash_of texts table → IfSome r (λ n. Holds table.slots n × (slice_get texts n ≡ Some text)) → IfNone r ((n : ℕ) → Holds table.slots n → slice_get texts n ≢ Some text) → r ≡ position_of texts text
+position_found hash_of texts table text None whole found missing = sym (position_of_none texts text (λ n l. missing n ((whole.holds n).1 l)))
+position_found hash_of texts table text (Some n) whole found missing = sym (position_of_at texts text n whole.distinct found.1)
+
+used_none : (xs : List (Option ℕ)) → HoldsNone xs → used xs ≡ 0
+used_none [] none = refl
+used_none (None ∷ xs) none = used_none xs (λ n h. none n (suc h.0, h.1))
+used_none (Some n ∷ xs) none = absurd (none n (0, refl))
 
 -- an index that holds nothing is that of the empty list
-pub IsIndexOf-nil : (hash_of : Text → ℕ) (xs : List (Option ℕ)) → HoldsNone xs → IsIndexOf hash_of [] xs
-IsIndexOf-nil hash_of xs none = record {
-  filed = IsFiled-from_none xs none hash_of [];
+pub IsIndexOf-nil : (hash_of : Text → ℕ) (table : Table) → HoldsNone table.slots → IsIndexOf hash_of [] table
+IsIndexOf-nil hash_of table none = record {
+  filed = IsFiled-from_none table none hash_of [];
   holds = λ n. (λ h. absurd (none n h), λ l. absurd (omega arith));
+  once = used_none table.slots none;
   distinct = IsDistinct-from_apart bytes_eq [] (λ i j d below inside. absurd (omega arith));
 }
 
 -- an index stays that of the list when it makes room
-pub IsIndexOf-reserved : (hash_of : Text → ℕ) (texts : List Text) (old new : List (Option ℕ)) → IsIndexOf hash_of texts old → IsFiled hash_of texts new → ((n : ℕ) → Holds new n ↔ Holds old n) → IsIndexOf hash_of texts new
-IsIndexOf-reserved hash_of texts old new whole filed same = record {
+pub IsIndexOf-reserved : (hash_of : Text → ℕ) (texts : List Text) (old new : Table) → IsIndexOf hash_of texts old → IsFiled hash_of texts new → ((n : ℕ) → Holds new.slots n ↔ Holds old.slots n) → used new.slots ≡ used old.slots → IsIndexOf hash_of texts new
+IsIndexOf-reserved hash_of texts old new whole filed same counted = record {
   filed = filed;
   holds = λ n. (λ h. (whole.holds n).0 ((same n).0 h), λ l. (same n).1 ((whole.holds n).1 l));
+  once = counted ∙ whole.once;
   distinct = whole.distinct;
 }
 
 -- a new text goes last in the list, and its position is entered under the text's hash
-pub IsIndexOf-push : (hash_of : Text → ℕ) (texts : List Text) (text : Text) (hash n : ℕ) (old new : List (Option ℕ)) → IsIndexOf hash_of texts old → position_of texts text ≡ None → n ≡ length texts → hash ≡ hash_of text → ((m : ℕ) → Holds new m ↔ (Holds old m ⊎ (m ≡ n))) → StaysFiled hash n old new → IsIndexOf hash_of (texts ++ text ∷ []) new
-IsIndexOf-push hash_of texts text hash n old new whole absent last hashed held stays = record {
+pub IsIndexOf-push : (hash_of : Text → ℕ) (texts : List Text) (text : Text) (hash n : ℕ) (old new : Table) → IsIndexOf hash_of texts old → position_of texts text ≡ None → n ≡ length texts → hash ≡ hash_of text → ((m : ℕ) → Holds new.slots m ↔ (Holds old.slots m ⊎ (m ≡ n))) → used new.slots ≡ used old.slots + 1 → StaysFiled hash n old new → IsIndexOf hash_of (texts ++ text ∷ []) new
+IsIndexOf-push hash_of texts text hash n old new whole absent last hashed held more stays = record {
   filed = stays hash_of (texts ++ text ∷ []) text (IsFiled-append hash_of texts (text ∷ []) old whole.filed) (ap (slice_get (texts ++ text ∷ [])) last ∙ slice_get_push texts text) hashed;
   holds = λ m. (
     λ h. elim ((held m).0 h) [ inl w ↦ let l = (whole.holds m).0 w in omega (arith, length_push texts text) | inr e ↦ omega (arith, length_push texts text) ],
     λ l. (held m).1 (elim (cases_lt m (length texts)) [ inl b ↦ inl ((whole.holds m).1 b) | inr b ↦ inr (omega (arith, length_push texts text)) ]),
   );
+  once = more ∙ ap (λ k. k + 1) whole.once ∙ sym (length_push texts text);
   distinct = distinct_push texts text whole.distinct absent;
 }

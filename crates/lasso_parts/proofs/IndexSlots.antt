@@ -1,8 +1,9 @@
 -- What the slots of a table hold, before and after a key goes into an empty one.
 --
--- A key that goes into an empty slot changes that slot alone: a range that was full stays full, so each
--- search that got to a slot still gets there, and the new key is got to where the search for its hash ended.
--- So the table holds one position more, has one slot more in use, and stays filed.
+-- A key that goes into an empty slot changes that slot and its tag alone: a range that was full stays full, so
+-- each search that got to a slot still gets there, and the new key is got to where the search for its hash ended.
+-- So the table holds one position more, has one slot more in use, and stays filed. A search may pass over a
+-- slot whose tag differs from that of its hash: had the slot the text, the tag would be that of the text's hash.
 use Rattle.std.proofs.Common.{◌≡◌, ◌≢◌, ℕ, zero, suc, false, ◌+◌, ◌^◌, ◌<◌, ◌≤◌, ◌⊎◌, ◌↔◌, List, [], ◌∷◌, Option, Some, None, length, slice_get, set, replicate, refl, sym, ap, ◌∙◌, subst, inl, inr, arith}
 use Rattle.std.specs.Option.{option_map}
 use Rattle.std.proofs.lemmas.Bool.{cases_lt, cases_eq}
@@ -12,8 +13,8 @@ use Rattle.std.specs.Str.{bytes_eq}
 use Rattle.std.proofs.lemmas.Bool.{true≢false}
 use Rattle.std.proofs.lemmas.Slice.Eq.{bytes_eq-Decides}
 use Rattle.lasso_parts.specs.Texts.{Text}
-use Rattle.lasso_parts.specs.Index.{slot, used, home, Holds, IsFull, Reaches, IsFiled, StaysFiled, load_limit, room}
-use Rattle.lasso_parts.specs.IndexTable.{Misses, IsSlotCount, IsTable}
+use Rattle.lasso_parts.specs.Index.{Table, slot, used, home, tag_at, tag_of, Holds, IsFull, Reaches, Retags, IsFiled, StaysFiled, load_limit, room}
+use Rattle.lasso_parts.specs.IndexTable.{Misses, HaveTag, IsEntered, IsSlotCount, IsTable}
 
 -- ---- slots
 
@@ -121,55 +122,77 @@ module _ (xs : List (Option ℕ)) (at m : ℕ) (inside : at < length xs) (free :
       | inr e ↦ (at, get_or-set_same xs at (Some m) None inside ∙ ap Some (sym e))
     ]
 
-  pub IsFiled-set : (hash_of : Text → ℕ) (texts : List Text) (text : Text) → IsFiled hash_of texts xs → slice_get texts m ≡ Some text → Reaches xs (home (length xs) (hash_of text)) at → IsFiled hash_of texts (set xs at (Some m))
-  IsFiled-set hash_of texts text f here r = record {
-    in_list = λ j n e. elim (slot_cases j) [
+-- ---- the same beside the tags: position m goes into the empty slot `at`, which gets a tag
+
+module _ (old new : Table) (at m tag : ℕ) (inside : at < length old.slots) (free : slot old.slots at ≡ None) (put : new.slots ≡ set old.slots at (Some m)) (retagged : Retags old new at tag) where
+  new_cases : (j : ℕ) → ((j ≡ at) × (slot new.slots j ≡ Some m)) ⊎ ((j ≢ at) × (slot new.slots j ≡ slot old.slots j))
+  new_cases j = subst (λ xs. ((j ≡ at) × (slot xs j ≡ Some m)) ⊎ ((j ≢ at) × (slot xs j ≡ slot old.slots j))) (sym put) (slot_cases old.slots at m inside free j)
+
+  new_reached : (a j : ℕ) → Reaches old.slots (home (length old.slots) a) j → Reaches new.slots (home (length new.slots) a) j
+  new_reached a j r =
+      subst (λ xs. Reaches xs (home (length xs) a) j) (sym put) (subst (λ k. Reaches (set old.slots at (Some m)) (home k a) j) (sym (length-set old.slots at (Some m))) (Reaches-set old.slots at m inside free _ j r))
+
+  IsFiled-set : (hash_of : Text → ℕ) (texts : List Text) (text : Text) → IsFiled hash_of texts old → slice_get texts m ≡ Some text → Reaches old.slots (home (length old.slots) (hash_of text)) at → tag ≡ tag_of (hash_of text) → IsFiled hash_of texts new
+  IsFiled-set hash_of texts text f here r tagged = record {
+    in_list = λ j n e. elim (new_cases j) [
       | inl w ↦ subst (λ k. k < length texts) (same_Some m n (sym w.1 ∙ e)) (slice_get_within texts m text here)
       | inr w ↦ f.in_list j n (sym w.1 ∙ e)
     ];
-    reached = λ j n t e g. subst (λ k. Reaches (set xs at (Some m)) (home k (hash_of t)) j) (sym (length-set xs at (Some m))) (elim (slot_cases j) [
+    reached = λ j n t e g. new_reached (hash_of t) j (elim (new_cases j) [
       | inl w ↦
           let same : text ≡ t = same_Some text t (sym here ∙ ap (slice_get texts) (same_Some m n (sym w.1 ∙ e)) ∙ g) in
-          Reaches-set _ j (subst (λ i. Reaches xs (home (length xs) (hash_of t)) i) (sym w.0) (subst (λ s. Reaches xs (home (length xs) (hash_of s)) at) same r))
-      | inr w ↦ Reaches-set _ j (f.reached j n t (sym w.1 ∙ e) g)
+          subst (λ i. Reaches old.slots (home (length old.slots) (hash_of t)) i) (sym w.0) (subst (λ s. Reaches old.slots (home (length old.slots) (hash_of s)) at) same r)
+      | inr w ↦ f.reached j n t (sym w.1 ∙ e) g
     ]);
+    tagged = λ j n t e g. elim (new_cases j) [
+      | inl w ↦
+          let same : text ≡ t = same_Some text t (sym here ∙ ap (slice_get texts) (same_Some m n (sym w.1 ∙ e)) ∙ g) in
+          ap (tag_at new) w.0 ∙ retagged.0 ∙ tagged ∙ ap (λ s. tag_of (hash_of s)) same
+      | inr w ↦ retagged.1 j w.0 ∙ f.tagged j n t (sym w.1 ∙ e) g
+    ];
   }
 
--- ---- a key is put in the slots of a table that has room
-pub IsTable-set : (xs : List (Option ℕ)) (count at m : ℕ) → IsTable xs count → at < length xs → slot xs at ≡ None → used xs < load_limit (length xs) → IsTable (set xs at (Some m)) (count + 1)
-IsTable-set xs count at m t l free h = let e = used-set xs at m l free in record {
-  slots = subst IsSlotCount (sym (length-set xs at (Some m))) t.slots;
-  counted = ap (λ k. k + 1) t.counted ∙ sym e;
-  load = subst (λ k. used (set xs at (Some m)) ≤ load_limit k) (sym (length-set xs at (Some m))) (omega (arith, e));
-}
+  pub entered : IsEntered m old new
+  entered = record {
+    holds = λ n. subst (λ xs. Holds xs n ↔ (Holds old.slots n ⊎ (n ≡ m))) (sym put) (Holds-set old.slots at m inside free n);
+    more = ap used put ∙ used-set old.slots at m inside free;
+    len = ap length put ∙ length-set old.slots at (Some m);
+  }
 
--- ---- the same of the slots of the value v
+  pub StaysFiled-entered : (hash : ℕ) → tag ≡ tag_of hash → Reaches old.slots (home (length old.slots) hash) at → StaysFiled hash m old new
+  StaysFiled-entered hash tagged r hash_of texts text filed here hashed =
+      IsFiled-set hash_of texts text filed here (subst (λ h. Reaches old.slots (home (length old.slots) h) at) hashed r) (tagged ∙ ap tag_of hashed)
 
-module _ (slots new v : List (Option ℕ)) (view : slots ≡ v) (at m : ℕ) (bound : at < length slots) (free : slot slots at ≡ None) (put : new ≡ set slots at (Some m)) where
-  put_is : new ≡ set v at (Some m)
-  put_is = put ∙ ap (λ xs. set xs at (Some m)) view
+-- ---- a position goes into a table that has room, which is the value v
 
-  put_inside : at < length v
-  put_inside = subst (λ xs. at < length xs) view bound
+module _ (table new v : Table) (view : table ≡ v) (m : ℕ) (more : IsEntered m table new) where
+  pub entered_in : IsEntered m v new
+  entered_in = subst (λ (t : Table). IsEntered m t new) view more
 
-  put_free : slot v at ≡ None
-  put_free = ap (λ xs. slot xs at) (sym view) ∙ free
+  pub IsTable-entered : (count : ℕ) → IsTable table.slots count → 0 < room v.slots → IsTable new.slots (count + 1)
+  IsTable-entered count t r =
+      let some : 0 < room table.slots = subst (λ (w : Table). 0 < room w.slots) (sym view) r in
+      let limit : load_limit (length new.slots) ≡ load_limit (length table.slots) = ap load_limit more.len in
+      record {
+        slots = subst IsSlotCount (sym more.len) t.slots;
+        counted = ap (λ k. k + 1) t.counted ∙ sym more.more;
+        load = omega (arith, more.more);
+      }
 
-  pub Holds-put : (n : ℕ) → Holds new n ↔ (Holds v n ⊎ (n ≡ m))
-  Holds-put n = subst (λ xs. Holds xs n ↔ (Holds v n ⊎ (n ≡ m))) (sym put_is) (Holds-set v at m put_inside put_free n)
-
-  pub IsTable-put : (count : ℕ) → IsTable slots count → 0 < room v → IsTable new (count + 1)
-  IsTable-put count t r = subst (λ xs. IsTable xs (count + 1)) (sym put_is) (IsTable-set v count at m (subst (λ xs. IsTable xs count) view t) put_inside put_free (omega arith))
-
-  pub room-put : 0 < room v → room new + 1 ≡ room v
-  room-put r = ap (λ xs. room xs + 1) put_is ∙ (let e = used-set v at m put_inside put_free in let l = length-set v at (Some m) in let f : load_limit (length (set v at (Some m))) ≡ load_limit (length v) = ap load_limit l in omega arith)
+  pub room-entered : 0 < room v.slots → room new.slots + 1 ≡ room v.slots
+  room-entered r = let e = entered_in in let limit : load_limit (length new.slots) ≡ load_limit (length v.slots) = ap load_limit e.len in omega (arith, e.more)
 
   -- the count of keys fits where that of slots does
-  pub used_fits : (count : ℕ) → IsTable slots count → length slots < 2 ^ 64 → count + 1 < 2 ^ 64
-  used_fits count t small = let e = used-set slots at m bound free in let l = used_le (set slots at (Some m)) in let n = length-set slots at (Some m) in omega (arith, t.counted)
+  pub used_fits : (count : ℕ) → IsTable table.slots count → length table.slots < 2 ^ 64 → count + 1 < 2 ^ 64
+  used_fits count t small = let l = used_le new.slots in omega (arith, t.counted, more.more, more.len)
 
-  pub StaysFiled-put : (hash : ℕ) → Reaches slots (home (length slots) hash) at → StaysFiled hash m v new
-  StaysFiled-put hash r hash_of texts text filed here hashed =
-      let r1 = subst (λ h. Reaches slots (home (length slots) h) at) hashed r in
-      let r2 = subst (λ xs. Reaches xs (home (length xs) (hash_of text)) at) view r1 in
-      subst (λ xs. IsFiled hash_of texts xs) (sym put_is) (IsFiled-set v at m put_inside put_free hash_of texts text filed here r2)
+-- ---- a search by tags
+
+-- a slot with another tag lacks the text
+pub misses_by_tag : (texts : List Text) (text : Text) (tag found : ℕ) (table : Table) (j : ℕ) → HaveTag texts text tag table → found ≡ tag_at table j → found ≢ tag → (n : ℕ) → slot table.slots j ≡ Some n → slice_get texts n ≢ Some text
+misses_by_tag texts text tag found table j have is other n e there = other (is ∙ have j n e there)
+
+-- the tag of the hash is that of each slot that has the text
+pub have_tag : (hash_of : Text → ℕ) (texts : List Text) (text : Text) (hash tag : ℕ) (table v : Table) → table ≡ v → IsFiled hash_of texts v → hash ≡ hash_of text → tag ≡ tag_of hash → HaveTag texts text tag table
+have_tag hash_of texts text hash tag table v view filed hashed tagged j n e g =
+    (subst (λ (t : Table). IsFiled hash_of texts t) (sym view) filed).tagged j n text e g ∙ sym (tagged ∙ ap tag_of hashed)

@@ -1,23 +1,24 @@
 -- Tables of empty slots, and tables that are filled anew.
 --
--- The old slots are read from the first to the last, and each key among them goes into the slot where the
--- search for its hash ends. As far as the old slots were read, the new table holds the same positions, has
--- as many slots in use, and is filed; there is always an empty slot, since it has more slots than keys.
--- A count of slots is 0 or a power of two from 8 on, so doubling it makes room.
-use Rattle.std.proofs.Common.{◌≡◌, ℕ, zero, suc, ◌+◌, ◌*◌, ◌^◌, ◌<◌, ◌≤◌, ◌⊎◌, ◌↔◌, List, [], ◌∷◌, ◌++◌, Option, Some, None, length, slice_get, set, take, replicate, refl, sym, ap, ◌∙◌, subst, inl, inr, arith, zero-add, add-zero}
+-- Keys are entered one after another, each in the slot where the search for its hash ends. They are those of the
+-- old slots, from the first to the last, or those of the list's positions, from the first to the last. As far as
+-- these were gone through, the new table holds them, has as many slots in use, and is filed; there is always an
+-- empty slot, since it has more slots than keys. A count of slots is 0 or a power of two from 8 on, so doubling
+-- it makes room.
+use Rattle.std.proofs.Common.{◌≡◌, ℕ, zero, suc, ◌+◌, ◌*◌, ◌^◌, ◌<◌, ◌≤◌, ◌⊎◌, ◌↔◌, List, [], ◌∷◌, ◌++◌, Option, Some, None, length, take, replicate, refl, sym, ap, ◌∙◌, subst, inl, inr, arith, zero-add, add-zero}
 use Rattle.std.proofs.lemmas.Bool.{cases_lt}
 use Rattle.std.proofs.lemmas.List.{get_or_past, get_or-replicate, length-replicate, get_or_append_left, get_or_push, length_push, take_more, take_all}
 use Rattle.std.proofs.lemmas.Option.{same_Some, none-some}
 use Rattle.lasso_parts.specs.Texts.{Text}
-use Rattle.lasso_parts.specs.Index.{slot, used, home, Holds, Reaches, load_limit, room, grown_count}
-use Rattle.lasso_parts.specs.IndexTable.{Refilled, IsSlotCount, IsTable}
+use Rattle.lasso_parts.specs.Index.{Table, slot, used, Holds, IsFiled, IsIndexOf, load_limit, room, grown_count}
+use Rattle.lasso_parts.specs.IndexTable.{IsEntered, IsRefilled, IsSlotCount, IsTable}
 use Rattle.std.proofs.lemmas.Grind.{common_steps}
 use Rattle.std.proofs.lemmas.Bool.Decides.{nat_tests}
 use lib.Pow.{pow_mono}
-use Rattle.lasso_parts.proofs.IndexSlots.{slot_within, slot-nil, used-set, used-replicate, IsFiled-set, Holds-set}
+use Rattle.lasso_parts.proofs.IndexSlots.{slot_within, used-replicate}
 use Rattle.lasso_parts.proofs.IndexLaws.{IsFiled-from_none}
 
--- ---- a table is filled anew
+-- ---- empty slots, and one slot more
 
 pub Holds-replicate : (n k : ℕ) → Holds (replicate n None) k → ⊥
 Holds-replicate n k h = elim (cases_lt h.0 n) [
@@ -47,38 +48,31 @@ Holds-push xs o n = (to, from) where
     | inr e ↦ (length xs, get_or_push xs o None (length xs) refl ∙ e)
   ]
 
-module _ (hash_of : Text → ℕ) (texts : List Text) (slots old : List (Option ℕ)) (i : ℕ) (inside : i < length old) (r : Refilled hash_of texts slots (take i old)) where
-  seen_more : (o : Option ℕ) → slot old i ≡ o → take (i + 1) old ≡ take i old ++ o ∷ []
-  seen_more o e = take_more old i None inside ∙ ap (λ w. take i old ++ w ∷ []) e
+-- ---- the old slots are read one after another
 
-  -- the next old slot is empty
-  pub Refilled-skip : (new : List (Option ℕ)) → slot old i ≡ None → new ≡ slots → Refilled hash_of texts new (take (i + 1) old)
-  Refilled-skip new e same =
-      let s = seen_more None e in
-      subst (λ xs. Refilled hash_of texts xs (take (i + 1) old)) (sym same) (record {
-        filed = r.filed;
-        holds = λ n. (
-          λ h. subst (λ xs. Holds xs n) (sym s) ((Holds-push (take i old) None n).1 (inl ((r.holds n).0 h))),
-          λ h. elim ((Holds-push (take i old) None n).0 (subst (λ xs. Holds xs n) s h)) [ inl w ↦ (r.holds n).1 w | inr w ↦ absurd (none-some n w) ],
-        );
-        same_used = r.same_used ∙ sym (used-push (take i old) None ∙ add-zero _) ∙ ap used (sym s);
-      })
+module _ (old : List (Option ℕ)) (i : ℕ) (inside : i < length old) where
+  seen : (o : Option ℕ) → slot old i ≡ o → take (i + 1) old ≡ take i old ++ o ∷ []
+  seen o e = take_more old i None inside ∙ ap (λ w. take i old ++ w ∷ []) e
 
-  -- the next old slot has a position, which is put in a free slot
-  pub Refilled-put : (m : ℕ) (text : Text) (hash at : ℕ) (new : List (Option ℕ)) → slot old i ≡ Some m → slice_get texts m ≡ Some text → hash ≡ hash_of text → at < length slots → slot slots at ≡ None → Reaches slots (home (length slots) hash) at → new ≡ set slots at (Some m) → Refilled hash_of texts new (take (i + 1) old)
-  Refilled-put m text hash at new e here hashed l free reached put =
-      let s = seen_more (Some m) e in
-      let reached_hash = subst (λ h. Reaches slots (home (length slots) h) at) hashed reached in
-      subst (λ xs. Refilled hash_of texts xs (take (i + 1) old)) (sym put) (record {
-        filed = IsFiled-set slots at m l free hash_of texts text r.filed here reached_hash;
-        holds = λ n. (
-          λ h. subst (λ xs. Holds xs n) (sym s) ((Holds-push (take i old) (Some m) n).1
-              (elim ((Holds-set slots at m l free n).0 h) [ inl w ↦ inl ((r.holds n).0 w) | inr w ↦ inr (ap Some (sym w)) ])),
-          λ h. (Holds-set slots at m l free n).1
-              (elim ((Holds-push (take i old) (Some m) n).0 (subst (λ xs. Holds xs n) s h)) [ inl w ↦ inl ((r.holds n).1 w) | inr w ↦ inr (sym (same_Some _ _ w)) ]),
-        );
-        same_used = used-set slots at m l free ∙ ap (λ k. k + 1) r.same_used ∙ sym (used-push (take i old) (Some m)) ∙ ap used (sym s);
-      })
+  -- the next slot is empty
+  pub holds_skip : slot old i ≡ None → (n : ℕ) → Holds (take (i + 1) old) n ↔ Holds (take i old) n
+  holds_skip e n = (
+    λ h. elim ((Holds-push (take i old) None n).0 (subst (λ xs. Holds xs n) (seen None e) h)) [ inl w ↦ w | inr w ↦ absurd (none-some n w) ],
+    λ h. subst (λ xs. Holds xs n) (sym (seen None e)) ((Holds-push (take i old) None n).1 (inl h)),
+  )
+
+  pub used_skip : slot old i ≡ None → used (take (i + 1) old) ≡ used (take i old)
+  used_skip e = ap used (seen None e) ∙ used-push (take i old) None ∙ add-zero _
+
+  -- the next slot has a position
+  pub holds_more : (m : ℕ) → slot old i ≡ Some m → (n : ℕ) → Holds (take (i + 1) old) n ↔ (Holds (take i old) n ⊎ (n ≡ m))
+  holds_more m e n = (
+    λ h. elim ((Holds-push (take i old) (Some m) n).0 (subst (λ xs. Holds xs n) (seen (Some m) e) h)) [ inl w ↦ inl w | inr w ↦ inr (sym (same_Some _ _ w)) ],
+    λ h. subst (λ xs. Holds xs n) (sym (seen (Some m) e)) ((Holds-push (take i old) (Some m) n).1 (elim h [ inl w ↦ inl w | inr w ↦ inr (ap Some (sym w)) ])),
+  )
+
+  pub used_more : (m : ℕ) → slot old i ≡ Some m → used (take (i + 1) old) ≡ used (take i old) + 1
+  used_more m e = ap used (seen (Some m) e) ∙ used-push (take i old) (Some m)
 
 -- fewer keys were seen than there are slots
 pub used-take-le : (i : ℕ) (xs : List (Option ℕ)) → used (take i xs) ≤ used xs
@@ -87,17 +81,43 @@ used-take-le (suc i) [] = omega arith
 used-take-le (suc i) (None ∷ xs) = used-take-le i xs
 used-take-le (suc i) (Some n ∷ xs) = let h = used-take-le i xs in omega arith
 
-pub Refilled-start : (hash_of : Text → ℕ) (texts : List Text) (xs : List (Option ℕ)) (n : ℕ) → xs ≡ replicate n None → Refilled hash_of texts xs []
-Refilled-start hash_of texts xs n e =
-    let none : (k : ℕ) → Holds xs k → ⊥ = λ k h. Holds-replicate n k (subst (λ ys. Holds ys k) e h) in
+-- ---- a table is refilled
+
+pub IsRefilled-start : (hash_of : Text → ℕ) (texts : List Text) (table : Table) (n : ℕ) (IsHeld : ℕ → Type 0) → table.slots ≡ replicate n None → ((k : ℕ) → IsHeld k → ⊥) → IsRefilled hash_of texts table IsHeld 0
+IsRefilled-start hash_of texts table n IsHeld e nothing =
+    let none : (k : ℕ) → Holds table.slots k → ⊥ = λ k h. Holds-replicate n k (subst (λ ys. Holds ys k) e h) in
     record {
-      filed = IsFiled-from_none xs none hash_of texts;
-      holds = λ k. (λ h. absurd (none k h), λ h. absurd (slot-nil h.0 k h.1));
-      same_used = ap used e ∙ used-replicate n;
+      filed = IsFiled-from_none table none hash_of texts;
+      holds = λ k. (λ h. absurd (none k h), λ h. absurd (nothing k h));
+      counted = ap used e ∙ used-replicate n;
     }
 
-pub Refilled-end : (hash_of : Text → ℕ) (texts : List Text) (xs old : List (Option ℕ)) (i : ℕ) → Refilled hash_of texts xs (take i old) → length old ≤ i → Refilled hash_of texts xs old
-Refilled-end hash_of texts xs old i r h = subst (λ seen. Refilled hash_of texts xs seen) (take_all i old h) r
+-- one position more was entered
+pub IsRefilled-more : (hash_of : Text → ℕ) (texts : List Text) (table new : Table) (IsHeld IsNext : ℕ → Type 0) (count next m : ℕ) → IsRefilled hash_of texts table IsHeld count → IsEntered m table new → (IsFiled hash_of texts table → IsFiled hash_of texts new) → ((n : ℕ) → IsNext n ↔ (IsHeld n ⊎ (n ≡ m))) → next ≡ count + 1 → IsRefilled hash_of texts new IsNext next
+IsRefilled-more hash_of texts table new IsHeld IsNext count next m r e filed held c = record {
+  filed = filed r.filed;
+  holds = λ n. (
+    λ h. (held n).1 (elim ((e.holds n).0 h) [ inl w ↦ inl ((r.holds n).0 w) | inr w ↦ inr w ]),
+    λ h. (e.holds n).1 (elim ((held n).0 h) [ inl w ↦ inl ((r.holds n).1 w) | inr w ↦ inr w ]),
+  );
+  counted = e.more ∙ ap (λ k. k + 1) r.counted ∙ sym c;
+}
+
+-- no position was entered
+pub IsRefilled-same : (hash_of : Text → ℕ) (texts : List Text) (table new : Table) (IsHeld IsNext : ℕ → Type 0) (count next : ℕ) → IsRefilled hash_of texts table IsHeld count → new ≡ table → ((n : ℕ) → IsNext n ↔ IsHeld n) → next ≡ count → IsRefilled hash_of texts new IsNext next
+IsRefilled-same hash_of texts table new IsHeld IsNext count next r same held c = subst (λ (t : Table). IsRefilled hash_of texts t IsNext next) (sym same) (record {
+  filed = r.filed;
+  holds = λ n. (λ h. (held n).1 ((r.holds n).0 h), λ h. (r.holds n).1 ((held n).0 h));
+  counted = r.counted ∙ sym c;
+})
+
+-- all old slots were read
+pub IsRefilled-end : (hash_of : Text → ℕ) (texts : List Text) (table : Table) (old : List (Option ℕ)) (i : ℕ) → IsRefilled hash_of texts table (Holds (take i old)) (used (take i old)) → length old ≤ i → IsRefilled hash_of texts table (Holds old) (used old)
+IsRefilled-end hash_of texts table old i r h = subst (λ xs. IsRefilled hash_of texts table (Holds xs) (used xs)) (take_all i old h) r
+
+-- the next position of the list
+pub below_more : (i m n : ℕ) → m ≡ i → (n < i + 1) ↔ ((n < i) ⊎ (n ≡ m))
+below_more i m n e = (λ l. elim (cases_lt n i) [ inl b ↦ inl b | inr b ↦ inr (omega (arith, e)) ], λ h. elim h [ inl b ↦ omega arith | inr w ↦ omega (arith, e, w) ])
 
 -- ---- counts of slots
 
@@ -128,14 +148,6 @@ room-replicate xs n e =
     let k : load_limit (length xs) ≡ load_limit n = ap load_limit (ap length e ∙ length-replicate n None) in
     omega arith
 
--- a table is filled anew, with the same count of keys
-pub IsTable-refilled : (hash_of : Text → ℕ) (texts : List Text) (xs ys : List (Option ℕ)) (count n : ℕ) → IsTable xs count → Refilled hash_of texts ys xs → length ys ≡ n → IsSlotCount n → used xs ≤ load_limit n → IsTable ys count
-IsTable-refilled hash_of texts xs ys count n t r l s h = record {
-  slots = subst IsSlotCount (sym l) s;
-  counted = t.counted ∙ sym r.same_used;
-  load = subst (λ k. used ys ≤ load_limit k) (sym l) (subst (λ k. k ≤ load_limit n) (sym r.same_used) h);
-}
-
 -- the count of slots after a growth
 grown_from_none : (count keys : ℕ) → keys ≤ load_limit 0 → count ≡ grown_count 0 → IsSlotCount count × (keys < load_limit count)
 grown_from_none count keys high e = (subst IsSlotCount (sym e) IsSlotCount-eight, omega (arith, e))
@@ -149,30 +161,46 @@ grown len count keys s high e = elim (IsSlotCount-cases len s) [
   | inr b ↦ let d : count ≡ 2 * len = e ∙ doubled len b in (subst IsSlotCount (sym d) (IsSlotCount-double len s (omega arith)), omega (arith, d))
 ]
 
--- a new table has room
-pub room-refilled : (hash_of : Text → ℕ) (texts : List Text) (xs ys : List (Option ℕ)) (n : ℕ) → Refilled hash_of texts ys xs → length ys ≡ n → used xs < load_limit n → 0 < room ys
-room-refilled hash_of texts xs ys n r l h =
-    let a : used ys < load_limit n = subst (λ k. k < load_limit n) (sym r.same_used) h in
-    let b : used ys < load_limit (length ys) = subst (λ k. used ys < load_limit k) (sym l) a in
-    omega arith
-
 -- all slots were emptied
-pub cleared : (slots new v : List (Option ℕ)) (count : ℕ) → slots ≡ v → new ≡ replicate (length slots) None → IsTable slots count → IsTable new 0 × (room v ≤ room new)
-cleared slots new v count view e t =
-    let l : length slots ≡ length v = ap length view in
-    let f : load_limit (length slots) ≡ load_limit (length v) = ap load_limit l in
-    let r : room new ≡ load_limit (length slots) = room-replicate new (length slots) e in
-    (IsTable-replicate new (length slots) t.slots e, omega arith)
+pub cleared : (table v : Table) (new : List (Option ℕ)) (count : ℕ) → table ≡ v → new ≡ replicate (length table.slots) None → IsTable table.slots count → IsTable new 0 × (room v.slots ≤ room new)
+cleared table v new count view e t =
+    let l : length table.slots ≡ length v.slots = ap (λ (w : Table). length w.slots) view in
+    let f : load_limit (length table.slots) ≡ load_limit (length v.slots) = ap load_limit l in
+    let r : room new ≡ load_limit (length table.slots) = room-replicate new (length table.slots) e in
+    (IsTable-replicate new (length table.slots) t.slots e, omega arith)
 
--- the new table in the place of a full one
-pub next_table : (hash_of : Text → ℕ) (texts : List Text) (slots new v : List (Option ℕ)) (keys count : ℕ) → IsTable slots keys → slots ≡ v → count ≡ grown_count (length slots) → length new ≡ count → Refilled hash_of texts new slots
-    → IsTable new keys × (0 < room new) × ((n : ℕ) → Holds new n ↔ Holds v n) × (length new ≡ grown_count (length v))
-next_table hash_of texts slots new v keys count table view size long r =
-    let t = subst (λ xs. IsTable xs keys) view table in
-    let q = subst (λ xs. Refilled hash_of texts new xs) view r in
-    let sized : count ≡ grown_count (length v) = size ∙ ap (λ xs. grown_count (length xs)) view in
-    let c : keys ≡ used v = t.counted in
-    let high : keys ≤ load_limit (length v) = omega (arith, t.load, c) in
-    let g = grown (length v) count keys t.slots high sized in
-    let few : used v < load_limit count = omega (arith, g.1, c) in
-    (IsTable-refilled hash_of texts v new keys count t q long g.0 (omega arith), room-refilled hash_of texts v new count q long few, q.holds, long ∙ sized)
+-- the new table, of which as many slots are used, in the place of a full one
+module _ (table new v : Table) (keys count : ℕ) (full : IsTable table.slots keys) (view : table ≡ v) (size : count ≡ grown_count (length table.slots)) (long : length new.slots ≡ count) (counted : used new.slots ≡ keys) where
+  sized : count ≡ grown_count (length v.slots)
+  sized = size ∙ ap (λ (w : Table). grown_count (length w.slots)) view
+
+  grown_here : IsSlotCount count × (keys < load_limit count)
+  grown_here = grown (length table.slots) count keys full.slots (omega (arith, full.load, full.counted)) size
+
+  pub next_table : IsTable new.slots keys
+  next_table = record {
+    slots = subst IsSlotCount (sym long) grown_here.0;
+    counted = sym counted;
+    load = let g = grown_here.1 in subst (λ k. used new.slots ≤ load_limit k) (sym long) (omega (arith, counted));
+  }
+
+  pub next_room : 0 < room new.slots
+  next_room = let g = grown_here.1 in let l : load_limit (length new.slots) ≡ load_limit count = ap load_limit long in omega (arith, counted)
+
+  pub next_count : length new.slots ≡ grown_count (length v.slots)
+  next_count = long ∙ sized
+
+-- what was entered from the old slots is what they hold
+pub next_holds : (hash_of : Text → ℕ) (texts : List Text) (table new v : Table) → table ≡ v → IsRefilled hash_of texts new (Holds table.slots) (used table.slots) → (n : ℕ) → Holds new.slots n ↔ Holds v.slots n
+next_holds hash_of texts table new v view r n = subst (λ (w : Table). Holds new.slots n ↔ Holds w.slots n) view (r.holds n)
+
+-- the first positions, as many as the index held, are all of a list that it is the index of
+pub next_index : (hash_of : Text → ℕ) (texts : List Text) (table new v : Table) (keys : ℕ) → table ≡ v → IsTable table.slots keys → IsIndexOf hash_of texts v → IsRefilled hash_of texts new (λ n. n < keys) keys → IsIndexOf hash_of texts new
+next_index hash_of texts table new v keys view full whole r =
+    let all : keys ≡ length texts = full.counted ∙ ap (λ (w : Table). used w.slots) view ∙ whole.once in
+    record {
+      filed = r.filed;
+      holds = λ n. subst (λ k. Holds new.slots n ↔ (n < k)) all (r.holds n);
+      once = r.counted ∙ all;
+      distinct = whole.distinct;
+    }

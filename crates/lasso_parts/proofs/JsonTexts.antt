@@ -9,7 +9,7 @@ use Rattle.serde_json.specs.Find.{as_str}
 use Rattle.serde_json.specs.View.{view, items_view}
 use Rattle.serde_json.specs.declared.value.Value.{Value}
 use Rattle.lasso_parts.specs.Texts.{Text}
-use Rattle.lasso_parts.specs.Index.{HoldsNone, IsIndexOf}
+use Rattle.lasso_parts.specs.Index.{Table, HoldsNone, IsIndexOf}
 use Rattle.lasso_parts.proofs.IndexLaws.{IsIndexOf-nil}
 use Rattle.lasso_parts.specs.Json.{key_or_too_many, and_then, item_text, new_text, earlier, next_text, read_items}
 use Rattle.lasso_parts.specs.declared.json.error.JsonError.{JsonError}
@@ -45,5 +45,5 @@ faulty_item key_at distinct all seen items i v fault left inside at h =
     ∙ ap (λ (r : Result Text JsonError). and_then r (λ text. read_items key_at distinct (seen ++ text ∷ []) (items_view (drop (suc i) items)))) h)
 
 -- an empty index is that of the empty list
-pub whole_nil : (hash_of : Text → ℕ) (texts : List Text) (xs : List (Option ℕ)) → texts ≡ [] → HoldsNone xs → IsIndexOf hash_of texts xs
-whole_nil hash_of texts xs empty none = subst (λ (ts : List Text). IsIndexOf hash_of ts xs) (sym empty) (IsIndexOf-nil hash_of xs none)
+pub whole_nil : (hash_of : Text → ℕ) (texts : List Text) (table : Table) → texts ≡ [] → HoldsNone table.slots → IsIndexOf hash_of texts table
+whole_nil hash_of texts table empty none = subst (λ (ts : List Text). IsIndexOf hash_of ts table) (sym empty) (IsIndexOf-nil hash_of table none)

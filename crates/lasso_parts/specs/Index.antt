@@ -1,7 +1,24 @@
 -- An open-addressed table of positions in a list of texts: a slot is empty or holds one position.
 -- Callers cite `Holds`, `IsFiled`, `room` and `IsIndexOf`.
-use Rattle.std.specs.Prelude.{◌≡◌, ◌≢◌, ℕ, ◌+◌, ◌-◌, ◌*◌, ◌/◌, ◌<◌, ◌≤◌, ◌⊎◌, ◌↔◌, List, Option, Some, None, [], ◌∷◌, length, slice_index_or, slice_get, bit_and, nat_eq, if◌then◌else◌}
+use Rattle.std.specs.Prelude.{◌≡◌, ◌≢◌, ℕ, ◌+◌, ◌-◌, ◌*◌, ◌/◌, ◌%◌, ◌^◌, ◌<◌, ◌≤◌, ◌⊎◌, ◌↔◌, List, Option, Some, None, [], ◌∷◌, length, slice_index_or, slice_get, bit_and, nat_eq, if◌then◌else◌}
 use Rattle.lasso_parts.specs.Texts.{Text, IsDistinct}
+
+-- slots, each empty or with a position, and a tag for each
+pub record Table : Type 0 where
+  pub slots : List (Option ℕ)
+  pub tags : List ℕ
+
+-- the tag of the slot of that number
+abbrev pub tag_at : Table → ℕ → ℕ
+tag_at table j = slice_index_or table.tags j 0
+
+-- the tag of a text with that hash, which is not 0: the seven bits below its four highest, and one more
+abbrev pub tag_of : ℕ → ℕ
+tag_of hash = hash / 2 ^ 53 % 128 + 1
+
+-- one slot got that tag, and the others kept theirs
+abbrev pub Retags : Table → Table → ℕ → ℕ → Type 0
+Retags old new at tag = (tag_at new at ≡ tag) × ((j : ℕ) → j ≢ at → tag_at new j ≡ tag_at old j)
 
 -- the slot of that number, counted from 0
 abbrev pub slot : List (Option ℕ) → ℕ → Option ℕ
@@ -49,23 +66,25 @@ IsFull xs from to = (j : ℕ) → from ≤ j → j < to → slot xs j ≢ None
 abbrev pub Reaches : List (Option ℕ) → ℕ → ℕ → Type 0
 Reaches xs a j = ((a ≤ j) × IsFull xs a j) ⊎ ((j < a) × IsFull xs a (length xs) × IsFull xs 0 j)
 
--- each position that the index holds is in the list, and the search for its text gets there
-pub record IsFiled (hash_of : Text → ℕ) (texts : List Text) (xs : List (Option ℕ)) : Type 0 where
-  pub in_list : (j n : ℕ) → slot xs j ≡ Some n → n < length texts
-  pub reached : (j n : ℕ) (text : Text) → slot xs j ≡ Some n → slice_get texts n ≡ Some text → Reaches xs (home (length xs) (hash_of text)) j
+-- each position that the index holds is in the list, the search for its text gets there, and finds the tag of its hash
+pub record IsFiled (hash_of : Text → ℕ) (texts : List Text) (table : Table) : Type 0 where
+  pub in_list : (j n : ℕ) → slot table.slots j ≡ Some n → n < length texts
+  pub reached : (j n : ℕ) (text : Text) → slot table.slots j ≡ Some n → slice_get texts n ≡ Some text → Reaches table.slots (home (length table.slots) (hash_of text)) j
+  pub tagged : (j n : ℕ) (text : Text) → slot table.slots j ≡ Some n → slice_get texts n ≡ Some text → tag_at table j ≡ tag_of (hash_of text)
 
 -- the index is filed under any list and any hasher, as one that holds nothing is
-abbrev pub IsFiledAnywhere : List (Option ℕ) → Type 0
-IsFiledAnywhere xs = (hash_of : Text → ℕ) (texts : List Text) → IsFiled hash_of texts xs
+abbrev pub IsFiledAnywhere : Table → Type 0
+IsFiledAnywhere table = (hash_of : Text → ℕ) (texts : List Text) → IsFiled hash_of texts table
 
 -- an index that got the position n under a hash is filed under each list that has a text of that hash at n,
 -- where it was before
-abbrev pub StaysFiled : ℕ → ℕ → List (Option ℕ) → List (Option ℕ) → Type 0
+abbrev pub StaysFiled : ℕ → ℕ → Table → Table → Type 0
 StaysFiled hash n old new =
     (hash_of : Text → ℕ) (texts : List Text) (text : Text) → IsFiled hash_of texts old → slice_get texts n ≡ Some text → hash ≡ hash_of text → IsFiled hash_of texts new
 
--- the index of a whole list: its texts are distinct, and exactly their positions are held
-pub record IsIndexOf (hash_of : Text → ℕ) (texts : List Text) (xs : List (Option ℕ)) : Type 0 where
-  pub filed : IsFiled hash_of texts xs
-  pub holds : (n : ℕ) → Holds xs n ↔ (n < length texts)
+-- the index of a whole list: its texts are distinct, and exactly their positions are held, once each
+pub record IsIndexOf (hash_of : Text → ℕ) (texts : List Text) (table : Table) : Type 0 where
+  pub filed : IsFiled hash_of texts table
+  pub holds : (n : ℕ) → Holds table.slots n ↔ (n < length texts)
+  pub once : used table.slots ≡ length texts
   pub distinct : IsDistinct texts

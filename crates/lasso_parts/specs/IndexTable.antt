@@ -1,7 +1,7 @@
 -- What the table of an index keeps, and what the functions below its public calls say.
-use Rattle.std.specs.Prelude.{◌≡◌, ◌≢◌, ℕ, ◌^◌, ◌<◌, ◌≤◌, ◌⊎◌, ◌↔◌, List, Option, Some, length, slice_get}
+use Rattle.std.specs.Prelude.{◌≡◌, ◌≢◌, ℕ, ◌+◌, ◌^◌, ◌<◌, ◌≤◌, ◌⊎◌, ◌↔◌, List, Option, Some, length, slice_get}
 use Rattle.lasso_parts.specs.Texts.{Text}
-use Rattle.lasso_parts.specs.Index.{slot, used, load_limit, Holds, IsFiled}
+use Rattle.lasso_parts.specs.Index.{Table, slot, used, load_limit, tag_at, Holds, IsFiled}
 
 -- no slot, or a power of two of them
 abbrev pub IsSlotCount : ℕ → Type 0
@@ -21,8 +21,18 @@ AllInList texts xs = (j n : ℕ) → slot xs j ≡ Some n → n < length texts
 abbrev pub Misses : List Text → Text → List (Option ℕ) → ℕ → ℕ → Type 0
 Misses texts text xs from to = (j n : ℕ) → from ≤ j → j < to → slot xs j ≡ Some n → slice_get texts n ≢ Some text
 
--- the positions xs of a new table are those of the old slots that were seen
-pub record Refilled (hash_of : Text → ℕ) (texts : List Text) (xs seen : List (Option ℕ)) : Type 0 where
-  pub filed : IsFiled hash_of texts xs
-  pub holds : (n : ℕ) → Holds xs n ↔ Holds seen n
-  pub same_used : used xs ≡ used seen
+-- a slot that has the text has the tag
+abbrev pub HaveTag : List Text → Text → ℕ → Table → Type 0
+HaveTag texts text tag table = (j n : ℕ) → slot table.slots j ≡ Some n → slice_get texts n ≡ Some text → tag_at table j ≡ tag
+
+-- a position went into a slot that was empty
+pub record IsEntered (n : ℕ) (old new : Table) : Type 0 where
+  pub holds : (m : ℕ) → Holds new.slots m ↔ (Holds old.slots m ⊎ (m ≡ n))
+  pub more : used new.slots ≡ used old.slots + 1
+  pub len : length new.slots ≡ length old.slots
+
+-- a new table of the list holds these positions, in so many slots
+pub record IsRefilled (hash_of : Text → ℕ) (texts : List Text) (table : Table) (IsHeld : ℕ → Type 0) (count : ℕ) : Type 0 where
+  pub filed : IsFiled hash_of texts table
+  pub holds : (n : ℕ) → Holds table.slots n ↔ IsHeld n
+  pub counted : used table.slots ≡ count

@@ -1,9 +1,9 @@
 //! `Index`, from a text to its position in a list that another owns.
-ghost use Rattle.std.specs.Prelude.{◌≡◌, ◌≢◌, ℕ, ◌+◌, ◌<◌, ◌≤◌, ◌⊎◌, ◌↔◌, length, slice_get, Some, IfSome, IfNone, OnOk, OnErr, IfOk, IfErr, IsOk};
+ghost use Rattle.std.specs.Prelude.{◌≡◌, ◌≢◌, ℕ, ◌+◌, ◌<◌, ◌≤◌, ◌⊎◌, ◌↔◌, length, slice_get, Some, IfSome, IfNone, OnOk, OnErr, IsTrue, IfOk, IfErr, IsOk};
 ghost use Rattle.lasso_parts.specs.declared.util.LassoErrorKind.TheVariants.{FailedAllocation};
 ghost use Rattle.lasso_parts.specs.Hashing.{text_hash};
 ghost use Rattle.lasso_parts.specs.Index.{Holds, HoldsNone, IsFiled, IsFiledAnywhere, StaysFiled, IsIndexOf, IsFewest, used, room, grown_count};
-ghost use Rattle.lasso_parts.specs.Texts.{position_of};
+ghost use Rattle.lasso_parts.specs.Texts.{position_of, Fits};
 
 #[cfg(test)]
 mod hashers;
@@ -20,16 +20,16 @@ use crate::util::{LassoError, LassoErrorKind, LassoResult};
 pub use hashing::hash_text;
 use key_slots::KeySlots;
 pub use lists::Texts;
-use probe::{Scan, free_slot, home_slot, scan_slots};
+use probe::{Scan, home_slot, scan_slots, tag_of};
 use std::alloc::Allocator;
 use std::hash::BuildHasher;
 use std::marker::Model;
-use table::{grown_slots, rebuilt, slot_count};
+use table::{enter, grown_slots, rebuilt, rebuilt_in_order, slot_count};
 
 /// An index from a text to its position: an open-addressed table of keys alone. It has no slots, or a
 /// power of two of them, and at most three quarters are filled. A key's text is read from the list that
 /// the caller shows; the index must be filed under that list and the hasher shown. Contracts see it as
-/// the list of its slots, each empty or a position.
+/// the list of its slots, each empty or a position, and a tag for each.
 #[derive(Drop)]
 pub struct Index<K: Key, A: Allocator> {
     slots: KeySlots<K, A>,
@@ -37,22 +37,21 @@ pub struct Index<K: Key, A: Allocator> {
 }
 
 impl<K: Key, A: Allocator> Model for Index<K, A> {
-    ghost use Rattle.std.specs.Prelude.{ℕ, List, Option};
-
-    ghost Value = { List (Option ℕ) };
-
+    ghost use Rattle.lasso_parts.specs.Index.{Table};
     ghost use Rattle.lasso_parts.specs.IndexTable.{IsTable};
+
+    ghost Value = { Table };
 
     ghost view = { λ s. s.slots };
 
-    ghost invariant = { λ s. IsTable s.slots s.used };
+    ghost invariant = { λ s. IsTable s.slots.slots s.used };
 }
 
 impl<K: Key, A: Allocator> Index<K, A> {
     /// An index that holds nothing. It has no slots and takes no memory.
     pub fn new(alloc: A) -> Self
-        ensures slots { length result ≡ 0 }
-        ensures empty { HoldsNone result }
+        ensures slots { length result.slots ≡ 0 }
+        ensures empty { HoldsNone result.slots }
         ensures filed { IsFiledAnywhere result }
     {
         Index {
@@ -67,9 +66,9 @@ impl<K: Key, A: Allocator> Index<K, A> {
     pub fn with_capacity(alloc: A, capacity: usize) -> LassoResult<Self>
     where
         A: Clone,
-        ensures room { IfOk result (λ index. capacity ≤ room index) }
-        ensures slots { IfOk result (λ index. IsFewest capacity (length index)) }
-        ensures empty { IfOk result HoldsNone }
+        ensures room { IfOk result (λ index. capacity ≤ room index.slots) }
+        ensures slots { IfOk result (λ index. IsFewest capacity (length index.slots)) }
+        ensures empty { IfOk result (λ index. HoldsNone index.slots) }
         ensures filed { IfOk result IsFiledAnywhere }
         ensures refused { IfErr result (λ error. error ≡ FailedAllocation) }
     {
@@ -85,8 +84,8 @@ impl<K: Key, A: Allocator> Index<K, A> {
     #[inline]
     pub fn find<T: Texts, S: BuildHasher>(&self, texts: &T, hasher: &S, text: &str) -> Option<usize>
         requires { IsFiled (text_hash S.build_hasher S.Hasher.write S.Hasher.finish hasher.now) (T.list texts.now) self.now }
-        ensures found { IfSome result (λ n. Holds self.now n × (slice_get (T.list texts.now) n ≡ Some text.now)) }
-        ensures missing { IfNone result ((n : ℕ) → Holds self.now n → slice_get (T.list texts.now) n ≢ Some text.now) }
+        ensures found { IfSome result (λ n. Holds self.now.slots n × (slice_get (T.list texts.now) n ≡ Some text.now)) }
+        ensures missing { IfNone result ((n : ℕ) → Holds self.now.slots n → slice_get (T.list texts.now) n ≢ Some text.now) }
         ensures whole { let hash_of = text_hash S.build_hasher S.Hasher.write S.Hasher.finish hasher.now in IsIndexOf hash_of (T.list texts.now) self.now → result ≡ position_of (T.list texts.now) text.now }
     {
         self.find_hashed(texts, hasher, hash_text(hasher, text), text)
@@ -104,8 +103,8 @@ impl<K: Key, A: Allocator> Index<K, A> {
     ) -> Option<usize>
         requires hashed { hash ≡ text_hash S.build_hasher S.Hasher.write S.Hasher.finish hasher.now text.now }
         requires filed { IsFiled (text_hash S.build_hasher S.Hasher.write S.Hasher.finish hasher.now) (T.list texts.now) self.now }
-        ensures found { IfSome result (λ n. Holds self.now n × (slice_get (T.list texts.now) n ≡ Some text.now)) }
-        ensures missing { IfNone result ((n : ℕ) → Holds self.now n → slice_get (T.list texts.now) n ≢ Some text.now) }
+        ensures found { IfSome result (λ n. Holds self.now.slots n × (slice_get (T.list texts.now) n ≡ Some text.now)) }
+        ensures missing { IfNone result ((n : ℕ) → Holds self.now.slots n → slice_get (T.list texts.now) n ≢ Some text.now) }
         ensures whole { let hash_of = text_hash S.build_hasher S.Hasher.write S.Hasher.finish hasher.now in IsIndexOf hash_of (T.list texts.now) self.now → result ≡ position_of (T.list texts.now) text.now }
     {
         self.search(texts, hasher, hash, text)
@@ -122,20 +121,19 @@ impl<K: Key, A: Allocator> Index<K, A> {
     where
         A: Clone,
         requires { IsFiled (text_hash S.build_hasher S.Hasher.write S.Hasher.finish hasher.now) (T.list texts.now) self.old }
-        ensures room { OnOk result (0 < room self.new) }
-        ensures same { (n : ℕ) → Holds self.new n ↔ Holds self.old n }
-        ensures used { used self.new ≡ used self.old }
+        ensures room { OnOk result (0 < room self.new.slots) }
+        ensures same { (n : ℕ) → Holds self.new.slots n ↔ Holds self.old.slots n }
+        ensures used { used self.new.slots ≡ used self.old.slots }
         ensures filed { IsFiled (text_hash S.build_hasher S.Hasher.write S.Hasher.finish hasher.now) (T.list texts.now) self.new }
-        ensures enough { 0 < room self.old → IsOk result × (self.new ≡ self.old) }
-        ensures grown { room self.old ≡ 0 → OnOk result (length self.new ≡ grown_count (length self.old)) }
+        ensures enough { 0 < room self.old.slots → IsOk result × (self.new ≡ self.old) }
+        ensures grown { room self.old.slots ≡ 0 → OnOk result (length self.new.slots ≡ grown_count (length self.old.slots)) }
         ensures refused { IfErr result (λ error. error ≡ FailedAllocation) }
         ensures unchanged { OnErr result (self.new ≡ self.old) }
     {
-        let len = self.slots.len();
-        if self.used < len / 4 * 3 {
+        if self.has_room() {
             return Ok(());
         }
-        let Some(count) = grown_slots(len) else {
+        let Some(count) = grown_slots(self.slots.len()) else {
             return Err(LassoError::new(LassoErrorKind::FailedAllocation));
         };
         let alloc = self.slots.allocator().clone()?;
@@ -144,30 +142,69 @@ impl<K: Key, A: Allocator> Index<K, A> {
         Ok(())
     }
 
+    /// The same for the index of a whole list, whose keys stand for the positions 0, 1, 2 and so on: where the
+    /// table grows they are entered again in that order, so that texts which lie side by side are read one
+    /// after another.
+    pub fn reserve_in_order<T: Texts, S: BuildHasher>(
+        &mut self,
+        texts: &T,
+        hasher: &S,
+    ) -> LassoResult<()>
+    where
+        A: Clone,
+        requires whole { IsIndexOf (text_hash S.build_hasher S.Hasher.write S.Hasher.finish hasher.now) (T.list texts.now) self.old }
+        requires fits { Fits K.key_at (length (T.list texts.now)) }
+        ensures room { OnOk result (0 < room self.new.slots) }
+        ensures whole { IsIndexOf (text_hash S.build_hasher S.Hasher.write S.Hasher.finish hasher.now) (T.list texts.now) self.new }
+        ensures enough { 0 < room self.old.slots → IsOk result × (self.new ≡ self.old) }
+        ensures grown { room self.old.slots ≡ 0 → OnOk result (length self.new.slots ≡ grown_count (length self.old.slots)) }
+        ensures refused { IfErr result (λ error. error ≡ FailedAllocation) }
+        ensures unchanged { OnErr result (self.new ≡ self.old) }
+    {
+        if self.has_room() {
+            return Ok(());
+        }
+        let Some(count) = grown_slots(self.slots.len()) else {
+            return Err(LassoError::new(LassoErrorKind::FailedAllocation));
+        };
+        let alloc = self.slots.allocator().clone()?;
+        let slots = rebuilt_in_order(alloc, count, self.used, texts, hasher)?;
+        self.slots = slots;
+        Ok(())
+    }
+
     /// Enters the key under the hash of its text. There must be room, which `reserve_one` makes; so it
     /// can't be refused.
     #[inline]
     pub fn insert_reserved(&mut self, hash: u64, key: K)
-        requires { 0 < room self.old }
-        ensures holds { (n : ℕ) → Holds self.new n ↔ (Holds self.old n ⊎ (n ≡ K.number key)) }
-        ensures room { room self.new + 1 ≡ room self.old }
-        ensures slots { length self.new ≡ length self.old }
+        requires { 0 < room self.old.slots }
+        ensures holds { (n : ℕ) → Holds self.new.slots n ↔ (Holds self.old.slots n ⊎ (n ≡ K.number key)) }
+        ensures used { used self.new.slots ≡ used self.old.slots + 1 }
+        ensures room { room self.new.slots + 1 ≡ room self.old.slots }
+        ensures slots { length self.new.slots ≡ length self.old.slots }
         ensures filed { StaysFiled hash (K.number key) self.old self.new }
     {
-        let at = free_slot(&self.slots, hash);
-        self.slots.put(at, key);
+        enter(&mut self.slots, hash, key);
         self.used += 1;
     }
 
     /// Empties the slots and keeps them: the index then holds nothing.
     pub fn clear(&mut self)
-        ensures empty { HoldsNone self.new }
-        ensures slots { length self.new ≡ length self.old }
-        ensures room { room self.old ≤ room self.new }
+        ensures empty { HoldsNone self.new.slots }
+        ensures slots { length self.new.slots ≡ length self.old.slots }
+        ensures room { room self.old.slots ≤ room self.new.slots }
         ensures filed { IsFiledAnywhere self.new }
     {
         self.slots.clear();
         self.used = 0;
+    }
+
+    // Whether there is room for one key more.
+    #[inline]
+    fn has_room(&self) -> bool
+        ensures { IsTrue result ↔ (0 < room self.now.slots) }
+    {
+        self.used < self.slots.len() / 4 * 3
     }
 
     // What `find_hashed` answers, from the slots: first from the home slot up, then below it.
@@ -181,18 +218,19 @@ impl<K: Key, A: Allocator> Index<K, A> {
     ) -> Option<usize>
         requires hashed { hash ≡ text_hash S.build_hasher S.Hasher.write S.Hasher.finish hasher.now text.now }
         requires filed { IsFiled (text_hash S.build_hasher S.Hasher.write S.Hasher.finish hasher.now) (T.list texts.now) self.now }
-        ensures found { IfSome result (λ n. Holds self.now n × (slice_get (T.list texts.now) n ≡ Some text.now)) }
-        ensures missing { IfNone result ((n : ℕ) → Holds self.now n → slice_get (T.list texts.now) n ≢ Some text.now) }
+        ensures found { IfSome result (λ n. Holds self.now.slots n × (slice_get (T.list texts.now) n ≡ Some text.now)) }
+        ensures missing { IfNone result ((n : ℕ) → Holds self.now.slots n → slice_get (T.list texts.now) n ≢ Some text.now) }
     {
         let count = self.slots.len();
         if count == 0 {
             return None;
         }
         let home = home_slot(hash, count);
-        match scan_slots(&self.slots, texts, text, home, count) {
+        let tag = tag_of(hash);
+        match scan_slots(&self.slots, texts, text, tag, home, count) {
             Scan::Found(position) => Some(position),
             Scan::Ended => None,
-            Scan::Passed => match scan_slots(&self.slots, texts, text, 0, home) {
+            Scan::Passed => match scan_slots(&self.slots, texts, text, tag, 0, home) {
                 Scan::Found(position) => Some(position),
                 Scan::Ended => None,
                 Scan::Passed => None,

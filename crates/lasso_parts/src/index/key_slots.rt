@@ -1,47 +1,41 @@
-//! The slots of a table, each empty or with a key: one bit a slot beside the keys.
-ghost use Rattle.std.specs.Prelude.{◌≡◌, ◌*◌, ◌<◌, ◌≤◌, ◌⊎◌, [], None, Some, length, replicate, slice_set, option_map, IfOk};
+//! The slots of a table, each empty or with a key: a byte a slot beside the keys, its tag.
+ghost use Rattle.std.specs.Prelude.{◌≡◌, ◌≢◌, ℕ, ◌<◌, ◌≤◌, ◌⊎◌, [], None, Some, length, replicate, slice_set, slice_index_or, option_map, IfOk};
 ghost use Rattle.std.specs.Vec.{vec_capacity};
-ghost use Rattle.lasso_parts.specs.Index.{slot};
+ghost use Rattle.lasso_parts.specs.Index.{slot, Retags};
 
 use crate::keys::Key;
 use std::alloc::{AllocError, Allocator};
 use std::marker::Model;
 
-// How many slots have their bits in one word.
-const WORD_SLOTS: usize = 64;
-
-/// The slots of a table. Entry j is empty where its bit is 0, which is bit `j % 64` of word `j / 64`; what
-/// stands at its place among the keys then says nothing. No key of the type is at hand before the first
-/// one is put, so the keys are made then, in memory that was had before. Contracts see the position that
-/// each slot's key stands for.
+/// The slots of a table. Slot j is empty where its tag is 0; what stands at its place among the keys then
+/// says nothing. There are keys where there is memory for a slot. No key of the type is at hand before the
+/// first one is put, so they are made then, in memory that was had before. Contracts see the position that
+/// each slot's key stands for, and the tags.
 #[derive(Drop)]
 pub struct KeySlots<K: Key, A: Allocator> {
-    keys: Vec<K, A>,
-    words: Option<Vec<u64, A>>,
-    count: usize,
+    tags: Vec<u8, A>,
+    keys: Option<Vec<K, A>>,
 }
 
 impl<K: Key, A: Allocator> Model for KeySlots<K, A> {
-    ghost use Rattle.std.specs.Prelude.{ℕ, List, Option};
-    ghost use Rattle.std.specs.Vec.{vec_capacity};
-    ghost use Rattle.lasso_parts.specs.KeySlots.{words_of, shown, AreKept};
+    ghost use Rattle.lasso_parts.specs.Index.{Table};
+    ghost use Rattle.lasso_parts.specs.KeySlots.{keys_of, key_room, table_of, IsLaidOut};
 
-    ghost Value = { List (Option ℕ) };
+    ghost Value = { Table };
 
-    ghost view = { λ s. shown K.number (words_of s.words) s.keys.items s.count };
+    ghost view = { λ s. table_of K.number s.tags.items (keys_of s.keys) };
 
-    ghost invariant = { λ s. AreKept (words_of s.words) s.keys.items (vec_capacity s.keys) s.count };
+    ghost invariant = { λ s. IsLaidOut s.tags.items (keys_of s.keys) (key_room s.keys) };
 }
 
 impl<K: Key, A: Allocator> KeySlots<K, A> {
     /// No slots, which take no memory.
     pub fn new(alloc: A) -> Self
-        ensures { result ≡ [] }
+        ensures { result.slots ≡ [] }
     {
         KeySlots {
-            keys: Vec::new(alloc),
-            words: None,
-            count: 0,
+            tags: Vec::new(alloc),
+            keys: None,
         }
     }
 
@@ -49,79 +43,94 @@ impl<K: Key, A: Allocator> KeySlots<K, A> {
     pub fn empty(alloc: A, count: usize) -> Result<Self, AllocError>
     where
         A: Clone,
-        ensures { IfOk result (λ slots. slots ≡ replicate count None) }
+        ensures { IfOk result (λ table. table.slots ≡ replicate count None) }
     {
-        let words = zero_words(alloc.clone()?, count)?;
+        let tags = zero_tags(alloc.clone()?, count)?;
         let keys = Vec::with_capacity(alloc, count)?;
         Ok(KeySlots {
-            keys,
-            words: Some(words),
-            count,
+            tags,
+            keys: Some(keys),
         })
     }
 
     /// How many slots there are.
     #[inline]
     pub fn len(&self) -> usize
-        ensures { result ≡ length self.now }
+        ensures { result ≡ length self.now.slots }
     {
-        self.count
+        self.tags.len()
     }
 
     /// The allocator of their memory.
     pub fn allocator(&self) -> &A {
-        self.keys.allocator()
+        self.tags.allocator()
+    }
+
+    /// The tags of the slots. That of an empty slot is 0.
+    #[inline]
+    pub fn tags(&self) -> &[u8]
+        ensures value { result.now ≡ self.now.tags }
+        ensures len { length result.now ≡ length self.now.slots }
+        ensures empty { (j : ℕ) → j < length self.now.slots → slice_index_or self.now.tags j 0 ≡ 0 → slot self.now.slots j ≡ None }
+        ensures filled { (j : ℕ) → j < length self.now.slots → slice_index_or self.now.tags j 0 ≢ 0 → slot self.now.slots j ≢ None }
+    {
+        self.tags.as_slice()
+    }
+
+    /// The key of a slot that is not empty.
+    #[inline]
+    pub fn key(&self, j: usize) -> K
+        requires { slot self.now.slots j ≢ None }
+        ensures { slot self.now.slots j ≡ Some (K.number result) }
+    {
+        let Some(keys) = &self.keys else {
+            unreachable!();
+        };
+        keys[j]
     }
 
     /// The key of the slot, or `None` where it is empty.
-    #[inline]
     pub fn get(&self, j: usize) -> Option<K>
-        requires { j < length self.now }
-        ensures { option_map K.number result ≡ slot self.now j }
+        requires { j < length self.now.slots }
+        ensures { option_map K.number result ≡ slot self.now.slots j }
     {
-        let Some(words) = &self.words else {
-            return None;
-        };
-        if words[j / WORD_SLOTS] >> (j % WORD_SLOTS) & 1 == 0 {
+        if self.tags()[j] == 0 {
             return None;
         }
-        Some(self.keys[j])
+        Some(self.key(j))
     }
 
-    /// Puts the key in the slot.
+    /// Puts the key in the slot, with a tag that is not 0.
     #[inline]
-    pub fn put(&mut self, j: usize, key: K)
-        requires { j < length self.old }
-        ensures { self.new ≡ slice_set self.old j (Some (K.number key)) }
+    pub fn put(&mut self, j: usize, tag: u8, key: K)
+        requires inside { j < length self.old.slots }
+        requires filled { 0 < tag }
+        ensures slots { self.new.slots ≡ slice_set self.old.slots j (Some (K.number key)) }
+        ensures tags { Retags self.old self.new j tag }
     {
-        let Some(words) = &mut self.words else {
+        let Some(keys) = &mut self.keys else {
             unreachable!();
         };
-        make_keys(&mut self.keys, self.count, key);
-        self.keys[j] = key;
-        words[j / WORD_SLOTS] |= 1 << (j % WORD_SLOTS);
+        make_keys(keys, self.tags.len(), key);
+        keys[j] = key;
+        self.tags[j] = tag;
     }
 
     /// Empties each slot. The memory stays.
     pub fn clear(&mut self)
-        ensures { self.new ≡ replicate (length self.old) None }
+        ensures { self.new.slots ≡ replicate (length self.old.slots) None }
     {
-        let Some(words) = &mut self.words else {
-            return;
-        };
-        words.fill(0);
+        self.tags.fill(0);
     }
 }
 
-// Words for the bits of so many slots. Each bit is 0.
-fn zero_words<A: Allocator>(alloc: A, count: usize) -> Result<Vec<u64, A>, AllocError>
-    ensures enough { IfOk result (λ words. count ≤ 64 * length words.items) }
-    ensures zero { IfOk result (λ words. words.items ≡ replicate (length words.items) 0) }
+// Tags for so many slots. Each is 0.
+fn zero_tags<A: Allocator>(alloc: A, count: usize) -> Result<Vec<u8, A>, AllocError>
+    ensures { IfOk result (λ tags. tags.items ≡ replicate count 0) }
 {
-    let word_count = count.div_ceil(WORD_SLOTS);
-    let mut words = Vec::with_capacity(alloc, word_count)?;
-    words.resize(word_count, 0)?;
-    Ok(words)
+    let mut tags = Vec::with_capacity(alloc, count)?;
+    tags.resize(count, 0)?;
+    Ok(tags)
 }
 
 // Sees to it that the keys are made.

@@ -1,14 +1,20 @@
 //! The search through the slots of a table: from the slot that a hash names to the last one, and then
 //! from the first.
 ghost use Rattle.std.specs.Prelude.{◌≡◌, ◌<◌, ◌≤◌, ◌^◌, length, None, IfSome, IfNone};
-ghost use Rattle.lasso_parts.specs.Index.{slot, used, home, IsFull, Reaches};
-ghost use Rattle.lasso_parts.specs.IndexTable.{AllInList};
+ghost use Rattle.lasso_parts.specs.Index.{slot, used, home, tag_of, IsFull, Reaches};
+ghost use Rattle.lasso_parts.specs.IndexTable.{AllInList, HaveTag};
 ghost use Rattle.lasso_parts.specs.Scan.{Tells};
 
 use crate::index::key_slots::KeySlots;
 use crate::index::lists::Texts;
 use crate::keys::Key;
 use std::alloc::Allocator;
+
+// How many bits of a hash stand below those of the tag.
+const TAG_SHIFT: u32 = 53;
+
+// How many tags a text may have.
+const TAG_COUNT: u64 = 128;
 
 // What a walk over a range of slots tells.
 pub enum Scan {
@@ -31,28 +37,43 @@ pub fn home_slot(hash: u64, count: usize) -> usize
     hash as usize & (count - 1)
 }
 
-// Looks for the text in the slots from the first index up to the last, which is not among them.
+// The tag of a text with that hash, which is not 0: the seven bits below its four highest, and one more. The
+// lowest bits name the home slot, and the four highest are left to whoever parts texts among several indexes.
+#[inline]
+pub fn tag_of(hash: u64) -> u8
+    ensures value { result ≡ tag_of hash }
+    ensures filled { 0 < result }
+{
+    ((hash >> TAG_SHIFT) % TAG_COUNT) as u8 + 1
+}
+
+// Looks for the text in the slots from the first index up to the last, which is not among them. A slot with
+// another tag than the text's is passed over: neither its key nor that key's text is read.
 #[inline]
 pub fn scan_slots<K: Key, A: Allocator, T: Texts>(
     slots: &KeySlots<K, A>,
     texts: &T,
     text: &str,
+    tag: u8,
     from: usize,
     to: usize,
 ) -> Scan
-    requires in_list { AllInList (T.list texts.now) slots.now }
-    requires range { to ≤ length slots.now }
-    ensures { Tells (T.list texts.now) text.now slots.now from to result }
+    requires in_list { AllInList (T.list texts.now) slots.now.slots }
+    requires tagged { HaveTag (T.list texts.now) text.now tag slots.now }
+    requires filled { 0 < tag }
+    requires range { to ≤ length slots.now.slots }
+    ensures { Tells (T.list texts.now) text.now slots.now.slots from to result }
 {
+    let tags = slots.tags();
     for j in from..to {
-        match slots.get(j) {
-            None => return Scan::Ended,
-            Some(key) => {
-                let position = key.into_usize();
-                if texts.text_at(position) == text {
-                    return Scan::Found(position);
-                }
+        let found = tags[j];
+        if found == tag {
+            let position = slots.key(j).into_usize();
+            if texts.text_at(position) == text {
+                return Scan::Found(position);
             }
+        } else if found == 0 {
+            return Scan::Ended;
         }
     }
     Scan::Passed
@@ -65,12 +86,13 @@ fn first_empty<K: Key, A: Allocator>(
     from: usize,
     to: usize,
 ) -> Option<usize>
-    requires { to ≤ length slots.now }
-    ensures found { IfSome result (λ j. (from ≤ j) × (j < to) × (slot slots.now j ≡ None) × IsFull slots.now from j) }
-    ensures full { IfNone result (IsFull slots.now from to) }
+    requires { to ≤ length slots.now.slots }
+    ensures found { IfSome result (λ j. (from ≤ j) × (j < to) × (slot slots.now.slots j ≡ None) × IsFull slots.now.slots from j) }
+    ensures full { IfNone result (IsFull slots.now.slots from to) }
 {
+    let tags = slots.tags();
     for j in from..to {
-        if slots.get(j).is_none() {
+        if tags[j] == 0 {
             return Some(j);
         }
     }
@@ -80,11 +102,11 @@ fn first_empty<K: Key, A: Allocator>(
 // The empty slot where the search for the hash ends.
 #[inline]
 pub fn free_slot<K: Key, A: Allocator>(slots: &KeySlots<K, A>, hash: u64) -> usize
-    requires { used slots.now < length slots.now }
-    ensures bound { result < length slots.now }
-    ensures small { length slots.now < 2 ^ 64 }
-    ensures free { slot slots.now result ≡ None }
-    ensures reached { Reaches slots.now (home (length slots.now) hash) result }
+    requires { used slots.now.slots < length slots.now.slots }
+    ensures bound { result < length slots.now.slots }
+    ensures small { length slots.now.slots < 2 ^ 64 }
+    ensures free { slot slots.now.slots result ≡ None }
+    ensures reached { Reaches slots.now.slots (home (length slots.now.slots) hash) result }
 {
     let home = home_slot(hash, slots.len());
     if let Some(above) = first_empty(slots, home, slots.len()) {

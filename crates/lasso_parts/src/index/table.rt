@@ -1,13 +1,14 @@
 //! Tables of slots: how many there are, and how a new one gets the keys of another.
 ghost use Rattle.std.specs.Prelude.{◌≡◌, ◌<◌, ◌≤◌, ◌^◌, length, replicate, None, IfSome, IfNone, IfOk};
 ghost use Rattle.lasso_parts.specs.Hashing.{text_hash};
-ghost use Rattle.lasso_parts.specs.Index.{used, load_limit, grown_count, IsFewest};
-ghost use Rattle.lasso_parts.specs.IndexTable.{AllInList, IsSlotCount, Refilled};
+ghost use Rattle.lasso_parts.specs.Index.{used, load_limit, grown_count, Holds, IsFewest, IsFiled, StaysFiled};
+ghost use Rattle.lasso_parts.specs.IndexTable.{AllInList, IsEntered, IsRefilled, IsSlotCount};
+ghost use Rattle.lasso_parts.specs.Texts.{Fits};
 
 use crate::index::hashing::hash_text;
 use crate::index::key_slots::KeySlots;
 use crate::index::lists::Texts;
-use crate::index::probe::free_slot;
+use crate::index::probe::{free_slot, tag_of};
 use crate::keys::Key;
 use std::alloc::{AllocError, Allocator};
 use std::hash::BuildHasher;
@@ -46,6 +47,34 @@ pub fn grown_slots(count: usize) -> Option<usize>
     count.checked_mul(2)
 }
 
+// Enters the key under the hash of its text, in the empty slot where the search for the hash ends.
+#[inline]
+pub fn enter<K: Key, A: Allocator>(slots: &mut KeySlots<K, A>, hash: u64, key: K)
+    requires { used slots.old.slots < length slots.old.slots }
+    ensures entered { IsEntered (K.number key) slots.old slots.new }
+    ensures filed { StaysFiled hash (K.number key) slots.old slots.new }
+    ensures small { length slots.old.slots < 2 ^ 64 }
+{
+    let at = free_slot(slots, hash);
+    slots.put(at, tag_of(hash), key);
+}
+
+// Enters a key of the list, whose text is hashed anew.
+fn enter_again<K: Key, A: Allocator, T: Texts, S: BuildHasher>(
+    slots: &mut KeySlots<K, A>,
+    key: K,
+    texts: &T,
+    hasher: &S,
+)
+    requires in_list { K.number key < length (T.list texts.now) }
+    requires free { used slots.old.slots < length slots.old.slots }
+    ensures entered { IsEntered (K.number key) slots.old slots.new }
+    ensures filed { let hash_of = text_hash S.build_hasher S.Hasher.write S.Hasher.finish hasher.now in IsFiled hash_of (T.list texts.now) slots.old → IsFiled hash_of (T.list texts.now) slots.new }
+{
+    let text = texts.text_at(key.into_usize());
+    enter(slots, hash_text(hasher, text), key);
+}
+
 // Enters the keys of the old slots into the new ones, which are empty.
 fn refill<K: Key, A: Allocator, T: Texts, S: BuildHasher>(
     slots: &mut KeySlots<K, A>,
@@ -53,18 +82,38 @@ fn refill<K: Key, A: Allocator, T: Texts, S: BuildHasher>(
     texts: &T,
     hasher: &S,
 )
-    requires in_list { AllInList (T.list texts.now) old.now }
-    requires empty { slots.old ≡ replicate (length slots.old) None }
-    requires load { used old.now < length slots.old }
-    ensures len { length slots.new ≡ length slots.old }
-    ensures refilled { Refilled (text_hash S.build_hasher S.Hasher.write S.Hasher.finish hasher.now) (T.list texts.now) slots.new old.now }
+    requires in_list { AllInList (T.list texts.now) old.now.slots }
+    requires empty { slots.old.slots ≡ replicate (length slots.old.slots) None }
+    requires load { used old.now.slots < length slots.old.slots }
+    ensures len { length slots.new.slots ≡ length slots.old.slots }
+    ensures refilled { IsRefilled (text_hash S.build_hasher S.Hasher.write S.Hasher.finish hasher.now) (T.list texts.now) slots.new (Holds old.now.slots) (used old.now.slots) }
 {
     for j in 0..old.len() {
         if let Some(key) = old.get(j) {
-            let text = texts.text_at(key.into_usize());
-            let at = free_slot(slots, hash_text(hasher, text));
-            slots.put(at, key);
+            enter_again(slots, key, texts, hasher);
         }
+    }
+}
+
+// Enters the keys of the first positions of the list into slots that are empty, one position after another.
+fn refill_in_order<K: Key, A: Allocator, T: Texts, S: BuildHasher>(
+    slots: &mut KeySlots<K, A>,
+    len: usize,
+    texts: &T,
+    hasher: &S,
+)
+    requires in_list { len ≤ length (T.list texts.now) }
+    requires fits { Fits K.key_at len }
+    requires empty { slots.old.slots ≡ replicate (length slots.old.slots) None }
+    requires load { len < length slots.old.slots }
+    ensures len { length slots.new.slots ≡ length slots.old.slots }
+    ensures refilled { IsRefilled (text_hash S.build_hasher S.Hasher.write S.Hasher.finish hasher.now) (T.list texts.now) slots.new (λ n. n < len) len }
+{
+    for position in 0..len {
+        let Some(key) = K::try_from_usize(position) else {
+            unreachable!();
+        };
+        enter_again(slots, key, texts, hasher);
     }
 }
 
@@ -76,12 +125,31 @@ pub fn rebuilt<K: Key, A: Allocator + Clone, T: Texts, S: BuildHasher>(
     texts: &T,
     hasher: &S,
 ) -> Result<KeySlots<K, A>, AllocError>
-    requires in_list { AllInList (T.list texts.now) old.now }
-    requires load { used old.now < count }
-    ensures len { IfOk result (λ slots. length slots ≡ count) }
-    ensures refilled { let hash_of = text_hash S.build_hasher S.Hasher.write S.Hasher.finish hasher.now in IfOk result (λ slots. Refilled hash_of (T.list texts.now) slots old.now) }
+    requires in_list { AllInList (T.list texts.now) old.now.slots }
+    requires load { used old.now.slots < count }
+    ensures len { IfOk result (λ table. length table.slots ≡ count) }
+    ensures refilled { let hash_of = text_hash S.build_hasher S.Hasher.write S.Hasher.finish hasher.now in IfOk result (λ table. IsRefilled hash_of (T.list texts.now) table (Holds old.now.slots) (used old.now.slots)) }
 {
     let mut slots = KeySlots::empty(alloc, count)?;
     refill(&mut slots, old, texts, hasher);
+    Ok(slots)
+}
+
+// The keys of the first positions of the list in a new table of so many slots.
+pub fn rebuilt_in_order<K: Key, A: Allocator + Clone, T: Texts, S: BuildHasher>(
+    alloc: A,
+    count: usize,
+    len: usize,
+    texts: &T,
+    hasher: &S,
+) -> Result<KeySlots<K, A>, AllocError>
+    requires in_list { len ≤ length (T.list texts.now) }
+    requires fits { Fits K.key_at len }
+    requires load { len < count }
+    ensures len { IfOk result (λ table. length table.slots ≡ count) }
+    ensures refilled { let hash_of = text_hash S.build_hasher S.Hasher.write S.Hasher.finish hasher.now in IfOk result (λ table. IsRefilled hash_of (T.list texts.now) table (λ n. n < len) len) }
+{
+    let mut slots = KeySlots::empty(alloc, count)?;
+    refill_in_order(&mut slots, len, texts, hasher);
     Ok(slots)
 }

@@ -26,11 +26,11 @@ struct Entered<'a, S: BuildHasher + Drop> {
 }
 
 impl<'a, S: BuildHasher + Drop> Model for Entered<'a, S> {
-    ghost use Rattle.std.specs.Prelude.{ℕ, List, Option, map};
+    ghost use Rattle.std.specs.Prelude.{map};
     ghost use Rattle.lasso_parts.specs.Hashing.{text_hash};
-    ghost use Rattle.lasso_parts.specs.Index.{IsFiled};
+    ghost use Rattle.lasso_parts.specs.Index.{Table, IsFiled};
 
-    ghost Value = { List (Option ℕ) };
+    ghost Value = { Table };
 
     ghost view = { λ e. e.index };
 
@@ -128,7 +128,7 @@ fn each_call(rt: HostRuntime) -> Result<(), Fail> {
 }
 
 #[test]
-fn slots_of_three_words(rt: HostRuntime) -> Result<(), Fail> {
+fn tagged_slots(rt: HostRuntime) -> Result<(), Fail> {
     let key = Spur::try_from_usize(7).ok_or("no key")?;
     let mut slots = KeySlots::empty(rt.alloc(), 130)?;
     assert_eq!(rt; slots.len(), 130);
@@ -138,9 +138,9 @@ fn slots_of_three_words(rt: HostRuntime) -> Result<(), Fail> {
             assert!(rt; slots.get(j).is_none(), "slot {j}");
         }
         assert!(rt; slots.len() == 130);
-        slots.put(64, key);
+        slots.put(64, 1, key);
         assert!(rt; slots.len() == 130);
-        slots.put(129, key);
+        slots.put(129, 128, key);
         for j in 0..130usize {
             assert!(rt; slots.len() == 130);
             assert_eq!(rt; slots.get(j).is_some(), j == 64 || j == 129);

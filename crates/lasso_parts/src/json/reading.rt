@@ -50,7 +50,7 @@ fn read_items<'a, K: Key, S: BuildHasher, A: Allocator + Clone>(
     distinct: bool,
 ) -> Result<Vec<&'a str, A>, JsonError>
     requires empty { texts.items ≡ [] }
-    requires none { HoldsNone index }
+    requires none { HoldsNone index.slots }
     ensures { (shown (λ list. map (λ t. t.now) list.items) result ≡ read_items K.key_at distinct [] (items_view items.now)) ⊎ (shown (λ list. map (λ t. t.now) list.items) result ≡ no_memory) }
 {
     let mut texts = texts;

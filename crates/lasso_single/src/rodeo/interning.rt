@@ -26,7 +26,7 @@ impl<K: Key, S: BuildHasher, A: Allocator + Clone> Rodeo<K, S, A> {
         if !self.list.admits(text.len()) {
             return Err(LassoError::new(LassoErrorKind::MemoryLimitReached));
         }
-        self.index.reserve_one(&self.list, &self.hasher)?;
+        self.index.reserve_in_order(&self.list, &self.hasher)?;
         self.list.push_copied(text)?;
         self.index.insert_reserved(hash, key);
         Ok(key)
@@ -53,7 +53,7 @@ impl<K: Key, S: BuildHasher, A: Allocator + Clone> Rodeo<K, S, A> {
         let Some(key) = K::try_from_usize(self.list.len()) else {
             return Err(LassoError::new(LassoErrorKind::KeySpaceExhaustion));
         };
-        self.index.reserve_one(&self.list, &self.hasher)?;
+        self.index.reserve_in_order(&self.list, &self.hasher)?;
         self.list.push_static(text)?;
         self.index.insert_reserved(hash, key);
         Ok(key)

@@ -1,15 +1,18 @@
-use Rattle.std.proofs.Common.{Some, sym, ap, ◌∙◌}
+use Rattle.std.proofs.Common.{ℕ, List, Some, get_or, sym, ap, ◌∙◌}
 use Rattle.std.proofs.lemmas.Slice.Eq.{bytes_eq-Decides}
-use Rattle.lasso_parts.proofs.IndexSlots.{Misses-more, misses_here, slot_has}
+use Rattle.lasso_parts.proofs.IndexSlots.{Misses-more, misses_here, misses_by_tag}
+use Rattle.lasso_parts.proofs.index.probe.scan_slots.Goals.{then-found-tag+else-eq, else-found-tag+else-found-eq0}
 use Rattle.lasso_parts.proofs.index.probe.scan_slots.Goals as goal
 
 pub text_at-requires : goal.text_at-requires
-text_at-requires g c = c.requires.in_list _ _ (slot_has g.K.Key.number _ _ _ _ c.get.ensures c.in-Some.is c.into_usize-position.ensures)
+text_at-requires g c = c.requires.in_list _ _ (c.key.ensures ∙ ap Some (sym c.into_usize-position.ensures))
 
 pub returns-then-eq : goal.returns-then-eq
 returns-then-eq g c =
-    ((c.loop-j.j, slot_has g.K.Key.number _ _ _ _ c.get.ensures c.in-Some.is c.into_usize-position.ensures), c.text_at.ensures ∙ ap Some ((bytes_eq-Decides _ _).0 (sym c.eq.ensures ∙ c.if-eq.true)))
+    ((c.loop-j.j, c.key.ensures ∙ ap Some (sym c.into_usize-position.ensures)), c.text_at.ensures ∙ ap Some ((bytes_eq-Decides _ _).0 (sym c.eq.ensures ∙ c.if-eq.true)))
 
 pub loop-j-preserved : goal.loop-j-preserved
-loop-j-preserved g c =
-    Misses-more _ _ _ _ _ c.loop-j.invariant (misses_here _ _ _ c.args.slots.now c.loop-j.j _ (slot_has g.K.Key.number _ _ _ _ c.get.ensures c.in-Some.is c.into_usize-position.ensures) c.text_at.ensures (sym c.eq.ensures ∙ c.if-eq.false))
+loop-j-preserved g c = Misses-more _ _ _ _ _ c.loop-j.invariant (elim c.if-found-tag.branch [
+  | then-found-tag+else-eq w ↦ misses_here _ _ _ c.args.slots.now.slots c.loop-j.j _ (w.key.ensures ∙ ap Some (sym w.into_usize-position.ensures)) w.text_at.ensures (sym w.eq.ensures ∙ w.if-eq.false)
+  | else-found-tag+else-found-eq0 w ↦ misses_by_tag _ _ c.args.tag _ c.args.slots.now c.loop-j.j c.requires.tagged (ap (λ (ts : List ℕ). get_or ts c.loop-j.j 0) c.tags-tags.ensures.value) w.if-found-tag.false
+])

@@ -1,32 +1,37 @@
-use Rattle.std.proofs.Common.{◌<◌, Some, slice_get, length, refl, sym, ap, ◌∙◌, subst, arith}
+use Rattle.std.proofs.Common.{◌<◌, Some, length, refl, sym, ap, ◌∙◌, subst, arith}
 use Rattle.std.specs.Option.{option_map}
-use Rattle.std.proofs.lemmas.List.{length-set}
-use Rattle.lasso_parts.proofs.IndexSlots.{slot_has}
-use Rattle.lasso_parts.proofs.IndexTables.{used-take-le, Refilled-start, Refilled-skip, Refilled-put}
+use Rattle.lasso_parts.specs.Index.{Table, IsFiled}
+use Rattle.lasso_parts.specs.IndexTable.{IsEntered}
+use Rattle.lasso_parts.proofs.IndexSlots.{slot_has, slot-nil}
+use Rattle.lasso_parts.proofs.IndexTables.{used-take-le, holds_skip, used_skip, holds_more, used_more, IsRefilled-start, IsRefilled-same, IsRefilled-more, IsRefilled-end}
 use Rattle.lasso_parts.proofs.index.table.refill.Goals.{in-Some, in_default}
 use Rattle.lasso_parts.proofs.index.table.refill.Goals as goal
 
 pub loop-j-init : goal.loop-j-init
-loop-j-init g c = record { refilled = Refilled-start _ _ _ _ c.requires.empty; long = refl }
+loop-j-init g c = record { refilled = IsRefilled-start _ _ _ _ _ c.requires.empty (λ k h. slot-nil h.0 k h.1); long = refl }
 
-pub free_slot-at-requires : goal.free_slot-at-requires
-free_slot-at-requires g c = omega (arith, c.requires.load, c.loop-j.invariant.refilled.same_used, c.loop-j.invariant.long, used-take-le c.loop-j.j c.args.old.now)
+pub enter_again-requires-clause-in_list : goal.enter_again-requires-clause-in_list
+enter_again-requires-clause-in_list g c = c.requires.in_list _ _ (slot_has g.K.Key.number _ _ _ _ c.get.ensures c.in-Some.is refl)
+
+pub enter_again-requires-clause-free : goal.enter_again-requires-clause-free
+enter_again-requires-clause-free g c = omega (arith, c.requires.load, c.loop-j.invariant.refilled.counted, c.loop-j.invariant.long, used-take-le c.loop-j.j c.args.old.now.slots)
 
 pub loop-j-preserved : goal.loop-j-preserved
 loop-j-preserved g c =
-    let l : c.loop-j.j < length c.args.old.now = subst (λ n. c.loop-j.j < n) c.len-j-end.ensures c.loop-j-test.true in
+    let old = c.args.old.now.slots in
+    let l : c.loop-j.j < length old = subst (λ n. c.loop-j.j < n) c.len-j-end.ensures c.loop-j-test.true in
     elim c.match-get.branch [
       | in-Some w ↦
-          let f = w.free_slot-at.ensures in
+          let here = slot_has g.K.Key.number _ _ _ _ c.get.ensures w.in-Some.is refl in
+          let e = subst (λ (t : Table). IsEntered (g.K.Key.number w.in-Some.key) c.loop-j.slots t) (sym w.slots-is) w.enter_again.ensures.entered in
           record {
-            refilled =
-                Refilled-put _ _ c.loop-j.slots c.args.old.now c.loop-j.j l c.loop-j.invariant.refilled (g.K.Key.number w.in-Some.key) w.text_at-text.result.now w.hash_text.result w.free_slot-at.result _
-                (slot_has g.K.Key.number _ _ _ _ c.get.ensures w.in-Some.is refl)
-                (ap (slice_get _) (sym w.into_usize.ensures) ∙ w.text_at-text.ensures) w.hash_text.ensures f.bound f.free f.reached (w.slots-is ∙ w.put.ensures);
-            long = ap length (w.slots-is ∙ w.put.ensures) ∙ length-set c.loop-j.slots w.free_slot-at.result (Some (g.K.Key.number w.in-Some.key)) ∙ c.loop-j.invariant.long;
+            refilled = IsRefilled-more _ _ _ _ _ _ _ _ _ c.loop-j.invariant.refilled e (λ f. subst (λ (t : Table). IsFiled _ _ t) (sym w.slots-is) (w.enter_again.ensures.filed f)) (holds_more old c.loop-j.j l _ here) (used_more old c.loop-j.j l _ here);
+            long = e.len ∙ c.loop-j.invariant.long;
           }
-      | in_default w ↦ record {
-        refilled = Refilled-skip _ _ c.loop-j.slots c.args.old.now c.loop-j.j l c.loop-j.invariant.refilled _ (sym c.get.ensures ∙ ap (option_map g.K.Key.number) w.in_default.is) w.slots-is;
-        long = ap length w.slots-is ∙ c.loop-j.invariant.long;
-      }
+      | in_default w ↦
+          let here = sym c.get.ensures ∙ ap (option_map g.K.Key.number) w.in_default.is in
+          record {
+            refilled = IsRefilled-same _ _ _ _ _ _ _ _ c.loop-j.invariant.refilled w.slots-is (holds_skip old c.loop-j.j l here) (used_skip old c.loop-j.j l here);
+            long = ap (λ (t : Table). length t.slots) w.slots-is ∙ c.loop-j.invariant.long;
+          }
     ]

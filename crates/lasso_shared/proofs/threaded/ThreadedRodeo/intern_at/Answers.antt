@@ -50,7 +50,7 @@ invariant_of-desk-in-Err-reserve_next g c =
     let same = c.reserve_next.ensures.same in
     let still : list_of c.reserve_next.new.spine.of c.reserve_next.new.spine.notes ≡ list = ap (λ of. list_of of c.reserve_next.new.spine.notes) same.0 ∙ ap (list_of c.desk.inside.spine.of) same.1 in
     let r = c.in_default-reserve_one.ensures in
-    subst (λ (ts : List Text). IsIndexOf (text_hash g.S.BuildHasher.build_hasher g.S.Hasher.Hasher.write g.S.Hasher.Hasher.finish c.desk.inside.hasher) ts c.reserve_one.new.self) (sym still) (IsIndexOf-reserved (text_hash g.S.BuildHasher.build_hasher g.S.Hasher.Hasher.write g.S.Hasher.Hasher.finish c.desk.inside.hasher) list c.desk.inside.index c.reserve_one.new.self c.desk.invariant (subst (λ (ts : List Text). IsFiled (text_hash g.S.BuildHasher.build_hasher g.S.Hasher.Hasher.write g.S.Hasher.Hasher.finish c.desk.inside.hasher) ts c.reserve_one.new.self) mine r.filed) r.same)
+    subst (λ (ts : List Text). IsIndexOf (text_hash g.S.BuildHasher.build_hasher g.S.Hasher.Hasher.write g.S.Hasher.Hasher.finish c.desk.inside.hasher) ts c.reserve_one.new.self) (sym still) (IsIndexOf-reserved (text_hash g.S.BuildHasher.build_hasher g.S.Hasher.Hasher.write g.S.Hasher.Hasher.finish c.desk.inside.hasher) list c.desk.inside.index c.reserve_one.new.self c.desk.invariant (subst (λ (ts : List Text). IsFiled (text_hash g.S.BuildHasher.build_hasher g.S.Hasher.Hasher.write g.S.Hasher.Hasher.finish c.desk.inside.hasher) ts c.reserve_one.new.self) mine r.filed) r.same r.used)
 
 pub returns-in-Err-reserve_next-clause-call : goal.returns-in-Err-reserve_next-clause-call
 returns-in-Err-reserve_next-clause-call g c =
@@ -79,9 +79,9 @@ invariant_of-desk-2 g c =
     let before : list_of c.self.inside.log c.reserve_next.new.spine.notes ≡ list = ap (λ of. list_of of c.reserve_next.new.spine.notes) (sym desk) ∙ ap (list_of c.desk.inside.spine.of) same.1 in
     let after : list_of c.append.new.spine.of c.append.new.spine.notes ≡ list ++ t ∷ [] =
     ap (λ of. list_of of c.append.new.spine.notes) of ∙ (ap (list_of c.self.inside.log) a.spine ∙ (a.list ∙ ap (λ (ts : List Text). ts ++ t ∷ []) before)) in
-    let whole = IsIndexOf-reserved (text_hash g.S.BuildHasher.build_hasher g.S.Hasher.Hasher.write g.S.Hasher.Hasher.finish c.desk.inside.hasher) list c.desk.inside.index c.reserve_one.new.self c.desk.invariant (subst (λ (ts : List Text). IsFiled (text_hash g.S.BuildHasher.build_hasher g.S.Hasher.Hasher.write g.S.Hasher.Hasher.finish c.desk.inside.hasher) ts c.reserve_one.new.self) mine r.filed) r.same in
+    let whole = IsIndexOf-reserved (text_hash g.S.BuildHasher.build_hasher g.S.Hasher.Hasher.write g.S.Hasher.Hasher.finish c.desk.inside.hasher) list c.desk.inside.index c.reserve_one.new.self c.desk.invariant (subst (λ (ts : List Text). IsFiled (text_hash g.S.BuildHasher.build_hasher g.S.Hasher.Hasher.write g.S.Hasher.Hasher.finish c.desk.inside.hasher) ts c.reserve_one.new.self) mine r.filed) r.same r.used in
     subst (λ (ts : List Text). IsIndexOf (text_hash g.S.BuildHasher.build_hasher g.S.Hasher.Hasher.write g.S.Hasher.Hasher.finish c.desk.inside.hasher) ts c.insert_reserved.new.self) (sym after)
-    (IsIndexOf-push (text_hash g.S.BuildHasher.build_hasher g.S.Hasher.Hasher.write g.S.Hasher.Hasher.finish c.desk.inside.hasher) list t c.hash_text-hash.result (g.K.Key.number key) c.reserve_one.new.self c.insert_reserved.new.self whole absent number c.hash_text-hash.ensures c.insert_reserved.ensures.holds c.insert_reserved.ensures.filed)
+    (IsIndexOf-push (text_hash g.S.BuildHasher.build_hasher g.S.Hasher.Hasher.write g.S.Hasher.Hasher.finish c.desk.inside.hasher) list t c.hash_text-hash.result (g.K.Key.number key) c.reserve_one.new.self c.insert_reserved.new.self whole absent number c.hash_text-hash.ensures c.insert_reserved.ensures.holds c.insert_reserved.ensures.used c.insert_reserved.ensures.filed)
 
 pub returns-clause-call : goal.returns-clause-call
 returns-clause-call g c =

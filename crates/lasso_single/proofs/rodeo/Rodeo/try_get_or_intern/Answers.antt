@@ -4,11 +4,11 @@ use Rattle.lasso_single.proofs.rodeo.Rodeo.try_get_or_intern.Goals as goal
 
 pub invariant_of-self-in_err-push_copied : goal.invariant_of-self-in_err-push_copied
 invariant_of-self-in_err-push_copied g c =
-    whole_reserved _ g.K.Key.key_at c.self.inside.list.texts c.push_copied.new.self.texts c.self.inside.index c.reserve_one.new.self c.self.invariant c.in_err-push_copied.ensures.same_texts c.in_ok-reserve_one.ensures.filed c.in_ok-reserve_one.ensures.same
+    whole_reserved _ g.K.Key.key_at c.self.inside.list.texts c.push_copied.new.self.texts c.self.inside.index c.reserve_in_order.new.self c.self.invariant c.in_err-push_copied.ensures.same_texts c.reserve_in_order.ensures.whole
 
 pub invariant_of-self-2 : goal.invariant_of-self-2
 invariant_of-self-2 g c =
     let texts = c.self.inside.list.texts in
     let made : Some c.in-Some-try_from_usize.key ≡ g.K.Key.key_at (length texts) = subst (λ (n : ℕ). Some c.in-Some-try_from_usize.key ≡ g.K.Key.key_at n) c.len.ensures c.in-Some-try_from_usize.ensures in
     let number : g.K.Key.number c.in-Some-try_from_usize.key ≡ length texts = (g.met.K.Key.made (length texts) c.in-Some-try_from_usize.key (sym made)).2 in
-    whole_pushed _ g.K.Key.key_at texts c.push_copied.new.self.texts c.args.text.now c.hash_text-hash.result (g.K.Key.number c.in-Some-try_from_usize.key) c.self.inside.index c.reserve_one.new.self c.insert_reserved.new.self c.self.invariant c.in_ok-reserve_one.ensures.filed c.in_ok-reserve_one.ensures.same (sym (c.in_default.ensures.whole c.self.invariant.0)) c.in_ok-push_copied.ensures.texts number (subst IsSome made refl) c.hash_text-hash.ensures c.insert_reserved.ensures.holds c.insert_reserved.ensures.filed
+    whole_pushed _ g.K.Key.key_at texts c.push_copied.new.self.texts c.args.text.now c.hash_text-hash.result (g.K.Key.number c.in-Some-try_from_usize.key) c.self.inside.index c.reserve_in_order.new.self c.insert_reserved.new.self c.self.invariant c.reserve_in_order.ensures.whole (sym (c.in_default.ensures.whole c.self.invariant.0)) c.in_ok-push_copied.ensures.texts number (subst IsSome made refl) c.hash_text-hash.ensures c.insert_reserved.ensures.holds c.insert_reserved.ensures.used c.insert_reserved.ensures.filed

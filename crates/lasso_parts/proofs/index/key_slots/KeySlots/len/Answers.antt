@@ -1,6 +1,6 @@
-use Rattle.std.proofs.Common.{length, sym, ap, ◌∙◌}
-use Rattle.lasso_parts.proofs.KeySlots.{length-shown}
+use Rattle.std.proofs.Common.{arith}
+use Rattle.lasso_parts.proofs.KeySlots.{count_is}
 use Rattle.lasso_parts.proofs.index.key_slots.KeySlots.len.Goals as goal
 
 pub returns : goal.returns
-returns g c = sym (length-shown g.K.Key.number _ _ _) ∙ ap length c.self.view_is
+returns g c = let e = count_is g.K.Key.number _ _ _ c.self.invariant _ c.self.view_is in omega (arith, c.self.inside.tags.ok.0)

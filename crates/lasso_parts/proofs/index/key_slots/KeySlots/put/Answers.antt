@@ -1,14 +1,19 @@
-use Rattle.std.proofs.Common.{arith}
-use Rattle.lasso_parts.proofs.KeySlots.{word_there, put_shows, in_count}
+use Rattle.std.proofs.Common.{[], arith}
+use Rattle.lasso_parts.proofs.KeySlots.{keys_same, count_is, put_slots, put_tags}
 use Rattle.lasso_parts.proofs.index.key_slots.KeySlots.put.Goals as goal
 
 pub index_mut-requires : goal.index_mut-requires
 index_mut-requires g c =
-    let l = in_count g.K.Key.number c.self.inside.words _ _ _ c.self.invariant _ c.self.view_is _ c.requires in
-    omega (arith, c.make_keys.new.keys.ok.0, c.make_keys.ensures.len, l)
+    let l = count_is g.K.Key.number _ _ _ c.self.invariant _ c.self.view_is in
+    omega (arith, c.make_keys.new.keys.ok.0, c.make_keys.ensures.len, c.len.ensures, l, c.requires.inside)
 
 pub index_mut-requires-2 : goal.index_mut-requires-2
-index_mut-requires-2 g c = word_there g.K.Key.number _ _ _ _ c.self.invariant _ c.self.view_is _ c.requires _ c.in-Some.is
+index_mut-requires-2 g c =
+    let l = count_is g.K.Key.number _ _ _ c.self.invariant _ c.self.view_is in
+    omega (arith, c.self.inside.tags.ok.0, l, c.requires.inside)
 
-pub returns : goal.returns
-returns g c = put_shows g.K.Key.number _ _ _ _ c.self.invariant _ c.self.view_is _ c.requires _ c.in-Some.is _ c.index_mut-2.ensures.value _ c.make_keys.ensures.len c.make_keys.ensures.same c.args.key
+pub returns-clause-slots : goal.returns-clause-slots
+returns-clause-slots g c = put_slots g.K.Key.number c.self.inside.tags.items _ _ c.self.invariant _ c.self.view_is _ (omega (arith, c.make_keys.ensures.len, c.len.ensures, c.self.inside.tags.ok.0)) (keys_same c.self.inside.keys c.in-Some.keys _ c.in-Some.is c.make_keys.ensures.same) _ _ _ c.requires.inside c.requires.filled
+
+pub returns-clause-tags : goal.returns-clause-tags
+returns-clause-tags g c = put_tags g.K.Key.number _ _ _ c.self.invariant _ c.self.view_is [] _ _ c.requires.inside
