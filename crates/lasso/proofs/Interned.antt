@@ -2,33 +2,13 @@
 --
 -- Once a text is in the list, it stands at its place there: where it was found, or else last. So its key is that
 -- of its place, the key resolves to it, and a second call finds it again and changes nothing.
-use Rattle.std.proofs.Common.{ℕ, ◌≡◌, true, List, [], ◌∷◌, ◌++◌, length, get_or, Option, Some, None, Ok, Err, IfSome, refl, ap, subst, ◌∙◌, arith}
-use Rattle.std.specs.Prelude.{slice_get, bytes_eq, option_and_then}
-use Rattle.std.proofs.lemmas.Grind.{common_steps}
-use Rattle.std.proofs.lemmas.Bool.Decides.{nat_tests}
-use Rattle.std.proofs.lemmas.Slice.Eq.{bytes_eq-Decides}
-use Rattle.std.proofs.lemmas.List.{length_push}
-use Rattle.std.proofs.lemmas.List.Folds.{prefix_len-append}
-use Rattle.std.proofs.lemmas.List.Sums.{prefix_len-le-length}
-use Rattle.std.proofs.lemmas.List.Quantifiers.{position-Some}
-use Rattle.std.proofs.lemmas.Option.{slice_get-get_or}
+use Rattle.std.proofs.Common.{ℕ, ◌≡◌, List, length, Option, Some, None, Ok, Err, IfSome, refl, ap, subst}
+use Rattle.std.specs.Prelude.{slice_get, option_and_then}
+use Rattle.lasso_parts.proofs.TextLemmas.{position_here, position_last}
 use Rattle.lasso_parts.specs.Texts.{Text, position_of, key_of}
 use Rattle.lasso_parts.specs.declared.util.LassoError.{LassoError}
 use Rattle.lasso_single.specs.Intern.{interned_position}
 use Rattle.lasso.specs.Interning.{with_last, InternsAmong}
-
--- a text stands where it is found
-pub position_resolves : (texts : List Text) (text : Text) (i : ℕ) → position_of texts text ≡ Some i → slice_get texts i ≡ Some text
-position_resolves texts text i e =
-    let there = position-Some (λ t. bytes_eq t text) texts i [] e in
-    let same : get_or texts i [] ≡ text = (bytes_eq-Decides (get_or texts i []) text).0 there.1 in
-    slice_get-get_or texts i [] there.0 ∙ ap (λ (t : Text). Some t) same
-
--- a text that is put last where it was not there is found last
-pub position_last : (texts : List Text) (text : Text) → position_of texts text ≡ None → position_of (texts ++ text ∷ []) text ≡ Some (length texts)
-position_last texts text none =
-    let itself : bytes_eq text text ≡ true = (bytes_eq-Decides text text).1 refl in
-    grind (arith, common_steps, nat_tests, prefix_len-append, prefix_len-le-length, length_push texts text, itself, none)
 
 -- a text that was interned stands at its place
 pub position_with_last : (texts : List Text) (text : Text) (o : Option ℕ) → position_of texts text ≡ o → position_of (with_last texts text) text ≡ Some (interned_position texts text)
@@ -42,7 +22,7 @@ with_last_again texts text = let there = position_with_last texts text (position
 module _ {K : Type 0} (key_at : ℕ → Option K) (number : K → ℕ) (made : (n : ℕ) (k : K) → key_at n ≡ Some k → number k ≡ n) where
   resolves_at : (texts : List Text) (text : Text) (k : K) (o : Option ℕ) → position_of texts text ≡ o → option_and_then key_at o ≡ Some k → slice_get texts (number k) ≡ Some text
   resolves_at texts text k None e h = cc
-  resolves_at texts text k (Some i) e h = rw (made i k h) (position_resolves texts text i e)
+  resolves_at texts text k (Some i) e h = rw (made i k h) (position_here texts text i e)
 
   -- the key of a text resolves to it
   pub key_resolves : (texts : List Text) (text : Text) (k : K) → key_of key_at texts text ≡ Some k → slice_get texts (number k) ≡ Some text

@@ -8,8 +8,10 @@ use Rattle.std.specs.Str.{bytes_eq}
 use Rattle.std.proofs.lemmas.Grind.{common_steps}
 use Rattle.std.proofs.lemmas.Bool.Decides.{nat_tests}
 use Rattle.std.proofs.lemmas.List.{length_push, length-map, take_more}
-use Rattle.std.proofs.lemmas.Option.{slice_get_within, get_or_from_slice_get}
-use Rattle.std.proofs.lemmas.List.Sums.{fails_before_first}
+use Rattle.std.proofs.lemmas.Option.{slice_get_within, get_or_from_slice_get, slice_get-get_or}
+use Rattle.std.proofs.lemmas.List.Folds.{position_or_len_push}
+use Rattle.std.proofs.lemmas.List.Sums.{fails_before_first, passes_at_first, prefix_len-le-length}
+use Rattle.std.proofs.lemmas.Slice.Eq.{bytes_eq-Decides}
 use Rattle.std.specs.Option.{option_and_then}
 use Rattle.std.proofs.lemmas.List.Quantifiers.{position-Some}
 use Rattle.std.proofs.lemmas.Map.Keys.{apart_from_distinct, IsDistinct-from_apart}
@@ -48,3 +50,11 @@ key_of_present key_at texts text fits = present_of key_at _ (length texts) fits 
 pub take_more_at : (texts : List Text) (i : ℕ) (text : Text) → slice_get texts i ≡ Some text → take (i + 1) texts ≡ take i texts ++ text ∷ []
 take_more_at texts i text at =
     take_more texts i [] (slice_get_within texts i text at) ∙ ap (λ (t : Text). take i texts ++ t ∷ []) (get_or_from_slice_get texts i text [] at)
+
+-- a text stands where it is found
+pub position_here : (texts : List Text) (text : Text) (n : ℕ) → position_of texts text ≡ Some n → slice_get texts n ≡ Some text
+position_here texts text n e = grind (arith, nat_tests, passes_at_first (λ t. bytes_eq t text) texts [], slice_get-get_or, bytes_eq-Decides)
+
+-- a text that is put last where it was not there is found last
+pub position_last : (texts : List Text) (text : Text) → position_of texts text ≡ None → position_of (texts ++ text ∷ []) text ≡ Some (length texts)
+position_last texts text none = grind (arith, nat_tests, prefix_len-le-length (λ t. not (bytes_eq t text)) texts, position_or_len_push (λ t. bytes_eq t text) texts text, length_push texts text, bytes_eq-Decides text text)

@@ -1,7 +1,13 @@
 -- The first room of an interner.
 use Rattle.std.specs.Prelude.{ℕ}
+use Rattle.std.specs.Ordering.{on, then_cmp, nat_cmp}
+use Rattle.std.specs.declared.cmp.Ordering.{Ordering}
 
 -- room for so many texts, and a first bucket of so many bytes
 pub record Sizes : Type 0 where
   pub strings : ℕ
   pub bytes : ℕ
+
+-- less room for texts comes first, and where that is equal less room for bytes
+abbrev pub sizes_cmp : Sizes → Sizes → Ordering
+sizes_cmp = then_cmp (on (λ (s : Sizes). s.strings) nat_cmp) (on (λ (s : Sizes). s.bytes) nat_cmp)

@@ -1,4 +1,5 @@
-//! A bucket: memory of a fixed size that fills with bytes from its start.
+//! A bucket: memory of a fixed size that fills with bytes from its start. It is for callers alone: the
+//! arena keeps its regions beside one another, and has no `Bucket`.
 ghost use Rattle.std.specs.Prelude.{◌≡◌, ◌+◌, ◌<◌, ◌≤◌, ◌↔◌, ◌++◌, [], length, slice_range, IfOk, IfErr, IsTrue, IsUtf8};
 ghost use Rattle.lasso_parts.specs.declared.util.LassoErrorKind.TheVariants.{FailedAllocation};
 

@@ -1,6 +1,11 @@
 //! Laws of the definitions, each as the contract of a function that does nothing.
 ghost use Rattle.lasso_parts.specs.Account.{NeverGrowsPastLimit, RefusesExactlyPastLimit};
 ghost use Rattle.lasso_parts.specs.AccountSteps.{ServesAsWorked};
+ghost use Rattle.lasso_parts.specs.Sizes.{sizes_cmp};
+ghost use Rattle.std.specs.Prelude.{◌≡◌};
+
+use crate::util::Capacity;
+use std::cmp::Ord;
 
 /// A text is refused exactly where it is longer than the room of the current bucket and the usage
 /// and its bytes pass the limit.
@@ -16,4 +21,9 @@ pub fn store_serves_as_worked()
 /// Storing never takes the usage past the limit: where the usage grows, it is at most the limit then.
 pub fn store_never_grows_past_limit()
     ensures { NeverGrowsPastLimit }
+{}
+
+/// Capacities are ordered by the texts that they have room for, and where these are equal by the bytes.
+pub fn capacities_compare_texts_first(_one: &Capacity, _other: &Capacity)
+    ensures { ⟦<Capacity as Ord>⟧.cmp _one.now _other.now ≡ sizes_cmp _one.now _other.now }
 {}

@@ -15,7 +15,7 @@ use Rattle.lasso_parts.specs.Texts.{IsDistinct, Fits}
 use Rattle.lasso_parts.proofs.TextLemmas.{distinct_push, fits_push}
 use Rattle.lasso_shared.specs.Buckets.{CountedBucket, with_taken, changed_at, bucket_size}
 use Rattle.lasso_shared.specs.History.{Event, Reserve, Charge, Append, Limit, History, Totals, IsOpening, opened, totals, counted, MayFollow, IsLegal}
-use Rattle.lasso_shared.specs.Laws.{KeepsRule, HoldsOfHistory}
+use Rattle.lasso_shared.specs.Laws.{IsSoundTotals, HoldsOfHistory}
 
 pub totals_append : (s : Totals) (h g : History) → totals s (h ++ g) ≡ totals (totals s h) g
 totals_append s [] g = refl
@@ -106,27 +106,27 @@ keeps_buckets key_at s (Limit limit) within usage may = (within, usage)
 
 -- ---- all of it
 
-kept_by : {K : Type 0} (key_at : ℕ → Option K) (s : Totals) (e : Event) → KeepsRule key_at s → MayFollow key_at s e → KeepsRule key_at (counted s e)
+kept_by : {K : Type 0} (key_at : ℕ → Option K) (s : Totals) (e : Event) → IsSoundTotals key_at s → MayFollow key_at s e → IsSoundTotals key_at (counted s e)
 kept_by key_at s e kept may =
     let list = keeps_list key_at s e kept.distinct kept.fits may in
     let buckets = keeps_buckets key_at s e kept.within kept.usage may in
     record { distinct = list.0; fits = list.1; within = buckets.0; usage = buckets.1 }
 
-kept_after : {K : Type 0} (key_at : ℕ → Option K) (s : Totals) (h : History) → KeepsRule key_at s → IsLegal key_at s h → KeepsRule key_at (totals s h)
+kept_after : {K : Type 0} (key_at : ℕ → Option K) (s : Totals) (h : History) → IsSoundTotals key_at s → IsLegal key_at s h → IsSoundTotals key_at (totals s h)
 kept_after key_at s [] kept legal = kept
 kept_after key_at s (e ∷ h) kept legal = kept_after key_at (counted s e.1) h (kept_by key_at s e.1 kept legal.0) legal.1
 
-kept_opening : {K : Type 0} (key_at : ℕ → Option K) (opening : Totals) → IsOpening key_at opening → KeepsRule key_at opening
+kept_opening : {K : Type 0} (key_at : ℕ → Option K) (opening : Totals) → IsOpening key_at opening → IsSoundTotals key_at opening
 kept_opening key_at opening opens = record {
   distinct = opens.distinct;
   fits = opens.fits;
   within = subst (λ (t : Totals). All (λ (b : CountedBucket). b.used ≤ b.size) t.buckets) (sym is)
-      (All-cons (λ (b : CountedBucket). b.used ≤ b.size) (record { size = opens.bucket.0; used = opens.bucket.1 }) [] opens.bucket.2 (All-nil (λ (b : CountedBucket). b.used ≤ b.size)));
+      (All-cons (λ (b : CountedBucket). b.used ≤ b.size) (record { size = opens.bucket.0; used = opens.bucket.1 }) [] opens.bucket.3 (All-nil (λ (b : CountedBucket). b.used ≤ b.size)));
   usage = subst (λ (t : Totals). t.usage ≡ sum_by (λ (b : CountedBucket). b.size) t.buckets) (sym is) (omega arith);
 }
   where
     is : opening ≡ opened opening.texts opens.bucket.0 opens.bucket.1 opening.limit
-    is = opens.bucket.3
+    is = opens.bucket.4
 
 pub holds_of_history : {K : Type 0} (key_at : ℕ → Option K) (opening : Totals) (h : History) → IsOpening key_at opening → IsLegal key_at opening h → HoldsOfHistory key_at opening h
 holds_of_history key_at opening h opens legal = record {

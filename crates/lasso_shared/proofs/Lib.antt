@@ -6,6 +6,7 @@ mod MachineSteps
 pub mod WalkWords
 pub mod Opened
 pub mod PenOut
+pub mod PensApart
 pub mod Histories
 pub mod Tickets
 pub mod Words
@@ -16,5 +17,6 @@ pub mod Places
 pub mod Lined
 pub mod Reading
 pub mod Called
+pub mod CallerLaws
 pub mod Alike
 pub mod Desks

@@ -18,7 +18,7 @@ use denote.Steps.{nothing}
 use denote.RattleType.{RattleType}
 use Rattle.std.specs.declared.option.Option.TheVariants.{None}
 use Rattle.logbook.specs.Pages.{Cell, Book}
-use Rattle.logbook.specs.LogKeepsRule.{Rules, rules, offer_owns}
+use Rattle.logbook.specs.Kept.{Rules, rules, offer_owns}
 use Rattle.boxcar.specs.Slot.{written, Named}
 use Rattle.lasso_parts.specs.Texts.{Text}
 use Rattle.lasso_shared.specs.Chunks.{chunk_of, offset_of, name_at, IsCellAt, held, holds_text, in_chunk, filled, lined, ListOnlyGrows, PutsLast}

@@ -18,7 +18,7 @@ use types.Logic.{Logic, sem}
 use types.Kit.{‵, raw, ◌⊛◌, given, ◌$◌, ◌∵◌, !, qed, by, move, split, split3, join, fsplit, fsplit3, fjoin, fjoin3, fpick, fpack, learn, show, check, frame, assume, suffices, use1, use2, drop, done}
 use denote.Steps.{nothing}
 use Rattle.logbook.specs.Pages.{Cell, Book, Calm}
-use Rattle.logbook.specs.LogKeepsRule.{logs, Rules, roster, reached, standing, contents, seen_owns}
+use Rattle.logbook.specs.Kept.{logs, Rules, roster, reached, standing, contents, seen_owns}
 use Rattle.logbook.proofs.Roster.{prefix_out}
 
 module _ {M : Type 1} {𝓤 : Ura M} (𝓛 : Logic 𝓤) {E : Type 0} (cv : Coded E) (rule : Rules E) (bk : Book) (names : List ℕ) where
@@ -53,8 +53,8 @@ module _ {M : Type 1} {𝓤 : Ura M} (𝓛 : Logic 𝓤) {E : Type 0} (cv : Code
   abbrev pub Cells : List Cell → Fml
   Cells = roster bk.cells_name 0
 
-  abbrev pub LogKeepsRule : List E → Fml
-  LogKeepsRule log = rule.keeps names (rule.shows log)
+  abbrev pub Kept : List E → Fml
+  Kept log = rule.keeps names (rule.shows log)
 
   abbrev pub Sees : List E → Fml
   Sees = seen_owns cv.code rule bk names
@@ -63,11 +63,11 @@ module _ {M : Type 1} {𝓤 : Ura M} (𝓛 : Logic 𝓤) {E : Type 0} (cv : Code
   Quiet = Calm (rule.keeps names)
 
   unsealed : (log : List E) → ⟦ Sees log ⟧ ⊢ guard 𝓤 Quiet (⟦ Name ⟧ ∗ ⟦ Reached log ⟧)
-  unfolding Rattle.logbook.specs.LogKeepsRule.seal
+  unfolding Rattle.logbook.specs.Kept.seal
   unsealed log = id⊢ 𝓤 _
 
   sealed : (log : List E) → Quiet → ⟦ Name ⟧ ∗ ⟦ Reached log ⟧ ⊢ ⟦ Sees log ⟧
-  unfolding Rattle.logbook.specs.LogKeepsRule.seal
+  unfolding Rattle.logbook.specs.Kept.seal
   sealed log quiet = guard_i 𝓤 Quiet (⟦ Name ⟧ ∗ ⟦ Reached log ⟧) quiet
 
   begins : (log seen : List E) → ⟦ Whole log ⟧ ∗ ⟦ Reached seen ⟧ ⊢ guard 𝓤 (IsPrefix seen log) (⟦ Whole log ⟧ ∗ ⟦ Reached seen ⟧)
@@ -83,7 +83,7 @@ module _ {M : Type 1} {𝓤 : Ura M} (𝓛 : Logic 𝓤) {E : Type 0} (cv : Code
   Looked seen X s = guard 𝓤 (rule.holds s.0 s.1 × IsPrefix seen s.1) (⟦ Sees seen ⟧ ∗ ⟦ Sees s.1 ⟧ ∗ X s)
 
   pub looks : (seen : List E) (R : Pr) (X : At → Pr)
-      → ((s : At) → rule.holds s.0 s.1 → IsPrefix seen s.1 → ⟦ Cells s.0 ⟧ ∗ ⟦ LogKeepsRule s.1 ⟧ ∗ R ⊢ ⟦ Cells s.0 ⟧ ∗ ⟦ LogKeepsRule s.1 ⟧ ∗ X s)
+      → ((s : At) → rule.holds s.0 s.1 → IsPrefix seen s.1 → ⟦ Cells s.0 ⟧ ∗ ⟦ Kept s.1 ⟧ ∗ R ⊢ ⟦ Cells s.0 ⟧ ∗ ⟦ Kept s.1 ⟧ ∗ X s)
       → ⟦ Sees seen ⟧ ∗ R ⊢ H.⇛ (ex 𝓤 (Looked seen X))
   looks seen R X step = let Z : Pr = ex 𝓤 (Looked seen X) in
       qed 𝓛 (‵ (Sees seen) ∷ raw R ∷ []) ∵ use1 𝓛 (given Quiet (‵ Name ⊛ ‵ (Reached seen))) (unsealed seen) $ learn ! (λ quiet. split ! $
@@ -96,7 +96,7 @@ module _ {M : Type 1} {𝓤 : Ura M} (𝓛 : Logic 𝓤) {E : Type 0} (cv : Code
       move ! (2 ∷ 5 ∷ []) $ use2 𝓛 (given (IsPrefix seen s.1) (‵ (Whole s.1) ⊛ ‵ (Reached seen))) (begins s.1 seen) $ learn ! (λ p. split ! $
       use1 𝓛 (‵ (Whole s.1) ⊛ ‵ (Reached s.1)) (latest_shows logs 𝓛 full_share bk.log_name (map cv.code s.1) (map cv.code s.1) (logs.same (map cv.code s.1))) $ split ! $
       -- [the whole log; s.1; seen; what is kept; the cells; the name; the name; R]
-      move ! (4 ∷ 3 ∷ 7 ∷ []) $ types.Kit.use3 𝓛 (‵ (Cells s.0) ⊛ ‵ (LogKeepsRule s.1) ⊛ raw (X s)) (step s so p) $ split3 ! $
+      move ! (4 ∷ 3 ∷ 7 ∷ []) $ types.Kit.use3 𝓛 (‵ (Cells s.0) ⊛ ‵ (Kept s.1) ⊛ raw (X s)) (step s so p) $ split3 ! $
       -- [the cells; what is kept; X; the whole log; s.1; seen; the name; the name]
       nothing ! $ fpack ! (rule.holds s.0 s.1) (λ _. ftrue) so $ move ! (2 ∷ 0 ∷ []) $ fjoin ! $ move ! (1 ∷ 3 ∷ 0 ∷ []) $ fjoin3 ! $
       fpack ! At (standing cv.code rule bk.log_name bk.cells_name names) s $ frame ! $

@@ -10,9 +10,9 @@ use base.Fml.{Fml}
 use types.Logic.{Logic, sem}
 use types.Kit.{‵, ◌⊛◌, some, given, later, ◌$◌, ◌∵◌, !, qed, move, drop, split, split3, pick, learn, show, check, frame, updating, await, now, done, use2}
 use Rattle.logbook.specs.Pages.{Cell, cell, Book, Nib, Right, may_write}
-use Rattle.logbook.specs.LogKeepsRule.{Rules, roster, nib_holds, pen_owns}
+use Rattle.logbook.specs.Kept.{Rules, roster, nib_holds, pen_owns}
 use Rattle.logbook.proofs.Roster.{Out, away}
-use Rattle.lasso_shared.proofs.Opened.{At, Cells, LogKeepsRule, Sees, looks}
+use Rattle.lasso_shared.proofs.Opened.{At, Cells, Kept, Sees, looks}
 
 module _ {M : Type 1} {𝓤 : Ura M} (𝓛 : Logic 𝓤) {E : Type 0} (cv : Coded E) (rule : Rules E) (bk : Book) (names : List ℕ) where
   open 𝓛 use {H}
@@ -53,6 +53,6 @@ module _ {M : Type 1} {𝓤 : Ura M} (𝓛 : Logic 𝓤) {E : Type 0} (cv : Code
       qed 𝓛 (‵ (S seen) ∷ ‵ Pen ∷ []) ∵ updating ! $
       use2 𝓛 (later (some (λ (s : At 𝓛 cv rule bk names). given (rule.holds s.0 s.1 × IsPrefix seen s.1) (‵ (S seen) ⊛ ‵ (S s.1) ⊛ given (Away p s.0) (‵ Pen)))))
       (looks 𝓛 cv rule bk names seen ⟦ Pen ⟧ X (λ s so p'.
-      qed 𝓛 (‵ (Cells 𝓛 cv rule bk names s.0) ∷ ‵ (LogKeepsRule 𝓛 cv rule bk names s.1) ∷ ‵ Pen ∷ []) ∵ move ! (0 ∷ 2 ∷ []) $
+      qed 𝓛 (‵ (Cells 𝓛 cv rule bk names s.0) ∷ ‵ (Kept 𝓛 cv rule bk names s.1) ∷ ‵ Pen ∷ []) ∵ move ! (0 ∷ 2 ∷ []) $
       use2 𝓛 (given (Away p s.0) (‵ (Cells 𝓛 cv rule bk names s.0) ⊛ ‵ Pen)) (pen_away p s.0 right) $ learn ! (λ out. split ! $ frame ! $ move ! (1 ∷ []) $ frame ! $ check ! out $ done !))) $
       await ! tt $ pick ! (λ s. learn ! (λ so. split3 ! $ drop ! $ move ! (1 ∷ []) $ learn ! (λ out. now ! $ show ! (FoundOut p seen) s.1 $ check ! (so.1, (s.0, so.0, out.1)) $ move ! (1 ∷ 0 ∷ []) $ done !)))

@@ -1,31 +1,22 @@
 -- Positions of texts in a list, and in the list with one text more.
 --
 -- A text's position is the first place whose item is equal to it. A text that goes last changes the position of no other.
-use Rattle.std.proofs.Common.{◌≡◌, ◌≢◌, ◌⊎◌, ℕ, not, List, [], ◌∷◌, ◌++◌, length, Some, None, slice_get, arith}
+use Rattle.std.proofs.Common.{◌≡◌, ◌≢◌, ◌⊎◌, ℕ, List, [], ◌∷◌, ◌++◌, Some, slice_get, arith}
 use Rattle.std.specs.Str.{bytes_eq}
 use Rattle.std.proofs.lemmas.Grind.{common_steps}
 use Rattle.std.proofs.lemmas.Bool.Decides.{nat_tests}
 use Rattle.std.proofs.lemmas.List.{length_push}
 use Rattle.std.proofs.lemmas.List.Folds.{position_or_len_push}
-use Rattle.std.proofs.lemmas.List.Sums.{passes_at_first, prefix_len-le-length}
-use Rattle.std.proofs.lemmas.Option.{gets, slice_get-get_or}
+use Rattle.std.proofs.lemmas.Option.{gets}
 use Rattle.std.proofs.lemmas.Slice.Eq.{bytes_eq-Decides}
 use Rattle.lasso_parts.specs.Texts.{Text, position_of}
 
 pub same_or_not : (x t : Text) → (x ≡ t) ⊎ (x ≢ t)
 same_or_not x t = grind (arith, bytes_eq-Decides x t)
 
--- the position that was found has the text
-pub position_here : (texts : List Text) (text : Text) (n : ℕ) → position_of texts text ≡ Some n → slice_get texts n ≡ Some text
-position_here texts text n e = grind (arith, nat_tests, passes_at_first (λ t. bytes_eq t text) texts [], slice_get-get_or, bytes_eq-Decides)
-
 -- a text that goes last changes the position of no other
 pub position_other : (texts : List Text) (text other : Text) → other ≢ text → position_of (texts ++ text ∷ []) other ≡ position_of texts other
 position_other texts text other ne = grind (arith, nat_tests, position_or_len_push (λ t. bytes_eq t other) texts text, length_push texts text, bytes_eq-Decides text other)
-
--- a new text that goes last has the last position
-pub position_last : (texts : List Text) (text : Text) → position_of texts text ≡ None → position_of (texts ++ text ∷ []) text ≡ Some (length texts)
-position_last texts text none = grind (arith, nat_tests, prefix_len-le-length (λ t. not (bytes_eq t text)) texts, position_or_len_push (λ t. bytes_eq t text) texts text, length_push texts text, bytes_eq-Decides text text)
 
 pub get_front : {A : Type 0} (xs ys : List A) (n : ℕ) (x : A) → slice_get xs n ≡ Some x → slice_get (xs ++ ys) n ≡ Some x
 get_front xs ys n x h = grind (arith, common_steps, gets)

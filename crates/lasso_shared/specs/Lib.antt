@@ -13,4 +13,5 @@ pub mod Notes
 pub mod Book
 pub mod Events
 pub mod Views
+pub mod CallerLaws
 pub mod Openings

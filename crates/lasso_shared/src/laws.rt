@@ -3,6 +3,12 @@
 ghost use Rattle.lasso_shared.specs.ExampleCalls.{AreCalls, AreNoCalls};
 ghost use Rattle.lasso_shared.specs.Laws.{EachHistoryHolds, ChargeRefusesExactlyPastLimit};
 
+mod callers;
+
+pub use callers::{
+    answered_keys_resolve, calls_tell_keys, keys_are_equal_where_texts_are, passes_share_keys,
+    resolved_texts_stay, seen_texts_keep_keys,
+};
 use lasso_parts::keys::Key;
 
 /// In every legal history of an opening no text stands twice and each position has a key, no bucket
@@ -18,13 +24,14 @@ pub fn charge_refuses_exactly_past_limit()
     ensures { ChargeRefusesExactlyPastLimit }
 {}
 
-/// Calls that were worked by hand are calls by the definition.
+/// Calls that were worked by hand are calls by the definition, in an interner that opens with no text and in one that opens with two.
 pub fn worked_calls_are_calls()
     ensures { AreCalls }
 {}
 
-/// Wrong calls are none: an append that is dropped or doubled, a refusal that takes a position, a text
-/// that the pass had seen and that is not found, and others.
+/// Wrong calls are none: an append that is dropped or doubled, a refusal that takes a position, a text that the pass had
+/// seen and that is not found, a list that is older than the exit, a limit that is not set or set twice, a refusal for which
+/// there is no ground, and others. Nor may an interner open with a text that stands twice, or without a key for each text.
 pub fn wrong_calls_are_none()
     ensures { AreNoCalls }
 {}

@@ -1,5 +1,6 @@
 //! The history that the passes of a shared interner see: a log that only grows, with the words of the
 //! interner and the list of its texts under one rule.
+mod apart;
 pub mod look;
 pub mod note;
 pub mod opening;

@@ -1,4 +1,4 @@
-//! Commands of a `Rodeo`, their replies, and runs of many.
+//! Commands of a `Rodeo`, their replies, and runs of many. It is for callers alone: no interner runs them.
 ghost use Rattle.std.specs.Prelude.{◌≡◌, ◌+◌, ◌*◌, ◌<◌, ◌≤◌, false, All, map, option_map, IfErr, IfOk, OnOk, length};
 ghost use Rattle.lasso_parts.specs.declared.util.LassoErrorKind.TheVariants.{FailedAllocation};
 ghost use Rattle.lasso_single.specs.Command.{intern_reply, done_reply, resolves_to, replies_to, run_of, IsUncleared};

@@ -1,4 +1,4 @@
-//! Keys as JSON: the numbers that they keep.
+//! Keys as JSON: the numbers that they keep. It is for callers alone: an interner is written as its texts.
 ghost use Rattle.std.specs.Prelude.{◌≡◌, ◌+◌, ◌<◌, ◌≤◌, ◌^◌, ◌↔◌, ℕ, IsSome, IsOk, IsOkAnd, Some};
 ghost use Rattle.std.proofs.Common.{lit<};
 ghost use Rattle.serde_json.specs.Data.{number, unsigned};

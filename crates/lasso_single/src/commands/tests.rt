@@ -1,4 +1,4 @@
-//! A run of commands, worked by hand.
+//! Runs of commands, worked by hand.
 
 use super::*;
 use lasso_parts::keys::Spur;
@@ -25,6 +25,20 @@ fn is_limit(reply: &Reply<Spur>) -> bool {
 fn is_text(reply: &Reply<Spur>, wanted: &str) -> bool {
     match reply {
         Reply::Text(Some(text)) => text.as_str() == wanted,
+        _ => false,
+    }
+}
+
+fn is_found(reply: &Reply<Spur>, wanted: Option<usize>) -> bool {
+    match reply {
+        Reply::Found(key) => key.map(|key| key.into_usize()) == wanted,
+        _ => false,
+    }
+}
+
+fn is_flag(reply: &Reply<Spur>, wanted: bool) -> bool {
+    match reply {
+        Reply::Flag(flag) => *flag == wanted,
         _ => false,
     }
 }
@@ -63,5 +77,119 @@ fn a_refusal_does_not_end_the_run(rt: HostRuntime) -> Result<(), Fail> {
     assert!(rt; is_text(&replies[4], "e"));
     assert!(rt; is_number(&replies[5], 1));
     assert!(rt; is_number(&replies[6], 4));
+    Ok(())
+}
+
+// A first bucket of 4 bytes under a limit of 20: "abc" leaves room for 1 byte, so "defgh" asks for a bucket of
+// twice 4 bytes, and 12 are taken. The clear leaves 8 of the last one, and the copy takes 6 of them. "three" asks
+// for a third: 12 and twice 8 are past the limit, so it is what the limit leaves, 8 bytes.
+#[test]
+fn each_command_in_one_run(rt: HostRuntime) -> Result<(), Fail> {
+    let mut source: Small = Rodeo::new(rt.alloc())?;
+    source.extend(["one", "two"])?;
+    let mut rodeo: Small = Rodeo::with_capacity(rt.alloc(), Capacity::for_bytes(4))?;
+    let second = Spur::try_from_usize(1).ok_or("no key")?;
+    let commands = [
+        Command::SetLimit(MemoryLimits::new(20)),
+        Command::MaxUsage,
+        Command::Intern("abc"),
+        Command::InternStatic("a static text"),
+        Command::Get("a static text"),
+        Command::Contains("defgh"),
+        Command::ContainsKey(second),
+        Command::TryResolve(second),
+        Command::Len,
+        Command::Intern("defgh"),
+        Command::Usage,
+        Command::Clear,
+        Command::CloneFrom(&source),
+        Command::Extend(&["two", "three"]),
+        Command::InternStatic("four"),
+    ];
+    let replies = run_commands(rt.alloc(), &mut rodeo, commands.as_slice())?;
+    answers_as_worked(&rt, replies.as_slice());
+    holds_as_worked(&rt, &rodeo);
+    Ok(())
+}
+
+fn answers_as_worked(rt: &impl Abort, replies: &[Reply<Spur>]) {
+    match replies {
+        [
+            limit,
+            greatest,
+            copied,
+            lasting,
+            found,
+            absent,
+            there,
+            text,
+            count,
+            grown,
+            taken,
+            cleared,
+            cloned,
+            extended,
+            last,
+        ] => {
+            assert!(rt; matches!(limit, Reply::Done));
+            assert!(rt; is_number(greatest, 20));
+            assert!(rt; is_key(copied, 0));
+            assert!(rt; is_key(lasting, 1));
+            assert!(rt; is_found(found, Some(1)));
+            assert!(rt; is_flag(absent, false));
+            assert!(rt; is_flag(there, true));
+            assert!(rt; is_text(text, "a static text"));
+            assert!(rt; is_number(count, 2));
+            assert!(rt; is_key(grown, 2));
+            assert!(rt; is_number(taken, 12));
+            assert!(rt; matches!(cleared, Reply::Done));
+            assert!(rt; matches!(cloned, Reply::Done));
+            assert!(rt; matches!(extended, Reply::Done));
+            assert!(rt; is_key(last, 3));
+        }
+        _ => assert!(rt; false, "not one reply for each command"),
+    }
+}
+
+fn holds_as_worked(rt: &impl Abort, rodeo: &Small) {
+    assert_eq!(rt; rodeo.len(), 4);
+    let mut texts = rodeo.strings();
+    for text in ["one", "two", "three", "four"] {
+        assert_eq!(rt; texts.next(), Some(text));
+    }
+    assert_eq!(rt; rodeo.current_memory_usage(), 20);
+    assert_eq!(rt; rodeo.max_memory_usage(), 20);
+}
+
+// "abc" fills what a limit of 4 bytes has room for but 1. So the copy stops at its second text and leaves none, the
+// filling stops at "three" behind the text that fits, and a static text asks for nothing.
+#[test]
+fn each_command_past_the_limit(rt: HostRuntime) -> Result<(), Fail> {
+    let mut source: Small = Rodeo::new(rt.alloc())?;
+    source.extend(["one", "two"])?;
+    let limits = MemoryLimits::new(4);
+    let mut rodeo: Small = Rodeo::with_capacity_and_memory_limits(
+        rt.alloc(),
+        Capacity::for_bytes(4),
+        limits,
+    )?;
+    let commands = [
+        Command::Intern("abc"),
+        Command::CloneFrom(&source),
+        Command::Len,
+        Command::Extend(&["two", "three", "a"]),
+        Command::Len,
+        Command::InternStatic("three"),
+        Command::Get("a"),
+    ];
+    let replies = run_commands(rt.alloc(), &mut rodeo, commands.as_slice())?;
+    assert_eq!(rt; replies.len(), 7);
+    assert!(rt; is_key(&replies[0], 0));
+    assert!(rt; is_limit(&replies[1]));
+    assert!(rt; is_number(&replies[2], 0));
+    assert!(rt; is_limit(&replies[3]));
+    assert!(rt; is_number(&replies[4], 1));
+    assert!(rt; is_key(&replies[5], 1));
+    assert!(rt; is_found(&replies[6], None));
     Ok(())
 }

@@ -63,6 +63,8 @@ fn a_resolver_of_items(rt: HostRuntime) -> Result<(), Fail> {
     if resolver.contains_key(first) {
         assert_eq!(rt; resolver.resolve(first), "a");
         assert_eq!(rt; resolver.resolve_unchecked(first), "a");
+    } else {
+        assert!(rt; false, "the first key stands for no text");
     }
     for (key, text) in &resolver {
         assert_eq!(rt; resolver.try_resolve(key), Some(text));

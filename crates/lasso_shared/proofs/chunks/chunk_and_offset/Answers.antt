@@ -10,8 +10,8 @@ found c = let n : ℕ = c.args.position in let top : ℕ = c.ilog2-top.result in
 pub overflow_sub-result : goal.overflow_sub-result
 overflow_sub-result c = let low = top_low c.args.position c.ilog2-top.result c.if-position-lt-FIRST_LENGTH.false (search rules) c.ilog2-top.ensures.power_le c.ilog2-top.ensures.next_power_gt in omega arith
 
-pub returns-clause-place : goal.returns-clause-place
-returns-clause-place c = ((found c).row_is, (found c).offset_is)
+pub returns-clause-value : goal.returns-clause-value
+returns-clause-value c = ((found c).row_is, (found c).offset_is)
 
 pub returns-clause-there : goal.returns-clause-there
 returns-clause-there c = ((found c).few, (found c).inside)

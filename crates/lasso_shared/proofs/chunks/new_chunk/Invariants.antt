@@ -3,4 +3,4 @@ use Rattle.std.specs.Prelude.{vec_capacity, vec_len}
 use Rattle.lasso_shared.proofs.chunks.new_chunk.Given as goal
 
 abbrev pub invariant-loop : goal.invariant-loop
-invariant-loop g l = (l.counter ≤ l.cells) × (l.cells ≤ vec_capacity l.row) × (vec_len l.row ≡ l.counter)
+invariant-loop g l = (l.counter ≤ l.cells) × (l.cells ≤ vec_capacity l.chunk) × (vec_len l.chunk ≡ l.counter)

@@ -3,8 +3,13 @@ use Rattle.std.proofs.Common.{◌<◌, ◌+◌, ℕ, List, [], ◌∷◌, refl, 
 use Rattle.std.proofs.lemmas.List.Elements.{All-cons, All-nil}
 use Rattle.lasso_shared.specs.Buckets.{CountedBucket, HasNoRoom}
 use Rattle.lasso_shared.specs.History.{Reserve, Charge, Append, Limit}
-use Rattle.lasso_shared.specs.Example.{ddd}
-use Rattle.lasso_shared.specs.ExampleCalls.{two}
+use Rattle.std.proofs.lemmas.Bool.Decides.{nat_tests}
+use Rattle.std.proofs.lemmas.Map.Keys.{IsDistinct-from_apart}
+use Rattle.std.specs.Str.{bytes_eq}
+use Rattle.lasso_parts.specs.Texts.{IsDistinct, Fits}
+use Rattle.lasso_parts.proofs.TextLemmas.{distinct_push}
+use Rattle.lasso_shared.specs.Example.{three_keys, a, bc, ddd}
+use Rattle.lasso_shared.specs.ExampleCalls.{two, last}
 use Rattle.lasso_shared.proofs.laws.worked_calls_are_calls.Goals as goal
 
 -- a bucket without room, before others
@@ -13,6 +18,13 @@ full_too n size used bs full others = All-cons (λ (b : CountedBucket). b.size <
 
 none_left : (n : ℕ) → HasNoRoom [] n
 none_left n = All-nil (λ (b : CountedBucket). b.size < b.used + n)
+
+-- no text stands twice in the worked opening, and its three positions have keys
+both_distinct : IsDistinct (bc ∷ a ∷ [])
+both_distinct = distinct_push (bc ∷ []) a (distinct_push [] bc (IsDistinct-from_apart bytes_eq [] (λ i j d below inside. absurd (omega arith))) refl) refl
+
+both_fit : Fits three_keys 2
+both_fit = λ i below. grind (arith, nat_tests)
 
 pub returns : goal.returns
 returns c = record {
@@ -57,4 +69,11 @@ returns c = record {
   missed = record { past = two; begins = refl; explained = ([], two, refl, tt, refl); makes = refl };
   seen = record { past = two; begins = refl; explained = (two, [], refl, tt, refl); makes = refl };
   walk = record { past = two; begins = refl; explained = (two, [], refl, refl, refl); makes = refl };
+  frozen = record { past = two; begins = refl; explained = (two, [], refl, refl, inl refl); makes = refl };
+  not_written = record { past = two; begins = refl; explained = (two, [], refl, refl, inr refl); makes = refl };
+  opens = record { distinct = both_distinct; fits = both_fit; bucket = (4, 3, omega arith, refl) };
+  legal_there = (((λ x. grind arith), omega arith), ((refl, refl), tt));
+  opened_found = record { past = []; begins = refl; explained = ([], [], refl, tt, refl); makes = inl refl };
+  opened_resolved = record { past = last; begins = refl; explained = ([], last, refl, tt, refl); makes = refl };
+  opened_added = record { past = last; begins = refl; explained = (last, [], refl, tt, refl); makes = inr (Reserve 0 1 ∷ [], inl (0, refl), refl) };
 }

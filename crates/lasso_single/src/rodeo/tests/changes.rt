@@ -33,6 +33,8 @@ fn a_key_outlives_its_text(rt: HostRuntime) -> Result<(), Fail> {
             rodeo.resolve_unchecked(key),
             "Somewhere over the rainbow..."
         );
+    } else {
+        assert!(rt; false, "the key stands for no text");
     }
     rodeo.clear();
     assert_eq!(rt; rodeo.len(), 0);

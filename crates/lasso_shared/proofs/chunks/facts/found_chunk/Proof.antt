@@ -10,7 +10,7 @@ use Rattle.boxcar.specs.contracts.slot.Written as Written
 use Rattle.boxcar.proofs.Made.{written_made}
 use Rattle.lasso_shared.specs.Chunks.{chunk_of, ListOnlyGrows}
 use Rattle.lasso_shared.specs.contracts.chunks.rule.InChunks as InChunks
-use Rattle.lasso_shared.specs.contracts.chunks.rule.InRowsRuleU64.TheImpl as law
+use Rattle.lasso_shared.specs.contracts.chunks.rule.InChunksRuleU64.TheImpl as law
 use Rattle.lasso_shared.proofs.Lined.{SeesLog, Known, finds}
 use Rattle.lasso_shared.specs.contracts.chunks.facts.found_chunk.{ended, clauses}
 use Rattle.lasso_shared.specs.contracts.chunks.facts.found_chunk.Key.{name as #self}

@@ -14,7 +14,7 @@ use Rattle.boxcar.proofs.Steps.{one_written}
 use Rattle.lasso_parts.specs.Texts.{Text}
 use Rattle.lasso_shared.specs.Chunks.{chunk_of, offset_of, name_at, holds_text, ListOnlyGrows}
 use Rattle.lasso_shared.specs.contracts.chunks.rule.InChunks as InChunks
-use Rattle.lasso_shared.specs.contracts.chunks.rule.InRowsRuleU64.TheImpl as law
+use Rattle.lasso_shared.specs.contracts.chunks.rule.InChunksRuleU64.TheImpl as law
 use Rattle.lasso_shared.proofs.Lined.{SeesLog, Known, finds}
 use Rattle.lasso_shared.specs.contracts.chunks.facts.found_item.{ended, clauses}
 use Rattle.lasso_shared.specs.contracts.chunks.facts.found_item.Key.{name as #self}

@@ -5,14 +5,14 @@
 -- of the new place, so they stand at the end. They need no step of the machine, and the offer has no bytes.
 use Rattle.lasso_shared.proofs.WalkWords.{◌≡◌, [], ◌∷◌, refl, a_type, dcons, dnil, named, inst_fn, Val, vptr, SProp, emp, ‵, raw, ◌⊛◌, ◌$◌, ◌∵◌, !, qed, by, move, keep, let_go, split, fsplit, fjoin, use0, use2, no_more, and_then, returns, enter, alloc_all, pass_all, free_all, look_at, get, sets, agg, fact, fact_i, tables, yes, RattleType, owns, types_at, plain, RefOf, u64, shr_vals, shr_Tells, param, bounded, unhide, nothing, heard, Tuple, alive, Stays, stay_dropped, walk_of, Goes-dropped, proved, token, Token, token_made, ends}
 use Rattle.std.specs.declared.option.Option.TheVariants.{None}
-use Rattle.logbook.specs.LogKeepsRule.{offer_owns}
+use Rattle.logbook.specs.Kept.{offer_owns}
 use Rattle.logbook.specs.contracts.tokens.Seen as Seen
 use Rattle.logbook.specs.contracts.tokens.Offer as Offer
 use Rattle.boxcar.specs.contracts.slot.Written as Written
 use Rattle.lasso_shared.specs.Chunks.{IsCellAt}
 use Rattle.lasso_shared.specs.contracts.chunks.rule.InChunks as InChunks
 use Rattle.lasso_shared.specs.contracts.chunks.rule.NoGain as NoGain
-use Rattle.lasso_shared.specs.contracts.chunks.rule.InRowsRuleU64.TheImpl as law
+use Rattle.lasso_shared.specs.contracts.chunks.rule.InChunksRuleU64.TheImpl as law
 use Rattle.lasso_shared.specs.contracts.chunks.rule.NoGainGainU64.TheImpl as no_gain
 use Rattle.lasso_shared.proofs.Lined.{offered}
 use Rattle.lasso_shared.specs.contracts.chunks.facts.hand_in.{ended, clauses}

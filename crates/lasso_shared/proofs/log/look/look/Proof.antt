@@ -18,7 +18,7 @@ use denote.Param.{param, bounded}
 use denote.Triple.Walked.{Stays, stay_ref, walk_of, Goes-ref}
 use Rattle.std.proofs.raw_atomic.Walks.{proved}
 use Rattle.logbook.specs.Pages.{Book}
-use Rattle.logbook.specs.LogKeepsRule.{rules, seen_owns, pen_owns}
+use Rattle.logbook.specs.Kept.{rules, seen_owns, pen_owns}
 use Rattle.logbook.specs.contracts.tokens.Seen as Seen
 use Rattle.logbook.specs.contracts.tokens.Pen as Pen
 use Rattle.logbook.proofs.Fields.{ends}

@@ -1,5 +1,5 @@
 use Rattle.std.proofs.Common.{◌∙◌, List, [], ◌∷◌, ◌++◌, length, true, refl, sym, ap, subst}
-use Rattle.lasso_parts.specs.Arena.{account_of, copied_of, place_of}
+use Rattle.lasso_parts.specs.Arena.{account_of, copied_of, address_of}
 use Rattle.lasso_parts.specs.Bucket.{Extent}
 use Rattle.lasso_parts.specs.Entries.{EntryView, IsThere, entry_text}
 use Rattle.lasso_parts.proofs.Wasted.{thrifty_store}
@@ -11,7 +11,7 @@ pub invariant_of-self-2 : goal.invariant_of-self-2
 invariant_of-self-2 g c =
     let now : List Extent = c.store_str.new.self.all in
     let grown = c.push_reserved.ensures.items ∙ ap (λ (xs : List EntryView). xs ++ c.copied-entry.result ∷ []) c.in_ok-reserve.ensures.items in
-    let same = ap (λ (rs : List Extent). place_of rs c.in_ok-span.span) c.regions.ensures in
+    let same = ap (λ (rs : List Extent). address_of rs c.in_ok-span.span) c.regions.ensures in
     let new : IsThere now c.copied-entry.result = subst (IsThere now) (sym c.copied-entry.ensures.entry) (c.in_ok-span.ensures.stored.0, same) in
     let there = there_pushed c.self.inside.arena.all now c.self.inside.entries.items c.push_reserved.new.self.items c.copied-entry.result c.self.invariant.0 c.in_ok-span.ensures.kept grown new in
     let ok = refl {a = true} in
