@@ -142,9 +142,9 @@ impl<K: Key, A: Allocator> Index<K, A> {
         Ok(())
     }
 
-    /// The same for the index of a whole list, whose keys stand for the positions 0, 1, 2 and so on: where the
-    /// table grows they are entered again in that order, so that texts which lie side by side are read one
-    /// after another.
+    /// The same for the index of a whole list, which holds the positions 0, 1, 2 and so on: where the table
+    /// grows they are entered again in that order, so that texts which lie side by side are read one after
+    /// another.
     pub fn reserve_in_order<T: Texts, S: BuildHasher>(
         &mut self,
         texts: &T,
@@ -173,8 +173,8 @@ impl<K: Key, A: Allocator> Index<K, A> {
         Ok(())
     }
 
-    /// Enters the key under the hash of its text. There must be room, which `reserve_one` makes; so it
-    /// can't be refused.
+    /// Enters the key under the hash of its text. There must be room, which `reserve_one` and
+    /// `reserve_in_order` make; so it can't be refused.
     #[inline]
     pub fn insert_reserved(&mut self, hash: u64, key: K)
         requires { 0 < room self.old.slots }
