@@ -121,12 +121,12 @@ kept_opening key_at opening opens = record {
   distinct = opens.distinct;
   fits = opens.fits;
   within = subst (λ (t : Totals). All (λ (b : CountedBucket). b.used ≤ b.size) t.buckets) (sym is)
-      (All-cons (λ (b : CountedBucket). b.used ≤ b.size) (record { size = opens.bucket.0; used = opens.bucket.1 }) [] opens.bucket.2 (All-nil (λ (b : CountedBucket). b.used ≤ b.size)));
+      (All-cons (λ (b : CountedBucket). b.used ≤ b.size) (record { size = opens.bucket.0; used = opens.bucket.1 }) [] opens.bucket.3 (All-nil (λ (b : CountedBucket). b.used ≤ b.size)));
   usage = subst (λ (t : Totals). t.usage ≡ sum_by (λ (b : CountedBucket). b.size) t.buckets) (sym is) (omega arith);
 }
   where
     is : opening ≡ opened opening.texts opens.bucket.0 opens.bucket.1 opening.limit
-    is = opens.bucket.3
+    is = opens.bucket.4
 
 pub holds_of_history : {K : Type 0} (key_at : ℕ → Option K) (opening : Totals) (h : History) → IsOpening key_at opening → IsLegal key_at opening h → HoldsOfHistory key_at opening h
 holds_of_history key_at opening h opens legal = record {

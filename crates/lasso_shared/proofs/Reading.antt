@@ -1,5 +1,5 @@
 -- What a reading of the length tells of the list, and what an opening holds.
-use Rattle.std.proofs.Common.{◌≡◌, ◌⊎◌, ℕ, zero, suc, ◌+◌, ◌<◌, ◌≤◌, true, List, [], ◌∷◌, ◌++◌, length, slice_get, slice_index_or, Some, Option, refl, ap, sym, ◌∙◌, arith, inl, inr}
+use Rattle.std.proofs.Common.{◌≡◌, ◌≢◌, ◌⊎◌, ℕ, zero, suc, ◌+◌, ◌<◌, ◌≤◌, true, List, [], ◌∷◌, ◌++◌, length, slice_get, slice_index_or, Some, Option, refl, ap, sym, ◌∙◌, arith, inl, inr}
 use Rattle.std.proofs.lemmas.Map.Keys.{IsDistinct-from_apart}
 use Rattle.std.specs.Str.{bytes_eq}
 use mathlib.Core.List.{IsPrefix}
@@ -46,9 +46,9 @@ module _ {Key : Type 0} (keys : ℕ → Option Key) where
   length_read o notes n none reads = let len = length_of o notes 0 n reads.0 in omega (arith, len, ap (λ (ts : List Text). length ts) none)
 
   -- a new book holds its rule
-  pub opens : (size used limit : ℕ) → used ≤ size → KeepsRule keys ((0, true) ∷ (0, true) ∷ (0, true) ∷ []) (opened [] size used limit) []
-  opens size used limit le = record {
-    opened = record { distinct = none_distinct; fits = λ i low. absurd (omega (arith, low)); bucket = (size, used, le, refl) };
+  pub opens : (size used limit : ℕ) → size ≢ 0 → used ≤ size → KeepsRule keys ((0, true) ∷ (0, true) ∷ (0, true) ∷ []) (opened [] size used limit) []
+  opens size used limit ne le = record {
+    opened = record { distinct = none_distinct; fits = λ i low. absurd (omega (arith, low)); bucket = (size, used, ne, le, refl) };
     used = tt;
     chained = tt;
     words = (refl, (refl, (refl, tt)));

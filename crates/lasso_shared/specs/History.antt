@@ -40,11 +40,11 @@ opened texts size used limit =
       limit = limit;
     }
 
--- what an interner may begin with: the list is distinct and fits the keys, and there is one bucket
+-- what an interner may begin with: the list is distinct and fits the keys, and there is one bucket, whose size is not 0
 pub record IsOpening {K : Type 0} (key_at : ℕ → Option K) (opening : Totals) : Type 0 where
   pub distinct : IsDistinct opening.texts
   pub fits : Fits key_at (length opening.texts)
-  pub bucket : (size used : ℕ) × (used ≤ size) × (opening ≡ opened opening.texts size used opening.limit)
+  pub bucket : (size used : ℕ) × (size ≢ 0) × (used ≤ size) × (opening ≡ opened opening.texts size used opening.limit)
 
 -- what stands after one more event
 abbrev pub counted : Totals → Event → Totals

@@ -90,7 +90,7 @@ fn length_of(chunk: usize) -> usize
     if chunk == 0 { 32 } else { 32 << (chunk - 1) }
 }
 
-// HasCells that are not filled.
+// Cells that are not filled.
 fn new_chunk<T: Drop>(alloc: Global, cells: usize) -> Result<Chunk<T>, AllocError>
     ensures { IfOk result (λ chunk. length chunk.items ≡ cells) }
 {

@@ -58,7 +58,6 @@ impl<K: Key, S: BuildHasher + Drop> Fits for Desk<K, S> {
 
 /// An interner that threads share. A contract sees its book and what it opened with, which its maker fixes; what is
 /// known of its history is in the passes.
-#[derive(Drop)]
 pub struct ThreadedRodeo<K: Key, S: BuildHasher + Drop> {
     log: Log<K>,
     desk: TaggedMutex<Desk<K, S>>,
@@ -76,6 +75,17 @@ impl<K: Key, S: BuildHasher + Drop> Model for ThreadedRodeo<K, S> {
     ghost view = { λ t. t.log };
 
     ghost invariant = { λ t. t.desk ≡ t.log };
+}
+
+// One call, so that proofs of callers see nothing of the fields where an interner is let go.
+impl<K: Key, S: BuildHasher + Drop> Drop for ThreadedRodeo<K, S> {
+    fn drop(self) {
+        let ThreadedRodeo {
+            log: _,
+            desk: _,
+            alloc: _,
+        } = self;
+    }
 }
 
 // The bytes of the first bucket, and the most bytes that all buckets take, where none are named.

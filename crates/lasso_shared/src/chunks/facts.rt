@@ -1,4 +1,5 @@
 //! What shows that cells are filled: how it is handed to a book, and had of it again. None of it has bytes.
+//! Used by the chunks, by the opening of a log and by its tickets.
 //!
 //! A `Written` is a fact for good, so a book can keep one for each position of its list, and give out copies.
 ghost use Rattle.std.specs.Prelude.{◌≡◌, ◌<◌, ℕ, List, [], ◌∷◌, ◌++◌, length, None, slice_index, slice_index_or};

@@ -1,4 +1,4 @@
-//! The rule of a book whose texts lie in chunks.
+//! The rule of a book whose texts lie in chunks. Used by the chunks and by the rule of the log.
 
 use logbook::{Gain, Rule};
 use std::marker::PhantomData;

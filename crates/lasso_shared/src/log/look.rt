@@ -1,4 +1,4 @@
-//! A look at the log while a pen is out.
+//! A look at the log while a pen is out. Used by passes and by the loads of words.
 ghost use Rattle.std.specs.Prelude.{◌≡◌, false, List};
 ghost use mathlib.Core.List.{IsPrefix};
 ghost use Rattle.logbook.specs.Pages.{Cell, cell, may_write};

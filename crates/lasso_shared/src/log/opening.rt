@@ -1,5 +1,5 @@
-//! The opening of a log.
-ghost use Rattle.std.specs.Prelude.{◌≡◌, ◌≤◌, [], IfOk};
+//! The opening of a log. Used by the makers of interners.
+ghost use Rattle.std.specs.Prelude.{◌≡◌, ◌≤◌, ◌≢◌, [], IfOk};
 ghost use Rattle.lasso_shared.specs.Openings.{opening_with};
 ghost use Rattle.lasso_shared.specs.Views.{InternerId};
 
@@ -49,9 +49,9 @@ impl Names<Chunks<StoredText>> for ByChunks {
 }
 
 impl<K: Key> Log<K> {
-    /// The log of a new interner, and its spine. It is refused for want of memory alone.
+    /// The log of a new interner, and its spine. The first bucket's size is not 0. It is refused for want of memory alone.
     pub fn open(alloc: Global, opened: Opened) -> Result<(Log<K>, Spine<K>), AllocError>
-        requires { opened.used ≤ opened.size }
+        requires { (opened.size ≢ 0) × (opened.used ≤ opened.size) }
         ensures opening { IfOk result (λ r. r.0.opening ≡ opening_with opened) }
         ensures spine { IfOk result (λ r. (r.1.of ≡ r.0) × (r.1.notes ≡ []) × (r.1.kept ≡ 0)) }
     {

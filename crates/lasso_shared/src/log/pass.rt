@@ -16,7 +16,6 @@ use std::marker::Model;
 
 /// What its holder has seen of the history of one interner. A contract sees its number, its interner and the
 /// notes that it has seen. It has no bytes but those of its tickets.
-#[derive(Drop)]
 pub struct Pass<K: Key> {
     pub(super) seen: Seen<Note, u64, LogRule<K>>,
     pub(super) ticket: Ticket<K>,
@@ -38,6 +37,18 @@ impl<K: Key> Model for Pass<K> {
     ghost view = { λ p. record { number = first_number p.number.numbers; of = interner_id p.seen.book p.seen.names (opening_of p.seen.log); notes = notes_of p.seen.log } };
 
     ghost invariant = { λ p. IsTicket p.seen.book p.ticket.word p.ticket.pen × IsTicket p.seen.book p.next.word p.next.pen × (p.ticket.pen.nib.key ≡ ticket_of (first_number p.number.numbers) (notes_of p.seen.log)) × IsOpened p.seen.log × IsLegal K.key_at (opening_of p.seen.log) (history (notes_of p.seen.log)) × IsOpening K.key_at (opening_of p.seen.log) };
+}
+
+// One call, so that proofs of callers see nothing of the fields where a pass is let go.
+impl<K: Key> Drop for Pass<K> {
+    fn drop(self) {
+        let Pass {
+            seen: _,
+            ticket: _,
+            next: _,
+            number: _,
+        } = self;
+    }
 }
 
 impl<K: Key> Pass<K> {

@@ -1,4 +1,4 @@
-//! The rule of the shared log, and what each kind of step tells.
+//! The rule of the shared log, and what each kind of step tells. Used by all of the log.
 use crate::chunks::Chunk;
 use crate::chunks::rule::{InChunks, Listed};
 use crate::log::note::Note;

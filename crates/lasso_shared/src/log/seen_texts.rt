@@ -1,4 +1,4 @@
-//! The list of a history that was seen, as an index reads it.
+//! The list of a history that was seen, as an index reads it. Used by the interner that threads share.
 ghost use Rattle.std.specs.Prelude.{◌≡◌};
 ghost use Rattle.lasso_shared.specs.Views.{PassView, InternerId, list_of};
 

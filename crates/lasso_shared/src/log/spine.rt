@@ -12,7 +12,7 @@ use crate::log::note::{Change, Note};
 use crate::log::pass::Pass;
 use crate::log::rule::{LogRule, StoredText};
 use crate::log::ticket::CellProof;
-use crate::log::words::Log;
+use crate::log::words::{Exchange, Log};
 use lasso_parts::keys::Key;
 use lasso_parts::util::{LassoError, LassoErrorKind, LassoResult};
 use logbook::Seen;
@@ -22,7 +22,6 @@ use std::sync::Wait;
 
 /// The length of the list in a history that was seen, and how many slots past it are kept for texts to come.
 /// It lies under a lock. Contracts see the slots kept, the interner, and what the spine has seen.
-#[derive(Drop)]
 pub struct Spine<K: Key> {
     pub(super) kept: u64,
     pub(super) len: u64,
@@ -42,6 +41,17 @@ impl<K: Key> Model for Spine<K> {
     ghost view = { λ s. record { kept = s.kept; of = interner_id s.seen.book s.seen.names (opening_of s.seen.log); notes = notes_of s.seen.log } };
 
     ghost invariant = { λ s. IsOpened s.seen.log × ((opening_of s.seen.log).texts ≡ []) × Reads K.key_at (opening_of s.seen.log) (notes_of s.seen.log) 0 0 s.len × (s.len + s.kept < 2 ^ 64) };
+}
+
+// One call, so that proofs of callers see nothing of the fields where a spine is let go.
+impl<K: Key> Drop for Spine<K> {
+    fn drop(self) {
+        let Spine {
+            kept: _,
+            len: _,
+            seen: _,
+        } = self;
+    }
 }
 
 impl<K: Key> Spine<K> {
@@ -144,12 +154,14 @@ impl<K: Key> Log<K> {
         let len = spine.len;
         let Some(word) = self.exchange(
             &self.head,
-            0,
-            len,
-            1,
-            0,
+            Exchange {
+                word_index: 0,
+                expected: len,
+                more: 1,
+                value: 0,
+                position: len,
+            },
             Change::Append { text },
-            len,
             Some(cell_proof),
             &spine.seen,
             pass,

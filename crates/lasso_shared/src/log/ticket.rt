@@ -1,4 +1,4 @@
-//! Tickets: a pass has one for its next event, and its number is the first one's.
+//! Tickets: a pass has one for its next event, and its number is the first one's. Used by passes and by the log's steps.
 ghost use Rattle.std.specs.Prelude.{◌≡◌, [], MatchOption};
 ghost use Rattle.lasso_shared.specs.Notes.{appended_text};
 ghost use Rattle.logbook.specs.Pages.{may_write, nib};

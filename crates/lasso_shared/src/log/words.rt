@@ -1,4 +1,5 @@
-//! The steps of the log: a look at a word, the fetching of a ticket, and the exchange that adds an event.
+//! The steps of the log: a look at a word, the fetching of a ticket, and the exchange that adds an event. Used by the
+//! readings of the log and by its spine.
 ghost use Rattle.std.specs.Prelude.{◌≡◌, ◌+◌, ◌<◌, ◌^◌, [], ℕ, length, MatchOption};
 ghost use Rattle.lasso_shared.specs.History.{Append};
 ghost use Rattle.lasso_shared.specs.Notes.{Since, IsWord, IsOpened, opening_of, notes_of};
@@ -21,7 +22,6 @@ use std::marker::Model;
 
 /// The log of one interner: the word that has the list's length, the chunks that its texts lie in, and the log as
 /// it was at the opening. A contract sees which interner it is of.
-#[derive(Drop)]
 pub struct Log<K: Key> {
     pub(super) head: Word<Note, u64, LogRule<K>>,
     pub(super) chunks: Chunks<StoredText>,
@@ -42,6 +42,32 @@ impl<K: Key> Model for Log<K> {
     ghost view = { λ l. interner_id l.seen.book l.seen.names (opening_of l.seen.log) };
 
     ghost invariant = { λ l. (l.head ≡ head_of l.seen.book) × (l.chunks ≡ l.seen.names) × IsOpened l.seen.log × (notes_of l.seen.log ≡ []) × ((opening_of l.seen.log).texts ≡ []) × IsOpening K.key_at (opening_of l.seen.log) };
+}
+
+// One call, so that proofs of callers see nothing of the fields where a log is let go.
+impl<K: Key> Drop for Log<K> {
+    fn drop(self) {
+        let Log {
+            head: _,
+            chunks: _,
+            seen: _,
+        } = self;
+    }
+}
+
+/// The numbers of an exchange that adds an event.
+#[derive(Clone, Copy)]
+pub(super) struct Exchange {
+    /// Which word it moves: 0 is the list's length, 1 the turns, and each bucket has a later one.
+    pub word_index: u64,
+    /// The value that the word must have still.
+    pub expected: u64,
+    /// By how much the word grows.
+    pub more: u64,
+    /// What the used ticket's own word has from then on.
+    pub value: u64,
+    /// Where an appended text stands in the list.
+    pub position: u64,
 }
 
 impl<K: Key> Log<K> {
@@ -97,37 +123,33 @@ impl<K: Key> Log<K> {
         found
     }
 
-    // Adds an event where the word has its old value still, and gives the word that the used ticket has become.
-    // `given` is a log that was seen, in which the event may follow while the word has this value; `cell_proof` shows
-    // that an appended text is in the cell of `position`.
+    // Adds an event where the word still has the value that is expected, and gives the word that the used ticket
+    // has become. `given` is a log that was seen, in which the event may follow while the word has this value;
+    // `cell_proof` shows that an appended text is in the cell of its position.
     pub(super) fn exchange(
         &self,
         word: &Word<Note, u64, LogRule<K>>,
-        word_index: u64,
-        old: u64,
-        more: u64,
-        value: u64,
+        numbers: Exchange,
         change: Change<'_>,
-        position: u64,
         cell_proof: Option<CellProof>,
         given: &Seen<Note, u64, LogRule<K>>,
         pass: &mut Pass<K>,
     ) -> Option<Word<Note, u64, LogRule<K>>>
         requires of { (pass.old.of ≡ self.now) × (given.now.book ≡ self.now.book) × (word.now ≡ word_of self.now.book word.now.key) }
-        requires sum { old + more < 2 ^ 64 }
-        requires known { IsOpened given.now.log × (opening_of given.now.log ≡ self.now.opening) × IsWord (notes_of given.now.log) word_index word.now.key }
-        requires may { ((ticket : ℕ) → Moving ticket (event_of change) word_index more value) × May K.key_at self.now.opening (notes_of given.now.log) word_index word.now.key old (event_of change) }
-        requires filed { MatchOption cell_proof (IsQuiet (event_of change)) (λ f. IsCellAt self.now.chunks position f.0.of f.0.value.items f.1.of × (event_of change ≡ Append f.1.value.now) × (word_index ≡ 0) × (word.now.key ≡ 0) × (position ≡ length self.now.opening.texts + old)) }
+        requires sum { numbers.expected + numbers.more < 2 ^ 64 }
+        requires known { IsOpened given.now.log × (opening_of given.now.log ≡ self.now.opening) × IsWord (notes_of given.now.log) numbers.word_index word.now.key }
+        requires may { ((ticket : ℕ) → Moving ticket (event_of change) numbers.word_index numbers.more numbers.value) × May K.key_at self.now.opening (notes_of given.now.log) numbers.word_index word.now.key numbers.expected (event_of change) }
+        requires filed { MatchOption cell_proof (IsQuiet (event_of change)) (λ f. IsCellAt self.now.chunks numbers.position f.0.of f.0.value.items f.1.of × (event_of change ≡ Append f.1.value.now) × (numbers.word_index ≡ 0) × (word.now.key ≡ 0) × (numbers.position ≡ length self.now.opening.texts + numbers.expected)) }
         ensures same { IsSamePass pass.new pass.old }
-        ensures done { MatchOption result (pass.new ≡ pass.old) (λ w. (w ≡ word_of self.now.book w.key) × IsDone K.key_at self.now.opening pass.old.number pass.old.notes (notes_of given.now.log) pass.new.notes (event_of change.entry) word_index word.now.key old w.key) }
+        ensures done { MatchOption result (pass.new ≡ pass.old) (λ w. (w ≡ word_of self.now.book w.key) × IsDone K.key_at self.now.opening pass.old.number pass.old.notes (notes_of given.now.log) pass.new.notes (event_of change.entry) numbers.word_index word.now.key numbers.expected w.key) }
     {
         let mut seen = self.seen.again();
         seen.learn(given);
         seen.learn(&pass.seen);
-        pass.ticket.set(value);
+        pass.ticket.set(numbers.value);
         let proposal = Proposal {
             change,
-            position,
+            position: numbers.position,
             number: &pass.number,
             ticket: &pass.ticket,
             next: &pass.next,
@@ -135,13 +157,13 @@ impl<K: Key> Log<K> {
         let known = seen.again();
         let mut offer = offered(known, proposal, cell_proof);
         let found = word.compare_exchange::<Add<K>, NoGain>(
-            old,
-            old + more,
+            numbers.expected,
+            numbers.expected + numbers.more,
             &mut seen,
             &mut offer,
             &mut pass.ticket.pen,
         );
-        if found != old {
+        if found != numbers.expected {
             return None;
         }
         let next = std::mem::replace(&mut pass.next, self.ticket());

@@ -16,7 +16,7 @@ starts = record {
   opening = record {
     distinct = IsDistinct-from_apart bytes_eq [] (λ i j d below inside. absurd (omega arith));
     fits = λ n h. absurd (omega arith);
-    bucket = (2, 0, omega arith, refl);
+    bucket = (2, 0, (λ e. absurd (omega (arith, e))), omega arith, refl);
   };
   filled = All-cons IsFilled (record { bucket = record { size = 2; used = 0 }; ranges = [] }) [] (refl, omega arith) (All-nil IsFilled);
   index = λ k text. grind (arith, nat_tests);
