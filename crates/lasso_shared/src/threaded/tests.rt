@@ -1,6 +1,7 @@
 //! Threads that intern static texts in one interner.
 ghost use Rattle.std.specs.Prelude.{◌≡◌};
 
+mod callers;
 mod passes;
 
 use super::ThreadedRodeo;
