@@ -3,7 +3,7 @@ use Rattle.lasso_lines.specs.Answer.{faulty}
 use Rattle.lasso_lines.specs.Report.{holding}
 use Rattle.lasso_lines.proofs.Known.{nothing_more, grows_as, write_fault}
 use Rattle.lasso_lines.proofs.Lines.{not_text, refused_line, answered_line}
-use Rattle.lasso_lines.proofs.engine.answer_line.Goals as goal
+use Rattle.lasso_lines.proofs.answers.answer_line.Goals as goal
 
 pub returns-in_default-clause-answers : goal.returns-in_default-clause-answers
 returns-in_default-clause-answers g c =

@@ -2,7 +2,7 @@ use Rattle.std.proofs.Common.{[], ◌++◌, sym, subst, refl}
 use Rattle.lasso_lines.specs.Answer.{LineFails, no_memory}
 use Rattle.lasso_lines.specs.Report.{holding}
 use Rattle.lasso_lines.proofs.Known.{nothing_more}
-use Rattle.lasso_lines.proofs.engine.answer_begun.Goals as goal
+use Rattle.lasso_lines.proofs.stretches.answer_held.Goals as goal
 
 pub returns-then-is_err-clause-answers : goal.returns-then-is_err-clause-answers
 returns-then-is_err-clause-answers g c =
