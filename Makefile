@@ -4,14 +4,19 @@ FILE ?= sample/words.txt
 PROGRAM = crates/lasso_lines/out/lasso_lines
 SOURCES = crates.txt $(shell find crates -type f \( -path '*/src/*' -o -path '*/specs/*' -o -path '*/proofs/*' \) -not -path '*/out/*')
 
+# Of what rt says, how far each crate is.
+PROGRESS = awk '/^checked .*, [0-9]+ of [0-9]+$$/ { crate = $$2; sub(/::.*/, "", crate); \
+	if (crate != last || $$(NF - 2) % 20 == 0) print crate ": " $$(NF - 2) " of " $$NF " functions checked"; last = crate; fflush() }'
+
 .PHONY: run test
 
 run: $(PROGRAM)
 	@$(PROGRAM) $(ARGS) < "$(FILE)"
 
 $(PROGRAM): $(SOURCES)
-	@echo "proving and building lasso_lines: the first time takes some minutes" >&2
-	@cd crates/lasso_lines && rt run < /dev/null > out.log 2>&1 || { cat out.log >&2; rm -f out.log; exit 1; }
+	@echo "proving and building lasso_lines and the libraries below it; what is proved is kept for the next time" >&2
+	@cd crates/lasso_lines && rm -f out.failed && { rt run < /dev/null 2>&1 || touch out.failed; } | tee out.log | $(PROGRESS) >&2
+	@cd crates/lasso_lines && if [ -e out.failed ]; then cat out.log >&2; rm -f out.failed out.log; exit 1; fi
 	@rm -f crates/lasso_lines/out.log
 	@touch $(PROGRAM)
 

@@ -5,7 +5,7 @@ use std::alloc::{AllocError, Global};
 
 /// One call of an interner, with its arguments.
 #[derive(Drop)]
-pub enum Command {
+pub enum ScriptCommand {
     Intern(String),
     Get(String),
     Contains(String),
@@ -21,20 +21,20 @@ pub enum Command {
 }
 
 /// The command that the words of a line spell, or `None` where they spell none.
-pub fn parse_command(alloc: Global, words: &[&str]) -> Result<Option<Command>, AllocError> {
+pub fn parse_command(alloc: Global, words: &[&str]) -> Result<Option<ScriptCommand>, AllocError> {
     let command = match words {
-        ["intern", text] => parse_text(alloc, text)?.map(Command::Intern),
-        ["get", text] => parse_text(alloc, text)?.map(Command::Get),
-        ["contains", text] => parse_text(alloc, text)?.map(Command::Contains),
-        ["has", number] => parse_number(number).map(Command::Has),
-        ["resolve", number] => parse_number(number).map(Command::Resolve),
-        ["len"] => Some(Command::Len),
-        ["usage"] => Some(Command::Usage),
-        ["max"] => Some(Command::Max),
-        ["limit", bytes] => parse_limit(bytes).map(Command::Limit),
-        ["clear"] => Some(Command::Clear),
-        ["extend", texts @ ..] => parse_texts(alloc, texts)?.map(Command::Extend),
-        ["clonefrom", texts @ ..] => parse_texts(alloc, texts)?.map(Command::CloneFrom),
+        ["intern", text] => parse_text(alloc, text)?.map(ScriptCommand::Intern),
+        ["get", text] => parse_text(alloc, text)?.map(ScriptCommand::Get),
+        ["contains", text] => parse_text(alloc, text)?.map(ScriptCommand::Contains),
+        ["has", number] => parse_number(number).map(ScriptCommand::Has),
+        ["resolve", number] => parse_number(number).map(ScriptCommand::Resolve),
+        ["len"] => Some(ScriptCommand::Len),
+        ["usage"] => Some(ScriptCommand::Usage),
+        ["max"] => Some(ScriptCommand::Max),
+        ["limit", bytes] => parse_limit(bytes).map(ScriptCommand::Limit),
+        ["clear"] => Some(ScriptCommand::Clear),
+        ["extend", texts @ ..] => parse_texts(alloc, texts)?.map(ScriptCommand::Extend),
+        ["clonefrom", texts @ ..] => parse_texts(alloc, texts)?.map(ScriptCommand::CloneFrom),
         _ => None,
     };
     Ok(command)

@@ -1,6 +1,6 @@
 //! Replaying a script on an interner of its key type.
 
-use crate::lines::Command;
+use crate::lines::ScriptCommand;
 use lasso::{FixedState, Key, LassoError, LassoErrorKind, LassoResult, MemoryLimits, Rodeo};
 use std::alloc::{AllocError, Global};
 use std::io;
@@ -12,52 +12,52 @@ type Interner<K> = Rodeo<K, FixedState, Global>;
 pub fn replay_command<K: Key, W: Write>(
     alloc: Global,
     rodeo: &mut Interner<K>,
-    command: &Command,
+    command: &ScriptCommand,
     out: &mut W,
 ) -> io::Result<()> {
     match command {
-        Command::Intern(text) => match rodeo.try_get_or_intern(text.as_str()) {
+        ScriptCommand::Intern(text) => match rodeo.try_get_or_intern(text.as_str()) {
             Ok(key) => {
                 let number = key.into_usize();
                 writeln!(out, "key {number}")
             }
             Err(error) => write_refusal(out, &error),
         },
-        Command::Get(text) => match rodeo.get(text.as_str()) {
+        ScriptCommand::Get(text) => match rodeo.get(text.as_str()) {
             Some(key) => {
                 let number = key.into_usize();
                 writeln!(out, "found {number}")
             }
             None => writeln!(out, "found none"),
         },
-        Command::Contains(text) => {
+        ScriptCommand::Contains(text) => {
             let flag = rodeo.contains(text.as_str());
             writeln!(out, "flag {flag}")
         }
-        Command::Has(number) => {
+        ScriptCommand::Has(number) => {
             let flag = K::try_from_usize(*number).is_some_and(|key| rodeo.contains_key(key));
             writeln!(out, "flag {flag}")
         }
-        Command::Resolve(number) => match K::try_from_usize(*number) {
+        ScriptCommand::Resolve(number) => match K::try_from_usize(*number) {
             Some(key) => write_text(out, rodeo.try_resolve(key)),
             None => write_text(out, None),
         },
-        Command::Len => write_number(out, rodeo.len()),
-        Command::Usage => write_number(out, rodeo.current_memory_usage()),
-        Command::Max => write_number(out, rodeo.max_memory_usage()),
-        Command::Limit(bytes) => {
+        ScriptCommand::Len => write_number(out, rodeo.len()),
+        ScriptCommand::Usage => write_number(out, rodeo.current_memory_usage()),
+        ScriptCommand::Max => write_number(out, rodeo.max_memory_usage()),
+        ScriptCommand::Limit(bytes) => {
             rodeo.set_memory_limits(MemoryLimits::new(*bytes));
             writeln!(out, "done")
         }
-        Command::Clear => {
+        ScriptCommand::Clear => {
             rodeo.clear();
             writeln!(out, "done")
         }
-        Command::Extend(texts) => {
+        ScriptCommand::Extend(texts) => {
             let outcome = intern_all(rodeo, texts);
             write_outcome(out, outcome)
         }
-        Command::CloneFrom(texts) => {
+        ScriptCommand::CloneFrom(texts) => {
             let outcome = clone_from_texts(alloc, rodeo, texts);
             write_outcome(out, outcome)
         }

@@ -1,7 +1,7 @@
 //! Scripts: a header, and then one command a line.
 
 use crate::keys::{BelowTwo, WithoutTwo};
-use crate::lines::{Command, parse_command, parse_limit, parse_number};
+use crate::lines::{ScriptCommand, parse_command, parse_limit, parse_number};
 use crate::replay::replay_command;
 use lasso::{
     Capacity, FixedState, Key, LargeSpur, LassoResult, MemoryLimits, MicroSpur, MiniSpur, Rodeo,
@@ -29,7 +29,7 @@ pub struct Script {
     key_type: KeyType,
     capacity: Capacity,
     limits: MemoryLimits,
-    commands: Vec<Command>,
+    commands: Vec<ScriptCommand>,
 }
 
 /// Why a line is bad.

@@ -18,8 +18,7 @@ use Rattle.lasso_parts.specs.declared.util.LassoErrorKind.TheVariants.{MemoryLim
 use Rattle.lasso_parts.proofs.IndexLaws.{absent_before}
 use Rattle.lasso_parts.proofs.TextLemmas.{take_more_at}
 use Rattle.lasso_single.specs.Copies.{bytes_of, store_all, StopsAt, clone_size, clone_of}
-use Rattle.lasso_single.specs.Filling.{InternsIn}
-use Rattle.lasso_single.specs.Intern.{Interns, with_text, stored_or_refused, keyed_or_refused, found_or_new}
+use Rattle.lasso_single.specs.Intern.{Interns, InternsIn, with_text, stored_or_refused, keyed_or_refused, found_or_new}
 use Rattle.lasso_single.specs.Interner.{InternerView, IsMadeWith, made_with, KeepsOrigin, bytes_added}
 
 -- ---- a new text

@@ -7,7 +7,8 @@ use Rattle.lasso_parts.specs.Texts.{Text, position_of, key_of}
 use Rattle.lasso_parts.specs.declared.util.LassoError.{LassoError}
 use Rattle.lasso_parts.specs.declared.util.LassoErrorKind.TheVariants.{FailedAllocation}
 use Rattle.lasso_single.specs.Copies.{clone_into}
-use Rattle.lasso_single.specs.Filling.{InternsIn, InternsStaticIn, extend}
+use Rattle.lasso_single.specs.Filling.{extend}
+use Rattle.lasso_single.specs.Intern.{InternsIn, InternsStaticIn}
 use Rattle.lasso_single.specs.Interner.{InternerView}
 use Rattle.lasso_single.specs.declared.commands.Command.{Command}
 use Rattle.lasso_single.specs.declared.commands.Command.TheVariants.{Intern, InternStatic, Get, Contains, ContainsKey, TryResolve, Len, Usage, MaxUsage, SetLimit, Clear, Extend, CloneFrom}

@@ -1,21 +1,9 @@
 -- Interning one text after another.
-use Rattle.std.specs.Prelude.{◌≡◌, ◌+◌, ℕ, List, [], ◌∷◌, ◌++◌, Option, Result, Ok, Err, MatchResult}
+use Rattle.std.specs.Prelude.{◌≡◌, ℕ, List, [], ◌∷◌, ◌++◌, Option, Result, Ok, Err, MatchResult}
 use Rattle.lasso_parts.specs.Texts.{Text}
 use Rattle.lasso_parts.specs.declared.util.LassoError.{LassoError}
-use Rattle.lasso_single.specs.Intern.{Interns, InternsStatic}
-use Rattle.lasso_single.specs.Interner.{InternerView, KeepsOrigin, bytes_added}
-
--- interning a text: its reply, and all that contracts see of the interner
-abbrev pub InternsIn : {K : Type 0} → (ℕ → Option K) → InternerView → Text → Result K LassoError → InternerView → Type 0
-InternsIn key_at old text reply new =
-    Interns key_at old.texts old.account text reply new.texts new.account
-    × MatchResult reply (λ _. new.copied ≡ old.copied + bytes_added old.texts text) (λ _. new.copied ≡ old.copied)
-    × KeepsOrigin old new
-
--- interning a text that is kept as it is: the same
-abbrev pub InternsStaticIn : {K : Type 0} → (ℕ → Option K) → InternerView → Text → Result K LassoError → InternerView → Type 0
-InternsStaticIn key_at old text reply new =
-    InternsStatic key_at old.texts old.account text reply new.texts new.account × (new.copied ≡ old.copied) × KeepsOrigin old new
+use Rattle.lasso_single.specs.Intern.{InternsIn}
+use Rattle.lasso_single.specs.Interner.{InternerView}
 
 -- interning the texts in order, up to the first refusal, which is the answer
 abbrev pub extend : {K : Type 0} → (ℕ → Option K) → InternerView → List Text → Result (Unit {0}) LassoError → InternerView → Type 0

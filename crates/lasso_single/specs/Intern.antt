@@ -1,10 +1,11 @@
 -- What interning a text answers and leaves.
-use Rattle.std.specs.Prelude.{ℕ, ◌≡◌, ◌⊎◌, List, [], ◌∷◌, ◌++◌, length, Option, Result, MatchResult, IsOk, Some, None, Ok, Err, unwrap_or}
+use Rattle.std.specs.Prelude.{ℕ, ◌≡◌, ◌+◌, ◌⊎◌, List, [], ◌∷◌, ◌++◌, length, Option, Result, MatchResult, IsOk, Some, None, Ok, Err, unwrap_or}
 use Rattle.lasso_parts.specs.Account.{Account, store}
 use Rattle.lasso_parts.specs.Texts.{Text, position_of}
 use Rattle.lasso_parts.specs.Held.{Held}
 use Rattle.lasso_parts.specs.declared.util.LassoError.{LassoError}
 use Rattle.lasso_parts.specs.declared.util.LassoErrorKind.TheVariants.{MemoryLimitReached, KeySpaceExhaustion, FailedAllocation}
+use Rattle.lasso_single.specs.Interner.{InternerView, KeepsOrigin, bytes_added}
 
 -- the text goes last, and the account is the new one
 abbrev pub with_text : Held → Text → Account → Held
@@ -65,3 +66,15 @@ InternsStatic key_at texts account text reply texts' account' =
     (λ k. (interned_static key_at before text ≡ Ok (record { texts = texts'; account = account' })) × (key_at (interned_position texts text) ≡ Some k))
     (λ error. (texts' ≡ texts) × (account' ≡ account) × ((interned_static key_at before text ≡ Err error)
     ⊎ ((error ≡ FailedAllocation) × (position_of texts text ≡ None) × IsOk (interned_static key_at before text))))
+
+-- interning a text: its reply, and all that contracts see of the interner
+abbrev pub InternsIn : {K : Type 0} → (ℕ → Option K) → InternerView → Text → Result K LassoError → InternerView → Type 0
+InternsIn key_at old text reply new =
+    Interns key_at old.texts old.account text reply new.texts new.account
+    × MatchResult reply (λ _. new.copied ≡ old.copied + bytes_added old.texts text) (λ _. new.copied ≡ old.copied)
+    × KeepsOrigin old new
+
+-- interning a text that is kept as it is: the same
+abbrev pub InternsStaticIn : {K : Type 0} → (ℕ → Option K) → InternerView → Text → Result K LassoError → InternerView → Type 0
+InternsStaticIn key_at old text reply new =
+    InternsStatic key_at old.texts old.account text reply new.texts new.account × (new.copied ≡ old.copied) × KeepsOrigin old new

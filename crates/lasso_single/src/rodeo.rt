@@ -1,8 +1,6 @@
 //! `Rodeo`, the interner for one thread.
-ghost use Rattle.std.specs.Prelude.{◌≡◌, ◌==◌, ◌+◌, ◌*◌, ◌<◌, ◌≤◌, false, length, Some, MatchResult, is_some, IsTrue, ◌↔◌, slice_get, option_map};
+ghost use Rattle.std.specs.Prelude.{◌≡◌, ◌==◌, ◌+◌, ◌*◌, ◌<◌, ◌≤◌, false, length, Some, is_some, IsTrue, ◌↔◌, slice_get, option_map};
 ghost use Rattle.lasso_parts.specs.Texts.{position_of, key_of, IsDistinct, Fits};
-ghost use Rattle.lasso_single.specs.Intern.{Interns};
-ghost use Rattle.lasso_single.specs.Interner.{KeepsOrigin, bytes_added};
 
 mod changes;
 mod clones;
@@ -17,9 +15,8 @@ mod tests;
 mod walking;
 
 use crate::text_list::TextList;
-use lasso_parts::index::{Index, Texts, hash_text};
+use lasso_parts::index::{Index, Texts};
 use lasso_parts::keys::Key;
-use lasso_parts::util::{LassoError, LassoErrorKind, LassoResult};
 use std::alloc::Allocator;
 use std::hash::BuildHasher;
 use std::marker::Model;
@@ -144,31 +141,5 @@ impl<K: Key, S: BuildHasher, A: Allocator> Rodeo<K, S, A> {
         ensures waste { self.now.is_cleared ≡ false → result ≤ self.now.first + 4 * self.now.copied }
     {
         self.list.memory_usage()
-    }
-}
-
-impl<K: Key, S: BuildHasher, A: Allocator + Clone> Rodeo<K, S, A> {
-    /// The key of the text, which goes last in the list if it is not there. A text that is there is
-    /// never refused. A new one is refused where the key type has no key for its position, else where
-    /// the memory limit leaves no room for its bytes, else for want of memory; nothing changes then.
-    pub fn try_get_or_intern(&mut self, text: &str) -> LassoResult<K>
-        ensures interns { Interns K.key_at self.old.texts self.old.account text.now result self.new.texts self.new.account }
-        ensures copied { MatchResult result (λ _. self.new.copied ≡ self.old.copied + bytes_added self.old.texts text.now) (λ _. self.new.copied ≡ self.old.copied) }
-        ensures origin { KeepsOrigin self.old self.new }
-    {
-        let hash = hash_text(&self.hasher, text);
-        if let Some(position) = self.index.find_hashed(&self.list, &self.hasher, hash, text) {
-            return Ok(K::try_from_usize(position).unwrap());
-        }
-        let Some(key) = K::try_from_usize(self.list.len()) else {
-            return Err(LassoError::new(LassoErrorKind::KeySpaceExhaustion));
-        };
-        if !self.list.admits(text.len()) {
-            return Err(LassoError::new(LassoErrorKind::MemoryLimitReached));
-        }
-        self.index.reserve_one(&self.list, &self.hasher)?;
-        self.list.push_copied(text)?;
-        self.index.insert_reserved(hash, key);
-        Ok(key)
     }
 }

@@ -1,8 +1,7 @@
 //! The interfaces of `Rodeo`, whose meaning is its list of texts.
 //! What its intern calls do to the account of bytes is said of it alone: the clauses are those of `Rodeo`.
-ghost use Rattle.std.specs.Prelude.{◌≡◌, ◌+◌, Some, IsOkAnd, MatchResult};
-ghost use Rattle.lasso_single.specs.Intern.{Interns, InternsStatic};
-ghost use Rattle.lasso_single.specs.Interner.{KeepsOrigin, bytes_added};
+ghost use Rattle.std.specs.Prelude.{◌≡◌, Some, IsOkAnd};
+ghost use Rattle.lasso_single.specs.Intern.{InternsIn, InternsStaticIn};
 
 use super::{Interner, IntoReader, IntoReaderAndResolver, IntoResolver, Reader, Resolver};
 use lasso_parts::keys::Key;
@@ -42,33 +41,25 @@ impl<K: Key, S: BuildHasher, A: Allocator> Reader<K> for Rodeo<K, S, A> {
 
 impl<K: Key, S: BuildHasher, A: Allocator + Clone> Interner<K> for Rodeo<K, S, A> {
     fn try_get_or_intern<R: Wait>(&mut self, _rt: &R, text: &str) -> LassoResult<K>
-        ensures interns { Interns K.key_at self.old.texts self.old.account text.now result self.new.texts self.new.account }
-        ensures copied { MatchResult result (λ _. self.new.copied ≡ self.old.copied + bytes_added self.old.texts text.now) (λ _. self.new.copied ≡ self.old.copied) }
-        ensures origin { KeepsOrigin self.old self.new }
+        ensures { InternsIn K.key_at self.old text.now result self.new }
     {
         Rodeo::try_get_or_intern(self, text)
     }
 
     fn try_get_or_intern_static<R: Wait>(&mut self, _rt: &R, text: &'static str) -> LassoResult<K>
-        ensures interns { InternsStatic K.key_at self.old.texts self.old.account text.now result self.new.texts self.new.account }
-        ensures copied { self.new.copied ≡ self.old.copied }
-        ensures origin { KeepsOrigin self.old self.new }
+        ensures { InternsStaticIn K.key_at self.old text.now result self.new }
     {
         Rodeo::try_get_or_intern_static(self, text)
     }
 
     fn get_or_intern<R: Wait>(&mut self, _rt: &R, text: &str) -> LassoResult<K>
-        ensures interns { Interns K.key_at self.old.texts self.old.account text.now result self.new.texts self.new.account }
-        ensures copied { MatchResult result (λ _. self.new.copied ≡ self.old.copied + bytes_added self.old.texts text.now) (λ _. self.new.copied ≡ self.old.copied) }
-        ensures origin { KeepsOrigin self.old self.new }
+        ensures { InternsIn K.key_at self.old text.now result self.new }
     {
         Rodeo::get_or_intern(self, text)
     }
 
     fn get_or_intern_static<R: Wait>(&mut self, _rt: &R, text: &'static str) -> LassoResult<K>
-        ensures interns { InternsStatic K.key_at self.old.texts self.old.account text.now result self.new.texts self.new.account }
-        ensures copied { self.new.copied ≡ self.old.copied }
-        ensures origin { KeepsOrigin self.old self.new }
+        ensures { InternsStaticIn K.key_at self.old text.now result self.new }
     {
         Rodeo::get_or_intern_static(self, text)
     }

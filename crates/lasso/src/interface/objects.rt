@@ -1,11 +1,10 @@
 //! Interfaces without parameters, for `dyn` references to interners and frozen forms with `Spur` keys, and
 //! for boxes. They are for what no other thread changes, so no call of theirs waits. A caller makes the
 //! box, as `Box<dyn SpurInterner + Drop>`.
-ghost use Rattle.std.specs.Prelude.{◌≡◌, ◌+◌, ◌<◌, ◌↔◌, List, Some, MatchResult, length, is_some, IsTrue, slice_get, option_map};
+ghost use Rattle.std.specs.Prelude.{◌≡◌, ◌<◌, ◌↔◌, List, Some, length, is_some, IsTrue, slice_get, option_map};
 ghost use Rattle.lasso_parts.specs.Texts.{Text, position_of, key_of};
 ghost use Rattle.lasso.specs.Interning.{InternsAmong, InternsStaticAmong};
-ghost use Rattle.lasso_single.specs.Intern.{Interns, InternsStatic};
-ghost use Rattle.lasso_single.specs.Interner.{KeepsOrigin, bytes_added};
+ghost use Rattle.lasso_single.specs.Intern.{InternsIn, InternsStaticIn};
 
 use lasso_parts::keys::{Key, Spur};
 use lasso_parts::util::LassoResult;
@@ -86,17 +85,13 @@ impl<S: BuildHasher, A: Allocator> SpurReader for Rodeo<Spur, S, A> {
 
 impl<S: BuildHasher, A: Allocator + Clone> SpurInterner for Rodeo<Spur, S, A> {
     fn try_get_or_intern(&mut self, text: &str) -> LassoResult<Spur>
-        ensures interns { Interns ⟦<Spur as Key>⟧.key_at self.old.texts self.old.account text.now result self.new.texts self.new.account }
-        ensures copied { MatchResult result (λ _. self.new.copied ≡ self.old.copied + bytes_added self.old.texts text.now) (λ _. self.new.copied ≡ self.old.copied) }
-        ensures origin { KeepsOrigin self.old self.new }
+        ensures { InternsIn ⟦<Spur as Key>⟧.key_at self.old text.now result self.new }
     {
         Rodeo::try_get_or_intern(self, text)
     }
 
     fn try_get_or_intern_static(&mut self, text: &'static str) -> LassoResult<Spur>
-        ensures interns { InternsStatic ⟦<Spur as Key>⟧.key_at self.old.texts self.old.account text.now result self.new.texts self.new.account }
-        ensures copied { self.new.copied ≡ self.old.copied }
-        ensures origin { KeepsOrigin self.old self.new }
+        ensures { InternsStaticIn ⟦<Spur as Key>⟧.key_at self.old text.now result self.new }
     {
         Rodeo::try_get_or_intern_static(self, text)
     }

@@ -20,6 +20,11 @@ fn one_interner(rt: HostRuntime) -> Result<(), Fail> {
     assert_eq!(rt; rodeo.try_resolve(hello), Some("Hello, world!"));
     assert_eq!(rt; rodeo.len(), 1);
     assert!(rt; rodeo.get("Hello").is_none());
+
+    let saved = rodeo.serialize(rt.alloc())?.to_string(rt.alloc())?;
+    let value = Value::from_str(rt.alloc(), saved.as_str())?;
+    let loaded = SpurRodeo::deserialize(rt.alloc(), &value)?;
+    assert_eq!(rt; loaded.get("Hello, world!"), Some(hello));
     Ok(())
 }
 

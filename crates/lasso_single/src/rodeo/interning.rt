@@ -1,7 +1,5 @@
-//! The calls of a `Rodeo` that intern a text, beside `try_get_or_intern`.
-ghost use Rattle.std.specs.Prelude.{◌≡◌, ◌+◌, MatchResult};
-ghost use Rattle.lasso_single.specs.Intern.{Interns, InternsStatic};
-ghost use Rattle.lasso_single.specs.Interner.{KeepsOrigin, bytes_added};
+//! The calls of a `Rodeo` that intern a text.
+ghost use Rattle.lasso_single.specs.Intern.{InternsIn, InternsStaticIn};
 
 use super::Rodeo;
 use lasso_parts::index::hash_text;
@@ -11,12 +9,33 @@ use std::alloc::Allocator;
 use std::hash::BuildHasher;
 
 impl<K: Key, S: BuildHasher, A: Allocator + Clone> Rodeo<K, S, A> {
+    /// The key of the text, which goes last in the list if it is not there. A text that is there is
+    /// never refused. A new one is refused where the key type has no key for its position, else where
+    /// the memory limit leaves no room for its bytes, else for want of memory; nothing changes then.
+    pub fn try_get_or_intern(&mut self, text: &str) -> LassoResult<K>
+        ensures { InternsIn K.key_at self.old text.now result self.new }
+    {
+        let hash = hash_text(&self.hasher, text);
+        let found = self.index.find_hashed(&self.list, &self.hasher, hash, text);
+        if let Some(position) = found {
+            return Ok(K::try_from_usize(position).unwrap());
+        }
+        let Some(key) = K::try_from_usize(self.list.len()) else {
+            return Err(LassoError::new(LassoErrorKind::KeySpaceExhaustion));
+        };
+        if !self.list.admits(text.len()) {
+            return Err(LassoError::new(LassoErrorKind::MemoryLimitReached));
+        }
+        self.index.reserve_one(&self.list, &self.hasher)?;
+        self.list.push_copied(text)?;
+        self.index.insert_reserved(hash, key);
+        Ok(key)
+    }
+
     /// The key of the text, which goes last in the list if it is not there: the same call as
     /// `try_get_or_intern`, with the same refusals.
     pub fn get_or_intern(&mut self, text: &str) -> LassoResult<K>
-        ensures interns { Interns K.key_at self.old.texts self.old.account text.now result self.new.texts self.new.account }
-        ensures copied { MatchResult result (λ _. self.new.copied ≡ self.old.copied + bytes_added self.old.texts text.now) (λ _. self.new.copied ≡ self.old.copied) }
-        ensures origin { KeepsOrigin self.old self.new }
+        ensures { InternsIn K.key_at self.old text.now result self.new }
     {
         self.try_get_or_intern(text)
     }
@@ -25,9 +44,7 @@ impl<K: Key, S: BuildHasher, A: Allocator + Clone> Rodeo<K, S, A> {
     /// no copy, so the memory limit never refuses it. A text that is there is never refused. A new one is
     /// refused where the key type has no key for its position, else for want of memory; nothing changes then.
     pub fn try_get_or_intern_static(&mut self, text: &'static str) -> LassoResult<K>
-        ensures interns { InternsStatic K.key_at self.old.texts self.old.account text.now result self.new.texts self.new.account }
-        ensures copied { self.new.copied ≡ self.old.copied }
-        ensures origin { KeepsOrigin self.old self.new }
+        ensures { InternsStaticIn K.key_at self.old text.now result self.new }
     {
         let hash = hash_text(&self.hasher, text);
         if let Some(position) = self.index.find_hashed(&self.list, &self.hasher, hash, text) {
@@ -45,9 +62,7 @@ impl<K: Key, S: BuildHasher, A: Allocator + Clone> Rodeo<K, S, A> {
     /// The key of the text, which goes last in the list if it is not there: the same call as
     /// `try_get_or_intern_static`, with the same refusals.
     pub fn get_or_intern_static(&mut self, text: &'static str) -> LassoResult<K>
-        ensures interns { InternsStatic K.key_at self.old.texts self.old.account text.now result self.new.texts self.new.account }
-        ensures copied { self.new.copied ≡ self.old.copied }
-        ensures origin { KeepsOrigin self.old self.new }
+        ensures { InternsStaticIn K.key_at self.old text.now result self.new }
     {
         self.try_get_or_intern_static(text)
     }

@@ -10,7 +10,7 @@ mod walks;
 use super::*;
 use crate::fixtures::{Gap, SameState};
 use lasso_parts::keys::{MicroSpur, Spur};
-use lasso_parts::util::{Capacity, FixedState, MemoryLimits};
+use lasso_parts::util::{Capacity, FixedState, LassoErrorKind, LassoResult, MemoryLimits};
 use std::alloc::Global;
 use std::process::Abort;
 use std::test::Fail;

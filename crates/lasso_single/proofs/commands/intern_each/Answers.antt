@@ -23,7 +23,7 @@ returns-in_err-try_get_or_intern g c =
     let error = c.in_err-try_get_or_intern.field-0.0 in
     let inside : i < length texts = omega arith in
     let more = map_more bytes texts i no_text inside in
-    let pushed = extend_push key_at old c.loop-text.rodeo new (map bytes (take i texts)) (get_or texts i no_text).now (Err error) (Err error) c.loop-text.invariant (told.interns, told.copied, told.origin) refl in
+    let pushed = extend_push key_at old c.loop-text.rodeo new (map bytes (take i texts)) (get_or texts i no_text).now (Err error) (Err error) c.loop-text.invariant told refl in
     let here : extend key_at old (map bytes (take (i + 1) texts)) (Err error) new = subst (λ ts. extend key_at old ts (Err error) new) (sym more) pushed in
     let split : map bytes (take (i + 1) texts) ++ map bytes (drop (i + 1) texts) ≡ map bytes texts = sym (map-append bytes (take (i + 1) texts) (drop (i + 1) texts)) ∙ ap (map bytes) (take-append-drop (i + 1) texts) in
     let whole : extend key_at old (map bytes texts) (Err error) new = subst (λ ts. extend key_at old ts (Err error) new) split (extend_stopped key_at old new (map bytes (take (i + 1) texts)) (map bytes (drop (i + 1) texts)) error here) in
@@ -40,5 +40,5 @@ loop-text-preserved g c =
     let told = c.in_ok-try_get_or_intern.ensures in
     let inside : i < length texts = omega arith in
     let more = map_more bytes texts i no_text inside in
-    let pushed = extend_push key_at old c.loop-text.rodeo new (map bytes (take i texts)) (get_or texts i no_text).now (Ok c.in_ok-try_get_or_intern.field-0) accepted c.loop-text.invariant (told.interns, told.copied, told.origin) refl in
+    let pushed = extend_push key_at old c.loop-text.rodeo new (map bytes (take i texts)) (get_or texts i no_text).now (Ok c.in_ok-try_get_or_intern.field-0) accepted c.loop-text.invariant told refl in
     subst (λ ts. extend key_at old ts accepted new) (sym more) pushed
