@@ -3,10 +3,9 @@
 -- Where the search finds a line feed, the bytes are a line's end, the feed, and what is behind it. So a line that is
 -- answered leads from the bytes to those behind it, whatever comes after them, by the definition of the report. Where
 -- the search finds none, nothing is answered, and all bytes are held.
-use Rattle.std.proofs.Common.{ℕ, suc, zero, ◌≡◌, ◌+◌, ◌-◌, ◌<◌, ◌≤◌, ◌==◌, Ok, Err, Result, true, List, [], ◌∷◌, ◌++◌, length, take, drop, Some, None, ap, sym, subst, ◌∙◌, refl, arith, append_assoc, append-nil, add-one}
+use Rattle.std.proofs.Common.{ℕ, suc, zero, ◌≡◌, ◌+◌, ◌-◌, ◌<◌, ◌≤◌, ◌==◌, Ok, Err, Result, true, List, [], ◌∷◌, ◌++◌, length, take, drop, Some, None, ap, sym, subst, ◌∙◌, refl, arith, append_assoc, add-one, length-drop}
 use Rattle.std.specs.List.{slice_index}
 use Rattle.memchr.specs.Find.{IsFirstByte, is_byte}
-use Rattle.lasso_lines.specs.Stream.{Begins}
 use Rattle.lasso_lines.specs.Stretch.{NoFeed, LeadsTo, FailsWith}
 use Rattle.lasso_parts.specs.Held.{Held}
 use Rattle.lasso_parts.specs.declared.util.LassoErrorKind.TheVariants.{FailedAllocation}
@@ -40,13 +39,12 @@ cut_at bytes at found =
       bytes_are = split_at_feed bytes at small found.1 ∙ ap (λ n. take at bytes ++ 10 ∷ drop n bytes) (sym (add-one at));
     }
 
-take_all : (bytes : List ℕ) → take (length bytes) bytes ≡ bytes
+pub take_all : (bytes : List ℕ) → take (length bytes) bytes ≡ bytes
 take_all [] = refl
 take_all (b ∷ bytes) = ap (λ bs. b ∷ bs) (take_all bytes)
 
-drop_front : (front back : List ℕ) → drop (length front) (front ++ back) ≡ back
-drop_front [] back = refl
-drop_front (x ∷ front) back = drop_front front back
+pub rest_behind : (n : ℕ) (bytes : List ℕ) → take (length bytes - n) (drop n bytes) ≡ drop n bytes
+rest_behind n bytes = let same : length bytes - n ≡ length (drop n bytes) = omega (arith, length-drop n bytes) in ap (λ k. take k (drop n bytes)) same ∙ take_all (drop n bytes)
 
 -- where the search finds none, no byte is a line feed
 pub none_no_feed : (bytes : List ℕ) → IsFirstByte (is_byte 10) bytes None → NoFeed bytes
@@ -54,10 +52,6 @@ none_no_feed bytes found = subst NoFeed (take_all bytes) (no_feed_take bytes (le
 
 pub held_no_feed : (begun bytes held : List ℕ) → held ≡ begun ++ bytes → NoFeed begun → NoFeed bytes → NoFeed held
 held_no_feed begun bytes held is none none' = subst NoFeed (sym is) (no_feed_both begun bytes none none')
-
--- the bytes that are left behind those shown
-pub all_shown : (shown left : List ℕ) → Begins shown left → left ≡ shown ++ drop (length shown) left
-all_shown shown left begins = begins.1 ∙ ap (λ bs. shown ++ bs) (sym (ap (λ bs. drop (length shown) bs) begins.1 ∙ drop_front shown begins.0))
 
 -- ---- the steps over a stretch
 

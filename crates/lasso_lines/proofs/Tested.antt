@@ -42,8 +42,8 @@ module _ (bytes : List ℕ) (at untested : ℕ) (text : IsUtf8 (take (length byt
   cut = cut_at bytes at found
 
   -- a line in the tested bytes
-  pub line_is_tested : untested ≤ length (drop (at + 1) bytes) → IsUtf8 (take at bytes)
-  line_is_tested small = line_of_front bytes at (length bytes - untested) text (omega (arith, length-drop (at + 1) bytes, cut.inside)) (omega arith) cut.feed
+  pub line_is_tested : untested < length bytes - at → IsUtf8 (take at bytes)
+  line_is_tested small = line_of_front bytes at (length bytes - untested) text (omega (arith, cut.inside)) (omega arith) cut.feed
 
   behind_by : (n : ℕ) → length (drop (at + 1) bytes) - untested ≡ n → IsUtf8 (take n (drop (at + 1) bytes))
   behind_by zero is = IsUtf8-nil

@@ -6,7 +6,7 @@
 -- stretch of bytes, of which some lines are answered and the rest is held, leads from one such state to the next:
 -- what is said of it holds whatever comes behind, and so for the bytes that are left. At a return only the lines that
 -- are left matter: none after the counts, or one of which a fault is told.
-use Rattle.std.proofs.Common.{ℕ, zero, suc, ◌≡◌, ◌+◌, ◌<◌, inl, inr, Bool, true, false, cond, List, [], ◌∷◌, ◌++◌, length, Some, Result, Ok, Err, ap, sym, subst, ◌∙◌, refl, append_assoc, append-nil, arith}
+use Rattle.std.proofs.Common.{ℕ, zero, suc, ◌≡◌, ◌+◌, ◌<◌, inl, inr, Bool, true, false, cond, List, [], ◌∷◌, ◌++◌, length, drop, Some, Result, Ok, Err, ap, sym, subst, ◌∙◌, refl, append_assoc, append-nil, arith}
 use Rattle.std.specs.Str.{is_utf8}
 use Rattle.lasso_parts.specs.Held.{Held}
 use Rattle.lasso_parts.specs.declared.util.LassoError.{LassoError}
@@ -158,6 +158,14 @@ pub no_last : (held : Held) (number : ℕ) (line : List ℕ) (part : List ℕ) (
 no_last held number [] part result none w = counts_end held number result part w
 no_last held number (b ∷ line) part result none w = absurd (omega arith)
 
+drop_front : (front back : List ℕ) → drop (length front) (front ++ back) ≡ back
+drop_front [] back = refl
+drop_front (x ∷ front) back = drop_front front back
+
+-- the bytes shown, and those that are left behind them
+all_shown : (shown left : List ℕ) → Begins shown left → left ≡ shown ++ drop (length shown) left
+all_shown shown left begins = begins.1 ∙ ap (λ bs. shown ++ bs) (sym (ap (λ bs. drop (length shown) bs) begins.1 ∙ drop_front shown begins.0))
+
 -- however the lines of the held and the left bytes end, so ends the whole input
 pub record OnTheWay (input : List ℕ) (limit : ℕ) (held : Held) (number : ℕ) (begun left part : List ℕ) : Type 0 where
   pub ends : (more : List ℕ) (result : Result (Unit {0}) RunFault) → EndsFrom held number (lines_of (begun ++ left)) more result → Ends input limit (part ++ more) result
@@ -172,6 +180,10 @@ way_leads input limit held after number number' begun stretch begun' left part r
       subst (λ bs. Ends input limit bs result) (sym (append_assoc part reply more))
       (way.ends (reply ++ more) result (subst (λ bs. EndsFrom held number (lines_of bs) (reply ++ more) result) (append_assoc begun stretch left) (leads left more result e)));
 }
+
+-- the bytes shown are the first of those that are left
+pub way_shown : (input : List ℕ) (limit : ℕ) (held : Held) (number : ℕ) (begun shown left part : List ℕ) → Begins shown left → OnTheWay input limit held number begun left part → OnTheWay input limit held number begun (shown ++ drop (length shown) left) part
+way_shown input limit held number begun shown left part begins way = subst (λ bs. OnTheWay input limit held number begun bs part) (all_shown shown left begins) way
 
 -- a line of a stretch fails
 pub way_fails : (input : List ℕ) (limit : ℕ) (held : Held) (number : ℕ) (begun stretch left part reply : List ℕ) (fault : RunFault) → OnTheWay input limit held number begun (stretch ++ left) part → FailsWith held number (begun ++ stretch) reply fault → Ends input limit (part ++ reply) (Err fault)

@@ -77,11 +77,11 @@ fn answer_lines<'a, R: Wait, O: ByteWriter>(
     let mut number = number;
     let mut rest = stretch;
     while let Some(at) = memchr(b'\n', rest) {
-        let behind = &rest[at + 1..];
-        let is_text = untested <= behind.len();
-        answer_line(rodeo, &rest[..at], is_text, number, writer)?;
+        let line = &rest[..at];
+        let is_text = untested < rest.len() - at;
+        answer_line(rodeo, line, is_text, number, writer)?;
         number = next_number(rt, number);
-        rest = behind;
+        rest = &rest[at + 1..];
     }
     Ok((number, rest))
 }

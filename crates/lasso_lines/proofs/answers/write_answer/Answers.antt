@@ -1,26 +1,22 @@
-use Rattle.std.proofs.Common.{◌∷◌, [], ◌++◌, Err, decimal}
-use Rattle.std.proofs.lemmas.Result.{err_from_is_err_and}
-use Rattle.lasso_lines.proofs.Known.{front_then, front_fails}
+use Rattle.std.proofs.Common.{◌∷◌, [], ◌++◌, decimal, rules, subst, ◌≡◌}
+use Rattle.std.proofs.lemmas.Fmt.{length-decimal-le}
+use Rattle.lasso_lines.specs.Stream.{Grows, written}
+use Rattle.lasso_lines.specs.Answer.{WritesAll}
+use Rattle.lasso_lines.proofs.Known.{front_is, answer_written, answer_parts}
 use Rattle.lasso_lines.proofs.answers.write_answer.Goals as goal
 
-pub returns-in_err-write_all-clause-bytes : goal.returns-in_err-write_all-clause-bytes
-returns-in_err-write_all-clause-bytes g c =
-    let p = err_from_is_err_and c.from_residual-in_err-write_all.result c.from_residual-in_err-write_all.ensures.1 in
-    let line = c.args.line.now in
-    rw (p.1, p.2) (front_then _ _ _ (decimal c.args.position) (32 ∷ (line ++ 10 ∷ [])) (Err c.in_err-write_all.field-0.0) c.in_ok-write_number.ensures.bytes
-    (front_fails _ _ (32 ∷ []) (line ++ 10 ∷ []) _ c.in_err-write_all.ensures.bytes))
+pub write_digits-start-requires : goal.write_digits-start-requires
+write_digits-start-requires g c = search (rules, length-decimal-le 20)
 
-pub returns-in_err-write_all-2-clause-bytes : goal.returns-in_err-write_all-2-clause-bytes
-returns-in_err-write_all-2-clause-bytes g c =
-    let p = err_from_is_err_and c.from_residual-in_err-write_all-2.result c.from_residual-in_err-write_all-2.ensures.1 in
-    let line = c.args.line.now in
-    rw (p.1, p.2) (front_then _ _ _ (decimal c.args.position) (32 ∷ (line ++ 10 ∷ [])) (Err c.in_err-write_all-2.field-0.0) c.in_ok-write_number.ensures.bytes
-    (front_then _ _ _ (32 ∷ []) (line ++ 10 ∷ []) (Err c.in_err-write_all-2.field-0.0) c.in_ok-write_all.ensures.bytes
-    (front_fails _ _ line (10 ∷ []) _ c.in_err-write_all-2.ensures.bytes)))
+pub returns-then-take_line-clause-bytes : goal.returns-then-take_line-clause-bytes
+returns-then-take_line-clause-bytes g c =
+    answer_written (decimal c.args.position) _ c.args.line.now (front_is (decimal c.args.position) _ _ c.write_digits-start.ensures.written c.write_digits-start.ensures.start) _ _ (c.take_line.ensures.taken c.if-take_line.true)
 
 pub returns-clause-bytes : goal.returns-clause-bytes
 returns-clause-bytes g c =
-    let line = c.args.line.now in
-    front_then _ _ _ (decimal c.args.position) (32 ∷ (line ++ 10 ∷ [])) _ c.in_ok-write_number.ensures.bytes
-    (front_then _ _ _ (32 ∷ []) (line ++ 10 ∷ []) _ c.in_ok-write_all.ensures.bytes
-    (front_then _ _ _ line (10 ∷ []) _ c.in_ok-write_all-2.ensures.bytes c.write_all-3.ensures.bytes))
+    let writer = g.O.ByteWriter in
+    let same : c.take_line.new.self ≡ c.args.writer.now = c.take_line.ensures.refused c.if-take_line.false in
+    let after = written (writer.delivered c.write_parts.new.writer) (writer.pending c.write_parts.new.writer) in
+    let bytes = decimal c.args.position ++ (32 ∷ (c.args.line.now ++ 10 ∷ [])) in
+    subst (λ w. Grows (written (writer.delivered w) (writer.pending w)) after (WritesAll bytes c.write_parts.result)) same
+    (answer_parts (decimal c.args.position) _ c.args.line.now (front_is (decimal c.args.position) _ _ c.write_digits-start.ensures.written c.write_digits-start.ensures.start) _ _ _ c.write_parts.ensures.bytes)
