@@ -59,6 +59,10 @@ held_no_feed begun bytes held is none none' = subst NoFeed (sym is) (no_feed_bot
 pub leads_still : (held : Held) (number : ℕ) (bytes : List ℕ) → LeadsTo held number bytes held number bytes []
 leads_still held number bytes = λ later more result e. e
 
+-- nothing is answered, and all bytes are held
+pub leads_held : (held : Held) (number : ℕ) (bytes begun : List ℕ) → begun ≡ bytes → LeadsTo held number bytes held number begun []
+leads_held held number bytes begun is = subst (λ bs. LeadsTo held number bytes held number bs []) (sym is) (leads_still held number bytes)
+
 -- one stretch leads to another
 pub leads_then : (before mid after : Held) (first second third : ℕ) (bytes rest last p q : List ℕ) → LeadsTo before first bytes mid second rest p → LeadsTo mid second rest after third last q → LeadsTo before first bytes after third last (p ++ q)
 leads_then before mid after first second third bytes rest last p q one two = λ later more result e.

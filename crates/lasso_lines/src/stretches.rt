@@ -1,5 +1,5 @@
 //! The lines of a stretch: the bytes that a reader shows at once.
-ghost use Rattle.std.specs.Prelude.{◌≡◌, ℕ, ◌+◌, ◌-◌, ◌<◌, ◌++◌, [], OnOk, IfOk, IfErr, MatchResult, IsUtf8, length, take};
+ghost use Rattle.std.specs.Prelude.{◌≡◌, ℕ, ◌+◌, ◌-◌, ◌<◌, ◌++◌, [], OnOk, IfOk, IfErr, MatchResult, IsUtf8, drop, length, take};
 ghost use Rattle.lasso_lines.specs.Stream.{Grows, OnlyGrows, written};
 ghost use Rattle.lasso_lines.specs.Report.{holding};
 ghost use Rattle.lasso_lines.specs.Answer.{AnswersLine, IsAnswerFault, failed_writes};
@@ -38,8 +38,8 @@ pub(crate) fn answer_stretch<R: Wait, O: ByteWriter>(
     ensures faults { IfErr result IsAnswerFault }
 {
     if begun.is_empty() {
-        let (next, behind) = answer_lines(rt, rodeo, shown, number, writer)?;
-        hold(begun, behind, next)?;
+        let (next, last) = answer_lines(rt, rodeo, shown, number, writer)?;
+        hold(begun, last, next)?;
         return Ok(next);
     }
     let Some(at) = memchr(b'\n', shown) else {
@@ -48,8 +48,8 @@ pub(crate) fn answer_stretch<R: Wait, O: ByteWriter>(
     };
     answer_held(rodeo, begun, &shown[..at], number, writer)?;
     let second = next_number(rt, number);
-    let (next, behind) = answer_lines(rt, rodeo, &shown[at + 1..], second, writer)?;
-    hold(begun, behind, next)?;
+    let (next, last) = answer_lines(rt, rodeo, behind(shown, at), second, writer)?;
+    hold(begun, last, next)?;
     Ok(next)
 }
 
@@ -81,9 +81,19 @@ fn answer_lines<'a, R: Wait, O: ByteWriter>(
         let is_text = untested < rest.len() - at;
         answer_line(rodeo, line, is_text, number, writer)?;
         number = next_number(rt, number);
-        rest = &rest[at + 1..];
+        rest = behind(rest, at);
     }
     Ok((number, rest))
+}
+
+// The bytes behind the one at this place.
+#[inline]
+fn behind(bytes: &[u8], at: usize) -> &[u8]
+    requires { at < length bytes.now }
+    ensures value { result.now ≡ drop (at + 1) bytes.now }
+    ensures less { length result.now < length bytes.now }
+{
+    &bytes[at + 1..]
 }
 
 // How many bytes at the end are not known to be text: those in front of them are. ASCII is looked for first,

@@ -24,4 +24,4 @@ returns-in-Ok-try_get_or_intern-clause-faults g c = write_fault _ c.write_answer
 pub returns-in-Err-clause-answers : goal.returns-in-Err-clause-answers
 returns-in-Err-clause-answers g c =
     let before = holding c.args.rodeo.now.texts c.args.rodeo.now.account in
-    nothing_more _ _ (refused_line before c.args.number c.args.line.now c.in-Ok.text.now c.in-Err.error _ _ c.in-Ok.ensures.cases c.in-Err.ensures.2)
+    nothing_more _ _ (refused_line before c.args.number c.args.line.now c.in-Ok.text.now c.in-Err.error _ _ c.in-Ok.ensures.cases c.in-Err.ensures.0.2)

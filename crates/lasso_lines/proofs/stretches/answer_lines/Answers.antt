@@ -6,7 +6,7 @@ use Rattle.std.specs.Str.{IsUtf8}
 use Rattle.lasso_lines.specs.Report.{holding}
 use Rattle.lasso_lines.specs.Stretch.{LeadsTo}
 use Rattle.lasso_lines.proofs.Known.{grows_then, only_grows_then}
-use Rattle.lasso_lines.proofs.Cuts.{rest_behind, none_no_feed, leads_line, leads_then, fails_line, fails_then}
+use Rattle.lasso_lines.proofs.Cuts.{none_no_feed, leads_line, leads_then, fails_line, fails_then}
 use Rattle.lasso_lines.proofs.Tested.{line_is_tested, behind_is_tested}
 use Rattle.lasso_lines.proofs.stretches.answer_lines.Goals as goal
 
@@ -37,8 +37,8 @@ loop-at-preserved g c =
     let rest = c.loop-at.rest.now in
     let at = c.in-Some.at in
     let untested = c.untested_len-untested.result in
-    let behind = take (length rest - (at + 1)) (drop (at + 1) rest) in
-    let same : behind ≡ drop (at + 1) rest = rest_behind (at + 1) rest in
+    let behind = c.behind-rest.result.now in
+    let same : behind ≡ drop (at + 1) rest = c.behind-rest.ensures.value in
     record {
       counted = omega (arith, c.next_number-number.ensures);
       failures = omega (arith, c.in_ok-answer_line.ensures.failures, c.loop-at.invariant.failures);
