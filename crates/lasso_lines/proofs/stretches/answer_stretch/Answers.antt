@@ -1,5 +1,6 @@
-use Rattle.std.proofs.Common.{◌≡◌, ◌+◌, [], ◌++◌, take, drop, refl, ap, sym, subst, ◌∙◌, append-nil}
+use Rattle.std.proofs.Common.{◌≡◌, ◌+◌, [], ◌++◌, take, drop, refl, ap, sym, subst, ◌∙◌, append-nil, arith}
 use Rattle.std.proofs.lemmas.Result.{err_from_is_err_and}
+use Rattle.std.proofs.lemmas.Grind.{common_steps}
 use Rattle.lasso_lines.specs.Report.{holding}
 use Rattle.lasso_lines.specs.Stretch.{LeadsTo, FailsWith}
 use Rattle.lasso_lines.proofs.Known.{nothing_more, grows_as, grows_then}
@@ -11,7 +12,7 @@ pub returns-in_err-hold-clause-answers : goal.returns-in_err-hold-clause-answers
 returns-in_err-hold-clause-answers g c =
     let before = holding c.args.rodeo.now.texts c.args.rodeo.now.account in
     let after = holding c.answer_lines.new.rodeo.texts c.answer_lines.new.rodeo.account in
-    let none : c.args.begun.now.items ≡ [] = c.if-is_empty.ensures in
+    let none : c.args.begun.now.items ≡ [] = grind (arith, common_steps) in
     let last = c.in_ok-next.last.now in
     let p = err_from_is_err_and c.from_residual-in_err-hold.result c.from_residual-in_err-hold.ensures.1 in
     rw (p.1, p.2, none) (grows_as _ _ _ _ c.in_ok-next.ensures.answers (λ part leads.
