@@ -1,7 +1,6 @@
 pub mod Known
 pub mod Lines
 pub mod Ways
-pub mod Cuts
+pub mod Stretches
 pub mod Numbers
 pub mod Buffers
-pub mod Tested
