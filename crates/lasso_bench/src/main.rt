@@ -1,6 +1,7 @@
 //! Times the interner beside a map and a set of the standard kind, and the log of a shared one beside another
 //! list that threads share: with the word `measure` it prints the nanoseconds of a call of the first, with
-//! `shared` those of a call of the lists that are shared, and without words nothing.
+//! `round` those of one round of the interner alone, with `shared` those of a call of the lists that are shared,
+//! and without words nothing.
 #![tactic(auto)]
 
 ghost use Rattle.std.specs.Prelude.{◌<◌};
@@ -25,7 +26,7 @@ use std::sync::Wait;
 use std::thread::Threads;
 use texts::Sample;
 use threads::{CALLS, Walk, best_shared_timings};
-use timing::{Timings, best_timings};
+use timing::{Timings, best_timings, round};
 
 const TEXTS: u32 = 100_000;
 
@@ -38,8 +39,9 @@ fn main(rt: HostRuntime) -> Result<()> {
     match words.as_slice() {
         [] => Ok(()),
         [word] if word.as_str() == "measure" => print_table(&rt),
+        [word] if word.as_str() == "round" => print_rounds(&rt),
         [word] if word.as_str() == "shared" => print_shared(&rt),
-        _ => bail!("usage: lasso_bench [measure|shared]"),
+        _ => bail!("usage: lasso_bench [measure|round|shared]"),
     }
 }
 
@@ -56,6 +58,27 @@ fn print_table<R: AllocGlobal + Clock + Print>(rt: &R) -> Result<()> {
     print_timings(rt, "IndexSet", best_timings::<SetPool, R>(rt, &sample)?)?;
     print_frozen(rt, TEXTS)?;
     print_frozen(rt, MANY_TEXTS)
+}
+
+// Times one round of the interner for each count of texts, and prints a line for each operation: the count, what was
+// done, and the time.
+fn print_rounds<R: AllocGlobal + Clock + Print>(rt: &R) -> Result<()> {
+    for count in [TEXTS, MANY_TEXTS] {
+        let sample = Sample::new(rt.alloc(), count)?;
+        let timings = round::<RodeoPool, R>(rt, &sample)?;
+        let lines = [
+            ("new", timings.intern_new),
+            ("hit", timings.intern_present),
+            ("miss", timings.get_missing),
+            ("resolve", timings.resolve),
+        ];
+        for (operation, tenths) in lines {
+            let whole = tenths / 10;
+            let tenth = tenths % 10;
+            println!(rt; "{count} {operation} {whole}.{tenth}")?;
+        }
+    }
+    Ok(())
 }
 
 // Times frozen interners of so many texts, and prints a line for each operation.

@@ -1,6 +1,6 @@
 //! Texts that threads read at once: the log of a shared interner, and a vector of `boxcar`.
 ghost use Rattle.std.specs.Prelude.{◌≡◌, [], IfOk};
-ghost use Rattle.lasso_shared.specs.Sights.{list_of};
+ghost use Rattle.lasso_shared.specs.Views.{list_of};
 ghost use Rattle.lasso_bench.specs.Names.{named};
 
 use crate::texts::numbered_text;

@@ -10,7 +10,7 @@ use std::rt::Clock;
 use std::time::{Duration, Instant};
 
 /// How often each operation is timed.
-pub const ROUNDS: u32 = 7;
+pub const ROUNDS: u32 = 8;
 
 /// How long a call takes, in tenths of a nanosecond.
 #[derive(Clone, Copy, Debug)]
@@ -55,8 +55,8 @@ pub fn best_timings<P: TextPool, R: AllocGlobal + Clock>(
     Ok(best)
 }
 
-// Times each operation once over all texts, in a pool of its own.
-fn round<P: TextPool, R: AllocGlobal + Clock>(rt: &R, sample: &Sample) -> Result<Timings> {
+/// What each operation took once over all texts, in a pool of its own. It fails as `best_timings` does.
+pub fn round<P: TextPool, R: AllocGlobal + Clock>(rt: &R, sample: &Sample) -> Result<Timings> {
     let mut pool = P::new(rt.alloc())?;
     let start = Instant::now(rt)?;
     let interned = intern_all(&mut pool, &sample.texts)?;
