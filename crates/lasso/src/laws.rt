@@ -1,5 +1,6 @@
 //! The laws of the definitions that contracts speak of: of the account that an interner for one thread
-//! keeps, and of the histories of one that threads share, with what callers of it can rely on. Each is the contract of a function that does nothing.
+//! keeps, and of the histories of one that threads share, with what its callers can rely on. Each is the
+//! contract of a function that does nothing.
 pub use lasso_parts::laws::{
     capacities_compare_texts_first, store_never_grows_past_limit, store_refuses_exactly_past_limit,
     store_serves_as_worked,

@@ -53,7 +53,7 @@ list_past o h g more =
     subst (λ (s : Totals). IsPrefix (totals o h).texts s.texts) (sym is) (list_grows (totals o h) more.0)
 
 -- what passes have seen, as histories
-history_past : (xs ys : List NoteView) → IsPrefix xs ys → IsPrefix (history xs) (history ys)
+pub history_past : (xs ys : List NoteView) → IsPrefix xs ys → IsPrefix (history xs) (history ys)
 history_past xs ys more = (history more.0, sym (history_append xs more.0) ∙ ap history more.1)
 
 -- ---- appends of a legal history

@@ -93,7 +93,8 @@ pub record AreNoCalls : Type 0 where
   -- a history in which a bucket comes while another has room, or a text stands twice
   pub charged_early : IsLegal three_keys opening ((7, Charge 4 1) ∷ []) → ⊥
   pub appended_twice : IsLegal three_keys opening ((7, Append a) ∷ (8, Append a) ∷ []) → ⊥
-  -- an opening in which a text stands twice, or that lacks a key, or whose bucket holds more than it has
+  -- an opening in which a text stands twice, or that lacks a key, or whose bucket holds more than it has, or has no bytes
   pub opened_twice : IsOpening three_keys (opened (a ∷ a ∷ []) 4 2 6) → ⊥
   pub opened_keyless : IsOpening three_keys (opened (a ∷ bc ∷ ddd ∷ e ∷ []) 8 7 8) → ⊥
   pub opened_overfull : IsOpening three_keys (opened [] 2 3 6) → ⊥
+  pub opened_without_bucket : IsOpening three_keys (opened [] 0 0 6) → ⊥

@@ -71,7 +71,7 @@ returns c = record {
   walk = record { past = two; begins = refl; explained = (two, [], refl, refl, refl); makes = refl };
   frozen = record { past = two; begins = refl; explained = (two, [], refl, refl, inl refl); makes = refl };
   not_written = record { past = two; begins = refl; explained = (two, [], refl, refl, inr refl); makes = refl };
-  opens = record { distinct = both_distinct; fits = both_fit; bucket = (4, 3, omega arith, refl) };
+  opens = record { distinct = both_distinct; fits = both_fit; bucket = (4, 3, (λ e. absurd (omega (arith, e))), omega arith, refl) };
   legal_there = (((λ x. grind arith), omega arith), ((refl, refl), tt));
   opened_found = record { past = []; begins = refl; explained = ([], [], refl, tt, refl); makes = inl refl };
   opened_resolved = record { past = last; begins = refl; explained = ([], last, refl, tt, refl); makes = refl };

@@ -78,5 +78,11 @@ returns c = record {
   appended_twice = λ x. none-some 0 (sym x.1.0.0);
   opened_twice = λ o. true≢false (apart_from_distinct bytes_eq (a ∷ a ∷ []) 0 1 [] o.distinct (omega arith) (omega arith));
   opened_keyless = λ o. true≢false (sym (o.fits 3 (omega arith)));
-  opened_overfull = λ o. let same = ap (λ (t : Totals). first_bucket t.buckets) o.bucket.3 in let within = o.bucket.2 in absurd (omega (arith, ap (λ (b : CountedBucket). b.size) same, ap (λ (b : CountedBucket). b.used) same, within));
+  opened_overfull = λ o.
+      let same = ap (λ (t : Totals). first_bucket t.buckets) o.bucket.4 in
+      let within = o.bucket.3 in
+      absurd (omega (arith, ap (λ (b : CountedBucket). b.size) same, ap (λ (b : CountedBucket). b.used) same, within));
+  opened_without_bucket = λ o.
+      let same = ap (λ (t : Totals). first_bucket t.buckets) o.bucket.4 in
+      o.bucket.2 (sym (ap (λ (b : CountedBucket). b.size) same));
 }
