@@ -26,7 +26,8 @@ use Rattle.lasso_shared.specs.Views.{InternerId, seen}
 use Rattle.lasso_shared.specs.CallerLaws.{HasKey, CallsTellKeys, SeenTextsKeepKeys, AnsweredKeysResolve, ResolvedTextsStay, KeysAreEqualWhereTextsAre, PassesShare}
 use Rattle.lasso_shared.proofs.Legal.{totals_append, legal_parts, list_kept, list_grows}
 use Rattle.lasso_shared.proofs.Histories.{history_append, prefix_trans}
-use Rattle.lasso_shared.proofs.Positions.{position_here, get_front}
+use Rattle.lasso_parts.proofs.TextLemmas.{position_here}
+use Rattle.lasso_shared.proofs.Positions.{get_front}
 use Rattle.lasso_shared.proofs.Tickets.{by_cases}
 
 -- ---- lists that grow
