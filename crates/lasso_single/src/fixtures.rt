@@ -1,6 +1,5 @@
-//! A key type, hashers and an allocator for tests.
+//! A key type and hashers for tests.
 use lasso_parts::keys::Key;
-use std::alloc::{AllocError, Allocator};
 use std::cell::Cell;
 use std::cmp::{Eq, PartialEq};
 use std::hash::{BuildHasher, BuildHasherDefault, Hasher};
@@ -109,39 +108,5 @@ impl BuildHasher for CountingState<'_> {
     fn build_hasher(&self) -> SameHasher {
         self.made.set(self.made.get().wrapping_add(1));
         SameHasher { answer: 0 }
-    }
-}
-
-/// Passes each request for memory on, but for one that it refuses: the one that finds 0 left before it.
-#[derive(Clone, Copy)]
-pub struct RefusesOne<'a, B: Allocator> {
-    inner: B,
-    left: &'a Cell<Option<usize>>,
-}
-
-impl<'a, B: Allocator> RefusesOne<'a, B> {
-    /// With `left` at none, no request is refused.
-    pub fn new(inner: B, left: &'a Cell<Option<usize>>) -> Self {
-        RefusesOne { inner, left }
-    }
-}
-
-unsafe impl<B: Allocator> Allocator for RefusesOne<'_, B> {
-    ghost dealloc_token = { λ heap ty ptr. B.dealloc_token heap.inner ty ptr };
-
-    fn allocate(&self, size: usize, align: usize) -> Result<*mut u8, AllocError> {
-        match self.left.get() {
-            Some(0) => {
-                self.left.set(None);
-                return Err(AllocError);
-            }
-            Some(left) => self.left.set(Some(left - 1)),
-            None => {}
-        }
-        self.inner.allocate(size, align)
-    }
-
-    unsafe fn deallocate(&self, ptr: *mut u8, size: usize, align: usize) {
-        unsafe { self.inner.deallocate(ptr, size, align) }
     }
 }
