@@ -175,6 +175,12 @@ impl ByteWriter for ShortWriter {
 
     ghost failures = { λ w. w.failures.count };
 
+    ghost room = { λ _. 0 };
+
+    fn take_line(&mut self, _front: &[u8], _line: &[u8]) -> bool {
+        false
+    }
+
     fn write(&mut self, bytes: &[u8]) -> Result<usize, Failed> {
         let count = bytes.len().min(3);
         if self.calls == 0 || self.taken.extend_from_slice(&bytes[..count]).is_err() {
@@ -300,6 +306,12 @@ impl ByteWriter for ScreenWriter<'_> {
     ghost pending = { λ w. Some w.pending.items };
 
     ghost failures = { λ w. w.failures.count };
+
+    ghost room = { λ _. 0 };
+
+    fn take_line(&mut self, _front: &[u8], _line: &[u8]) -> bool {
+        false
+    }
 
     fn write(&mut self, bytes: &[u8]) -> Result<usize, Failed> {
         if self.pending.extend_from_slice(bytes).is_err() {
