@@ -2,7 +2,7 @@
 --
 -- A relation between the known bytes before and after a call says something only where they are known before. So
 -- two relations in a row compose: the bytes that the first tells are known to the second, and the two parts join.
-use Rattle.std.proofs.Common.{ℕ, ◌≡◌, ◌+◌, ◌-◌, List, [], ◌∷◌, ◌++◌, length, take, Option, Some, Result, Ok, Err, IfErr, ap, sym, subst, ◌∙◌, append_assoc, append-nil, arith}
+use Rattle.std.proofs.Common.{ℕ, ◌≡◌, ◌+◌, ◌-◌, List, [], ◌∷◌, ◌++◌, length, take, Option, Some, Result, Ok, Err, OnOk, IfErr, ap, sym, subst, ◌∙◌, append_assoc, append-nil, arith}
 use Rattle.std.proofs.lemmas.List.{take_all, length-append}
 use Rattle.lasso_lines.specs.Stream.{Begins, Grows, OnlyGrows, Stays, written}
 use Rattle.lasso_lines.specs.Answer.{WritesAll, IsAnswerFault}
@@ -86,6 +86,11 @@ module _ (digits front line : List ℕ) (is : front ≡ digits ++ 32 ∷ []) whe
 pub write_fault : (result : Result (Unit {0}) RunFault) → IfErr result (λ fault. fault ≡ WriteFailed) → IfErr result IsAnswerFault
 write_fault (Ok x) is = is
 write_fault (Err fault) is = subst IsAnswerFault (sym is) tt
+
+-- what holds anyway holds without a fault
+pub on_ok : (result : Result (Unit {0}) RunFault) (P : Type 0) → P → OnOk result P
+on_ok (Ok x) P p = p
+on_ok (Err fault) P p = tt
 
 -- what a writer into empty memory has delivered is the part
 pub delivered_part : (before pending after pending' : Option (List ℕ)) (bytes : List ℕ) (P : List ℕ → Type 0) → before ≡ Some [] → pending ≡ Some [] → after ≡ Some bytes → pending' ≡ Some [] → Grows (written before pending) (written after pending') P → P bytes

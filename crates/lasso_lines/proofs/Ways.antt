@@ -174,7 +174,7 @@ pub way_starts : (input : List ℕ) (limit : ℕ) → OnTheWay input limit (new_
 way_starts input limit = record { ends = λ more result e. e }
 
 -- the bytes of a stretch go to the answers and to the line that is held
-pub way_leads : (input : List ℕ) (limit : ℕ) (held after : Held) (number number' : ℕ) (begun stretch begun' left part reply : List ℕ) → OnTheWay input limit held number begun (stretch ++ left) part → LeadsTo held number (begun ++ stretch) after number' begun' reply → OnTheWay input limit after number' begun' left (part ++ reply)
+way_leads : (input : List ℕ) (limit : ℕ) (held after : Held) (number number' : ℕ) (begun stretch begun' left part reply : List ℕ) → OnTheWay input limit held number begun (stretch ++ left) part → LeadsTo held number (begun ++ stretch) after number' begun' reply → OnTheWay input limit after number' begun' left (part ++ reply)
 way_leads input limit held after number number' begun stretch begun' left part reply way leads = record {
   ends = λ more result e.
       subst (λ bs. Ends input limit bs result) (sym (append_assoc part reply more))
@@ -184,6 +184,11 @@ way_leads input limit held after number number' begun stretch begun' left part r
 -- the bytes shown are the first of those that are left
 pub way_shown : (input : List ℕ) (limit : ℕ) (held : Held) (number : ℕ) (begun shown left part : List ℕ) → Begins shown left → OnTheWay input limit held number begun left part → OnTheWay input limit held number begun (shown ++ drop (length shown) left) part
 way_shown input limit held number begun shown left part begins way = subst (λ bs. OnTheWay input limit held number begun bs part) (all_shown shown left begins) way
+
+-- the bytes shown are answered or held, and those behind them are left
+pub way_goes_on : (input : List ℕ) (limit : ℕ) (held after : Held) (number number' : ℕ) (begun shown begun' left part reply : List ℕ) → Begins shown left → OnTheWay input limit held number begun left part → LeadsTo held number (begun ++ shown) after number' begun' reply → OnTheWay input limit after number' begun' (drop (length shown) left) (part ++ reply)
+way_goes_on input limit held after number number' begun shown begun' left part reply begins way leads =
+    way_leads input limit held after number number' begun shown begun' (drop (length shown) left) part reply (way_shown input limit held number begun shown left part begins way) leads
 
 -- a line of a stretch fails
 pub way_fails : (input : List ℕ) (limit : ℕ) (held : Held) (number : ℕ) (begun stretch left part reply : List ℕ) (fault : RunFault) → OnTheWay input limit held number begun (stretch ++ left) part → FailsWith held number (begun ++ stretch) reply fault → Ends input limit (part ++ reply) (Err fault)
