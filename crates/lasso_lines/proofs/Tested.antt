@@ -47,7 +47,7 @@ module _ (bytes : List ℕ) (at untested : ℕ) (text : IsUtf8 (take (length byt
 
   behind_by : (n : ℕ) → length (drop (at + 1) bytes) - untested ≡ n → IsUtf8 (take n (drop (at + 1) bytes))
   behind_by zero is = IsUtf8-nil
-  behind_by (suc n) is = 
+  behind_by (suc n) is =
       let same : length bytes - untested - (at + 1) ≡ suc n = omega (arith, length-drop (at + 1) bytes, cut.inside, is) in
       subst (λ k. IsUtf8 (take k (drop (at + 1) bytes))) same (behind_in_front bytes at (length bytes - untested) text (omega (arith, length-drop (at + 1) bytes, cut.inside, is)) (omega arith) cut.feed)
 

@@ -83,7 +83,10 @@ fn write_parts<O: ByteWriter>(writer: &mut O, front: &[u8], line: &[u8]) -> Resu
 }
 
 // Writes how many texts and bytes there are.
-pub(crate) fn answer_counts<O: ByteWriter>(rodeo: &LineRodeo, writer: &mut O) -> Result<(), RunFault>
+pub(crate) fn answer_counts<O: ByteWriter>(
+    rodeo: &LineRodeo,
+    writer: &mut O,
+) -> Result<(), RunFault>
     ensures failures { O.failures writer.new ≡ O.failures writer.old + failed_writes result }
     ensures delivered { OnlyGrows (O.delivered writer.old) (O.delivered writer.new) }
     ensures bytes { Grows (written (O.delivered writer.old) (O.pending writer.old)) (written (O.delivered writer.new) (O.pending writer.new))

@@ -31,8 +31,8 @@ pub(crate) fn answer_stretch<R: Wait, O: ByteWriter>(
     ensures delivered { OnlyGrows (O.delivered writer.old) (O.delivered writer.new) }
     ensures answers { Grows (written (O.delivered writer.old) (O.pending writer.old)) (written (O.delivered writer.new) (O.pending writer.new))
         (λ part. MatchResult result
-            (λ next. LeadsTo (holding rodeo.old.texts rodeo.old.account) number (begun.old.items ++ shown.now) (holding rodeo.new.texts rodeo.new.account) next begun.new.items part)
-            (λ fault. FailsWith (holding rodeo.old.texts rodeo.old.account) number (begun.old.items ++ shown.now) part fault)) }
+        (λ next. LeadsTo (holding rodeo.old.texts rodeo.old.account) number (begun.old.items ++ shown.now) (holding rodeo.new.texts rodeo.new.account) next begun.new.items part)
+        (λ fault. FailsWith (holding rodeo.old.texts rodeo.old.account) number (begun.old.items ++ shown.now) part fault)) }
     ensures held { OnOk result (NoFeed begun.new.items) }
     ensures counted { IfOk result (λ next. 0 < next) }
     ensures faults { IfErr result IsAnswerFault }
@@ -67,8 +67,8 @@ fn answer_lines<'a, R: Wait, O: ByteWriter>(
     ensures delivered { OnlyGrows (O.delivered writer.old) (O.delivered writer.new) }
     ensures answers { Grows (written (O.delivered writer.old) (O.pending writer.old)) (written (O.delivered writer.new) (O.pending writer.new))
         (λ part. MatchResult result
-            (λ r. LeadsTo (holding rodeo.old.texts rodeo.old.account) number stretch.now (holding rodeo.new.texts rodeo.new.account) r.0 r.1.now part)
-            (λ fault. FailsWith (holding rodeo.old.texts rodeo.old.account) number stretch.now part fault)) }
+        (λ r. LeadsTo (holding rodeo.old.texts rodeo.old.account) number stretch.now (holding rodeo.new.texts rodeo.new.account) r.0 r.1.now part)
+        (λ fault. FailsWith (holding rodeo.old.texts rodeo.old.account) number stretch.now part fault)) }
     ensures no_feed { IfOk result (λ r. NoFeed r.1.now) }
     ensures counted { IfOk result (λ r. 0 < r.0) }
     ensures faults { IfErr result IsAnswerFault }

@@ -40,7 +40,7 @@ returns-in_err-ask_for_more-clause-report g c = λ input e.
     let number = c.in_ok-number.number in
     let p = err_from_is_err_and c.from_residual-in_err-ask_for_more.result c.from_residual-in_err-ask_for_more.ensures.1 in
     rw (p.1, p.2) (grows_stays _ _ _ _ _ (grows_then _ _ _ _ _ (OnTheWay input c.args.limits after number begun rest) ahead.2 c.in_ok-number.ensures.answers (λ part reply way leads.
-        way_goes_on input c.args.limits held after c.stretches.number number c.stretches.begun.items shown begun ahead.0 part reply (c.shown-shown.ensures.first ahead.0 ahead.1) way leads)) c.ask_for_more.ensures.written (λ part way.
+    way_goes_on input c.args.limits held after c.stretches.number number c.stretches.begun.items shown begun ahead.0 part reply (c.shown-shown.ensures.first ahead.0 ahead.1) way leads)) c.ask_for_more.ensures.written (λ part way.
     stream_ends input c.args.limits part _ c.in_err-ask_for_more.ensures.faults (way_stops input c.args.limits after number begun rest part way)))
 
 pub returns-in_err-ask_for_more-clause-delivered : goal.returns-in_err-ask_for_more-clause-delivered
@@ -63,7 +63,7 @@ returns-then-is_empty-clause-report g c = λ input e.
     let kept : g.I.ByteReader.left c.ask_for_more.new.reader ≡ Some rest = c.ask_for_more.ensures.left rest behind in
     let gone : rest ≡ [] = cc in
     grows_then _ _ _ _ _ _ (grows_then _ _ _ _ _ (OnTheWay input c.args.limits after number begun rest) ahead.2 c.in_ok-number.ensures.answers (λ part reply way leads.
-        way_goes_on input c.args.limits held after c.stretches.number number c.stretches.begun.items shown begun ahead.0 part reply (c.shown-shown.ensures.first ahead.0 ahead.1) way leads)) (stays_grows _ _ _ _ c.ask_for_more.ensures.written c.answer_end.ensures.answers) (λ part more way ends.
+    way_goes_on input c.args.limits held after c.stretches.number number c.stretches.begun.items shown begun ahead.0 part reply (c.shown-shown.ensures.first ahead.0 ahead.1) way leads)) (stays_grows _ _ _ _ c.ask_for_more.ensures.written c.answer_end.ensures.answers) (λ part more way ends.
     way_ended input c.args.limits after number begun rest part more c.answer_end.result c.in_ok-number.ensures.held gone
     (subst (λ bs. EndsFrom after number (last_lines bs) more c.answer_end.result) c.deref.ensures.value ends) way)
 
@@ -71,8 +71,8 @@ pub returns-then-is_empty-clause-whole : goal.returns-then-is_empty-clause-whole
 returns-then-is_empty-clause-whole g c =
     let none : g.I.ByteReader.at_hand c.ask_for_more.new.reader ≡ [] = grind (arith, common_steps) in
     on_ok c.answer_end.result _ (λ input e.
-        let ahead = c.stretches.invariant.ahead input e in
-        c.in_ok-ask_for_more.ensures.end none _ (c.use_up.ensures.left ahead.0 ahead.1))
+    let ahead = c.stretches.invariant.ahead input e in
+    c.in_ok-ask_for_more.ensures.end none _ (c.use_up.ensures.left ahead.0 ahead.1))
 
 pub returns-then-is_empty-clause-delivered : goal.returns-then-is_empty-clause-delivered
 returns-then-is_empty-clause-delivered g c =

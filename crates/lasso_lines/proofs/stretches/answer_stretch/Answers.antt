@@ -73,7 +73,7 @@ returns-in_err-hold-3-clause-answers g c =
     let p = err_from_is_err_and c.from_residual-in_err-hold-3.result c.from_residual-in_err-hold-3.ensures.1 in
     rw (p.1, p.2) (grows_then _ _ _ _ _ _ c.in_ok-answer_held.ensures.answers c.in_ok-next-2.ensures.answers (λ part reply good leads.
     let first = subst (λ n. LeadsTo before c.args.number (begun ++ shown) mid n rest part) (sym c.next_number-second.ensures)
-        (leads_line before c.args.number begun shown (take at shown) rest at c.requires.no_feed c.in-Some.ensures refl c.behind.ensures.value mid part c.requires.counted good) in
+    (leads_line before c.args.number begun shown (take at shown) rest at c.requires.no_feed c.in-Some.ensures refl c.behind.ensures.value mid part c.requires.counted good) in
     let both = leads_then before mid after c.args.number second c.in_ok-next-2.next (begun ++ shown) rest last part reply first leads in
     subst (λ bs. FailsWith before c.args.number (begun ++ shown) bs c.in_err-hold-3.field-0.0) (append-nil (part ++ reply))
     (fails_then before after c.args.number c.in_ok-next-2.next (begun ++ shown) last (part ++ reply) [] _ both (fails_held after c.in_ok-next-2.next [] last _ c.in_err-hold-3.ensures.lacks))))
@@ -91,7 +91,7 @@ returns-clause-answers g c =
     let last = c.in_ok-next-2.last.now in
     grows_then _ _ _ _ _ _ c.in_ok-answer_held.ensures.answers c.in_ok-next-2.ensures.answers (λ part reply good leads.
     let first = subst (λ n. LeadsTo before c.args.number (begun ++ shown) mid n rest part) (sym c.next_number-second.ensures)
-        (leads_line before c.args.number begun shown (take at shown) rest at c.requires.no_feed c.in-Some.ensures refl c.behind.ensures.value mid part c.requires.counted good) in
+    (leads_line before c.args.number begun shown (take at shown) rest at c.requires.no_feed c.in-Some.ensures refl c.behind.ensures.value mid part c.requires.counted good) in
     let both = leads_then before mid after c.args.number second c.in_ok-next-2.next (begun ++ shown) rest last part reply first leads in
     let held : c.hold-2.new.begun.items ≡ last = c.in_ok-hold-3.ensures.held ∙ ap (λ bs. bs ++ last) c.in_ok-answer_held.ensures.emptied in
     subst (λ bs. LeadsTo before c.args.number (begun ++ shown) after c.in_ok-next-2.next bs (part ++ reply)) (sym held) both)
