@@ -292,6 +292,23 @@ fn each_read_fails_in_turn(rt: HostRuntime) -> Result<(), Fail> {
     Ok(())
 }
 
+// Each stretch ends within a letter of two bytes.
+#[test]
+fn letters_cut_by_stretches(rt: HostRuntime) -> Result<(), Fail> {
+    let mut reader = ShortReader {
+        at_hand: b"",
+        later: "a\né\né\né".as_bytes(),
+        calls: 100,
+        tries: 0,
+        failures: Failures::none(),
+    };
+    let mut writer = MemoryWriter::new(rt.alloc());
+    assert!(rt; run(&rt, &mut reader, &mut writer, no_limit()) == Ok(()));
+    let output = "0 a\n1 é\n1 é\n1 é\n2 texts, 4096 bytes\n";
+    assert_eq!(rt; writer.into_bytes().as_slice(), output.as_bytes());
+    Ok(())
+}
+
 // A screen shows what was flushed.
 #[derive(Drop)]
 struct ScreenWriter<'a> {
