@@ -104,7 +104,7 @@ take_nil : (n : ℕ) → ◌≡◌ {A = List ℕ} (take n []) []
 take_nil zero = refl
 take_nil (suc n) = refl
 
-take_drop : (used filled n : ℕ) (bytes : List ℕ) → filled ≡ used + n → take n (drop used bytes) ≡ drop used (take filled bytes)
+pub take_drop : (used filled n : ℕ) (bytes : List ℕ) → filled ≡ used + n → take n (drop used bytes) ≡ drop used (take filled bytes)
 take_drop zero filled n bytes e = let same : n ≡ filled = omega arith in ap (λ k. take k bytes) same
 take_drop (suc used) zero n bytes e = absurd (omega arith)
 take_drop (suc used) (suc filled) n [] e = take_nil n

@@ -2,7 +2,8 @@
 --
 -- A relation between the known bytes before and after a call says something only where they are known before. So
 -- two relations in a row compose: the bytes that the first tells are known to the second, and the two parts join.
-use Rattle.std.proofs.Common.{ℕ, ◌≡◌, List, [], ◌++◌, take, Option, Some, Result, Ok, Err, IfErr, ap, sym, subst, ◌∙◌, append_assoc, append-nil}
+use Rattle.std.proofs.Common.{ℕ, ◌≡◌, ◌+◌, ◌-◌, List, [], ◌∷◌, ◌++◌, length, take, Option, Some, Result, Ok, Err, OnOk, IfErr, ap, sym, subst, ◌∙◌, append_assoc, append-nil, arith}
+use Rattle.std.proofs.lemmas.List.{take_all, length-append}
 use Rattle.lasso_lines.specs.Stream.{Begins, Grows, OnlyGrows, Stays, written}
 use Rattle.lasso_lines.specs.Answer.{WritesAll, IsAnswerFault}
 use Rattle.lasso_lines.specs.declared.fault.RunFault.{RunFault}
@@ -64,10 +65,32 @@ pub front_then : (before mid after : Option (List ℕ)) (front back : List ℕ) 
 front_then before mid after front back result first second =
     grows_then before mid after (λ part. part ≡ front) (WritesAll back result) (WritesAll (front ++ back) result) first second (λ p q is w. writes_behind p q front back result is w)
 
+-- the digits end before the last place of 21, where the space is
+pub front_is : (digits back : List ℕ) (start : ℕ) → back ≡ digits ++ 32 ∷ [] → start + length digits ≡ 20 → take (21 - start) back ≡ digits ++ 32 ∷ []
+front_is digits back start is fits = take_all (21 - start) back (let n : length back ≡ length digits + 1 = ap length is ∙ length-append digits (32 ∷ []) in omega arith) ∙ is
+
+-- the digits of an answer and the space behind them are its front
+module _ (digits front line : List ℕ) (is : front ≡ digits ++ 32 ∷ []) where
+  whole_answer : front ++ (line ++ 10 ∷ []) ≡ digits ++ (32 ∷ (line ++ 10 ∷ []))
+  whole_answer = ap (λ bs. bs ++ (line ++ 10 ∷ [])) is ∙ append_assoc digits (32 ∷ []) (line ++ 10 ∷ [])
+
+  -- the answer is taken at once
+  pub answer_written : (before after : Option (List ℕ)) → Grows before after (λ part. part ≡ front ++ (line ++ 10 ∷ [])) → Grows before after (WritesAll (digits ++ (32 ∷ (line ++ 10 ∷ []))) (Ok tt))
+  answer_written before after grown = grows_as before after (λ part. part ≡ front ++ (line ++ 10 ∷ [])) (WritesAll (digits ++ (32 ∷ (line ++ 10 ∷ []))) (Ok tt)) grown (λ part e. e ∙ whole_answer)
+
+  -- or its parts are written
+  pub answer_parts : (before after : Option (List ℕ)) (result : Result (Unit {0}) RunFault) → Grows before after (WritesAll (front ++ (line ++ 10 ∷ [])) result) → Grows before after (WritesAll (digits ++ (32 ∷ (line ++ 10 ∷ []))) result)
+  answer_parts before after result grown = subst (λ bs. Grows before after (WritesAll bs result)) whole_answer grown
+
 -- a failed write is a fault of an answer
 pub write_fault : (result : Result (Unit {0}) RunFault) → IfErr result (λ fault. fault ≡ WriteFailed) → IfErr result IsAnswerFault
 write_fault (Ok x) is = is
 write_fault (Err fault) is = subst IsAnswerFault (sym is) tt
+
+-- what holds anyway holds without a fault
+pub on_ok : (result : Result (Unit {0}) RunFault) (P : Type 0) → P → OnOk result P
+on_ok (Ok x) P p = p
+on_ok (Err fault) P p = tt
 
 -- what a writer into empty memory has delivered is the part
 pub delivered_part : (before pending after pending' : Option (List ℕ)) (bytes : List ℕ) (P : List ℕ → Type 0) → before ≡ Some [] → pending ≡ Some [] → after ≡ Some bytes → pending' ≡ Some [] → Grows (written before pending) (written after pending') P → P bytes

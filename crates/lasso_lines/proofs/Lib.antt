@@ -1,6 +1,7 @@
 pub mod Known
 pub mod Lines
 pub mod Ways
-pub mod Stretches
+pub mod Cuts
 pub mod Numbers
 pub mod Buffers
+pub mod Tested

@@ -14,14 +14,10 @@ use Rattle.lasso_parts.specs.Held.{Held}
 use Rattle.lasso_single.specs.Intern.{interned, interned_position}
 use Rattle.lasso_lines.specs.Stream.{Begins}
 use Rattle.lasso_lines.specs.Report.{is_line_feed, lines_of, spur_at, after_line, with_number, line_report}
+use Rattle.lasso_lines.specs.Stretch.{NoFeed}
 use Rattle.lasso_lines.specs.Answer.{AnswersLine, WritesAll, LineFails, faulty, no_memory, not_written, last_lines}
 use Rattle.lasso_lines.specs.declared.fault.RunFault.{RunFault}
 use Rattle.lasso_lines.specs.declared.fault.RunFault.TheVariants.{Refused, NotText}
-
--- no byte is a line feed
-abbrev pub NoFeed : List ℕ → Type 0
-NoFeed [] = Unit {0}
-NoFeed (b ∷ bytes) = (is_line_feed b ≡ false) × NoFeed bytes
 
 pub no_feed_both : (front back : List ℕ) → NoFeed front → NoFeed back → NoFeed (front ++ back)
 no_feed_both [] back none none' = none'

@@ -2,11 +2,11 @@
 --
 -- While the engine works, it holds the beginning of a line, and some bytes are left to read. What it keeps true is
 -- this: however the run over the lines of those bytes ends, with the part that it writes, so ends the run over the
--- whole input, with the bytes written so far in front of that part. This holds at the start, when all is left. More
--- bytes of the line that is held change nothing, since the same bytes are held and left. An answered line goes from
--- the lines that are left to the bytes that are written, by the definition of the report. So at a return only the
--- lines that are left matter: none after the counts, or one of which a fault is told.
-use Rattle.std.proofs.Common.{ℕ, zero, suc, ◌≡◌, ◌+◌, ◌<◌, inl, inr, Bool, true, false, cond, List, [], ◌∷◌, ◌++◌, length, Some, Result, Ok, Err, ap, sym, subst, ◌∙◌, refl, append_assoc, append-nil, arith}
+-- whole input, with the bytes written so far in front of that part. This holds at the start, when all is left. A
+-- stretch of bytes, of which some lines are answered and the rest is held, leads from one such state to the next:
+-- what is said of it holds whatever comes behind, and so for the bytes that are left. At a return only the lines that
+-- are left matter: none after the counts, or one of which a fault is told.
+use Rattle.std.proofs.Common.{ℕ, zero, suc, ◌≡◌, ◌+◌, ◌<◌, inl, inr, Bool, true, false, cond, List, [], ◌∷◌, ◌++◌, length, drop, Some, Result, Ok, Err, ap, sym, subst, ◌∙◌, refl, append_assoc, append-nil, arith}
 use Rattle.std.specs.Str.{is_utf8}
 use Rattle.lasso_parts.specs.Held.{Held}
 use Rattle.lasso_parts.specs.declared.util.LassoError.{LassoError}
@@ -17,7 +17,8 @@ use Rattle.lasso_lines.specs.Report.{lines_of, with_number, spur_at, after_line,
 use Rattle.lasso_lines.specs.Answer.{WritesAll, LineFails, faulty, no_memory, not_written, IsStreamFault, last_lines}
 use Rattle.lasso_lines.specs.declared.fault.RunFault.{RunFault}
 use Rattle.lasso_lines.specs.declared.fault.RunFault.TheVariants.{Refused, NotText, Usage, ReadFailed, WriteFailed}
-use Rattle.lasso_lines.proofs.Lines.{NoFeed, lines_cut, lines_last, lines_some}
+use Rattle.lasso_lines.specs.Stretch.{NoFeed, LeadsTo, FailsWith}
+use Rattle.lasso_lines.proofs.Lines.{lines_last}
 
 -- what one good line gives
 report_good : (held after : Held) (number : ℕ) (line : List ℕ) (lines : List (List ℕ)) → after_line held number line ≡ Ok after → report_from held number (line ∷ lines) ≡ line_report held line ++ report_from after (number + 1) lines
@@ -157,58 +158,55 @@ pub no_last : (held : Held) (number : ℕ) (line : List ℕ) (part : List ℕ) (
 no_last held number [] part result none w = counts_end held number result part w
 no_last held number (b ∷ line) part result none w = absurd (omega arith)
 
--- however the lines of the held and the left bytes end, so ends the whole input
-pub record OnTheWay (input : List ℕ) (limit : ℕ) (held : Held) (done : ℕ) (begun left part : List ℕ) : Type 0 where
-  pub ends : (more : List ℕ) (result : Result (Unit {0}) RunFault) → EndsFrom held (done + 1) (lines_of (begun ++ left)) more result → Ends input limit (part ++ more) result
+drop_front : (front back : List ℕ) → drop (length front) (front ++ back) ≡ back
+drop_front [] back = refl
+drop_front (x ∷ front) back = drop_front front back
 
-pub way_starts : (input : List ℕ) (limit : ℕ) → OnTheWay input limit (new_held limit) 0 [] input []
+-- the bytes shown, and those that are left behind them
+all_shown : (shown left : List ℕ) → Begins shown left → left ≡ shown ++ drop (length shown) left
+all_shown shown left begins = begins.1 ∙ ap (λ bs. shown ++ bs) (sym (ap (λ bs. drop (length shown) bs) begins.1 ∙ drop_front shown begins.0))
+
+-- however the lines of the held and the left bytes end, so ends the whole input
+pub record OnTheWay (input : List ℕ) (limit : ℕ) (held : Held) (number : ℕ) (begun left part : List ℕ) : Type 0 where
+  pub ends : (more : List ℕ) (result : Result (Unit {0}) RunFault) → EndsFrom held number (lines_of (begun ++ left)) more result → Ends input limit (part ++ more) result
+
+pub way_starts : (input : List ℕ) (limit : ℕ) → OnTheWay input limit (new_held limit) 1 [] input []
 way_starts input limit = record { ends = λ more result e. e }
 
--- some bytes go from the left ones to the held ones
-pub way_held : (input : List ℕ) (limit : ℕ) (held : Held) (done : ℕ) (begun bytes left part : List ℕ) → OnTheWay input limit held done begun (bytes ++ left) part → OnTheWay input limit held done (begun ++ bytes) left part
-way_held input limit held done begun bytes left part way = record {
-  ends = λ more result e. way.ends more result (subst (λ bs. EndsFrom held (done + 1) (lines_of bs) more result) (append_assoc begun bytes left) e);
+-- the bytes of a stretch go to the answers and to the line that is held
+way_leads : (input : List ℕ) (limit : ℕ) (held after : Held) (number number' : ℕ) (begun stretch begun' left part reply : List ℕ) → OnTheWay input limit held number begun (stretch ++ left) part → LeadsTo held number (begun ++ stretch) after number' begun' reply → OnTheWay input limit after number' begun' left (part ++ reply)
+way_leads input limit held after number number' begun stretch begun' left part reply way leads = record {
+  ends = λ more result e.
+      subst (λ bs. Ends input limit bs result) (sym (append_assoc part reply more))
+      (way.ends (reply ++ more) result (subst (λ bs. EndsFrom held number (lines_of bs) (reply ++ more) result) (append_assoc begun stretch left) (leads left more result e)));
 }
 
--- a line is answered
-pub way_answered : (input : List ℕ) (limit : ℕ) (held after : Held) (done : ℕ) (begun end left part reply : List ℕ) → NoFeed (begun ++ end) → after_line held (done + 1) (begun ++ end) ≡ Ok after → reply ≡ line_report held (begun ++ end) → OnTheWay input limit held done begun (end ++ 10 ∷ left) part → OnTheWay input limit after (done + 1) [] left (part ++ reply)
-way_answered input limit held after done begun end left part reply none good told way =
-    let line = begun ++ end in
-    let cut : lines_of (begun ++ (end ++ 10 ∷ left)) ≡ line ∷ lines_of left = ap lines_of (sym (append_assoc begun end (10 ∷ left))) ∙ lines_cut line left none in
-    record {
-      ends = λ more result e.
-          let here : EndsFrom held (done + 1) (line ∷ lines_of left) (reply ++ more) result = subst (λ bs. EndsFrom held (done + 1) (line ∷ lines_of left) (bs ++ more) result) (sym told) (ends_after held after (done + 1) line (lines_of left) good (omega arith) more result e) in
-          subst (λ bs. Ends input limit bs result) (sym (append_assoc part reply more)) (way.ends (reply ++ more) result (subst (λ ls. EndsFrom held (done + 1) ls (reply ++ more) result) (sym cut) here));
-    }
+-- the bytes shown are the first of those that are left
+pub way_shown : (input : List ℕ) (limit : ℕ) (held : Held) (number : ℕ) (begun shown left part : List ℕ) → Begins shown left → OnTheWay input limit held number begun left part → OnTheWay input limit held number begun (shown ++ drop (length shown) left) part
+way_shown input limit held number begun shown left part begins way = subst (λ bs. OnTheWay input limit held number begun bs part) (all_shown shown left begins) way
 
--- a line fails
-pub way_fails : (input : List ℕ) (limit : ℕ) (held : Held) (done : ℕ) (begun end left part reply : List ℕ) (fault : RunFault) → NoFeed (begun ++ end) → LineFails held (done + 1) (begun ++ end) reply fault → OnTheWay input limit held done begun (end ++ 10 ∷ left) part → Ends input limit (part ++ reply) (Err fault)
-way_fails input limit held done begun end left part reply fault none fails way =
-    let line = begun ++ end in
-    let cut : lines_of (begun ++ (end ++ 10 ∷ left)) ≡ line ∷ lines_of left = ap lines_of (sym (append_assoc begun end (10 ∷ left))) ∙ lines_cut line left none in
-    way.ends reply (Err fault) (subst (λ ls. EndsFrom held (done + 1) ls reply (Err fault)) (sym cut) (line_fails held (done + 1) line (lines_of left) reply fault fails))
+-- the bytes shown are answered or held, and those behind them are left
+pub way_goes_on : (input : List ℕ) (limit : ℕ) (held after : Held) (number number' : ℕ) (begun shown begun' left part reply : List ℕ) → Begins shown left → OnTheWay input limit held number begun left part → LeadsTo held number (begun ++ shown) after number' begun' reply → OnTheWay input limit after number' begun' (drop (length shown) left) (part ++ reply)
+way_goes_on input limit held after number number' begun shown begun' left part reply begins way leads =
+    way_leads input limit held after number number' begun shown begun' (drop (length shown) left) part reply (way_shown input limit held number begun shown left part begins way) leads
 
--- memory is not found for the bytes that are at hand
-pub way_lacks : (input : List ℕ) (limit : ℕ) (held : Held) (done : ℕ) (begun left part : List ℕ) → 0 < length left → OnTheWay input limit held done begun left part → Ends input limit part (Err (Refused (done + 1) FailedAllocation))
-way_lacks input limit held done begun [] part some way = absurd (omega arith)
-way_lacks input limit held done begun (b ∷ left) part some way =
-    let first = lines_some begun b left in
-    subst (λ bs. Ends input limit bs (Err (Refused (done + 1) FailedAllocation))) (append-nil part)
-    (way.ends [] (Err (Refused (done + 1) FailedAllocation)) (subst (λ ls. EndsFrom held (done + 1) ls [] (Err (Refused (done + 1) FailedAllocation))) (sym first.2)
-    (line_fails held (done + 1) first.0 first.1 [] (Refused (done + 1) FailedAllocation) (no_memory refl))))
+-- a line of a stretch fails
+pub way_fails : (input : List ℕ) (limit : ℕ) (held : Held) (number : ℕ) (begun stretch left part reply : List ℕ) (fault : RunFault) → OnTheWay input limit held number begun (stretch ++ left) part → FailsWith held number (begun ++ stretch) reply fault → Ends input limit (part ++ reply) (Err fault)
+way_fails input limit held number begun stretch left part reply fault way fails =
+    way.ends reply (Err fault) (subst (λ bs. EndsFrom held number (lines_of bs) reply (Err fault)) (append_assoc begun stretch left) (fails left))
 
--- a read or a write fails between two lines
-pub way_stops : (input : List ℕ) (limit : ℕ) (held : Held) (done : ℕ) (begun left part : List ℕ) → OnTheWay input limit held done begun left part → (Ends input limit part (Err ReadFailed)) × (Ends input limit part (Err WriteFailed))
-way_stops input limit held done begun left part way = (
+-- a read or a write fails between two stretches
+pub way_stops : (input : List ℕ) (limit : ℕ) (held : Held) (number : ℕ) (begun left part : List ℕ) → OnTheWay input limit held number begun left part → (Ends input limit part (Err ReadFailed)) × (Ends input limit part (Err WriteFailed))
+way_stops input limit held number begun left part way = (
   subst (λ bs. Ends input limit bs (Err ReadFailed)) (append-nil part) (way.ends [] (Err ReadFailed) (_, refl)),
   subst (λ bs. Ends input limit bs (Err WriteFailed)) (append-nil part) (way.ends [] (Err WriteFailed) (_, refl)),
 )
 
 -- the input has ended, and the bytes that are held are the last line
-pub way_ended : (input : List ℕ) (limit : ℕ) (held : Held) (done : ℕ) (begun left part more : List ℕ) (result : Result (Unit {0}) RunFault) → NoFeed begun → left ≡ [] → EndsFrom held (done + 1) (last_lines begun) more result → OnTheWay input limit held done begun left part → Ends input limit (part ++ more) result
-way_ended input limit held done begun left part more result none gone ends way =
+pub way_ended : (input : List ℕ) (limit : ℕ) (held : Held) (number : ℕ) (begun left part more : List ℕ) (result : Result (Unit {0}) RunFault) → NoFeed begun → left ≡ [] → EndsFrom held number (last_lines begun) more result → OnTheWay input limit held number begun left part → Ends input limit (part ++ more) result
+way_ended input limit held number begun left part more result none gone ends way =
     let last : lines_of (begun ++ left) ≡ last_lines begun = ap (λ bs. lines_of (begun ++ bs)) gone ∙ ap lines_of (append-nil begun) ∙ lines_last begun none in
-    way.ends more result (subst (λ ls. EndsFrom held (done + 1) ls more result) (sym last) ends)
+    way.ends more result (subst (λ ls. EndsFrom held number ls more result) (sym last) ends)
 
 -- a failed read or write, as one fault
 pub stream_ends : (input : List ℕ) (limit : ℕ) (part : List ℕ) (fault : RunFault) → IsStreamFault fault → (Ends input limit part (Err ReadFailed)) × (Ends input limit part (Err WriteFailed)) → Ends input limit part (Err fault)

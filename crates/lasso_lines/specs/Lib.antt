@@ -3,3 +3,4 @@ pub mod Stream
 pub mod Report
 pub mod Answer
 pub mod Arguments
+pub mod Stretch

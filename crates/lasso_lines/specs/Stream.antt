@@ -46,14 +46,17 @@ pub record Reading : Type 0 where
   pub left : Option (List ℕ)
   pub failures : ℕ
 
--- a writer: the bytes that were delivered and those that are pending, where they are known, and how many calls have
--- failed
+-- a writer: the bytes that were delivered and those that are pending, where they are known, how many calls have
+-- failed, and how many bytes it can take at once
 pub record Writing : Type 0 where
   pub delivered : Option (List ℕ)
   pub pending : Option (List ℕ)
   pub failures : ℕ
+  pub room : ℕ
 
--- a writer into memory: the bytes that it has taken, which are delivered, and how many calls have failed
+-- a writer into memory: the bytes that it has taken, which are delivered, how many calls have failed, and how many
+-- bytes it can take at once
 pub record Taken : Type 0 where
   pub bytes : List ℕ
   pub failures : ℕ
+  pub room : ℕ

@@ -1,6 +1,7 @@
 //! Writes each line of its input behind the position of its text, and then how many texts there are.
 #![tactic(auto)]
 
+mod answers;
 pub mod arguments;
 pub mod engine;
 pub mod failures;
@@ -9,6 +10,7 @@ pub mod memory;
 pub mod program;
 pub mod standard;
 pub mod stream;
+mod stretches;
 #[cfg(test)]
 mod tests;
 

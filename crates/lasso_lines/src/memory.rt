@@ -1,5 +1,5 @@
 //! A reader and a writer of bytes in memory, and the report over them.
-ghost use Rattle.std.specs.Prelude.{◌≡◌, ℕ, [], Some, Err};
+ghost use Rattle.std.specs.Prelude.{◌≡◌, ℕ, ◌+◌, ◌<◌, ◌≤◌, ◌++◌, ◌∷◌, [], Some, Err, length, vec_capacity};
 ghost use Rattle.lasso_lines.specs.Report.{Ends};
 ghost use Rattle.lasso_lines.specs.declared.fault.RunFault.TheVariants.{ReadFailed, Usage};
 
@@ -63,11 +63,12 @@ pub struct MemoryWriter {
 }
 
 impl Model for MemoryWriter {
+    ghost use Rattle.std.specs.Prelude.{◌-◌, length, vec_capacity};
     ghost use Rattle.lasso_lines.specs.Stream.{Taken};
 
     ghost Value = { Taken };
 
-    ghost view = { λ w. record { bytes = w.bytes.items; failures = w.failures.count } };
+    ghost view = { λ w. record { bytes = w.bytes.items; failures = w.failures.count; room = vec_capacity w.bytes - length w.bytes.items } };
 }
 
 impl MemoryWriter {
@@ -98,6 +99,17 @@ impl ByteWriter for MemoryWriter {
 
     ghost failures = { λ w. w.failures };
 
+    ghost room = { λ w. w.room };
+
+    fn take_line(&mut self, front: &[u8], line: &[u8]) -> bool {
+        let room = self.bytes.capacity() - self.bytes.len();
+        let fits = front.len() + line.len() < room;
+        if fits {
+            push_line(&mut self.bytes, front, line);
+        }
+        fits
+    }
+
     fn write(&mut self, bytes: &[u8]) -> Result<usize, Failed> {
         match self.bytes.extend_from_slice(bytes) {
             Ok(()) => Ok(bytes.len()),
@@ -111,6 +123,18 @@ impl ByteWriter for MemoryWriter {
     fn flush(&mut self) -> Result<(), Failed> {
         Ok(())
     }
+}
+
+// Pushes the front, the line and a line feed, for which the buffer has room.
+#[inline]
+pub(crate) fn push_line(buffer: &mut Vec<u8>, front: &[u8], line: &[u8])
+    requires { length buffer.old.items + (length front.now + length line.now) < vec_capacity buffer.old }
+    ensures items { buffer.new.items ≡ buffer.old.items ++ (front.now ++ (line.now ++ 10 ∷ [])) }
+    ensures capacity { vec_capacity buffer.old ≤ vec_capacity buffer.new }
+{
+    let _front = buffer.extend_from_slice(front);
+    let _line = buffer.extend_from_slice(line);
+    buffer.push_reserved(b'\n');
 }
 
 /// What a run over the bytes writes, and how it ends. A read never fails.

@@ -1,11 +1,12 @@
 //! The readers and writers of std, with a large buffer each.
-ghost use Rattle.std.specs.Prelude.{◌≡◌, ℕ, ◌+◌, ◌-◌, ◌<◌, ◌≤◌, [], Some, IfOk, OnOk, MatchResult, drop, take, length};
+ghost use Rattle.std.specs.Prelude.{◌≡◌, ℕ, ◌+◌, ◌-◌, ◌<◌, ◌≤◌, ◌↔◌, ◌++◌, ◌∷◌, [], false, IsTrue, Some, IfOk, OnOk, MatchResult, drop, take, length, vec_capacity};
 ghost use Rattle.lasso_lines.specs.Stream.{Begins, Grows, Stays, OnlyGrows, written};
 
 #[cfg(test)]
 mod tests;
 
 use crate::failures::Failures;
+use crate::memory::push_line;
 use crate::stream::{ByteReader, ByteWriter, Failed};
 use std::alloc::{AllocError, Global};
 use std::io::{Read, Write};
@@ -94,12 +95,12 @@ pub struct StandardWriter<W: Write + Drop> {
 }
 
 impl<W: Write + Drop> Model for StandardWriter<W> {
-    ghost use Rattle.std.specs.Prelude.{Some, drop};
+    ghost use Rattle.std.specs.Prelude.{◌-◌, Some, drop, length};
     ghost use Rattle.lasso_lines.specs.Stream.{Writing};
 
     ghost Value = { Writing };
 
-    ghost view = { λ w. record { delivered = W.contents w.outgoing.inner; pending = Some (drop w.outgoing.sent w.outgoing.buffer.items); failures = w.failures.count } };
+    ghost view = { λ w. record { delivered = W.contents w.outgoing.inner; pending = Some (drop w.outgoing.sent w.outgoing.buffer.items); failures = w.failures.count; room = 65536 - length w.outgoing.buffer.items } };
 }
 
 impl<W: Write + Drop> StandardWriter<W> {
@@ -109,6 +110,7 @@ impl<W: Write + Drop> StandardWriter<W> {
         ensures delivered { IfOk result (λ w. w.delivered ≡ W.contents inner) }
         ensures pending { IfOk result (λ w. w.pending ≡ Some []) }
         ensures failures { IfOk result (λ w. w.failures ≡ 0) }
+        ensures room { IfOk result (λ w. w.room ≡ 65536) }
     {
         let buffer = Vec::with_capacity(alloc, BUFFER)?;
         Ok(StandardWriter {
@@ -145,6 +147,13 @@ impl<W: Write + Drop> ByteWriter for StandardWriter<W> {
 
     ghost failures = { λ w. w.failures };
 
+    ghost room = { λ w. w.room };
+
+    #[inline]
+    fn take_line(&mut self, front: &[u8], line: &[u8]) -> bool {
+        self.outgoing.take_line(front, line)
+    }
+
     fn write(&mut self, bytes: &[u8]) -> Result<usize, Failed> {
         let taken = self.outgoing.take(bytes);
         if taken.is_err() {
@@ -169,9 +178,27 @@ struct Outgoing<W: Write + Drop> {
     buffer: Vec<u8>,
     sent: usize,
     ghost in_range: { sent ≤ length buffer.items },
+    ghost fits: { length buffer.items ≤ 65536 },
+    ghost capacity: { 65536 ≤ vec_capacity buffer },
 }
 
 impl<W: Write + Drop> Outgoing<W> {
+    // Takes the front, the line and a line feed where the buffer has room for them all.
+    #[inline]
+    fn take_line(&mut self, front: &[u8], line: &[u8]) -> bool
+        ensures room { IsTrue result ↔ (length front.now + length line.now < 65536 - length self.old.buffer.items) }
+        ensures inner { self.new.inner ≡ self.old.inner }
+        ensures sent { self.new.sent ≡ self.old.sent }
+        ensures taken { IsTrue result → self.new.buffer.items ≡ self.old.buffer.items ++ (front.now ++ (line.now ++ 10 ∷ [])) }
+        ensures refused { result ≡ false → self.new ≡ self.old }
+    {
+        let fits = front.len() + line.len() < BUFFER - self.buffer.len();
+        if fits {
+            push_line(&mut self.buffer, front, line);
+        }
+        fits
+    }
+
     // Takes as many bytes as there is room for, once the buffer is not full.
     fn take(&mut self, bytes: &[u8]) -> Result<usize, Failed>
         ensures delivered { OnlyGrows (W.contents self.old.inner) (W.contents self.new.inner) }

@@ -1,6 +1,6 @@
 //! Readers and writers of stretches of bytes, which tell those bytes where they are known and count
 //! their failed calls.
-ghost use Rattle.std.specs.Prelude.{◌≡◌, ℕ, ◌+◌, ◌<◌, ◌≤◌, List, [], Option, Some, length, drop, take, is_ok, IfOk, OnOk, MatchResult};
+ghost use Rattle.std.specs.Prelude.{◌≡◌, ℕ, ◌+◌, ◌<◌, ◌≤◌, ◌↔◌, ◌++◌, ◌∷◌, List, [], false, IsTrue, Option, Some, length, drop, take, is_ok, IfOk, OnOk, MatchResult};
 ghost use Rattle.lasso_lines.specs.Stream.{Begins, Grows, OnlyGrows, Stays, Loses, ComeFirst, Ended, written, failed_calls};
 
 /// A call failed. The reader or writer has counted it.
@@ -48,6 +48,19 @@ pub trait ByteWriter {
 
     // how many calls have failed
     ghost failures: { Self → ℕ };
+
+    // how many bytes it can take at once where nothing may fail
+    ghost room: { Self → ℕ };
+
+    /// Takes the front, the line and a line feed where there is room for them all, and answers whether.
+    /// Where it does not take them, nothing has changed. It never fails.
+    fn take_line(&mut self, front: &[u8], line: &[u8]) -> bool
+        ensures room { IsTrue result ↔ (length front.now + length line.now < room self.old) }
+        ensures failures { failures self.new ≡ failures self.old }
+        ensures delivered { OnlyGrows (delivered self.old) (delivered self.new) }
+        ensures taken { IsTrue result → Grows (written (delivered self.old) (pending self.old)) (written (delivered self.new) (pending self.new))
+            (λ part. part ≡ front.now ++ (line.now ++ 10 ∷ [])) }
+        ensures refused { result ≡ false → self.new ≡ self.old };
 
     /// Takes some of the bytes, at least one where there is one, and answers how many; it may deliver
     /// bytes meanwhile. A call that fails may have taken some of the bytes, and keeps what is pending.

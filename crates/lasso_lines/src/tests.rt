@@ -175,6 +175,12 @@ impl ByteWriter for ShortWriter {
 
     ghost failures = { λ w. w.failures.count };
 
+    ghost room = { λ _. 0 };
+
+    fn take_line(&mut self, _front: &[u8], _line: &[u8]) -> bool {
+        false
+    }
+
     fn write(&mut self, bytes: &[u8]) -> Result<usize, Failed> {
         let count = bytes.len().min(3);
         if self.calls == 0 || self.taken.extend_from_slice(&bytes[..count]).is_err() {
@@ -286,6 +292,23 @@ fn each_read_fails_in_turn(rt: HostRuntime) -> Result<(), Fail> {
     Ok(())
 }
 
+// Each stretch ends within a letter of two bytes.
+#[test]
+fn letters_cut_by_stretches(rt: HostRuntime) -> Result<(), Fail> {
+    let mut reader = ShortReader {
+        at_hand: b"",
+        later: "a\né\né\né".as_bytes(),
+        calls: 100,
+        tries: 0,
+        failures: Failures::none(),
+    };
+    let mut writer = MemoryWriter::new(rt.alloc());
+    assert!(rt; run(&rt, &mut reader, &mut writer, no_limit()) == Ok(()));
+    let output = "0 a\n1 é\n1 é\n1 é\n2 texts, 4096 bytes\n";
+    assert_eq!(rt; writer.into_bytes().as_slice(), output.as_bytes());
+    Ok(())
+}
+
 // A screen shows what was flushed.
 #[derive(Drop)]
 struct ScreenWriter<'a> {
@@ -300,6 +323,12 @@ impl ByteWriter for ScreenWriter<'_> {
     ghost pending = { λ w. Some w.pending.items };
 
     ghost failures = { λ w. w.failures.count };
+
+    ghost room = { λ _. 0 };
+
+    fn take_line(&mut self, _front: &[u8], _line: &[u8]) -> bool {
+        false
+    }
 
     fn write(&mut self, bytes: &[u8]) -> Result<usize, Failed> {
         if self.pending.extend_from_slice(bytes).is_err() {

@@ -1,7 +1,7 @@
-use Rattle.std.proofs.Common.{◌≡◌, ◌+◌, ◌<◌, ◌^◌, ℕ, List, Some}
+use Rattle.std.proofs.Common.{◌≡◌, ◌<◌, ℕ, List, Some}
 use Rattle.lasso_lines.specs.Stream.{Grows, OnlyGrows, written}
 use Rattle.lasso_lines.specs.Report.{holding}
-use Rattle.lasso_lines.proofs.Lines.{NoFeed}
+use Rattle.lasso_lines.specs.Stretch.{NoFeed}
 use Rattle.lasso_lines.proofs.Ways.{OnTheWay}
 use Rattle.lasso_lines.proofs.engine.answer_input.Given as goal
 
@@ -10,11 +10,11 @@ invariant-stretches g l =
     let reader = g.I.ByteReader in
     let writer = g.O.ByteWriter in
     record {
-      few : l.done + (goal.iterator-stretches g).remaining l.iterator' < 2 ^ 64;
+      counted : 0 < l.number;
       reads : reader.failures l.reader ≡ reader.failures l.fn.reader;
       writes : writer.failures l.writer ≡ writer.failures l.fn.writer;
       delivered : OnlyGrows (writer.delivered l.fn.writer) (writer.delivered l.writer);
       no_feed : NoFeed l.begun.items;
       ahead : (input : List ℕ) → reader.left l.fn.reader ≡ Some input → (left : List ℕ) × (reader.left l.reader ≡ Some left)
-          × Grows (written (writer.delivered l.fn.writer) (writer.pending l.fn.writer)) (written (writer.delivered l.writer) (writer.pending l.writer)) (OnTheWay input l.fn.limits (holding l.rodeo.texts l.rodeo.account) l.done l.begun.items left);
+          × Grows (written (writer.delivered l.fn.writer) (writer.pending l.fn.writer)) (written (writer.delivered l.writer) (writer.pending l.writer)) (OnTheWay input l.fn.limits (holding l.rodeo.texts l.rodeo.account) l.number l.begun.items left);
     }

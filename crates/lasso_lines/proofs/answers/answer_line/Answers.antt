@@ -3,12 +3,12 @@ use Rattle.lasso_lines.specs.Answer.{faulty}
 use Rattle.lasso_lines.specs.Report.{holding}
 use Rattle.lasso_lines.proofs.Known.{nothing_more, grows_as, write_fault}
 use Rattle.lasso_lines.proofs.Lines.{not_text, refused_line, answered_line}
-use Rattle.lasso_lines.proofs.engine.answer_line.Goals as goal
+use Rattle.lasso_lines.proofs.answers.answer_line.Goals as goal
 
 pub returns-in_default-clause-answers : goal.returns-in_default-clause-answers
 returns-in_default-clause-answers g c =
     let before = holding c.args.rodeo.now.texts c.args.rodeo.now.account in
-    nothing_more _ _ (faulty _ (not_text before c.args.number c.args.line.now c.in_default.ensures.cases.0) refl)
+    nothing_more _ _ (faulty _ (not_text before c.args.number c.args.line.now c.in_default.ensures.cases) refl)
 
 pub returns-in-Ok-try_get_or_intern-clause-answers :
     goal.returns-in-Ok-try_get_or_intern-clause-answers

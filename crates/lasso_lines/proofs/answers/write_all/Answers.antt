@@ -1,7 +1,7 @@
 use Rattle.std.proofs.Common.{arith}
 use Rattle.std.proofs.lemmas.Grind.{common_steps}
 use Rattle.lasso_lines.proofs.Known.{took_more, only_grows_then}
-use Rattle.lasso_lines.proofs.engine.write_all.Goals as goal
+use Rattle.lasso_lines.proofs.answers.write_all.Goals as goal
 
 pub loop-rest-preserved : goal.loop-rest-preserved
 loop-rest-preserved g c =

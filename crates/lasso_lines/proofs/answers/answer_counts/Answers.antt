@@ -1,7 +1,7 @@
 use Rattle.std.proofs.Common.{◌++◌, Err, codes, decimal}
 use Rattle.std.proofs.lemmas.Result.{err_from_is_err_and}
 use Rattle.lasso_lines.proofs.Known.{front_then, front_fails}
-use Rattle.lasso_lines.proofs.engine.answer_counts.Goals as goal
+use Rattle.lasso_lines.proofs.answers.answer_counts.Goals as goal
 
 pub returns-in_err-write_all-clause-bytes : goal.returns-in_err-write_all-clause-bytes
 returns-in_err-write_all-clause-bytes g c =

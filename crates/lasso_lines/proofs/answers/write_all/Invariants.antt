@@ -1,6 +1,6 @@
 use Rattle.std.proofs.Common.{◌≡◌, ◌++◌, length}
 use Rattle.lasso_lines.specs.Stream.{Grows, OnlyGrows, written}
-use Rattle.lasso_lines.proofs.engine.write_all.Given as goal
+use Rattle.lasso_lines.proofs.answers.write_all.Given as goal
 
 abbrev pub invariant-loop-rest : goal.invariant-loop-rest
 invariant-loop-rest g l =

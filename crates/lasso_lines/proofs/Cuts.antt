@@ -1,0 +1,107 @@
+-- The bytes of a stretch, cut at their first line feed.
+--
+-- Where the search finds a line feed, the bytes are a line's end, the feed, and what is behind it. So a line that is
+-- answered leads from the bytes to those behind it, whatever comes after them, by the definition of the report. Where
+-- the search finds none, nothing is answered, and all bytes are held.
+use Rattle.std.proofs.Common.{ℕ, suc, zero, ◌≡◌, ◌+◌, ◌-◌, ◌<◌, ◌≤◌, ◌==◌, Ok, Err, Result, true, List, [], ◌∷◌, ◌++◌, length, take, drop, Some, None, ap, sym, subst, ◌∙◌, refl, arith, append_assoc, add-one, length-drop}
+use Rattle.std.specs.List.{slice_index}
+use Rattle.memchr.specs.Find.{IsFirstByte, is_byte}
+use Rattle.lasso_lines.specs.Stretch.{NoFeed, LeadsTo, FailsWith}
+use Rattle.lasso_parts.specs.Held.{Held}
+use Rattle.lasso_parts.specs.declared.util.LassoErrorKind.TheVariants.{FailedAllocation}
+use Rattle.lasso_lines.specs.Report.{after_line, line_report, lines_of, EndsFrom}
+use Rattle.lasso_lines.specs.Answer.{LineFails, no_memory}
+use Rattle.lasso_lines.specs.declared.fault.RunFault.{RunFault}
+use Rattle.lasso_lines.specs.declared.fault.RunFault.TheVariants.{Refused}
+use Rattle.lasso_lines.proofs.Ways.{ends_after, line_fails}
+use Rattle.lasso_lines.proofs.Lines.{no_feed_take, no_feed_both, lines_cut, lines_some}
+use Rattle.std.proofs.lemmas.Bool.Decides.{nat_tests}
+
+split_at_feed : (shown : List ℕ) (at : ℕ) → at < length shown → slice_index shown at == 10 ≡ true → shown ≡ take at shown ++ 10 ∷ drop (suc at) shown
+split_at_feed [] at small feed = absurd (omega arith)
+split_at_feed (b ∷ shown) zero small feed = let is : b ≡ 10 = grind (arith, nat_tests) in ap (λ x. x ∷ shown) is
+split_at_feed (b ∷ shown) (suc at) small feed = ap (λ bs. b ∷ bs) (split_at_feed shown at (omega arith) feed)
+
+-- what a search that found a line feed says of the bytes
+pub record Cut (bytes : List ℕ) (at : ℕ) : Type 0 where
+  pub inside : at + 1 ≤ length bytes
+  pub feed : slice_index bytes at == 10 ≡ true
+  pub no_feed : NoFeed (take at bytes)
+  pub bytes_are : bytes ≡ take at bytes ++ 10 ∷ drop (at + 1) bytes
+
+pub cut_at : (bytes : List ℕ) (at : ℕ) → IsFirstByte (is_byte 10) bytes (Some at) → Cut bytes at
+cut_at bytes at found =
+    let small : at < length bytes = found.0.high in
+    record {
+      inside = omega arith;
+      feed = found.1;
+      no_feed = no_feed_take bytes at (λ k below. found.0.before k (omega arith) below);
+      bytes_are = split_at_feed bytes at small found.1 ∙ ap (λ n. take at bytes ++ 10 ∷ drop n bytes) (sym (add-one at));
+    }
+
+pub take_all : (bytes : List ℕ) → take (length bytes) bytes ≡ bytes
+take_all [] = refl
+take_all (b ∷ bytes) = ap (λ bs. b ∷ bs) (take_all bytes)
+
+pub rest_behind : (n : ℕ) (bytes : List ℕ) → take (length bytes - n) (drop n bytes) ≡ drop n bytes
+rest_behind n bytes = let same : length bytes - n ≡ length (drop n bytes) = omega (arith, length-drop n bytes) in ap (λ k. take k (drop n bytes)) same ∙ take_all (drop n bytes)
+
+-- where the search finds none, no byte is a line feed
+pub none_no_feed : (bytes : List ℕ) → IsFirstByte (is_byte 10) bytes None → NoFeed bytes
+none_no_feed bytes found = subst NoFeed (take_all bytes) (no_feed_take bytes (length bytes) (λ k below. found k (omega arith) below))
+
+pub held_no_feed : (begun bytes held : List ℕ) → held ≡ begun ++ bytes → NoFeed begun → NoFeed bytes → NoFeed held
+held_no_feed begun bytes held is none none' = subst NoFeed (sym is) (no_feed_both begun bytes none none')
+
+-- ---- the steps over a stretch
+
+-- nothing is answered yet
+pub leads_still : (held : Held) (number : ℕ) (bytes : List ℕ) → LeadsTo held number bytes held number bytes []
+leads_still held number bytes = λ later more result e. e
+
+-- nothing is answered, and all bytes are held
+pub leads_held : (held : Held) (number : ℕ) (bytes begun : List ℕ) → begun ≡ bytes → LeadsTo held number bytes held number begun []
+leads_held held number bytes begun is = subst (λ bs. LeadsTo held number bytes held number bs []) (sym is) (leads_still held number bytes)
+
+-- one stretch leads to another
+pub leads_then : (before mid after : Held) (first second third : ℕ) (bytes rest last p q : List ℕ) → LeadsTo before first bytes mid second rest p → LeadsTo mid second rest after third last q → LeadsTo before first bytes after third last (p ++ q)
+leads_then before mid after first second third bytes rest last p q one two = λ later more result e.
+    subst (λ bs. EndsFrom before first (lines_of (bytes ++ later)) bs result) (sym (append_assoc p q more)) (one later (q ++ more) result (two later more result e))
+
+-- or to a fault
+pub fails_then : (before mid : Held) (first second : ℕ) (bytes rest p q : List ℕ) (fault : RunFault) → LeadsTo before first bytes mid second rest p → FailsWith mid second rest q fault → FailsWith before first bytes (p ++ q) fault
+fails_then before mid first second bytes rest p q fault one two = λ later. one later q (Err fault) (two later)
+
+-- the line that ends at the first line feed
+module _ (held : Held) (number : ℕ) (begun bytes end behind : List ℕ) (at : ℕ) (none : NoFeed begun) (found : IsFirstByte (is_byte 10) bytes (Some at)) (end_is : end ≡ take at bytes) (behind_is : behind ≡ drop (at + 1) bytes) where
+  cut : Cut bytes at
+  cut = cut_at bytes at found
+
+  lines_are : (later : List ℕ) → lines_of ((begun ++ bytes) ++ later) ≡ (begun ++ end) ∷ lines_of (behind ++ later)
+  lines_are later =
+      let split : bytes ≡ end ++ 10 ∷ behind = cut.bytes_are ∙ ap (λ bs. bs ++ 10 ∷ drop (at + 1) bytes) (sym end_is) ∙ ap (λ bs. end ++ 10 ∷ bs) (sym behind_is) in
+      let whole : begun ++ bytes ≡ (begun ++ end) ++ 10 ∷ behind = ap (λ bs. begun ++ bs) split ∙ sym (append_assoc begun end (10 ∷ behind)) in
+      let joined : (begun ++ bytes) ++ later ≡ (begun ++ end) ++ 10 ∷ (behind ++ later) = ap (λ bs. bs ++ later) whole ∙ append_assoc (begun ++ end) (10 ∷ behind) later in
+      ap lines_of joined ∙ lines_cut (begun ++ end) (behind ++ later) (no_feed_both begun end none (subst NoFeed (sym end_is) cut.no_feed))
+
+  -- it is answered
+  pub leads_line : (after : Held) (reply : List ℕ) → 0 < number → (after_line held number (begun ++ end) ≡ Ok after) × (reply ≡ line_report held (begun ++ end)) → LeadsTo held number (begun ++ bytes) after (number + 1) behind reply
+  leads_line after reply counted good = λ later more result e.
+      let line = begun ++ end in
+      let here = ends_after held after number line (lines_of (behind ++ later)) good.0 counted more result e in
+      subst (λ bs. EndsFrom held number (lines_of ((begun ++ bytes) ++ later)) (bs ++ more) result) (sym good.1) (subst (λ ls. EndsFrom held number ls (line_report held line ++ more) result) (sym (lines_are later)) here)
+
+  -- or it fails
+  pub fails_line : (reply : List ℕ) (fault : RunFault) → LineFails held number (begun ++ end) reply fault → FailsWith held number (begun ++ bytes) reply fault
+  fails_line reply fault fails = λ later.
+      subst (λ ls. EndsFrom held number ls reply (Err fault)) (sym (lines_are later)) (line_fails held number (begun ++ end) (lines_of (behind ++ later)) reply fault fails)
+
+-- there is no memory to hold some bytes
+pub fails_held : (held : Held) (number : ℕ) (begun bytes : List ℕ) (fault : RunFault) → (fault ≡ Refused number FailedAllocation) × (0 < length bytes) → FailsWith held number (begun ++ bytes) [] fault
+fails_held held number begun [] fault lacks = absurd (omega (arith, lacks.1))
+fails_held held number begun (b ∷ bytes) fault lacks = λ later.
+    let first = lines_some begun b (bytes ++ later) in
+    subst (λ f. EndsFrom held number (lines_of ((begun ++ b ∷ bytes) ++ later)) [] (Err f)) (sym lacks.0)
+    (subst (λ bs. EndsFrom held number (lines_of bs) [] (Err (Refused number FailedAllocation))) (sym (append_assoc begun (b ∷ bytes) later))
+    (subst (λ ls. EndsFrom held number ls [] (Err (Refused number FailedAllocation))) (sym first.2)
+    (line_fails held number first.0 first.1 [] (Refused number FailedAllocation) (no_memory refl))))

@@ -1,0 +1,130 @@
+//! The answers: a line behind the position of its text, and the counts.
+ghost use Rattle.std.specs.Prelude.{◌≡◌, ℕ, ◌+◌, ◌++◌, ◌∷◌, [], IfErr, MatchResult, IsTrue, IsUtf8, decimal};
+ghost use Rattle.lasso_lines.specs.Stream.{Grows, OnlyGrows, written};
+ghost use Rattle.lasso_lines.specs.Report.{holding, last_report};
+ghost use Rattle.lasso_lines.specs.Answer.{AnswersLine, WritesAll, IsAnswerFault, failed_writes};
+ghost use Rattle.lasso_lines.specs.declared.fault.RunFault.TheVariants.{WriteFailed};
+
+use crate::fault::RunFault;
+use crate::stream::ByteWriter;
+use itoa::{Buffer, write_digits};
+use lasso::{FixedState, Key, Rodeo, Spur};
+use std::alloc::Global;
+use std::str::{Utf8Error, from_utf8, from_utf8_unchecked};
+
+pub(crate) type LineRodeo = Rodeo<Spur, FixedState, Global>;
+
+// Interns the line and writes it behind the position of its text. It is text where `is_text` says so.
+pub(crate) fn answer_line<O: ByteWriter>(
+    rodeo: &mut LineRodeo,
+    line: &[u8],
+    is_text: bool,
+    number: u64,
+    writer: &mut O,
+) -> Result<(), RunFault>
+    requires { IsTrue is_text → IsUtf8 line.now }
+    ensures failures { O.failures writer.new ≡ O.failures writer.old + failed_writes result }
+    ensures delivered { OnlyGrows (O.delivered writer.old) (O.delivered writer.new) }
+    ensures answers { Grows (written (O.delivered writer.old) (O.pending writer.old)) (written (O.delivered writer.new) (O.pending writer.new))
+        (λ part. AnswersLine (holding rodeo.old.texts rodeo.old.account) number line.now result (holding rodeo.new.texts rodeo.new.account) part) }
+    ensures faults { IfErr result IsAnswerFault }
+{
+    let Ok(text) = text_of(line, is_text) else {
+        return Err(RunFault::NotText(number));
+    };
+    match rodeo.try_get_or_intern(text) {
+        Ok(key) => write_answer(writer, key.into_usize(), line),
+        Err(error) => Err(RunFault::Refused(number, error)),
+    }
+}
+
+// The line as a text, where it is one. It is tested where `is_text` does not say that it is one.
+#[inline]
+fn text_of(line: &[u8], is_text: bool) -> Result<&str, Utf8Error>
+    requires { IsTrue is_text → IsUtf8 line.now }
+    ensures cases { MatchResult result (λ text. (text.now ≡ line.now) × IsUtf8 line.now) (λ _. ¬ (IsUtf8 line.now)) }
+{
+    if is_text {
+        return Ok(unsafe { from_utf8_unchecked(line) });
+    }
+    from_utf8(line)
+}
+
+// Writes the line behind the position, at once where the writer has room.
+fn write_answer<O: ByteWriter>(writer: &mut O, position: usize, line: &[u8]) -> Result<(), RunFault>
+    ensures failures { O.failures writer.new ≡ O.failures writer.old + failed_writes result }
+    ensures delivered { OnlyGrows (O.delivered writer.old) (O.delivered writer.new) }
+    ensures bytes { Grows (written (O.delivered writer.old) (O.pending writer.old)) (written (O.delivered writer.new) (O.pending writer.new))
+        (WritesAll (decimal position ++ (32 ∷ (line.now ++ 10 ∷ []))) result) }
+    ensures faults { IfErr result (λ fault. fault ≡ WriteFailed) }
+{
+    // The digits of the greatest position and the space behind them.
+    let mut front = [b' '; 21];
+    let start = write_digits(position as u64, &mut front, 20);
+    let front = &front[start..];
+    if writer.take_line(front, line) {
+        return Ok(());
+    }
+    write_parts(writer, front, line)
+}
+
+// Writes the front of an answer, the line and a line feed one after the other.
+#[cold]
+fn write_parts<O: ByteWriter>(writer: &mut O, front: &[u8], line: &[u8]) -> Result<(), RunFault>
+    ensures failures { O.failures writer.new ≡ O.failures writer.old + failed_writes result }
+    ensures delivered { OnlyGrows (O.delivered writer.old) (O.delivered writer.new) }
+    ensures bytes { Grows (written (O.delivered writer.old) (O.pending writer.old)) (written (O.delivered writer.new) (O.pending writer.new))
+        (WritesAll (front.now ++ (line.now ++ 10 ∷ [])) result) }
+    ensures faults { IfErr result (λ fault. fault ≡ WriteFailed) }
+{
+    write_all(writer, front)?;
+    write_all(writer, line)?;
+    write_all(writer, b"\n")
+}
+
+// Writes how many texts and bytes there are.
+pub(crate) fn answer_counts<O: ByteWriter>(
+    rodeo: &LineRodeo,
+    writer: &mut O,
+) -> Result<(), RunFault>
+    ensures failures { O.failures writer.new ≡ O.failures writer.old + failed_writes result }
+    ensures delivered { OnlyGrows (O.delivered writer.old) (O.delivered writer.new) }
+    ensures bytes { Grows (written (O.delivered writer.old) (O.pending writer.old)) (written (O.delivered writer.new) (O.pending writer.new))
+        (WritesAll (last_report (holding rodeo.now.texts rodeo.now.account)) result) }
+    ensures faults { IfErr result (λ fault. fault ≡ WriteFailed) }
+{
+    write_number(writer, rodeo.len())?;
+    write_all(writer, b" texts, ")?;
+    write_number(writer, rodeo.current_memory_usage())?;
+    write_all(writer, b" bytes\n")
+}
+
+// Writes the number's digits.
+fn write_number<O: ByteWriter>(writer: &mut O, number: usize) -> Result<(), RunFault>
+    ensures failures { O.failures writer.new ≡ O.failures writer.old + failed_writes result }
+    ensures delivered { OnlyGrows (O.delivered writer.old) (O.delivered writer.new) }
+    ensures bytes { Grows (written (O.delivered writer.old) (O.pending writer.old)) (written (O.delivered writer.new) (O.pending writer.new))
+        (WritesAll (decimal number) result) }
+    ensures faults { IfErr result (λ fault. fault ≡ WriteFailed) }
+{
+    let mut digits = Buffer::new();
+    write_all(writer, digits.format(number).as_bytes())
+}
+
+// Writes the bytes by as many calls as it takes.
+fn write_all<O: ByteWriter>(writer: &mut O, bytes: &[u8]) -> Result<(), RunFault>
+    ensures failures { O.failures writer.new ≡ O.failures writer.old + failed_writes result }
+    ensures delivered { OnlyGrows (O.delivered writer.old) (O.delivered writer.new) }
+    ensures bytes { Grows (written (O.delivered writer.old) (O.pending writer.old)) (written (O.delivered writer.new) (O.pending writer.new))
+        (WritesAll bytes.now result) }
+    ensures faults { IfErr result (λ fault. fault ≡ WriteFailed) }
+{
+    let mut rest = bytes;
+    while !rest.is_empty() {
+        match writer.write(rest) {
+            Ok(count) => rest = &rest[count..],
+            Err(_) => return Err(RunFault::WriteFailed),
+        }
+    }
+    Ok(())
+}

@@ -1,0 +1,156 @@
+//! The lines of a stretch: the bytes that a reader shows at once.
+ghost use Rattle.std.specs.Prelude.{◌≡◌, ℕ, ◌+◌, ◌-◌, ◌<◌, ◌++◌, [], OnOk, IfOk, IfErr, MatchResult, IsUtf8, drop, length, take};
+ghost use Rattle.lasso_lines.specs.Stream.{Grows, OnlyGrows, written};
+ghost use Rattle.lasso_lines.specs.Report.{holding};
+ghost use Rattle.lasso_lines.specs.Answer.{AnswersLine, IsAnswerFault, failed_writes};
+ghost use Rattle.lasso_lines.specs.Stretch.{NoFeed, LeadsTo, FailsWith};
+ghost use Rattle.lasso_lines.specs.declared.fault.RunFault.TheVariants.{Refused};
+ghost use Rattle.lasso_parts.specs.declared.util.LassoErrorKind.TheVariants.{FailedAllocation};
+
+use crate::answers::{LineRodeo, answer_line};
+use crate::fault::RunFault;
+use crate::stream::ByteWriter;
+use lasso::{LassoError, LassoErrorKind};
+use memchr::memchr;
+use std::str::from_utf8;
+use std::sync::Wait;
+
+// Answers the lines that end among the bytes shown, the first of which begins with the bytes held, and holds
+// what is behind them. It returns the number of the line that is held then, or that comes next.
+pub(crate) fn answer_stretch<R: Wait, O: ByteWriter>(
+    rt: &R,
+    rodeo: &mut LineRodeo,
+    begun: &mut Vec<u8>,
+    shown: &[u8],
+    number: u64,
+    writer: &mut O,
+) -> Result<u64, RunFault>
+    requires no_feed { NoFeed begun.old.items }
+    requires counted { 0 < number }
+    ensures failures { O.failures writer.new ≡ O.failures writer.old + failed_writes result }
+    ensures delivered { OnlyGrows (O.delivered writer.old) (O.delivered writer.new) }
+    ensures answers { Grows (written (O.delivered writer.old) (O.pending writer.old)) (written (O.delivered writer.new) (O.pending writer.new))
+        (λ part. MatchResult result
+        (λ next. LeadsTo (holding rodeo.old.texts rodeo.old.account) number (begun.old.items ++ shown.now) (holding rodeo.new.texts rodeo.new.account) next begun.new.items part)
+        (λ fault. FailsWith (holding rodeo.old.texts rodeo.old.account) number (begun.old.items ++ shown.now) part fault)) }
+    ensures held { OnOk result (NoFeed begun.new.items) }
+    ensures counted { IfOk result (λ next. 0 < next) }
+    ensures faults { IfErr result IsAnswerFault }
+{
+    if begun.is_empty() {
+        let (next, last) = answer_lines(rt, rodeo, shown, number, writer)?;
+        hold(begun, last, next)?;
+        return Ok(next);
+    }
+    let Some(at) = memchr(b'\n', shown) else {
+        hold(begun, shown, number)?;
+        return Ok(number);
+    };
+    answer_held(rodeo, begun, &shown[..at], number, writer)?;
+    let second = next_number(rt, number);
+    let (next, last) = answer_lines(rt, rodeo, behind(shown, at), second, writer)?;
+    hold(begun, last, next)?;
+    Ok(next)
+}
+
+// Answers the lines that end in the stretch, which begins with a line. It returns the number of the line
+// behind them, and what the stretch has of that one.
+fn answer_lines<'a, R: Wait, O: ByteWriter>(
+    rt: &R,
+    rodeo: &mut LineRodeo,
+    stretch: &'a [u8],
+    number: u64,
+    writer: &mut O,
+) -> Result<(u64, &'a [u8]), RunFault>
+    requires { 0 < number }
+    ensures failures { O.failures writer.new ≡ O.failures writer.old + failed_writes result }
+    ensures delivered { OnlyGrows (O.delivered writer.old) (O.delivered writer.new) }
+    ensures answers { Grows (written (O.delivered writer.old) (O.pending writer.old)) (written (O.delivered writer.new) (O.pending writer.new))
+        (λ part. MatchResult result
+        (λ r. LeadsTo (holding rodeo.old.texts rodeo.old.account) number stretch.now (holding rodeo.new.texts rodeo.new.account) r.0 r.1.now part)
+        (λ fault. FailsWith (holding rodeo.old.texts rodeo.old.account) number stretch.now part fault)) }
+    ensures no_feed { IfOk result (λ r. NoFeed r.1.now) }
+    ensures counted { IfOk result (λ r. 0 < r.0) }
+    ensures faults { IfErr result IsAnswerFault }
+{
+    let untested = untested_len(stretch);
+    let mut number = number;
+    let mut rest = stretch;
+    while let Some(at) = memchr(b'\n', rest) {
+        let line = &rest[..at];
+        let is_text = untested < rest.len() - at;
+        answer_line(rodeo, line, is_text, number, writer)?;
+        number = next_number(rt, number);
+        rest = behind(rest, at);
+    }
+    Ok((number, rest))
+}
+
+// The bytes behind the one at this place.
+#[inline]
+fn behind(bytes: &[u8], at: usize) -> &[u8]
+    requires { at < length bytes.now }
+    ensures value { result.now ≡ drop (at + 1) bytes.now }
+    ensures less { length result.now < length bytes.now }
+{
+    &bytes[at + 1..]
+}
+
+// How many bytes at the end are not known to be text: those in front of them are. ASCII is looked for first,
+// which is faster.
+fn untested_len(bytes: &[u8]) -> usize
+    ensures { IsUtf8 (take (length bytes.now - result) bytes.now) }
+{
+    if bytes.is_ascii() {
+        return 0;
+    }
+    match from_utf8(bytes) {
+        Ok(_) => 0,
+        Err(error) => bytes.len() - error.valid_up_to(),
+    }
+}
+
+// The number of the line behind the one of this number. No run reaches the greatest number: there it waits
+// forever.
+#[inline]
+fn next_number<R: Wait>(rt: &R, number: u64) -> u64
+    ensures { result ≡ number + 1 }
+{
+    if let Some(next) = number.checked_add(1) {
+        return next;
+    }
+    for _ in rt.forever() {}
+    unreachable!()
+}
+
+// Holds the bytes behind those that are held of the line of this number.
+fn hold(begun: &mut Vec<u8>, bytes: &[u8], number: u64) -> Result<(), RunFault>
+    ensures held { OnOk result (begun.new.items ≡ begun.old.items ++ bytes.now) }
+    ensures lacks { IfErr result (λ fault. (fault ≡ Refused number FailedAllocation) × (0 < length bytes.now)) }
+{
+    if begun.extend_from_slice(bytes).is_err() {
+        return Err(RunFault::Refused(number, LassoError::new(LassoErrorKind::FailedAllocation)));
+    }
+    Ok(())
+}
+
+// Answers the line that begins with the bytes held and ends with these, and then holds nothing.
+fn answer_held<O: ByteWriter>(
+    rodeo: &mut LineRodeo,
+    begun: &mut Vec<u8>,
+    end: &[u8],
+    number: u64,
+    writer: &mut O,
+) -> Result<(), RunFault>
+    ensures failures { O.failures writer.new ≡ O.failures writer.old + failed_writes result }
+    ensures delivered { OnlyGrows (O.delivered writer.old) (O.delivered writer.new) }
+    ensures answers { Grows (written (O.delivered writer.old) (O.pending writer.old)) (written (O.delivered writer.new) (O.pending writer.new))
+        (λ part. AnswersLine (holding rodeo.old.texts rodeo.old.account) number (begun.old.items ++ end.now) result (holding rodeo.new.texts rodeo.new.account) part) }
+    ensures faults { IfErr result IsAnswerFault }
+    ensures emptied { OnOk result (begun.new.items ≡ []) }
+{
+    hold(begun, end, number)?;
+    answer_line(rodeo, begun, false, number, writer)?;
+    begun.clear();
+    Ok(())
+}
