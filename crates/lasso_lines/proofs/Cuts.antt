@@ -3,7 +3,7 @@
 -- Where the search finds a line feed, the bytes are a line's end, the feed, and what is behind it. So a line that is
 -- answered leads from the bytes to those behind it, whatever comes after them, by the definition of the report. Where
 -- the search finds none, nothing is answered, and all bytes are held.
-use Rattle.std.proofs.Common.{ℕ, suc, zero, ◌≡◌, ◌+◌, ◌-◌, ◌<◌, ◌≤◌, ◌==◌, Ok, Err, Result, true, List, [], ◌∷◌, ◌++◌, length, take, drop, Some, None, ap, sym, subst, ◌∙◌, refl, arith, append_assoc, add-one, length-drop}
+use Rattle.std.proofs.Common.{ℕ, suc, zero, ◌≡◌, ◌+◌, ◌-◌, ◌<◌, ◌≤◌, ◌==◌, Ok, Err, true, List, [], ◌∷◌, ◌++◌, length, take, drop, Some, None, ap, sym, subst, ◌∙◌, refl, arith, append_assoc, add-one, length-drop}
 use Rattle.std.specs.List.{slice_index}
 use Rattle.memchr.specs.Find.{IsFirstByte, is_byte}
 use Rattle.lasso_lines.specs.Stretch.{NoFeed, LeadsTo, FailsWith}

@@ -10,7 +10,6 @@ use Rattle.std.proofs.Common.{ℕ, zero, suc, ◌≡◌, ◌+◌, ◌<◌, inl, 
 use Rattle.std.specs.Str.{is_utf8}
 use Rattle.lasso_parts.specs.Held.{Held}
 use Rattle.lasso_parts.specs.declared.util.LassoError.{LassoError}
-use Rattle.lasso_parts.specs.declared.util.LassoErrorKind.TheVariants.{FailedAllocation}
 use Rattle.lasso_single.specs.Intern.{interned}
 use Rattle.lasso_lines.specs.Stream.{Begins}
 use Rattle.lasso_lines.specs.Report.{lines_of, with_number, spur_at, after_line, line_report, last_report, or_else, report_from, fault_from, reach_from, answers_from, LacksMemory, EndsWithFault, EndsFrom, Ends, new_held}

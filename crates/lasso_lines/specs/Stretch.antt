@@ -1,5 +1,5 @@
 -- What answering the lines of a stretch of bytes does, whatever comes behind them.
-use Rattle.std.specs.Prelude.{ℕ, ◌≡◌, Bool, false, List, [], ◌∷◌, ◌++◌, Result, Err}
+use Rattle.std.specs.Prelude.{ℕ, ◌≡◌, false, List, [], ◌∷◌, ◌++◌, Result, Err}
 use Rattle.lasso_parts.specs.Held.{Held}
 use Rattle.lasso_lines.specs.Report.{is_line_feed, lines_of, EndsFrom}
 use Rattle.lasso_lines.specs.declared.fault.RunFault.{RunFault}

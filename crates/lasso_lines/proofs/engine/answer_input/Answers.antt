@@ -1,4 +1,4 @@
-use Rattle.std.proofs.Common.{◌≡◌, ◌+◌, [], ◌++◌, Some, Err, inr, arith, refl, sym, subst, drop, length, ◌∙◌}
+use Rattle.std.proofs.Common.{◌≡◌, [], Some, Err, inr, arith, refl, sym, subst, drop, length}
 use Rattle.std.proofs.lemmas.Result.{err_from_is_err_and}
 use Rattle.std.proofs.lemmas.Grind.{common_steps}
 use Rattle.lasso_lines.specs.Report.{Ends, EndsFrom, holding}
