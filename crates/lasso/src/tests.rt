@@ -1,4 +1,5 @@
 //! Tests that cross the crates below: examples for a library's front page, and the interfaces.
+mod calling;
 mod examples;
 mod interfaces;
 mod objects;

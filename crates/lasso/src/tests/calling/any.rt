@@ -1,0 +1,31 @@
+//! Code over any interner: two texts are compared once, when they go in, and from then on by their keys.
+ghost use Rattle.std.specs.Prelude.{◌≡◌, ◌↔◌, IfSome, IfOk, IsTrue};
+
+use crate::{Interner, Key, LassoResult, Rodeo, Spur, SpurRodeo};
+use std::sync::Wait;
+use std::test::Fail;
+
+/// Whether the texts are equal, by their keys: where the interner has a list of its own, the keys are equal
+/// exactly where the texts are.
+pub fn have_one_key<K: Key, R: Wait, I: Interner<K>>(
+    rt: &R,
+    interner: &mut I,
+    left: &str,
+    right: &str,
+) -> LassoResult<bool>
+    ensures { IfSome (I.meaning interner.old) (λ _. IfOk result (λ one. IsTrue one ↔ (left.now ≡ right.now))) }
+{
+    let left_key = interner.try_get_or_intern(rt, left)?;
+    let right_key = interner.try_get_or_intern(rt, right)?;
+    Ok(left_key.into_usize() == right_key.into_usize())
+}
+
+#[test]
+fn keys_tell_texts_apart(rt: HostRuntime) -> Result<(), Fail> {
+    let mut rodeo: SpurRodeo = Rodeo::new(rt.alloc())?;
+    assert!(rt; have_one_key::<Spur, _, _>(&rt, &mut rodeo, "to be", "to be")?);
+    assert!(rt; !have_one_key::<Spur, _, _>(&rt, &mut rodeo, "to be", "not to be")?);
+    let mut boxed = Box::new(rt.alloc(), rodeo)?;
+    assert!(rt; !have_one_key::<Spur, _, _>(&rt, &mut boxed, "to be", "")?);
+    Ok(())
+}
