@@ -1,6 +1,6 @@
 -- What callers of an interner cite of the text that they interned, and of those from before.
 --
--- Interning a text leaves the list as it is, or puts the text last. So each text from before keeps its place, and
+-- Interning a text leaves the list as it is, or puts the text last. So each text from before keeps its position, and
 -- the text itself stands at the place of the key that was answered. Two keys of one list with the same number then
 -- resolve to the same text, and the same text was given one key.
 use Rattle.std.proofs.Common.{ℕ, ◌≡◌, ◌↔◌, ◌≤◌, ◌++◌, ◌∷◌, [], suc, List, length, map, Bool, true, false, Option, Some, None, Result, Ok, Err, IfSome, IfOk, is_some, cond, max, refl, sym, ap, subst, ◌∙◌, arith}
@@ -19,13 +19,13 @@ use Rattle.lasso_single.specs.Interner.{InternerView}
 use Rattle.lasso.specs.Interning.{with_last, InternsAmong}
 use Rattle.lasso.proofs.Interned.{key_resolves, key_interned, twice}
 
-place_kept_of : (there : Bool) (texts : List Text) (text : Text) (n : ℕ) (kept : Text) → slice_get texts n ≡ Some kept → slice_get (cond there texts (texts ++ text ∷ [])) n ≡ Some kept
-place_kept_of true texts text n kept at = at
-place_kept_of false texts text n kept at = slice_get-append_left texts (text ∷ []) n (slice_get_within texts n kept at) ∙ at
+position_kept_of : (there : Bool) (texts : List Text) (text : Text) (n : ℕ) (kept : Text) → slice_get texts n ≡ Some kept → slice_get (cond there texts (texts ++ text ∷ [])) n ≡ Some kept
+position_kept_of true texts text n kept at = at
+position_kept_of false texts text n kept at = slice_get-append_left texts (text ∷ []) n (slice_get_within texts n kept at) ∙ at
 
--- a text keeps its place when another is interned
-pub place_kept : (texts : List Text) (text : Text) (n : ℕ) (kept : Text) → slice_get texts n ≡ Some kept → slice_get (with_last texts text) n ≡ Some kept
-place_kept texts text n kept at = place_kept_of (is_some (position_of texts text)) texts text n kept at
+-- a text keeps its position when another is interned
+pub position_kept : (texts : List Text) (text : Text) (n : ℕ) (kept : Text) → slice_get texts n ≡ Some kept → slice_get (with_last texts text) n ≡ Some kept
+position_kept texts text n kept at = position_kept_of (is_some (position_of texts text)) texts text n kept at
 
 stored_list : (held left : Held) (text : Text) (s : Option Account) → stored_or_refused held text s ≡ Ok left → left.texts ≡ held.texts ++ text ∷ []
 stored_list held left text None h = cc
@@ -52,10 +52,10 @@ module _ {K : Type 0} (key_at : ℕ → Option K) where
   key_answered old new text k h =
       key_interned key_at old.texts new.texts text k (h.0.1, ap (λ (ts : List Text). Some ts) (list_interned old new text k h))
 
-  -- and each text from before keeps its place, whatever the call answers
+  -- and each text from before keeps its position, whatever the call answers
   pub texts_stay : (old new : InternerView) (text : Text) (reply : Result K LassoError) → InternsIn key_at old text reply new → (n : ℕ) (kept : Text) → slice_get old.texts n ≡ Some kept → slice_get new.texts n ≡ Some kept
   texts_stay old new text (Ok k) h n kept at =
-      subst (λ (ts : List Text). slice_get ts n ≡ Some kept) (sym (list_interned old new text k h)) (place_kept old.texts text n kept at)
+      subst (λ (ts : List Text). slice_get ts n ≡ Some kept) (sym (list_interned old new text k h)) (position_kept old.texts text n kept at)
   texts_stay old new text (Err error) h n kept at = subst (λ (ts : List Text). slice_get ts n ≡ Some kept) (sym h.0.0) at
 
 module _ {K : Type 0} (key_at : ℕ → Option K) (number : K → ℕ) (made : (n : ℕ) (k : K) → key_at n ≡ Some k → number k ≡ n) where
@@ -69,7 +69,7 @@ module _ {K : Type 0} (key_at : ℕ → Option K) (number : K → ℕ) (made : (
   alike texts after new a b k l h j =
       let left : new ≡ with_last after b = cc in
       let first : slice_get after (number k) ≡ Some a = key_resolves key_at number made after a k (key_interned key_at texts after a k h) in
-      let stays : slice_get new (number k) ≡ Some a = subst (λ (ts : List Text). slice_get ts (number k) ≡ Some a) (sym left) (place_kept after b (number k) a first) in
+      let stays : slice_get new (number k) ≡ Some a = subst (λ (ts : List Text). slice_get ts (number k) ≡ Some a) (sym left) (position_kept after b (number k) a first) in
       let second : slice_get new (number l) ≡ Some b = key_resolves key_at number made new b l (key_interned key_at after new b l j) in (
         (λ same. let both : slice_get new (number l) ≡ Some a = subst (λ (n : ℕ). slice_get new n ≡ Some a) same stays in cc),
         (λ same. let again : InternsAmong key_at after a (Ok l) (Some new) = subst (λ (t : Text). InternsAmong key_at after t (Ok l) (Some new)) (sym same) j in ap number (sym (twice key_at texts after new a k l h again).1)),
