@@ -40,7 +40,7 @@ fn report_lines<R>(rt: &R) -> Result<(), RunFault>
 where
     R: AllocGlobal + Env + Input + Print + Wait,
 {
-    let words = fault_text(rt)?;
+    let words = argument_words(rt)?;
     let input = StandardReader::new(rt.alloc(), rt.reader());
     let mut reader = input.map_err(no_memory)?;
     let output = StandardWriter::new(rt.alloc(), io::writer(rt));
@@ -49,7 +49,7 @@ where
 }
 
 // The words behind the program's name. Words that are not text are bad arguments.
-fn fault_text<R: AllocGlobal + Env>(rt: &R) -> Result<Vec<String>, RunFault> {
+fn argument_words<R: AllocGlobal + Env>(rt: &R) -> Result<Vec<String>, RunFault> {
     let mut all = match env::args(rt) {
         Ok(all) => all,
         Err(error) if error.kind() == ErrorKind::OutOfMemory => return Err(no_memory(AllocError)),

@@ -55,7 +55,7 @@ impl ByteReader for MemoryReader<'_> {
     }
 }
 
-/// A writer that delivers what it takes into memory at once. A write fails for want of memory alone.
+/// A writer that delivers what it takes into memory at once. Where there is no memory for it a write fails.
 #[derive(Drop)]
 pub struct MemoryWriter {
     bytes: Vec<u8>,

@@ -15,7 +15,7 @@ stepped a (bytes n) = store a n
 stepped a empty = Some (clear a)
 stepped a (limit m) = Some (with_limit a m)
 
--- the account account_after the steps, or none from the first refused one on
+-- the account after the steps, or none from the first refused one on
 abbrev pub account_after : Option Account → List AccountStep → Option Account
 account_after None steps = None
 account_after (Some a) [] = Some a

@@ -8,7 +8,7 @@ use lasso_parts::keys::Key;
 
 /// Whatever keys there are, whatever shard each text has, and whatever steps the calls take: each
 /// state is good, the list only grows, a step that raises the usage ends with it at most the limit,
-/// each reply is explained by what the state holds, and the events are a legal run_history that adds up
+/// each reply is explained by what the state holds, and the events are a legal history that adds up
 /// to the state.
 pub fn all_runs()
     ensures { (key_at : ℕ → Option ℕ) → EachRunHolds key_at }

@@ -105,7 +105,7 @@ fn fill<R: Wait>(rt: &R, shared: &ThreadedRodeo<Spur, FixedState>, texts: &[&'st
     all
 }
 
-// The number of an found_reply text, or why it was refused.
+// The number of an interned text, or why it was refused.
 fn number<K: Key, R: Wait>(
     rt: &R,
     shared: &ThreadedRodeo<K, FixedState>,
