@@ -41,6 +41,7 @@ name_at cells place = (slice_index_or cells place record { id = 0; tag = [] }).i
 abbrev pub IsCellAt : List ℕ → ℕ → ℕ → List Named → ℕ → Type 0
 IsCellAt names position chunk cells cell = (chunk ≡ slice_index names (chunk_of position)) × (cell ≡ name_at cells (offset_of position))
 
+-- the first of these numbers, and 0 where there is none
 abbrev pub first_number : List ℕ → ℕ
 first_number [] = 0
 first_number (n ∷ ns) = n

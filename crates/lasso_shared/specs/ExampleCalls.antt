@@ -84,9 +84,10 @@ pub record AreNoCalls : Type 0 where
   pub limit_leaves_room : Calls wider wider 9 (Intern Copied ddd) (Interned (Err MemoryLimitReached)) → ⊥
   -- the empty text refused by the limit
   pub empty_refused : Calls two two 9 (Intern Copied []) (Interned (Err MemoryLimitReached)) → ⊥
-  -- want of a key, or of memory, for a text that is there; and want of a key where the length has one
+  -- want of a key, of memory or of room for a text that is there; and want of a key where the length has one
   pub there_without_key : Calls three three 9 (Intern Static a) (Interned (Err KeySpaceExhaustion)) → ⊥
   pub there_without_memory : Calls two two 9 (Intern Copied a) (Interned (Err FailedAllocation)) → ⊥
+  pub there_past_limit : Calls two two 9 (Intern Copied a) (Interned (Err MemoryLimitReached)) → ⊥
   pub key_is_left : Calls two two 9 (Intern Static ddd) (Interned (Err KeySpaceExhaustion)) → ⊥
   -- a pass that forgets what it had seen
   pub forgotten : Calls two [] 9 (Get bc) (Found None) → ⊥

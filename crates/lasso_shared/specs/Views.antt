@@ -37,10 +37,6 @@ seen s = history s.notes
 abbrev pub IsSamePass : PassView → PassView → Type 0
 IsSamePass now before = (now.number ≡ before.number) × (now.of ≡ before.of)
 
-abbrev pub first_number : List ℕ → ℕ
-first_number [] = 0
-first_number (n ∷ ns) = n
-
 -- the list at the end of these notes of an interner
 abbrev pub list_of : InternerId → List NoteView → List Text
 list_of of notes = (state of.opening notes).texts

@@ -3,7 +3,7 @@
 -- The text at position i is none of those before it, since the list is distinct, and position i has a key,
 -- since the list fits the keys. So interning it either puts it last and stores its bytes, or is refused by the
 -- limit or for want of memory: no text is found, and no key is wanting.
-use Rattle.std.proofs.Common.{◌≡◌, ℕ, ◌+◌, ◌<◌, ◌≤◌, ◌⊎◌, inl, inr, List, [], ◌∷◌, ◌++◌, length, take, slice_get, Option, Some, None, IsSome, is_some, cond, max, Result, Ok, Err, MatchResult, refl, sym, subst, ap, ◌∙◌, arith}
+use Rattle.std.proofs.Common.{◌≡◌, ℕ, ◌+◌, ◌<◌, ◌≤◌, ◌⊎◌, inl, inr, List, [], ◌∷◌, ◌++◌, length, take, slice_get, Option, Some, None, IsSome, is_some, cond, IsOk, max, Result, Ok, Err, MatchResult, refl, sym, subst, ap, ◌∙◌, arith}
 use Rattle.std.specs.Prelude.{option_and_then}
 use Rattle.std.proofs.lemmas.Grind.{common_steps}
 use Rattle.std.proofs.lemmas.Bool.Decides.{nat_tests}
@@ -18,7 +18,7 @@ use Rattle.lasso_parts.specs.declared.util.LassoErrorKind.TheVariants.{MemoryLim
 use Rattle.lasso_parts.proofs.IndexLaws.{absent_before}
 use Rattle.lasso_parts.proofs.TextLemmas.{take_more_at}
 use Rattle.lasso_single.specs.Copies.{bytes_of, store_all, CopiesOne, StopsAt, clone_size, clone_of}
-use Rattle.lasso_single.specs.Intern.{Interns, InternsIn, with_text, stored_or_refused, keyed_or_refused, found_or_new}
+use Rattle.lasso_single.specs.Intern.{Interns, InternsIn, interned, with_text, stored_or_refused, keyed_or_refused, found_or_new}
 use Rattle.lasso_single.specs.Interner.{InternerView, KeepsOrigin, bytes_added}
 
 -- ---- a new text
@@ -38,10 +38,15 @@ stored_err : (held : Held) (text : Text) (s : Option Account) (error : LassoErro
 stored_err held text None error h = (cc, refl)
 stored_err held text (Some a) error h = cc
 
+-- where it goes in, the limit has room for it
+stored_some : (held : Held) (text : Text) (s : Option Account) (r : Result Held LassoError) → stored_or_refused held text s ≡ r → IsOk r → IsSome s
+stored_some held text None r h ok = cc
+stored_some held text (Some a) r h ok = refl
+
 -- what interning a text leaves that is not there and has a key
 pub interns_new : {K : Type 0} (key_at : ℕ → Option K) (texts : List Text) (account : Account) (text : Text) (reply : Result K LassoError) (texts' : List Text) (account' : Account) → Interns key_at texts account text reply texts' account' → position_of texts text ≡ None → IsSome (key_at (length texts))
     → MatchResult reply (λ _. (texts' ≡ texts ++ text ∷ []) × (store account (length text) ≡ Some account'))
-    (λ error. (texts' ≡ texts) × (account' ≡ account) × ((error ≡ FailedAllocation) ⊎ ((error ≡ MemoryLimitReached) × (store account (length text) ≡ None))))
+    (λ error. (texts' ≡ texts) × (account' ≡ account) × (((error ≡ FailedAllocation) × IsSome (store account (length text))) ⊎ ((error ≡ MemoryLimitReached) × (store account (length text) ≡ None))))
 interns_new key_at texts account text (Ok k) texts' account' h absent has_key =
     let held : Held = record { texts = texts; account = account } in
     let after : Held = record { texts = texts'; account = account' } in
@@ -54,7 +59,11 @@ interns_new key_at texts account text (Err error) texts' account' h absent has_k
       h.1,
       elim h.2 [
         | inl e ↦ inr (stored_err held text (store account (length text)) error (keyed_case held text (key_at (length texts)) (Err error) has_key (new_case key_at held text (position_of texts text) (Err error) absent e)))
-        | inr w ↦ inl w.0
+        | inr w ↦
+            inl (
+              w.0,
+              stored_some held text (store held.account (length text)) (interned key_at held text) (keyed_case held text (key_at (length texts)) (interned key_at held text) has_key (new_case key_at held text (position_of texts text) (interned key_at held text) absent refl)) w.2,
+            )
       ],
     )
 
@@ -127,7 +136,7 @@ copied_more start texts i text old (Err error) new at so_far one =
       (
         reached,
         elim left.3 [
-          | inl memory ↦ inl (memory, inr inside)
+          | inl memory ↦ inl (memory.0, inr (text, at, subst (λ (a : Account). IsSome (store a (length text))) (sym left.1) memory.1))
           | inr limit ↦ inr (limit.0, (text, at, subst (λ (a : Account). store a (length text) ≡ None) (sym left.1) limit.1))
         ],
       ),

@@ -1,5 +1,5 @@
 -- What clones of an interner hold, and where copying a list of texts may stop.
-use Rattle.std.specs.Prelude.{◌≡◌, ◌⊎◌, ◌<◌, ◌+◌, ◌-◌, ◌^◌, ℕ, true, List, [], ◌∷◌, ◌++◌, length, take, slice_get, sum_by, max, nat_eq, if◌then◌else◌, Option, Some, None, option_and_then, Result, MatchResult}
+use Rattle.std.specs.Prelude.{IsSome, ◌≡◌, ◌⊎◌, ◌<◌, ◌+◌, ◌-◌, ◌^◌, ℕ, true, List, [], ◌∷◌, ◌++◌, length, take, slice_get, sum_by, max, nat_eq, if◌then◌else◌, Option, Some, None, option_and_then, Result, MatchResult}
 use Rattle.lasso_parts.specs.Account.{Account, fresh, store, clear}
 use Rattle.lasso_parts.specs.Texts.{Text}
 use Rattle.lasso_parts.specs.declared.util.LassoError.{LassoError}
@@ -27,20 +27,20 @@ clone_size texts = bucket_for (bytes_of texts)
 abbrev pub clone_of : List Text → ℕ → Option Account
 clone_of texts limit = store_all (fresh (clone_size texts) (max limit (clone_size texts))) texts
 
--- copying one text puts it last and stores its bytes; or the limit refuses it, or memory is wanting, and then
--- nothing changes
+-- copying one text puts it last and stores its bytes; or the limit refuses it, or memory is wanting where the limit has
+-- room for it, and then nothing changes
 abbrev pub CopiesOne : InternerView → Text → Result (Unit {0}) LassoError → InternerView → Type 0
 CopiesOne old text reply new =
     MatchResult reply
     (λ _. (new.texts ≡ old.texts ++ text ∷ []) × (store old.account (length text) ≡ Some new.account) × (new.copied ≡ old.copied + length text))
-    (λ error. (new.texts ≡ old.texts) × (new.account ≡ old.account) × (new.copied ≡ old.copied) × ((error ≡ FailedAllocation) ⊎ ((error ≡ MemoryLimitReached) × (store old.account (length text) ≡ None))))
+    (λ error. (new.texts ≡ old.texts) × (new.account ≡ old.account) × (new.copied ≡ old.copied) × (((error ≡ FailedAllocation) × IsSome (store old.account (length text))) ⊎ ((error ≡ MemoryLimitReached) × (store old.account (length text) ≡ None))))
     × KeepsOrigin old new
 
--- copying the texts from that account on stopped with j of them copied: the limit refused the next one, or
--- memory was wanting for it, or before the first
+-- copying the texts from that account on stopped with j of them copied: the limit refused the next one; or memory was
+-- wanting for it, though the limit had room for it, or before the first
 abbrev pub StopsAt : Account → List Text → ℕ → LassoError → Account → Type 0
 StopsAt account texts j error stopped =
-    (store_all account (take j texts) ≡ Some stopped) × (((error ≡ FailedAllocation) × ((j ≡ 0) ⊎ (j < length texts)))
+    (store_all account (take j texts) ≡ Some stopped) × (((error ≡ FailedAllocation) × ((j ≡ 0) ⊎ ((text : Text) × (slice_get texts j ≡ Some text) × IsSome (store stopped (length text)))))
     ⊎ ((error ≡ MemoryLimitReached) × ((text : Text) × (slice_get texts j ≡ Some text) × (store stopped (length text) ≡ None))))
 
 -- copying the texts into an interner, which is cleared first, leaves just them; or it stops at one of them, and

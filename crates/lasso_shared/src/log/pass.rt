@@ -28,7 +28,8 @@ impl<K: Key> Model for Pass<K> {
     ghost use Rattle.lasso_shared.specs.History.{IsLegal, IsOpening};
     ghost use Rattle.lasso_shared.specs.Notes.{opening_of, notes_of, history, IsOpened, ticket_of};
     ghost use Rattle.lasso_shared.specs.Book.{IsTicket};
-    ghost use Rattle.lasso_shared.specs.Views.{PassView, pass_view_coded, interner_id, first_number};
+    ghost use Rattle.lasso_shared.specs.Views.{PassView, pass_view_coded, interner_id};
+    ghost use Rattle.lasso_shared.specs.Chunks.{first_number};
 
     ghost Value = { PassView };
 

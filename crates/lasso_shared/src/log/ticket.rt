@@ -4,7 +4,7 @@ ghost use Rattle.lasso_shared.specs.Notes.{appended_text};
 ghost use Rattle.logbook.specs.Pages.{may_write, nib};
 ghost use Rattle.lasso_shared.specs.Book.{word_of};
 ghost use Rattle.lasso_shared.specs.Chunks.{IsCellAt};
-ghost use Rattle.lasso_shared.specs.Views.{first_number};
+ghost use Rattle.lasso_shared.specs.Chunks.{first_number};
 ghost use Rattle.lasso_shared.specs.Events.{event_of, note_of, ready};
 
 use crate::chunks::Chunk;
@@ -56,7 +56,7 @@ pub struct Proposal<'a, K: Key> {
 
 impl<'a, K: Key> Plain<Proposal<'a, K>, Note, u64> for Add<K> {
     ghost use Rattle.std.specs.Prelude.{Some};
-    ghost use Rattle.lasso_shared.specs.Views.{first_number};
+    ghost use Rattle.lasso_shared.specs.Chunks.{first_number};
     ghost use Rattle.lasso_shared.specs.Events.{event_of, note_of};
 
     ghost ask = { λ w. note_of (first_number w.number.now.numbers) (event_of w.change) w.position w.ticket.now.pen.nib.key w.next.now.pen.nib.key };

@@ -72,6 +72,7 @@ returns c = record {
   empty_refused = λ x. (read_there two 9 (Intern Copied []) (Interned (Err MemoryLimitReached)) x).2 refl;
   there_without_key = λ x. none-some 1 (sym (read_there three 9 (Intern Static a) (Interned (Err KeySpaceExhaustion)) x).0);
   there_without_memory = λ x. none-some 1 (sym (read_there two 9 (Intern Copied a) (Interned (Err FailedAllocation)) x));
+  there_past_limit = λ x. none-some 1 (sym (read_there two 9 (Intern Copied a) (Interned (Err MemoryLimitReached)) x).0);
   key_is_left = λ x. none-some 2 (sym (read_there two 9 (Intern Static ddd) (Interned (Err KeySpaceExhaustion)) x).1);
   forgotten = λ x. absurd (cc x.begins);
   charged_early = λ x. let full = x.0.1 0 (record { size = 2; used = 0 }) (omega arith) in absurd (omega (arith, full));

@@ -5,7 +5,8 @@ use mathlib.Core.List.{IsPrefix}
 use Rattle.logbook.specs.Pages.{Cell, cell, Nib}
 use Rattle.lasso_shared.specs.Notes.{NoteView, notes_of, ticket_of}
 use Rattle.lasso_shared.specs.Book.{LogKeepsRule}
-use Rattle.lasso_shared.specs.Views.{PassView, first_number}
+use Rattle.lasso_shared.specs.Views.{PassView}
+use Rattle.lasso_shared.specs.Chunks.{first_number}
 use Rattle.lasso_shared.proofs.Logs.{still_opened}
 use Rattle.lasso_shared.proofs.log.pass.Pass.differs.Goals as goal
 

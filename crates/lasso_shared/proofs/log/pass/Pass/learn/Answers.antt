@@ -3,7 +3,7 @@ use mathlib.Core.List.{IsPrefix}
 use Rattle.logbook.specs.Pages.{Cell, cell}
 use Rattle.lasso_shared.specs.Notes.{NoteView, Since, notes_of, ticket_of}
 use Rattle.lasso_shared.specs.Book.{LogKeepsRule}
-use Rattle.lasso_shared.specs.Views.{first_number}
+use Rattle.lasso_shared.specs.Chunks.{first_number}
 use Rattle.lasso_shared.proofs.Logs.{still_opened, tails, legal_opened}
 use Rattle.lasso_shared.proofs.log.pass.Pass.learn.Given.{Over}
 use Rattle.lasso_shared.proofs.log.pass.Pass.learn.Goals as goal

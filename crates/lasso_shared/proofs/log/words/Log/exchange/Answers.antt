@@ -4,7 +4,7 @@ use Rattle.lasso_shared.specs.History.{Event, Totals}
 use Rattle.lasso_shared.specs.Notes.{NoteView, notes_of, ticket_of, opening_of}
 use Rattle.lasso_shared.specs.Book.{Moving, May, Lets, IsDone, word_of}
 use Rattle.lasso_shared.specs.Chunks.{IsCellAt}
-use Rattle.lasso_shared.specs.Views.{first_number}
+use Rattle.lasso_shared.specs.Chunks.{first_number}
 use Rattle.lasso_shared.specs.Events.{event_of, note_of}
 use Rattle.lasso_shared.proofs.Histories.{prefix_trans}
 use Rattle.lasso_shared.proofs.Lengths.{lets_filed}

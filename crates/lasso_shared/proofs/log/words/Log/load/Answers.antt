@@ -3,7 +3,7 @@ use mathlib.Core.List.{IsPrefix}
 use Rattle.logbook.specs.Pages.{Cell, cell}
 use Rattle.lasso_shared.specs.Notes.{NoteView, Since, notes_of, ticket_of, opening_of, IsWord}
 use Rattle.lasso_shared.specs.Book.{LogKeepsRule, Reads}
-use Rattle.lasso_shared.specs.Views.{first_number}
+use Rattle.lasso_shared.specs.Chunks.{first_number}
 use Rattle.lasso_shared.proofs.Logs.{peek_opened, read_value, still_opened, tails, legal_opened}
 use Rattle.lasso_shared.proofs.log.words.Log.load.Given.{Over}
 use Rattle.lasso_shared.proofs.log.words.Log.load.Goals as goal
