@@ -40,7 +40,7 @@ first_set [] at t = refl
 first_set (x ∷ xs) zero t = refl
 first_set (x ∷ xs) (suc at) t = refl
 
-usage_set : (xs : List Extent) (at : ℕ) (t : List ℕ) → usage_of (filled_at xs at t) ≡ usage_of xs
+pub usage_set : (xs : List Extent) (at : ℕ) (t : List ℕ) → usage_of (filled_at xs at t) ≡ usage_of xs
 usage_set [] at t = refl
 usage_set (x ∷ xs) zero t = sum_by-cons (λ (r : Extent). r.capacity) (with_bytes x t) xs ∙ sym (sum_by-cons (λ (r : Extent). r.capacity) x xs)
 usage_set (x ∷ xs) (suc at) t =
@@ -94,7 +94,7 @@ pub current_account : (a : Regions) (t : List ℕ) → IsOrdered a → account_o
 current_account a t order =
     same_account (account_of (with_text a a.current t)) (store_in_current (account_of a) (length t)) (room_set a.all a.current t order.current) (spare_kept_set a.kept a.all a.current t order.filled) refl (usage_set a.all a.current t) refl
 
-order_set : (a : Regions) (at : ℕ) (t : List ℕ) → IsOrdered a → at < length a.all → ((at ≡ 0) ⊎ ((a.kept ≤ at) ⊎ (spare_part (region_at (filled_at a.all at t) at) ≡ 0))) → IsOrdered (with_text a at t)
+pub order_set : (a : Regions) (at : ℕ) (t : List ℕ) → IsOrdered a → at < length a.all → ((at ≡ 0) ⊎ ((a.kept ≤ at) ⊎ (spare_part (region_at (filled_at a.all at t) at) ≡ 0))) → IsOrdered (with_text a at t)
 order_set a at t order inside none =
     let first : first_of a ≡ first_of (with_text a at t) = sym (first_set a.all at t) in
     let count = length-set a.all at (with_bytes (region_at a.all at) t) in

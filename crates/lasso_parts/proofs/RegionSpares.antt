@@ -40,7 +40,8 @@ region_behind : (xs : List Extent) (k i : ℕ) → i < length (slice_range xs 1 
 region_behind [] k i inside = absurd (omega (arith, inside, none_in (k - 1)))
 region_behind (x ∷ xs) k i inside =
     let small : i < k - 1 = omega (arith, inside, length-take-min (k - 1) xs) in
-    let shift : region_at (x ∷ xs) (suc i) ≡ region_at (x ∷ xs) (i + 1) = ap (region_at (x ∷ xs)) (omega arith) in
+    let next : suc i ≡ i + 1 = omega arith in
+    let shift : region_at (x ∷ xs) (suc i) ≡ region_at (x ∷ xs) (i + 1) = ap (region_at (x ∷ xs)) next in
     (get_or-take (k - 1) xs i no_region small ∙ shift, omega (arith, small))
   where
     length-take-min : (n : ℕ) (l : List Extent) → length (take n l) ≤ n

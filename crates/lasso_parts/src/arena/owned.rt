@@ -125,7 +125,7 @@ impl<A: Allocator + Clone> OwnedRegions<A> {
         ensures err { OnErr result (self.new ≡ self.old) }
         ensures refused { IfErr result (λ error. error ≡ FailedAllocation) }
     {
-        let at = self.regions.len();
+        let at = self.as_slice().len();
         self.push(capacity)?;
         self.push_text(at, text);
         Ok(())
