@@ -8,7 +8,8 @@ use Rattle.std.proofs.lemmas.List.{take-set, take-set-le, take_more_set, drop-se
 use Rattle.std.proofs.lemmas.List.Edits.{swap_is}
 use Rattle.std.specs.List.{swap}
 use Rattle.lasso_parts.specs.Bucket.{Extent, Block, block_of}
-use Rattle.lasso_parts.specs.Arena.{no_region, region_at}
+use Rattle.std.proofs.lemmas.List.Sums.{sum_by-cons}
+use Rattle.lasso_parts.specs.Arena.{no_region, region_at, usage_of}
 use Rattle.lasso_parts.specs.Doubled.{doubled_from, kept_of}
 use Rattle.lasso_parts.proofs.Doubled.{from_hit, from_miss}
 
@@ -44,17 +45,29 @@ swap_drop ys kept at below inside =
     ap (drop (at + 1)) (sym is) ∙ drop-set-lt (at + 1) (set ys kept y) at x (omega arith) ∙ drop-set-lt (at + 1) ys kept y (omega (arith, below))
 
 -- a region that is kept
-pub gathered_more : (ys zs : List Extent) (kept last at : ℕ) → kept ≤ at → at < length ys → (region_at ys at).capacity ≡ 2 * last → zs ≡ swap ys kept at → gathered zs (kept + 1) (region_at ys at).capacity (at + 1) ≡ gathered ys kept last at
-gathered_more ys zs kept last at below inside e is =
+pub gathered_more : (ys zs : List Extent) (kept last size at : ℕ) → kept ≤ at → at < length ys → size ≡ (region_at ys at).capacity → size ≡ 2 * last → zs ≡ swap ys kept at → gathered zs (kept + 1) size (at + 1) ≡ gathered ys kept last at
+gathered_more ys zs kept last size at below inside here e is =
     let y = region_at ys at in
     let rest = drop (at + 1) ys in
-    let now : doubled_from (2 * last) (drop at ys) ≡ y ∷ doubled_from (2 * (2 * last)) rest = ap (doubled_from (2 * last)) (drop_more ys at no_region inside) ∙ from_hit (2 * last) y rest e in
-    ap (λ (l : List Extent). gathered l (kept + 1) y.capacity (at + 1)) is
-    ∙ ap (λ (l : List Extent). l ++ doubled_from (2 * y.capacity) (drop (at + 1) (swap ys kept at))) (swap_take ys kept at below inside)
-    ∙ ap (λ (l : List Extent). (take kept ys ++ y ∷ []) ++ doubled_from (2 * y.capacity) l) (swap_drop ys kept at below inside)
+    let now : doubled_from (2 * last) (drop at ys) ≡ y ∷ doubled_from (2 * (2 * last)) rest = ap (doubled_from (2 * last)) (drop_more ys at no_region inside) ∙ from_hit (2 * last) y rest (sym here ∙ e) in
+    ap (λ (l : List Extent). gathered l (kept + 1) size (at + 1)) is
+    ∙ ap (λ (l : List Extent). l ++ doubled_from (2 * size) (drop (at + 1) (swap ys kept at))) (swap_take ys kept at below inside)
+    ∙ ap (λ (l : List Extent). (take kept ys ++ y ∷ []) ++ doubled_from (2 * size) l) (swap_drop ys kept at below inside)
     ∙ ap (λ (n : ℕ). (take kept ys ++ y ∷ []) ++ doubled_from (2 * n) rest) e
     ∙ append_assoc (take kept ys) (y ∷ []) (doubled_from (2 * (2 * last)) rest)
     ∙ ap (λ (l : List Extent). take kept ys ++ l) (sym now)
+
+-- an element read, whatever is read past the end
+pub read_is : (ys : List Extent) (at : ℕ) (r : Extent) → at < length ys → r ≡ get_or ys at r → r ≡ region_at ys at
+read_is [] at r inside is = absurd (omega (arith, inside))
+read_is (y ∷ ys) zero r inside is = is
+read_is (y ∷ ys) (suc at) r inside is = read_is ys at r (omega (arith, inside)) is
+
+-- capacities so far and one more are no more than all
+pub usage_fits : (ys : List Extent) (at : ℕ) (r : Extent) → at < length ys → r ≡ get_or ys at r → usage_of (take at ys) + r.capacity ≤ usage_of ys
+usage_fits [] at r inside is = absurd (omega (arith, inside))
+usage_fits (y ∷ ys) zero r inside is = omega (arith, ap (λ (x : Extent). x.capacity) is, sum_by-cons (λ (x : Extent). x.capacity) y ys)
+usage_fits (y ∷ ys) (suc at) r inside is = omega (arith, sum_by-cons (λ (x : Extent). x.capacity) y ys, sum_by-cons (λ (x : Extent). x.capacity) y (take at ys), usage_fits ys at r (omega (arith, inside)) is)
 
 -- after the walk
 pub gathered_all : (ys : List Extent) (kept last : ℕ) → gathered ys kept last (length ys) ≡ take kept ys

@@ -146,7 +146,7 @@ fn gather_kept<A: Allocator>(
 {
     let mut kept = 1;
     let mut last = regions[0].capacity();
-    for at in 1..regions.len() {
+    for at in 1..regions.as_slice().len() {
         let capacity = regions[at].capacity();
         if last <= capacity && capacity - last == last {
             regions.swap(kept, at);
