@@ -17,4 +17,4 @@ pub mod Lined
 pub mod Reading
 pub mod Called
 pub mod Alike
-pub mod Desks
+pub mod Whole

@@ -14,3 +14,4 @@ pub mod Book
 pub mod Events
 pub mod Views
 pub mod Openings
+pub mod Shards

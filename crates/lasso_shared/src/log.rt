@@ -1,5 +1,7 @@
 //! The history that the passes of a shared interner see: a log that only grows, with the words of the
 //! interner and the list of its texts under one rule.
+pub mod kept_slot;
+pub mod known;
 pub mod look;
 pub mod note;
 pub mod opening;
@@ -13,6 +15,8 @@ mod tests;
 pub mod ticket;
 pub mod words;
 
+pub use kept_slot::KeptSlot;
+pub use known::Known;
 pub use opening::Opened;
 pub use pass::Pass;
 pub use spine::Spine;

@@ -46,7 +46,7 @@ invariant_of-spine g c =
     let opening : opening_of c.sighting.result.log ≡ o = s.of.2 ∙ (ap (λ of. of.opening) c.exchange.ensures.same.1 ∙ ap (λ of. of.opening) c.requires.of.0) in
     let none : o.texts ≡ [] = sym (ap (λ of. of.opening.texts) c.self.view_is) ∙ c.self.invariant.4 in
     let reads = length_after_append g.K.Key.key_at o c.args.pass.now.number c.args.pass.now.notes v c.exchange.new.pass.notes c.args.text.now c.spine.inside.len c.in-Some.word.key done in
-    let some : 0 < c.spine.inside.kept = rw (ap (λ s. s.kept) c.spine.view_is) c.requires.kept in
+    let some = c.if-spine-eq0.false in
     (s.log.0, rw opening none, rw (opening, s.log.1) reads, omega (arith, c.spine.invariant.3, some))
 
 pub returns-clause-done : goal.returns-clause-done
@@ -61,7 +61,7 @@ returns-clause-done g c =
     let spine : opening_of c.spine.inside.seen.log ≡ o = ap (λ s. s.of.opening) c.spine.view_is ∙ ap (λ of. of.opening) c.requires.of.1 in
     let reads : Reads g.K.Key.key_at o v 0 0 c.spine.inside.len = subst (λ (t : Totals). Reads g.K.Key.key_at t v 0 0 c.spine.inside.len) spine c.spine.invariant.2 in
     let list = list_after g.K.Key.key_at o c.args.pass.now.number c.args.pass.now.notes v c.exchange.new.pass.notes c.args.text.now c.spine.inside.len c.in-Some.word.key none done reads in
-    let some : 0 < c.spine.inside.kept = rw (ap (λ s. s.kept) c.spine.view_is) c.requires.kept in record {
+    let some = c.if-spine-eq0.false in record {
       event = done.since;
       list = list ∙ ap (λ s. (state o s.notes).texts ++ c.args.text.now ∷ []) c.spine.view_is;
       spine = s.log.1;
