@@ -18,3 +18,7 @@ pub mod Reading
 pub mod Called
 pub mod Alike
 pub mod Desks
+pub mod LentBytes
+pub mod Crossing
+pub mod SlotCalls
+pub mod FillCalls

@@ -14,3 +14,5 @@ pub mod Book
 pub mod Events
 pub mod Views
 pub mod Openings
+pub mod Eras
+pub mod Pieces
