@@ -12,8 +12,8 @@ two_fit (suc zero) low = refl
 two_fit (suc (suc i)) low = absurd (omega (arith, low))
 
 pub open_with-requires-clause-distinct : goal.open_with-requires-clause-distinct
-open_with-requires-clause-distinct g c =
+open_with-requires-clause-distinct c =
     rw (c.in_ok-texts-3.ensures, c.in_ok-texts-2.ensures, c.in_ok-texts.ensures) (distinct_push ((98 ∷ 99 ∷ []) ∷ []) [] (distinct_push [] (98 ∷ 99 ∷ []) none_distinct refl) refl)
 
 pub open_with-requires-clause-fits : goal.open_with-requires-clause-fits
-open_with-requires-clause-fits g c = rw (c.in_ok-texts-3.ensures, c.in_ok-texts-2.ensures, c.in_ok-texts.ensures) two_fit
+open_with-requires-clause-fits c = rw (c.in_ok-texts-3.ensures, c.in_ok-texts-2.ensures, c.in_ok-texts.ensures) two_fit
