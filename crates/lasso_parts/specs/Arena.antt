@@ -70,12 +70,12 @@ pub record IsStored (regions : List Extent) (span : Span) : Type 0 where
   pub bytes : span.start + span.len ≤ length (region_at regions span.region).bytes
   pub text : IsUtf8 (text_at regions span)
 
--- the later regions have this span's text, the same and at the same place
+-- the later regions have this span's text, the same and at the same address
 pub record Keeps (earlier later : List Extent) (span : Span) : Type 0 where
   pub stored : IsStored later span
   pub text : text_at later span ≡ text_at earlier span
   pub address : address_of later span ≡ address_of earlier span
 
--- the later regions have each text that the earlier ones have, at the same span and the same place
+-- the later regions have each text that the earlier ones have, at the same span and the same address
 abbrev pub KeepsTexts : List Extent → List Extent → Type 0
 KeepsTexts earlier later = (span : Span) → IsStored earlier span → Keeps earlier later span

@@ -27,7 +27,7 @@ abbrev pub source_len : Source → ℕ
 source_len (Copied span) = span.len
 source_len (Static text) = length text
 
--- a text that was copied is stored among these regions, at this place
+-- a text that was copied is stored among these regions, at this address
 abbrev pub LiesAt : List Extent → Ptr → Source → Type 0
 LiesAt regions at (Copied span) = IsStored regions span × (at ≡ address_of regions span)
 LiesAt regions at (Static text) = Unit {0}
@@ -48,7 +48,7 @@ pub record AreWordsOf (e : EntryView) (at : Ptr) (len : ℕ) : Type 0 where
 abbrev pub entry_text : List Extent → EntryView → Text
 entry_text regions e = source_text regions e.source
 
--- a copied text is stored among these regions, at the entry's place; a static text is always there
+-- a copied text is stored among these regions, at the entry's address; a static text is always there
 abbrev pub IsThere : List Extent → EntryView → Type 0
 IsThere regions e = LiesAt regions e.at e.source
 

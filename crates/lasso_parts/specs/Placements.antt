@@ -8,7 +8,7 @@ use Rattle.lasso_parts.specs.declared.arena.Placement.TheVariants.{Current, Exac
 abbrev pub with_bucket : Account → ℕ → ℕ → Account
 with_bucket a size n = record a { room = size - n; size = size; usage = a.usage + size }
 
--- the place for n bytes, at least one, and the account that is left
+-- the placement of n bytes, at least one, and the account that is left
 abbrev pub IsPlacementFor : Account → ℕ → Placement → Type 0
 IsPlacementFor a n Current = (n ≤ a.room) × (store a n ≡ Some (store_in_current a n))
 IsPlacementFor a n Exact = (a.room < n) × (a.usage + n ≤ a.limit) × (store a n ≡ Some (record a { usage = a.usage + n }))

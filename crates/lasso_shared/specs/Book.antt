@@ -87,21 +87,21 @@ Adds keys s v found w = IsAdded keys s v found w
 abbrev pub IsTicket : Book → Named → Pen → Type 0
 IsTicket b word pen = (word ≡ word_of b pen.nib.key) × (pen.book ≡ b) × (pen.nib.right ≡ may_write)
 
--- the words after an event that moves the one at this place, and maybe makes its ticket one more
+-- the words after an event that moves the one at this position, and maybe makes its ticket one more
 abbrev pub Bumps : List (ℕ × ℕ) → List (ℕ × ℕ) → ℕ → ℕ → ℕ → ℕ → Type 0
-Bumps words more place n ticket value = (more ≡ bumped place n words) ⊎ (more ≡ bumped place n words ++ (ticket, value) ∷ [])
+Bumps words more position n ticket value = (more ≡ bumped position n words) ⊎ (more ≡ bumped position n words ++ (ticket, value) ∷ [])
 
--- the event moves the word at this place by n
+-- the event moves the word at this position by n
 abbrev pub Moving : ℕ → Event → ℕ → ℕ → ℕ → Type 0
-Moving ticket e place n value = (words : List (ℕ × ℕ)) → Bumps words (worded words ticket e) place n ticket value
+Moving ticket e position n value = (words : List (ℕ × ℕ)) → Bumps words (worded words ticket e) position n ticket value
 
 -- the event may follow wherever these notes were seen and the word has its old value
 abbrev pub May : {Key : Type 0} → (ℕ → Option Key) → Totals → List NoteView → ℕ → ℕ → ℕ → Event → Type 0
-May keys o notes place key old e =
-    (cells : List Cell) (log : List NoteView) → KeepsRule keys cells o log → IsPrefix notes log → IsWordWith log place key old → MayFollow keys (state o log) e
+May keys o notes position key old e =
+    (cells : List Cell) (log : List NoteView) → KeepsRule keys cells o log → IsPrefix notes log → IsWordWith log position key old → MayFollow keys (state o log) e
 
 -- the event was added as the one event of the pass p, past what was given, where the word had its old value
-pub record IsDone {Key : Type 0} (keys : ℕ → Option Key) (o : Totals) (p : ℕ) (before given after : List NoteView) (event : Event) (place key old used_up : ℕ) : Type 0 where
+pub record IsDone {Key : Type 0} (keys : ℕ → Option Key) (o : Totals) (p : ℕ) (before given after : List NoteView) (event : Event) (position key old used_up : ℕ) : Type 0 where
   pub mid : List NoteView
   pub note : NoteView
   pub own : note.by ≡ p
@@ -110,12 +110,12 @@ pub record IsDone {Key : Type 0} (keys : ℕ → Option Key) (o : Totals) (p : �
   pub last : after ≡ mid ++ note ∷ []
   pub begins : IsPrefix given mid
   pub since : Since p before after (event ∷ [])
-  pub value : IsWordWith mid place key old
+  pub value : IsWordWith mid position key old
   pub kept : (cells : List Cell) × KeepsRule keys cells o after
 
 -- the word had this value at the end of a log that the rule held of
 abbrev pub Reads : {Key : Type 0} → (ℕ → Option Key) → Totals → List NoteView → ℕ → ℕ → ℕ → Type 0
-Reads keys o notes place key n = IsWordWith notes place key n × ((cells : List Cell) × KeepsRule keys cells o notes)
+Reads keys o notes position key n = IsWordWith notes position key n × ((cells : List Cell) × KeepsRule keys cells o notes)
 
 -- how the update of a note moves what the cells of the texts see
 abbrev pub Moved : NoteView → List NoteView → List NoteView → ℕ → Type 0
@@ -123,7 +123,7 @@ Moved e before after answer = PutsLast texts_titled e.position (appended_text e.
 
 -- wherever the note comes while the word has its old value, the update runs or has nothing to do
 abbrev pub Lets : {Key : Type 0} → (ℕ → Option Key) → Totals → List NoteView → ℕ → ℕ → ℕ → NoteView → Option ℕ → Type 0
-Lets keys o notes place key old e s =
+Lets keys o notes position key old e s =
     (t : Option ℕ)
-    × ((cells : List Cell) (log : List NoteView) → KeepsRule keys cells o log → IsPrefix notes log → IsWordWith log place key old
+    × ((cells : List Cell) (log : List NoteView) → KeepsRule keys cells o log → IsPrefix notes log → IsWordWith log position key old
     → Runs (Moved e) s t (titled (state o log).texts) (titled (state o (log ++ e ∷ [])).texts))

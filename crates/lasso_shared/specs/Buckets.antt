@@ -12,11 +12,11 @@ pub record CountedBucket : Type 0 where
 abbrev pub with_taken : ℕ → CountedBucket → CountedBucket
 with_taken n b = record b { used = b.used + n }
 
--- the list with the item at this place changed
+-- the list with the item at this position changed
 abbrev pub changed_at : {A : Type 0} → ℕ → (A → A) → List A → List A
-changed_at place f [] = []
+changed_at position f [] = []
 changed_at zero f (x ∷ xs) = f x ∷ xs
-changed_at (suc place) f (x ∷ xs) = x ∷ changed_at place f xs
+changed_at (suc position) f (x ∷ xs) = x ∷ changed_at position f xs
 
 -- no bucket has room for n bytes
 abbrev pub HasNoRoom : List CountedBucket → ℕ → Type 0

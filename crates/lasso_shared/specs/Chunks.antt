@@ -33,9 +33,9 @@ offset_of position = position - chunk_start (chunk_of position)
 abbrev pub names_of : List Named → List ℕ
 names_of cells = map (λ (c : Named). c.id) cells
 
--- the name of the cell at this place
+-- the name of the cell at this position
 abbrev pub name_at : List Named → ℕ → ℕ
-name_at cells place = (slice_index_or cells place record { id = 0; tag = [] }).id
+name_at cells position = (slice_index_or cells position record { id = 0; tag = [] }).id
 
 -- a chunk and a cell that have these names are those of the position, where `cells` is what the chunk has
 abbrev pub IsCellAt : List ℕ → ℕ → ℕ → List Named → ℕ → Type 0
@@ -71,10 +71,10 @@ module _ (V R : RattleType) (cells : V.Denot → List Named) (meaning : R.Denot 
   lined names n [] = ftrue
   lined names n (text ∷ texts) = fsep (filled (slice_index names (chunk_of n)) (offset_of n) text) (lined names (suc n) texts)
 
--- a longer log has all the texts of a shorter one, in their places
+-- a longer log has all the texts of a shorter one, in their positions
 abbrev pub ListOnlyGrows : {E : Type 0} → (List E → List E) → (List E → List Text) → Type 0
 ListOnlyGrows {E} shows texts = (before after : List E) → IsPrefix before after → IsPrefix (texts (shows before)) (texts (shows after))
 
--- an update puts its text last, at its place
+-- an update puts its text last, at its position
 abbrev pub PutsLast : {E : Type 0} → (List E → List Text) → ℕ → Text → List E → List E → Type 0
-PutsLast texts place text before after = (texts after ≡ texts before ++ text ∷ []) × (length (texts before) ≡ place)
+PutsLast texts position text before after = (texts after ≡ texts before ++ text ∷ []) × (length (texts before) ≡ position)

@@ -4,7 +4,7 @@ use Rattle.lasso_parts.specs.Texts.{Text, position_of, IsDistinct, Fits}
 use Rattle.lasso_shared.specs.Buckets.{CountedBucket, with_taken, changed_at, HasNoRoom, bucket_size, doubling_after}
 
 pub data Event : Type 0 where
-  -- bytes were taken in the bucket at this place
+  -- bytes were taken in the bucket at this position
   Reserve : (bucket bytes : ℕ) → Event
   -- a bucket of this size was added, with these bytes taken
   Charge : (size bytes : ℕ) → Event

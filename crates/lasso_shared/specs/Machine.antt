@@ -21,7 +21,7 @@ pub record RangedBucket : Type 0 where
 pub data Phase : Type 0 where
   -- the text was looked up, and is missing
   Missing : Phase
-  -- the text's bytes have a place
+  -- the text's bytes are stored
   Stored : Phase
   -- the text stands in the list, at this position
   Appended : (position : ℕ) → Phase
@@ -48,8 +48,8 @@ pub record State : Type 0 where
 pub data Step : Type 0 where
   -- a call takes its text's shard, and looks the text up
   Take : (number : ℕ) (keeping : Keeping) (text : Text) → Step
-  -- a call takes its text's bytes at the used end of the bucket at this place
-  Reserve : (call : Call) (place : ℕ) → Step
+  -- a call takes its text's bytes at the used end of the bucket at this position
+  Reserve : (call : Call) (position : ℕ) → Step
   -- a call adds a bucket of this size, with its text's bytes taken
   Charge : (call : Call) (size : ℕ) → Step
   -- a call puts its text last
@@ -79,7 +79,7 @@ NeedsBytes c = (c.keeping ≡ Copied) × (c.text ≢ [])
 abbrev pub NeedsNone : Call → Type 0
 NeedsNone c = (c.keeping ≡ Static) ⊎ (c.text ≡ [])
 
--- the call has a place for its bytes, or needs none
+-- the call's bytes are stored, or it needs none
 abbrev pub IsReady : Call → Type 0
 IsReady c = (c.phase ≡ Stored) ⊎ ((c.phase ≡ Missing) × NeedsNone c)
 
@@ -107,9 +107,9 @@ MayRead shard s question = Unit {0}
 -- An append asks for a key, and doesn't look whether the list has the text.
 abbrev pub MayStep : {K : Type 0} → (ℕ → Option K) → (Text → ℕ) → State → Step → Type 0
 MayStep key_at shard s (Take number keeping text) = (s.calls number ≡ None) × IsFree s (shard text)
-MayStep key_at shard s (Reserve c place) =
+MayStep key_at shard s (Reserve c position) =
     IsInFlight s c × (c.phase ≡ Missing) × NeedsBytes c
-    × IsSomeAnd (slice_get (buckets_of s) place) (λ (b : CountedBucket). b.used + length c.text ≤ b.size)
+    × IsSomeAnd (slice_get (buckets_of s) position) (λ (b : CountedBucket). b.used + length c.text ≤ b.size)
 MayStep key_at shard s (Charge c size) =
     IsInFlight s c × (c.phase ≡ Missing) × NeedsBytes c × HasNoRoom (buckets_of s) (length c.text)
     × (bucket_size s.doubling s.usage s.limit (length c.text) ≡ Some size)
@@ -170,7 +170,7 @@ new_call shard number keeping text =
 
 abbrev pub after : (Text → ℕ) → State → Step → State
 after shard s (Take number keeping text) = taken s (new_call shard number keeping text) (s.index (shard text) text)
-after shard s (Reserve c place) = record (with_call s (in_phase Stored c)) { buckets = changed_at place (reserved (length c.text)) s.buckets }
+after shard s (Reserve c position) = record (with_call s (in_phase Stored c)) { buckets = changed_at position (reserved (length c.text)) s.buckets }
 after shard s (Charge c size) =
     record (with_call s (in_phase Stored c)) {
       buckets = s.buckets ++ charged size (length c.text) ∷ [];
@@ -186,7 +186,7 @@ after shard s (SetLimit number limit) = record s { limit = limit }
 -- ---- what a step adds to the history, and what it replies
 
 abbrev pub events : Step → History
-events (Reserve c place) = (c.number, Event.Reserve place (length c.text)) ∷ []
+events (Reserve c position) = (c.number, Event.Reserve position (length c.text)) ∷ []
 events (Charge c size) = (c.number, Event.Charge size (length c.text)) ∷ []
 events (Append c) = (c.number, Event.Append c.text) ∷ []
 events (SetLimit number limit) = (number, Event.Limit limit) ∷ []

@@ -126,7 +126,7 @@ Chained before (e ∷ es) = (e.ticket ≡ ticket_of e.by before) × Chained (bef
 -- The words, each with its cell's key and its value: how many texts were appended, how many charges and
 -- limits came, and then for each bucket how many bytes were taken in it since its word began.
 abbrev pub bumped : ℕ → ℕ → List (ℕ × ℕ) → List (ℕ × ℕ)
-bumped place n words = changed_at place (λ w. (w.0, w.1 + n)) words
+bumped position n words = changed_at position (λ w. (w.0, w.1 + n)) words
 
 -- a charge's own ticket is its bucket's word from then on
 abbrev pub worded : List (ℕ × ℕ) → ℕ → Event → List (ℕ × ℕ)
@@ -146,12 +146,12 @@ first_words = (0, 0) ∷ (1, 0) ∷ (2, 0) ∷ []
 abbrev pub words_of : List NoteView → List (ℕ × ℕ)
 words_of notes = words_after first_words notes
 
--- the word at this place has this key and this value
+-- the word at this position has this key and this value
 abbrev pub IsWordWith : List NoteView → ℕ → ℕ → ℕ → Type 0
-IsWordWith notes place key value = slice_get (words_of notes) place ≡ Some (key, value)
+IsWordWith notes position key value = slice_get (words_of notes) position ≡ Some (key, value)
 
 abbrev pub IsWord : List NoteView → ℕ → ℕ → Type 0
-IsWord notes place key = (n : ℕ) × IsWordWith notes place key n
+IsWord notes position key = (n : ℕ) × IsWordWith notes position key n
 
 -- `before` begins `after`, and these are the events of the pass p that `after` has past it
 pub record Since (p : ℕ) (before after : List NoteView) (own : List Event) : Type 0 where

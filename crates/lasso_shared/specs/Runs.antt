@@ -10,7 +10,7 @@ use Rattle.lasso_shared.specs.Machine.{Range, RangedBucket, Phase, Missing, Stor
 abbrev pub position_in : (Text → ℕ) → State → ℕ → Text → Option ℕ
 position_in shard s k text = if shard text == k then position_of s.texts text else None
 
--- the ranges follow one another from one place to another
+-- the ranges follow one another from one number of bytes to another
 abbrev pub Follow : (start end : ℕ) → List Range → Type 0
 Follow start end [] = start ≡ end
 Follow start end (r ∷ rs) = (r.start ≡ start) × Follow (start + r.bytes) end rs
