@@ -1,5 +1,5 @@
 -- The length word: the list is as long as the opening's, and one longer for each append.
-use Rattle.std.proofs.Common.{◌≡◌, ℕ, ◌+◌, List, [], ◌∷◌, ◌++◌, length, refl, ap, sym, ◌∙◌, subst, arith, length-append, Option, Some, None, slice_get, inl, inr}
+use Rattle.std.proofs.Common.{◌≡◌, ℕ, ◌+◌, ◌^◌, ◌<◌, List, [], ◌∷◌, ◌++◌, length, refl, ap, sym, ◌∙◌, subst, arith, length-append, Option, Some, None, slice_get, inl, inr}
 use Rattle.std.specs.Prelude.{IsSome, MatchOption}
 use mathlib.Core.List.{IsPrefix}
 use Rattle.lasso_parts.specs.Texts.{Text}
@@ -61,11 +61,12 @@ one_more o log e = state_past o log (e ∷ [])
 
 module _ {Key : Type 0} (keys : ℕ → Option Key) where
   -- a text that the list lacked when it was seen may be appended wherever the list has still the same length
-  pub may_append : (o : Totals) (v : List NoteView) (t : Text) (old : ℕ) → length (state o v).texts ≡ length o.texts + old → MayFollow keys (state o v) (Append t) → May keys o v 0 0 old (Append t)
-  may_append o v t old len may cells log kept begins word =
+  pub may_append : (o : Totals) (v : List NoteView) (t : Text) (old : ℕ) → length (state o v).texts ≡ length o.texts + old → length o.texts + old + 1 < 2 ^ 64 → MayFollow keys (state o v) (Append t) → May keys o v 0 0 old (Append t)
+  may_append o v t old len small may cells log kept begins word =
       let here = length_of o log 0 old word in
       let same = same_texts o v log begins (len ∙ sym here) in
-      subst (λ (ts : List Text). Lacks ts t × IsSome (keys (length ts))) same may
+      let more : length ((state o log).texts ++ t ∷ []) ≡ length (state o log).texts + 1 = length-append (state o log).texts (t ∷ []) in
+      (subst (λ (ts : List Text). Lacks ts t × IsSome (keys (length ts))) same may, omega (arith, small, here, more))
 
   -- the update of an append files the text at the position that was the length
   pub lets_append : (o : Totals) (v : List NoteView) (e : NoteView) (old : ℕ) (t : Text) → e.event ≡ Append t → e.position ≡ length o.texts + old → Lets keys o v 0 0 old e None

@@ -20,3 +20,7 @@ pub mod Called
 pub mod CallerLaws
 pub mod Alike
 pub mod Desks
+pub mod LentBytes
+pub mod Crossing
+pub mod SlotCalls
+pub mod FillCalls

@@ -1,5 +1,5 @@
 -- What a reading of the length tells of the list, and what an opening holds.
-use Rattle.std.proofs.Common.{◌≡◌, ◌≢◌, ◌⊎◌, ℕ, zero, suc, ◌+◌, ◌<◌, ◌≤◌, true, List, [], ◌∷◌, ◌++◌, length, slice_get, slice_index_or, Some, Option, refl, ap, sym, ◌∙◌, arith, inl, inr}
+use Rattle.std.proofs.Common.{◌≡◌, ◌≢◌, ◌⊎◌, ℕ, zero, suc, ◌+◌, ◌^◌, ◌<◌, ◌≤◌, true, List, [], ◌∷◌, ◌++◌, length, slice_get, slice_index_or, Some, Option, refl, ap, sym, ◌∙◌, arith, inl, inr}
 use Rattle.std.proofs.lemmas.Map.Keys.{IsDistinct-from_apart}
 use Rattle.std.specs.Str.{bytes_eq}
 use mathlib.Core.List.{IsPrefix}
@@ -33,7 +33,8 @@ text_read xs ys n t p low is =
     let long : length xs ≤ length ys = prefix_short xs ys p in
     sym is ∙ (get_is ys n (omega (arith, long, low)) ∙ (ap (λ (x : Text). Some x) (stands_still xs ys n p low) ∙ sym (get_is xs n low)))
 
-none_distinct : IsDistinct []
+-- no text stands twice where there is none
+pub none_distinct : IsDistinct []
 none_distinct = IsDistinct-from_apart bytes_eq [] (λ i j d below inside. absurd (omega (arith, inside)))
 
 module _ {Key : Type 0} (keys : ℕ → Option Key) where
@@ -41,24 +42,28 @@ module _ {Key : Type 0} (keys : ℕ → Option Key) where
   pub list_fits : (o : Totals) (notes : List NoteView) → ((cells : List Cell) × KeepsRule keys cells o notes) → Fits keys (length (state o notes).texts)
   list_fits o notes held = (list_kept keys o (history notes) held.1.opened.distinct held.1.opened.fits held.1.legal).1
 
-  -- the length word of an interner that opened with no text is the length of the list
-  pub length_read : (o : Totals) (notes : List NoteView) (n : ℕ) → o.texts ≡ [] → Reads keys o notes 0 0 n → n ≡ length (state o notes).texts
-  length_read o notes n none reads = let len = length_of o notes 0 n reads.0 in omega (arith, len, ap (λ (ts : List Text). length ts) none)
+  -- the length of the opening's list and what the length word says are together the length of the list, which a word can have
+  pub length_read : (o : Totals) (notes : List NoteView) (first n : ℕ) → first ≡ length o.texts → Reads keys o notes 0 0 n → first + n ≡ length (state o notes).texts
+  length_read o notes first n is reads = let len = length_of o notes 0 n reads.0 in omega (arith, len, is)
+
+  pub length_short : (o : Totals) (notes : List NoteView) (first n : ℕ) → first ≡ length o.texts → Reads keys o notes 0 0 n → first + n < 2 ^ 64
+  length_short o notes first n is reads = let len = length_of o notes 0 n reads.0 in omega (arith, len, is, reads.1.1.short)
 
   -- a new book holds its rule
-  pub opens : (size used limit : ℕ) → size ≢ 0 → used ≤ size → KeepsRule keys ((0, true) ∷ (0, true) ∷ (0, true) ∷ []) (opened [] size used limit) []
-  opens size used limit ne le = record {
-    opened = record { distinct = none_distinct; fits = λ i low. absurd (omega (arith, low)); bucket = (size, used, ne, le, refl) };
+  pub opens : (texts : List Text) (size used limit : ℕ) → IsDistinct texts → Fits keys (length texts) → length texts < 2 ^ 64 → size ≢ 0 → used ≤ size → KeepsRule keys ((0, true) ∷ (0, true) ∷ (0, true) ∷ []) (opened texts size used limit) []
+  opens texts size used limit distinct fits short ne le = record {
+    opened = record { distinct = distinct; fits = fits; bucket = (size, used, ne, le, refl) };
     used = tt;
     chained = tt;
     words = (refl, (refl, (refl, tt)));
     apart = (((λ e. absurd (omega (arith, e))), ((λ e. absurd (omega (arith, e))), tt)), (((λ e. absurd (omega (arith, e))), tt), (tt, tt)));
     legal = tt;
+    short = short;
   }
 
   -- the list after an append, from the one at which the text was lacking
-  pub list_after : (o : Totals) (p : ℕ) (before given after : List NoteView) (t : Text) (old u : ℕ) → o.texts ≡ [] → IsDone keys o p before given after (Append t) 0 0 old u → Reads keys o given 0 0 old → (state o after).texts ≡ (state o given).texts ++ t ∷ []
-  list_after o p before given after t old u none d reads =
+  pub list_after : (o : Totals) (p : ℕ) (before given after : List NoteView) (t : Text) (old u : ℕ) → IsDone keys o p before given after (Append t) 0 0 old u → Reads keys o given 0 0 old → (state o after).texts ≡ (state o given).texts ++ t ∷ []
+  list_after o p before given after t old u d reads =
       let mid : length (state o d.mid).texts ≡ length (state o given).texts = length_of o d.mid 0 old d.value ∙ sym (length_of o given 0 old reads.0) in
       let same = same_texts o given d.mid d.begins (sym mid) in
       ap (λ (l : List NoteView). (state o l).texts) d.last ∙ (ap (λ (s : Totals). s.texts) (one_more o d.mid d.note) ∙ (text_added (state o d.mid) d.note.event t d.is ∙ ap (λ (ts : List Text). ts ++ t ∷ []) (sym same)))

@@ -5,10 +5,10 @@ use Rattle.std.proofs.lemmas.Bool.Decides.{nat_tests}
 use mathlib.Core.List.{IsPrefix}
 use prog.Atomic.{either}
 use Rattle.logbook.specs.Pages.{Cell, cell, keeps, gives, adds, Nib, no_nib, may_write, Away, step, Moves, Goes}
-use Rattle.lasso_shared.specs.History.{Totals, MayFollow, IsLegal}
+use Rattle.lasso_shared.specs.History.{Totals, counted, MayFollow, IsLegal}
 use Rattle.lasso_shared.specs.Notes.{NoteView, history, state, ticket_of, worded, words_of, first_words, IsWord, IsWordWith}
-use Rattle.lasso_shared.specs.Book.{IsHome, Words, Apart, KeepsRule, LogKeepsRule, Peeks, Fetches, Adds, Bumps, Moving, May, Lets, Moved, titles_of}
-use Rattle.lasso_shared.proofs.Histories.{history_append, prefix_tail, prefix_self, prefix_trans}
+use Rattle.lasso_shared.specs.Book.{IsHome, Words, Apart, KeepsRule, LogKeepsRule, Peeks, Fetches, Adds, Bumps, Moving, May, Lets, Moved, IsShort, titles_of}
+use Rattle.lasso_shared.proofs.Histories.{history_append, state_past, prefix_tail, prefix_self, prefix_trans}
 use Rattle.lasso_shared.proofs.Legal.{legal_push}
 use Rattle.lasso_shared.proofs.Tickets.{by_cases, not_both, used_still, used_more, chained_more, still}
 use Rattle.lasso_shared.proofs.Words.{words_get, words_more, words_append, word_later}
@@ -75,6 +75,7 @@ module _ {Key : Type 0} (keys : ℕ → Option Key) where
     words = words_longer cells ((0, false) ∷ []) (words_of log) kept.words;
     apart = kept.apart;
     legal = kept.legal;
+    short = kept.short;
   }
 
   -- a ticket is fetched by an exchange of the length word with itself
@@ -93,9 +94,9 @@ module _ {Key : Type 0} (keys : ℕ → Option Key) where
       )
 
   with_event : (cells : List Cell) (o : Totals) (log : List NoteView) (e : NoteView) (j k v n t x : ℕ) → KeepsRule keys cells o log → IsWordWith log j k v → t < length cells → (cell cells t).1 ≡ false → e.ticket ≡ t
-      → Bumps (words_of log) (worded (words_of log) e.ticket e.event) j n t x → e.ticket ≡ ticket_of e.by log → MayFollow keys (state o log) e.event
+      → Bumps (words_of log) (worded (words_of log) e.ticket e.event) j n t x → e.ticket ≡ ticket_of e.by log → MayFollow keys (state o log) e.event → IsShort (counted (state o log) e.event)
       → KeepsRule keys (set (set cells k (v + n, true)) t (x, true)) o (log ++ e ∷ [])
-  with_event cells o log e j k v n t x kept word l out is bumps at may =
+  with_event cells o log e j k v n t x kept word l out is bumps at may small =
       let ds : List Cell = set cells k (v + n, true) in
       let w = words_get cells (words_of log) j k v kept.words word in
       let bound = home_bound cells k (ap (λ (c : Cell). c.1) w) in
@@ -109,6 +110,7 @@ module _ {Key : Type 0} (keys : ℕ → Option Key) where
         words = subst (Words (set ds t (x, true))) (sym same) more.0;
         apart = subst Apart (sym same) more.1;
         legal = subst (IsLegal keys o) (sym (history_append log (e ∷ []))) (legal_push keys o (history log) (e.by, e.event) kept.legal may);
+        short = subst IsShort (sym (state_past o log (e ∷ []))) small;
       }
 
   add_goes : (o : NoteView) (before v : List NoteView) (p : Nib) (e : NoteView) (s : Option ℕ) (j k old n : ℕ) → p.right ≡ may_write → e.ticket ≡ p.key → p.key ≡ ticket_of e.by before → IsPrefix before v
@@ -123,7 +125,7 @@ module _ {Key : Type 0} (keys : ℕ → Option Key) where
       let alone = still keys cells o.opening e.by before log log (prefix_trans before v log begun begins) (prefix_self log) kept (subst (λ (i : ℕ). (cell cells i).1 ≡ false) at gone.1) in
       let at' : e.ticket ≡ ticket_of e.by log = is ∙ (at ∙ sym alone.1) in
       let bumps : Bumps (words_of log) (worded (words_of log) e.ticket e.event) j n p.key p.value = subst (λ (t : ℕ). Bumps (words_of log) (worded (words_of log) e.ticket e.event) j n t p.value) is (moving (words_of log)) in
-      let kept' : LogKeepsRule keys (set (set cells k (old + n, true)) p.key (p.value, true)) ((o ∷ log) ++ e ∷ []) = with_event cells o.opening log e j k old n p.key p.value kept word' gone.0 gone.1 is bumps at' (may cells log kept begins word') in
+      let kept' : LogKeepsRule keys (set (set cells k (old + n, true)) p.key (p.value, true)) ((o ∷ log) ++ e ∷ []) = with_event cells o.opening log e j k old n p.key p.value kept word' gone.0 gone.1 is bumps at' (may cells log kept begins word').0 (may cells log kept begins word').1 in
       let becomes : either ((cell cells k).0 == old) (old + n) (cell cells k).0 ≡ old + n = rw test refl in (
         gives,
         e ∷ [],

@@ -1,9 +1,9 @@
 -- The rule of the book: what holds between any two steps, and what each step tells the one who takes it.
-use Rattle.std.specs.Prelude.{◌≡◌, ◌≢◌, ℕ, ◌⊎◌, true, false, List, [], ◌∷◌, ◌++◌, Option}
+use Rattle.std.specs.Prelude.{◌≡◌, ◌≢◌, ℕ, ◌⊎◌, true, false, List, [], ◌∷◌, ◌++◌, ◌^◌, ◌<◌, length, Option}
 use mathlib.Core.List.{IsPrefix}
 use Rattle.logbook.specs.Pages.{Cell, cell, Step, View, Book, Named, may_write, may_make, nib, no_nib, Runs}
 use Rattle.logbook.specs.declared.tokens.Pen.{Pen}
-use Rattle.lasso_shared.specs.History.{Event, Totals, IsOpening, IsLegal, MayFollow}
+use Rattle.lasso_shared.specs.History.{Event, Totals, counted, IsOpening, IsLegal, MayFollow}
 use Rattle.lasso_shared.specs.Notes.{NoteView, history, state, Chained, words_of, worded, bumped, titled, texts_in, texts_titled, appended_text, Since, IsWordWith}
 use Rattle.lasso_shared.specs.Chunks.{PutsLast}
 
@@ -31,6 +31,10 @@ abbrev pub Apart : List (ℕ × ℕ) → Type 0
 Apart [] = Unit {0}
 Apart (w ∷ ws) = Others w.0 ws × Apart ws
 
+-- the number of texts is one that a word can have
+abbrev pub IsShort : Totals → Type 0
+IsShort s = length s.texts < 2 ^ 64
+
 -- the cells hold the words of a legal history, whose events each used the ticket of its pass
 pub record KeepsRule {Key : Type 0} (keys : ℕ → Option Key) (cells : List Cell) (opening : Totals) (notes : List NoteView) : Type 0 where
   pub opened : IsOpening keys opening
@@ -39,6 +43,7 @@ pub record KeepsRule {Key : Type 0} (keys : ℕ → Option Key) (cells : List Ce
   pub words : Words cells (words_of notes)
   pub apart : Apart (words_of notes)
   pub legal : IsLegal keys opening (history notes)
+  pub short : IsShort (state opening notes)
 
 -- the same of a whole log, whose first note has the opening
 abbrev pub LogKeepsRule : {Key : Type 0} → (ℕ → Option Key) → List Cell → List NoteView → Type 0
@@ -98,7 +103,8 @@ Moving ticket e position n value = (words : List (ℕ × ℕ)) → Bumps words (
 -- the event may follow wherever these notes were seen and the word has its old value
 abbrev pub May : {Key : Type 0} → (ℕ → Option Key) → Totals → List NoteView → ℕ → ℕ → ℕ → Event → Type 0
 May keys o notes position key old e =
-    (cells : List Cell) (log : List NoteView) → KeepsRule keys cells o log → IsPrefix notes log → IsWordWith log position key old → MayFollow keys (state o log) e
+    (cells : List Cell) (log : List NoteView) → KeepsRule keys cells o log → IsPrefix notes log → IsWordWith log position key old
+    → MayFollow keys (state o log) e × IsShort (counted (state o log) e)
 
 -- the event was added as the one event of the pass p, past what was given, where the word had its old value
 pub record IsDone {Key : Type 0} (keys : ℕ → Option Key) (o : Totals) (p : ℕ) (before given after : List NoteView) (event : Event) (position key old used_up : ℕ) : Type 0 where

@@ -15,3 +15,5 @@ pub mod Events
 pub mod Views
 pub mod CallerLaws
 pub mod Openings
+pub mod Eras
+pub mod Pieces

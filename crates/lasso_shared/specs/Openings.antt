@@ -1,8 +1,9 @@
 -- What an interner opens with.
-use Rattle.std.specs.Prelude.{[]}
+use Rattle.std.specs.Prelude.{List}
+use Rattle.lasso_parts.specs.Texts.{Text}
 use Rattle.lasso_shared.specs.History.{Totals, opened}
 use Rattle.lasso_shared.specs.declared.log.opening.Opened.{Opened}
 
--- no text, and one bucket
-abbrev pub opening_with : Opened → Totals
-opening_with o = opened [] o.size o.used o.limit
+-- these texts, and one bucket
+abbrev pub opening_with : List Text → Opened → Totals
+opening_with texts o = opened texts o.size o.used o.limit

@@ -160,7 +160,11 @@ impl<T: HasText + Drop> Chunks<T> {
     }
 
     // Hands the text back where the chunk is not there, or where the cell is filled or being filled.
-    fn try_fill(&self, position: u64, text: T) -> Result<(Written<Chunk<T>>, Written<T>), T>
+    pub(crate) fn try_fill(
+        &self,
+        position: u64,
+        text: T,
+    ) -> Result<(Written<Chunk<T>>, Written<T>), T>
         ensures ok { IfOk result (λ r. IsCellAt self.now position r.0.of r.0.value.items r.1.of × (r.1.value ≡ text)) }
         ensures err { IfErr result (λ t. t ≡ text) }
     {

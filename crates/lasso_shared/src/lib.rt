@@ -6,4 +6,5 @@ pub mod laws;
 pub mod locks;
 pub mod log;
 pub mod machine;
+pub mod shared_arena;
 pub mod threaded;

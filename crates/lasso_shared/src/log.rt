@@ -14,7 +14,7 @@ mod tests;
 pub mod ticket;
 pub mod words;
 
-pub use opening::Opened;
+pub use opening::{NewLog, Opened, OpeningTexts};
 pub use pass::Pass;
 pub use spine::Spine;
 pub use words::Log;

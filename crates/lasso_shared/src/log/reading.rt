@@ -18,7 +18,8 @@ impl<K: Key> Log<K> {
         ensures since { Since pass.old.number pass.old.notes pass.new.notes [] }
         ensures reply { result ≡ length (list_of pass.new.of pass.new.notes) }
     {
-        self.load(&self.head, 0, pass)
+        let appended = self.load(&self.head, 0, pass);
+        self.first + appended
     }
 
     /// The text at the position, of the list as it is at one step, or `None` past its end. It is lent as long as

@@ -20,16 +20,17 @@ use std::alloc::Global;
 use std::marker::Model;
 use std::sync::Wait;
 
-/// The length of the list in a history that was seen, and how many slots past it are kept for texts to come.
-/// It lies under a lock. Contracts see the slots kept, the interner, and what the spine has seen.
+/// The length of the list in a history that was seen, as the texts of the opening and those appended, and how many
+/// slots past it are kept for texts to come. It lies under a lock. Contracts see the slots kept, the interner, and what the spine has seen.
 pub struct Spine<K: Key> {
     pub(super) kept: u64,
-    pub(super) len: u64,
+    pub(super) first: u64,
+    pub(super) appended: u64,
     pub(super) seen: Seen<Note, u64, LogRule<K>>,
 }
 
 impl<K: Key> Model for Spine<K> {
-    ghost use Rattle.std.specs.Prelude.{◌≡◌, ◌+◌, ◌<◌, ◌^◌, []};
+    ghost use Rattle.std.specs.Prelude.{◌≡◌, ◌+◌, ◌<◌, ◌^◌, length};
     ghost use Rattle.lasso_shared.specs.Notes.{opening_of, notes_of, IsOpened};
     ghost use Rattle.lasso_shared.specs.Book.{Reads};
     ghost use Rattle.lasso_shared.specs.Views.{SpineView, spine_view_coded, interner_id};
@@ -40,7 +41,7 @@ impl<K: Key> Model for Spine<K> {
 
     ghost view = { λ s. record { kept = s.kept; of = interner_id s.seen.book s.seen.names (opening_of s.seen.log); notes = notes_of s.seen.log } };
 
-    ghost invariant = { λ s. IsOpened s.seen.log × ((opening_of s.seen.log).texts ≡ []) × Reads K.key_at (opening_of s.seen.log) (notes_of s.seen.log) 0 0 s.len × (s.len + s.kept < 2 ^ 64) };
+    ghost invariant = { λ s. IsOpened s.seen.log × (s.first ≡ length (opening_of s.seen.log).texts) × Reads K.key_at (opening_of s.seen.log) (notes_of s.seen.log) 0 0 s.appended × (s.first + s.appended + s.kept < 2 ^ 64) };
 }
 
 // One call, so that proofs of callers see nothing of the fields where a spine is let go.
@@ -48,7 +49,8 @@ impl<K: Key> Drop for Spine<K> {
     fn drop(self) {
         let Spine {
             kept: _,
-            len: _,
+            first: _,
+            appended: _,
             seen: _,
         } = self;
     }
@@ -61,7 +63,7 @@ impl<K: Key> Spine<K> {
         ensures fits { Fits K.key_at (length (list_of self.now.of self.now.notes)) }
         ensures legal { IsLegal K.key_at self.now.of.opening (history self.now.notes) }
     {
-        self.len
+        self.first + self.appended
     }
 
     /// Does nothing. Contracts learn that a pass of the same interner that has seen a list of the same length has
@@ -94,7 +96,7 @@ impl<K: Key> Log<K> {
         ensures refused { IfErr result (λ error. error ≡ FailedAllocation) }
         ensures unchanged { OnErr result (spine.new.kept ≡ spine.old.kept) }
     {
-        let position = spine.len + spine.kept;
+        let position = spine.first + spine.appended + spine.kept;
         if position == u64::MAX {
             return Err(LassoError::new(LassoErrorKind::FailedAllocation));
         }
@@ -151,15 +153,15 @@ impl<K: Key> Log<K> {
         ensures same { IsSamePass pass.new pass.old × (spine.new.of ≡ spine.old.of) }
         ensures done { MatchBool result (IsAppended self.now pass.old pass.new spine.old spine.new text.now) ((pass.new ≡ pass.old) × (spine.new ≡ spine.old)) }
     {
-        let len = spine.len;
+        let appended = spine.appended;
         let Some(word) = self.exchange(
             &self.head,
             Exchange {
                 word_index: 0,
-                expected: len,
+                expected: appended,
                 more: 1,
                 value: 0,
-                position: len,
+                position: spine.first + appended,
             },
             Change::Append { text },
             Some(cell_proof),
@@ -170,7 +172,7 @@ impl<K: Key> Log<K> {
         };
         drop(word);
         spine.seen = pass.sighting();
-        spine.len = len + 1;
+        spine.appended = appended + 1;
         spine.kept -= 1;
         true
     }

@@ -3,6 +3,7 @@ ghost use Rattle.std.specs.Prelude.{◌≡◌, ◌<◌, [], All, length};
 ghost use Rattle.lasso_shared.specs.Views.{InternerId, IsSameSpine, list_of};
 
 mod given_back;
+mod opened;
 
 use crate::log::{Log, Opened, Pass, Spine};
 use lasso_parts::keys::{Key, Spur};

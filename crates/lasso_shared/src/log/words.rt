@@ -20,19 +20,22 @@ use lasso_parts::keys::Key;
 use logbook::{Offer, Seen, Word};
 use std::marker::Model;
 
-/// The log of one interner: the word that has the list's length, the chunks that its texts lie in, and the log as
-/// it was at the opening. A contract sees which interner it is of.
+/// The log of one interner: the word that counts the texts appended, the word that counts the turns, the chunks
+/// that the texts lie in, the number of texts at the opening, and the log as it was then. A contract sees which
+/// interner it is of.
 pub struct Log<K: Key> {
     pub(super) head: Word<Note, u64, LogRule<K>>,
+    pub(super) turns: Word<Note, u64, LogRule<K>>,
     pub(super) chunks: Chunks<StoredText>,
+    pub(super) first: u64,
     pub(super) seen: Seen<Note, u64, LogRule<K>>,
 }
 
 impl<K: Key> Model for Log<K> {
-    ghost use Rattle.std.specs.Prelude.{◌≡◌, []};
+    ghost use Rattle.std.specs.Prelude.{◌≡◌, [], length};
     ghost use Rattle.lasso_shared.specs.History.{IsOpening};
     ghost use Rattle.lasso_shared.specs.Notes.{opening_of, notes_of, IsOpened};
-    ghost use Rattle.lasso_shared.specs.Book.{head_of};
+    ghost use Rattle.lasso_shared.specs.Book.{head_of, turn_of};
     ghost use Rattle.lasso_shared.specs.Views.{InternerId, interner_id_coded, interner_id};
 
     ghost Value = { InternerId };
@@ -41,7 +44,7 @@ impl<K: Key> Model for Log<K> {
 
     ghost view = { λ l. interner_id l.seen.book l.seen.names (opening_of l.seen.log) };
 
-    ghost invariant = { λ l. (l.head ≡ head_of l.seen.book) × (l.chunks ≡ l.seen.names) × IsOpened l.seen.log × (notes_of l.seen.log ≡ []) × ((opening_of l.seen.log).texts ≡ []) × IsOpening K.key_at (opening_of l.seen.log) };
+    ghost invariant = { λ l. (l.head ≡ head_of l.seen.book) × (l.chunks ≡ l.seen.names) × IsOpened l.seen.log × (notes_of l.seen.log ≡ []) × (l.first ≡ length (opening_of l.seen.log).texts) × IsOpening K.key_at (opening_of l.seen.log) × (l.turns ≡ turn_of l.seen.book) };
 }
 
 // One call, so that proofs of callers see nothing of the fields where a log is let go.
@@ -49,7 +52,9 @@ impl<K: Key> Drop for Log<K> {
     fn drop(self) {
         let Log {
             head: _,
+            turns: _,
             chunks: _,
+            first: _,
             seen: _,
         } = self;
     }

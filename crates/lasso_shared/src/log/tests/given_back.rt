@@ -37,7 +37,7 @@ fn keep_and_give_back(
 }
 
 // Puts a new text last, in a slot that is kept for it.
-fn add<R: Wait>(
+pub(super) fn add<R: Wait>(
     rt: &R,
     alloc: Global,
     log: &Log<Spur>,

@@ -5,7 +5,7 @@ use Rattle.lasso_shared.proofs.log.spine.Spine.len.Goals as goal
 pub returns-clause-len : goal.returns-clause-len
 returns-clause-len g c =
     let i = c.self.invariant in
-    rw (← c.self.view_is) (length_read g.K.Key.key_at (opening_of c.self.inside.seen.log) (notes_of c.self.inside.seen.log) c.self.inside.len i.1 i.2)
+    rw (← c.self.view_is) (length_read g.K.Key.key_at (opening_of c.self.inside.seen.log) (notes_of c.self.inside.seen.log) c.self.inside.first c.self.inside.appended i.1 i.2)
 
 pub returns-clause-fits : goal.returns-clause-fits
 returns-clause-fits g c =

@@ -1,0 +1,7 @@
+//! Memory that threads share: bytes that they fill at disjoint places of shared buckets, and read as long as the
+//! interner lasts.
+pub mod era;
+pub mod piece;
+pub mod rights;
+#[cfg(test)]
+mod tests;
