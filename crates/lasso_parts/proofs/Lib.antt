@@ -9,7 +9,7 @@ pub mod EntryTexts
 pub mod Walks
 mod PlacesLent
 pub mod TextsLent
-mod RowCalls
+pub mod RowCalls
 mod EmptyStructs
 mod Crossing
 mod JsonTexts

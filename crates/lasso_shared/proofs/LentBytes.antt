@@ -25,7 +25,7 @@ use denote.Steps.{nothing}
 use Rattle.core.proofs.mem.Param.{Good}
 use Rattle.core.proofs.slice.Rows.{el_out}
 use Rattle.lasso_shared.specs.Eras.{life, lasts, place, free, owed, lies}
-use Rattle.lasso_shared.proofs.SlotCalls.{byte, byte_laws}
+use Rattle.lasso_parts.proofs.RowCalls.{byte, byte_laws}
 
 pub lies_laws : (bytes : List ℕ) (p : Ptr) → ShrLaws (lies bytes p)
 lies_laws bytes p = elements_shr_laws u8 (uint_row_laws w8) bytes (block_of p) (count_of p)

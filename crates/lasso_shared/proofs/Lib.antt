@@ -22,5 +22,4 @@ pub mod Alike
 pub mod Desks
 pub mod LentBytes
 pub mod Crossing
-pub mod SlotCalls
 pub mod FillCalls

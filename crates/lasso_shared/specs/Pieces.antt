@@ -1,4 +1,4 @@
--- What contracts see of a range and of an entry.
+-- What contracts see of a range and of a piece.
 use Rattle.std.specs.Prelude.{◌≡◌, ℕ, ◌^◌, ◌<◌, List, length, IsUtf8}
 use denote.RawPtr.{Ptr, block_ptr}
 use Rattle.lasso_shared.specs.Eras.{LeadsToBlock}
@@ -22,7 +22,7 @@ pub record IsRange (r : Free) (ptr : Ptr) (len : ℕ) : Type 0 where
   pub at : ptr ≡ block_ptr r.block r.start
   pub count : len ≡ r.len
 
--- these are the two words of an entry
+-- these are the two words of a piece
 pub record IsPiece (l : Lent) (ptr : Ptr) (len : ℕ) : Type 0 where
   pub at : ptr ≡ l.at
   pub block : LeadsToBlock ptr

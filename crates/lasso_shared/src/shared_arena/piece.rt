@@ -56,8 +56,8 @@ unsafe impl Sync for Piece {}
 
 const _: () = prove!(size_of::<Piece>() == 16);
 
-// The place that lies so far behind.
-fn place_at(first: *mut u8, start: usize) -> *mut u8
+// The address of the place that lies so far behind.
+fn address_at(first: *mut u8, start: usize) -> *mut u8
     requires { LeadsToBlock first }
     ensures { result ≡ first +ₚ start }
 {
@@ -72,7 +72,7 @@ impl Range {
         ensures { (result.era ≡ right.era) × (result.block ≡ right.block) × (result.start ≡ right.start) × (result.len ≡ right.len) }
     {
         Range {
-            ptr: place_at(first, start),
+            ptr: address_at(first, start),
             len,
             right,
         }

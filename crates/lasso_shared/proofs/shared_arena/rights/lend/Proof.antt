@@ -12,7 +12,7 @@ use Rattle.core.proofs.slots.Places.{to_room}
 use Rattle.core.proofs.slots.Slots.into_raw_parts.Met as parts
 use Rattle.std_alloc.proofs.Pairs.{pair_val, pair_of}
 use Rattle.lasso_shared.specs.Eras.{free, owed}
-use Rattle.lasso_shared.proofs.SlotCalls.{byte, byte_laws, Good, Row, Parts, parting_of, parts_goes, parts_gives}
+use Rattle.lasso_parts.proofs.RowCalls.{byte, byte_laws, Good, Row, Parts, parting_of, parts_goes, parts_gives}
 use Rattle.lasso_shared.proofs.LentBytes.{Space, lends}
 use Rattle.lasso_shared.specs.contracts.shared_arena.era.Era as Era
 use Rattle.lasso_shared.specs.contracts.shared_arena.rights.Free as Free

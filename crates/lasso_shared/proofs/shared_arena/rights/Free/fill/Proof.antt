@@ -20,7 +20,7 @@ use Rattle.core.proofs.slots.Places.{of_room, to_row}
 use Rattle.core.proofs.slots.Slots.from_raw_parts.Met as makes
 use Rattle.core.proofs.slots.Slots.into_raw_parts.Met as parts
 use Rattle.lasso_shared.specs.Eras.{life, lasts, free}
-use Rattle.lasso_shared.proofs.SlotCalls.{byte, byte_laws, Good, Row, Makes, making_of, IsMade, makes_goes, makes_gives, Parts, parting_of, parts_goes, parts_gives}
+use Rattle.lasso_parts.proofs.RowCalls.{byte, byte_laws, Good, Row, Makes, making_of, IsMade, makes_goes, makes_gives, Parts, parting_of, parts_goes, parts_gives}
 use Rattle.lasso_shared.proofs.FillCalls.{Fills, filling_of, IsFilled, fills_goes, fills_gives}
 use Rattle.lasso_shared.proofs.LentBytes.{Space, opened, opens_all, closes_all}
 use Rattle.lasso_shared.proofs.shared_arena.rights.filled.Met as fills

@@ -10,7 +10,7 @@ use Rattle.core.proofs.slots.Opens.{row_val}
 use Rattle.core.proofs.slots.Places.{of_room}
 use Rattle.core.proofs.slots.Slots.from_raw_parts.Met as makes
 use Rattle.lasso_shared.specs.Eras.{life, owed}
-use Rattle.lasso_shared.proofs.SlotCalls.{byte, byte_laws, Good, Row, Makes, making_of, IsMade, makes_goes, makes_gives}
+use Rattle.lasso_parts.proofs.RowCalls.{byte, byte_laws, Good, Row, Makes, making_of, IsMade, makes_goes, makes_gives}
 use Rattle.lasso_shared.proofs.LentBytes.{Space, gets_back}
 use Rattle.lasso_shared.specs.contracts.shared_arena.era.Ended as Ended
 use Rattle.lasso_shared.specs.contracts.shared_arena.rights.Owed as Owed

@@ -1,19 +1,19 @@
--- `place_at` moves the pointer, which leads to a block.
+-- `address_at` moves the pointer, which leads to a block.
 use Rattle.lasso_shared.proofs.WalkWords.{◌≡◌, ◌<◌, ◌^◌, ◌+◌, [], ◌∷◌, List, ℕ, arith, w64, refl, sym, ap, ◌∙◌, named, Val, vptr, vint, emp, ftrue, ‵, raw, ◌⊛◌, prop, at_ret, ◌$◌, ◌∵◌, !, qed, by, keep, move, split, fjoin, regoal, no_more, of_opd, first, blocks, exec, returns, enter, alloc_all, pass_all, free_all, look_at, get, sets, sets_last, env, tables, yes, Stays, stay_dropped, Goes-dropped, walk_of, proved, owns, types_at, plain, usize, RawPtr, nothing, fact, uint_vals, uint_Tells, ptr_val, Ptr, block_ptr, block_of, count_of, says, ends_at, suffices, feq_i, done}
 use denote.RawPtr.{◌+ₚ◌}
 use denote.Steps.{heard}
 use prog.Wp.{WpFn}
 use types.Run.{bin}
 use Rattle.lasso_shared.specs.Eras.{LeadsToBlock}
-use Rattle.lasso_shared.specs.contracts.shared_arena.piece.place_at as f
-use Rattle.lasso_shared.proofs.shared_arena.piece.place_at.Statement.{statement}
-use Rattle.lasso_shared.proofs.shared_arena.piece.place_at.Code as code
+use Rattle.lasso_shared.specs.contracts.shared_arena.piece.address_at as f
+use Rattle.lasso_shared.proofs.shared_arena.piece.address_at.Statement.{statement}
+use Rattle.lasso_shared.proofs.shared_arena.piece.address_at.Code as code
 
 abbrev stayed : Stays f.ended.signature.params f.ended.kept
 stayed = (stay_dropped (plain (λ _. RawPtr)) yes, (stay_dropped (plain (λ _. usize)) yes, tt))
 
-pub place_at_spec : {M : Type 1} → statement M
-place_at_spec 𝓤 𝓛 𝓜 𝓡 wired =
+pub address_at_spec : {M : Type 1} → statement M
+address_at_spec 𝓤 𝓛 𝓜 𝓡 wired =
     let H = 𝓛.H in let c = f.clauses 𝓛 𝓜.mem 𝓡.returns in let W = walk_of 𝓛 f.ended stayed c in let 𝓣 = tables 𝓤 H 𝓜 𝓡 𝓡.env in
     proved 𝓛 f.ended stayed c 𝓜 𝓡 (Goes-dropped 𝓛 0 (plain (λ _. RawPtr)) yes (λ κs x w. refl), (Goes-dropped 𝓛 0 (plain (λ _. usize)) yes (λ κs x w. refl), tt))
     f.Key.name code.function (code.unfolded 𝓤 H 𝓜 𝓡 wired)
