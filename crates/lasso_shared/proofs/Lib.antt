@@ -21,5 +21,7 @@ pub mod CallerLaws
 pub mod Alike
 pub mod Desks
 pub mod LentBytes
+pub mod LentRights
+pub mod BucketWords
 pub mod Crossing
 pub mod FillCalls

@@ -8,7 +8,7 @@ use Rattle.lasso_parts.specs.Texts.{Text, position_of}
 use Rattle.lasso_parts.specs.declared.util.LassoErrorKind.{LassoErrorKind}
 use Rattle.lasso_shared.specs.Notes.{NoteView, note_coded, totals_coded, history, state, Since}
 
--- which interner a thing is of: its book, the names of the chunks that its texts lie in, and what it opened with
+-- which interner a thing is of: its book, its names (of its era and of the chunks that its texts lie in), and what it opened with
 pub record InternerId : Type 0 where
   pub book : Book
   pub chunks : List ℕ

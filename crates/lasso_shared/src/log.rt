@@ -2,10 +2,12 @@
 //! interner and the list of its texts under one rule.
 mod apart;
 pub mod look;
+pub mod memory;
 pub mod note;
 pub mod opening;
 pub mod pass;
 pub mod reading;
+mod reserving;
 pub mod rule;
 pub mod seen_texts;
 pub mod spine;

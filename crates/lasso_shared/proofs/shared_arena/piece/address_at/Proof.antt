@@ -4,7 +4,7 @@ use denote.RawPtr.{◌+ₚ◌}
 use denote.Steps.{heard}
 use prog.Wp.{WpFn}
 use types.Run.{bin}
-use Rattle.lasso_shared.specs.Eras.{LeadsToBlock}
+use Rattle.lasso_parts.specs.Cells.{LeadsToBlock}
 use Rattle.lasso_shared.specs.contracts.shared_arena.piece.address_at as f
 use Rattle.lasso_shared.proofs.shared_arena.piece.address_at.Statement.{statement}
 use Rattle.lasso_shared.proofs.shared_arena.piece.address_at.Code as code

@@ -36,7 +36,7 @@ exchange-requires-clause-filed g c =
     let first : c.spine.inside.first ≡ length o.texts = c.spine.invariant.1 ∙ (ap (λ s. length s.of.opening.texts) c.spine.view_is ∙ ap (λ of. length of.opening.texts) c.requires.of.1) in
     let len : length (state o v).texts ≡ length o.texts + c.spine.inside.appended = length_of o v 0 c.spine.inside.appended c.spine.invariant.2.0 in
     let here : c.spine.inside.first + c.spine.inside.appended ≡ length (list_of c.args.self.now c.args.spine.now.notes) = omega (arith, len, first, ap (λ s. length (state o s.notes).texts) c.spine.view_is) in
-    (rw here c.requires.cell, ap (λ t. Append t) (sym c.requires.filled), refl, ap (λ w. w.key) c.self.invariant.0, ap (λ n. n + c.spine.inside.appended) first)
+    (rw here c.requires.cell, ap (λ t. Append t) (sym c.requires.filled.0), c.requires.filled.1, refl, ap (λ w. w.key) c.self.invariant.0, ap (λ n. n + c.spine.inside.appended) first)
 
 pub invariant_of-spine : goal.invariant_of-spine
 invariant_of-spine g c =
