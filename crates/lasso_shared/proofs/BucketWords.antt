@@ -17,7 +17,7 @@ use Rattle.lasso_shared.specs.Notes.{NoteView, history, state, bumped, worded, w
 use Rattle.lasso_shared.specs.LentBuckets.{LentBucket, TakesBytes, more_taken}
 use Rattle.lasso_shared.specs.Events.{bucket_at}
 use Rattle.lasso_shared.specs.SharedBuckets.{Stands, StandsIn, IsBucketAt, HasTaken, LacksRoom}
-use Rattle.lasso_shared.specs.Book.{KeepsRule, May, Lets, Moving, MovesBy, IsShort, shown_of}
+use Rattle.lasso_shared.specs.Book.{KeepsRule, May, Lets, Moving, MovesBy, shown_of}
 use Rattle.lasso_shared.proofs.Histories.{state_past}
 use Rattle.lasso_shared.proofs.Legal.{holds_of_history}
 use Rattle.lasso_shared.proofs.Lengths.{lent_more, one_more}
@@ -25,14 +25,14 @@ use Rattle.lasso_shared.proofs.Words.{words_append}
 
 -- ---- lists of which one item changes, or which have one more
 
-elsewhere : {A : Type 0} (f : A → A) (i j : ℕ) (x : A) (xs : List A) → i ≢ j → slice_get xs j ≡ Some x → slice_get (changed_at i f xs) j ≡ Some x
+pub elsewhere : {A : Type 0} (f : A → A) (i j : ℕ) (x : A) (xs : List A) → i ≢ j → slice_get xs j ≡ Some x → slice_get (changed_at i f xs) j ≡ Some x
 elsewhere f i j x [] ne at = absurd (cc at)
 elsewhere f zero zero x (y ∷ xs) ne at = absurd (ne refl)
 elsewhere f zero (suc j) x (y ∷ xs) ne at = at
 elsewhere f (suc i) zero x (y ∷ xs) ne at = at
 elsewhere f (suc i) (suc j) x (y ∷ xs) ne at = elsewhere f i j x xs (λ same. ne (ap suc same)) at
 
-just_here : {A : Type 0} (f : A → A) (j : ℕ) (x : A) (xs : List A) → slice_get xs j ≡ Some x → slice_get (changed_at j f xs) j ≡ Some (f x)
+pub just_here : {A : Type 0} (f : A → A) (j : ℕ) (x : A) (xs : List A) → slice_get xs j ≡ Some x → slice_get (changed_at j f xs) j ≡ Some (f x)
 just_here f j x [] at = absurd (cc at)
 just_here f zero x (y ∷ xs) at = let is : y ≡ x = cc at in ap (λ z. Some (f z)) is
 just_here f (suc j) x (y ∷ xs) at = just_here f j x xs at

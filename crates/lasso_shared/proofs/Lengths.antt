@@ -5,7 +5,7 @@ use mathlib.Core.List.{IsPrefix}
 use Rattle.lasso_parts.specs.Texts.{Text}
 use Rattle.lasso_shared.specs.History.{Event, Reserve, Charge, Append, Limit, Totals, totals, counted, Lacks, MayFollow}
 use Rattle.lasso_shared.specs.Chunks.{ListOnlyGrows}
-use Rattle.lasso_shared.specs.Notes.{NoteView, history, state, worded, words_after, words_of, first_words, IsWord, IsWordWith, shown, texts_shown, appended_text, lent_after, lent_by}
+use Rattle.lasso_shared.specs.Notes.{NoteView, history, state, worded, words_after, words_of, first_words, IsWord, IsWordWith, shown, texts_shown, lent_after, lent_by}
 use Rattle.lasso_shared.specs.LentBuckets.{LentBucket}
 use Rattle.lasso_shared.specs.Book.{May, Moving, MovesBy, Lets, shown_of}
 use Rattle.lasso_shared.specs.Events.{IsQuiet, ready}

@@ -23,5 +23,7 @@ pub mod Desks
 pub mod LentBytes
 pub mod LentRights
 pub mod BucketWords
+pub mod TurnWords
+pub mod NewBuckets
 pub mod Crossing
 pub mod FillCalls

@@ -5,7 +5,7 @@
 -- So one more text is a matter of putting its two facts at the end of the list, and a fact of a position below
 -- the length is had by a walk along the list, which copies it and leaves the list as it was. Beside the texts the book keeps the
 -- rights to bytes that nobody has taken, which an update of one kind takes from, and one of another kind adds to. Assumes `Logic`.
-use Rattle.std.proofs.Common.{◌≡◌, ℕ, zero, suc, ◌+◌, ◌<◌, ◌≤◌, List, [], ◌∷◌, ◌++◌, length, slice_index, slice_index_or, sym, refl, arith}
+use Rattle.std.proofs.Common.{◌≡◌, ℕ, zero, suc, ◌+◌, ◌<◌, ◌≤◌, List, [], ◌∷◌, ◌++◌, length, slice_index_or, sym, refl, arith}
 use mathlib.Core.List.{IsPrefix}
 use seplogic.Ra.Ura.{Ura}
 use base.Stored.{Coded}

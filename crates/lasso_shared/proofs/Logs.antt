@@ -5,7 +5,7 @@ use prog.Atomic.{either}
 use Rattle.logbook.specs.Pages.{Cell, cell, Nib, no_nib, may_write, step, View, Moves}
 use Rattle.lasso_shared.specs.History.{Totals, IsLegal}
 use Rattle.lasso_shared.specs.Notes.{NoteView, history, opening_of, first_note, notes_of, IsOpened, ticket_of, Since, IsWord, IsWordWith}
-use Rattle.lasso_shared.specs.Book.{KeepsRule, LogKeepsRule, Peeks, Fetches, Adds, Moving, May, Lets, Moved, IsDone, IsIn, Reads, shown_of}
+use Rattle.lasso_shared.specs.Book.{KeepsRule, LogKeepsRule, Peeks, Fetches, Adds, Moving, May, Lets, Moved, IsIn, Reads, shown_of}
 use Rattle.lasso_shared.proofs.Histories.{prefix_tail, prefix_trans, prefix_self}
 use Rattle.lasso_shared.proofs.Tickets.{still, grown, next_ticket}
 use Rattle.lasso_shared.proofs.Words.{word_later}
@@ -115,6 +115,7 @@ module _ {Key : Type 0} (keys : ℕ → Option Key) where
               value = subst (IsWordWith (notes_of add.log) j k) value st.1;
               kept = (r.3.0, after);
             };
+            note = refl;
             ticket = ap (ticket_of e.by) notes ∙ next_ticket e.by (notes_of add.log) e refl;
             legal = after.legal;
           }

@@ -149,5 +149,6 @@ pub record IsIn {Key : Type 0} (keys : ℕ → Option Key) (o : Totals) (before 
   pub opened : IsOpened after
   pub opening : opening_of after ≡ o
   pub done : IsDone keys o e.by (notes_of before) (notes_of given) (notes_of after) e.event position key old e.ticket
+  pub note : done.note ≡ e
   pub ticket : ticket_of e.by (notes_of after) ≡ e.next
   pub legal : IsLegal keys o (history (notes_of after))

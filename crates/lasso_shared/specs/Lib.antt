@@ -19,3 +19,5 @@ pub mod Eras
 pub mod Pieces
 pub mod LentBuckets
 pub mod SharedBuckets
+pub mod Turns
+pub mod Bids

@@ -17,6 +17,7 @@ use crate::log::memory::TextMemory;
 use crate::log::note::Note;
 use crate::log::rule::{LogRule, StoredText};
 use crate::log::spine::Spine;
+use crate::log::turns::Turns;
 use crate::log::words::Log;
 use crate::shared_arena::bucket::SharedBucket;
 use crate::shared_arena::era::Era;
@@ -190,6 +191,7 @@ impl<K: Key> Log<K> {
         requires bucket { texts.bucket.size ≢ 0 }
         ensures opening { result.log.opening ≡ opening_with texts limit }
         ensures spine { (result.spine.of ≡ result.log) × (result.spine.notes ≡ []) × (result.spine.kept ≡ 0) }
+        ensures turns { (result.spine.turns.of ≡ result.log) × (result.spine.turns.notes ≡ []) × (result.spine.turns.count ≡ 1) }
         ensures bucket { (result.bucket.of ≡ result.log) × (result.bucket.position ≡ 0) × (result.bucket.site ≡ texts.bucket.site) × (result.bucket.size ≡ texts.bucket.size) × (result.bucket.base ≡ texts.bucket.used) }
     {
         let OpeningTexts {
@@ -233,11 +235,20 @@ impl<K: Key> Log<K> {
             site,
             seen: seen.again(),
         };
+        let no_turns = Turns {
+            turns: 0,
+            doubling: size,
+            usage: size,
+            limit,
+            count: 1,
+            seen: seen.again(),
+        };
         let spine = Spine {
             kept: 0,
             first: len,
             appended: 0,
             seen: seen.again(),
+            turns: no_turns,
         };
         let first = len;
         let log = Log {

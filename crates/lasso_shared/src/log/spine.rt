@@ -14,6 +14,7 @@ use crate::log::note::{Change, Note};
 use crate::log::pass::Pass;
 use crate::log::rule::{LogRule, StoredText};
 use crate::log::ticket::CellProof;
+use crate::log::turns::Turns;
 use crate::log::words::{Exchange, Log};
 use crate::shared_arena::piece::Piece;
 use lasso_parts::keys::Key;
@@ -24,12 +25,14 @@ use std::marker::Model;
 use std::sync::Wait;
 
 /// The length of the list in a history that was seen, as the texts of the opening and those appended, and how many
-/// slots past it are kept for texts to come. It lies under a lock. Contracts see the slots kept, the interner, and what the spine has seen.
+/// slots past it are kept for texts to come; and the turns. It lies under a lock. Contracts see the slots kept, the interner, and what
+/// the spine has seen of the list and of the turns.
 pub struct Spine<K: Key> {
     pub(super) kept: u64,
     pub(super) first: u64,
     pub(super) appended: u64,
     pub(super) seen: Seen<Note, u64, LogRule<K>>,
+    pub(super) turns: Turns<K>,
 }
 
 impl<K: Key> Model for Spine<K> {
@@ -42,9 +45,9 @@ impl<K: Key> Model for Spine<K> {
 
     ghost coded = { spine_view_coded };
 
-    ghost view = { λ s. record { kept = s.kept; of = interner_id s.seen.book s.seen.names (opening_of s.seen.log); notes = notes_of s.seen.log } };
+    ghost view = { λ s. record { kept = s.kept; of = interner_id s.seen.book s.seen.names (opening_of s.seen.log); notes = notes_of s.seen.log; turns = s.turns } };
 
-    ghost invariant = { λ s. IsOpened s.seen.log × (s.first ≡ length (opening_of s.seen.log).texts) × Reads K.key_at (opening_of s.seen.log) (notes_of s.seen.log) 0 0 s.appended × (s.first + s.appended + s.kept < 2 ^ 64) };
+    ghost invariant = { λ s. IsOpened s.seen.log × (s.first ≡ length (opening_of s.seen.log).texts) × Reads K.key_at (opening_of s.seen.log) (notes_of s.seen.log) 0 0 s.appended × (s.first + s.appended + s.kept < 2 ^ 64) × (s.turns.of ≡ interner_id s.seen.book s.seen.names (opening_of s.seen.log)) };
 }
 
 // One call, so that proofs of callers see nothing of the fields where a spine is let go.
@@ -55,6 +58,7 @@ impl<K: Key> Drop for Spine<K> {
             first: _,
             appended: _,
             seen: _,
+            turns: _,
         } = self;
     }
 }

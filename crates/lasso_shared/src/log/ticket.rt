@@ -89,6 +89,28 @@ impl<'a, K: Key> Plain<BytesAsked<'a, K>, Note, u64> for Add<K> {
     ghost state = { λ a. None };
 }
 
+/// A bucket that a pass asks for, of which so many bytes are taken. `site` says where it lies.
+#[derive(Drop)]
+pub struct BucketAsked<'a, K: Key> {
+    pub size: u64,
+    pub bytes: u64,
+    pub site: &'a Tag,
+    pub number: &'a Tag,
+    pub ticket: &'a Ticket<K>,
+    pub next: &'a Ticket<K>,
+}
+
+impl<'a, K: Key> Plain<BucketAsked<'a, K>, Note, u64> for Add<K> {
+    ghost use Rattle.std.specs.Prelude.{None};
+    ghost use Rattle.lasso_shared.specs.Chunks.{first_number};
+    ghost use Rattle.lasso_shared.specs.Events.{note_in, bucket_at};
+    ghost use Rattle.lasso_shared.specs.History.{Charge};
+
+    ghost ask = { λ a. note_in (bucket_at a.site.now.numbers a.size a.bytes) (first_number a.number.now.numbers) (Charge a.size a.bytes) a.ticket.now.pen.nib.key a.next.now.pen.nib.key };
+
+    ghost state = { λ a. None };
+}
+
 /// What shows that the cell of an appended text is filled with it: its chunk's fact and its own.
 pub type CellProof = (Written<Chunk<StoredText>>, Written<StoredText>);
 

@@ -36,7 +36,7 @@ pub struct Log<K: Key> {
 impl<K: Key> Model for Log<K> {
     ghost use Rattle.std.specs.Prelude.{◌≡◌, [], length};
     ghost use Rattle.lasso_shared.specs.History.{IsOpening};
-    ghost use Rattle.lasso_shared.specs.Notes.{opening_of, notes_of, IsOpened};
+    ghost use Rattle.lasso_shared.specs.Notes.{opening_of, first_note, notes_of, IsOpened};
     ghost use Rattle.lasso_shared.specs.Book.{head_of, turn_of};
     ghost use Rattle.lasso_shared.specs.Views.{InternerId, interner_id_coded, interner_id};
 
@@ -46,7 +46,7 @@ impl<K: Key> Model for Log<K> {
 
     ghost view = { λ l. interner_id l.seen.book l.seen.names (opening_of l.seen.log) };
 
-    ghost invariant = { λ l. (l.head ≡ head_of l.seen.book) × (l.memory ≡ l.seen.names) × IsOpened l.seen.log × (notes_of l.seen.log ≡ []) × (l.first ≡ length (opening_of l.seen.log).texts) × IsOpening K.key_at (opening_of l.seen.log) × (l.turns ≡ turn_of l.seen.book) };
+    ghost invariant = { λ l. (l.head ≡ head_of l.seen.book) × (l.memory ≡ l.seen.names) × IsOpened l.seen.log × (notes_of l.seen.log ≡ []) × (l.first ≡ length (opening_of l.seen.log).texts) × IsOpening K.key_at (opening_of l.seen.log) × (l.turns ≡ turn_of l.seen.book) × (length (first_note l.seen.log).lent ≡ 1) };
 }
 
 // One call, so that proofs of callers see nothing of the fields where a log is let go.

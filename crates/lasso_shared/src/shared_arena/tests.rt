@@ -1,5 +1,6 @@
 //! Pieces of static texts, and of texts that threads fill side by side in one bucket.
 
+mod charges;
 mod ranges;
 
 use crate::shared_arena::era::Era;

@@ -1,5 +1,5 @@
 -- `right_taken` takes a gain apart: by the note that the update asked for, it is the right to the bytes that the note tells of.
-use Rattle.lasso_shared.proofs.WalkWords.{◌≡◌, ◌+◌, ℕ, List, [], ◌∷◌, refl, subst, a_type, dcons, dnil, inst_fn, Val, SProp, emp, ‵, raw, ◌⊛◌, ◌$◌, ◌∵◌, !, qed, by, move, keep, let_go, split, fsplit, fjoin, use0, rewrite, no_more, and_then, returns, enter, alloc_all, pass_all, free_all, look_at, get, sets, agg, fact, fact_i, tables, no, RattleType, owns, types_at, plain, u64, unit, param, bounded, nothing, heard, Tuple, alive, Stays, stay_dropped, walk_of, Goes-dropped, proved, token, Token, token_made, token_told, ends}
+use Rattle.lasso_shared.proofs.WalkWords.{◌≡◌, ◌+◌, List, [], ◌∷◌, refl, subst, a_type, dcons, dnil, inst_fn, Val, SProp, emp, ‵, raw, ◌⊛◌, ◌$◌, ◌∵◌, !, qed, by, move, keep, let_go, split, fsplit, fjoin, use0, rewrite, no_more, and_then, returns, enter, alloc_all, pass_all, free_all, look_at, get, sets, agg, fact, fact_i, tables, no, RattleType, owns, types_at, plain, u64, unit, param, bounded, nothing, heard, Tuple, alive, Stays, stay_dropped, walk_of, Goes-dropped, proved, token, Token, token_made, token_told, ends}
 use Rattle.logbook.specs.contracts.tokens.Gained as Gained
 use Rattle.lasso_shared.specs.LentBuckets.{LentBucket, IsRightTo, bytes_gained}
 use Rattle.lasso_shared.specs.contracts.shared_arena.rights.Free as Free

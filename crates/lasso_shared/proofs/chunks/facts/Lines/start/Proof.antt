@@ -1,6 +1,6 @@
 -- `start` hands on what the lines own, the facts of each text, and the right that is handed in. They are just what the book keeps,
 -- since the list that is seen at the opening is these texts, and its one bucket is the one that the right is to.
-use Rattle.lasso_shared.proofs.WalkWords.{◌≡◌, ◌+◌, ℕ, List, [], ◌∷◌, refl, sym, emp, a_type, dcons, dnil, named, inst_fn, Val, vptr, SProp, ‵, raw, ◌⊛◌, ◌$◌, ◌∵◌, !, qed, by, move, keep, let_go, split, fsplit, fjoin, use0, rewrite, no_more, and_then, returns, enter, alloc_all, pass_all, free_all, look_at, get, sets, agg, fact, says_two, tables, yes, no, RattleType, owns, types_at, plain, RefOf, u64, unit, shr_vals, shr_Tells, param, bounded, nothing, heard, Tuple, alive, Stays, stay_dropped, walk_of, Goes-dropped, proved, token, Token, token_made, token_told, ends}
+use Rattle.lasso_shared.proofs.WalkWords.{◌≡◌, ◌+◌, ℕ, List, [], ◌∷◌, refl, sym, a_type, dcons, dnil, named, inst_fn, Val, vptr, SProp, ‵, raw, ◌⊛◌, ◌$◌, ◌∵◌, !, qed, by, move, keep, let_go, split, fsplit, fjoin, use0, rewrite, no_more, and_then, returns, enter, alloc_all, pass_all, free_all, look_at, get, sets, agg, fact, says_two, tables, yes, no, RattleType, owns, types_at, plain, RefOf, u64, unit, shr_vals, shr_Tells, param, bounded, nothing, heard, Tuple, alive, Stays, stay_dropped, walk_of, Goes-dropped, proved, token, Token, token_made, token_told, ends}
 use Prim.Native.Nat.{◌-◌}
 use Rattle.lasso_parts.specs.Texts.{Text}
 use Rattle.lasso_shared.specs.Chunks.{lined}

@@ -2,10 +2,10 @@ use Rattle.std.proofs.Common.{◌≡◌, ◌+◌, ◌≤◌, ℕ, suc, List, [],
 use mathlib.Core.List.{IsPrefix}
 use Rattle.lasso_shared.specs.History.{Event, Reserve, Totals}
 use Rattle.lasso_shared.specs.Notes.{NoteView, Since, first_note, notes_of, opening_of, ticket_of, bucket_in, state}
-use Rattle.lasso_shared.specs.Book.{Moving, May, Lets, IsIn, word_of}
+use Rattle.lasso_shared.specs.Book.{Moving, May, Lets, IsIn}
 use Rattle.lasso_shared.specs.Chunks.{first_number}
-use Rattle.lasso_shared.specs.Events.{bucket_at, bytes_of}
-use Rattle.lasso_shared.specs.LentBuckets.{LentBucket, IsRightTo}
+use Rattle.lasso_shared.specs.Events.{bytes_of}
+use Rattle.lasso_shared.specs.LentBuckets.{IsRightTo}
 use Rattle.lasso_shared.specs.SharedBuckets.{SharedView, HasTaken}
 use Rattle.lasso_shared.proofs.BucketWords.{moving_reserve, may_reserve, lets_reserve, taken_more}
 use Rattle.lasso_shared.proofs.Histories.{prefix_trans}

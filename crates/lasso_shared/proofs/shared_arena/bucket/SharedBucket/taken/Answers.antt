@@ -1,7 +1,7 @@
-use Rattle.std.proofs.Common.{◌≡◌, ◌+◌, ◌≤◌, ◌<◌, ℕ, suc, [], refl, sym, ap, ◌∙◌, subst, arith}
+use Rattle.std.proofs.Common.{◌≡◌, ◌+◌, ◌≤◌, ◌<◌, ℕ, suc, [], sym, ap, ◌∙◌, subst, arith}
 use mathlib.Core.List.{IsPrefix}
 use Rattle.lasso_shared.specs.History.{Totals}
-use Rattle.lasso_shared.specs.Notes.{NoteView, Since, IsWord, IsWordWith, first_note, notes_of, opening_of, state}
+use Rattle.lasso_shared.specs.Notes.{Since, IsWord, IsWordWith, first_note, notes_of, state}
 use Rattle.lasso_shared.specs.Book.{KeepsRule}
 use Rattle.lasso_shared.specs.SharedBuckets.{SharedView, HasTaken, LacksRoom}
 use Rattle.lasso_shared.proofs.BucketWords.{has_taken, lacks_room, taken_within}
