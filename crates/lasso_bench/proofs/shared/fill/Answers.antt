@@ -1,7 +1,6 @@
-use Rattle.std.proofs.Common.{◌≡◌, ◌<◌, ◌^◌, ◌+◌, ◌++◌, ◌∷◌, [], ◌∙◌, sym, ap, subst, ℕ, List, Some, None, refl, arith}
+use Rattle.std.proofs.Common.{◌≡◌, ◌<◌, ◌^◌, ◌+◌, ◌++◌, ◌∷◌, [], ◌∙◌, sym, ap, subst, ℕ, List, Some, None, arith}
 use Rattle.std.specs.Prelude.{is_some, nat_lt, if◌then◌else◌}
 use Rattle.lasso_parts.specs.Texts.{Text, position_of}
-use Rattle.lasso_parts.specs.declared.keys.spurs.Spur.{Spur}
 use Rattle.lasso_shared.specs.Views.{list_of}
 use Rattle.lasso_bench.specs.Names.{named}
 use Rattle.lasso_bench.proofs.Named.{LacksFrom, lacks_next, key_there}
