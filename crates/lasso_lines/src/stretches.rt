@@ -1,5 +1,6 @@
 //! The lines of a stretch: the bytes that a reader shows at once.
 ghost use Rattle.std.specs.Prelude.{◌≡◌, ℕ, ◌+◌, ◌-◌, ◌<◌, ◌++◌, [], OnOk, IfOk, IfErr, MatchResult, IsUtf8, drop, length, take};
+ghost use Rattle.memchr.specs.Find.{IsFirstByte, is_byte};
 ghost use Rattle.lasso_lines.specs.Stream.{Grows, OnlyGrows, written};
 ghost use Rattle.lasso_lines.specs.Report.{holding};
 ghost use Rattle.lasso_lines.specs.Answer.{AnswersLine, IsAnswerFault, failed_writes};
@@ -11,7 +12,7 @@ use crate::answers::{LineRodeo, answer_line};
 use crate::fault::RunFault;
 use crate::stream::ByteWriter;
 use lasso::{LassoError, LassoErrorKind};
-use memchr::memchr;
+use memchr::memchr_iter;
 use std::str::from_utf8;
 use std::sync::Wait;
 
@@ -42,7 +43,7 @@ pub(crate) fn answer_stretch<R: Wait, O: ByteWriter>(
         hold(begun, last, next)?;
         return Ok(next);
     }
-    let Some(at) = memchr(b'\n', shown) else {
+    let Some(at) = next_feed(shown) else {
         hold(begun, shown, number)?;
         return Ok(number);
     };
@@ -76,7 +77,7 @@ fn answer_lines<'a, R: Wait, O: ByteWriter>(
     let untested = untested_len(stretch);
     let mut number = number;
     let mut rest = stretch;
-    while let Some(at) = memchr(b'\n', rest) {
+    while let Some(at) = next_feed(rest) {
         let line = &rest[..at];
         let is_text = untested < rest.len() - at;
         answer_line(rodeo, line, is_text, number, writer)?;
@@ -84,6 +85,14 @@ fn answer_lines<'a, R: Wait, O: ByteWriter>(
         rest = behind(rest, at);
     }
     Ok((number, rest))
+}
+
+// Where the first line feed stands. It is mostly near, and this is the search that looks there first.
+#[inline]
+fn next_feed(bytes: &[u8]) -> Option<usize>
+    ensures { IsFirstByte (is_byte 10) bytes.now result }
+{
+    memchr_iter(b'\n', bytes).next()
 }
 
 // The bytes behind the one at this place.
