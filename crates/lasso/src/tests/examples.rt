@@ -1,4 +1,5 @@
 //! The examples of the front page.
+mod calls;
 mod own_key;
 
 use crate::interface::Interner;
