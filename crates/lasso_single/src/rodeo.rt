@@ -134,6 +134,13 @@ impl<K: Key, S: BuildHasher, A: Allocator> Rodeo<K, S, A> {
     }
 
     /// The key's text: the same call as `resolve`, with the same condition.
+    ///
+    /// ```rust
+    /// let mut rodeo = Rodeo::default(rt.alloc())?;
+    /// let hello = rodeo.try_get_or_intern("Hello, world!")?;
+    /// assert!(rt; rodeo.contains_key(hello));
+    /// assert_eq!(rt; rodeo.resolve_unchecked(hello), "Hello, world!");
+    /// ```
     pub fn resolve_unchecked(&self, key: K) -> &str
         requires { K.number key < length self.now.texts }
         ensures { slice_get self.now.texts (K.number key) ≡ Some result.now }

@@ -86,6 +86,13 @@ impl<K: Key, S: BuildHasher, A: Allocator + Clone> Rodeo<K, S, A> {
 
     /// The key of the text, which goes last in the list if it is not there: the same call as
     /// `try_get_or_intern_static`, with the same refusals.
+    ///
+    /// ```rust
+    /// let mut rodeo = Rodeo::default(rt.alloc())?;
+    /// let hello = rodeo.get_or_intern_static("Hello, world!")?;
+    /// let same = rodeo.get_or_intern("Hello, world!")?;
+    /// assert!(rt; same == hello);
+    /// ```
     pub fn get_or_intern_static(&mut self, text: &'static str) -> LassoResult<K>
         ensures { InternsStaticIn K.key_at self.old text.now result self.new }
     {
