@@ -66,6 +66,15 @@ pub enum Reply<K> {
 /// Carries the commands out in order, and answers one reply for each. A refused command is answered by its
 /// refusal, and the run goes on. There is room for all replies before the first command is carried out: where
 /// memory is wanting for that, the run is refused and nothing changes; a run of no command never is.
+///
+/// ```rust
+/// let mut rodeo: SpurRodeo = Rodeo::new(rt.alloc())?;
+/// let commands = [Command::Intern("red"), Command::Clear];
+/// let replies = run_commands(rt.alloc(), &mut rodeo, commands.as_slice())?;
+/// assert_eq!(rt; replies.len(), 2);
+/// assert!(rt; matches!(&replies[0], Reply::Key(_)));
+/// assert!(rt; matches!(&replies[1], Reply::Done));
+/// ```
 pub fn run_commands<K: Key, S: BuildHasher + Clone, A: Allocator + Clone>(
     alloc: Global,
     rodeo: &mut Rodeo<K, S, A>,

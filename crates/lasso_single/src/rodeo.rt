@@ -58,6 +58,13 @@ impl<K: Key, S: BuildHasher + Drop, A: Allocator> Drop for Rodeo<K, S, A> {
 
 impl<K: Key, S: BuildHasher, A: Allocator> Rodeo<K, S, A> {
     /// The key of the text, or `None` where it is not there.
+    ///
+    /// ```rust
+    /// let mut rodeo = Rodeo::default(rt.alloc())?;
+    /// let hello = rodeo.try_get_or_intern("Hello, world!")?;
+    /// assert_eq!(rt; rodeo.get("Hello, world!"), Some(hello));
+    /// assert!(rt; rodeo.get("Hello").is_none());
+    /// ```
     #[tactic(auto, using(lasso_parts::proofs::TextLemmas::key_of_present))]
     pub fn get(&self, text: &str) -> Option<K>
         ensures value { result ≡ key_of K.key_at self.now.texts text.now }
@@ -68,6 +75,13 @@ impl<K: Key, S: BuildHasher, A: Allocator> Rodeo<K, S, A> {
     }
 
     /// Whether the text is there.
+    ///
+    /// ```rust
+    /// let mut rodeo = Rodeo::default(rt.alloc())?;
+    /// rodeo.extend(["red", "green", "red"])?;
+    /// assert!(rt; rodeo.contains("green"));
+    /// assert!(rt; !rodeo.contains("blue"));
+    /// ```
     pub fn contains(&self, text: &str) -> bool
         ensures { result ≡ is_some (position_of self.now.texts text.now) }
     {
@@ -75,6 +89,14 @@ impl<K: Key, S: BuildHasher, A: Allocator> Rodeo<K, S, A> {
     }
 
     /// Whether the key stands for a text of this interner.
+    ///
+    /// ```rust
+    /// let mut rodeo = Rodeo::default(rt.alloc())?;
+    /// let hello = rodeo.try_get_or_intern("Hello, world!")?;
+    /// assert!(rt; rodeo.contains_key(hello));
+    /// let next = Spur::try_from_usize(1).ok_or("no key")?;
+    /// assert!(rt; !rodeo.contains_key(next));
+    /// ```
     pub fn contains_key(&self, key: K) -> bool
         ensures { IsTrue result ↔ (K.number key < length self.now.texts) }
     {
@@ -82,6 +104,14 @@ impl<K: Key, S: BuildHasher, A: Allocator> Rodeo<K, S, A> {
     }
 
     /// The key's text, or `None` where the key stands for no text of this interner.
+    ///
+    /// ```rust
+    /// let mut rodeo = Rodeo::default(rt.alloc())?;
+    /// let hello = rodeo.try_get_or_intern("Hello, world!")?;
+    /// assert_eq!(rt; rodeo.try_resolve(hello), Some("Hello, world!"));
+    /// let next = Spur::try_from_usize(1).ok_or("no key")?;
+    /// assert_eq!(rt; rodeo.try_resolve(next), None);
+    /// ```
     pub fn try_resolve(&self, key: K) -> Option<&str>
         ensures { option_map (λ t. t.now) result ≡ slice_get self.now.texts (K.number key) }
     {
@@ -89,6 +119,13 @@ impl<K: Key, S: BuildHasher, A: Allocator> Rodeo<K, S, A> {
     }
 
     /// The key's text. The key must stand for a text of this interner: `contains_key` is the test.
+    ///
+    /// ```rust
+    /// let mut rodeo = Rodeo::default(rt.alloc())?;
+    /// let hello = rodeo.try_get_or_intern("Hello, world!")?;
+    /// assert!(rt; rodeo.contains_key(hello));
+    /// assert_eq!(rt; rodeo.resolve(hello), "Hello, world!");
+    /// ```
     pub fn resolve(&self, key: K) -> &str
         requires { K.number key < length self.now.texts }
         ensures { slice_get self.now.texts (K.number key) ≡ Some result.now }
@@ -97,6 +134,13 @@ impl<K: Key, S: BuildHasher, A: Allocator> Rodeo<K, S, A> {
     }
 
     /// The key's text: the same call as `resolve`, with the same condition.
+    ///
+    /// ```rust
+    /// let mut rodeo = Rodeo::default(rt.alloc())?;
+    /// let hello = rodeo.try_get_or_intern("Hello, world!")?;
+    /// assert!(rt; rodeo.contains_key(hello));
+    /// assert_eq!(rt; rodeo.resolve_unchecked(hello), "Hello, world!");
+    /// ```
     pub fn resolve_unchecked(&self, key: K) -> &str
         requires { K.number key < length self.now.texts }
         ensures { slice_get self.now.texts (K.number key) ≡ Some result.now }
@@ -105,6 +149,12 @@ impl<K: Key, S: BuildHasher, A: Allocator> Rodeo<K, S, A> {
     }
 
     /// The number of texts.
+    ///
+    /// ```rust
+    /// let mut rodeo = Rodeo::default(rt.alloc())?;
+    /// rodeo.extend(["red", "green", "red"])?;
+    /// assert_eq!(rt; rodeo.len(), 2);
+    /// ```
     pub fn len(&self) -> usize
         ensures value { result ≡ length self.now.texts }
         ensures distinct { IsDistinct self.now.texts }
@@ -114,6 +164,13 @@ impl<K: Key, S: BuildHasher, A: Allocator> Rodeo<K, S, A> {
     }
 
     /// Whether there is no text.
+    ///
+    /// ```rust
+    /// let mut rodeo = Rodeo::default(rt.alloc())?;
+    /// assert!(rt; rodeo.is_empty());
+    /// rodeo.extend(["red", "green", "red"])?;
+    /// assert!(rt; !rodeo.is_empty());
+    /// ```
     pub fn is_empty(&self) -> bool
         ensures { result ≡ (length self.now.texts == 0) }
     {
@@ -121,6 +178,12 @@ impl<K: Key, S: BuildHasher, A: Allocator> Rodeo<K, S, A> {
     }
 
     /// For how many texts the list has room: at least as many as there are.
+    ///
+    /// ```rust
+    /// let colours = ["red", "green", "red", "blue"];
+    /// let rodeo: SpurRodeo = Rodeo::from_iter(rt.alloc(), colours)?;
+    /// assert!(rt; rodeo.capacity() >= 3);
+    /// ```
     pub fn capacity(&self) -> usize
         ensures { length self.now.texts ≤ result }
     {
@@ -128,6 +191,11 @@ impl<K: Key, S: BuildHasher, A: Allocator> Rodeo<K, S, A> {
     }
 
     /// The most bytes that all buckets may take.
+    ///
+    /// ```rust
+    /// let rodeo = Rodeo::default(rt.alloc())?;
+    /// assert_eq!(rt; rodeo.max_memory_usage(), usize::MAX);
+    /// ```
     pub fn max_memory_usage(&self) -> usize
         ensures { result ≡ self.now.account.limit }
     {
@@ -136,6 +204,14 @@ impl<K: Key, S: BuildHasher, A: Allocator> Rodeo<K, S, A> {
 
     /// The bytes that all buckets take. Where the interner was never cleared, that is at most the first
     /// bucket and four times the bytes copied in, whatever limits were set between.
+    ///
+    /// ```rust
+    /// let mut rodeo: SpurRodeo = Rodeo::with_capacity(rt.alloc(), Capacity::for_bytes(10))?;
+    /// rodeo.try_get_or_intern("0123456789")?;
+    /// assert_eq!(rt; rodeo.current_memory_usage(), 10);
+    /// rodeo.try_get_or_intern("more")?;
+    /// assert_eq!(rt; rodeo.current_memory_usage(), 30);
+    /// ```
     pub fn current_memory_usage(&self) -> usize
         ensures usage { result ≡ self.now.account.usage }
         ensures waste { self.now.is_cleared ≡ false → result ≤ self.now.first + 4 * self.now.copied }

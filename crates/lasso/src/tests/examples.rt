@@ -1,5 +1,11 @@
-//! The examples of the front page.
+//! The examples of the front page; below it those in the documents of the calls for one thread, where each stands
+//! in a test as it is there.
+mod frozen;
+mod looking_up;
+mod making;
 mod own_key;
+mod parts;
+mod walks;
 
 use crate::interface::Interner;
 use crate::{

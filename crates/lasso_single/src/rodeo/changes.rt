@@ -12,6 +12,14 @@ use std::hash::BuildHasher;
 impl<K: Key, S: BuildHasher, A: Allocator> Rodeo<K, S, A> {
     /// Sets the most bytes that all buckets may take. It may lie below what they take already: they stay,
     /// and texts that need another bucket are then refused. The texts stay.
+    ///
+    /// ```rust
+    /// let mut rodeo: SpurRodeo = Rodeo::with_capacity(rt.alloc(), Capacity::for_bytes(4))?;
+    /// rodeo.set_memory_limits(MemoryLimits::new(0));
+    /// rodeo.try_get_or_intern("abc")?;
+    /// let refusal = rodeo.try_get_or_intern("de").err().ok_or("not refused")?;
+    /// assert!(rt; refusal.kind().is_memory_limit());
+    /// ```
     pub fn set_memory_limits(&mut self, limits: MemoryLimits)
         ensures texts { self.new.texts ≡ self.old.texts }
         ensures account { self.new.account ≡ with_limit self.old.account limits }
@@ -24,6 +32,14 @@ impl<K: Key, S: BuildHasher, A: Allocator> Rodeo<K, S, A> {
     /// Forgets every text. The buckets stay, and the current one is filled anew; usage and limit stay. A
     /// key that was handed out before stands for no text, or for a new one at its position. It takes no
     /// memory and can't fail.
+    ///
+    /// ```rust
+    /// let mut rodeo: SpurRodeo = Rodeo::with_capacity(rt.alloc(), Capacity::for_bytes(10))?;
+    /// let last = rodeo.try_get_or_intern("last")?;
+    /// rodeo.clear();
+    /// assert!(rt; rodeo.is_empty());
+    /// assert_eq!(rt; rodeo.try_resolve(last), None);
+    /// ```
     pub fn clear(&mut self)
         ensures texts { self.new.texts ≡ [] }
         ensures account { self.new.account ≡ clear self.old.account }
