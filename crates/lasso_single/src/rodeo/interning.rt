@@ -24,19 +24,22 @@ impl<K: Key, S: BuildHasher, A: Allocator + Clone> Rodeo<K, S, A> {
         ensures { InternsIn K.key_at self.old text.now result self.new }
     {
         let hash = hash_text(&self.hasher, text);
-        let found = self.index.find_hashed(&self.list, &self.hasher, hash, text);
-        if let Some(position) = found {
-            return Ok(K::try_from_usize(position).unwrap());
-        }
+        let found = self.index.locate(&self.list, &self.hasher, hash, text);
+        let vacancy = match found {
+            Ok(position) => return Ok(K::try_from_usize(position).unwrap()),
+            Err(vacancy) => vacancy,
+        };
         let Some(key) = K::try_from_usize(self.list.len()) else {
             return Err(LassoError::new(LassoErrorKind::KeySpaceExhaustion));
         };
         if !self.list.admits(text.len()) {
             return Err(LassoError::new(LassoErrorKind::MemoryLimitReached));
         }
-        self.index.reserve_in_order(&self.list, &self.hasher)?;
+        let vacancy = self
+            .index
+            .reserve_in_order(&self.list, &self.hasher, hash, vacancy)?;
         self.list.push_copied(text)?;
-        self.index.insert_reserved(hash, key);
+        self.index.insert_at(vacancy, hash, key);
         Ok(key)
     }
 
@@ -72,15 +75,18 @@ impl<K: Key, S: BuildHasher, A: Allocator + Clone> Rodeo<K, S, A> {
         ensures { InternsStaticIn K.key_at self.old text.now result self.new }
     {
         let hash = hash_text(&self.hasher, text);
-        if let Some(position) = self.index.find_hashed(&self.list, &self.hasher, hash, text) {
-            return Ok(K::try_from_usize(position).unwrap());
-        }
+        let vacancy = match self.index.locate(&self.list, &self.hasher, hash, text) {
+            Ok(position) => return Ok(K::try_from_usize(position).unwrap()),
+            Err(vacancy) => vacancy,
+        };
         let Some(key) = K::try_from_usize(self.list.len()) else {
             return Err(LassoError::new(LassoErrorKind::KeySpaceExhaustion));
         };
-        self.index.reserve_in_order(&self.list, &self.hasher)?;
+        let vacancy = self
+            .index
+            .reserve_in_order(&self.list, &self.hasher, hash, vacancy)?;
         self.list.push_static(text)?;
-        self.index.insert_reserved(hash, key);
+        self.index.insert_at(vacancy, hash, key);
         Ok(key)
     }
 
