@@ -1,5 +1,6 @@
 -- Texts that were stored stay where they are: one region gets more bytes, or a region more comes, or nothing changes.
-use Rattle.std.proofs.Common.{◌≡◌, ◌<◌, ◌++◌, ◌∷◌, [], List, length, ap, sym, subst, refl, Ok, Err, IsOk, OnErr, IfOk}
+use Rattle.std.proofs.Common.{◌≡◌, ◌<◌, ℕ, ◌++◌, ◌∷◌, [], List, length, ap, sym, subst, refl, Ok, Err, IsOk, OnErr, IfOk}
+use denote.RawPtr.{Ptr}
 use Rattle.core.specs.declared.result.Result.{Result}
 use Rattle.lasso_parts.specs.Arena.{Regions, IsStored, text_at, KeepsTexts}
 use Rattle.lasso_parts.specs.Bucket.{Extent}
@@ -8,13 +9,19 @@ use Rattle.std.specs.Prelude.{IsUtf8}
 use Rattle.lasso_parts.proofs.Regions.{filled, kept_set, kept_push, kept_same, stored_push}
 use Rattle.lasso_parts.proofs.arena.Arena.store_str.Goals as goal
 
-all_of : Regions → List Extent
+abbrev all_of : Regions → List Extent
 all_of a = a.all
 
 -- a region more comes, or nothing changes
 kept_new : {T E : Type 0} (result : Result T E) (a b : Regions) → (IsOk result → (r : Extent) × (b.all ≡ a.all ++ r ∷ [])) → OnErr result (b ≡ a) → KeepsTexts a.all b.all
 kept_new (Ok value) a b added same = let made = added refl in kept_push a.all b.all made.0 made.1
 kept_new (Err error) a b added same = subst (KeepsTexts a.all) (sym (ap all_of same)) (kept_same a.all)
+
+-- the text of the region that comes
+stored_new : {E : Type 0} (result : Result Span E) (a b : Regions) (t : List ℕ) → (IsOk result → (at : Ptr) × (b.all ≡ a.all ++ filled at t (length t) ∷ [])) → IsUtf8 t
+    → IfOk result (λ (s : Span). s ≡ record { region = length a.all; start = 0; len = length t }) → IfOk result (λ (s : Span). IsStored b.all s × (text_at b.all s ≡ t))
+stored_new (Ok span) a b t added utf8 is = let made = added refl in stored_push a.all b.all (filled made.0 t (length t)) span made.1 utf8 is
+stored_new (Err error) a b t added utf8 is = tt
 
 pub returns-in-Current-clause-kept : goal.returns-in-Current-clause-kept
 returns-in-Current-clause-kept g c =
@@ -23,16 +30,8 @@ returns-in-Current-clause-kept g c =
     kept_set a.all c.store_in_current.new.self.all a.current c.args.text.now inside (ap all_of c.store_in_current.ensures.text)
 
 pub returns-in-Exact-clause-stored : goal.returns-in-Exact-clause-stored
-returns-in-Exact-clause-stored g c = of c.store_in_exact.result c.store_in_exact.new.self c.store_in_exact.ensures.text c.store_in_exact.ensures.span
-  where
-    a : Regions
-    a = c.args.self.now
-    t : List ℕ
-    t = c.args.text.now
-    of : {E : Type 0} (result : Result Span E) (b : Regions) → (IsOk result → (at : Ptr) × (b ≡ record a { all = a.all ++ filled at t (length t) ∷ [] })) → IfOk result (λ (s : Span). s ≡ record { region = length a.all; start = 0; len = length t })
-        → IfOk result (λ (s : Span). IsStored b.all s × (text_at b.all s ≡ t))
-    of (Ok span) b added is = let made = added refl in stored_push a.all b.all (filled made.0 t (length t)) span (ap all_of made.1) c.utf8.text is
-    of (Err error) b added is = tt
+returns-in-Exact-clause-stored g c =
+    stored_new c.store_in_exact.result c.args.self.now c.store_in_exact.new.self c.args.text.now (λ ok. let made = c.store_in_exact.ensures.text ok in (made.0, ap all_of made.1)) c.utf8.text c.store_in_exact.ensures.span
 
 pub returns-in-Exact-clause-kept : goal.returns-in-Exact-clause-kept
 returns-in-Exact-clause-kept g c =
