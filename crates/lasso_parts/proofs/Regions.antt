@@ -88,7 +88,7 @@ stored_push xs ys r span e utf8 is =
     let whole : text_at ys whole_span ≡ r.bytes = ap (λ (b : Extent). slice_range b.bytes 0 (0 + length r.bytes)) found ∙ take_all (0 + length r.bytes - 0) r.bytes (omega arith) in
     let count : length ys ≡ length xs + 1 = ap length e ∙ length-append xs (r ∷ []) in
     subst (λ (s : Span). IsStored ys s × (text_at ys s ≡ r.bytes)) (sym is)
-      (record { region = omega (arith, count); bytes = omega (arith, ap (λ (b : Extent). length b.bytes) found); text = subst IsUtf8 (sym whole) utf8 }, whole)
+    (record { region = omega (arith, count); bytes = omega (arith, ap (λ (b : Extent). length b.bytes) found); text = subst IsUtf8 (sym whole) utf8 }, whole)
 
 -- texts stay where nothing changes
 pub kept_same : (regions : List Extent) → KeepsTexts regions regions
