@@ -2,15 +2,14 @@
 --
 -- Sizes z, 2z, 4z, .. up to half of T add up to T less z. So where the spares among them add up to less than half of T, half of T is
 -- not among them, and they add up to at least z less than that half; and where they add up to at least that, it is.
-use Rattle.std.proofs.Common.{◌≡◌, ℕ, zero, suc, ◌+◌, ◌-◌, ◌*◌, ◌<◌, ◌≤◌, ◌⊎◌, inl, inr, List, [], ◌∷◌, ◌++◌, length, get_or, set, take, drop, map, sym, ap, subst, refl, ◌∙◌, arith}
-use Rattle.std.specs.Prelude.{nat_eq}
+use Rattle.std.proofs.Common.{◌≡◌, ℕ, zero, suc, ◌+◌, ◌*◌, ◌<◌, ◌≤◌, ◌⊎◌, inl, inr, List, [], ◌∷◌, ◌++◌, length, set, take, map, sym, ap, subst, refl, ◌∙◌, arith}
 use Rattle.std.proofs.lemmas.Grind.{common_steps}
 use Rattle.std.proofs.lemmas.Bool.Decides.{nat_tests}
 use Rattle.std.proofs.lemmas.Bool.{cases_eq}
-use Rattle.std.proofs.lemmas.List.Sums.{sum_by-cons, sum_by-append}
+use Rattle.std.proofs.lemmas.List.Sums.{sum_by-cons}
 use Rattle.lasso_parts.specs.Bucket.{Extent}
-use Rattle.lasso_parts.specs.Arena.{no_region, region_at, emptied, with_bytes, usage_of, spare_part, spare_in}
-use Rattle.lasso_parts.specs.Doubled.{AreDoubled, doubled_from, next_of, kept_of, CanTake, CannotTake, IsFirstToTake, NoneTakes}
+use Rattle.lasso_parts.specs.Arena.{region_at, emptied, with_bytes, usage_of, spare_part, spare_in}
+use Rattle.lasso_parts.specs.Doubled.{AreDoubled, doubled_from, next_of}
 
 -- ---- the next size
 
@@ -113,10 +112,10 @@ pub spare_set : (m : ℕ) (rs : List Extent) (j : ℕ) (t : List ℕ) → (m ≤
 spare_set zero rs j t h = refl
 spare_set (suc m) [] j t h = refl
 spare_set (suc m) (r ∷ rs) zero t h =
-    let none : spare_part r ≡ 0 = elim h [ | inl low ↦ absurd (omega (arith, low)) | inr e ↦ e ] in
+    let none : spare_part r ≡ 0 = elim h [ inl low ↦ absurd (omega (arith, low)) | inr e ↦ e ] in
     spare_cons (with_bytes r t) (take m rs) ∙ ap (λ (n : ℕ). n + spare_in (take m rs)) (part_more r t none ∙ sym none) ∙ sym (spare_cons r (take m rs))
 spare_set (suc m) (r ∷ rs) (suc j) t h =
-    let later : (m ≤ j) ⊎ (spare_part (region_at rs j) ≡ 0) = elim h [ | inl low ↦ inl (omega (arith, low)) | inr e ↦ inr e ] in
+    let later : (m ≤ j) ⊎ (spare_part (region_at rs j) ≡ 0) = elim h [ inl low ↦ inl (omega (arith, low)) | inr e ↦ inr e ] in
     spare_cons r (take m (set rs j (with_bytes (region_at rs j) t))) ∙ ap (λ (n : ℕ). spare_part r + n) (spare_set m rs j t later) ∙ sym (spare_cons r (take m rs))
 
 -- a spare that gets bytes is none any more

@@ -2,9 +2,9 @@
 --
 -- At each step what is gathered, and what is kept of the rest behind it, are the kept regions of the whole list. An exchange
 -- puts the region in hand behind those gathered, and a region that is not kept in its place, which the walk has passed.
-use Rattle.std.proofs.Common.{◌≡◌, ℕ, zero, suc, ◌+◌, ◌-◌, ◌*◌, ◌<◌, ◌≤◌, ◌⊎◌, inl, inr, List, [], ◌∷◌, ◌++◌, length, get_or, set, take, drop, map, sym, ap, subst, refl, ◌∙◌, arith, append_assoc}
+use Rattle.std.proofs.Common.{◌≡◌, ℕ, zero, suc, ◌+◌, ◌*◌, ◌<◌, ◌≤◌, inl, inr, List, [], ◌∷◌, ◌++◌, length, get_or, set, take, drop, map, sym, ap, subst, refl, ◌∙◌, arith, append_assoc}
 use Rattle.std.proofs.lemmas.Bool.{cases_eq}
-use Rattle.std.proofs.lemmas.List.{take-set, take-set-le, take_more_set, drop-set-lt, drop_more, map-set, get_or-set_same, length-set, length-map, append-nil}
+use Rattle.std.proofs.lemmas.List.{take-set, take-set-le, take_more_set, drop-set-lt, drop_more, map-set, length-set, length-map, append-nil}
 use Rattle.std.proofs.lemmas.List.Edits.{swap_is}
 use Rattle.std.specs.List.{swap}
 use Rattle.lasso_parts.specs.Bucket.{Extent, Block, block_of}
@@ -33,10 +33,10 @@ swap_take ys kept at below inside =
     let x = region_at ys kept in let y = region_at ys at in
     let is = swap_is ys kept at no_region (omega (arith, below, inside)) inside in
     ap (take (kept + 1)) (sym is) ∙ elim (cases_eq kept at) [
-        | inl e ↦ subst (λ (k : ℕ). take (kept + 1) (set (set ys kept y) k x) ≡ take kept ys ++ y ∷ []) e
-            (take_more_set (set ys kept y) kept x (omega (arith, length-set ys kept y, below, inside)) ∙ ap (λ (l : List Extent). l ++ x ∷ []) (take-set ys kept y) ∙ ap (λ (k : ℕ). take kept ys ++ region_at ys k ∷ []) e)
-        | inr ne ↦ take-set-le (kept + 1) (set ys kept y) at x (omega (arith, ne, below)) ∙ take_more_set ys kept y (omega (arith, below, inside))
-      ]
+      | inl e ↦ subst (λ (k : ℕ). take (kept + 1) (set (set ys kept y) k x) ≡ take kept ys ++ y ∷ []) e
+          (take_more_set (set ys kept y) kept x (omega (arith, length-set ys kept y, below, inside)) ∙ ap (λ (l : List Extent). l ++ x ∷ []) (take-set ys kept y) ∙ ap (λ (k : ℕ). take kept ys ++ region_at ys k ∷ []) e)
+      | inr ne ↦ take-set-le (kept + 1) (set ys kept y) at x (omega (arith, ne, below)) ∙ take_more_set ys kept y (omega (arith, below, inside))
+    ]
 
 swap_drop : (ys : List Extent) (kept at : ℕ) → kept ≤ at → at < length ys → drop (at + 1) (swap ys kept at) ≡ drop (at + 1) ys
 swap_drop ys kept at below inside =

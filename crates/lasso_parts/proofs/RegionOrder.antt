@@ -4,20 +4,18 @@
 -- Bytes in a region change no region's size, so the order stays; they take from the spares' sum just where the region was one. A new
 -- region of exact size has more than twice the doubling size, and a remnant fewer: neither counts as doubled, and the next size
 -- stays. A clear keeps the first region and the doubled ones, which then are in order again.
-use Rattle.std.proofs.Common.{◌≡◌, ℕ, zero, suc, ◌+◌, ◌-◌, ◌*◌, ◌<◌, ◌≤◌, ◌⊎◌, inl, inr, List, [], ◌∷◌, ◌++◌, length, get_or, set, take, drop, map, sym, ap, subst, refl, ◌∙◌, arith}
-use Rattle.std.specs.Prelude.{slice_range, max}
-use Rattle.std.proofs.lemmas.Grind.{common_steps}
-use Rattle.std.proofs.lemmas.Bool.{cases_eq}
+use Rattle.std.proofs.Common.{◌≡◌, ℕ, zero, suc, ◌+◌, ◌-◌, ◌*◌, ◌<◌, ◌≤◌, ◌⊎◌, inl, inr, List, [], ◌∷◌, ◌++◌, length, set, take, drop, map, sym, ap, subst, refl, ◌∙◌, arith}
+use Rattle.std.specs.Prelude.{slice_range}
 use Rattle.std.proofs.lemmas.List.{take-append-le, length-append, get_or_append_left, get_or_at, get_or-set_same, length-set, length-map, take_all}
 use Rattle.std.proofs.lemmas.List.Sums.{sum_by-cons, sum_by_push}
 use denote.RawPtr.{Ptr}
-use Rattle.lasso_parts.specs.Account.{Account, fresh, with_limit, clear, store_in_current, store_in_spare}
+use Rattle.lasso_parts.specs.Account.{Account, fresh, clear, store_in_current, store_in_spare}
 use Rattle.lasso_parts.specs.Bucket.{Extent}
 use Rattle.lasso_parts.specs.Arena.{Regions, no_region, region_at, emptied, with_bytes, usage_of, first_of, copied_in, copied_of, most_of, spare_part, spare_in, spares_at_clear, spare_of, account_of}
-use Rattle.lasso_parts.specs.Doubled.{AreDoubled, doubled_from, next_of, kept_of, IsOrdered, IsSound, CanTake, NoneTakes, IsFirstToTake}
+use Rattle.lasso_parts.specs.Doubled.{AreDoubled, doubled_from, next_of, kept_of, IsOrdered, IsSound}
 use Rattle.lasso_parts.specs.Placements.{with_bucket, IsSpareAt, NeedsNew}
-use Rattle.lasso_parts.specs.Waste.{IsThriftySince, IsSpare, HasNoSpare}
-use Rattle.lasso_parts.proofs.Doubled.{next_hit, next_miss, next_grown, next_append, next_set, usage_doubled, part_filled, part_taken, spare_within, spare_emptied, doubled_set, spare_set, spare_taken, kept_doubled, kept_next}
+use Rattle.lasso_parts.specs.Waste.{IsThriftySince}
+use Rattle.lasso_parts.proofs.Doubled.{next_hit, next_miss, next_append, next_set, usage_doubled, part_taken, spare_emptied, doubled_set, spare_set, spare_taken, kept_doubled, kept_next}
 use Rattle.lasso_parts.proofs.Regions.{opened, filled, copied_emptied}
 use Rattle.lasso_parts.proofs.WastedSince.{since_fresh, since_with_limit, since_clear, since_current, since_spare, since_exact, since_remnant, since_doubled}
 
@@ -71,7 +69,7 @@ spare_kept_set : (k : ℕ) (xs : List Extent) (at : ℕ) (t : List ℕ) → (at 
 spare_kept_set k [] at t h = refl
 spare_kept_set k (x ∷ xs) zero t h = refl
 spare_kept_set k (x ∷ xs) (suc at) t h =
-    spare_set (k - 1) xs at t (elim h [ | inl e ↦ absurd (omega (arith, e)) | inr (inl low) ↦ inl (omega (arith, low)) | inr (inr none) ↦ inr none ])
+    spare_set (k - 1) xs at t (elim h [ inl e ↦ absurd (omega (arith, e)) | inr (inl low) ↦ inl (omega (arith, low)) | inr (inr none) ↦ inr none ])
 
 spare_taken_set : (k : ℕ) (xs : List Extent) (at : ℕ) (t : List ℕ) → 0 < at → at < k → at < length xs → length (region_at xs at).bytes ≡ 0 → 0 < length t
     → spare_in (slice_range (filled_at xs at t) 1 k) + (region_at xs at).capacity ≡ spare_in (slice_range xs 1 k)
@@ -119,7 +117,7 @@ current_sound a t sound some fits =
     record {
       order = order_set a a.current t order order.current (still_none a.all a.current a.kept t order.current order.filled some);
       thrift = moved (first_of a) (first_of (with_text a a.current t)) (copied_of a + length t) (copied_of (with_text a a.current t)) (most_of (with_text a a.current t)) _ _ (sym (first_set a.all a.current t)) (sym copied) (sym (current_account a t order))
-        (since_current (first_of a) (copied_of a) (most_of a) (most_of (with_text a a.current t)) (length t) (account_of a) (omega (arith, copied)) (omega (arith, copied)) fits sound.thrift);
+          (since_current (first_of a) (copied_of a) (most_of a) (most_of (with_text a a.current t)) (length t) (account_of a) (omega (arith, copied)) (omega (arith, copied)) fits sound.thrift);
     }
 
 pub spare_account : (a : Regions) (at : ℕ) (t : List ℕ) → IsOrdered a → 0 < length t → IsSpareAt a (length t) at → account_of (with_text a at t) ≡ store_in_spare (account_of a) (region_at a.all at).capacity (length t)
@@ -139,7 +137,7 @@ spare_sound a at t sound some full is =
     record {
       order = order_set a at t order inside (inr (inr (ap spare_part (get_or-set_same a.all at new no_region inside) ∙ part_taken (region_at a.all at) t some)));
       thrift = moved (first_of a) (first_of (with_text a at t)) (copied_of a + length t) (copied_of (with_text a at t)) (most_of (with_text a at t)) _ _ (sym (first_set a.all at t)) (sym copied) (sym (spare_account a at t order some is))
-        (since_spare (first_of a) (copied_of a) (most_of a) (most_of (with_text a at t)) (length t) (region_at a.all at).capacity (account_of a) (omega (arith, copied)) (omega (arith, copied)) full is.spare is.takes.1 sound.thrift);
+          (since_spare (first_of a) (copied_of a) (most_of a) (most_of (with_text a at t)) (length t) (region_at a.all at).capacity (account_of a) (omega (arith, copied)) (omega (arith, copied)) full is.spare is.takes.1 sound.thrift);
     }
 
 -- ---- a new region
@@ -201,9 +199,9 @@ exact_sound a p t sound long =
     let same : region_at (a.all ++ r ∷ []) a.current ≡ region_at a.all a.current = get_or_append_left a.all (r ∷ []) no_region a.current order.current in
     record {
       order = order_push a r a.current a.doubling order (next_miss (2 * a.doubling) r [] (λ e. omega (arith, e, long))) (omega (arith, order.current))
-        (elim order.filled [ | inl e ↦ inl e | inr (inl late) ↦ inr (inl late) | inr (inr none) ↦ inr (inr (ap spare_part same ∙ none)) ]);
+          (elim order.filled [ inl e ↦ inl e | inr (inl late) ↦ inr (inl late) | inr (inr none) ↦ inr (inr (ap spare_part same ∙ none)) ]);
       thrift = moved (first_of a) (first_of new) (copied_of a + length t) (copied_of new) (most_of new) _ _ (first_push a r a.current a.doubling order) (sym copied) (sym (exact_account a p t order))
-        (since_exact (first_of a) (copied_of a) (most_of a) (most_of new) (length t) (account_of a) (omega (arith, copied)) (omega (arith, copied)) sound.thrift);
+          (since_exact (first_of a) (copied_of a) (most_of a) (most_of new) (length t) (account_of a) (omega (arith, copied)) (omega (arith, copied)) sound.thrift);
     }
 
 -- a new region that becomes the current one
@@ -221,7 +219,7 @@ remnant_sound a p t size sound needs fits small =
     record {
       order = order_push a r (length a.all) a.doubling order (next_miss (2 * a.doubling) r [] (λ e. omega (arith, e, small))) (omega arith) (inr (inl order.kept.1));
       thrift = moved (first_of a) (first_of new) (copied_of a + length t) (copied_of new) (most_of new) _ _ (first_push a r (length a.all) a.doubling order) (sym copied) (sym (new_account a p t size a.doubling order))
-        (since_remnant (first_of a) (copied_of a) (most_of a) (most_of new) (length t) size (account_of a) (omega (arith, copied)) (omega (arith, copied)) needs.room needs.spare fits (omega (arith, small)) sound.thrift);
+          (since_remnant (first_of a) (copied_of a) (most_of a) (most_of new) (length t) size (account_of a) (omega (arith, copied)) (omega (arith, copied)) needs.room needs.spare fits (omega (arith, small)) sound.thrift);
     }
 
 pub doubled_sound : (a : Regions) (p : Ptr) (t : List ℕ) (size : ℕ) → IsSound a → NeedsNew a (length t) → length t ≤ size → size ≡ 2 * a.doubling → IsSound (with_region a (filled p t size) (length a.all) size)
@@ -231,11 +229,11 @@ doubled_sound a p t size sound needs fits is =
     let new = with_region a r (length a.all) size in
     let copied = copied_push a r in
     let account : with_bucket (record (account_of a) { doubling = size }) size (length t) ≡ record (account_of a) { room = 2 * a.doubling - length t; doubling = 2 * a.doubling; usage = (account_of a).usage + 2 * a.doubling } =
-        same_account (with_bucket (record (account_of a) { doubling = size }) size (length t)) (record (account_of a) { room = 2 * a.doubling - length t; doubling = 2 * a.doubling; usage = (account_of a).usage + 2 * a.doubling }) (omega (arith, is)) refl is (omega (arith, is)) refl in
+    same_account (with_bucket (record (account_of a) { doubling = size }) size (length t)) (record (account_of a) { room = 2 * a.doubling - length t; doubling = 2 * a.doubling; usage = (account_of a).usage + 2 * a.doubling }) (omega (arith, is)) refl is (omega (arith, is)) refl in
     record {
       order = order_push a r (length a.all) size order (next_hit (2 * a.doubling) r [] is ∙ ap (λ (n : ℕ). 2 * n) (sym is)) (omega arith) (inr (inl order.kept.1));
       thrift = moved (first_of a) (first_of new) (copied_of a + length t) (copied_of new) (most_of new) _ _ (first_push a r (length a.all) size order) (sym copied) (sym (new_account a p t size size order ∙ account))
-        (since_doubled (first_of a) (copied_of a) (most_of a) (most_of new) (length t) (account_of a) (omega (arith, copied)) (omega (arith, copied)) needs.room needs.spare (omega (arith, fits, is)) sound.thrift);
+          (since_doubled (first_of a) (copied_of a) (most_of a) (most_of new) (length t) (account_of a) (omega (arith, copied)) (omega (arith, copied)) needs.room needs.spare (omega (arith, fits, is)) sound.thrift);
     }
 
 -- ---- at first, another limit, and a clear
@@ -291,7 +289,7 @@ cleared_sound a sound =
     record {
       order = of a.all (omega (arith, order.kept.0, order.kept.1)) order.some order.next;
       thrift = subst (λ (m : ℕ). IsThriftySince (first_of (cleared a)) (copied_of (cleared a)) m (account_of (cleared a))) most
-        (moved (first_of a) (first_of (cleared a)) 0 (copied_of (cleared a)) (most_of a) _ _ (sym (cleared_first a)) (sym copied) (sym (cleared_account a order)) (since_clear (first_of a) (copied_of a) (most_of a) (account_of a) sound.thrift));
+          (moved (first_of a) (first_of (cleared a)) 0 (copied_of (cleared a)) (most_of a) _ _ (sym (cleared_first a)) (sym copied) (sym (cleared_account a order)) (since_clear (first_of a) (copied_of a) (most_of a) (account_of a) sound.thrift));
     }
   where
     of : (xs : List Extent) → 0 < length xs → 0 < (region_at xs 0).capacity → next_of (2 * (region_at xs 0).capacity) (drop 1 xs) ≡ 2 * a.doubling

@@ -2,13 +2,13 @@
 --
 -- The regions that the last clear made spares have twice, four times .. the first region's size, up to the doubling size of that time.
 -- The doubling size of now is that, or at least twice that; and then all spares have fewer bytes together.
-use Rattle.std.proofs.Common.{◌≡◌, ℕ, zero, suc, ◌+◌, ◌-◌, ◌*◌, ◌<◌, ◌≤◌, ◌⊎◌, inl, inr, List, [], ◌∷◌, ◌++◌, length, get_or, take, drop, Some, None, sym, ap, subst, refl, ◌∙◌, arith}
+use Rattle.std.proofs.Common.{◌≡◌, ℕ, zero, suc, ◌+◌, ◌-◌, ◌*◌, ◌<◌, ◌≤◌, ◌⊎◌, inl, inr, List, [], ◌∷◌, length, take, drop, Some, None, sym, ap, subst, refl, ◌∙◌, arith}
 use Rattle.std.specs.Prelude.{slice_range}
-use Rattle.std.proofs.lemmas.List.{get_or-take, take-append-drop, length-take-le, length-drop}
-use Rattle.lasso_parts.specs.Account.{Account, spare_for, smallest_spare}
+use Rattle.std.proofs.lemmas.List.{get_or-take, take-append-drop}
+use Rattle.lasso_parts.specs.Account.{spare_for, smallest_spare}
 use Rattle.lasso_parts.specs.Bucket.{Extent}
-use Rattle.lasso_parts.specs.Arena.{Regions, no_region, region_at, first_of, spare_in, spares_at_clear, spare_of, account_of, usage_of}
-use Rattle.lasso_parts.specs.Doubled.{AreDoubled, next_of, IsOrdered, CanTake, NoneTakes, IsFirstToTake}
+use Rattle.lasso_parts.specs.Arena.{Regions, no_region, region_at, first_of, spare_in, spares_at_clear, spare_of, account_of}
+use Rattle.lasso_parts.specs.Doubled.{next_of, IsOrdered, CanTake, NoneTakes, IsFirstToTake}
 use Rattle.lasso_parts.specs.Placements.{IsSpareAt}
 use Rattle.lasso_parts.specs.Waste.{IsSpare, HasNoSpare}
 use Rattle.lasso_parts.proofs.Doubled.{next_append, next_grown, usage_doubled, spare_within}
@@ -66,17 +66,17 @@ spare_found a n i order is =
     let spares = spare_within rs in
     let next = next_now a order in
     let spare : IsSpare (account_of a) (region_at a.all (i + 1)).capacity =
-        record {
-          part = omega (arith, apart.0, size);
-          apart = elim next [
-              | inl same ↦ elim apart.1 [
-                  | inl top ↦ inl (omega (arith, top, same, size))
-                  | inr (inl low) ↦ inr (inl (omega (arith, low, same)))
-                  | inr (inr both) ↦ inr (inr (omega (arith, both, same, size)))
-                ]
-              | inr more ↦ inr (inl (omega (arith, more, all, spares, some)))
-            ];
-        } in
+    record {
+      part = omega (arith, apart.0, size);
+      apart = elim next [
+        | inl same ↦ elim apart.1 [
+          | inl top ↦ inl (omega (arith, top, same, size))
+          | inr (inl low) ↦ inr (inl (omega (arith, low, same)))
+          | inr (inr both) ↦ inr (inr (omega (arith, both, same, size)))
+        ]
+        | inr more ↦ inr (inl (omega (arith, more, all, spares, some)))
+      ];
+    } in
     (record { after = omega arith; before = behind.1; takes = subst (CanTake n) behind.0 is.takes; spare = spare }, sym (search_is a n) ∙ found ∙ ap (λ (c : ℕ). Some c) size)
 
 pub none_found : (a : Regions) (n : ℕ) → IsOrdered a → NoneTakes n (spares_at_clear a) → HasNoSpare (account_of a) n × (spare_for (first_of a) (account_of a) n ≡ None)
@@ -85,9 +85,10 @@ none_found a n order none =
     let rs = spares_at_clear a in
     let some : 0 < z = omega (arith, order.some) in
     let all = usage_doubled z rs order.doubled in
-    let spares = spare_within rs in
-    (λ great. elim (next_now a order) [
+    let spares = spare_within rs in (
+      λ great. elim (next_now a order) [
         | inl same ↦ omega (arith, none_greatest n z rs some order.doubled none (omega (arith, great, same)), same)
         | inr more ↦ absurd (omega (arith, more, all, spares, some, great))
       ],
-    sym (search_is a n) ∙ found_none n (spare_of a) z 0 rs some some order.doubled (enough (spare_in rs) z some) none)
+      sym (search_is a n) ∙ found_none n (spare_of a) z 0 rs some some order.doubled (enough (spare_in rs) z some) none,
+    )

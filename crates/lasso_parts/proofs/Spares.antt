@@ -3,18 +3,17 @@
 --
 -- The regions are of sizes z, 2z, 4z, ... What is below z in the sum stands for smaller spares; the regions behind the first one add
 -- up to a multiple of 2z; so past the multiples of 2z the sum is what is below z and the first region's part.
-use Rattle.std.proofs.Common.{◌≡◌, ℕ, zero, suc, ◌+◌, ◌-◌, ◌*◌, ◌%◌, ◌<◌, ◌≤◌, ◌⊎◌, inl, inr, List, [], ◌∷◌, ◌++◌, length, get_or, take, drop, Option, Some, None, sym, ap, subst, refl, ◌∙◌, arith}
-use Rattle.std.specs.Prelude.{nat_le, ◌&&◌, Bool, true, false}
-use Rattle.std.proofs.lemmas.Grind.{common_steps}
+use Rattle.std.proofs.Common.{◌≡◌, ℕ, zero, suc, ◌+◌, ◌*◌, ◌%◌, ◌<◌, ◌≤◌, ◌⊎◌, inl, inr, List, [], ◌∷◌, length, Some, None, sym, ap, refl, ◌∙◌, arith}
+use Rattle.std.specs.Prelude.{nat_le, ◌&&◌, true, false}
 use Rattle.std.proofs.lemmas.Nat.{mod-mul-add}
 use Rattle.std.proofs.Math.Nat.{mod-eq_of_lt}
 use Rattle.std.proofs.lemmas.Bool.Decides.{nat_tests}
 use Rattle.std.proofs.lemmas.Bool.{cases_eq, cases_lt}
 use Rattle.lasso_parts.specs.Account.{smallest_spare, has_spare}
 use Rattle.lasso_parts.specs.Bucket.{Extent}
-use Rattle.lasso_parts.specs.Arena.{region_at, usage_of, spare_part, spare_in}
-use Rattle.lasso_parts.specs.Doubled.{AreDoubled, next_of, CanTake, CannotTake, IsFirstToTake, NoneTakes}
-use Rattle.lasso_parts.proofs.Doubled.{next_hit, next_grown, usage_doubled, part_within, part_empty, part_filled, spare_cons, spare_within, spare_multiple}
+use Rattle.lasso_parts.specs.Arena.{region_at, spare_part, spare_in}
+use Rattle.lasso_parts.specs.Doubled.{AreDoubled, next_of, CannotTake, IsFirstToTake, NoneTakes}
+use Rattle.lasso_parts.proofs.Doubled.{next_hit, part_within, part_empty, part_filled, spare_cons, spare_multiple}
 
 -- the sum past the multiples of twice the first size
 rest_at : (z low : ℕ) (r : Extent) (rs : List Extent) → 0 < z → low < z → AreDoubled z (r ∷ rs) → (low + spare_in (r ∷ rs)) % (2 * z) ≡ low + spare_part r
@@ -42,10 +41,10 @@ passed n z low sizes r rs some small h cannot =
     let rest = rest_at z low r rs some small h in
     let sum : low + spare_in (r ∷ rs) ≡ (low + spare_part r) + spare_in rs = omega (arith, spare_cons r rs) in
     let test : has_spare (low + spare_in (r ∷ rs)) z && nat_le n z ≡ false =
-        elim cannot [
-          | inl filled ↦ let none = part_filled r filled in grind (arith, nat_tests, rest, none, small)
-          | inr short ↦ grind (arith, nat_tests, short, h.0)
-        ] in
+    elim cannot [
+      | inl filled ↦ let none = part_filled r filled in grind (arith, nat_tests, rest, none, small)
+      | inr short ↦ grind (arith, nat_tests, short, h.0)
+    ] in
     rw test (ap (λ (s : ℕ). smallest_spare sizes (2 * z) s n) sum)
 
 -- below the sizes that are tried there is none
@@ -114,10 +113,10 @@ none_greatest n z (r ∷ x ∷ xs) some h none great =
     let sum = spare_cons r (x ∷ xs) in let hit = next_hit z r (x ∷ xs) h.0 in
     let part = part_within r in
     let all : next_of (2 * z) (x ∷ xs) ≤ 2 * spare_in (x ∷ xs) =
-        elim (cases_lt (2 * spare_in (x ∷ xs)) (next_of (2 * z) (x ∷ xs))) [
-          | inl low ↦ absurd (omega (arith, spare_short (2 * z) x xs h.1 low, sum, hit, part, h.0, great, some))
-          | inr high ↦ omega (arith, high)
-        ] in
+    elim (cases_lt (2 * spare_in (x ∷ xs)) (next_of (2 * z) (x ∷ xs))) [
+      | inl low ↦ absurd (omega (arith, spare_short (2 * z) x xs h.1 low, sum, hit, part, h.0, great, some))
+      | inr high ↦ omega (arith, high)
+    ] in
     let others = none_greatest n (2 * z) (x ∷ xs) (omega (arith, some)) h.1 (λ k inside. none (suc k) (omega (arith, inside))) all in
     omega (arith, hit, others)
 
@@ -130,18 +129,20 @@ first_apart n z (r ∷ []) zero some h is =
     (omega (arith, sum, part), inl (omega (arith, hit, h.0)))
 first_apart n z (r ∷ []) (suc i) some h is = absurd (omega (arith, is.inside))
 first_apart n z (r ∷ x ∷ xs) zero some h is =
-    let sum = spare_cons r (x ∷ xs) in let hit = next_hit z r (x ∷ xs) h.0 in let part = part_empty r is.takes.0 in
-    (omega (arith, sum, part),
-    inr (elim (cases_lt (2 * spare_in (x ∷ xs)) (next_of (2 * z) (x ∷ xs))) [
-      | inl low ↦ inl (omega (arith, spare_short (2 * z) x xs h.1 low, sum, hit, part, h.0, some))
-      | inr high ↦ inr (omega (arith, high, sum, hit, part, h.0))
-    ]))
+    let sum = spare_cons r (x ∷ xs) in let hit = next_hit z r (x ∷ xs) h.0 in let part = part_empty r is.takes.0 in (
+      omega (arith, sum, part),
+      inr (elim (cases_lt (2 * spare_in (x ∷ xs)) (next_of (2 * z) (x ∷ xs))) [
+        | inl low ↦ inl (omega (arith, spare_short (2 * z) x xs h.1 low, sum, hit, part, h.0, some))
+        | inr high ↦ inr (omega (arith, high, sum, hit, part, h.0))
+      ]),
+    )
 first_apart n z (r ∷ x ∷ xs) (suc i) some h is =
     let sum = spare_cons r (x ∷ xs) in let hit = next_hit z r (x ∷ xs) h.0 in let part = part_within r in
-    let others = first_apart n (2 * z) (x ∷ xs) i (omega (arith, some)) h.1 (later n r (x ∷ xs) i is) in
-    (omega (arith, sum, others.0),
-    elim others.1 [
-      | inl top ↦ inl (omega (arith, top, hit))
-      | inr (inl low) ↦ inr (inl (omega (arith, spare_short (2 * z) x xs h.1 low, sum, hit, part, h.0, some)))
-      | inr (inr high) ↦ inr (inr (omega (arith, high, sum, hit)))
-    ])
+    let others = first_apart n (2 * z) (x ∷ xs) i (omega (arith, some)) h.1 (later n r (x ∷ xs) i is) in (
+      omega (arith, sum, others.0),
+      elim others.1 [
+        | inl top ↦ inl (omega (arith, top, hit))
+        | inr (inl low) ↦ inr (inl (omega (arith, spare_short (2 * z) x xs h.1 low, sum, hit, part, h.0, some)))
+        | inr (inr high) ↦ inr (inr (omega (arith, high, sum, hit)))
+      ],
+    )

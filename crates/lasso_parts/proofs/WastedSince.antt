@@ -5,9 +5,7 @@
 -- without room, or was a spare too small for the text; so more bytes were copied in since the clear than that bucket has. The
 -- first bucket and the doubled ones take less than twice the doubling size. Buckets of exact size are full, and remnants that were
 -- left add up to less than twice the bytes. Linear facts say so, and each case of storing and a clear keep them.
-use Rattle.std.proofs.Common.{◌≡◌, ℕ, ◌+◌, ◌-◌, ◌*◌, ◌<◌, ◌≤◌, ◌⊎◌, inl, inr, arith}
-use Rattle.std.specs.Prelude.{max, min}
-use Rattle.std.proofs.lemmas.Grind.{common_steps}
+use Rattle.std.proofs.Common.{ℕ, ◌+◌, ◌-◌, ◌*◌, ◌<◌, ◌≤◌, arith}
 use Rattle.lasso_parts.specs.Account.{Account, fresh, with_limit, clear, store_in_current, store_in_spare, store_in_doubled}
 use Rattle.lasso_parts.specs.Waste.{IsThriftySince, IsSpare, HasNoSpare}
 

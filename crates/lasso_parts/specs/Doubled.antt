@@ -3,7 +3,7 @@
 --
 -- A clear keeps the first region and each one that is twice as large as the last one kept before it. A region of exact
 -- size has more than twice the doubling size, and a remnant fewer, so these are the doubled ones.
-use Rattle.std.specs.Prelude.{◌≡◌, ℕ, ◌+◌, ◌-◌, ◌*◌, ◌<◌, ◌≤◌, ◌⊎◌, nat_eq, if◌then◌else◌, List, [], ◌∷◌, length, drop}
+use Rattle.std.specs.Prelude.{◌≡◌, ℕ, ◌*◌, ◌<◌, ◌≤◌, ◌⊎◌, nat_eq, if◌then◌else◌, List, [], ◌∷◌, length, drop}
 use Rattle.lasso_parts.specs.Bucket.{Extent}
 use Rattle.lasso_parts.specs.Arena.{Regions, region_at, first_of, copied_of, most_of, account_of, spares_at_clear, spare_part}
 use Rattle.lasso_parts.specs.Waste.{IsThriftySince}

@@ -134,10 +134,7 @@ impl<A: Allocator + Clone> OwnedRegions<A> {
 
 // Puts the first region and the doubled ones in front, in their order, each beside its right, and answers
 // how many they are.
-fn gather_kept<A: Allocator>(
-    regions: &mut Vec<Region, A>,
-    rights: &mut Vec<Right<A>, A>,
-) -> usize
+fn gather_kept<A: Allocator>(regions: &mut Vec<Region, A>, rights: &mut Vec<Right<A>, A>) -> usize
     requires some { 0 < length regions.old.items }
     requires joined { rights.old.items ≡ map block_of regions.old.items }
     ensures kept { take result regions.new.items ≡ kept_of regions.old.items }
@@ -159,11 +156,7 @@ fn gather_kept<A: Allocator>(
 }
 
 // Frees the regions from that position on.
-fn free_from<A: Allocator>(
-    regions: &mut Vec<Region, A>,
-    rights: &mut Vec<Right<A>, A>,
-    kept: usize,
-)
+fn free_from<A: Allocator>(regions: &mut Vec<Region, A>, rights: &mut Vec<Right<A>, A>, kept: usize)
     requires joined { rights.old.items ≡ map block_of regions.old.items }
     requires count { kept ≤ length regions.old.items }
     ensures kept { regions.new.items ≡ take kept regions.old.items }

@@ -1,10 +1,10 @@
 use Rattle.std.proofs.Common.{◌≡◌, ◌∙◌, ◌<◌, length, get_or, sym, ap, subst, refl, List, arith}
 use Rattle.std.specs.Prelude.{max}
 use Rattle.lasso_parts.specs.Account.{Account, clear}
-use Rattle.lasso_parts.specs.Arena.{Regions, account_of, first_of, copied_of, most_of, usage_of, region_at}
+use Rattle.lasso_parts.specs.Arena.{Regions, account_of, first_of, copied_of, most_of, usage_of}
 use Rattle.lasso_parts.specs.Bucket.{Extent}
 use Rattle.lasso_parts.specs.Doubled.{IsSound}
-use Rattle.lasso_parts.proofs.RegionOrder.{cleared, cleared_account, cleared_copied, cleared_first, cleared_sound}
+use Rattle.lasso_parts.proofs.RegionOrder.{cleared, cleared_account, cleared_copied, cleared_sound}
 use Rattle.lasso_parts.proofs.Gathered.{read_is}
 use Rattle.lasso_parts.proofs.arena.Arena.clear.Goals as goal
 

@@ -1,4 +1,4 @@
-use Rattle.std.proofs.Common.{◌≡◌, ◌∙◌, ◌+◌, sym, ap, subst, length, List, Some, None, refl}
+use Rattle.std.proofs.Common.{◌≡◌, ◌+◌, subst, List, Some, None, refl}
 use Rattle.std.specs.Prelude.{slice_range}
 use Rattle.lasso_parts.specs.Account.{spare_for}
 use Rattle.lasso_parts.specs.Arena.{Regions, account_of, first_of, region_at}

@@ -13,9 +13,10 @@ invariant_of-self g c =
     let i = c.self.inside in
     let a : Regions = record { all = i.regions; current = i.current; kept = i.kept; doubling = i.doubling; limit = i.limit; most = i.most } in
     let place = subst (λ (v : Regions). IsPlacementFor v (length c.args.text.now) Current) (sym c.self.view_is) c.requires.place in
-    let pushed = c.push_text-start.ensures.pushed in
-    (c.self.invariant.0 ∙ sym (usage_set i.regions i.current c.args.text.now) ∙ ap usage_of (sym pushed),
-    subst (λ (l : List Extent). IsSound (record a { all = l })) (sym pushed) (current_sound a c.args.text.now c.self.invariant.1 c.requires.some place.0))
+    let pushed = c.push_text-start.ensures.pushed in (
+      c.self.invariant.0 ∙ sym (usage_set i.regions i.current c.args.text.now) ∙ ap usage_of (sym pushed),
+      subst (λ (l : List Extent). IsSound (record a { all = l })) (sym pushed) (current_sound a c.args.text.now c.self.invariant.1 c.requires.some place.0),
+    )
 
 pub returns-clause-account : goal.returns-clause-account
 returns-clause-account g c =

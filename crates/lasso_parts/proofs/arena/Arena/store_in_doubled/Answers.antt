@@ -1,5 +1,4 @@
-use Rattle.std.proofs.Common.{◌≡◌, ◌∙◌, ◌+◌, ℕ, sym, ap, subst, refl, true, List, length}
-use Rattle.lasso_parts.specs.Account.{Account}
+use Rattle.std.proofs.Common.{◌∙◌, ◌+◌, ℕ, sym, ap, subst, refl, true, List, length}
 use Rattle.lasso_parts.specs.Arena.{Regions, account_of, usage_of}
 use Rattle.lasso_parts.specs.Bucket.{Extent}
 use Rattle.lasso_parts.specs.Doubled.{IsSound}
@@ -16,10 +15,11 @@ invariant_of-self-2 g c =
     let a : Regions = record { all = i.regions; current = i.current; kept = i.kept; doubling = i.doubling; limit = i.limit; most = i.most } in
     let place = subst (λ (v : Regions). IsPlacementFor v (length t) (Doubled c.args.size)) (sym c.self.view_is) c.requires.place in
     let added = c.in_ok-push_filled.ensures.added (refl {a = true}) in
-    let sound = doubled_sound a added.0 t c.args.size c.self.invariant.1 place.0 place.1 place.2 in
-    (ap (λ (u : ℕ). u + c.args.size) c.self.invariant.0 ∙ sym (usage_push a (filled added.0 t c.args.size)) ∙ ap usage_of (sym added.1),
-    subst (λ (n : ℕ). IsSound (record a { all = c.push_filled.new.self; current = n; doubling = c.args.size })) (sym (ap length c.as_slice-region.ensures))
-      (subst (λ (l : List Extent). IsSound (record a { all = l; current = length i.regions; doubling = c.args.size })) (sym added.1) sound))
+    let sound = doubled_sound a added.0 t c.args.size c.self.invariant.1 place.0 place.1 place.2 in (
+      ap (λ (u : ℕ). u + c.args.size) c.self.invariant.0 ∙ sym (usage_push a (filled added.0 t c.args.size)) ∙ ap usage_of (sym added.1),
+      subst (λ (n : ℕ). IsSound (record a { all = c.push_filled.new.self; current = n; doubling = c.args.size })) (sym (ap length c.as_slice-region.ensures))
+          (subst (λ (l : List Extent). IsSound (record a { all = l; current = length i.regions; doubling = c.args.size })) (sym added.1) sound),
+    )
 
 pub returns-clause-account : goal.returns-clause-account
 returns-clause-account g c _ =
@@ -30,6 +30,6 @@ returns-clause-account g c _ =
     let added = c.in_ok-push_filled.ensures.added (refl {a = true}) in
     let new : Regions = record a { all = c.push_filled.new.self; current = length c.as_slice-region.result.now; doubling = c.args.size } in
     let account = sym (new_account a added.0 t c.args.size c.args.size c.self.invariant.1.order)
-      ∙ ap (λ (l : List Extent). account_of (record a { all = l; current = length i.regions; doubling = c.args.size })) (sym added.1)
-      ∙ ap (λ (n : ℕ). account_of (record a { all = c.push_filled.new.self; current = n; doubling = c.args.size })) (sym (ap length c.as_slice-region.ensures)) in
+    ∙ ap (λ (l : List Extent). account_of (record a { all = l; current = length i.regions; doubling = c.args.size })) (sym added.1)
+    ∙ ap (λ (n : ℕ). account_of (record a { all = c.push_filled.new.self; current = n; doubling = c.args.size })) (sym (ap length c.as_slice-region.ensures)) in
     subst (λ (v : Regions). StoresTo v (length t) (account_of new)) c.self.view_is (subst (StoresTo a (length t)) account place.4)

@@ -1,5 +1,4 @@
-use Rattle.std.proofs.Common.{◌≡◌, ◌∙◌, ◌+◌, ◌++◌, ◌∷◌, [], ℕ, sym, ap, subst, refl, true, List, length}
-use Rattle.lasso_parts.specs.Account.{Account}
+use Rattle.std.proofs.Common.{◌∙◌, ◌+◌, ℕ, sym, ap, subst, refl, true, List, length}
 use Rattle.lasso_parts.specs.Arena.{Regions, account_of, usage_of}
 use Rattle.lasso_parts.specs.Bucket.{Extent}
 use Rattle.lasso_parts.specs.Doubled.{IsSound}
@@ -16,9 +15,10 @@ invariant_of-self-2 g c =
     let a : Regions = record { all = i.regions; current = i.current; kept = i.kept; doubling = i.doubling; limit = i.limit; most = i.most } in
     let place = subst (λ (v : Regions). IsPlacementFor v (length t) Exact) (sym c.self.view_is) c.requires.place in
     let added = c.in_ok-push_filled.ensures.added (refl {a = true}) in
-    let sound = exact_sound a added.0 t c.self.invariant.1 place.1 in
-    (ap (λ (u : ℕ). u + length t) c.self.invariant.0 ∙ sym (usage_push a (filled added.0 t (length t))) ∙ ap usage_of (sym added.1),
-    subst (λ (l : List Extent). IsSound (record a { all = l })) (sym added.1) sound)
+    let sound = exact_sound a added.0 t c.self.invariant.1 place.1 in (
+      ap (λ (u : ℕ). u + length t) c.self.invariant.0 ∙ sym (usage_push a (filled added.0 t (length t))) ∙ ap usage_of (sym added.1),
+      subst (λ (l : List Extent). IsSound (record a { all = l })) (sym added.1) sound,
+    )
 
 pub returns-clause-account : goal.returns-clause-account
 returns-clause-account g c _ =

@@ -1,4 +1,4 @@
-use Rattle.std.proofs.Common.{◌≡◌, ◌∙◌, sym, ap, subst, List, length, arith}
+use Rattle.std.proofs.Common.{◌≡◌, ◌∙◌, sym, ap, subst, List, length}
 use Rattle.lasso_parts.specs.Account.{store_in_spare}
 use Rattle.lasso_parts.specs.Arena.{Regions, account_of, usage_of, region_at}
 use Rattle.lasso_parts.specs.Bucket.{Extent}
@@ -13,9 +13,10 @@ invariant_of-self g c =
     let i = c.self.inside in
     let a : Regions = record { all = i.regions; current = i.current; kept = i.kept; doubling = i.doubling; limit = i.limit; most = i.most } in
     let place = subst (λ (v : Regions). IsPlacementFor v (length c.args.text.now) (Spare c.args.at)) (sym c.self.view_is) c.requires.place in
-    let pushed = c.push_text-start.ensures.pushed in
-    (c.self.invariant.0 ∙ sym (usage_set i.regions c.args.at c.args.text.now) ∙ ap usage_of (sym pushed),
-    subst (λ (l : List Extent). IsSound (record a { all = l; current = c.args.at })) (sym pushed) (spare_sound a c.args.at c.args.text.now c.self.invariant.1 c.requires.some place.0 place.1))
+    let pushed = c.push_text-start.ensures.pushed in (
+      c.self.invariant.0 ∙ sym (usage_set i.regions c.args.at c.args.text.now) ∙ ap usage_of (sym pushed),
+      subst (λ (l : List Extent). IsSound (record a { all = l; current = c.args.at })) (sym pushed) (spare_sound a c.args.at c.args.text.now c.self.invariant.1 c.requires.some place.0 place.1),
+    )
 
 pub returns-clause-account : goal.returns-clause-account
 returns-clause-account g c =

@@ -1,4 +1,4 @@
-use Rattle.std.proofs.Common.{◌≡◌, ◌≤◌, ◌<◌, map, length}
+use Rattle.std.proofs.Common.{◌≡◌, ◌≤◌, map, length}
 use Rattle.lasso_parts.specs.Bucket.{block_of}
 use Rattle.lasso_parts.specs.Doubled.{kept_of}
 use Rattle.lasso_parts.proofs.Gathered.{gathered}

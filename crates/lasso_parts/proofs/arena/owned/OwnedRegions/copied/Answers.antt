@@ -1,4 +1,4 @@
-use Rattle.std.proofs.Common.{◌≡◌, ◌∙◌, arith, ap}
+use Rattle.std.proofs.Common.{◌∙◌, arith, ap}
 use Rattle.lasso_parts.specs.Arena.{usage_of}
 use Rattle.lasso_parts.proofs.Gathered.{usage_fits}
 use Rattle.lasso_parts.proofs.arena.owned.OwnedRegions.copied.Goals as goal
