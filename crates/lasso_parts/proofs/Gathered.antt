@@ -1,7 +1,7 @@
--- What a clear keeps, gathered at the front of the list by exchanging two places at a time.
+-- What a clear keeps, gathered at the front of the list by exchanging two of them at a time.
 --
 -- At each step what is gathered, and what is kept of the rest behind it, are the kept regions of the whole list. An exchange
--- puts the region in hand behind those gathered, and a region that is not kept in its place, which the walk has passed.
+-- puts the region in hand behind those gathered, and a region that is not kept where it stood, which the walk has passed.
 use Rattle.std.proofs.Common.{◌≡◌, ℕ, zero, suc, ◌+◌, ◌*◌, ◌<◌, ◌≤◌, inl, inr, List, [], ◌∷◌, ◌++◌, length, get_or, set, take, drop, map, sym, ap, subst, refl, ◌∙◌, arith, append_assoc}
 use Rattle.std.proofs.lemmas.Bool.{cases_eq}
 use Rattle.std.proofs.lemmas.List.{take-set, take-set-le, take_more_set, drop-set-lt, drop_more, map-set, length-set, length-map, append-nil}
@@ -27,7 +27,7 @@ pub gathered_pass : (ys : List Extent) (kept last at : ℕ) → at < length ys �
 gathered_pass ys kept last at inside ne =
     ap (λ (l : List Extent). take kept ys ++ l) (sym (ap (doubled_from (2 * last)) (drop_more ys at no_region inside) ∙ from_miss (2 * last) (region_at ys at) (drop (at + 1) ys) ne))
 
--- exchanged places
+-- two exchanged
 swap_take : (ys : List Extent) (kept at : ℕ) → kept ≤ at → at < length ys → take (kept + 1) (swap ys kept at) ≡ take kept ys ++ region_at ys at ∷ []
 swap_take ys kept at below inside =
     let x = region_at ys kept in let y = region_at ys at in

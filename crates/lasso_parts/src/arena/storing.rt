@@ -1,4 +1,4 @@
-//! A text stored in an arena once its place is known.
+//! A text stored in an arena once its placement is known.
 ghost use Rattle.std.specs.Prelude.{◌≡◌, ◌+◌, ◌<◌, ◌≤◌, ◌++◌, [], ◌∷◌, length, slice_set, IfOk, IfErr, IsOk, OnErr, Some};
 ghost use denote.RawPtr.{Ptr};
 ghost use Rattle.lasso_parts.specs.Arena.{account_of, first_of, copied_of, region_at, with_bytes};
@@ -15,7 +15,7 @@ impl<A: Allocator> Arena<A> {
     #[inline]
     pub(super) fn store_in_current(&mut self, text: &str) -> Span
         requires some { 0 < length text.now }
-        requires place { IsPlacementFor self.old (length text.now) Current }
+        requires placement { IsPlacementFor self.old (length text.now) Current }
         ensures account { StoresTo self.old (length text.now) (account_of self.new) }
         ensures text { self.new ≡ record self.old { all = slice_set self.old.all self.old.current (with_bytes (region_at self.old.all self.old.current) text.now) } }
         ensures span { result ≡ record { region = self.old.current; start = length (region_at self.old.all self.old.current).bytes; len = length text.now } }
@@ -31,7 +31,7 @@ impl<A: Allocator> Arena<A> {
     /// Copies a text into the spare at that position, which becomes the current region.
     pub(super) fn store_in_spare(&mut self, at: usize, text: &str) -> Span
         requires some { 0 < length text.now }
-        requires place { IsPlacementFor self.old (length text.now) (Spare at) }
+        requires placement { IsPlacementFor self.old (length text.now) (Spare at) }
         ensures account { StoresTo self.old (length text.now) (account_of self.new) }
         ensures text { self.new ≡ record self.old { all = slice_set self.old.all at (with_bytes (region_at self.old.all at) text.now); current = at } }
         ensures span { result ≡ record { region = at; start = length (region_at self.old.all at).bytes; len = length text.now } }
@@ -51,7 +51,7 @@ impl<A: Allocator + Clone> Arena<A> {
     /// Copies a text into a new region of just its bytes, which does not become the current one.
     pub(super) fn store_in_exact(&mut self, text: &str) -> LassoResult<Span>
         requires some { 0 < length text.now }
-        requires place { IsPlacementFor self.old (length text.now) Exact }
+        requires placement { IsPlacementFor self.old (length text.now) Exact }
         ensures account { IsOk result → StoresTo self.old (length text.now) (account_of self.new) }
         ensures text { IsOk result → (at : Ptr) × (self.new ≡ record self.old { all = self.old.all ++ record { at = at; bytes = text.now; capacity = length text.now } ∷ [] }) }
         ensures span { IfOk result (λ span. span ≡ record { region = length self.old.all; start = 0; len = length text.now }) }
@@ -72,7 +72,7 @@ impl<A: Allocator + Clone> Arena<A> {
     /// Copies a text into a new region of what the limit leaves, which becomes the current one.
     pub(super) fn store_in_remnant(&mut self, size: usize, text: &str) -> LassoResult<Span>
         requires some { 0 < length text.now }
-        requires place { IsPlacementFor self.old (length text.now) (Remnant size) }
+        requires placement { IsPlacementFor self.old (length text.now) (Remnant size) }
         ensures account { IsOk result → StoresTo self.old (length text.now) (account_of self.new) }
         ensures text { IsOk result → (at : Ptr) × (self.new ≡ record self.old { all = self.old.all ++ record { at = at; bytes = text.now; capacity = size } ∷ []; current = length self.old.all }) }
         ensures span { IfOk result (λ span. span ≡ record { region = length self.old.all; start = 0; len = length text.now }) }
@@ -94,7 +94,7 @@ impl<A: Allocator + Clone> Arena<A> {
     /// the doubling size.
     pub(super) fn store_in_doubled(&mut self, size: usize, text: &str) -> LassoResult<Span>
         requires some { 0 < length text.now }
-        requires place { IsPlacementFor self.old (length text.now) (Doubled size) }
+        requires placement { IsPlacementFor self.old (length text.now) (Doubled size) }
         ensures account { IsOk result → StoresTo self.old (length text.now) (account_of self.new) }
         ensures text { IsOk result → (at : Ptr) × (self.new ≡ record self.old { all = self.old.all ++ record { at = at; bytes = text.now; capacity = size } ∷ []; current = length self.old.all; doubling = size }) }
         ensures span { IfOk result (λ span. span ≡ record { region = length self.old.all; start = 0; len = length text.now }) }

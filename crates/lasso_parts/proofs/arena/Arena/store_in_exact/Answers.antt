@@ -13,9 +13,9 @@ invariant_of-self-2 g c =
     let i = c.self.inside in
     let t = c.args.text.now in
     let a : Regions = record { all = i.regions; current = i.current; kept = i.kept; doubling = i.doubling; limit = i.limit; most = i.most } in
-    let place = subst (λ (v : Regions). IsPlacementFor v (length t) Exact) (sym c.self.view_is) c.requires.place in
+    let placement = subst (λ (v : Regions). IsPlacementFor v (length t) Exact) (sym c.self.view_is) c.requires.placement in
     let added = c.in_ok-push_filled.ensures.added (refl {a = true}) in
-    let sound = exact_sound a added.0 t c.self.invariant.1 place.1 in (
+    let sound = exact_sound a added.0 t c.self.invariant.1 placement.1 in (
       ap (λ (u : ℕ). u + length t) c.self.invariant.0 ∙ sym (usage_push a (filled added.0 t (length t))) ∙ ap usage_of (sym added.1),
       subst (λ (l : List Extent). IsSound (record a { all = l })) (sym added.1) sound,
     )
@@ -25,8 +25,8 @@ returns-clause-account g c _ =
     let i = c.self.inside in
     let t = c.args.text.now in
     let a : Regions = record { all = i.regions; current = i.current; kept = i.kept; doubling = i.doubling; limit = i.limit; most = i.most } in
-    let place = subst (λ (v : Regions). IsPlacementFor v (length t) Exact) (sym c.self.view_is) c.requires.place in
+    let placement = subst (λ (v : Regions). IsPlacementFor v (length t) Exact) (sym c.self.view_is) c.requires.placement in
     let added = c.in_ok-push_filled.ensures.added (refl {a = true}) in
     let new : Regions = record a { all = c.push_filled.new.self } in
     let account = sym (exact_account a added.0 t c.self.invariant.1.order) ∙ ap (λ (l : List Extent). account_of (record a { all = l })) (sym added.1) in
-    subst (λ (v : Regions). StoresTo v (length t) (account_of new)) c.self.view_is (subst (StoresTo a (length t)) account place.3)
+    subst (λ (v : Regions). StoresTo v (length t) (account_of new)) c.self.view_is (subst (StoresTo a (length t)) account placement.3)
