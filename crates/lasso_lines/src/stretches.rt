@@ -2,7 +2,7 @@
 ghost use Rattle.std.specs.Prelude.{◌≡◌, ℕ, ◌+◌, ◌-◌, ◌<◌, ◌++◌, [], OnOk, IfOk, IfErr, MatchResult, IsUtf8, drop, length, take};
 ghost use Rattle.memchr.specs.Find.{IsFirstByte, is_byte};
 ghost use Rattle.lasso_lines.specs.Stream.{Grows, OnlyGrows, written};
-ghost use Rattle.lasso_lines.specs.Report.{holding};
+ghost use Rattle.lasso_lines.specs.Report.{holding, first_bytes};
 ghost use Rattle.lasso_lines.specs.Answer.{AnswersLine, IsAnswerFault, failed_writes};
 ghost use Rattle.lasso_lines.specs.Stretch.{NoFeed, LeadsTo, FailsWith};
 ghost use Rattle.lasso_lines.specs.declared.fault.RunFault.TheVariants.{Refused};
@@ -28,6 +28,8 @@ pub(crate) fn answer_stretch<R: Wait, O: ByteWriter>(
 ) -> Result<u64, RunFault>
     requires no_feed { NoFeed begun.old.items }
     requires counted { 0 < number }
+    requires first { rodeo.old.first ≡ first_bytes }
+    ensures first { rodeo.new.first ≡ first_bytes }
     ensures failures { O.failures writer.new ≡ O.failures writer.old + failed_writes result }
     ensures delivered { OnlyGrows (O.delivered writer.old) (O.delivered writer.new) }
     ensures answers { Grows (written (O.delivered writer.old) (O.pending writer.old)) (written (O.delivered writer.new) (O.pending writer.new))
@@ -63,7 +65,9 @@ fn answer_lines<'a, R: Wait, O: ByteWriter>(
     number: u64,
     writer: &mut O,
 ) -> Result<(u64, &'a [u8]), RunFault>
-    requires { 0 < number }
+    requires counted { 0 < number }
+    requires first { rodeo.old.first ≡ first_bytes }
+    ensures first { rodeo.new.first ≡ first_bytes }
     ensures failures { O.failures writer.new ≡ O.failures writer.old + failed_writes result }
     ensures delivered { OnlyGrows (O.delivered writer.old) (O.delivered writer.new) }
     ensures answers { Grows (written (O.delivered writer.old) (O.pending writer.old)) (written (O.delivered writer.new) (O.pending writer.new))
@@ -151,6 +155,8 @@ fn answer_held<O: ByteWriter>(
     number: u64,
     writer: &mut O,
 ) -> Result<(), RunFault>
+    requires { rodeo.old.first ≡ first_bytes }
+    ensures first { rodeo.new.first ≡ first_bytes }
     ensures failures { O.failures writer.new ≡ O.failures writer.old + failed_writes result }
     ensures delivered { OnlyGrows (O.delivered writer.old) (O.delivered writer.new) }
     ensures answers { Grows (written (O.delivered writer.old) (O.pending writer.old)) (written (O.delivered writer.new) (O.pending writer.new))

@@ -1,6 +1,7 @@
 //! `Rodeo`, the interner for one thread.
 ghost use Rattle.std.specs.Prelude.{◌≡◌, ◌==◌, ◌+◌, ◌*◌, ◌<◌, ◌≤◌, false, length, Some, is_some, IsTrue, ◌↔◌, slice_get, option_map};
 ghost use Rattle.lasso_parts.specs.Texts.{position_of, key_of, IsDistinct, Fits};
+ghost use Rattle.lasso_single.specs.Interner.{most_copied};
 
 mod changes;
 mod clones;
@@ -23,8 +24,8 @@ use std::marker::Model;
 
 /// An interner for one thread: a list of distinct texts, in which a text at position n has the key of
 /// number n, and beside it an account of the memory that the texts take. Contracts see the texts, the
-/// account, the bytes of the first bucket, the bytes copied in since the last clear, and whether there
-/// was one.
+/// account, the bytes of the first bucket, the bytes copied in since the last clear, the most that were
+/// copied in between two clears so far, and whether there was a clear.
 pub struct Rodeo<K: Key, S: BuildHasher, A: Allocator> {
     list: TextList<A>,
     index: Index<K, A>,
@@ -202,8 +203,10 @@ impl<K: Key, S: BuildHasher, A: Allocator> Rodeo<K, S, A> {
         self.list.max_memory_usage()
     }
 
-    /// The bytes that all buckets take. Where the interner was never cleared, that is at most the first
-    /// bucket and four times the bytes copied in, whatever limits were set between.
+    /// The bytes that all buckets take. They are at most the first bucket and eight times the most bytes
+    /// that were copied in between two clears, whatever limits were set; the time before the first clear and
+    /// that after the last count too, and a copy over this interner counts as a clear. Where it was never
+    /// cleared, they are at most the first bucket and four times the bytes copied in.
     ///
     /// ```rust
     /// let mut rodeo: SpurRodeo = Rodeo::with_capacity(rt.alloc(), Capacity::for_bytes(10))?;
@@ -214,6 +217,7 @@ impl<K: Key, S: BuildHasher, A: Allocator> Rodeo<K, S, A> {
     /// ```
     pub fn current_memory_usage(&self) -> usize
         ensures usage { result ≡ self.now.account.usage }
+        ensures bound { result ≤ self.now.first + 8 * most_copied self.now }
         ensures waste { self.now.is_cleared ≡ false → result ≤ self.now.first + 4 * self.now.copied }
     {
         self.list.memory_usage()

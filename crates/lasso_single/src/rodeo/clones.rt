@@ -70,10 +70,10 @@ impl<K: Key, S: BuildHasher + Clone, A: Allocator + Clone> Rodeo<K, S, A> {
         self.try_clone()
     }
 
-    /// Forgets every text, and copies those of the source here under the same keys, static ones too, into
-    /// this interner's own buckets and under its own limit. Its index then asks a clone of the source's
-    /// hasher. Where the limit has no room for a text, or memory is wanting, it stops there and forgets
-    /// the texts again: there is no text then, and the buckets stay.
+    /// Forgets every text, as `clear` does, and copies those of the source here under the same keys, static
+    /// ones too, into this interner's own buckets and under its own limit. Its index then asks a clone of the
+    /// source's hasher. Where the limit has no room for a text, or memory is wanting, it stops there and
+    /// clears again: there is no text then. The bytes copied count as after a clear.
     ///
     /// ```rust
     /// let rodeo: SpurRodeo = Rodeo::from_iter(rt.alloc(), ["red", "green"])?;
