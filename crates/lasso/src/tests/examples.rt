@@ -1,10 +1,11 @@
-//! The examples of the front page; below it those in the documents of the calls for one thread, where each stands
+//! The examples of the front page; below it those in the documents of the calls, where each stands
 //! in a test as it is there.
 mod frozen;
 mod looking_up;
 mod making;
 mod own_key;
 mod parts;
+mod shared;
 mod walks;
 
 use crate::interface::Interner;
