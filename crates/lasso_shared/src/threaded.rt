@@ -60,7 +60,7 @@ impl<K: Key, S: BuildHasher + Drop> Fits for Desk<K, S> {
 /// known of its history is in the passes.
 ///
 /// ```rust
-/// let rodeo: ThreadedRodeo<Spur, FixedState> = ThreadedRodeo::default(rt.alloc())?;
+/// let rodeo: SpurThreadedRodeo = ThreadedRodeo::default(rt.alloc())?;
 /// let mut pass = rodeo.pass();
 /// let key = rodeo.try_get_or_intern_static_as(&rt, &mut pass, "Hello, world!")?;
 /// assert_eq!(rt; rodeo.try_resolve_as(&mut pass, key), Some("Hello, world!"));
@@ -118,8 +118,8 @@ impl<K: Key, S: BuildHasher + Drop> ThreadedRodeo<K, S> {
     /// number. It is refused for want of memory alone.
     ///
     /// ```rust
-    /// let rodeo: ThreadedRodeo<Spur, FixedState> =
-    ///     ThreadedRodeo::with_hasher(rt.alloc(), FixedState::new())?;
+    /// let hasher = FixedState::new();
+    /// let rodeo: SpurThreadedRodeo = ThreadedRodeo::with_hasher(rt.alloc(), hasher)?;
     /// let mut pass = rodeo.pass();
     /// assert_eq!(rt; rodeo.try_resolve_as(&mut pass, Spur::default()), None);
     /// ```
