@@ -99,7 +99,7 @@ fn next_feed(bytes: &[u8]) -> Option<usize>
     memchr_iter(b'\n', bytes).next()
 }
 
-// The bytes behind the one at this place.
+// The bytes behind the one at this position.
 #[inline]
 fn behind(bytes: &[u8], at: usize) -> &[u8]
     requires { at < length bytes.now }

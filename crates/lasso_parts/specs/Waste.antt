@@ -24,11 +24,11 @@ pub record IsThriftySince (first copied most : ℕ) (a : Account) : Type 0 where
   -- the greatest kept bucket is a spare, or was filled or left since the clear
   pub greatest : a.doubling ≤ max a.spare (copied + a.room)
 
--- a spare of that size: the spares have different sizes, of which the greatest possible is the doubling size
+-- what follows of the size of a spare: the spares have different sizes, of which the greatest possible is the doubling size
 pub record IsSpare (a : Account) (size : ℕ) : Type 0 where
   pub part : size ≤ a.spare
   pub apart : (size ≡ a.doubling) ⊎ ((a.spare < a.doubling) ⊎ (size + a.doubling ≤ a.spare))
 
--- no spare has n bytes, so the greatest possible one, where it is a spare, has fewer
+-- what follows where no spare has n bytes: the greatest possible one, where it is a spare, has fewer
 abbrev pub HasNoSpare : Account → ℕ → Type 0
 HasNoSpare a n = a.doubling ≤ a.spare → a.doubling < n

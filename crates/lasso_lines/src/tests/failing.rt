@@ -168,3 +168,16 @@ fn letters_cut_by_stretches(rt: HostRuntime) -> Result<(), Fail> {
     assert_eq!(rt; writer.into_bytes().as_slice(), output.as_bytes());
     Ok(())
 }
+
+// What is shown is used up together, once each line that ends there is answered: not where one is faulty.
+#[test]
+fn a_faulty_line_leaves_what_is_shown(rt: HostRuntime) -> Result<(), Fail> {
+    let input = b"a\n\xff\nb\n".as_slice();
+    let mut reader = MemoryReader::new(input);
+    let mut writer = MemoryWriter::new(rt.alloc());
+    let result = run(&rt, &mut reader, &mut writer, no_limit());
+    assert_fault(&rt, result, "line 2: not UTF-8", 2)?;
+    assert_eq!(rt; reader.shown(), input);
+    assert_eq!(rt; writer.into_bytes().as_slice(), b"0 a\n".as_slice());
+    Ok(())
+}

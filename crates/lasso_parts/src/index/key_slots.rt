@@ -7,7 +7,7 @@ use crate::keys::Key;
 use std::alloc::{AllocError, Allocator};
 use std::marker::Model;
 
-/// The slots of a table. Slot j is empty where its tag is 0; what stands at its place among the keys then
+/// The slots of a table. Slot j is empty where its tag is 0; what stands at its position among the keys then
 /// says nothing. There are keys where there is memory for a slot. No key of the type is at hand before the
 /// first one is put, so they are made then, in memory that was had before. Contracts see the position that
 /// each slot's key stands for, and the tags.

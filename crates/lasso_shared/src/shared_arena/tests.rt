@@ -1,9 +1,7 @@
-//! Pieces of static texts, and of texts that two threads fill side by side in one block.
-ghost use Rattle.std.specs.Prelude.{◌≡◌, length};
-ghost use Rattle.lasso_shared.specs.Eras.{life};
+//! Pieces of static texts.
 
 use crate::shared_arena::era::Era;
-use crate::shared_arena::piece::{Piece, Range};
+use crate::shared_arena::piece::Piece;
 use std::test::*;
 
 #[test]
