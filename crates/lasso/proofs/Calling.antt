@@ -31,13 +31,13 @@ stored_list : (held left : Held) (text : Text) (s : Option Account) → stored_o
 stored_list held left text None h = cc
 stored_list held left text (Some a) h = let same : with_text held text a ≡ left = cc in ap (λ (x : Held). x.texts) (sym same)
 
-keyed_list : {K : Type 0} (held left : Held) (text : Text) (o : Option K) → keyed_or_refused held text o ≡ Ok left → left.texts ≡ held.texts ++ text ∷ []
-keyed_list held left text None h = cc
-keyed_list held left text (Some k) h = stored_list held left text (store held.account (length text)) h
+keyed_list : {K : Type 0} (first : ℕ) (held left : Held) (text : Text) (o : Option K) → keyed_or_refused first held text o ≡ Ok left → left.texts ≡ held.texts ++ text ∷ []
+keyed_list first held left text None h = cc
+keyed_list first held left text (Some k) h = stored_list held left text (store first held.account (length text)) h
 
-interned_list : {K : Type 0} (key_at : ℕ → Option K) (held left : Held) (text : Text) (o : Option ℕ) → found_or_new key_at held text o ≡ Ok left → left.texts ≡ cond (is_some o) held.texts (held.texts ++ text ∷ [])
-interned_list key_at held left text None h = keyed_list held left text (key_at (length held.texts)) h
-interned_list key_at held left text (Some n) h = let same : held ≡ left = cc in ap (λ (x : Held). x.texts) (sym same)
+interned_list : {K : Type 0} (key_at : ℕ → Option K) (first : ℕ) (held left : Held) (text : Text) (o : Option ℕ) → found_or_new key_at first held text o ≡ Ok left → left.texts ≡ cond (is_some o) held.texts (held.texts ++ text ∷ [])
+interned_list key_at first held left text None h = keyed_list first held left text (key_at (length held.texts)) h
+interned_list key_at first held left text (Some n) h = let same : held ≡ left = cc in ap (λ (x : Held). x.texts) (sym same)
 
 module _ {K : Type 0} (key_at : ℕ → Option K) where
   -- an intern call of a `Rodeo` leaves the list with the text
@@ -45,7 +45,7 @@ module _ {K : Type 0} (key_at : ℕ → Option K) where
   list_interned old new text k h =
       let held : Held = record { texts = old.texts; account = old.account } in
       let left : Held = record { texts = new.texts; account = new.account } in
-      interned_list key_at held left text (position_of old.texts text) h.0.0
+      interned_list key_at old.first held left text (position_of old.texts text) h.0.0
 
   -- so its key is the text's in that list
   pub key_answered : (old new : InternerView) (text : Text) (k : K) → InternsIn key_at old text (Ok k) new → key_of key_at new.texts text ≡ Some k

@@ -1,7 +1,7 @@
 //! Times the interner beside a map and a set of the standard kind, and the log of a shared one beside another
 //! list that threads share: with the word `measure` it prints the nanoseconds of a call of the first, with
-//! `round` those of one round of the interner alone, with `shared` those of a call of the lists that are shared,
-//! and without words nothing.
+//! `round` those of one round of the interner alone, with `refill` those of an interner that is cleared and filled
+//! again, with `shared` those of a call of the lists that are shared, and without words nothing.
 #![tactic(auto)]
 
 ghost use Rattle.std.specs.Prelude.{◌<◌};
@@ -9,6 +9,7 @@ ghost use Rattle.std.specs.Prelude.{◌<◌};
 mod frozen;
 mod pools;
 mod positions;
+mod refill;
 mod shared;
 #[cfg(test)]
 mod tests;
@@ -19,6 +20,7 @@ mod timing;
 use anyhow::{Result, bail};
 use frozen::{FrozenSample, best_frozen_timings};
 use pools::{MapPool, RodeoPool, SetPool};
+use refill::best_refill_timings;
 use shared::Shelf;
 use std::env;
 use std::rt::Clock;
@@ -32,6 +34,11 @@ const TEXTS: u32 = 100_000;
 
 const MANY_TEXTS: u32 = 1_000_000;
 
+// How many texts a round of refilling has, and how many rounds there are.
+const REFILLED_TEXTS: u32 = 10_000;
+
+const REFILLS: u32 = 1000;
+
 fn main(rt: HostRuntime) -> Result<()> {
     let mut words = env::args(&rt)?;
     let _program = words.next();
@@ -40,8 +47,9 @@ fn main(rt: HostRuntime) -> Result<()> {
         [] => Ok(()),
         [word] if word.as_str() == "measure" => print_table(&rt),
         [word] if word.as_str() == "round" => print_rounds(&rt),
+        [word] if word.as_str() == "refill" => print_refills(&rt),
         [word] if word.as_str() == "shared" => print_shared(&rt),
-        _ => bail!("usage: lasso_bench [measure|round|shared]"),
+        _ => bail!("usage: lasso_bench [measure|round|refill|shared]"),
     }
 }
 
@@ -79,6 +87,19 @@ fn print_rounds<R: AllocGlobal + Clock + Print>(rt: &R) -> Result<()> {
         }
     }
     Ok(())
+}
+
+// Times an interner that is cleared and filled again and a new one for each round, and prints the memory that the
+// first one takes.
+fn print_refills<R: AllocGlobal + Clock + Print>(rt: &R) -> Result<()> {
+    let sample = Sample::new(rt.alloc(), REFILLED_TEXTS)?;
+    let timings = best_refill_timings(rt, &sample.texts, REFILLS)?;
+    let [first, second, last] = timings.usages;
+    println!(rt; "{REFILLED_TEXTS} texts, {REFILLS} rounds")?;
+    println!(rt; "bytes after round 1, round 2 and the last: {first}, {second}, {last}")?;
+    println!(rt; "{:<18}{:<18}{:>9}", "name", "round", "ns a text")?;
+    print_line(rt, "Rodeo", "clear and fill", timings.refilled)?;
+    print_line(rt, "Rodeo", "new and fill", timings.anew)
 }
 
 // Times frozen interners of so many texts, and prints a line for each operation.

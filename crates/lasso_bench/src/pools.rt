@@ -1,5 +1,5 @@
 //! Three pools of distinct texts with small keys: the interner, a map beside a list, and a set in order.
-ghost use Rattle.std.specs.Prelude.{◌≡◌, ℕ, List, map, string_bytes, option_map, slice_get};
+ghost use Rattle.std.specs.Prelude.{◌≡◌, ℕ, List, [], map, string_bytes, option_map, slice_get};
 
 use indexmap::IndexSet;
 use lasso::{FixedState, Key, Rodeo, Spur};
@@ -51,6 +51,20 @@ impl RodeoPool {
     {
         let RodeoPool { rodeo } = self;
         rodeo
+    }
+
+    /// Forgets every text.
+    pub fn clear(&mut self)
+        ensures { self.new.rodeo.texts ≡ [] }
+    {
+        self.rodeo.clear();
+    }
+
+    /// The bytes that the texts' buckets take.
+    pub fn usage(&self) -> usize
+        ensures { result ≡ self.now.rodeo.account.usage }
+    {
+        self.rodeo.current_memory_usage()
     }
 }
 

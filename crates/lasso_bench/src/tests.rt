@@ -2,6 +2,7 @@
 use crate::frozen::{FrozenSample, FrozenTexts, best_frozen_timings, keys_at, resolve_all};
 use crate::pools::{KeyedTexts, MapPool, RodeoPool, SetPool, TextPool};
 use crate::positions::random_positions;
+use crate::refill::best_refill_timings;
 use crate::shared::{SharedTexts, Shelf};
 use crate::texts::{Sample, jumped};
 use crate::threads::{Walk, best_shared_timings};
@@ -15,6 +16,17 @@ fn pools_answer_right(rt: HostRuntime) -> Result<(), Fail> {
     assert!(rt; best_timings::<RodeoPool, _>(&rt, &sample).is_ok());
     assert!(rt; best_timings::<MapPool, _>(&rt, &sample).is_ok());
     assert!(rt; best_timings::<SetPool, _>(&rt, &sample).is_ok());
+    Ok(())
+}
+
+// 1,000 texts have 7,890 bytes: a first bucket of 4096 and a doubled one of 8192 hold them.
+#[test]
+fn rounds_take_no_more_memory(rt: HostRuntime) -> Result<(), Fail> {
+    let sample = Sample::new(rt.alloc(), 1000)?;
+    let Ok(timings) = best_refill_timings(&rt, &sample.texts, 5) else {
+        return Err("a round failed".into());
+    };
+    assert_eq!(rt; timings.usages, [12288, 12288, 12288]);
     Ok(())
 }
 

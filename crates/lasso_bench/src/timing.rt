@@ -163,8 +163,8 @@ pub fn last_byte(text: &str) -> usize {
     text.as_bytes().last().map_or(0, |byte| usize::from(*byte))
 }
 
-// The sum of the positions of so many texts.
-fn sum_of_positions(count: usize) -> usize {
+/// The sum of the positions of so many texts.
+pub fn sum_of_positions(count: usize) -> usize {
     let mut sum = 0usize;
     for position in 0..count {
         sum = sum.wrapping_add(position);

@@ -5,3 +5,4 @@ pub mod Cuts
 pub mod Numbers
 pub mod Buffers
 pub mod Tested
+pub mod Feeds

@@ -13,7 +13,7 @@ use Rattle.lasso_parts.specs.declared.util.LassoErrorKind.TheVariants.{FailedAll
 use Rattle.lasso_parts.specs.Held.{Held}
 use Rattle.lasso_single.specs.Intern.{interned, interned_position}
 use Rattle.lasso_lines.specs.Stream.{Begins}
-use Rattle.lasso_lines.specs.Report.{is_line_feed, lines_of, spur_at, after_line, with_number, line_report}
+use Rattle.lasso_lines.specs.Report.{is_line_feed, lines_of, spur_at, first_bytes, after_line, with_number, line_report}
 use Rattle.lasso_lines.specs.Stretch.{NoFeed}
 use Rattle.lasso_lines.specs.Answer.{AnswersLine, WritesAll, LineFails, faulty, no_memory, not_written, last_lines}
 use Rattle.lasso_lines.specs.declared.fault.RunFault.{RunFault}
@@ -59,21 +59,21 @@ lines_some (x ∷ line) b rest = cond_lines (is_line_feed x) x (line ++ b ∷ re
 
 -- bytes that are not UTF-8 are a fault
 pub not_text : (held : Held) (number : ℕ) (line : List ℕ) → ¬ (IsUtf8 line) → after_line held number line ≡ Err (NotText number)
-not_text held number line not_utf8 = ap (λ b. cond b (with_number number (interned spur_at held line)) (Err (NotText number))) (false_from_ne_true _ (λ e. not_utf8 (IsUtf8-from_is_utf8 line e)))
+not_text held number line not_utf8 = ap (λ b. cond b (with_number number (interned spur_at first_bytes held line)) (Err (NotText number))) (false_from_ne_true _ (λ e. not_utf8 (IsUtf8-from_is_utf8 line e)))
 
-text_line : (held : Held) (number : ℕ) (line : List ℕ) → IsUtf8 line → after_line held number line ≡ with_number number (interned spur_at held line)
-text_line held number line utf8 = ap (λ b. cond b (with_number number (interned spur_at held line)) (Err (NotText number))) (is_utf8-from_IsUtf8 line utf8)
+text_line : (held : Held) (number : ℕ) (line : List ℕ) → IsUtf8 line → after_line held number line ≡ with_number number (interned spur_at first_bytes held line)
+text_line held number line utf8 = ap (λ b. cond b (with_number number (interned spur_at first_bytes held line)) (Err (NotText number))) (is_utf8-from_IsUtf8 line utf8)
 
 -- a text that interning refuses
-pub refused_line : (held : Held) (number : ℕ) (line text : List ℕ) (error : LassoError) (X Y : Type 0) → (text ≡ line) × IsUtf8 line → (interned spur_at held text ≡ Err error) ⊎ ((error ≡ FailedAllocation) × X × Y) → LineFails held number line [] (Refused number error)
-refused_line held number line text error X Y is (inl refused) = faulty _ (text_line held number line is.1 ∙ ap (λ r. with_number number r) (subst (λ t. interned spur_at held t ≡ Err error) is.0 refused)) refl
-refused_line held number line text error X Y is (inr none) = subst (λ e. LineFails held number line [] (Refused number e)) (sym none.0) (no_memory refl)
+pub refused_line : (first : ℕ) (held : Held) (number : ℕ) (line text : List ℕ) (error : LassoError) (X Y : Type 0) → first ≡ first_bytes → (text ≡ line) × IsUtf8 line → (interned spur_at first held text ≡ Err error) ⊎ ((error ≡ FailedAllocation) × X × Y) → LineFails held number line [] (Refused number error)
+refused_line first held number line text error X Y same is (inl refused) = faulty _ (text_line held number line is.1 ∙ ap (λ r. with_number number r) (subst (λ t. interned spur_at first_bytes held t ≡ Err error) is.0 (subst (λ (n : ℕ). interned spur_at n held text ≡ Err error) same refused))) refl
+refused_line first held number line text error X Y same is (inr none) = subst (λ e. LineFails held number line [] (Refused number e)) (sym none.0) (no_memory refl)
 
 place_of : (place k : ℕ) → spur_at place ≡ Some k → place ≡ k - 1
 place_of place k e = let sum = (cond_some _ _ _ e).1 in omega arith
 
-line_is_text : (held after : Held) (number : ℕ) (line text : List ℕ) → (text ≡ line) × IsUtf8 line → interned spur_at held text ≡ Ok after → after_line held number line ≡ Ok after
-line_is_text held after number line text is reply = text_line held number line is.1 ∙ ap (λ r. with_number number r) (subst (λ t. interned spur_at held t ≡ Ok after) is.0 reply)
+line_is_text : (held after : Held) (number : ℕ) (line text : List ℕ) → (text ≡ line) × IsUtf8 line → interned spur_at first_bytes held text ≡ Ok after → after_line held number line ≡ Ok after
+line_is_text held after number line text is reply = text_line held number line is.1 ∙ ap (λ r. with_number number r) (subst (λ t. interned spur_at first_bytes held t ≡ Ok after) is.0 reply)
 
 -- the position in front of the line
 report_is : (held : Held) (line text : List ℕ) (position key : ℕ) → text ≡ line → spur_at (interned_position held.texts text) ≡ Some key → position ≡ key - 1 → decimal position ++ (32 ∷ (line ++ 10 ∷ [])) ≡ line_report held line
@@ -84,5 +84,5 @@ answered_by held after number line (Ok x) bytes good is part wrote = (good, wrot
 answered_by held after number line (Err fault) bytes good is part wrote = subst (λ f. LineFails held number line part f) (sym wrote.0) (not_written after good (subst (λ bs. Begins part bs) is wrote.1))
 
 -- a text that is interned, and its answer
-pub answered_line : (held after : Held) (number : ℕ) (line text : List ℕ) (position key : ℕ) (result : Result (Unit {0}) RunFault) → (text ≡ line) × IsUtf8 line → (interned spur_at held text ≡ Ok after) × (spur_at (interned_position held.texts text) ≡ Some key) → position ≡ key - 1 → (part : List ℕ) → WritesAll (decimal position ++ (32 ∷ (line ++ 10 ∷ []))) result part → AnswersLine held number line result after part
-answered_line held after number line text position key result is reply at = answered_by held after number line result _ (line_is_text held after number line text is reply.0) (report_is held line text position key is.0 reply.1 at)
+pub answered_line : (first : ℕ) (held after : Held) (number : ℕ) (line text : List ℕ) (position key : ℕ) (result : Result (Unit {0}) RunFault) → first ≡ first_bytes → (text ≡ line) × IsUtf8 line → (interned spur_at first held text ≡ Ok after) × (spur_at (interned_position held.texts text) ≡ Some key) → position ≡ key - 1 → (part : List ℕ) → WritesAll (decimal position ++ (32 ∷ (line ++ 10 ∷ []))) result part → AnswersLine held number line result after part
+answered_line first held after number line text position key result same is reply at = answered_by held after number line result _ (line_is_text held after number line text is (subst (λ (n : ℕ). interned spur_at n held text ≡ Ok after) same reply.0)) (report_is held line text position key is.0 reply.1 at)

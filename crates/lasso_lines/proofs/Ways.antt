@@ -12,7 +12,7 @@ use Rattle.lasso_parts.specs.Held.{Held}
 use Rattle.lasso_parts.specs.declared.util.LassoError.{LassoError}
 use Rattle.lasso_single.specs.Intern.{interned}
 use Rattle.lasso_lines.specs.Stream.{Begins}
-use Rattle.lasso_lines.specs.Report.{lines_of, with_number, spur_at, after_line, line_report, last_report, or_else, report_from, fault_from, reach_from, answers_from, LacksMemory, EndsWithFault, EndsFrom, Ends, new_held}
+use Rattle.lasso_lines.specs.Report.{lines_of, with_number, spur_at, first_bytes, after_line, line_report, last_report, or_else, report_from, fault_from, reach_from, answers_from, LacksMemory, EndsWithFault, EndsFrom, Ends, new_held}
 use Rattle.lasso_lines.specs.Answer.{WritesAll, LineFails, faulty, no_memory, not_written, IsStreamFault, last_lines}
 use Rattle.lasso_lines.specs.declared.fault.RunFault.{RunFault}
 use Rattle.lasso_lines.specs.declared.fault.RunFault.TheVariants.{Refused, NotText, Usage, ReadFailed, WriteFailed}
@@ -131,7 +131,7 @@ own_ends held first lines number fault (own_refusal error) w f = inl (f, sym w)
 
 -- the fault at the first of some lines ends them
 pub line_fails : (held : Held) (number : ℕ) (line : List ℕ) (lines : List (List ℕ)) (part : List ℕ) (fault : RunFault) → LineFails held number line part fault → EndsFrom held number (line ∷ lines) part (Err fault)
-line_fails held number line lines part fault (faulty f e none) = subst (λ bs. EndsWithFault held number (line ∷ lines) bs f) (sym none) (own_ends held number (line ∷ lines) number f (own_of number (is_utf8 line) (interned spur_at held line) f e) (report_bad held number line lines f e) (fault_bad held number line lines f e))
+line_fails held number line lines part fault (faulty f e none) = subst (λ bs. EndsWithFault held number (line ∷ lines) bs f) (sym none) (own_ends held number (line ∷ lines) number f (own_of number (is_utf8 line) (interned spur_at first_bytes held line) f e) (report_bad held number line lines f e) (fault_bad held number line lines f e))
 line_fails held number line lines part fault (no_memory none) = inr (refl, inl (0, omega arith, reach_some held number line lines, none))
 line_fails held number line lines part fault (not_written after e b) = subst (λ w. Begins part w) (sym (report_good held after number line lines e)) (begins_more part (line_report held line) _ b)
 

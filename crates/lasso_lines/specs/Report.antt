@@ -34,9 +34,13 @@ with_number number (Err error) = Err (Refused number error)
 abbrev pub spur_at : ℕ → Option ℕ
 spur_at = kept_at 4294967295
 
+-- the bytes of the interner's first bucket
+abbrev pub first_bytes : ℕ
+first_bytes = 4096
+
 -- what the interner holds after the line of this number, or the line's fault
 abbrev pub after_line : Held → ℕ → List ℕ → Result Held RunFault
-after_line held number line = cond (is_utf8 line) (with_number number (interned spur_at held line)) (Err (NotText number))
+after_line held number line = cond (is_utf8 line) (with_number number (interned spur_at first_bytes held line)) (Err (NotText number))
 
 -- the answer to a line: the position of its text, and the line
 abbrev pub line_report : Held → List ℕ → List ℕ
@@ -100,7 +104,7 @@ module _ (held : Held) (first : ℕ) (lines : List (List ℕ)) (part : List ℕ)
 
 -- an interner of default capacity, with this limit
 abbrev pub new_held : ℕ → Held
-new_held limit = holding [] (fresh 4096 limit)
+new_held limit = holding [] (fresh first_bytes limit)
 
 -- what a run over these bytes writes where nothing but a line is faulty
 abbrev pub report : List ℕ → ℕ → List ℕ

@@ -1,7 +1,7 @@
 //! The answers: a line behind the position of its text, and the counts.
 ghost use Rattle.std.specs.Prelude.{◌≡◌, ℕ, ◌+◌, ◌++◌, ◌∷◌, [], IfErr, MatchResult, IsTrue, IsUtf8, decimal};
 ghost use Rattle.lasso_lines.specs.Stream.{Grows, OnlyGrows, written};
-ghost use Rattle.lasso_lines.specs.Report.{holding, last_report};
+ghost use Rattle.lasso_lines.specs.Report.{holding, first_bytes, last_report};
 ghost use Rattle.lasso_lines.specs.Answer.{AnswersLine, WritesAll, IsAnswerFault, failed_writes};
 ghost use Rattle.lasso_lines.specs.declared.fault.RunFault.TheVariants.{WriteFailed};
 
@@ -14,7 +14,8 @@ use std::str::{Utf8Error, from_utf8, from_utf8_unchecked};
 
 pub(crate) type LineRodeo = Rodeo<Spur, FixedState, Global>;
 
-// Interns the line and writes it behind the position of its text. It is text where `is_text` says so.
+// Interns the line and writes it behind the position of its text. It is text where `is_text` says so. The first
+// bucket must be of the report's bytes.
 pub(crate) fn answer_line<O: ByteWriter>(
     rodeo: &mut LineRodeo,
     line: &[u8],
@@ -22,7 +23,9 @@ pub(crate) fn answer_line<O: ByteWriter>(
     number: u64,
     writer: &mut O,
 ) -> Result<(), RunFault>
-    requires { IsTrue is_text → IsUtf8 line.now }
+    requires text { IsTrue is_text → IsUtf8 line.now }
+    requires first { rodeo.old.first ≡ first_bytes }
+    ensures first { rodeo.new.first ≡ first_bytes }
     ensures failures { O.failures writer.new ≡ O.failures writer.old + failed_writes result }
     ensures delivered { OnlyGrows (O.delivered writer.old) (O.delivered writer.new) }
     ensures answers { Grows (written (O.delivered writer.old) (O.pending writer.old)) (written (O.delivered writer.new) (O.pending writer.new))

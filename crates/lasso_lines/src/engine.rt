@@ -1,7 +1,7 @@
 //! The engine: from bytes to the report of their lines.
 ghost use Rattle.std.specs.Prelude.{◌≡◌, ℕ, ◌+◌, List, [], Some, Err, OnOk, IfErr};
 ghost use Rattle.lasso_lines.specs.Stream.{Grows, OnlyGrows, Stays, Ended, written};
-ghost use Rattle.lasso_lines.specs.Report.{Ends, EndsFrom, holding};
+ghost use Rattle.lasso_lines.specs.Report.{Ends, EndsFrom, holding, first_bytes};
 ghost use Rattle.lasso_lines.specs.Answer.{IsStreamFault, IsAnswerFault, last_lines, failed_reads, failed_writes};
 ghost use Rattle.lasso_lines.specs.declared.fault.RunFault.TheVariants.{Usage, ReadFailed, WriteFailed};
 
@@ -110,6 +110,7 @@ fn answer_end<O: ByteWriter>(
     number: u64,
     writer: &mut O,
 ) -> Result<(), RunFault>
+    requires { rodeo.old.first ≡ first_bytes }
     ensures failures { O.failures writer.new ≡ O.failures writer.old + failed_writes result }
     ensures delivered { OnlyGrows (O.delivered writer.old) (O.delivered writer.new) }
     ensures answers { Grows (written (O.delivered writer.old) (O.pending writer.old)) (written (O.delivered writer.new) (O.pending writer.new))

@@ -1,12 +1,12 @@
 //! A reader and a writer of bytes in memory, and the report over them.
-ghost use Rattle.std.specs.Prelude.{◌≡◌, ℕ, ◌+◌, ◌<◌, ◌≤◌, ◌++◌, ◌∷◌, [], Some, Err, length, vec_capacity};
+ghost use Rattle.std.specs.Prelude.{◌≡◌, ℕ, [], Some, Err};
 ghost use Rattle.lasso_lines.specs.Report.{Ends};
 ghost use Rattle.lasso_lines.specs.declared.fault.RunFault.TheVariants.{ReadFailed, Usage};
 
 use crate::engine::run;
 use crate::failures::Failures;
 use crate::fault::RunFault;
-use crate::stream::{ByteReader, ByteWriter, Failed};
+use crate::stream::{ByteReader, ByteWriter, Failed, push_line};
 use lasso::MemoryLimits;
 use std::alloc::Global;
 use std::marker::Model;
@@ -123,18 +123,6 @@ impl ByteWriter for MemoryWriter {
     fn flush(&mut self) -> Result<(), Failed> {
         Ok(())
     }
-}
-
-// Pushes the front, the line and a line feed, for which the buffer has room.
-#[inline]
-pub(crate) fn push_line(buffer: &mut Vec<u8>, front: &[u8], line: &[u8])
-    requires { length buffer.old.items + (length front.now + length line.now) < vec_capacity buffer.old }
-    ensures items { buffer.new.items ≡ buffer.old.items ++ (front.now ++ (line.now ++ 10 ∷ [])) }
-    ensures capacity { vec_capacity buffer.old ≤ vec_capacity buffer.new }
-{
-    let _front = buffer.extend_from_slice(front);
-    let _line = buffer.extend_from_slice(line);
-    buffer.push_reserved(b'\n');
 }
 
 /// What a run over the bytes writes, and how it ends. A read never fails.

@@ -6,8 +6,7 @@ ghost use Rattle.lasso_lines.specs.Stream.{Begins, Grows, Stays, OnlyGrows, writ
 mod tests;
 
 use crate::failures::Failures;
-use crate::memory::push_line;
-use crate::stream::{ByteReader, ByteWriter, Failed};
+use crate::stream::{ByteReader, ByteWriter, Failed, push_line};
 use std::alloc::{AllocError, Global};
 use std::io::{Read, Write};
 use std::marker::Model;

@@ -1,6 +1,6 @@
 //! Readers and writers of stretches of bytes, which tell those bytes where they are known and count
 //! their failed calls.
-ghost use Rattle.std.specs.Prelude.{◌≡◌, ℕ, ◌+◌, ◌<◌, ◌≤◌, ◌↔◌, ◌++◌, ◌∷◌, List, [], false, IsTrue, Option, Some, length, drop, take, is_ok, IfOk, OnOk, MatchResult};
+ghost use Rattle.std.specs.Prelude.{◌≡◌, ℕ, ◌+◌, ◌<◌, ◌≤◌, ◌↔◌, ◌++◌, ◌∷◌, List, [], false, IsTrue, Option, Some, length, drop, take, is_ok, IfOk, OnOk, MatchResult, vec_capacity};
 ghost use Rattle.lasso_lines.specs.Stream.{Begins, Grows, OnlyGrows, Stays, Loses, ComeFirst, Ended, written, failed_calls};
 
 /// A call failed. The reader or writer has counted it.
@@ -78,4 +78,17 @@ pub trait ByteWriter {
         ensures delivered { OnlyGrows (delivered self.old) (delivered self.new) }
         ensures written { Stays (written (delivered self.old) (pending self.old)) (written (delivered self.new) (pending self.new)) }
         ensures all { OnOk result (pending self.new ≡ Some []) };
+}
+
+// What a writer's `take_line` does to its buffer, where the buffer has room: it pushes the front, the line and a
+// line feed.
+#[inline]
+pub(crate) fn push_line(buffer: &mut Vec<u8>, front: &[u8], line: &[u8])
+    requires { length buffer.old.items + (length front.now + length line.now) < vec_capacity buffer.old }
+    ensures items { buffer.new.items ≡ buffer.old.items ++ (front.now ++ (line.now ++ 10 ∷ [])) }
+    ensures capacity { vec_capacity buffer.old ≤ vec_capacity buffer.new }
+{
+    let _front = buffer.extend_from_slice(front);
+    let _line = buffer.extend_from_slice(line);
+    buffer.push_reserved(b'\n');
 }

@@ -1,7 +1,8 @@
 //! The lines of a stretch: the bytes that a reader shows at once.
 ghost use Rattle.std.specs.Prelude.{◌≡◌, ℕ, ◌+◌, ◌-◌, ◌<◌, ◌++◌, [], OnOk, IfOk, IfErr, MatchResult, IsUtf8, drop, length, take};
+ghost use Rattle.memchr.specs.Find.{IsFirstByte, is_byte};
 ghost use Rattle.lasso_lines.specs.Stream.{Grows, OnlyGrows, written};
-ghost use Rattle.lasso_lines.specs.Report.{holding};
+ghost use Rattle.lasso_lines.specs.Report.{holding, first_bytes};
 ghost use Rattle.lasso_lines.specs.Answer.{AnswersLine, IsAnswerFault, failed_writes};
 ghost use Rattle.lasso_lines.specs.Stretch.{NoFeed, LeadsTo, FailsWith};
 ghost use Rattle.lasso_lines.specs.declared.fault.RunFault.TheVariants.{Refused};
@@ -11,7 +12,7 @@ use crate::answers::{LineRodeo, answer_line};
 use crate::fault::RunFault;
 use crate::stream::ByteWriter;
 use lasso::{LassoError, LassoErrorKind};
-use memchr::memchr;
+use memchr::memchr_iter;
 use std::str::from_utf8;
 use std::sync::Wait;
 
@@ -27,6 +28,8 @@ pub(crate) fn answer_stretch<R: Wait, O: ByteWriter>(
 ) -> Result<u64, RunFault>
     requires no_feed { NoFeed begun.old.items }
     requires counted { 0 < number }
+    requires first { rodeo.old.first ≡ first_bytes }
+    ensures first { rodeo.new.first ≡ first_bytes }
     ensures failures { O.failures writer.new ≡ O.failures writer.old + failed_writes result }
     ensures delivered { OnlyGrows (O.delivered writer.old) (O.delivered writer.new) }
     ensures answers { Grows (written (O.delivered writer.old) (O.pending writer.old)) (written (O.delivered writer.new) (O.pending writer.new))
@@ -42,7 +45,7 @@ pub(crate) fn answer_stretch<R: Wait, O: ByteWriter>(
         hold(begun, last, next)?;
         return Ok(next);
     }
-    let Some(at) = memchr(b'\n', shown) else {
+    let Some(at) = next_feed(shown) else {
         hold(begun, shown, number)?;
         return Ok(number);
     };
@@ -62,7 +65,9 @@ fn answer_lines<'a, R: Wait, O: ByteWriter>(
     number: u64,
     writer: &mut O,
 ) -> Result<(u64, &'a [u8]), RunFault>
-    requires { 0 < number }
+    requires counted { 0 < number }
+    requires first { rodeo.old.first ≡ first_bytes }
+    ensures first { rodeo.new.first ≡ first_bytes }
     ensures failures { O.failures writer.new ≡ O.failures writer.old + failed_writes result }
     ensures delivered { OnlyGrows (O.delivered writer.old) (O.delivered writer.new) }
     ensures answers { Grows (written (O.delivered writer.old) (O.pending writer.old)) (written (O.delivered writer.new) (O.pending writer.new))
@@ -76,7 +81,7 @@ fn answer_lines<'a, R: Wait, O: ByteWriter>(
     let untested = untested_len(stretch);
     let mut number = number;
     let mut rest = stretch;
-    while let Some(at) = memchr(b'\n', rest) {
+    while let Some(at) = next_feed(rest) {
         let line = &rest[..at];
         let is_text = untested < rest.len() - at;
         answer_line(rodeo, line, is_text, number, writer)?;
@@ -86,7 +91,15 @@ fn answer_lines<'a, R: Wait, O: ByteWriter>(
     Ok((number, rest))
 }
 
-// The bytes behind the one at this place.
+// Where the first line feed stands. It is mostly near, and this is the search that looks there first.
+#[inline]
+fn next_feed(bytes: &[u8]) -> Option<usize>
+    ensures { IsFirstByte (is_byte 10) bytes.now result }
+{
+    memchr_iter(b'\n', bytes).next()
+}
+
+// The bytes behind the one at this position.
 #[inline]
 fn behind(bytes: &[u8], at: usize) -> &[u8]
     requires { at < length bytes.now }
@@ -142,6 +155,8 @@ fn answer_held<O: ByteWriter>(
     number: u64,
     writer: &mut O,
 ) -> Result<(), RunFault>
+    requires { rodeo.old.first ≡ first_bytes }
+    ensures first { rodeo.new.first ≡ first_bytes }
     ensures failures { O.failures writer.new ≡ O.failures writer.old + failed_writes result }
     ensures delivered { OnlyGrows (O.delivered writer.old) (O.delivered writer.new) }
     ensures answers { Grows (written (O.delivered writer.old) (O.pending writer.old)) (written (O.delivered writer.new) (O.pending writer.new))

@@ -5,7 +5,7 @@
 -- position that has it, and a search that found none shows that no position has it: so its answer is the
 -- text's position in the list. Such an index stays whole when a new text goes last and its position is
 -- entered under the text's hash.
-use Rattle.std.proofs.Common.{◌≡◌, ◌≢◌, ℕ, zero, suc, ◌+◌, ◌<◌, ◌⊎◌, ◌↔◌, List, [], ◌∷◌, ◌++◌, Bool, true, false, cond, Option, Some, None, IfSome, IfNone, length, take, drop, slice_get, get_or, refl, sym, ap, ◌∙◌, subst, inl, inr, arith}
+use Rattle.std.proofs.Common.{◌≡◌, ◌≢◌, ℕ, zero, suc, ◌+◌, ◌<◌, ◌⊎◌, ◌↔◌, List, [], ◌∷◌, ◌++◌, Bool, true, false, cond, Option, Some, None, Result, Ok, Err, IfOk, IfErr, MatchResult, length, take, drop, slice_get, get_or, refl, sym, ap, ◌∙◌, subst, inl, inr, arith}
 use Rattle.std.specs.List.{position_or_len}
 use Rattle.std.specs.Str.{bytes_eq}
 use Rattle.std.proofs.lemmas.Bool.{cases_lt, cases_Bool, lt-ltb, le-ltb, true≢false}
@@ -103,10 +103,10 @@ absent_before texts i text distinct at =
 
 -- ---- the index of a whole list
 
--- what a search answers in the index of a whole list is the text's position
-pub position_found : (hash_of : Text → ℕ) (texts : List Text) (table : Table) (text : Text) (r : Option ℕ) → IsIndexOf hash_of texts table → IfSome r (λ n. Holds table.slots n × (slice_get texts n ≡ Some text)) → IfNone r ((n : ℕ) → Holds table.slots n → slice_get texts n ≢ Some text) → r ≡ position_of texts text
-position_found hash_of texts table text None whole found missing = sym (position_of_none texts text (λ n l. missing n ((whole.holds n).1 l)))
-position_found hash_of texts table text (Some n) whole found missing = sym (position_of_at texts text n whole.distinct found.1)
+-- what a search answers in the index of a whole list is the text's position, or that there is none
+pub located : (hash_of : Text → ℕ) (texts : List Text) (table : Table) (text : Text) (r : Result ℕ ℕ) → IsIndexOf hash_of texts table → IfOk r (λ n. Holds table.slots n × (slice_get texts n ≡ Some text)) → IfErr r (λ _. (n : ℕ) → Holds table.slots n → slice_get texts n ≢ Some text) → MatchResult r (λ n. position_of texts text ≡ Some n) (λ _. position_of texts text ≡ None)
+located hash_of texts table text (Ok n) whole found missing = position_of_at texts text n whole.distinct found.1
+located hash_of texts table text (Err at) whole found missing = position_of_none texts text (λ n l. missing n ((whole.holds n).1 l))
 
 used_none : (xs : List (Option ℕ)) → HoldsNone xs → used xs ≡ 0
 used_none [] none = refl

@@ -4,7 +4,13 @@ mod IndexSlots
 mod IndexTables
 mod KeySlots
 pub mod Regions
+pub mod Doubled
+pub mod Spares
+pub mod RegionOrder
+pub mod RegionSpares
+pub mod Gathered
 pub mod Wasted
+pub mod WastedSince
 pub mod EntryTexts
 pub mod Walks
 mod PlacesLent

@@ -2,16 +2,17 @@
 --
 -- Where one region gets more bytes, each region of the earlier list begins the one at its place in the
 -- later list, and both lie at the same place. A span that is stored lies within the bytes of its region, so the
--- bytes that it names stay the same. A text in a region that was just opened is the same as a region more that holds the text.
+-- bytes that it names stay the same; so it does where a region more comes behind the others. A text in a region that was just opened is the same as a region more that holds the text.
 -- Neither bytes nor clearing change a region's place or capacity, so the list of blocks stays the same.
 use Rattle.std.proofs.Common.{◌≡◌, ℕ, zero, suc, ◌+◌, ◌-◌, ◌<◌, ◌≤◌, List, [], ◌∷◌, ◌++◌, length, get_or, set, take, drop, map, sym, ap, subst, refl, ◌∙◌, arith, inl, inr, append_assoc}
 use Rattle.std.specs.Prelude.{slice_range, IsUtf8}
-use Rattle.std.proofs.lemmas.List.{take-append-le, drop-append-le, length-append, length-drop, get_or_at, get_or-set_same, get_or-set_other, length-set, set_at, append-nil, drop_more, take_more, length-map, length-take-le, map-append}
+use Rattle.std.proofs.lemmas.List.{take-append-le, drop-append-le, length-append, length-drop, get_or_append_left, get_or_at, get_or-set_same, get_or-set_other, length-set, set_at, append-nil, drop_more, take_more, length-map, length-take-le, map-append, take_all}
 use Rattle.std.proofs.lemmas.Bool.{cases_eq}
 use Rattle.std.proofs.lemmas.Grind.{common_steps}
 use denote.RawPtr.{Ptr, ◌+ₚ◌}
 use Rattle.lasso_parts.specs.Bucket.{Extent, Block, block_of}
-use Rattle.lasso_parts.specs.Arena.{no_region, region_at, emptied, with_bytes, copied_in, text_at, KeepsTexts}
+use Rattle.lasso_parts.specs.Arena.{no_region, region_at, emptied, with_bytes, copied_in, text_at, IsStored, KeepsTexts}
+use Rattle.lasso_parts.specs.declared.arena.Span.{Span}
 
 -- a region that was just opened
 abbrev pub opened : Ptr → ℕ → Extent
@@ -66,6 +67,28 @@ Grows-set xs at t inside =
 -- texts stay where one region gets more bytes
 pub kept_set : (xs ys : List Extent) (at : ℕ) (t : List ℕ) → at < length xs → ys ≡ set xs at (with_bytes (region_at xs at) t) → KeepsTexts xs ys
 kept_set xs ys at t inside e = kept xs ys (subst (Grows xs) (sym e) (Grows-set xs at t inside))
+
+Grows-push : (xs : List Extent) (r : Extent) → Grows xs (xs ++ r ∷ [])
+Grows-push xs r =
+    record {
+      count = omega (arith, length-append xs (r ∷ []));
+      address = λ k h. ap (λ (b : Extent). b.at) (get_or_append_left xs (r ∷ []) no_region k h);
+      more = λ k h. ([], ap (λ (b : Extent). b.bytes) (get_or_append_left xs (r ∷ []) no_region k h) ∙ sym (append-nil (region_at xs k).bytes));
+    }
+
+-- texts stay where a region more comes
+pub kept_push : (xs ys : List Extent) (r : Extent) → ys ≡ xs ++ r ∷ [] → KeepsTexts xs ys
+kept_push xs ys r e = kept xs ys (subst (Grows xs) (sym e) (Grows-push xs r))
+
+-- the text that fills the region more
+pub stored_push : (xs ys : List Extent) (r : Extent) (span : Span) → ys ≡ xs ++ r ∷ [] → IsUtf8 r.bytes → span ≡ record { region = length xs; start = 0; len = length r.bytes } → IsStored ys span × (text_at ys span ≡ r.bytes)
+stored_push xs ys r span e utf8 is =
+    let whole_span : Span = record { region = length xs; start = 0; len = length r.bytes } in
+    let found : region_at ys (length xs) ≡ r = ap (λ (l : List Extent). region_at l (length xs)) e ∙ get_or_at xs r [] no_region (length xs) refl in
+    let whole : text_at ys whole_span ≡ r.bytes = ap (λ (b : Extent). slice_range b.bytes 0 (0 + length r.bytes)) found ∙ take_all (0 + length r.bytes - 0) r.bytes (omega arith) in
+    let count : length ys ≡ length xs + 1 = ap length e ∙ length-append xs (r ∷ []) in
+    subst (λ (s : Span). IsStored ys s × (text_at ys s ≡ r.bytes)) (sym is)
+    (record { region = omega (arith, count); bytes = omega (arith, ap (λ (b : Extent). length b.bytes) found); text = subst IsUtf8 (sym whole) utf8 }, whole)
 
 -- texts stay where nothing changes
 pub kept_same : (regions : List Extent) → KeepsTexts regions regions

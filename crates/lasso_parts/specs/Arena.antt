@@ -1,6 +1,6 @@
 -- What an arena shows: the regions that it copies texts into, each a bucket of the account, and the texts
 -- that lie in them.
-use Rattle.std.specs.Prelude.{◌≡◌, ℕ, ◌+◌, ◌-◌, ◌<◌, ◌≤◌, List, [], ◌++◌, length, get_or, sum_by, slice_range, IsUtf8}
+use Rattle.std.specs.Prelude.{◌≡◌, ℕ, ◌+◌, ◌-◌, ◌<◌, ◌≤◌, max, nat_eq, if◌then◌else◌, List, [], ◌++◌, length, get_or, sum_by, slice_range, IsUtf8}
 use denote.RawPtr.{Ptr, null_ptr, ◌+ₚ◌}
 use Rattle.lasso_parts.specs.Account.{Account}
 use Rattle.lasso_parts.specs.Bucket.{Extent}
@@ -12,10 +12,14 @@ pub record Regions : Type 0 where
   pub all : List Extent
   -- which of them is filled next
   pub current : ℕ
+  -- how many there were after the last clear, or at first: the first region and the doubled ones
+  pub kept : ℕ
   -- the size that the next growth doubles, in bytes
   pub doubling : ℕ
   -- the most bytes that all regions may take
   pub limit : ℕ
+  -- the most bytes that were copied in between two clears, or before the first
+  pub most : ℕ
 
 abbrev pub no_region : Extent
 no_region = record { at = null_ptr; bytes = []; capacity = 0 }
@@ -39,14 +43,34 @@ copied_in regions = sum_by (λ (r : Extent). length r.bytes) regions
 abbrev pub copied_of : Regions → ℕ
 copied_of arena = copied_in arena.all
 
--- the account of a current region, a doubling size, a usage and a limit
-abbrev pub account_at : Extent → ℕ → ℕ → ℕ → Account
-account_at r doubling usage limit =
-    record { room = r.capacity - length r.bytes; size = r.capacity; doubling = doubling; usage = usage; limit = limit }
+-- the most bytes that were copied in between two clears; the time before the first and that after the last count too
+abbrev pub most_of : Regions → ℕ
+most_of arena = max arena.most (copied_of arena)
+
+-- the bytes of a region that is a spare, one that has none in it
+abbrev pub spare_part : Extent → ℕ
+spare_part r = if nat_eq (length r.bytes) 0 then r.capacity else 0
+
+-- the bytes of the spares among some regions
+abbrev pub spare_in : List Extent → ℕ
+spare_in regions = sum_by spare_part regions
+
+-- the regions that the last clear made spares
+abbrev pub spares_at_clear : Regions → List Extent
+spares_at_clear arena = slice_range arena.all 1 arena.kept
+
+-- the bytes of those that are spares still
+abbrev pub spare_of : Regions → ℕ
+spare_of arena = spare_in (spares_at_clear arena)
+
+-- the account of a current region, the spares' bytes, a doubling size, a usage and a limit
+abbrev pub account_at : Extent → ℕ → ℕ → ℕ → ℕ → Account
+account_at r spare doubling usage limit =
+    record { room = r.capacity - length r.bytes; spare = spare; doubling = doubling; usage = usage; limit = limit }
 
 -- the account of the arena
 abbrev pub account_of : Regions → Account
-account_of arena = account_at (region_at arena.all arena.current) arena.doubling (usage_of arena.all) arena.limit
+account_of arena = account_at (region_at arena.all arena.current) (spare_of arena) arena.doubling (usage_of arena.all) arena.limit
 
 -- the region with no bytes
 abbrev pub emptied : Extent → Extent

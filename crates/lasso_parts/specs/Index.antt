@@ -66,6 +66,15 @@ IsFull xs from to = (j : ℕ) → from ≤ j → j < to → slot xs j ≢ None
 abbrev pub Reaches : List (Option ℕ) → ℕ → ℕ → Type 0
 Reaches xs a j = ((a ≤ j) × IsFull xs a j) ⊎ ((j < a) × IsFull xs a (length xs) × IsFull xs 0 j)
 
+-- where the table has slots, this one is empty, and the search for the hash ends there
+pub record IsVacant (hash at : ℕ) (xs : List (Option ℕ)) : Type 0 where
+  pub inside : at < length xs
+  pub free : slot xs at ≡ None
+  pub reached : Reaches xs (home (length xs) hash) at
+
+abbrev pub IsVacancy : ℕ → ℕ → List (Option ℕ) → Type 0
+IsVacancy hash at xs = 0 < length xs → IsVacant hash at xs
+
 -- each position that the index holds is in the list, the search for its text gets there, and finds the tag of its hash
 pub record IsFiled (hash_of : Text → ℕ) (texts : List Text) (table : Table) : Type 0 where
   pub in_list : (j n : ℕ) → slot table.slots j ≡ Some n → n < length texts

@@ -12,6 +12,7 @@ pub mod KeySlots
 pub mod Scan
 pub mod Bucket
 pub mod Arena
+pub mod Doubled
 pub mod Placements
 pub mod Waste
 pub mod Cells

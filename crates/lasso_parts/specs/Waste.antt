@@ -1,10 +1,34 @@
--- How much of the memory can be waste, in an arena that was never cleared.
-use Rattle.std.specs.Prelude.{ℕ, ◌+◌, ◌*◌, ◌≤◌}
+-- How much of the memory can be waste: linear facts that hold of an account, and from which the bounds follow.
+use Rattle.std.specs.Prelude.{◌≡◌, ℕ, ◌+◌, ◌-◌, ◌*◌, ◌<◌, ◌≤◌, ◌⊎◌, max, min}
 use Rattle.lasso_parts.specs.Account.{Account}
 
--- facts that hold of the account where the first bucket had `first` bytes and `copied` bytes were copied in since
+-- in an arena that was never cleared, where the first bucket had `first` bytes and `copied` bytes were copied in since
 pub record IsThrifty (first copied : ℕ) (a : Account) : Type 0 where
-  pub room : a.room ≤ a.size
+  pub spare : a.spare ≡ 0
   pub usage : a.usage ≤ 2 * copied + a.room
   pub doubling : a.doubling ≤ copied + a.room
-  pub size : a.size ≤ 2 * copied + first
+  pub room : a.room ≤ 2 * copied + first
+
+-- in any arena, where the first bucket had `first` bytes, `copied` bytes were copied in since the last clear, and at
+-- most `most` between two clears
+pub record IsThriftySince (first copied most : ℕ) (a : Account) : Type 0 where
+  pub counted : copied ≤ most
+  pub grown : first ≤ a.doubling
+  -- the doubling size is the first bucket's, or at least twice that
+  pub step : min (a.doubling - first) (2 * first - a.doubling) ≡ 0
+  -- the first bucket and the doubled ones take twice the doubling size less the first; what the others take
+  pub held : 2 * a.doubling ≤ a.usage + first
+  pub left : a.usage + first ≤ 2 * a.doubling + 2 * copied + a.room
+  pub over : a.usage + first ≤ 2 * a.doubling + 4 * copied
+  pub doubling : a.doubling ≤ first + 2 * most
+  -- the greatest kept bucket is a spare, or was filled or left since the clear
+  pub greatest : a.doubling ≤ max a.spare (copied + a.room)
+
+-- what follows of the size of a spare: the spares have different sizes, of which the greatest possible is the doubling size
+pub record IsSpare (a : Account) (size : ℕ) : Type 0 where
+  pub part : size ≤ a.spare
+  pub apart : (size ≡ a.doubling) ⊎ ((a.spare < a.doubling) ⊎ (size + a.doubling ≤ a.spare))
+
+-- what follows where no spare has n bytes: the greatest possible one, where it is a spare, has fewer
+abbrev pub HasNoSpare : Account → ℕ → Type 0
+HasNoSpare a n = a.doubling ≤ a.spare → a.doubling < n

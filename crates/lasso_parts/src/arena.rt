@@ -1,10 +1,11 @@
 //! The arena: buckets that texts are copied into, which grow in number under a limit on their bytes.
-ghost use Rattle.std.specs.Prelude.{◌≡◌, ◌+◌, ◌<◌, ◌-◌, ◌^◌, ◌≤◌, ◌⊎◌, ◌↔◌, ◌++◌, ◌∷◌, length, map, [], IfOk, IfErr, OnErr, IsOk, IsSome, IsTrue, Some, None, Err};
-ghost use denote.RawPtr.{Ptr};
-ghost use Rattle.lasso_parts.specs.Account.{fresh, store, clear, with_limit};
+ghost use Rattle.std.specs.Prelude.{◌≡◌, ◌+◌, ◌*◌, ◌<◌, ◌-◌, ◌^◌, ◌≤◌, ◌⊎◌, ◌↔◌, length, map, IfOk, IfErr, OnErr, IsOk, IsSome, IsTrue, Some, None, Err};
+ghost use Rattle.lasso_parts.specs.Account.{fresh, store, spare_for, clear, with_limit};
 ghost use Rattle.lasso_parts.specs.declared.util.LassoErrorKind.TheVariants.{MemoryLimitReached, FailedAllocation};
 
 mod owned;
+mod placing;
+mod storing;
 #[cfg(test)]
 mod tests;
 
@@ -30,6 +31,8 @@ pub struct Span {
 enum Placement {
     // the current region, which has room
     Current,
+    // the spare region at that position, which is the smallest that has room
+    Spare(usize),
     // a new region of exactly the text's bytes, which does not become the current one
     Exact,
     // a new region of what the limit leaves
@@ -41,30 +44,34 @@ enum Placement {
 }
 
 /// Memory that texts are copied into: a list of regions, each a bucket, which are freed with the arena.
-/// Contracts see the regions with their bytes and capacities, which of them is filled next, the doubling
-/// size, and the limit; the account, the usage and the number of bytes copied in are derived from these.
+/// Contracts see the regions with their bytes and capacities, which of them is filled next, how many the
+/// last clear kept, the doubling size, the limit, and the most bytes copied in between two clears so far;
+/// the account, the usage and the number of bytes copied in are derived from these.
 #[derive(Drop)]
 pub struct Arena<A: Allocator> {
     regions: OwnedRegions<A>,
     current: usize,
+    kept: usize,
     doubling: usize,
     usage: usize,
     limit: usize,
+    most: usize,
 }
 
 impl<A: Allocator> Model for Arena<A> {
-    ghost use Rattle.std.specs.Prelude.{◌≡◌, ◌<◌, length};
+    ghost use Rattle.std.specs.Prelude.{◌≡◌};
     ghost use Rattle.lasso_parts.specs.Arena.{Regions, usage_of};
+    ghost use Rattle.lasso_parts.specs.Doubled.{IsSound};
 
     ghost Value = { Regions };
 
-    ghost view = { λ a. record { all = a.regions; current = a.current; doubling = a.doubling; limit = a.limit } };
+    ghost view = { λ a. record { all = a.regions; current = a.current; kept = a.kept; doubling = a.doubling; limit = a.limit; most = a.most } };
 
-    ghost invariant = { λ a. (a.current < length a.regions) × (a.usage ≡ usage_of a.regions) };
+    ghost invariant = { λ a. (a.usage ≡ usage_of a.regions) × IsSound (record { all = a.regions; current = a.current; kept = a.kept; doubling = a.doubling; limit = a.limit; most = a.most }) };
 }
 
 impl<A: Allocator + Clone> Arena<A> {
-    ghost use Rattle.lasso_parts.specs.Arena.{account_of, copied_of, first_of};
+    ghost use Rattle.lasso_parts.specs.Arena.{account_of, copied_of, first_of, most_of};
 
     /// An arena with a first region of so many bytes, whose regions take at most `limit` bytes. The limit
     /// may lie below the first region's bytes. It is refused for want of memory alone.
@@ -73,6 +80,7 @@ impl<A: Allocator + Clone> Arena<A> {
         ensures account { IfOk result (λ arena. account_of arena ≡ fresh bytes limit) }
         ensures first { IfOk result (λ arena. first_of arena ≡ bytes) }
         ensures copied { IfOk result (λ arena. copied_of arena ≡ 0) }
+        ensures most { IfOk result (λ arena. most_of arena ≡ 0) }
         ensures refused { IfErr result (λ error. error ≡ FailedAllocation) }
     {
         let mut regions = OwnedRegions::new(alloc)?;
@@ -80,9 +88,11 @@ impl<A: Allocator + Clone> Arena<A> {
         Ok(Arena {
             regions,
             current: 0,
+            kept: 1,
             doubling: bytes,
             usage: bytes,
             limit,
+            most: 0,
         })
     }
 
@@ -92,6 +102,7 @@ impl<A: Allocator + Clone> Arena<A> {
         ensures account { IfOk result (λ arena. account_of arena ≡ fresh 4096 (2 ^ 64 - 1)) }
         ensures first { IfOk result (λ arena. first_of arena ≡ 4096) }
         ensures copied { IfOk result (λ arena. copied_of arena ≡ 0) }
+        ensures most { IfOk result (λ arena. most_of arena ≡ 0) }
         ensures refused { IfErr result (λ error. error ≡ FailedAllocation) }
     {
         Arena::new(alloc, 4096, usize::MAX)
@@ -99,12 +110,15 @@ impl<A: Allocator + Clone> Arena<A> {
 }
 
 impl<A: Allocator> Arena<A> {
-    ghost use Rattle.lasso_parts.specs.Arena.{account_of, copied_of, usage_of, first_of, IsStored, text_at, emptied};
-    ghost use Rattle.lasso_parts.specs.Placements.{IsPlacementFor};
+    ghost use Rattle.lasso_parts.specs.Arena.{account_of, copied_of, usage_of, first_of, most_of, IsStored, text_at, emptied};
+    ghost use Rattle.lasso_parts.specs.Doubled.{kept_of};
 
-    /// The bytes that all regions take.
+    /// The bytes that all regions take. They are at most the first region's and eight times the most bytes
+    /// that were copied in between two clears; the time before the first clear and that after the last
+    /// count too.
     pub fn memory_usage(&self) -> usize
         ensures usage { result ≡ usage_of self.now.all }
+        ensures waste { result ≤ first_of self.now + 8 * most_of self.now }
     {
         self.usage
     }
@@ -123,11 +137,11 @@ impl<A: Allocator> Arena<A> {
         self.regions.as_slice()
     }
 
-    /// Whether a text of `n` bytes fits, or is within the limit: `store_str` then fails for want of memory
-    /// alone. It takes no memory.
+    /// Whether a text of `n` bytes fits, in the current region or in a spare, or is within the limit:
+    /// `store_str` then fails for want of memory alone. It takes no memory.
     pub fn admits(&self, n: usize) -> bool
-        ensures account { IsTrue result ↔ IsSome (store (account_of self.now) n) }
-        ensures sums { IsTrue result ↔ (n ≤ (account_of self.now).room) ⊎ ((account_of self.now).usage + n ≤ self.now.limit) }
+        ensures account { IsTrue result ↔ IsSome (store (first_of self.now) (account_of self.now) n) }
+        ensures sums { IsTrue result ↔ (n ≤ (account_of self.now).room) ⊎ (IsSome (spare_for (first_of self.now) (account_of self.now) n) ⊎ ((account_of self.now).usage + n ≤ self.now.limit)) }
     {
         n == 0 || !matches!(self.placement_for(n), Placement::Refused)
     }
@@ -148,62 +162,43 @@ impl<A: Allocator> Arena<A> {
         self.limit = limit;
     }
 
-    /// Forgets every text, and keeps the memory. A span or an entry from before names only what is stored
-    /// there since, or no bytes.
-    #[tactic(auto, using(crate::proofs::Regions::copied_emptied))]
+    /// Forgets every text. The first region and the doubled ones are kept, and filled again; those of exact
+    /// size and the remnants are given back. It takes no memory and can't fail. A span or an entry from
+    /// before names only what is stored there since, or nothing.
     pub fn clear(&mut self)
-        ensures emptied { self.new ≡ record self.old { all = map emptied self.old.all } }
-        ensures account { account_of self.new ≡ clear (account_of self.old) }
+        ensures kept { self.new.all ≡ map emptied (kept_of self.old.all) }
+        ensures account { account_of self.new ≡ clear (first_of self.old) (account_of self.old) }
         ensures first { first_of self.new ≡ first_of self.old }
         ensures copied { copied_of self.new ≡ 0 }
+        ensures most { most_of self.new ≡ most_of self.old }
     {
-        self.regions.clear();
-    }
-
-    // Where a text of n bytes goes. No sum is made that can wrap.
-    fn placement_for(&self, n: usize) -> Placement
-        requires { 0 < n }
-        ensures { IsPlacementFor (account_of self.now) n result }
-    {
-        if n <= self.regions.as_slice()[self.current].free_elements() {
-            return Placement::Current;
-        }
-        let left = self.limit.saturating_sub(self.usage);
-        if self.doubling < n - self.doubling.min(n) {
-            return if left < n {
-                Placement::Refused
-            } else {
-                Placement::Exact
-            };
-        }
-        if left / 2 < self.doubling {
-            return if left < n {
-                Placement::Refused
-            } else {
-                Placement::Remnant(left)
-            };
-        }
-        Placement::Doubled(2 * self.doubling)
+        self.most = self.most.max(self.regions.copied());
+        let first = self.regions.as_slice()[0].capacity();
+        self.kept = self.regions.clear();
+        self.current = 0;
+        self.usage = self.doubling - first + self.doubling;
     }
 }
 
 impl<A: Allocator + Clone> Arena<A> {
-    ghost use Rattle.lasso_parts.specs.Arena.{account_of, copied_of, first_of, IsStored, text_at, KeepsTexts};
+    ghost use Rattle.lasso_parts.specs.Arena.{account_of, copied_of, first_of, most_of, IsStored, text_at, KeepsTexts};
 
     /// Copies a text in and answers where it lies. Every text that was stored before stays where it is. A
-    /// text of no bytes takes no memory. A text longer than twice the doubling size gets a region of just
-    /// its bytes, which does not become the current one. A text that the limit refuses is refused before
-    /// any memory is asked for; else it is refused for want of memory alone, and only where it needs a new
-    /// region. A refusal changes nothing: no region, no byte of one, nor the current region, the doubling
-    /// size or the limit.
+    /// text of no bytes takes no memory. Where the current region has no room, the smallest spare that has
+    /// it is filled: one that the last `clear` kept and that is empty still. A text longer than twice the
+    /// doubling size then gets a region of just its bytes, which does not become the current one. A text
+    /// that the limit refuses is refused before any memory is asked for; else it is refused for want of
+    /// memory alone, and only where it needs a new region. A refusal changes nothing: no region, no byte of
+    /// one, nor the current region, the spares, the doubling size or the limit.
     pub fn store_str(&mut self, text: &str) -> LassoResult<Span>
-        ensures account { IsOk result → store (account_of self.old) (length text.now) ≡ Some (account_of self.new) }
+        ensures account { IsOk result → store (first_of self.old) (account_of self.old) (length text.now) ≡ Some (account_of self.new) }
         ensures first { first_of self.new ≡ first_of self.old }
         ensures stored { IfOk result (λ span. IsStored self.new.all span × (text_at self.new.all span ≡ text.now)) }
         ensures kept { KeepsTexts self.old.all self.new.all }
         ensures copied { IsOk result → copied_of self.new ≡ copied_of self.old + length text.now }
-        ensures limit { (result ≡ Err MemoryLimitReached) ↔ (store (account_of self.old) (length text.now) ≡ None) }
-        ensures memory { IfErr result (λ error. (error ≡ MemoryLimitReached) ⊎ (error ≡ FailedAllocation) × ((account_of self.old).room < length text.now)) }
+        ensures most { self.new.most ≡ self.old.most }
+        ensures limit { (result ≡ Err MemoryLimitReached) ↔ (store (first_of self.old) (account_of self.old) (length text.now) ≡ None) }
+        ensures memory { IfErr result (λ error. (error ≡ MemoryLimitReached) ⊎ (error ≡ FailedAllocation) × ((account_of self.old).room < length text.now) × (spare_for (first_of self.old) (account_of self.old) (length text.now) ≡ None)) }
         ensures err { OnErr result (self.new ≡ self.old) }
     {
         let n = text.len();
@@ -216,47 +211,11 @@ impl<A: Allocator + Clone> Arena<A> {
         }
         match self.placement_for(n) {
             Placement::Refused => Err(LassoError::new(LassoErrorKind::MemoryLimitReached)),
-            Placement::Current => {
-                let start = self.regions.push_text(self.current, text);
-                Ok(Span {
-                    region: self.current,
-                    start,
-                    len: n,
-                })
-            }
-            Placement::Exact => self.store_in_new(n, text),
-            Placement::Remnant(size) => {
-                let span = self.store_in_new(size, text)?;
-                self.current = span.region;
-                Ok(span)
-            }
-            Placement::Doubled(size) => {
-                let span = self.store_in_new(size, text)?;
-                self.current = span.region;
-                self.doubling = size;
-                Ok(span)
-            }
+            Placement::Current => Ok(self.store_in_current(text)),
+            Placement::Spare(at) => Ok(self.store_in_spare(at, text)),
+            Placement::Exact => self.store_in_exact(text),
+            Placement::Remnant(size) => self.store_in_remnant(size, text),
+            Placement::Doubled(size) => self.store_in_doubled(size, text),
         }
-    }
-
-    // Copies a text into a new region. The usage is counted once the region is there.
-    fn store_in_new(&mut self, size: usize, text: &str) -> LassoResult<Span>
-        requires some { 0 < size }
-        requires room { length text.now ≤ size }
-        requires limit { (account_of self.old).usage + size ≤ self.old.limit }
-        ensures span { IfOk result (λ span. span ≡ record { region = length self.old.all; start = 0; len = length text.now }) }
-        ensures err { OnErr result (self.new ≡ self.old) }
-        ensures refused { IfErr result (λ error. error ≡ FailedAllocation) }
-        ensures added { IsOk result → (at : Ptr) × (self.new ≡ record self.old { all = self.old.all ++ record { at = at; bytes = text.now; capacity = size } ∷ [] }) }
-    {
-        let region = self.regions.as_slice().len();
-        self.regions.push(size)?;
-        self.usage += size;
-        let start = self.regions.push_text(region, text);
-        Ok(Span {
-            region,
-            start,
-            len: text.len(),
-        })
     }
 }

@@ -1,8 +1,8 @@
 //! `Index`, from a text to its position in a list that another owns.
-ghost use Rattle.std.specs.Prelude.{◌≡◌, ◌≢◌, ℕ, ◌+◌, ◌<◌, ◌≤◌, ◌⊎◌, ◌↔◌, length, slice_get, Some, IfSome, IfNone, OnOk, OnErr, IsTrue, IfOk, IfErr, IsOk};
+ghost use Rattle.std.specs.Prelude.{◌≡◌, ◌≢◌, ℕ, ◌+◌, ◌<◌, ◌≤◌, ◌⊎◌, ◌↔◌, length, slice_get, Some, IfSome, IfNone, OnOk, OnErr, IsTrue, IfOk, IfErr, IsOk, MatchResult, None};
 ghost use Rattle.lasso_parts.specs.declared.util.LassoErrorKind.TheVariants.{FailedAllocation};
 ghost use Rattle.lasso_parts.specs.Hashing.{text_hash};
-ghost use Rattle.lasso_parts.specs.Index.{Holds, HoldsNone, IsFiled, IsFiledAnywhere, StaysFiled, IsIndexOf, IsFewest, used, room, grown_count};
+ghost use Rattle.lasso_parts.specs.Index.{Holds, HoldsNone, IsFiled, IsFiledAnywhere, IsVacancy, StaysFiled, IsIndexOf, IsFewest, used, room, grown_count};
 ghost use Rattle.lasso_parts.specs.Texts.{position_of, Fits};
 
 #[cfg(test)]
@@ -14,17 +14,19 @@ mod probe;
 mod table;
 #[cfg(test)]
 mod tests;
+mod vacancy;
 
 use crate::keys::Key;
 use crate::util::{LassoError, LassoErrorKind, LassoResult};
 pub use hashing::hash_text;
 use key_slots::KeySlots;
 pub use lists::Texts;
-use probe::{Scan, home_slot, scan_slots, tag_of};
+use probe::{Scan, free_slot, home_slot, scan_slots, tag_of};
 use std::alloc::Allocator;
 use std::hash::BuildHasher;
 use std::marker::Model;
-use table::{enter, grown_slots, rebuilt, rebuilt_in_order, slot_count};
+use table::{enter, enter_at, grown_slots, rebuilt, rebuilt_in_order, slot_count};
+pub use vacancy::Vacancy;
 
 /// An index from a text to its position: an open-addressed table of keys alone. It has no slots, or a
 /// power of two of them, and at most three quarters are filled. A key's text is read from the list that
@@ -107,6 +109,29 @@ impl<K: Key, A: Allocator> Index<K, A> {
         ensures missing { IfNone result ((n : ℕ) → Holds self.now.slots n → slice_get (T.list texts.now) n ≢ Some text.now) }
         ensures whole { let hash_of = text_hash S.build_hasher S.Hasher.write S.Hasher.finish hasher.now in IsIndexOf hash_of (T.list texts.now) self.now → result ≡ position_of (T.list texts.now) text.now }
     {
+        match self.locate(texts, hasher, hash, text) {
+            Ok(position) => Some(position),
+            Err(_) => None,
+        }
+    }
+
+    /// The position of the text as `find_hashed` has it, or else where its key would go, which `insert_at`
+    /// takes.
+    #[inline]
+    pub fn locate<T: Texts, S: BuildHasher>(
+        &self,
+        texts: &T,
+        hasher: &S,
+        hash: u64,
+        text: &str,
+    ) -> Result<usize, Vacancy>
+        requires hashed { hash ≡ text_hash S.build_hasher S.Hasher.write S.Hasher.finish hasher.now text.now }
+        requires filed { IsFiled (text_hash S.build_hasher S.Hasher.write S.Hasher.finish hasher.now) (T.list texts.now) self.now }
+        ensures found { IfOk result (λ n. Holds self.now.slots n × (slice_get (T.list texts.now) n ≡ Some text.now)) }
+        ensures missing { IfErr result (λ _. (n : ℕ) → Holds self.now.slots n → slice_get (T.list texts.now) n ≢ Some text.now) }
+        ensures vacant { IfErr result (λ vacancy. IsVacancy hash vacancy self.now.slots) }
+        ensures whole { let hash_of = text_hash S.build_hasher S.Hasher.write S.Hasher.finish hasher.now in IsIndexOf hash_of (T.list texts.now) self.now → MatchResult result (λ n. position_of (T.list texts.now) text.now ≡ Some n) (λ _. position_of (T.list texts.now) text.now ≡ None) }
+    {
         self.search(texts, hasher, hash, text)
     }
 
@@ -144,16 +169,20 @@ impl<K: Key, A: Allocator> Index<K, A> {
 
     /// The same for the index of a whole list, which holds the positions 0, 1, 2 and so on: where the table
     /// grows they are entered again in that order, so that texts which lie side by side are read one after
-    /// another.
+    /// another. It takes where a text of that hash would go, and answers where it goes now.
     pub fn reserve_in_order<T: Texts, S: BuildHasher>(
         &mut self,
         texts: &T,
         hasher: &S,
-    ) -> LassoResult<()>
+        hash: u64,
+        vacancy: Vacancy,
+    ) -> LassoResult<Vacancy>
     where
         A: Clone,
         requires whole { IsIndexOf (text_hash S.build_hasher S.Hasher.write S.Hasher.finish hasher.now) (T.list texts.now) self.old }
         requires fits { Fits K.key_at (length (T.list texts.now)) }
+        requires vacant { IsVacancy hash vacancy self.old.slots }
+        ensures vacant { IfOk result (λ at. IsVacancy hash at self.new.slots) }
         ensures room { OnOk result (0 < room self.new.slots) }
         ensures whole { IsIndexOf (text_hash S.build_hasher S.Hasher.write S.Hasher.finish hasher.now) (T.list texts.now) self.new }
         ensures enough { 0 < room self.old.slots → IsOk result × (self.new ≡ self.old) }
@@ -162,7 +191,7 @@ impl<K: Key, A: Allocator> Index<K, A> {
         ensures unchanged { OnErr result (self.new ≡ self.old) }
     {
         if self.has_room() {
-            return Ok(());
+            return Ok(vacancy);
         }
         let Some(count) = grown_slots(self.slots.len()) else {
             return Err(LassoError::new(LassoErrorKind::FailedAllocation));
@@ -170,7 +199,7 @@ impl<K: Key, A: Allocator> Index<K, A> {
         let alloc = self.slots.allocator().clone()?;
         let slots = rebuilt_in_order(alloc, count, self.used, texts, hasher)?;
         self.slots = slots;
-        Ok(())
+        Ok(Vacancy::at(free_slot(&self.slots, hash)))
     }
 
     /// Enters the key under the hash of its text. There must be room, which `reserve_one` and
@@ -185,6 +214,21 @@ impl<K: Key, A: Allocator> Index<K, A> {
         ensures filed { StaysFiled hash (K.number key) self.old self.new }
     {
         enter(&mut self.slots, hash, key);
+        self.used += 1;
+    }
+
+    /// The same where it is known where the key goes.
+    #[inline]
+    pub fn insert_at(&mut self, vacancy: Vacancy, hash: u64, key: K)
+        requires room { 0 < room self.old.slots }
+        requires vacant { IsVacancy hash vacancy self.old.slots }
+        ensures holds { (n : ℕ) → Holds self.new.slots n ↔ (Holds self.old.slots n ⊎ (n ≡ K.number key)) }
+        ensures used { used self.new.slots ≡ used self.old.slots + 1 }
+        ensures room { room self.new.slots + 1 ≡ room self.old.slots }
+        ensures slots { length self.new.slots ≡ length self.old.slots }
+        ensures filed { StaysFiled hash (K.number key) self.old self.new }
+    {
+        enter_at(&mut self.slots, vacancy.slot(), hash, key);
         self.used += 1;
     }
 
@@ -207,7 +251,7 @@ impl<K: Key, A: Allocator> Index<K, A> {
         self.used < self.slots.len() / 4 * 3
     }
 
-    // What `find_hashed` answers, from the slots: first from the home slot up, then below it.
+    // What `locate` answers, from the slots: first from the home slot up, then below it.
     #[inline]
     fn search<T: Texts, S: BuildHasher>(
         &self,
@@ -215,26 +259,28 @@ impl<K: Key, A: Allocator> Index<K, A> {
         hasher: &S,
         hash: u64,
         text: &str,
-    ) -> Option<usize>
+    ) -> Result<usize, Vacancy>
         requires hashed { hash ≡ text_hash S.build_hasher S.Hasher.write S.Hasher.finish hasher.now text.now }
         requires filed { IsFiled (text_hash S.build_hasher S.Hasher.write S.Hasher.finish hasher.now) (T.list texts.now) self.now }
-        ensures found { IfSome result (λ n. Holds self.now.slots n × (slice_get (T.list texts.now) n ≡ Some text.now)) }
-        ensures missing { IfNone result ((n : ℕ) → Holds self.now.slots n → slice_get (T.list texts.now) n ≢ Some text.now) }
+        ensures found { IfOk result (λ n. Holds self.now.slots n × (slice_get (T.list texts.now) n ≡ Some text.now)) }
+        ensures missing { IfErr result (λ _. (n : ℕ) → Holds self.now.slots n → slice_get (T.list texts.now) n ≢ Some text.now) }
+        ensures vacant { IfErr result (λ vacancy. IsVacancy hash vacancy self.now.slots) }
     {
         let count = self.slots.len();
         if count == 0 {
-            return None;
+            return Err(Vacancy::at(0));
         }
         let home = home_slot(hash, count);
         let tag = tag_of(hash);
         match scan_slots(&self.slots, texts, text, tag, home, count) {
-            Scan::Found(position) => Some(position),
-            Scan::Ended => None,
-            Scan::Passed => match scan_slots(&self.slots, texts, text, tag, 0, home) {
-                Scan::Found(position) => Some(position),
-                Scan::Ended => None,
-                Scan::Passed => None,
-            },
+            Scan::Found(position) => return Ok(position),
+            Scan::Ended(slot) => return Err(Vacancy::at(slot)),
+            Scan::Passed => {}
+        }
+        match scan_slots(&self.slots, texts, text, tag, 0, home) {
+            Scan::Found(position) => Ok(position),
+            Scan::Ended(slot) => Err(Vacancy::at(slot)),
+            Scan::Passed => unreachable!(),
         }
     }
 }

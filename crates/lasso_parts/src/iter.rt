@@ -49,6 +49,13 @@ impl<'a, K: Key> Strings<'a, K> {
 
     /// Passes over `n` texts from the front and gives the next. Where no more than `n` are left, it gives
     /// `None`, and none is left then.
+    ///
+    /// ```rust
+    /// let rodeo: SpurRodeo = Rodeo::from_iter(rt.alloc(), ["red", "green", "blue"])?;
+    /// let mut ahead = rodeo.strings();
+    /// assert_eq!(rt; ahead.nth(1), Some("green"));
+    /// assert_eq!(rt; ahead.next(), Some("blue"));
+    /// ```
     pub fn nth(&mut self, n: usize) -> Option<&'a str>
         ensures rest { self.new ≡ drop (n + 1) self.old }
         ensures text { option_map (λ t. t.now) result ≡ slice_get self.old n }
@@ -67,6 +74,13 @@ impl<'a, K: Key> Strings<'a, K> {
 
     /// Passes over `n` texts from the back and gives the next. Where no more than `n` are left, it gives
     /// `None`, and none is left then.
+    ///
+    /// ```rust
+    /// let rodeo: SpurRodeo = Rodeo::from_iter(rt.alloc(), ["red", "green", "blue"])?;
+    /// let mut behind = rodeo.strings();
+    /// assert_eq!(rt; behind.nth_back(1), Some("green"));
+    /// assert_eq!(rt; behind.next_back(), Some("red"));
+    /// ```
     pub fn nth_back(&mut self, n: usize) -> Option<&'a str>
         ensures rest { self.new ≡ take (length self.old - (n + 1)) self.old }
         ensures text { n < length self.old → option_map (λ t. t.now) result ≡ slice_get self.old (length self.old - (n + 1)) }
@@ -148,6 +162,13 @@ impl<'a, K: Key> Clone for Strings<'a, K> {
 
 /// A walk over texts and their keys, in the order of the keys. Contracts see it as the list of the texts
 /// that are left, each behind its key's number.
+///
+/// ```rust
+/// let rodeo: SpurRodeo = Rodeo::from_iter(rt.alloc(), ["red", "green", "blue"])?;
+/// for (key, text) in &rodeo {
+///     assert_eq!(rt; rodeo.try_resolve(key), Some(text));
+/// }
+/// ```
 #[derive(Drop)]
 pub struct Iter<'a, K: Key> {
     strings: Strings<'a, K>,
@@ -183,6 +204,14 @@ impl<'a, K: Key> Iter<'a, K> {
 
     /// Passes over `n` texts from the front and gives the next and its key. Where no more than `n` are
     /// left, it gives `None`, and none is left then.
+    ///
+    /// ```rust
+    /// let rodeo: SpurRodeo = Rodeo::from_iter(rt.alloc(), ["red", "green", "blue"])?;
+    /// let green = rodeo.get("green").ok_or("not there")?;
+    /// let mut ahead = rodeo.iter();
+    /// assert_eq!(rt; ahead.nth(1), Some((green, "green")));
+    /// assert_eq!(rt; ahead.nth(1), None);
+    /// ```
     pub fn nth(&mut self, n: usize) -> Option<(K, &'a str)>
         ensures rest { self.new ≡ drop (n + 1) self.old }
         ensures item { option_map (λ x. (K.number x.0, x.1.now)) result ≡ slice_get self.old n }

@@ -18,10 +18,21 @@ pub trait Key: Copy + Eq {
     ghost key_at: { ℕ → Option Self };
 
     /// The key's position.
+    ///
+    /// ```rust
+    /// let third = Spur::try_from_usize(2).ok_or("no key")?;
+    /// assert_eq!(rt; third.into_usize(), 2);
+    /// ```
     fn into_usize(self) -> usize
         ensures { result ≡ number self };
 
     /// The key of the position, or `None` where the type lacks it.
+    ///
+    /// ```rust
+    /// let last = MicroSpur::try_from_usize(254).ok_or("no key")?;
+    /// assert_eq!(rt; last.into_usize(), 254);
+    /// assert!(rt; MicroSpur::try_from_usize(255).is_none());
+    /// ```
     fn try_from_usize(position: usize) -> Option<Self>
         ensures { result ≡ key_at position };
 

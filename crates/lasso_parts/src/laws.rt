@@ -7,8 +7,8 @@ ghost use Rattle.std.specs.Prelude.{◌≡◌};
 use crate::util::Capacity;
 use std::cmp::Ord;
 
-/// A text is refused exactly where it is longer than the room of the current bucket and the usage
-/// and its bytes pass the limit.
+/// A text is refused exactly where it is longer than the room of the current bucket, no spare bucket
+/// has its bytes, and the usage and its bytes pass the limit.
 pub fn store_refuses_exactly_past_limit()
     ensures { RefusesExactlyPastLimit }
 {}

@@ -28,6 +28,12 @@ pub enum LassoErrorKind {
 
 impl LassoErrorKind {
     /// Whether it is `MemoryLimitReached`.
+    ///
+    /// ```rust
+    /// let kind = LassoErrorKind::MemoryLimitReached;
+    /// assert!(rt; kind.is_memory_limit());
+    /// assert!(rt; !kind.is_failed_alloc());
+    /// ```
     pub fn is_memory_limit(self) -> bool
         ensures { IsTrue result ↔ (self ≡ LassoErrorKind.MemoryLimitReached) }
     {
@@ -35,6 +41,12 @@ impl LassoErrorKind {
     }
 
     /// Whether it is `KeySpaceExhaustion`.
+    ///
+    /// ```rust
+    /// let kind = LassoErrorKind::KeySpaceExhaustion;
+    /// assert!(rt; kind.is_keyspace_exhaustion());
+    /// assert!(rt; !kind.is_memory_limit());
+    /// ```
     pub fn is_keyspace_exhaustion(self) -> bool
         ensures { IsTrue result ↔ (self ≡ LassoErrorKind.KeySpaceExhaustion) }
     {
@@ -42,6 +54,12 @@ impl LassoErrorKind {
     }
 
     /// Whether it is `FailedAllocation`.
+    ///
+    /// ```rust
+    /// let kind = LassoErrorKind::FailedAllocation;
+    /// assert!(rt; kind.is_failed_alloc());
+    /// assert!(rt; !kind.is_keyspace_exhaustion());
+    /// ```
     pub fn is_failed_alloc(self) -> bool
         ensures { IsTrue result ↔ (self ≡ LassoErrorKind.FailedAllocation) }
     {
@@ -81,6 +99,11 @@ impl Model for LassoError {
 
 impl LassoError {
     /// The refusal of that kind.
+    ///
+    /// ```rust
+    /// let error = LassoError::new(LassoErrorKind::FailedAllocation);
+    /// assert!(rt; error.kind() == LassoErrorKind::FailedAllocation);
+    /// ```
     pub fn new(kind: LassoErrorKind) -> Self
         ensures { result ≡ kind }
     {
@@ -123,6 +146,12 @@ impl<T: Drop> From<AllocFailed<T>> for LassoError {
 }
 
 /// The first room of an interner: for how many texts, and for how many bytes. The bytes are never 0.
+///
+/// ```rust
+/// let capacity = Capacity::default();
+/// assert_eq!(rt; capacity.strings(), 50);
+/// assert_eq!(rt; capacity.bytes(), 4096);
+/// ```
 #[derive(Clone, Copy, Debug, PartialEq, Eq, PartialOrd, Ord, Hash)]
 pub struct Capacity {
     strings: usize,
@@ -144,6 +173,12 @@ impl Model for Capacity {
 
 impl Capacity {
     /// Room for so many texts and so many bytes.
+    ///
+    /// ```rust
+    /// let capacity = Capacity::new(3, 9);
+    /// assert_eq!(rt; capacity.strings(), 3);
+    /// assert_eq!(rt; capacity.bytes(), 9);
+    /// ```
     pub fn new(strings: usize, bytes: usize) -> Self
         requires { 0 < bytes }
         ensures strings { result.strings ≡ strings }
@@ -153,6 +188,12 @@ impl Capacity {
     }
 
     /// Room for so many texts, and for 4096 bytes.
+    ///
+    /// ```rust
+    /// let capacity = Capacity::for_strings(10);
+    /// assert_eq!(rt; capacity.strings(), 10);
+    /// assert_eq!(rt; capacity.bytes(), 4096);
+    /// ```
     pub fn for_strings(strings: usize) -> Self
         ensures strings { result.strings ≡ strings }
         ensures bytes { result.bytes ≡ 4096 }
@@ -161,6 +202,12 @@ impl Capacity {
     }
 
     /// Room for 50 texts, and for so many bytes.
+    ///
+    /// ```rust
+    /// let capacity = Capacity::for_bytes(7);
+    /// assert_eq!(rt; capacity.strings(), 50);
+    /// assert_eq!(rt; capacity.bytes(), 7);
+    /// ```
     pub fn for_bytes(bytes: usize) -> Self
         requires { 0 < bytes }
         ensures strings { result.strings ≡ 50 }
@@ -170,6 +217,12 @@ impl Capacity {
     }
 
     /// The least room: for no text, and for one byte.
+    ///
+    /// ```rust
+    /// let capacity = Capacity::minimal();
+    /// assert_eq!(rt; capacity.strings(), 0);
+    /// assert_eq!(rt; capacity.bytes(), 1);
+    /// ```
     pub fn minimal() -> Self
         ensures strings { result.strings ≡ 0 }
         ensures bytes { result.bytes ≡ 1 }
@@ -202,6 +255,11 @@ impl Default for Capacity {
 }
 
 /// The most bytes that an interner's buckets may take. Contracts see it as that number.
+///
+/// ```rust
+/// let limits = MemoryLimits::default();
+/// assert_eq!(rt; limits.max_memory_usage(), usize::MAX);
+/// ```
 #[derive(Clone, Copy, Debug, PartialEq, Eq, PartialOrd, Ord, Hash)]
 pub struct MemoryLimits {
     max_memory_usage: usize,
@@ -219,6 +277,11 @@ impl Model for MemoryLimits {
 
 impl MemoryLimits {
     /// A limit of so many bytes.
+    ///
+    /// ```rust
+    /// let limits = MemoryLimits::new(12);
+    /// assert_eq!(rt; limits.max_memory_usage(), 12);
+    /// ```
     pub fn new(max_memory_usage: usize) -> Self
         ensures { result ≡ max_memory_usage }
     {
@@ -226,6 +289,11 @@ impl MemoryLimits {
     }
 
     /// A limit of so many bytes: the same as `new`.
+    ///
+    /// ```rust
+    /// let limits = MemoryLimits::for_memory_usage(13);
+    /// assert_eq!(rt; limits.max_memory_usage(), 13);
+    /// ```
     pub fn for_memory_usage(max_memory_usage: usize) -> Self
         ensures { result ≡ max_memory_usage }
     {

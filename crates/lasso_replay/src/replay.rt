@@ -16,27 +16,12 @@ pub fn replay_command<K: Key, W: Write>(
     out: &mut W,
 ) -> io::Result<()> {
     match command {
-        ScriptCommand::Intern(text) => match rodeo.try_get_or_intern(text.as_str()) {
-            Ok(key) => {
-                let number = key.into_usize();
-                writeln!(out, "key {number}")
-            }
-            Err(error) => write_refusal(out, &error),
-        },
-        ScriptCommand::Get(text) => match rodeo.get(text.as_str()) {
-            Some(key) => {
-                let number = key.into_usize();
-                writeln!(out, "found {number}")
-            }
-            None => writeln!(out, "found none"),
-        },
-        ScriptCommand::Contains(text) => {
-            let flag = rodeo.contains(text.as_str());
-            writeln!(out, "flag {flag}")
-        }
+        ScriptCommand::Intern(text) => write_interned(out, rodeo.try_get_or_intern(text.as_str())),
+        ScriptCommand::Get(text) => write_found(out, rodeo.get(text.as_str())),
+        ScriptCommand::Contains(text) => write_flag(out, rodeo.contains(text.as_str())),
         ScriptCommand::Has(number) => {
-            let flag = K::try_from_usize(*number).is_some_and(|key| rodeo.contains_key(key));
-            writeln!(out, "flag {flag}")
+            let key = K::try_from_usize(*number);
+            write_flag(out, key.is_some_and(|key| rodeo.contains_key(key)))
         }
         ScriptCommand::Resolve(number) => match K::try_from_usize(*number) {
             Some(key) => write_text(out, rodeo.try_resolve(key)),
@@ -47,19 +32,15 @@ pub fn replay_command<K: Key, W: Write>(
         ScriptCommand::Max => write_number(out, rodeo.max_memory_usage()),
         ScriptCommand::Limit(bytes) => {
             rodeo.set_memory_limits(MemoryLimits::new(*bytes));
-            writeln!(out, "done")
+            write_outcome(out, Ok(()))
         }
         ScriptCommand::Clear => {
             rodeo.clear();
-            writeln!(out, "done")
+            write_outcome(out, Ok(()))
         }
-        ScriptCommand::Extend(texts) => {
-            let outcome = intern_all(rodeo, texts);
-            write_outcome(out, outcome)
-        }
+        ScriptCommand::Extend(texts) => write_outcome(out, intern_all(rodeo, texts)),
         ScriptCommand::CloneFrom(texts) => {
-            let outcome = clone_from_texts(alloc, rodeo, texts);
-            write_outcome(out, outcome)
+            write_outcome(out, clone_from_texts(alloc, rodeo, texts))
         }
     }
 }
@@ -82,6 +63,30 @@ fn clone_from_texts<K: Key>(
     let mut source = Rodeo::new(alloc)?;
     intern_all(&mut source, texts)?;
     rodeo.clone_from(&source)
+}
+
+fn write_interned<K: Key, W: Write>(out: &mut W, outcome: LassoResult<K>) -> io::Result<()> {
+    match outcome {
+        Ok(key) => {
+            let number = key.into_usize();
+            writeln!(out, "key {number}")
+        }
+        Err(error) => write_refusal(out, &error),
+    }
+}
+
+fn write_found<K: Key, W: Write>(out: &mut W, found: Option<K>) -> io::Result<()> {
+    match found {
+        Some(key) => {
+            let number = key.into_usize();
+            writeln!(out, "found {number}")
+        }
+        None => writeln!(out, "found none"),
+    }
+}
+
+fn write_flag<W: Write>(out: &mut W, flag: bool) -> io::Result<()> {
+    writeln!(out, "flag {flag}")
 }
 
 fn write_number<W: Write>(out: &mut W, number: usize) -> io::Result<()> {

@@ -22,15 +22,19 @@ changed_at (suc position) f (x ∷ xs) = x ∷ changed_at position f xs
 abbrev pub HasNoRoom : List CountedBucket → ℕ → Type 0
 HasNoRoom buckets n = All (λ (b : CountedBucket). b.size < b.used + n) buckets
 
--- the account of an interner whose buckets have no room
+-- the account of an interner whose buckets have no room, and none of which is a spare
 abbrev pub full : (doubling usage limit : ℕ) → Account
-full doubling usage limit = record { room = 0; size = 0; doubling = doubling; usage = usage; limit = limit }
+full doubling usage limit = record { room = 0; spare = 0; doubling = doubling; usage = usage; limit = limit }
+
+-- the account once n bytes are stored there. Without spares the first bucket's size is not asked.
+abbrev pub stored_in_full : (doubling usage limit n : ℕ) → Option Account
+stored_in_full doubling usage limit n = store 0 (full doubling usage limit) n
 
 -- the size of the bucket that n bytes, at least one, ask for where no bucket has room, or none where the limit refuses it:
 -- by as much the usage grows
 abbrev pub bucket_size : (doubling usage limit n : ℕ) → Option ℕ
-bucket_size doubling usage limit n = option_map (λ (a : Account). a.usage - usage) (store (full doubling usage limit) n)
+bucket_size doubling usage limit n = option_map (λ (a : Account). a.usage - usage) (stored_in_full doubling usage limit n)
 
 -- the doubling size once that bucket is there
 abbrev pub doubling_after : (doubling usage limit n : ℕ) → ℕ
-doubling_after doubling usage limit n = unwrap_or (option_map (λ (a : Account). a.doubling) (store (full doubling usage limit) n)) doubling
+doubling_after doubling usage limit n = unwrap_or (option_map (λ (a : Account). a.doubling) (stored_in_full doubling usage limit n)) doubling

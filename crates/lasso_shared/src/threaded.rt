@@ -58,6 +58,13 @@ impl<K: Key, S: BuildHasher + Drop> Fits for Desk<K, S> {
 
 /// An interner that threads share. A contract sees its book and what it opened with, which its maker fixes; what is
 /// known of its history is in the passes.
+///
+/// ```rust
+/// let rodeo: SpurThreadedRodeo = ThreadedRodeo::default(rt.alloc())?;
+/// let mut pass = rodeo.pass();
+/// let key = rodeo.try_get_or_intern_static_as(&rt, &mut pass, "Hello, world!")?;
+/// assert_eq!(rt; rodeo.try_resolve_as(&mut pass, key), Some("Hello, world!"));
+/// ```
 pub struct ThreadedRodeo<K: Key, S: BuildHasher + Drop> {
     log: Log<K>,
     desk: TaggedMutex<Desk<K, S>>,
@@ -108,6 +115,13 @@ impl ThreadedRodeo<Spur, FixedState> {
 impl<K: Key, S: BuildHasher + Drop> ThreadedRodeo<K, S> {
     /// An interner whose index asks the hasher, with a first bucket of 4096 bytes, and no limit below the greatest
     /// number. It is refused for want of memory alone.
+    ///
+    /// ```rust
+    /// let hasher = FixedState::new();
+    /// let rodeo: SpurThreadedRodeo = ThreadedRodeo::with_hasher(rt.alloc(), hasher)?;
+    /// let mut pass = rodeo.pass();
+    /// assert_eq!(rt; rodeo.try_resolve_as(&mut pass, Spur::default()), None);
+    /// ```
     pub fn with_hasher(alloc: Global, hasher: S) -> LassoResult<Self>
         ensures opening { IfOk result (λ t. t.opening ≡ opened [] 4096 0 (2 ^ 64 - 1)) }
         ensures refused { IfErr result (λ error. error ≡ FailedAllocation) }

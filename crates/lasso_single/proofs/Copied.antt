@@ -23,12 +23,12 @@ use Rattle.lasso_single.specs.Interner.{InternerView, KeepsOrigin, bytes_added}
 
 -- ---- a new text
 
-new_case : {K : Type 0} (key_at : ℕ → Option K) (held : Held) (text : Text) (p : Option ℕ) (r : Result Held LassoError) → p ≡ None → found_or_new key_at held text p ≡ r → keyed_or_refused held text (key_at (length held.texts)) ≡ r
-new_case key_at held text p r e h = subst (λ (q : Option ℕ). found_or_new key_at held text q ≡ r) e h
+new_case : {K : Type 0} (key_at : ℕ → Option K) (first : ℕ) (held : Held) (text : Text) (p : Option ℕ) (r : Result Held LassoError) → p ≡ None → found_or_new key_at first held text p ≡ r → keyed_or_refused first held text (key_at (length held.texts)) ≡ r
+new_case key_at first held text p r e h = subst (λ (q : Option ℕ). found_or_new key_at first held text q ≡ r) e h
 
-keyed_case : {K : Type 0} (held : Held) (text : Text) (o : Option K) (r : Result Held LassoError) → IsSome o → keyed_or_refused held text o ≡ r → stored_or_refused held text (store held.account (length text)) ≡ r
-keyed_case held text None r some h = cc
-keyed_case held text (Some k) r some h = h
+keyed_case : {K : Type 0} (first : ℕ) (held : Held) (text : Text) (o : Option K) (r : Result Held LassoError) → IsSome o → keyed_or_refused first held text o ≡ r → stored_or_refused held text (store first held.account (length text)) ≡ r
+keyed_case first held text None r some h = cc
+keyed_case first held text (Some k) r some h = h
 
 stored_ok : (held : Held) (text : Text) (s : Option Account) (b : Held) → stored_or_refused held text s ≡ Ok b → (b ≡ with_text held text b.account) × (s ≡ Some b.account)
 stored_ok held text None b h = cc
@@ -44,25 +44,25 @@ stored_some held text None r h ok = cc
 stored_some held text (Some a) r h ok = refl
 
 -- what interning a text leaves that is not there and has a key
-pub interns_new : {K : Type 0} (key_at : ℕ → Option K) (texts : List Text) (account : Account) (text : Text) (reply : Result K LassoError) (texts' : List Text) (account' : Account) → Interns key_at texts account text reply texts' account' → position_of texts text ≡ None → IsSome (key_at (length texts))
-    → MatchResult reply (λ _. (texts' ≡ texts ++ text ∷ []) × (store account (length text) ≡ Some account'))
-    (λ error. (texts' ≡ texts) × (account' ≡ account) × (((error ≡ FailedAllocation) × IsSome (store account (length text))) ⊎ ((error ≡ MemoryLimitReached) × (store account (length text) ≡ None))))
-interns_new key_at texts account text (Ok k) texts' account' h absent has_key =
+pub interns_new : {K : Type 0} (key_at : ℕ → Option K) (first : ℕ) (texts : List Text) (account : Account) (text : Text) (reply : Result K LassoError) (texts' : List Text) (account' : Account) → Interns key_at first texts account text reply texts' account' → position_of texts text ≡ None → IsSome (key_at (length texts))
+    → MatchResult reply (λ _. (texts' ≡ texts ++ text ∷ []) × (store first account (length text) ≡ Some account'))
+    (λ error. (texts' ≡ texts) × (account' ≡ account) × (((error ≡ FailedAllocation) × IsSome (store first account (length text))) ⊎ ((error ≡ MemoryLimitReached) × (store first account (length text) ≡ None))))
+interns_new key_at first texts account text (Ok k) texts' account' h absent has_key =
     let held : Held = record { texts = texts; account = account } in
     let after : Held = record { texts = texts'; account = account' } in
-    let e = keyed_case held text (key_at (length texts)) (Ok after) has_key (new_case key_at held text (position_of texts text) (Ok after) absent h.0) in
-    let s = stored_ok held text (store account (length text)) after e in
+    let e = keyed_case first held text (key_at (length texts)) (Ok after) has_key (new_case key_at first held text (position_of texts text) (Ok after) absent h.0) in
+    let s = stored_ok held text (store first account (length text)) after e in
     (ap (λ (x : Held). x.texts) s.0, s.1)
-interns_new key_at texts account text (Err error) texts' account' h absent has_key =
+interns_new key_at first texts account text (Err error) texts' account' h absent has_key =
     let held : Held = record { texts = texts; account = account } in (
       h.0,
       h.1,
       elim h.2 [
-        | inl e ↦ inr (stored_err held text (store account (length text)) error (keyed_case held text (key_at (length texts)) (Err error) has_key (new_case key_at held text (position_of texts text) (Err error) absent e)))
+        | inl e ↦ inr (stored_err held text (store first account (length text)) error (keyed_case first held text (key_at (length texts)) (Err error) has_key (new_case key_at first held text (position_of texts text) (Err error) absent e)))
         | inr w ↦
             inl (
               w.0,
-              stored_some held text (store held.account (length text)) (interned key_at held text) (keyed_case held text (key_at (length texts)) (interned key_at held text) has_key (new_case key_at held text (position_of texts text) (interned key_at held text) absent refl)) w.2,
+              stored_some held text (store first held.account (length text)) (interned key_at first held text) (keyed_case first held text (key_at (length texts)) (interned key_at first held text) has_key (new_case key_at first held text (position_of texts text) (interned key_at first held text) absent refl)) w.2,
             )
       ],
     )
@@ -77,31 +77,31 @@ bytes_more_at texts i text at =
 -- ---- storing texts in order
 
 -- one text more
-pub store_all_push : (a b c : Account) (texts : List Text) (text : Text) → store_all a texts ≡ Some b → store b (length text) ≡ Some c → store_all a (texts ++ text ∷ []) ≡ Some c
-store_all_push a b c [] text e h =
+pub store_all_push : (first : ℕ) (a b c : Account) (texts : List Text) (text : Text) → store_all first a texts ≡ Some b → store first b (length text) ≡ Some c → store_all first a (texts ++ text ∷ []) ≡ Some c
+store_all_push first a b c [] text e h =
     let same : a ≡ b = cc in
-    let at_a : store a (length text) ≡ Some c = subst (λ (x : Account). store x (length text) ≡ Some c) (sym same) h in
+    let at_a : store first a (length text) ≡ Some c = subst (λ (x : Account). store first x (length text) ≡ Some c) (sym same) h in
     subst (λ (o : Option Account). option_and_then (λ (x : Account). Some x) o ≡ Some c) (sym at_a) refl
-store_all_push a b c (t ∷ ts) text e h =
-    option_and_then_some (λ (x : Account). store_all x ts) (store a (length t)) b e (λ x first others.
-    subst (λ (o : Option Account). option_and_then (λ (y : Account). store_all y (ts ++ text ∷ [])) o ≡ Some c) (sym first) (store_all_push x b c ts text others h))
+store_all_push first a b c (t ∷ ts) text e h =
+    option_and_then_some (λ (x : Account). store_all first x ts) (store first a (length t)) b e (λ x one others.
+    subst (λ (o : Option Account). option_and_then (λ (y : Account). store_all first y (ts ++ text ∷ [])) o ≡ Some c) (sym one) (store_all_push first x b c ts text others h))
 
 -- a text that has room takes it from the current bucket
-store_room : (a b : Account) (n : ℕ) → store a n ≡ Some b → n ≤ a.room → b.room + n ≡ a.room
-store_room a b n e fits = grind (arith, common_steps, e)
+store_room : (first : ℕ) (a b : Account) (n : ℕ) → store first a n ≡ Some b → n ≤ a.room → b.room + n ≡ a.room
+store_room first a b n e fits = grind (arith, common_steps, e)
 
 -- a text that has room is not refused
-pub store_not_refused : (a : Account) (n : ℕ) → n ≤ a.room → store a n ≡ None → ⊥
-store_not_refused a n fits e = grind (arith, common_steps, e)
+pub store_not_refused : (first : ℕ) (a : Account) (n : ℕ) → n ≤ a.room → store first a n ≡ None → ⊥
+store_not_refused first a n fits e = grind (arith, common_steps, e)
 
 -- texts that have room take it from the current bucket
-pub store_all_room : (a b : Account) (texts : List Text) → store_all a texts ≡ Some b → bytes_of texts ≤ a.room → b.room + bytes_of texts ≡ a.room
-store_all_room a b [] e fits = let same : a ≡ b = cc in omega (arith, ap (λ (x : Account). x.room) same)
-store_all_room a b (t ∷ ts) e fits =
+pub store_all_room : (first : ℕ) (a b : Account) (texts : List Text) → store_all first a texts ≡ Some b → bytes_of texts ≤ a.room → b.room + bytes_of texts ≡ a.room
+store_all_room first a b [] e fits = let same : a ≡ b = cc in omega (arith, ap (λ (x : Account). x.room) same)
+store_all_room first a b (t ∷ ts) e fits =
     let sums = sum_by-cons (λ (u : Text). length u) t ts in
-    option_and_then_some (λ (x : Account). store_all x ts) (store a (length t)) b e (λ x first others.
-    let here = store_room a x (length t) first (omega arith) in
-    let rest = store_all_room x b ts others (omega arith) in
+    option_and_then_some (λ (x : Account). store_all first x ts) (store first a (length t)) b e (λ x one others.
+    let here = store_room first a x (length t) one (omega arith) in
+    let rest = store_all_room first x b ts others (omega arith) in
     omega arith)
 
 -- ---- one text more is copied
@@ -109,38 +109,40 @@ store_all_room a b (t ∷ ts) e fits =
 -- the texts before position i are copied to the end of a list that was empty
 pub record CopiedTo (start : InternerView) (source : List Text) (i : ℕ) (now : InternerView) : Type 0 where
   pub texts : now.texts ≡ take i source
-  pub account : store_all start.account (take i source) ≡ Some now.account
+  pub account : store_all start.first start.account (take i source) ≡ Some now.account
   pub copied : now.copied ≡ start.copied + bytes_of (take i source)
   pub origin : KeepsOrigin start now
 
 pub copied_none : (start : InternerView) (texts : List Text) → start.texts ≡ [] → CopiedTo start texts 0 start
-copied_none start texts empty = record { texts = empty; account = refl; copied = omega arith; origin = (refl, refl) }
+copied_none start texts empty = record { texts = empty; account = refl; copied = omega arith; origin = (refl, refl, refl) }
 
 -- one text more went last and its bytes were stored; or copying stopped there
 pub copied_more : (start : InternerView) (texts : List Text) (i : ℕ) (text : Text) (old : InternerView) (reply : Result (Unit {0}) LassoError) (new : InternerView) → slice_get texts i ≡ Some text → CopiedTo start texts i old → CopiesOne old text reply new
-    → MatchResult reply (λ _. CopiedTo start texts (i + 1) new) (λ error. StopsAt start.account texts i error new.account × KeepsOrigin start new)
+    → MatchResult reply (λ _. CopiedTo start texts (i + 1) new) (λ error. StopsAt start.first start.account texts i error new.account × (new.copied ≡ start.copied + bytes_of (take i texts)) × KeepsOrigin start new)
 copied_more start texts i text old (Ok done) new at so_far one =
     let more : take (i + 1) texts ≡ take i texts ++ text ∷ [] = take_more_at texts i text at in
     let bytes = bytes_more_at texts i text at in
-    let all : store_all start.account (take i texts ++ text ∷ []) ≡ Some new.account = store_all_push start.account old.account new.account (take i texts) text so_far.account one.0.1 in
+    let stored : store start.first old.account (length text) ≡ Some new.account = subst (λ (f : ℕ). store f old.account (length text) ≡ Some new.account) so_far.origin.0 one.0.1 in
+    let all : store_all start.first start.account (take i texts ++ text ∷ []) ≡ Some new.account = store_all_push start.first start.account old.account new.account (take i texts) text so_far.account stored in
     record {
       texts = one.0.0 ∙ ap (λ (ts : List Text). ts ++ text ∷ []) so_far.texts ∙ sym more;
-      account = subst (λ (ts : List Text). store_all start.account ts ≡ Some new.account) (sym more) all;
+      account = subst (λ (ts : List Text). store_all start.first start.account ts ≡ Some new.account) (sym more) all;
       copied = omega (arith, one.0.2, so_far.copied, bytes);
-      origin = (one.1.0 ∙ so_far.origin.0, one.1.1 ∙ so_far.origin.1);
+      origin = (one.1.0 ∙ so_far.origin.0, one.1.1 ∙ so_far.origin.1, one.1.2 ∙ so_far.origin.2);
     }
 copied_more start texts i text old (Err error) new at so_far one =
     let left = one.0 in
-    let reached : store_all start.account (take i texts) ≡ Some new.account = so_far.account ∙ ap (λ (a : Account). Some a) (sym left.1) in
+    let reached : store_all start.first start.account (take i texts) ≡ Some new.account = so_far.account ∙ ap (λ (a : Account). Some a) (sym left.1) in
     let inside : i < length texts = slice_get_within texts i text at in (
       (
         reached,
         elim left.3 [
-          | inl memory ↦ inl (memory.0, inr (text, at, subst (λ (a : Account). IsSome (store a (length text))) (sym left.1) memory.1))
-          | inr limit ↦ inr (limit.0, (text, at, subst (λ (a : Account). store a (length text) ≡ None) (sym left.1) limit.1))
+          | inl memory ↦ inl (memory.0, inr (text, at, subst (λ (a : Account). IsSome (store start.first a (length text))) (sym left.1) (subst (λ (f : ℕ). IsSome (store f old.account (length text))) so_far.origin.0 memory.1)))
+          | inr limit ↦ inr (limit.0, (text, at, subst (λ (a : Account). store start.first a (length text) ≡ None) (sym left.1) (subst (λ (f : ℕ). store f old.account (length text) ≡ None) so_far.origin.0 limit.1)))
         ],
       ),
-      (one.1.0 ∙ so_far.origin.0, one.1.1 ∙ so_far.origin.1),
+      left.2 ∙ so_far.copied,
+      (one.1.0 ∙ so_far.origin.0, one.1.1 ∙ so_far.origin.1, one.1.2 ∙ so_far.origin.2),
     )
 
 -- ---- an interner that a text is copied to
@@ -154,27 +156,27 @@ taken_at key_at texts distinct fits i text at =
 -- interning a text that is not there and has a key copies it
 pub interned_copies : {K : Type 0} (key_at : ℕ → Option K) (old : InternerView) (text : Text) (k : K) (new : InternerView) → position_of old.texts text ≡ None → IsSome (key_at (length old.texts)) → InternsIn key_at old text (Ok k) new → CopiesOne old text (Ok tt) new
 interned_copies key_at old text k new absent has_key interns =
-    let left = interns_new key_at old.texts old.account text (Ok k) new.texts new.account interns.0 absent has_key in
+    let left = interns_new key_at old.first old.texts old.account text (Ok k) new.texts new.account interns.0 absent has_key in
     let added : bytes_added old.texts text ≡ length text = ap (λ (o : Option ℕ). cond (is_some o) 0 (length text)) absent in
     ((left.0, left.1, interns.1 ∙ ap (λ (n : ℕ). old.copied + n) added), interns.2)
 
 pub refused_copies : {K : Type 0} (key_at : ℕ → Option K) (old : InternerView) (text : Text) (error : LassoError) (new : InternerView) → position_of old.texts text ≡ None → IsSome (key_at (length old.texts)) → InternsIn {K = K} key_at old text (Err error) new → CopiesOne old text (Err error) new
 refused_copies {K} key_at old text error new absent has_key interns =
-    let left = interns_new {K = K} key_at old.texts old.account text (Err error) new.texts new.account interns.0 absent has_key in
+    let left = interns_new {K = K} key_at old.first old.texts old.account text (Err error) new.texts new.account interns.0 absent has_key in
     ((left.0, left.1, interns.1, left.2), interns.2)
 
 -- ---- a clone
 
 -- one bucket of all bytes has room for each text, so that only want of memory stops
-pub clone_stops : (a : Account) (texts : List Text) (j : ℕ) (error : LassoError) (stopped : Account) → bytes_of texts ≤ a.room → StopsAt a texts j error stopped → error ≡ FailedAllocation
-clone_stops a texts j error stopped fits h = elim h.1 [
+pub clone_stops : (first : ℕ) (a : Account) (texts : List Text) (j : ℕ) (error : LassoError) (stopped : Account) → bytes_of texts ≤ a.room → StopsAt first a texts j error stopped → error ≡ FailedAllocation
+clone_stops first a texts j error stopped fits h = elim h.1 [
   | inl memory ↦ memory.0
   | inr limit ↦
       let text : Text = limit.1.0 in
       let more = bytes_more_at texts j text limit.1.1 in
       let all = sum_by-take-le (λ (t : Text). length t) texts (j + 1) in
-      let room = store_all_room a stopped (take j texts) h.0 (omega arith) in
-      absurd (store_not_refused stopped (length text) (omega arith) limit.1.2)
+      let room = store_all_room first a stopped (take j texts) h.0 (omega arith) in
+      absurd (store_not_refused first stopped (length text) (omega arith) limit.1.2)
 ]
 
 -- all bytes fit into the bucket
@@ -182,7 +184,7 @@ pub bytes-le-clone_size : (texts : List Text) → bytes_of texts ≤ clone_size 
 bytes-le-clone_size texts = grind (arith, common_steps, nat_tests)
 
 -- the account of a clone, from what it was made with
-pub clone_account : (texts : List Text) (limit size greatest : ℕ) (made done : Account) → size ≡ clone_size texts → greatest ≡ max limit size → made ≡ fresh size greatest → store_all made texts ≡ Some done → clone_of texts limit ≡ Some done
+pub clone_account : (texts : List Text) (limit size greatest : ℕ) (made done : Account) → size ≡ clone_size texts → greatest ≡ max limit size → made ≡ fresh size greatest → store_all (clone_size texts) made texts ≡ Some done → clone_of texts limit ≡ Some done
 clone_account texts limit size greatest made done is_size is_greatest is_made h =
     let same : made ≡ fresh (clone_size texts) (max limit (clone_size texts)) = is_made ∙ ap (λ (m : ℕ). fresh size m) is_greatest ∙ ap (λ (n : ℕ). fresh n (max limit n)) is_size in
-    ap (λ (a : Account). store_all a texts) (sym same) ∙ h
+    ap (λ (a : Account). store_all (clone_size texts) a texts) (sym same) ∙ h

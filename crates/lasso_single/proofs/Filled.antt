@@ -54,12 +54,12 @@ extend_stopped key_at old new [] more error h = let e = h.0 in cc
 extend_stopped key_at old new (t ∷ ts) more error h =
     (h.0, h.1, h.2, MatchResult-weaker h.0 h.3 (λ k others. extend_stopped key_at h.1 new ts more error others) (λ e last. last))
 
-abbrev made_of : List Text → Account → ℕ → ℕ → Bool → InternerView
-made_of texts account first copied is_cleared = record { texts = texts; account = account; first = first; copied = copied; is_cleared = is_cleared }
+abbrev made_of : List Text → Account → ℕ → ℕ → ℕ → Bool → InternerView
+made_of texts account first copied most is_cleared = record { texts = texts; account = account; first = first; copied = copied; most = most; is_cleared = is_cleared }
 
-made_fields : (texts : List Text) (account : Account) (first copied bytes limit : ℕ) (is_cleared : Bool) → texts ≡ [] → account ≡ fresh bytes limit → first ≡ bytes → copied ≡ 0 → is_cleared ≡ false → made_of texts account first copied is_cleared ≡ made_with bytes limit
-made_fields texts account first copied bytes limit is_cleared t a f c m = rw (t, a, f, c, m) refl
+made_fields : (texts : List Text) (account : Account) (first copied most bytes limit : ℕ) (is_cleared : Bool) → texts ≡ [] → account ≡ fresh bytes limit → first ≡ bytes → copied ≡ 0 → is_cleared ≡ false → most ≡ 0 → made_of texts account first copied most is_cleared ≡ made_with bytes limit
+made_fields texts account first copied most bytes limit is_cleared t a f c m g = rw (t, a, f, c, m, g) refl
 
 -- an interner that was just made is known
 pub just_made : (now : InternerView) (bytes limit : ℕ) → now.texts ≡ [] → now.account ≡ fresh bytes limit → IsMadeWith bytes 0 now → now ≡ made_with bytes limit
-just_made now bytes limit t a m = made_fields now.texts now.account now.first now.copied bytes limit now.is_cleared t a m.0 m.1 m.2
+just_made now bytes limit t a m = made_fields now.texts now.account now.first now.copied now.most bytes limit now.is_cleared t a m.0 m.1 m.2 m.3

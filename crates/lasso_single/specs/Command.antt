@@ -9,7 +9,7 @@ use Rattle.lasso_parts.specs.declared.util.LassoErrorKind.TheVariants.{FailedAll
 use Rattle.lasso_single.specs.Copies.{clone_into}
 use Rattle.lasso_single.specs.Filling.{extend}
 use Rattle.lasso_single.specs.Intern.{InternsIn, InternsStaticIn}
-use Rattle.lasso_single.specs.Interner.{InternerView}
+use Rattle.lasso_single.specs.Interner.{InternerView, most_copied}
 use Rattle.lasso_single.specs.declared.commands.Command.{Command}
 use Rattle.lasso_single.specs.declared.commands.Command.TheVariants.{Intern, InternStatic, Get, Contains, ContainsKey, TryResolve, Len, Usage, MaxUsage, SetLimit, Clear, Extend, CloneFrom}
 use Rattle.lasso_single.specs.declared.commands.Reply.{Reply}
@@ -43,7 +43,7 @@ replies_to key_at number old Len reply new = (reply ≡ Number (length old.texts
 replies_to key_at number old Usage reply new = (reply ≡ Number old.account.usage) × (new ≡ old)
 replies_to key_at number old MaxUsage reply new = (reply ≡ Number old.account.limit) × (new ≡ old)
 replies_to key_at number old (SetLimit limits) reply new = (reply ≡ Done) × (new ≡ record old { account = with_limit old.account limits })
-replies_to key_at number old Clear reply new = (reply ≡ Done) × (new ≡ record old { texts = []; account = clear old.account; copied = 0; is_cleared = true })
+replies_to key_at number old Clear reply new = (reply ≡ Done) × (new ≡ record old { texts = []; account = clear old.first old.account; copied = 0; most = most_copied old; is_cleared = true })
 replies_to key_at number old (Extend texts) reply new = (outcome : Result (Unit {0}) LassoError) × extend key_at old (map (λ t. t.now) texts.now) outcome new × (reply ≡ done_reply outcome)
 replies_to key_at number old (CloneFrom source) reply new = (outcome : Result (Unit {0}) LassoError) × clone_into old source.now.texts outcome new × (reply ≡ done_reply outcome)
 

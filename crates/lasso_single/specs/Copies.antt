@@ -4,16 +4,17 @@ use Rattle.lasso_parts.specs.Account.{Account, fresh, store, clear}
 use Rattle.lasso_parts.specs.Texts.{Text}
 use Rattle.lasso_parts.specs.declared.util.LassoError.{LassoError}
 use Rattle.lasso_parts.specs.declared.util.LassoErrorKind.TheVariants.{MemoryLimitReached, FailedAllocation}
-use Rattle.lasso_single.specs.Interner.{InternerView, KeepsOrigin}
+use Rattle.lasso_single.specs.Interner.{InternerView, KeepsOrigin, most_copied}
 
 -- how many bytes the texts have in all
 abbrev pub bytes_of : List Text → ℕ
 bytes_of texts = sum_by (λ (t : Text). length t) texts
 
--- the account after the texts are stored in order, or none where the limit refuses one of them
-abbrev pub store_all : Account → List Text → Option Account
-store_all a [] = Some a
-store_all a (t ∷ ts) = option_and_then (λ b. store_all b ts) (store a (length t))
+-- the account after the texts are stored in order, or none where the limit refuses one of them; `first` is the first
+-- bucket's size
+abbrev pub store_all : ℕ → Account → List Text → Option Account
+store_all first a [] = Some a
+store_all first a (t ∷ ts) = option_and_then (λ b. store_all first b ts) (store first a (length t))
 
 -- the size of one bucket for so many bytes: 4096 where there are none
 abbrev pub bucket_for : ℕ → ℕ
@@ -25,33 +26,34 @@ clone_size texts = bucket_for (bytes_of texts)
 
 -- the account of a clone: all texts in one bucket, under a limit that is no lower than before and has room for them
 abbrev pub clone_of : List Text → ℕ → Option Account
-clone_of texts limit = store_all (fresh (clone_size texts) (max limit (clone_size texts))) texts
+clone_of texts limit = store_all (clone_size texts) (fresh (clone_size texts) (max limit (clone_size texts))) texts
 
 -- copying one text puts it last and stores its bytes; or the limit refuses it, or memory is wanting where the limit has
 -- room for it, and then nothing changes
 abbrev pub CopiesOne : InternerView → Text → Result (Unit {0}) LassoError → InternerView → Type 0
 CopiesOne old text reply new =
     MatchResult reply
-    (λ _. (new.texts ≡ old.texts ++ text ∷ []) × (store old.account (length text) ≡ Some new.account) × (new.copied ≡ old.copied + length text))
-    (λ error. (new.texts ≡ old.texts) × (new.account ≡ old.account) × (new.copied ≡ old.copied) × (((error ≡ FailedAllocation) × IsSome (store old.account (length text))) ⊎ ((error ≡ MemoryLimitReached) × (store old.account (length text) ≡ None))))
+    (λ _. (new.texts ≡ old.texts ++ text ∷ []) × (store old.first old.account (length text) ≡ Some new.account) × (new.copied ≡ old.copied + length text))
+    (λ error. (new.texts ≡ old.texts) × (new.account ≡ old.account) × (new.copied ≡ old.copied) × (((error ≡ FailedAllocation) × IsSome (store old.first old.account (length text))) ⊎ ((error ≡ MemoryLimitReached) × (store old.first old.account (length text) ≡ None))))
     × KeepsOrigin old new
 
 -- copying the texts from that account on stopped with j of them copied: the limit refused the next one; or memory was
 -- wanting for it, though the limit had room for it, or before the first
-abbrev pub StopsAt : Account → List Text → ℕ → LassoError → Account → Type 0
-StopsAt account texts j error stopped =
-    (store_all account (take j texts) ≡ Some stopped) × (((error ≡ FailedAllocation) × ((j ≡ 0) ⊎ ((text : Text) × (slice_get texts j ≡ Some text) × IsSome (store stopped (length text)))))
-    ⊎ ((error ≡ MemoryLimitReached) × ((text : Text) × (slice_get texts j ≡ Some text) × (store stopped (length text) ≡ None))))
+abbrev pub StopsAt : ℕ → Account → List Text → ℕ → LassoError → Account → Type 0
+StopsAt first account texts j error stopped =
+    (store_all first account (take j texts) ≡ Some stopped) × (((error ≡ FailedAllocation) × ((j ≡ 0) ⊎ ((text : Text) × (slice_get texts j ≡ Some text) × IsSome (store first stopped (length text)))))
+    ⊎ ((error ≡ MemoryLimitReached) × ((text : Text) × (slice_get texts j ≡ Some text) × (store first stopped (length text) ≡ None))))
 
--- copying the texts into an interner, which is cleared first, leaves just them; or it stops at one of them, and
--- then leaves no text and the account that was reached, cleared
+-- copying the texts into an interner, which is cleared before, leaves just them; or it stops at one of them, and
+-- then leaves no text and the account that was reached, cleared. What was copied counts as after a clear.
 abbrev pub clone_into : InternerView → List Text → Result (Unit {0}) LassoError → InternerView → Type 0
 clone_into old texts reply new =
     MatchResult reply
-    (λ _. (new.texts ≡ texts) × (store_all (clear old.account) texts ≡ Some new.account) × (new.copied ≡ bytes_of texts))
-    (λ error. (new.texts ≡ []) × (new.copied ≡ 0) × ((j : ℕ) × (stopped : Account) × StopsAt (clear old.account) texts j error stopped × (new.account ≡ clear stopped)))
+    (λ _. (new.texts ≡ texts) × (store_all old.first (clear old.first old.account) texts ≡ Some new.account) × (new.copied ≡ bytes_of texts) × (new.most ≡ most_copied old))
+    (λ error. (new.texts ≡ []) × (new.copied ≡ 0) × ((j : ℕ) × (stopped : Account) × StopsAt old.first (clear old.first old.account) texts j error stopped
+    × (new.account ≡ clear old.first stopped) × (new.most ≡ max (most_copied old) (bytes_of (take j texts)))))
     × (new.first ≡ old.first) × (new.is_cleared ≡ true)
 
 -- the account of a list that was read: all texts in one bucket, under the greatest limit
 abbrev pub read_of : List Text → Option Account
-read_of texts = store_all (fresh (clone_size texts) (2 ^ 64 - 1)) texts
+read_of texts = store_all (clone_size texts) (fresh (clone_size texts) (2 ^ 64 - 1)) texts

@@ -16,19 +16,20 @@ abbrev pub stored_or_refused : Held → Text → Option Account → Result Held 
 stored_or_refused held text None = Err MemoryLimitReached
 stored_or_refused held text (Some account) = Ok (with_text held text account)
 
--- a new text is refused where its position has no key; the account is asked only after that
-abbrev pub keyed_or_refused : {K : Type 0} → Held → Text → Option K → Result Held LassoError
-keyed_or_refused held text None = Err KeySpaceExhaustion
-keyed_or_refused held text (Some _) = stored_or_refused held text (store held.account (length text))
+-- a new text is refused where its position has no key; the account is asked only after that. `first` is the first
+-- bucket's size
+abbrev pub keyed_or_refused : {K : Type 0} → ℕ → Held → Text → Option K → Result Held LassoError
+keyed_or_refused first held text None = Err KeySpaceExhaustion
+keyed_or_refused first held text (Some _) = stored_or_refused held text (store first held.account (length text))
 
 -- a text that is there changes nothing
-abbrev pub found_or_new : {K : Type 0} → (ℕ → Option K) → Held → Text → Option ℕ → Result Held LassoError
-found_or_new key_at held text (Some _) = Ok held
-found_or_new key_at held text None = keyed_or_refused held text (key_at (length held.texts))
+abbrev pub found_or_new : {K : Type 0} → (ℕ → Option K) → ℕ → Held → Text → Option ℕ → Result Held LassoError
+found_or_new key_at first held text (Some _) = Ok held
+found_or_new key_at first held text None = keyed_or_refused first held text (key_at (length held.texts))
 
 -- what interning the text leaves where memory is found, or why it is refused
-abbrev pub interned : {K : Type 0} → (ℕ → Option K) → Held → Text → Result Held LassoError
-interned key_at held text = found_or_new key_at held text (position_of held.texts text)
+abbrev pub interned : {K : Type 0} → (ℕ → Option K) → ℕ → Held → Text → Result Held LassoError
+interned key_at first held text = found_or_new key_at first held text (position_of held.texts text)
 
 -- the text's position once it is interned
 abbrev pub interned_position : List Text → Text → ℕ
@@ -36,13 +37,13 @@ interned_position texts text = unwrap_or (position_of texts text) (length texts)
 
 -- interning the text answers the key of its position and leaves what the definition says; or it is refused
 -- and leaves all as it was, for want of memory only where the list would grow
-abbrev pub Interns : {K : Type 0} → (ℕ → Option K) → List Text → Account → Text → Result K LassoError → List Text → Account → Type 0
-Interns key_at texts account text reply texts' account' =
+abbrev pub Interns : {K : Type 0} → (ℕ → Option K) → ℕ → List Text → Account → Text → Result K LassoError → List Text → Account → Type 0
+Interns key_at first texts account text reply texts' account' =
     let before : Held = record { texts = texts; account = account } in
     MatchResult reply
-    (λ k. (interned key_at before text ≡ Ok (record { texts = texts'; account = account' })) × (key_at (interned_position texts text) ≡ Some k))
-    (λ error. (texts' ≡ texts) × (account' ≡ account) × ((interned key_at before text ≡ Err error)
-    ⊎ ((error ≡ FailedAllocation) × (position_of texts text ≡ None) × IsOk (interned key_at before text))))
+    (λ k. (interned key_at first before text ≡ Ok (record { texts = texts'; account = account' })) × (key_at (interned_position texts text) ≡ Some k))
+    (λ error. (texts' ≡ texts) × (account' ≡ account) × ((interned key_at first before text ≡ Err error)
+    ⊎ ((error ≡ FailedAllocation) × (position_of texts text ≡ None) × IsOk (interned key_at first before text))))
 
 -- a new text that has a key is kept as it is, and the account is not asked
 abbrev pub kept_or_refused : {K : Type 0} → Held → Text → Option K → Result Held LassoError
@@ -70,7 +71,7 @@ InternsStatic key_at texts account text reply texts' account' =
 -- interning a text: its reply, and all that contracts see of the interner
 abbrev pub InternsIn : {K : Type 0} → (ℕ → Option K) → InternerView → Text → Result K LassoError → InternerView → Type 0
 InternsIn key_at old text reply new =
-    Interns key_at old.texts old.account text reply new.texts new.account
+    Interns key_at old.first old.texts old.account text reply new.texts new.account
     × MatchResult reply (λ _. new.copied ≡ old.copied + bytes_added old.texts text) (λ _. new.copied ≡ old.copied)
     × KeepsOrigin old new
 

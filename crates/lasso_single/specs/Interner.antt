@@ -1,5 +1,5 @@
 -- What contracts see of an interner, and what calls that add no bytes leave of it.
-use Rattle.std.specs.Prelude.{◌≡◌, ℕ, Bool, false, List, [], length, is_some, if◌then◌else◌}
+use Rattle.std.specs.Prelude.{◌≡◌, ℕ, Bool, false, List, [], length, max, is_some, if◌then◌else◌}
 use Rattle.lasso_parts.specs.Texts.{Text, position_of}
 use Rattle.lasso_parts.specs.Account.{Account, fresh}
 
@@ -12,20 +12,26 @@ pub record InternerView : Type 0 where
   pub first : ℕ
   -- how many bytes were copied into buckets since it was last cleared, or since it was made
   pub copied : ℕ
+  -- the most bytes that were copied in between two clears, or before the first; those since the last one are not counted
+  pub most : ℕ
   -- whether it was ever cleared
   pub is_cleared : Bool
 
+-- the most bytes copied in between two clears so far; the time before the first clear and that after the last count too
+abbrev pub most_copied : InternerView → ℕ
+most_copied i = max i.most i.copied
+
 -- an interner that was just made, with a first bucket of so many bytes and that limit
 abbrev pub made_with : ℕ → ℕ → InternerView
-made_with bytes limit = record { texts = []; account = fresh bytes limit; first = bytes; copied = 0; is_cleared = false }
+made_with bytes limit = record { texts = []; account = fresh bytes limit; first = bytes; copied = 0; most = 0; is_cleared = false }
 
 -- an interner that was just made with a first bucket of so many bytes, into which so many were copied
 abbrev pub IsMadeWith : ℕ → ℕ → InternerView → Type 0
-IsMadeWith first copied made = (made.first ≡ first) × (made.copied ≡ copied) × (made.is_cleared ≡ false)
+IsMadeWith first copied made = (made.first ≡ first) × (made.copied ≡ copied) × (made.is_cleared ≡ false) × (made.most ≡ 0)
 
 -- the first bucket is the same, and nothing was cleared
 abbrev pub KeepsOrigin : InternerView → InternerView → Type 0
-KeepsOrigin old new = (new.first ≡ old.first) × (new.is_cleared ≡ old.is_cleared)
+KeepsOrigin old new = (new.first ≡ old.first) × (new.is_cleared ≡ old.is_cleared) × (new.most ≡ old.most)
 
 -- how many bytes a copied text adds to the list: none where it is there
 abbrev pub bytes_added : List Text → Text → ℕ

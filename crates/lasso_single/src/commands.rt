@@ -3,6 +3,7 @@ ghost use Rattle.std.specs.Prelude.{◌≡◌, ◌+◌, ◌*◌, ◌<◌, ◌≤
 ghost use Rattle.lasso_parts.specs.declared.util.LassoErrorKind.TheVariants.{FailedAllocation};
 ghost use Rattle.lasso_single.specs.Command.{intern_reply, done_reply, resolves_to, replies_to, run_of, IsUncleared};
 ghost use Rattle.lasso_single.specs.Filling.{extend};
+ghost use Rattle.lasso_single.specs.Interner.{most_copied};
 
 #[cfg(test)]
 mod tests;
@@ -36,7 +37,7 @@ pub enum Command<'a, K: Key, S: BuildHasher, A: Allocator> {
     MaxUsage,
     /// Sets the most bytes that they may take.
     SetLimit(MemoryLimits),
-    /// Forgets every text.
+    /// Forgets every text, and keeps the first bucket and the doubled ones.
     Clear,
     /// Interns one text after another, up to the first refusal.
     Extend(&'a [&'a str]),
@@ -65,7 +66,18 @@ pub enum Reply<K> {
 
 /// Carries the commands out in order, and answers one reply for each. A refused command is answered by its
 /// refusal, and the run goes on. There is room for all replies before the first command is carried out: where
-/// memory is wanting for that, the run is refused and nothing changes; a run of no command never is.
+/// memory is wanting for that, the run is refused and nothing changes; a run of no command never is. Afterwards
+/// the buckets take at most the first bucket and eight times the most bytes that were copied in between two
+/// clears, and where nothing was ever cleared at most the first bucket and four times the bytes copied in.
+///
+/// ```rust
+/// let mut rodeo: SpurRodeo = Rodeo::new(rt.alloc())?;
+/// let commands = [Command::Intern("red"), Command::Clear];
+/// let replies = run_commands(rt.alloc(), &mut rodeo, commands.as_slice())?;
+/// assert_eq!(rt; replies.len(), 2);
+/// assert!(rt; matches!(&replies[0], Reply::Key(_)));
+/// assert!(rt; matches!(&replies[1], Reply::Done));
+/// ```
 pub fn run_commands<K: Key, S: BuildHasher + Clone, A: Allocator + Clone>(
     alloc: Global,
     rodeo: &mut Rodeo<K, S, A>,
@@ -73,6 +85,7 @@ pub fn run_commands<K: Key, S: BuildHasher + Clone, A: Allocator + Clone>(
 ) -> LassoResult<Vec<Reply<K>>>
     ensures run { IfOk result (λ replies. run_of K.key_at K.number rodeo.old commands.now replies.items rodeo.new) }
     ensures refused { IfErr result (λ error. (error ≡ FailedAllocation) × (0 < length commands.now) × (rodeo.new ≡ rodeo.old)) }
+    ensures bound { OnOk result (rodeo.new.account.usage ≤ rodeo.old.first + 8 * most_copied rodeo.new) }
     ensures waste { OnOk result (All IsUncleared commands.now → rodeo.old.is_cleared ≡ false → rodeo.new.account.usage ≤ rodeo.old.first + 4 * rodeo.new.copied) }
 {
     let mut replies = Vec::with_capacity(alloc, commands.len())?;
@@ -80,7 +93,7 @@ pub fn run_commands<K: Key, S: BuildHasher + Clone, A: Allocator + Clone>(
         let reply = run_command(alloc, rodeo, command);
         replies.push_reserved(reply);
     }
-    // The interner's own bound on waste holds after the last command too.
+    // The interner's own bounds on waste hold after the last command too.
     let _usage = rodeo.current_memory_usage();
     Ok(replies)
 }

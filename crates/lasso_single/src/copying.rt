@@ -33,10 +33,11 @@ pub(crate) fn copy_all<C: CopyTarget, T: Texts>(
     requires empty { (C.holds target.old).texts ≡ [] }
     requires taken { (i : ℕ) (text : Text) → slice_get (T.list texts.now) i ≡ Some text → C.takes (take i (T.list texts.now)) text }
     ensures texts { OnOk result ((C.holds target.new).texts ≡ T.list texts.now) }
-    ensures account { OnOk result (store_all (C.holds target.old).account (T.list texts.now) ≡ Some (C.holds target.new).account) }
+    ensures account { OnOk result (store_all (C.holds target.old).first (C.holds target.old).account (T.list texts.now) ≡ Some (C.holds target.new).account) }
     ensures copied { OnOk result ((C.holds target.new).copied ≡ (C.holds target.old).copied + bytes_of (T.list texts.now)) }
     ensures origin { KeepsOrigin (C.holds target.old) (C.holds target.new) }
-    ensures stopped { IfErr result (λ error. (j : ℕ) × StopsAt (C.holds target.old).account (T.list texts.now) j error (C.holds target.new).account) }
+    ensures stopped { IfErr result (λ error. (j : ℕ) × StopsAt (C.holds target.old).first (C.holds target.old).account (T.list texts.now) j error (C.holds target.new).account
+        × ((C.holds target.new).copied ≡ (C.holds target.old).copied + bytes_of (take j (T.list texts.now)))) }
 {
     for position in 0..len {
         target.copy_text(texts.text_at(position))?;

@@ -56,6 +56,13 @@ impl<K: Key, S: BuildHasher, A: Allocator> RodeoReader<K, S, A> {
     }
 
     /// The key of the text, or `None` where it is not there.
+    ///
+    /// ```rust
+    /// let reader = SpurRodeo::from_iter(rt.alloc(), ["red", "green"])?.into_reader();
+    /// let green = reader.get("green").ok_or("not there")?;
+    /// assert_eq!(rt; green.into_usize(), 1);
+    /// assert!(rt; reader.get("blue").is_none());
+    /// ```
     pub fn get(&self, text: &str) -> Option<K>
         ensures value { result ≡ key_of K.key_at self.now text.now }
         ensures present { is_some result ≡ is_some (position_of self.now text.now) }
@@ -64,6 +71,12 @@ impl<K: Key, S: BuildHasher, A: Allocator> RodeoReader<K, S, A> {
     }
 
     /// Whether the text is there.
+    ///
+    /// ```rust
+    /// let reader = SpurRodeo::from_iter(rt.alloc(), ["red", "green"])?.into_reader();
+    /// assert!(rt; reader.contains("green"));
+    /// assert!(rt; !reader.contains("blue"));
+    /// ```
     pub fn contains(&self, text: &str) -> bool
         ensures { result ≡ is_some (position_of self.now text.now) }
     {
@@ -71,6 +84,14 @@ impl<K: Key, S: BuildHasher, A: Allocator> RodeoReader<K, S, A> {
     }
 
     /// Whether the key stands for a text of this reader.
+    ///
+    /// ```rust
+    /// let reader = SpurRodeo::from_iter(rt.alloc(), ["red", "green"])?.into_reader();
+    /// let red = reader.get("red").ok_or("not there")?;
+    /// assert!(rt; reader.contains_key(red));
+    /// let past = Spur::try_from_usize(2).ok_or("no key")?;
+    /// assert!(rt; !reader.contains_key(past));
+    /// ```
     pub fn contains_key(&self, key: K) -> bool
         ensures { IsTrue result ↔ (K.number key < length self.now) }
     {
@@ -78,6 +99,14 @@ impl<K: Key, S: BuildHasher, A: Allocator> RodeoReader<K, S, A> {
     }
 
     /// The key's text, or `None` where the key stands for no text of this reader.
+    ///
+    /// ```rust
+    /// let reader = SpurRodeo::from_iter(rt.alloc(), ["red", "green"])?.into_reader();
+    /// let red = reader.get("red").ok_or("not there")?;
+    /// assert_eq!(rt; reader.try_resolve(red), Some("red"));
+    /// let past = Spur::try_from_usize(2).ok_or("no key")?;
+    /// assert_eq!(rt; reader.try_resolve(past), None);
+    /// ```
     pub fn try_resolve(&self, key: K) -> Option<&str>
         ensures { option_map (λ t. t.now) result ≡ slice_get self.now (K.number key) }
     {
@@ -85,6 +114,13 @@ impl<K: Key, S: BuildHasher, A: Allocator> RodeoReader<K, S, A> {
     }
 
     /// The key's text. The key must stand for a text of this reader: `contains_key` is the test.
+    ///
+    /// ```rust
+    /// let reader = SpurRodeo::from_iter(rt.alloc(), ["red", "green"])?.into_reader();
+    /// let red = reader.get("red").ok_or("not there")?;
+    /// assert!(rt; reader.contains_key(red));
+    /// assert_eq!(rt; reader.resolve(red), "red");
+    /// ```
     pub fn resolve(&self, key: K) -> &str
         requires { K.number key < length self.now }
         ensures { slice_get self.now (K.number key) ≡ Some result.now }
@@ -93,6 +129,13 @@ impl<K: Key, S: BuildHasher, A: Allocator> RodeoReader<K, S, A> {
     }
 
     /// The key's text: the same call as `resolve`, with the same condition.
+    ///
+    /// ```rust
+    /// let reader = SpurRodeo::from_iter(rt.alloc(), ["red", "green"])?.into_reader();
+    /// let red = reader.get("red").ok_or("not there")?;
+    /// assert!(rt; reader.contains_key(red));
+    /// assert_eq!(rt; reader.resolve_unchecked(red), "red");
+    /// ```
     pub fn resolve_unchecked(&self, key: K) -> &str
         requires { K.number key < length self.now }
         ensures { slice_get self.now (K.number key) ≡ Some result.now }
@@ -101,6 +144,11 @@ impl<K: Key, S: BuildHasher, A: Allocator> RodeoReader<K, S, A> {
     }
 
     /// The number of texts.
+    ///
+    /// ```rust
+    /// let reader = SpurRodeo::from_iter(rt.alloc(), ["red", "green"])?.into_reader();
+    /// assert_eq!(rt; reader.len(), 2);
+    /// ```
     pub fn len(&self) -> usize
         ensures value { result ≡ length self.now }
         ensures distinct { IsDistinct self.now }
@@ -110,6 +158,11 @@ impl<K: Key, S: BuildHasher, A: Allocator> RodeoReader<K, S, A> {
     }
 
     /// Whether there is no text.
+    ///
+    /// ```rust
+    /// let reader = SpurRodeo::default(rt.alloc())?.into_reader();
+    /// assert!(rt; reader.is_empty());
+    /// ```
     pub fn is_empty(&self) -> bool
         ensures { result ≡ (length self.now == 0) }
     {
@@ -132,6 +185,13 @@ impl<K: Key, S: BuildHasher, A: Allocator> RodeoReader<K, S, A> {
 
     /// The same texts under the same keys, without the index. It takes no memory, copies nothing and
     /// can't fail; the index is let go.
+    ///
+    /// ```rust
+    /// let reader = SpurRodeo::from_iter(rt.alloc(), ["red", "green"])?.into_reader();
+    /// let red = reader.get("red").ok_or("not there")?;
+    /// let resolver = reader.into_resolver();
+    /// assert_eq!(rt; resolver.try_resolve(red), Some("red"));
+    /// ```
     pub fn into_resolver(self) -> RodeoResolver<K, A>
     where
         S: Drop,

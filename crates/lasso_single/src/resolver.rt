@@ -65,6 +65,15 @@ impl<K: Key, A: Allocator> RodeoResolver<K, A> {
     }
 
     /// Whether the key stands for a text of this resolver.
+    ///
+    /// ```rust
+    /// let mut rodeo = Rodeo::default(rt.alloc())?;
+    /// let red = rodeo.try_get_or_intern("red")?;
+    /// let resolver = rodeo.into_resolver();
+    /// assert!(rt; resolver.contains_key(red));
+    /// let next = Spur::try_from_usize(1).ok_or("no key")?;
+    /// assert!(rt; !resolver.contains_key(next));
+    /// ```
     pub fn contains_key(&self, key: K) -> bool
         ensures { IsTrue result ↔ (K.number key < length self.now) }
     {
@@ -72,6 +81,15 @@ impl<K: Key, A: Allocator> RodeoResolver<K, A> {
     }
 
     /// The key's text, or `None` where the key stands for no text of this resolver.
+    ///
+    /// ```rust
+    /// let mut rodeo = Rodeo::default(rt.alloc())?;
+    /// let red = rodeo.try_get_or_intern("red")?;
+    /// let resolver = rodeo.into_resolver();
+    /// assert_eq!(rt; resolver.try_resolve(red), Some("red"));
+    /// let next = Spur::try_from_usize(1).ok_or("no key")?;
+    /// assert_eq!(rt; resolver.try_resolve(next), None);
+    /// ```
     pub fn try_resolve(&self, key: K) -> Option<&str>
         ensures { option_map (λ t. t.now) result ≡ slice_get self.now (K.number key) }
     {
@@ -79,6 +97,14 @@ impl<K: Key, A: Allocator> RodeoResolver<K, A> {
     }
 
     /// The key's text. The key must stand for a text of this resolver: `contains_key` is the test.
+    ///
+    /// ```rust
+    /// let mut rodeo = Rodeo::default(rt.alloc())?;
+    /// let red = rodeo.try_get_or_intern("red")?;
+    /// let resolver = rodeo.into_resolver();
+    /// assert!(rt; resolver.contains_key(red));
+    /// assert_eq!(rt; resolver.resolve(red), "red");
+    /// ```
     pub fn resolve(&self, key: K) -> &str
         requires { K.number key < length self.now }
         ensures { slice_get self.now (K.number key) ≡ Some result.now }
@@ -87,6 +113,14 @@ impl<K: Key, A: Allocator> RodeoResolver<K, A> {
     }
 
     /// The key's text: the same call as `resolve`, with the same condition.
+    ///
+    /// ```rust
+    /// let mut rodeo = Rodeo::default(rt.alloc())?;
+    /// let red = rodeo.try_get_or_intern("red")?;
+    /// let resolver = rodeo.into_resolver();
+    /// assert!(rt; resolver.contains_key(red));
+    /// assert_eq!(rt; resolver.resolve_unchecked(red), "red");
+    /// ```
     pub fn resolve_unchecked(&self, key: K) -> &str
         requires { K.number key < length self.now }
         ensures { slice_get self.now (K.number key) ≡ Some result.now }
@@ -95,6 +129,11 @@ impl<K: Key, A: Allocator> RodeoResolver<K, A> {
     }
 
     /// The number of texts.
+    ///
+    /// ```rust
+    /// let resolver = SpurRodeo::from_iter(rt.alloc(), ["red", "green"])?.into_resolver();
+    /// assert_eq!(rt; resolver.len(), 2);
+    /// ```
     pub fn len(&self) -> usize
         ensures value { result ≡ length self.now }
         ensures fits { Fits K.key_at (length self.now) }
@@ -103,6 +142,11 @@ impl<K: Key, A: Allocator> RodeoResolver<K, A> {
     }
 
     /// Whether there is no text.
+    ///
+    /// ```rust
+    /// let resolver = SpurRodeo::default(rt.alloc())?.into_resolver();
+    /// assert!(rt; resolver.is_empty());
+    /// ```
     pub fn is_empty(&self) -> bool
         ensures { result ≡ (length self.now == 0) }
     {

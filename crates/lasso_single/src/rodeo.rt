@@ -1,6 +1,7 @@
 //! `Rodeo`, the interner for one thread.
 ghost use Rattle.std.specs.Prelude.{◌≡◌, ◌==◌, ◌+◌, ◌*◌, ◌<◌, ◌≤◌, false, length, Some, is_some, IsTrue, ◌↔◌, slice_get, option_map};
 ghost use Rattle.lasso_parts.specs.Texts.{position_of, key_of, IsDistinct, Fits};
+ghost use Rattle.lasso_single.specs.Interner.{most_copied};
 
 mod changes;
 mod clones;
@@ -23,8 +24,8 @@ use std::marker::Model;
 
 /// An interner for one thread: a list of distinct texts, in which a text at position n has the key of
 /// number n, and beside it an account of the memory that the texts take. Contracts see the texts, the
-/// account, the bytes of the first bucket, the bytes copied in since the last clear, and whether there
-/// was one.
+/// account, the bytes of the first bucket, the bytes copied in since the last clear, the most that were
+/// copied in between two clears so far, and whether there was a clear.
 pub struct Rodeo<K: Key, S: BuildHasher, A: Allocator> {
     list: TextList<A>,
     index: Index<K, A>,
@@ -58,6 +59,13 @@ impl<K: Key, S: BuildHasher + Drop, A: Allocator> Drop for Rodeo<K, S, A> {
 
 impl<K: Key, S: BuildHasher, A: Allocator> Rodeo<K, S, A> {
     /// The key of the text, or `None` where it is not there.
+    ///
+    /// ```rust
+    /// let mut rodeo = Rodeo::default(rt.alloc())?;
+    /// let hello = rodeo.try_get_or_intern("Hello, world!")?;
+    /// assert_eq!(rt; rodeo.get("Hello, world!"), Some(hello));
+    /// assert!(rt; rodeo.get("Hello").is_none());
+    /// ```
     #[tactic(auto, using(lasso_parts::proofs::TextLemmas::key_of_present))]
     pub fn get(&self, text: &str) -> Option<K>
         ensures value { result ≡ key_of K.key_at self.now.texts text.now }
@@ -68,6 +76,13 @@ impl<K: Key, S: BuildHasher, A: Allocator> Rodeo<K, S, A> {
     }
 
     /// Whether the text is there.
+    ///
+    /// ```rust
+    /// let mut rodeo = Rodeo::default(rt.alloc())?;
+    /// rodeo.extend(["red", "green", "red"])?;
+    /// assert!(rt; rodeo.contains("green"));
+    /// assert!(rt; !rodeo.contains("blue"));
+    /// ```
     pub fn contains(&self, text: &str) -> bool
         ensures { result ≡ is_some (position_of self.now.texts text.now) }
     {
@@ -75,6 +90,14 @@ impl<K: Key, S: BuildHasher, A: Allocator> Rodeo<K, S, A> {
     }
 
     /// Whether the key stands for a text of this interner.
+    ///
+    /// ```rust
+    /// let mut rodeo = Rodeo::default(rt.alloc())?;
+    /// let hello = rodeo.try_get_or_intern("Hello, world!")?;
+    /// assert!(rt; rodeo.contains_key(hello));
+    /// let next = Spur::try_from_usize(1).ok_or("no key")?;
+    /// assert!(rt; !rodeo.contains_key(next));
+    /// ```
     pub fn contains_key(&self, key: K) -> bool
         ensures { IsTrue result ↔ (K.number key < length self.now.texts) }
     {
@@ -82,6 +105,14 @@ impl<K: Key, S: BuildHasher, A: Allocator> Rodeo<K, S, A> {
     }
 
     /// The key's text, or `None` where the key stands for no text of this interner.
+    ///
+    /// ```rust
+    /// let mut rodeo = Rodeo::default(rt.alloc())?;
+    /// let hello = rodeo.try_get_or_intern("Hello, world!")?;
+    /// assert_eq!(rt; rodeo.try_resolve(hello), Some("Hello, world!"));
+    /// let next = Spur::try_from_usize(1).ok_or("no key")?;
+    /// assert_eq!(rt; rodeo.try_resolve(next), None);
+    /// ```
     pub fn try_resolve(&self, key: K) -> Option<&str>
         ensures { option_map (λ t. t.now) result ≡ slice_get self.now.texts (K.number key) }
     {
@@ -89,6 +120,13 @@ impl<K: Key, S: BuildHasher, A: Allocator> Rodeo<K, S, A> {
     }
 
     /// The key's text. The key must stand for a text of this interner: `contains_key` is the test.
+    ///
+    /// ```rust
+    /// let mut rodeo = Rodeo::default(rt.alloc())?;
+    /// let hello = rodeo.try_get_or_intern("Hello, world!")?;
+    /// assert!(rt; rodeo.contains_key(hello));
+    /// assert_eq!(rt; rodeo.resolve(hello), "Hello, world!");
+    /// ```
     pub fn resolve(&self, key: K) -> &str
         requires { K.number key < length self.now.texts }
         ensures { slice_get self.now.texts (K.number key) ≡ Some result.now }
@@ -97,6 +135,13 @@ impl<K: Key, S: BuildHasher, A: Allocator> Rodeo<K, S, A> {
     }
 
     /// The key's text: the same call as `resolve`, with the same condition.
+    ///
+    /// ```rust
+    /// let mut rodeo = Rodeo::default(rt.alloc())?;
+    /// let hello = rodeo.try_get_or_intern("Hello, world!")?;
+    /// assert!(rt; rodeo.contains_key(hello));
+    /// assert_eq!(rt; rodeo.resolve_unchecked(hello), "Hello, world!");
+    /// ```
     pub fn resolve_unchecked(&self, key: K) -> &str
         requires { K.number key < length self.now.texts }
         ensures { slice_get self.now.texts (K.number key) ≡ Some result.now }
@@ -105,6 +150,12 @@ impl<K: Key, S: BuildHasher, A: Allocator> Rodeo<K, S, A> {
     }
 
     /// The number of texts.
+    ///
+    /// ```rust
+    /// let mut rodeo = Rodeo::default(rt.alloc())?;
+    /// rodeo.extend(["red", "green", "red"])?;
+    /// assert_eq!(rt; rodeo.len(), 2);
+    /// ```
     pub fn len(&self) -> usize
         ensures value { result ≡ length self.now.texts }
         ensures distinct { IsDistinct self.now.texts }
@@ -114,6 +165,13 @@ impl<K: Key, S: BuildHasher, A: Allocator> Rodeo<K, S, A> {
     }
 
     /// Whether there is no text.
+    ///
+    /// ```rust
+    /// let mut rodeo = Rodeo::default(rt.alloc())?;
+    /// assert!(rt; rodeo.is_empty());
+    /// rodeo.extend(["red", "green", "red"])?;
+    /// assert!(rt; !rodeo.is_empty());
+    /// ```
     pub fn is_empty(&self) -> bool
         ensures { result ≡ (length self.now.texts == 0) }
     {
@@ -121,6 +179,12 @@ impl<K: Key, S: BuildHasher, A: Allocator> Rodeo<K, S, A> {
     }
 
     /// For how many texts the list has room: at least as many as there are.
+    ///
+    /// ```rust
+    /// let colours = ["red", "green", "red", "blue"];
+    /// let rodeo: SpurRodeo = Rodeo::from_iter(rt.alloc(), colours)?;
+    /// assert!(rt; rodeo.capacity() >= 3);
+    /// ```
     pub fn capacity(&self) -> usize
         ensures { length self.now.texts ≤ result }
     {
@@ -128,16 +192,32 @@ impl<K: Key, S: BuildHasher, A: Allocator> Rodeo<K, S, A> {
     }
 
     /// The most bytes that all buckets may take.
+    ///
+    /// ```rust
+    /// let rodeo = Rodeo::default(rt.alloc())?;
+    /// assert_eq!(rt; rodeo.max_memory_usage(), usize::MAX);
+    /// ```
     pub fn max_memory_usage(&self) -> usize
         ensures { result ≡ self.now.account.limit }
     {
         self.list.max_memory_usage()
     }
 
-    /// The bytes that all buckets take. Where the interner was never cleared, that is at most the first
-    /// bucket and four times the bytes copied in, whatever limits were set between.
+    /// The bytes that all buckets take. They are at most the first bucket and eight times the most bytes
+    /// that were copied in between two clears, whatever limits were set; the time before the first clear and
+    /// that after the last count too, and a copy over this interner counts as a clear. Where it was never
+    /// cleared, they are at most the first bucket and four times the bytes copied in.
+    ///
+    /// ```rust
+    /// let mut rodeo: SpurRodeo = Rodeo::with_capacity(rt.alloc(), Capacity::for_bytes(10))?;
+    /// rodeo.try_get_or_intern("0123456789")?;
+    /// assert_eq!(rt; rodeo.current_memory_usage(), 10);
+    /// rodeo.try_get_or_intern("more")?;
+    /// assert_eq!(rt; rodeo.current_memory_usage(), 30);
+    /// ```
     pub fn current_memory_usage(&self) -> usize
         ensures usage { result ≡ self.now.account.usage }
+        ensures bound { result ≤ self.now.first + 8 * most_copied self.now }
         ensures waste { self.now.is_cleared ≡ false → result ≤ self.now.first + 4 * self.now.copied }
     {
         self.list.memory_usage()

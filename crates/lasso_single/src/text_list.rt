@@ -5,7 +5,7 @@ ghost use Rattle.lasso_parts.specs.Account.{fresh, store, clear, with_limit};
 ghost use Rattle.lasso_parts.specs.Texts.{Fits};
 ghost use Rattle.lasso_single.specs.Copies.{bytes_of, clone_size, read_of};
 ghost use Rattle.lasso_single.specs.Equality.{texts_eq};
-ghost use Rattle.lasso_single.specs.Interner.{IsMadeWith, KeepsOrigin};
+ghost use Rattle.lasso_single.specs.Interner.{IsMadeWith, KeepsOrigin, most_copied};
 ghost use Rattle.lasso_parts.specs.declared.util.LassoErrorKind.TheVariants.{FailedAllocation};
 
 use crate::copying::{CopyTarget, copy_all};
@@ -21,28 +21,28 @@ use std::marker::Model;
 
 /// A list of texts that grows at its end, and the arena that holds the copied ones. Contracts see the
 /// texts, the account of the memory, the first bucket's bytes, the bytes copied in since the last clear,
-/// and whether there was one. Where there was none, at most the first bucket and four times the bytes
-/// copied in are taken.
+/// the most before it in between two clears, and whether there was one. Where there was none, at most the
+/// first bucket and four times the bytes copied in are taken; always at most the first bucket and eight
+/// times the most bytes copied in between two clears.
 #[derive(Drop)]
 pub(crate) struct TextList<A: Allocator> {
     entries: Vec<Entry, A>,
     arena: Arena<A>,
-    first: usize,
     is_cleared: bool,
 }
 
 impl<A: Allocator> Model for TextList<A> {
     ghost use Rattle.std.specs.Prelude.{◌≡◌, false};
-    ghost use Rattle.lasso_parts.specs.Arena.{account_of, copied_of};
+    ghost use Rattle.lasso_parts.specs.Arena.{account_of, copied_of, first_of};
     ghost use Rattle.lasso_parts.specs.Entries.{texts_of, AllThere};
     ghost use Rattle.lasso_parts.specs.Waste.{IsThrifty};
     ghost use Rattle.lasso_single.specs.Interner.{InternerView};
 
     ghost Value = { InternerView };
 
-    ghost view = { λ l. record { texts = texts_of l.arena.all l.entries.items; account = account_of l.arena; first = l.first; copied = copied_of l.arena; is_cleared = l.is_cleared } };
+    ghost view = { λ l. record { texts = texts_of l.arena.all l.entries.items; account = account_of l.arena; first = first_of l.arena; copied = copied_of l.arena; most = l.arena.most; is_cleared = l.is_cleared } };
 
-    ghost invariant = { λ l. AllThere l.arena.all l.entries.items × (l.is_cleared ≡ false → IsThrifty l.first (copied_of l.arena) (account_of l.arena)) };
+    ghost invariant = { λ l. AllThere l.arena.all l.entries.items × (l.is_cleared ≡ false → IsThrifty (first_of l.arena) (copied_of l.arena) (account_of l.arena)) };
 }
 
 impl<A: Allocator> Texts for TextList<A> {
@@ -83,7 +83,6 @@ impl<A: Allocator + Clone> TextList<A> {
         Ok(TextList {
             entries,
             arena,
-            first: capacity.bytes(),
             is_cleared: false,
         })
     }
@@ -109,9 +108,9 @@ impl<A: Allocator + Clone> TextList<A> {
     /// Copies a text to the end of the list. The limit must admit it, so that it is refused for want of
     /// memory alone, and nothing changes then.
     pub(crate) fn push_copied(&mut self, text: &str) -> LassoResult<()>
-        requires { IsSome (store self.old.account (length text.now)) }
+        requires { IsSome (store self.old.first self.old.account (length text.now)) }
         ensures texts { OnOk result (self.new.texts ≡ self.old.texts ++ text.now ∷ []) }
-        ensures account { OnOk result (store self.old.account (length text.now) ≡ Some self.new.account) }
+        ensures account { OnOk result (store self.old.first self.old.account (length text.now) ≡ Some self.new.account) }
         ensures copied { OnOk result (self.new.copied ≡ self.old.copied + length text.now) }
         ensures origin { KeepsOrigin self.old self.new }
         ensures refused { IfErr result (λ error. error ≡ FailedAllocation) }
@@ -148,7 +147,7 @@ impl<A: Allocator> TextList<A> {
 
     /// Whether the limit admits a text of so many bytes. It takes no memory.
     pub(crate) fn admits(&self, len: usize) -> bool
-        ensures { IsTrue result ↔ IsSome (store self.now.account len) }
+        ensures { IsTrue result ↔ IsSome (store self.now.first self.now.account len) }
     {
         self.arena.admits(len)
     }
@@ -157,6 +156,7 @@ impl<A: Allocator> TextList<A> {
     pub(crate) fn memory_usage(&self) -> usize
         ensures usage { result ≡ self.now.account.usage }
         ensures waste { self.now.is_cleared ≡ false → result ≤ self.now.first + 4 * self.now.copied }
+        ensures bound { result ≤ self.now.first + 8 * most_copied self.now }
     {
         self.arena.memory_usage()
     }
@@ -246,13 +246,15 @@ impl<A: Allocator> TextList<A> {
         self.arena.set_limit(limit);
     }
 
-    /// Forgets every text and keeps the memory.
+    /// Forgets every text. The first bucket and the doubled ones stay, and the others are given back.
     pub(crate) fn clear(&mut self)
         ensures texts { self.new.texts ≡ [] }
-        ensures account { self.new.account ≡ clear self.old.account }
+        ensures account { self.new.account ≡ clear self.old.first self.old.account }
         ensures copied { self.new.copied ≡ 0 }
+        ensures most { self.new.most ≡ most_copied self.old }
         ensures first { self.new.first ≡ self.old.first }
         ensures mark { self.new.is_cleared ≡ true }
+        ensures usage { self.new.account.usage ≤ self.old.account.usage }
     {
         self.is_cleared = true;
         self.entries.clear();

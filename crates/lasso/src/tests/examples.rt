@@ -1,5 +1,12 @@
-//! The examples of the front page.
+//! The examples of the front page; below it those in the documents of the calls, where each stands
+//! in a test as it is there.
+mod frozen;
+mod looking_up;
+mod making;
 mod own_key;
+mod parts;
+mod shared;
+mod walks;
 
 use crate::interface::Interner;
 use crate::{

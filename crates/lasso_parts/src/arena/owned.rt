@@ -1,7 +1,9 @@
 //! Regions in the order in which they were opened, each beside the right to free it.
-ghost use Rattle.std.specs.Prelude.{◌≡◌, ◌+◌, ◌<◌, ◌≤◌, ◌++◌, [], ◌∷◌, length, map, slice_set, IfOk, IfErr, IsOk, OnErr};
+ghost use Rattle.std.specs.Prelude.{◌≡◌, ◌+◌, ◌^◌, ◌<◌, ◌≤◌, ◌++◌, [], ◌∷◌, length, map, take, slice_set, IfOk, IfErr, IsOk, OnErr};
 ghost use denote.RawPtr.{Ptr};
-ghost use Rattle.lasso_parts.specs.Arena.{region_at, with_bytes, emptied};
+ghost use Rattle.lasso_parts.specs.Arena.{region_at, with_bytes, emptied, usage_of, copied_in};
+ghost use Rattle.lasso_parts.specs.Bucket.{block_of};
+ghost use Rattle.lasso_parts.specs.Doubled.{kept_of};
 ghost use Rattle.lasso_parts.specs.declared.util.LassoErrorKind.TheVariants.{FailedAllocation};
 
 use crate::bucket::region::{Region, Right, close, open};
@@ -49,11 +51,29 @@ impl<A: Allocator> OwnedRegions<A> {
         self.regions.as_slice()
     }
 
-    /// Forgets the bytes of every region.
-    pub(crate) fn clear(&mut self)
-        ensures { self.new ≡ map emptied self.old }
+    /// How many bytes all regions have. Their capacities must add up to what a `usize` counts.
+    pub(crate) fn copied(&self) -> usize
+        requires { usage_of self.now < 2 ^ 64 }
+        ensures { result ≡ copied_in self.now }
     {
+        let mut copied = 0;
+        for region in self.regions.as_slice() {
+            copied += region.capacity() - region.free_elements();
+        }
+        copied
+    }
+
+    /// Keeps the first region and the doubled ones, in their order and without their bytes, frees the
+    /// others, and answers how many it keeps. There must be one. It takes no memory.
+    pub(crate) fn clear(&mut self) -> usize
+        requires { 0 < length self.old }
+        ensures kept { self.new ≡ map emptied (kept_of self.old) }
+        ensures count { result ≡ length (kept_of self.old) }
+    {
+        let kept = gather_kept(&mut self.regions, &mut self.rights);
+        free_from(&mut self.regions, &mut self.rights, kept);
         clear_each(&mut self.regions);
+        kept
     }
 
     /// Copies a text to the end of a region that has room for it, and answers where it begins.
@@ -94,6 +114,58 @@ impl<A: Allocator + Clone> OwnedRegions<A> {
         self.regions.push_reserved(region);
         self.rights.push_reserved(right);
         Ok(())
+    }
+
+    /// One region more, of so many bytes, with a text in it. It is refused for want of memory alone, and
+    /// nothing changes then.
+    pub(crate) fn push_filled(&mut self, capacity: usize, text: &str) -> LassoResult<()>
+        requires some { 0 < capacity }
+        requires room { length text.now ≤ capacity }
+        ensures added { IsOk result → (at : Ptr) × (self.new ≡ self.old ++ record { at = at; bytes = text.now; capacity = capacity } ∷ []) }
+        ensures err { OnErr result (self.new ≡ self.old) }
+        ensures refused { IfErr result (λ error. error ≡ FailedAllocation) }
+    {
+        let at = self.as_slice().len();
+        self.push(capacity)?;
+        self.push_text(at, text);
+        Ok(())
+    }
+}
+
+// Puts the first region and the doubled ones in front, in their order, each beside its right, and answers
+// how many they are.
+fn gather_kept<A: Allocator>(regions: &mut Vec<Region, A>, rights: &mut Vec<Right<A>, A>) -> usize
+    requires some { 0 < length regions.old.items }
+    requires joined { rights.old.items ≡ map block_of regions.old.items }
+    ensures kept { take result regions.new.items ≡ kept_of regions.old.items }
+    ensures count { result ≤ length regions.new.items }
+    ensures joined { rights.new.items ≡ map block_of regions.new.items }
+{
+    let mut kept = 1;
+    let mut last = regions[0].capacity();
+    for at in 1..regions.as_slice().len() {
+        let capacity = regions[at].capacity();
+        if last <= capacity && capacity - last == last {
+            regions.swap(kept, at);
+            rights.swap(kept, at);
+            kept += 1;
+            last = capacity;
+        }
+    }
+    kept
+}
+
+// Frees the regions from that position on.
+fn free_from<A: Allocator>(regions: &mut Vec<Region, A>, rights: &mut Vec<Right<A>, A>, kept: usize)
+    requires joined { rights.old.items ≡ map block_of regions.old.items }
+    requires count { kept ≤ length regions.old.items }
+    ensures kept { regions.new.items ≡ take kept regions.old.items }
+    ensures joined { rights.new.items ≡ map block_of regions.new.items }
+{
+    while kept < regions.len() {
+        let region = regions.pop().unwrap();
+        let right = rights.pop().unwrap();
+        close(region, right);
     }
 }
 

@@ -101,14 +101,72 @@ fn a_long_text_gets_its_own_region(rt: HostRuntime) -> Result<(), Fail> {
 }
 
 #[test]
-fn what_the_limit_leaves_is_cleared_and_filled_again(rt: HostRuntime) -> Result<(), Fail> {
+fn a_clear_gives_back_what_the_limit_left(rt: HostRuntime) -> Result<(), Fail> {
     let mut arena = Arena::new(rt.alloc(), 10, 15)?;
     let row = [
         (Stores("0123456789"), 10),
         (Stores("abc"), 15),
-        (Clears, 15),
-        (Stores("hello"), 15),
-        (Refuses("x"), 15),
+        (Clears, 10),
+        (Stores("hello"), 10),
+        (Stores("x"), 10),
+    ];
+    run_row(&rt, &mut arena, &row);
+    let mut again = Arena::new(rt.alloc(), 4, 7)?;
+    let row = [
+        (Stores("abcd"), 4),
+        (Stores("xy"), 7),
+        (Clears, 4),
+        (Stores("abcd"), 4),
+        (Stores("xyz"), 7),
+    ];
+    run_row(&rt, &mut again, &row);
+    Ok(())
+}
+
+#[test]
+fn a_clear_keeps_doubled_regions_alone(rt: HostRuntime) -> Result<(), Fail> {
+    let mut arena = Arena::new(rt.alloc(), 4, usize::MAX)?;
+    let row = [
+        (Stores("abcd"), 4),
+        (Stores("efghij"), 12),
+        (Stores("qqqqqqqqqqqqqqqqqqqq"), 32),
+        (Clears, 12),
+        (Stores("abcdefg"), 12),
+        (Stores("abcd"), 28),
+    ];
+    run_row(&rt, &mut arena, &row);
+    Ok(())
+}
+
+#[test]
+fn the_smallest_spare_is_filled_once(rt: HostRuntime) -> Result<(), Fail> {
+    let mut arena = Arena::new(rt.alloc(), 4, usize::MAX)?;
+    let row = [
+        (Stores("abcd"), 4),
+        (Stores("efgh"), 12),
+        (Stores("qqqqqqqqq"), 28),
+        (Clears, 28),
+        (Stores("abcde"), 28),
+        (Stores("qqqqqqqqqqqqqqqq"), 28),
+        (Stores("x"), 60),
+        (Clears, 60),
+        (Stores("qqqqqqqqq"), 60),
+    ];
+    run_row(&rt, &mut arena, &row);
+    Ok(())
+}
+
+#[test]
+fn a_spare_is_filled_at_the_limit(rt: HostRuntime) -> Result<(), Fail> {
+    let mut arena = Arena::new(rt.alloc(), 4, 12)?;
+    let row = [
+        (Stores("abcd"), 4),
+        (Stores("efghij"), 12),
+        (Refuses("klm"), 12),
+        (Clears, 12),
+        (Stores("klm"), 12),
+        (Stores("no"), 12),
+        (Refuses("pqrstuv"), 12),
     ];
     run_row(&rt, &mut arena, &row);
     Ok(())

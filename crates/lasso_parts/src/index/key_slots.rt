@@ -1,5 +1,5 @@
 //! The slots of a table, each empty or with a key: a byte a slot beside the keys, its tag.
-ghost use Rattle.std.specs.Prelude.{◌≡◌, ◌≢◌, ℕ, ◌<◌, ◌≤◌, ◌⊎◌, [], None, Some, length, replicate, slice_set, slice_index_or, option_map, IfOk};
+ghost use Rattle.std.specs.Prelude.{◌≡◌, ◌≢◌, ℕ, ◌<◌, ◌≤◌, ◌^◌, ◌⊎◌, [], None, Some, length, replicate, slice_set, slice_index_or, option_map, IfOk};
 ghost use Rattle.std.specs.Vec.{vec_capacity};
 ghost use Rattle.lasso_parts.specs.Index.{slot, Retags};
 
@@ -7,7 +7,7 @@ use crate::keys::Key;
 use std::alloc::{AllocError, Allocator};
 use std::marker::Model;
 
-/// The slots of a table. Slot j is empty where its tag is 0; what stands at its place among the keys then
+/// The slots of a table. Slot j is empty where its tag is 0; what stands at its position among the keys then
 /// says nothing. There are keys where there is memory for a slot. No key of the type is at hand before the
 /// first one is put, so they are made then, in memory that was had before. Contracts see the position that
 /// each slot's key stands for, and the tags.
@@ -107,6 +107,7 @@ impl<K: Key, A: Allocator> KeySlots<K, A> {
         requires filled { 0 < tag }
         ensures slots { self.new.slots ≡ slice_set self.old.slots j (Some (K.number key)) }
         ensures tags { Retags self.old self.new j tag }
+        ensures small { length self.old.slots < 2 ^ 64 }
     {
         let Some(keys) = &mut self.keys else {
             unreachable!();

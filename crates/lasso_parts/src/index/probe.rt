@@ -20,8 +20,8 @@ const TAG_COUNT: u64 = 128;
 pub enum Scan {
     // A key of the wanted text, by its position.
     Found(usize),
-    // An empty slot ended it.
-    Ended,
+    // This empty slot ended it.
+    Ended(usize),
     // It saw each slot of the range.
     Passed,
 }
@@ -73,7 +73,7 @@ pub fn scan_slots<K: Key, A: Allocator, T: Texts>(
                 return Scan::Found(position);
             }
         } else if found == 0 {
-            return Scan::Ended;
+            return Scan::Ended(j);
         }
     }
     Scan::Passed

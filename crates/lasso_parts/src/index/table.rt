@@ -1,7 +1,7 @@
 //! Tables of slots: how many there are, and how a new one gets the keys of another.
 ghost use Rattle.std.specs.Prelude.{◌≡◌, ◌<◌, ◌≤◌, ◌^◌, length, replicate, None, IfSome, IfNone, IfOk};
 ghost use Rattle.lasso_parts.specs.Hashing.{text_hash};
-ghost use Rattle.lasso_parts.specs.Index.{used, load_limit, grown_count, Holds, IsFewest, IsFiled, StaysFiled};
+ghost use Rattle.lasso_parts.specs.Index.{used, load_limit, grown_count, Holds, IsFewest, IsFiled, IsVacant, StaysFiled};
 ghost use Rattle.lasso_parts.specs.IndexTable.{AllInList, IsEntered, IsRefilled, IsSlotCount};
 ghost use Rattle.lasso_parts.specs.Texts.{Fits};
 
@@ -56,6 +56,17 @@ pub fn enter<K: Key, A: Allocator>(slots: &mut KeySlots<K, A>, hash: u64, key: K
     ensures small { length slots.old.slots < 2 ^ 64 }
 {
     let at = free_slot(slots, hash);
+    enter_at(slots, at, hash, key);
+}
+
+// Enters the key under the hash of its text in a slot where the search for the hash ends.
+#[inline]
+pub fn enter_at<K: Key, A: Allocator>(slots: &mut KeySlots<K, A>, at: usize, hash: u64, key: K)
+    requires { IsVacant hash at slots.old.slots }
+    ensures entered { IsEntered (K.number key) slots.old slots.new }
+    ensures filed { StaysFiled hash (K.number key) slots.old slots.new }
+    ensures small { length slots.old.slots < 2 ^ 64 }
+{
     slots.put(at, tag_of(hash), key);
 }
 

@@ -1,7 +1,7 @@
-//! What no clause says of an index: which texts are hashed again, and that a constant hasher serves.
+//! What no clause says of an index: which texts are hashed again, which are read, and that a constant hasher serves.
 ghost use Rattle.lasso_parts.specs.Index.{IsFiledAnywhere};
 
-use crate::index::hashers::{CountingState, SameState};
+use crate::index::hashers::{CountedTexts, CountingState, LengthState, SameState};
 use crate::index::key_slots::KeySlots;
 use crate::index::{Index, hash_text};
 use crate::keys::{Key, Spur};
@@ -62,6 +62,13 @@ impl<'a, S: BuildHasher + Drop> Entered<'a, S> {
 
     fn find(&self, text: &str) -> Option<usize> {
         self.index.find(&self.texts, &self.hasher, text)
+    }
+
+    // The same, over a list that counts the texts read.
+    fn find_counted(&self, read: &Cell<u64>, text: &str) -> Option<usize> {
+        read.set(0);
+        let texts = CountedTexts::new(self.texts, read);
+        self.index.find(&texts, &self.hasher, text)
     }
 
     fn find_hashed(&self, text: &str) -> Option<usize> {
@@ -148,5 +155,24 @@ fn tagged_slots(rt: HostRuntime) -> Result<(), Fail> {
         slots.clear();
         assert!(rt; slots.len() == 130);
     }
+    Ok(())
+}
+
+#[test]
+fn other_tags_are_passed_over(rt: HostRuntime) -> Result<(), Fail> {
+    let texts = ["x", "xx", "xxx", "yy"];
+    let mut words = Entered::new(Index::new(rt.alloc()), LengthState::new(), texts.as_slice());
+    for n in 0..texts.len() {
+        words.enter(n)?;
+    }
+    let read = Cell::new(0u64);
+    assert_eq!(rt; words.find_counted(&read, "xxx"), Some(2));
+    assert_eq!(rt; read.get(), 1);
+    assert_eq!(rt; words.find_counted(&read, "yy"), Some(3));
+    assert_eq!(rt; read.get(), 2);
+    assert_eq!(rt; words.find_counted(&read, "zz"), None);
+    assert_eq!(rt; read.get(), 2);
+    assert_eq!(rt; words.find_counted(&read, "zzzz"), None);
+    assert_eq!(rt; read.get(), 0);
     Ok(())
 }

@@ -10,6 +10,12 @@ use std::error::Error;
 use std::fmt;
 
 /// Why a JSON value was not read, or not written. `at` counts items or members from 0.
+///
+/// ```rust
+/// let damaged = Value::from_str(rt.alloc(), r#"["b", "a", "b"]"#)?;
+/// let fault = SpurRodeo::deserialize(rt.alloc(), &damaged).err();
+/// assert_eq!(rt; fault, Some(JsonError::Doubled(2)));
+/// ```
 #[derive(Clone, Copy, Debug, PartialEq, Eq, Hash)]
 pub enum JsonError {
     /// An array was wanted.

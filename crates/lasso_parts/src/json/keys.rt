@@ -18,6 +18,13 @@ pub trait JsonKey: Key {
     ghost greatest: { ℕ };
 
     /// The number that the key keeps. It takes no memory and is never refused.
+    ///
+    /// ```rust
+    /// let first = Spur::try_from_usize(0).ok_or("no key")?;
+    /// let value = first.key_to_json(rt.alloc())?;
+    /// let kept = value.as_u64().ok_or("no number")?;
+    /// assert_eq!(rt; kept, 1);
+    /// ```
     final fn key_to_json(self, _alloc: Global) -> Result<Value, JsonError>
         ensures { IsOkAnd result (λ v. view v ≡ number (unsigned (Self.number self + 1))) }
     {
@@ -27,6 +34,14 @@ pub trait JsonKey: Key {
 
     /// The key that keeps the number. A value that is no whole number from 1 to the greatest that the
     /// type keeps is `NotAKey`, 0 too.
+    ///
+    /// ```rust
+    /// let first = Spur::try_from_usize(0).ok_or("no key")?;
+    /// let value = first.key_to_json(rt.alloc())?;
+    /// assert_eq!(rt; Spur::key_from_json(&value), Ok(first));
+    /// let zero = Value::from_str(rt.alloc(), "0")?;
+    /// assert_eq!(rt; Spur::key_from_json(&zero), Err(JsonError::NotAKey));
+    /// ```
     final fn key_from_json(value: &Value) -> Result<Self, JsonError>
         ensures read { result ≡ key_kept Self.key_at (whole_number (view value.now)) }
         ensures range { IsOk result ↔ ((n : ℕ) × (whole_number (view value.now) ≡ Some n) × (0 < n) × (n ≤ greatest)) }

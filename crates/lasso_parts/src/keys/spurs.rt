@@ -28,6 +28,11 @@ impl Model for Spur {
 
 impl Spur {
     /// The number that the key keeps: its position plus one.
+    ///
+    /// ```rust
+    /// let third = Spur::try_from_usize(2).ok_or("no key")?;
+    /// assert_eq!(rt; third.into_inner(), 3);
+    /// ```
     pub fn into_inner(self) -> u32
         ensures kept { result ≡ self }
         ensures range { IsKeptNumber 4294967295 result }

@@ -148,7 +148,7 @@ fn two_threads_append(rt: HostRuntime) -> Result<(), Fail> {
     assert!(rt; a && b);
     let mut pass = shared.pass();
     assert_eq!(rt; shared.log.len(&mut pass), 200);
-    // 100 texts of each thread in 200 places: each stands once, in its thread's order
+    // 100 texts of each thread at 200 positions: each stands once, in its thread's order
     assert_eq!(rt; in_order(&shared, &FIRST), 100);
     assert_eq!(rt; in_order(&shared, &SECOND), 100);
     let mut past = shared.pass();

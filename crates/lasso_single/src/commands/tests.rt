@@ -81,8 +81,8 @@ fn a_refusal_does_not_end_the_run(rt: HostRuntime) -> Result<(), Fail> {
 }
 
 // A first bucket of 4 bytes under a limit of 20: "abc" leaves room for 1 byte, so "defgh" asks for a bucket of
-// twice 4 bytes, and 12 are taken. The clear leaves 8 of the last one, and the copy takes 6 of them. "three" asks
-// for a third: 12 and twice 8 are past the limit, so it is what the limit leaves, 8 bytes.
+// twice 4 bytes, and 12 are taken. The clear keeps both. Of the copy "one" goes into the first bucket and "two"
+// into the other, in which "three" has just room.
 #[test]
 fn each_command_in_one_run(rt: HostRuntime) -> Result<(), Fail> {
     let mut source: Small = Rodeo::new(rt.alloc())?;
@@ -157,7 +157,7 @@ fn holds_as_worked(rt: &impl Abort, rodeo: &Small) {
     for text in ["one", "two", "three", "four"] {
         assert_eq!(rt; texts.next(), Some(text));
     }
-    assert_eq!(rt; rodeo.current_memory_usage(), 20);
+    assert_eq!(rt; rodeo.current_memory_usage(), 12);
     assert_eq!(rt; rodeo.max_memory_usage(), 20);
 }
 

@@ -18,6 +18,15 @@ impl<K: Key, S: BuildHasher + Clone, A: Allocator + Clone> Rodeo<K, S, A> {
     /// just their bytes (4096 where they have none). Its limit is this one's, or that size where it is
     /// greater. Its index asks a clone of the hasher. No limit refuses it: it is refused for want of memory
     /// alone, also where the texts have more bytes than a `usize` counts.
+    ///
+    /// ```rust
+    /// let mut rodeo = Rodeo::default(rt.alloc())?;
+    /// let hello = rodeo.try_get_or_intern("Hello, world!")?;
+    /// let copy = rodeo.try_clone()?;
+    /// assert!(rt; copy == rodeo);
+    /// assert_eq!(rt; copy.try_resolve(hello), Some("Hello, world!"));
+    /// assert_eq!(rt; copy.current_memory_usage(), 13);
+    /// ```
     pub fn try_clone(&self) -> LassoResult<Self>
         ensures texts { IfOk result (λ r. r.texts ≡ self.now.texts) }
         ensures account { IfOk result (λ r. clone_of self.now.texts self.now.account.limit ≡ Some r.account) }
@@ -42,6 +51,15 @@ impl<K: Key, S: BuildHasher + Clone, A: Allocator + Clone> Rodeo<K, S, A> {
 
     /// An interner with the same texts under the same keys: the same call as `try_clone`, with the same
     /// refusals.
+    ///
+    /// ```rust
+    /// let mut rodeo = Rodeo::default(rt.alloc())?;
+    /// let hello = rodeo.try_get_or_intern("Hello, world!")?;
+    /// let mut other = rodeo.clone()?;
+    /// other.try_get_or_intern("Goodbye!")?;
+    /// assert!(rt; other != rodeo);
+    /// assert_eq!(rt; other.try_resolve(hello), Some("Hello, world!"));
+    /// ```
     pub fn clone(&self) -> LassoResult<Self>
         ensures texts { IfOk result (λ r. r.texts ≡ self.now.texts) }
         ensures account { IfOk result (λ r. clone_of self.now.texts self.now.account.limit ≡ Some r.account) }
@@ -52,10 +70,18 @@ impl<K: Key, S: BuildHasher + Clone, A: Allocator + Clone> Rodeo<K, S, A> {
         self.try_clone()
     }
 
-    /// Forgets every text, and copies those of the source here under the same keys, static ones too, into
-    /// this interner's own buckets and under its own limit. Its index then asks a clone of the source's
-    /// hasher. Where the limit has no room for a text, or memory is wanting, it stops there and forgets
-    /// the texts again: there is no text then, and the buckets stay.
+    /// Forgets every text, as `clear` does, and copies those of the source here under the same keys, static
+    /// ones too, into this interner's own buckets and under its own limit. Its index then asks a clone of the
+    /// source's hasher. Where the limit has no room for a text, or memory is wanting, it stops there and
+    /// clears again: there is no text then. The bytes copied count as after a clear.
+    ///
+    /// ```rust
+    /// let rodeo: SpurRodeo = Rodeo::from_iter(rt.alloc(), ["red", "green"])?;
+    /// let mut copy: SpurRodeo = Rodeo::from_iter(rt.alloc(), ["blue"])?;
+    /// copy.try_clone_from(&rodeo)?;
+    /// assert!(rt; copy == rodeo);
+    /// assert!(rt; !copy.contains("blue"));
+    /// ```
     pub fn try_clone_from(&mut self, source: &Self) -> LassoResult<()>
         ensures { clone_into self.old source.now.texts result self.new }
     {

@@ -16,6 +16,14 @@ impl<K: Key, S: BuildHasher, A: Allocator + Clone> Rodeo<K, S, A> {
     /// Interns item after item, each of them a `&str` or another that lends a text. A refusal ends it and is
     /// the answer: the items before the refused one stay, that one changes nothing, and no item after it is
     /// taken. It returns if the items end.
+    ///
+    /// ```rust
+    /// let mut rodeo = Rodeo::default(rt.alloc())?;
+    /// rodeo.extend(["red", "green", "red"])?;
+    /// assert_eq!(rt; rodeo.len(), 2);
+    /// assert!(rt; rodeo.contains("green"));
+    /// assert!(rt; !rodeo.contains("blue"));
+    /// ```
     pub fn extend<T: AsStr + Drop, I: IntoIterator<Item = T>>(
         &mut self,
         items: I,
@@ -38,6 +46,13 @@ impl<K: Key, S: BuildHasher, A: Allocator + Clone> Rodeo<K, S, A> {
 impl<K: Key, S: BuildHasher + Default + Drop, A: Allocator + Clone> Rodeo<K, S, A> {
     /// An interner of default capacity and limit (50 texts, 4096 bytes), with item after item interned.
     /// A refusal ends it, and is the answer in place of the interner. It returns if the items end.
+    ///
+    /// ```rust
+    /// let colours = ["red", "green", "red", "blue"];
+    /// let rodeo: SpurRodeo = Rodeo::from_iter(rt.alloc(), colours)?;
+    /// assert_eq!(rt; rodeo.len(), 3);
+    /// assert!(rt; rodeo.contains("blue"));
+    /// ```
     pub fn from_iter<T: AsStr + Drop, I: IntoIterator<Item = T> + Drop>(
         alloc: A,
         items: I,

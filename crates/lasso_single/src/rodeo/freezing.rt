@@ -11,6 +11,14 @@ use std::hash::BuildHasher;
 impl<K: Key, S: BuildHasher, A: Allocator> Rodeo<K, S, A> {
     /// The same texts under the same keys, frozen: keys of texts are still found. It takes no memory, copies
     /// nothing and can't fail.
+    ///
+    /// ```rust
+    /// let mut rodeo = Rodeo::default(rt.alloc())?;
+    /// let hello = rodeo.try_get_or_intern("Hello, world!")?;
+    /// let reader = rodeo.into_reader();
+    /// assert_eq!(rt; reader.get("Hello, world!"), Some(hello));
+    /// assert_eq!(rt; reader.try_resolve(hello), Some("Hello, world!"));
+    /// ```
     pub fn into_reader(self) -> RodeoReader<K, S, A>
         ensures { result ≡ self.texts }
     {
@@ -19,6 +27,14 @@ impl<K: Key, S: BuildHasher, A: Allocator> Rodeo<K, S, A> {
 
     /// The same texts under the same keys, frozen, without the index. It takes no memory, copies nothing and
     /// can't fail; the index and the hasher are let go.
+    ///
+    /// ```rust
+    /// let mut rodeo = Rodeo::default(rt.alloc())?;
+    /// let hello = rodeo.try_get_or_intern("Hello, world!")?;
+    /// let resolver = rodeo.into_resolver();
+    /// assert_eq!(rt; resolver.try_resolve(hello), Some("Hello, world!"));
+    /// assert_eq!(rt; resolver.len(), 1);
+    /// ```
     pub fn into_resolver(self) -> RodeoResolver<K, A>
     where
         S: Drop,

@@ -12,28 +12,48 @@ impl<K: Key, S: BuildHasher, A: Allocator + Clone> Rodeo<K, S, A> {
     /// The key of the text, which goes last in the list if it is not there. A text that is there is
     /// never refused. A new one is refused where the key type has no key for its position, else where
     /// the memory limit leaves no room for its bytes, else for want of memory; nothing changes then.
+    ///
+    /// ```rust
+    /// let mut rodeo = Rodeo::default(rt.alloc())?;
+    /// let hello = rodeo.try_get_or_intern("Hello, world!")?;
+    /// assert_eq!(rt; hello.into_usize(), 0);
+    /// let again = rodeo.try_get_or_intern("Hello, world!")?;
+    /// assert!(rt; again == hello);
+    /// ```
     pub fn try_get_or_intern(&mut self, text: &str) -> LassoResult<K>
         ensures { InternsIn K.key_at self.old text.now result self.new }
     {
         let hash = hash_text(&self.hasher, text);
-        let found = self.index.find_hashed(&self.list, &self.hasher, hash, text);
-        if let Some(position) = found {
-            return Ok(K::try_from_usize(position).unwrap());
-        }
+        let found = self.index.locate(&self.list, &self.hasher, hash, text);
+        let vacancy = match found {
+            Ok(position) => return Ok(K::try_from_usize(position).unwrap()),
+            Err(vacancy) => vacancy,
+        };
         let Some(key) = K::try_from_usize(self.list.len()) else {
             return Err(LassoError::new(LassoErrorKind::KeySpaceExhaustion));
         };
         if !self.list.admits(text.len()) {
             return Err(LassoError::new(LassoErrorKind::MemoryLimitReached));
         }
-        self.index.reserve_in_order(&self.list, &self.hasher)?;
+        let vacancy = self
+            .index
+            .reserve_in_order(&self.list, &self.hasher, hash, vacancy)?;
         self.list.push_copied(text)?;
-        self.index.insert_reserved(hash, key);
+        self.index.insert_at(vacancy, hash, key);
         Ok(key)
     }
 
     /// The key of the text, which goes last in the list if it is not there: the same call as
     /// `try_get_or_intern`, with the same refusals.
+    ///
+    /// ```rust
+    /// let mut rodeo = Rodeo::default(rt.alloc())?;
+    /// let hello = rodeo.try_get_or_intern("Hello, world!")?;
+    /// let same = rodeo.get_or_intern("Hello, world!")?;
+    /// assert!(rt; same == hello);
+    /// let other = rodeo.get_or_intern("Goodbye!")?;
+    /// assert!(rt; other != hello);
+    /// ```
     pub fn get_or_intern(&mut self, text: &str) -> LassoResult<K>
         ensures { InternsIn K.key_at self.old text.now result self.new }
     {
@@ -43,24 +63,42 @@ impl<K: Key, S: BuildHasher, A: Allocator + Clone> Rodeo<K, S, A> {
     /// The key of the text, which goes last in the list if it is not there. The text is kept as it is, with
     /// no copy, so the memory limit never refuses it. A text that is there is never refused. A new one is
     /// refused where the key type has no key for its position, else for want of memory; nothing changes then.
+    ///
+    /// ```rust
+    /// let mut rodeo: SpurRodeo = Rodeo::with_capacity(rt.alloc(), Capacity::for_bytes(4))?;
+    /// rodeo.set_memory_limits(MemoryLimits::new(0));
+    /// let lasting = rodeo.try_get_or_intern_static("a static text")?;
+    /// assert_eq!(rt; rodeo.try_resolve(lasting), Some("a static text"));
+    /// assert_eq!(rt; rodeo.current_memory_usage(), 4);
+    /// ```
     pub fn try_get_or_intern_static(&mut self, text: &'static str) -> LassoResult<K>
         ensures { InternsStaticIn K.key_at self.old text.now result self.new }
     {
         let hash = hash_text(&self.hasher, text);
-        if let Some(position) = self.index.find_hashed(&self.list, &self.hasher, hash, text) {
-            return Ok(K::try_from_usize(position).unwrap());
-        }
+        let vacancy = match self.index.locate(&self.list, &self.hasher, hash, text) {
+            Ok(position) => return Ok(K::try_from_usize(position).unwrap()),
+            Err(vacancy) => vacancy,
+        };
         let Some(key) = K::try_from_usize(self.list.len()) else {
             return Err(LassoError::new(LassoErrorKind::KeySpaceExhaustion));
         };
-        self.index.reserve_in_order(&self.list, &self.hasher)?;
+        let vacancy = self
+            .index
+            .reserve_in_order(&self.list, &self.hasher, hash, vacancy)?;
         self.list.push_static(text)?;
-        self.index.insert_reserved(hash, key);
+        self.index.insert_at(vacancy, hash, key);
         Ok(key)
     }
 
     /// The key of the text, which goes last in the list if it is not there: the same call as
     /// `try_get_or_intern_static`, with the same refusals.
+    ///
+    /// ```rust
+    /// let mut rodeo = Rodeo::default(rt.alloc())?;
+    /// let hello = rodeo.get_or_intern_static("Hello, world!")?;
+    /// let same = rodeo.get_or_intern("Hello, world!")?;
+    /// assert!(rt; same == hello);
+    /// ```
     pub fn get_or_intern_static(&mut self, text: &'static str) -> LassoResult<K>
         ensures { InternsStaticIn K.key_at self.old text.now result self.new }
     {

@@ -18,6 +18,12 @@ use std::hash::BuildHasher;
 impl<K: Key, S: BuildHasher, A: Allocator> Rodeo<K, S, A> {
     /// The array of the texts, in the order of their keys. It is refused for want of memory alone, and
     /// never where there is no text.
+    ///
+    /// ```rust
+    /// let rodeo = SpurRodeo::from_iter(rt.alloc(), ["b", "a"])?;
+    /// let written = rodeo.serialize(rt.alloc())?.to_string(rt.alloc())?;
+    /// assert_eq!(rt; written.as_str(), r#"["b","a"]"#);
+    /// ```
     pub fn serialize(&self, alloc: Global) -> Result<Value, JsonError>
         ensures written { IfOk result (λ value. view value ≡ json_array self.now.texts) }
         ensures refused { IfErr result (λ error. (error ≡ JsonError.Lasso FailedAllocation) × (0 < length self.now.texts)) }
@@ -33,6 +39,13 @@ impl<K: Key, S: BuildHasher + Default + Drop, A: Allocator + Clone> Rodeo<K, S, 
     /// no key for its position (`TooMany`). A value that is no array is `NotAnArray`. It may be refused for
     /// want of memory (`Lasso`) unless the value is no array or its first item is faulty; so it is where
     /// the texts have more bytes than a `usize` counts.
+    ///
+    /// ```rust
+    /// let value = Value::from_str(rt.alloc(), r#"["b", "a"]"#)?;
+    /// let rodeo = SpurRodeo::deserialize(rt.alloc(), &value)?;
+    /// let first = rodeo.get("b").ok_or("not there")?;
+    /// assert_eq!(rt; first.into_usize(), 0);
+    /// ```
     pub fn deserialize(alloc: A, value: &Value) -> Result<Self, JsonError>
         ensures read { ReadsInto K.key_at true (view value.now) (shown (λ r. r.texts) result) }
         ensures account { IfOk result (λ r. read_of r.texts ≡ Some r.account) }

@@ -15,6 +15,12 @@ use std::hash::BuildHasher;
 impl<A: Allocator + Clone> Rodeo<Spur, FixedState, A> {
     /// An interner with `Spur` keys, of default capacity (50 texts, 4096 bytes) and with no limit below
     /// the greatest number. It is refused for want of memory alone.
+    ///
+    /// ```rust
+    /// let rodeo = Rodeo::default(rt.alloc())?;
+    /// assert!(rt; rodeo.is_empty());
+    /// assert_eq!(rt; rodeo.current_memory_usage(), 4096);
+    /// ```
     pub fn default(alloc: A) -> LassoResult<Self>
         ensures texts { IfOk result (λ r. r.texts ≡ []) }
         ensures account { IfOk result (λ r. r.account ≡ fresh 4096 (2 ^ 64 - 1)) }
@@ -27,6 +33,12 @@ impl<A: Allocator + Clone> Rodeo<Spur, FixedState, A> {
 
 impl<K: Key, A: Allocator + Clone> Rodeo<K, FixedState, A> {
     /// An interner of default capacity and limit. It is refused for want of memory alone.
+    ///
+    /// ```rust
+    /// let mut rodeo: Rodeo<MicroSpur, _, _> = Rodeo::new(rt.alloc())?;
+    /// let first = rodeo.try_get_or_intern("Hello, world!")?;
+    /// assert_eq!(rt; first.into_usize(), 0);
+    /// ```
     pub fn new(alloc: A) -> LassoResult<Self>
         ensures texts { IfOk result (λ r. r.texts ≡ []) }
         ensures account { IfOk result (λ r. r.account ≡ fresh 4096 (2 ^ 64 - 1)) }
@@ -37,6 +49,12 @@ impl<K: Key, A: Allocator + Clone> Rodeo<K, FixedState, A> {
     }
 
     /// An interner with room for `capacity`, of default limit. It is refused for want of memory alone.
+    ///
+    /// ```rust
+    /// let capacity = Capacity::new(1000, 65536);
+    /// let rodeo: SpurRodeo = Rodeo::with_capacity(rt.alloc(), capacity)?;
+    /// assert_eq!(rt; rodeo.current_memory_usage(), 65536);
+    /// ```
     pub fn with_capacity(alloc: A, capacity: Capacity) -> LassoResult<Self>
         ensures texts { IfOk result (λ r. r.texts ≡ []) }
         ensures account { IfOk result (λ r. r.account ≡ fresh capacity.bytes (2 ^ 64 - 1)) }
@@ -48,6 +66,13 @@ impl<K: Key, A: Allocator + Clone> Rodeo<K, FixedState, A> {
 
     /// An interner of default capacity, whose buckets take at most `limits`. The limit may lie below the
     /// 4096 bytes of the first bucket. It is refused for want of memory alone.
+    ///
+    /// ```rust
+    /// let limits = MemoryLimits::new(10000);
+    /// let rodeo: SpurRodeo = Rodeo::with_memory_limits(rt.alloc(), limits)?;
+    /// assert_eq!(rt; rodeo.max_memory_usage(), 10000);
+    /// assert_eq!(rt; rodeo.current_memory_usage(), 4096);
+    /// ```
     pub fn with_memory_limits(alloc: A, limits: MemoryLimits) -> LassoResult<Self>
         ensures texts { IfOk result (λ r. r.texts ≡ []) }
         ensures account { IfOk result (λ r. r.account ≡ fresh 4096 limits) }
@@ -59,6 +84,15 @@ impl<K: Key, A: Allocator + Clone> Rodeo<K, FixedState, A> {
 
     /// An interner with room for `capacity`, whose buckets take at most `limits`. The limit may lie
     /// below the first bucket's bytes. It is refused for want of memory alone.
+    ///
+    /// ```rust
+    /// let capacity = Capacity::for_bytes(4);
+    /// let limits = MemoryLimits::new(4);
+    /// let mut rodeo = SpurRodeo::with_capacity_and_memory_limits(rt.alloc(), capacity, limits)?;
+    /// rodeo.try_get_or_intern("abcd")?;
+    /// let refusal = rodeo.try_get_or_intern("e").err().ok_or("not refused")?;
+    /// assert!(rt; refusal.kind().is_memory_limit());
+    /// ```
     pub fn with_capacity_and_memory_limits(
         alloc: A,
         capacity: Capacity,
@@ -77,6 +111,12 @@ impl<K: Key, A: Allocator + Clone> Rodeo<K, FixedState, A> {
 impl<K: Key, S: BuildHasher + Drop, A: Allocator + Clone> Rodeo<K, S, A> {
     /// An interner of default capacity and limit, whose index asks the hasher. It is refused for want of
     /// memory alone.
+    ///
+    /// ```rust
+    /// let rodeo: SpurRodeo = Rodeo::with_hasher(rt.alloc(), FixedState::new())?;
+    /// assert!(rt; rodeo.is_empty());
+    /// assert_eq!(rt; rodeo.current_memory_usage(), 4096);
+    /// ```
     pub fn with_hasher(alloc: A, hasher: S) -> LassoResult<Self>
         ensures texts { IfOk result (λ r. r.texts ≡ []) }
         ensures account { IfOk result (λ r. r.account ≡ fresh 4096 (2 ^ 64 - 1)) }
@@ -88,6 +128,13 @@ impl<K: Key, S: BuildHasher + Drop, A: Allocator + Clone> Rodeo<K, S, A> {
 
     /// An interner with room for `capacity`, of default limit, whose index asks the hasher. It is refused
     /// for want of memory alone.
+    ///
+    /// ```rust
+    /// let capacity = Capacity::for_bytes(7);
+    /// let hasher = FixedState::new();
+    /// let rodeo = SpurRodeo::with_capacity_and_hasher(rt.alloc(), capacity, hasher)?;
+    /// assert_eq!(rt; rodeo.current_memory_usage(), 7);
+    /// ```
     pub fn with_capacity_and_hasher(alloc: A, capacity: Capacity, hasher: S) -> LassoResult<Self>
         ensures texts { IfOk result (λ r. r.texts ≡ []) }
         ensures account { IfOk result (λ r. r.account ≡ fresh capacity.bytes (2 ^ 64 - 1)) }
@@ -101,6 +148,15 @@ impl<K: Key, S: BuildHasher + Drop, A: Allocator + Clone> Rodeo<K, S, A> {
     /// An interner with room for `capacity`, whose buckets take at most `limits`, and whose index asks
     /// the hasher. The limit may lie below the first bucket's bytes. It is refused for want of memory
     /// alone.
+    ///
+    /// ```rust
+    /// let alloc = rt.alloc();
+    /// let (room, limits) = (Capacity::for_bytes(10), MemoryLimits::new(15));
+    /// let hasher = FixedState::new();
+    /// let rodeo = SpurRodeo::with_capacity_memory_limits_and_hasher(alloc, room, limits, hasher)?;
+    /// assert_eq!(rt; rodeo.current_memory_usage(), 10);
+    /// assert_eq!(rt; rodeo.max_memory_usage(), 15);
+    /// ```
     pub fn with_capacity_memory_limits_and_hasher(
         alloc: A,
         capacity: Capacity,

@@ -2,6 +2,7 @@
 ghost use Rattle.std.specs.Prelude.{◌<◌};
 
 mod changes;
+mod clears;
 mod clones;
 mod filling;
 mod hashing;

@@ -14,6 +14,14 @@ use std::hash::BuildHasher;
 
 impl<K: Key, S: BuildHasher, A: Allocator> Rodeo<K, S, A> {
     /// A walk over the texts and their keys, in the order of the keys.
+    ///
+    /// ```rust
+    /// let rodeo: SpurRodeo = Rodeo::from_iter(rt.alloc(), ["red", "green", "blue"])?;
+    /// let red = rodeo.get("red").ok_or("not there")?;
+    /// let mut walk = rodeo.iter();
+    /// assert_eq!(rt; walk.next(), Some((red, "red")));
+    /// assert_eq!(rt; walk.len(), 2);
+    /// ```
     pub fn iter(&self) -> Iter<'_, K>
         ensures { result ≡ enumerate_from 0 self.now.texts }
     {
@@ -21,6 +29,14 @@ impl<K: Key, S: BuildHasher, A: Allocator> Rodeo<K, S, A> {
     }
 
     /// A walk over the texts, in the order of their keys.
+    ///
+    /// ```rust
+    /// let rodeo: SpurRodeo = Rodeo::from_iter(rt.alloc(), ["red", "green", "blue"])?;
+    /// let mut strings = rodeo.strings();
+    /// assert_eq!(rt; strings.next_back(), Some("blue"));
+    /// assert_eq!(rt; strings.next(), Some("red"));
+    /// assert_eq!(rt; strings.len(), 1);
+    /// ```
     pub fn strings(&self) -> Strings<'_, K>
         ensures { result ≡ self.now.texts }
     {
@@ -28,6 +44,12 @@ impl<K: Key, S: BuildHasher, A: Allocator> Rodeo<K, S, A> {
     }
 
     /// Whether the reader has the same texts under the same keys.
+    ///
+    /// ```rust
+    /// let rodeo: SpurRodeo = Rodeo::from_iter(rt.alloc(), ["red", "green"])?;
+    /// let reader = rodeo.try_clone()?.into_reader();
+    /// assert!(rt; rodeo.eq_reader(&reader));
+    /// ```
     pub fn eq_reader<T: BuildHasher, B: Allocator>(&self, other: &RodeoReader<K, T, B>) -> bool
         ensures { IsTrue result ↔ (self.now.texts ≡ other.now) }
     {
@@ -35,6 +57,13 @@ impl<K: Key, S: BuildHasher, A: Allocator> Rodeo<K, S, A> {
     }
 
     /// Whether the resolver has the same texts under the same keys.
+    ///
+    /// ```rust
+    /// let rodeo: SpurRodeo = Rodeo::from_iter(rt.alloc(), ["red", "green"])?;
+    /// let reader = rodeo.try_clone()?.into_reader();
+    /// let resolver = reader.into_resolver();
+    /// assert!(rt; rodeo.eq_resolver(&resolver));
+    /// ```
     pub fn eq_resolver<B: Allocator>(&self, other: &RodeoResolver<K, B>) -> bool
         ensures { IsTrue result ↔ (self.now.texts ≡ other.now) }
     {

@@ -89,6 +89,7 @@ stretches-preserved g c =
     let number = c.in_ok-number.number in
     record {
       counted = c.in_ok-number.ensures.counted;
+      first = c.answer_stretch.ensures.first;
       reads = omega (arith, c.in_ok-ask_for_more.ensures.reads, c.use_up.ensures.failures, c.stretches.invariant.reads);
       writes = omega (arith, c.in_ok-ask_for_more.ensures.writes, c.in_ok-number.ensures.failures, c.stretches.invariant.writes);
       delivered = only_grows_then _ _ _ (only_grows_then _ _ _ c.stretches.invariant.delivered c.answer_stretch.ensures.delivered) c.ask_for_more.ensures.delivered;

@@ -1,6 +1,6 @@
 use Rattle.std.proofs.Common.{◌≡◌, ◌<◌, ℕ, List, Some}
 use Rattle.lasso_lines.specs.Stream.{Grows, OnlyGrows, written}
-use Rattle.lasso_lines.specs.Report.{holding}
+use Rattle.lasso_lines.specs.Report.{holding, first_bytes}
 use Rattle.lasso_lines.specs.Stretch.{NoFeed}
 use Rattle.lasso_lines.proofs.Ways.{OnTheWay}
 use Rattle.lasso_lines.proofs.engine.answer_input.Given as goal
@@ -11,6 +11,7 @@ invariant-stretches g l =
     let writer = g.O.ByteWriter in
     record {
       counted : 0 < l.number;
+      first : l.rodeo.first ≡ first_bytes;
       reads : reader.failures l.reader ≡ reader.failures l.fn.reader;
       writes : writer.failures l.writer ≡ writer.failures l.fn.writer;
       delivered : OnlyGrows (writer.delivered l.fn.writer) (writer.delivered l.writer);

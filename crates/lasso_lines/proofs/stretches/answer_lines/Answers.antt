@@ -10,8 +10,8 @@ use Rattle.lasso_lines.proofs.Cuts.{none_no_feed, leads_line, leads_then, fails_
 use Rattle.lasso_lines.proofs.Tested.{line_is_tested, behind_is_tested}
 use Rattle.lasso_lines.proofs.stretches.answer_lines.Goals as goal
 
-pub answer_line-requires : goal.answer_line-requires
-answer_line-requires g c = λ tested.
+pub answer_line-requires-clause-text : goal.answer_line-requires-clause-text
+answer_line-requires-clause-text g c = λ tested.
     let rest = c.loop-at.rest.now in
     let at = c.in-Some.at in
     let untested = c.untested_len-untested.result in
@@ -41,6 +41,7 @@ loop-at-preserved g c =
     let same : behind ≡ drop (at + 1) rest = c.behind-rest.ensures.value in
     record {
       counted = omega (arith, c.next_number-number.ensures);
+      first = c.answer_line.ensures.first;
       failures = omega (arith, c.in_ok-answer_line.ensures.failures, c.loop-at.invariant.failures);
       delivered = only_grows_then _ _ _ c.loop-at.invariant.delivered c.answer_line.ensures.delivered;
       text = subst (λ bs. IsUtf8 (take (length bs - untested) bs)) (sym same) (behind_is_tested rest at untested c.loop-at.invariant.text c.in-Some.ensures);

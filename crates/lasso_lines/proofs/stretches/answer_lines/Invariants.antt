@@ -1,7 +1,7 @@
 use Rattle.std.proofs.Common.{◌≡◌, ◌-◌, ◌<◌, length, take}
 use Rattle.std.specs.Str.{IsUtf8}
 use Rattle.lasso_lines.specs.Stream.{Grows, OnlyGrows, written}
-use Rattle.lasso_lines.specs.Report.{holding}
+use Rattle.lasso_lines.specs.Report.{holding, first_bytes}
 use Rattle.lasso_lines.specs.Stretch.{LeadsTo}
 use Rattle.lasso_lines.proofs.stretches.answer_lines.Given as goal
 
@@ -10,6 +10,7 @@ invariant-loop-at g l =
     let writer = g.O.ByteWriter in
     record {
       counted : 0 < l.number;
+      first : l.rodeo.first ≡ first_bytes;
       failures : writer.failures l.writer ≡ writer.failures l.fn.writer;
       delivered : OnlyGrows (writer.delivered l.fn.writer) (writer.delivered l.writer);
       text : IsUtf8 (take (length l.rest - l.untested) l.rest);

@@ -1,7 +1,7 @@
 use Rattle.std.proofs.Common.{◌≡◌, ◌<◌, ◌+◌, [], ◌∷◌, ◌++◌, length, take, sym, subst, ap, ◌∙◌, arith}
 use Rattle.std.proofs.lemmas.List.{take_more, take_all}
 use Rattle.lasso_single.specs.Command.{run_of}
-use Rattle.lasso_single.proofs.Run.{run_push, run_keeps}
+use Rattle.lasso_single.proofs.Run.{run_push, run_keeps, run_first}
 use Rattle.lasso_single.proofs.commands.run_commands.Goals as goal
 
 pub loop-command-preserved : goal.loop-command-preserved
@@ -21,6 +21,16 @@ loop-command-preserved g c =
       count = omega (arith, c.push_reserved.ensures.len, before.count);
       room = omega (arith, c.push_reserved.ensures.capacity, before.room);
     }
+
+pub returns-clause-bound : goal.returns-clause-bound
+returns-clause-bound g c =
+    let commands = c.args.commands.now in
+    let i = c.loop-command.command-index in
+    let key_at = g.K.Key.key_at in
+    let number = g.K.Key.number in
+    let ran = subst (λ cs. run_of key_at number c.args.rodeo.now cs c.loop-command.replies.items c.loop-command.rodeo) (take_all i commands (omega arith)) c.loop-command.invariant.ran in
+    let first = run_first key_at number c.args.rodeo.now c.loop-command.rodeo commands c.loop-command.replies.items ran in
+    omega (arith, first, c.current_memory_usage-usage.ensures.bound, c.current_memory_usage-usage.ensures.usage)
 
 pub returns-clause-waste : goal.returns-clause-waste
 returns-clause-waste g c uncleared fresh =

@@ -1,27 +1,7 @@
-//! Static texts, clears and other limits.
+//! Static texts, keys past a clear, and other limits.
 
 use super::*;
 use lasso_parts::keys::MicroSpur;
-
-#[test]
-fn a_clear_fills_the_current_bucket_anew(rt: HostRuntime) -> Result<(), Fail> {
-    let mut rodeo = interner::<Spur>(rt.alloc(), 10, 15)?;
-    gives(
-        &rt,
-        &mut rodeo,
-        &[("0123456789", Ok(0)), ("abc", Ok(1))],
-        15,
-    );
-    rodeo.clear();
-    assert!(rt; rodeo.is_empty());
-    gives(&rt, &mut rodeo, &[("hello", Ok(0)), ("x", Err(LIMIT))], 15);
-    let second = Spur::try_from_usize(1).ok_or("no key")?;
-    assert_eq!(rt; rodeo.try_resolve(second), None);
-    assert!(rt; rodeo.contains("hello"));
-    assert!(rt; !rodeo.contains("abc"));
-    assert!(rt; rodeo.capacity() > 0);
-    Ok(())
-}
 
 #[test]
 fn a_key_outlives_its_text(rt: HostRuntime) -> Result<(), Fail> {

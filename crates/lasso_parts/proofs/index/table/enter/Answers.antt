@@ -1,8 +1,4 @@
-use Rattle.lasso_parts.proofs.IndexSlots.{entered, StaysFiled-entered}
 use Rattle.lasso_parts.proofs.index.table.enter.Goals as goal
 
-pub returns-clause-entered : goal.returns-clause-entered
-returns-clause-entered g c = let f = c.free_slot-at.ensures in entered _ _ _ _ _ f.bound f.free c.put.ensures.slots c.put.ensures.tags
-
-pub returns-clause-filed : goal.returns-clause-filed
-returns-clause-filed g c = let f = c.free_slot-at.ensures in StaysFiled-entered _ _ _ _ _ f.bound f.free c.put.ensures.slots c.put.ensures.tags _ c.tag_of.ensures.value f.reached
+pub enter_at-requires : goal.enter_at-requires
+enter_at-requires g c = let f = c.free_slot-at.ensures in record { inside = f.bound; free = f.free; reached = f.reached }

@@ -14,4 +14,4 @@ returns-in-Err-clause-refused g c =
     let room : made.room ≡ clone_size texts = ap (λ (a : Account). a.room) c.in_ok-copy.ensures.account ∙ c.in_ok-capacity.ensures.bytes in
     let fits : bytes_of texts ≤ made.room = omega (arith, room, bytes-le-clone_size texts) in
     let stopped = c.in-Err.ensures.stopped in
-    clone_stops made texts stopped.0 c.in-Err.error c.copy_all.new.target.account fits stopped.1
+    clone_stops c.in_ok-copy.copy.first made texts stopped.0 c.in-Err.error c.copy_all.new.target.account fits stopped.1

@@ -9,6 +9,6 @@ invariant_of-self-in_err-push_static g c =
 pub invariant_of-self-2 : goal.invariant_of-self-2
 invariant_of-self-2 g c =
     let texts = c.self.inside.list.texts in
-    let made : Some c.in-Some-try_from_usize.key ≡ g.K.Key.key_at (length texts) = subst (λ (n : ℕ). Some c.in-Some-try_from_usize.key ≡ g.K.Key.key_at n) c.len.ensures c.in-Some-try_from_usize.ensures in
-    let number : g.K.Key.number c.in-Some-try_from_usize.key ≡ length texts = (g.met.K.Key.made (length texts) c.in-Some-try_from_usize.key (sym made)).2 in
-    whole_pushed _ g.K.Key.key_at texts c.push_static.new.self.texts c.args.text.now c.hash_text-hash.result (g.K.Key.number c.in-Some-try_from_usize.key) c.self.inside.index c.reserve_in_order.new.self c.insert_reserved.new.self c.self.invariant c.reserve_in_order.ensures.whole (sym (c.in_default.ensures.whole c.self.invariant.0)) c.in_ok-push_static.ensures.texts number (subst IsSome made refl) c.hash_text-hash.ensures c.insert_reserved.ensures.holds c.insert_reserved.ensures.used c.insert_reserved.ensures.filed
+    let made : Some c.in-Some.key ≡ g.K.Key.key_at (length texts) = subst (λ (n : ℕ). Some c.in-Some.key ≡ g.K.Key.key_at n) c.len.ensures c.in-Some.ensures in
+    let number : g.K.Key.number c.in-Some.key ≡ length texts = (g.met.K.Key.made (length texts) c.in-Some.key (sym made)).2 in
+    whole_pushed _ g.K.Key.key_at texts c.push_static.new.self.texts c.args.text.now c.hash_text-hash.result (g.K.Key.number c.in-Some.key) c.self.inside.index c.reserve_in_order.new.self c.insert_at.new.self c.self.invariant c.reserve_in_order.ensures.whole (c.in-Err.ensures.whole c.self.invariant.0) c.in_ok-push_static.ensures.texts number (subst IsSome made refl) c.hash_text-hash.ensures c.insert_at.ensures.holds c.insert_at.ensures.used c.insert_at.ensures.filed

@@ -1,5 +1,5 @@
 use Rattle.std.proofs.Common.{◌∙◌, List, [], ◌∷◌, ◌++◌, length, true, refl, sym, ap, subst}
-use Rattle.lasso_parts.specs.Arena.{account_of, copied_of, address_of}
+use Rattle.lasso_parts.specs.Arena.{account_of, copied_of, first_of, address_of}
 use Rattle.lasso_parts.specs.Bucket.{Extent}
 use Rattle.lasso_parts.specs.Entries.{EntryView, IsThere, entry_text}
 use Rattle.lasso_parts.proofs.Wasted.{thrifty_store}
@@ -15,7 +15,7 @@ invariant_of-self-2 g c =
     let new : IsThere now c.copied-entry.result = subst (IsThere now) (sym c.copied-entry.ensures.entry) (c.in_ok-span.ensures.stored.0, same) in
     let there = there_pushed c.self.inside.arena.all now c.self.inside.entries.items c.push_reserved.new.self.items c.copied-entry.result c.self.invariant.0 c.in_ok-span.ensures.kept grown new in
     let ok = refl {a = true} in
-    (there, λ h. rw (c.in_ok-span.ensures.copied ok) (thrifty_store c.self.inside.first (copied_of c.self.inside.arena) (length c.args.text.now) (account_of c.self.inside.arena) (account_of c.store_str.new.self) (c.self.invariant.1 h) (c.in_ok-span.ensures.account ok)))
+    (there, λ h. rw (c.store_str.ensures.first, c.in_ok-span.ensures.copied ok) (thrifty_store (first_of c.self.inside.arena) (copied_of c.self.inside.arena) (length c.args.text.now) (account_of c.self.inside.arena) (account_of c.store_str.new.self) (c.self.invariant.1 h) (c.in_ok-span.ensures.account ok)))
 
 pub returns-clause-texts : goal.returns-clause-texts
 returns-clause-texts g c =

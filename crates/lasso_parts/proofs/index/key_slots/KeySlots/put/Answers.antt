@@ -15,5 +15,8 @@ index_mut-requires-2 g c =
 pub returns-clause-slots : goal.returns-clause-slots
 returns-clause-slots g c = put_slots g.K.Key.number c.self.inside.tags.items _ _ c.self.invariant _ c.self.view_is _ (omega (arith, c.make_keys.ensures.len, c.len.ensures, c.self.inside.tags.ok.0)) (keys_same c.self.inside.keys c.in-Some.keys _ c.in-Some.is c.make_keys.ensures.same) _ _ _ c.requires.inside c.requires.filled
 
+pub returns-clause-small : goal.returns-clause-small
+returns-clause-small g c = let l = count_is g.K.Key.number _ _ _ c.self.invariant _ c.self.view_is in omega (arith, c.self.inside.tags.ok.0, c.self.inside.tags.small, l)
+
 pub returns-clause-tags : goal.returns-clause-tags
 returns-clause-tags g c = put_tags g.K.Key.number _ _ _ c.self.invariant _ c.self.view_is [] _ _ c.requires.inside

@@ -1,0 +1,21 @@
+//! The examples in the documents of the interner that threads share, in tests.
+use crate::{FixedState, Spur, SpurThreadedRodeo, ThreadedRodeo};
+use std::test::Fail;
+
+#[test]
+fn shared_by_default(rt: HostRuntime) -> Result<(), Fail> {
+    let rodeo: SpurThreadedRodeo = ThreadedRodeo::default(rt.alloc())?;
+    let mut pass = rodeo.pass();
+    let key = rodeo.try_get_or_intern_static_as(&rt, &mut pass, "Hello, world!")?;
+    assert_eq!(rt; rodeo.try_resolve_as(&mut pass, key), Some("Hello, world!"));
+    Ok(())
+}
+
+#[test]
+fn shared_with_a_hasher(rt: HostRuntime) -> Result<(), Fail> {
+    let hasher = FixedState::new();
+    let rodeo: SpurThreadedRodeo = ThreadedRodeo::with_hasher(rt.alloc(), hasher)?;
+    let mut pass = rodeo.pass();
+    assert_eq!(rt; rodeo.try_resolve_as(&mut pass, Spur::default()), None);
+    Ok(())
+}

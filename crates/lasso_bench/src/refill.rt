@@ -1,0 +1,81 @@
+//! An interner that is cleared and filled with the same texts round after round, beside a new one for each round.
+use crate::pools::{RodeoPool, TextPool};
+use crate::timing::{intern_all, sum_of_positions, tenths_a_call};
+use anyhow::{Result, ensure};
+use std::rt::Clock;
+use std::time::{Duration, Instant};
+
+/// What rounds of the same texts took.
+#[derive(Clone, Copy, Debug)]
+pub struct RefillTimings {
+    /// The bytes that the buckets of the kept interner take after the first round, the second and the last.
+    pub usages: [usize; 3],
+    /// The least that a round took which clears the kept interner and fills it, in tenths of a nanosecond a text.
+    pub refilled: u64,
+    /// The same of a round which makes an interner, fills it and lets it go.
+    pub anew: u64,
+}
+
+/// Fills an interner with the texts so many times, at least twice, with a clear before each time, and as often a new
+/// one. It fails where the clock does, for want of memory, where a key is wrong, and where the kept interner takes
+/// other memory after a later round than after the second.
+pub fn best_refill_timings<R: AllocGlobal + Clock>(
+    rt: &R,
+    texts: &[String],
+    rounds: u32,
+) -> Result<RefillTimings> {
+    let mut kept = RodeoPool::new(rt.alloc())?;
+    let first = both_rounds(rt, &mut kept, texts)?;
+    let first_usage = kept.usage();
+    let second = both_rounds(rt, &mut kept, texts)?;
+    let second_usage = kept.usage();
+    let mut refilled = first.0.min(second.0);
+    let mut anew = first.1.min(second.1);
+    for _ in 2..rounds {
+        let (again, other) = both_rounds(rt, &mut kept, texts)?;
+        ensure!(kept.usage() == second_usage, "a round took more memory");
+        refilled = refilled.min(again);
+        anew = anew.min(other);
+    }
+    Ok(RefillTimings {
+        usages: [first_usage, second_usage, kept.usage()],
+        refilled: tenths_a_call(refilled, texts.len()),
+        anew: tenths_a_call(anew, texts.len()),
+    })
+}
+
+// A round of the kept interner, and then one of a new one.
+fn both_rounds<R: AllocGlobal + Clock>(
+    rt: &R,
+    kept: &mut RodeoPool,
+    texts: &[String],
+) -> Result<(Duration, Duration)> {
+    let refilled = refill(rt, kept, texts)?;
+    let anew = fill_anew(rt, texts)?;
+    Ok((refilled, anew))
+}
+
+// Clears the interner and fills it.
+fn refill<R: Clock>(rt: &R, kept: &mut RodeoPool, texts: &[String]) -> Result<Duration> {
+    let start = Instant::now(rt)?;
+    kept.clear();
+    let sum = intern_all(kept, texts)?;
+    let elapsed = start.elapsed(rt)?;
+    ensure!(sum == sum_of_positions(texts.len()), "a key is wrong");
+    Ok(elapsed)
+}
+
+// Makes an interner, fills it and lets it go.
+fn fill_anew<R: AllocGlobal + Clock>(rt: &R, texts: &[String]) -> Result<Duration> {
+    let start = Instant::now(rt)?;
+    let sum = intern_all_anew(rt, texts)?;
+    let elapsed = start.elapsed(rt)?;
+    ensure!(sum == sum_of_positions(texts.len()), "a key is wrong");
+    Ok(elapsed)
+}
+
+// Interns the texts in an interner of its own, and answers the sum of their positions.
+fn intern_all_anew<R: AllocGlobal>(rt: &R, texts: &[String]) -> Result<usize> {
+    let mut pool = RodeoPool::new(rt.alloc())?;
+    Ok(intern_all(&mut pool, texts)?)
+}

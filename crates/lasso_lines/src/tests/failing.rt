@@ -1,0 +1,183 @@
+//! Runs over a writer and a reader that take and show few bytes at once, and fail at each call in turn.
+ghost use Rattle.std.specs.Prelude.{◌≡◌, ◌+◌, ◌++◌, [], Some};
+
+use super::{INPUT, OUTPUT, assert_fault, no_limit};
+use crate::engine::run;
+use crate::failures::Failures;
+use crate::memory::{MemoryReader, MemoryWriter};
+use crate::stream::{ByteReader, ByteWriter, Failed};
+use std::test::Fail;
+
+// A writer that takes at most three bytes a call, and fails once its calls are used up.
+#[derive(Drop)]
+struct ShortWriter {
+    taken: Vec<u8>,
+    calls: u64,
+    tries: u64,
+    failures: Failures,
+}
+
+impl ShortWriter {
+    fn fails(&mut self) -> Failed
+        ensures taken { self.new.taken ≡ self.old.taken }
+        ensures failures { self.new.failures.count ≡ self.old.failures.count + 1 }
+    {
+        self.failures = self.failures.and_one();
+        self.tries = self.tries.saturating_add(1);
+        Failed
+    }
+}
+
+impl ByteWriter for ShortWriter {
+    ghost delivered = { λ w. Some w.taken.items };
+
+    ghost pending = { λ _. Some [] };
+
+    ghost failures = { λ w. w.failures.count };
+
+    ghost room = { λ _. 0 };
+
+    fn take_line(&mut self, _front: &[u8], _line: &[u8]) -> bool {
+        false
+    }
+
+    fn write(&mut self, bytes: &[u8]) -> Result<usize, Failed> {
+        let count = bytes.len().min(3);
+        if self.calls == 0 || self.taken.extend_from_slice(&bytes[..count]).is_err() {
+            return Err(self.fails());
+        }
+        self.calls -= 1;
+        Ok(count)
+    }
+
+    fn flush(&mut self) -> Result<(), Failed> {
+        if self.calls == 0 {
+            return Err(self.fails());
+        }
+        self.calls -= 1;
+        Ok(())
+    }
+}
+
+#[test]
+fn each_write_fails_in_turn(rt: HostRuntime) -> Result<(), Fail> {
+    let mut whole = false;
+    for calls in 0..100 {
+        let mut reader = MemoryReader::new(INPUT);
+        let mut writer = ShortWriter {
+            taken: Vec::new(rt.alloc()),
+            calls,
+            tries: 0,
+            failures: Failures::none(),
+        };
+        let result = run(&rt, &mut reader, &mut writer, no_limit());
+        assert!(rt; OUTPUT.starts_with(&writer.taken));
+        if result.is_ok() {
+            whole = true;
+            assert_eq!(rt; writer.taken.as_slice(), OUTPUT);
+            break;
+        }
+        assert_eq!(rt; writer.tries, 1);
+        assert_fault(&rt, result, "write failed", 4)?;
+    }
+    assert!(rt; whole);
+    Ok(())
+}
+
+// A reader that shows at most three bytes at once, and fails once its calls are used up.
+#[derive(Drop)]
+struct ShortReader<'a> {
+    at_hand: &'a [u8],
+    later: &'a [u8],
+    calls: u64,
+    tries: u64,
+    failures: Failures,
+}
+
+impl ByteReader for ShortReader<'_> {
+    ghost at_hand = { λ r. r.at_hand.now };
+
+    ghost left = { λ r. Some (r.at_hand.now ++ r.later.now) };
+
+    ghost failures = { λ r. r.failures.count };
+
+    fn shown(&self) -> &[u8] {
+        self.at_hand
+    }
+
+    fn refill(&mut self) -> Result<(), Failed> {
+        if self.calls == 0 {
+            self.failures = self.failures.and_one();
+            self.tries = self.tries.saturating_add(1);
+            return Err(Failed);
+        }
+        self.calls -= 1;
+        if self.at_hand.is_empty() {
+            let count = self.later.len().min(3);
+            self.at_hand = &self.later[..count];
+            self.later = &self.later[count..];
+        }
+        Ok(())
+    }
+
+    fn use_up(&mut self, count: usize) {
+        self.at_hand = &self.at_hand[count..];
+    }
+}
+
+#[test]
+fn each_read_fails_in_turn(rt: HostRuntime) -> Result<(), Fail> {
+    let mut whole = false;
+    for calls in 0..100 {
+        let mut reader = ShortReader {
+            at_hand: b"",
+            later: INPUT,
+            calls,
+            tries: 0,
+            failures: Failures::none(),
+        };
+        let mut writer = MemoryWriter::new(rt.alloc());
+        let result = run(&rt, &mut reader, &mut writer, no_limit());
+        let text = writer.into_bytes();
+        assert!(rt; OUTPUT.starts_with(&text));
+        if result.is_ok() {
+            whole = true;
+            assert_eq!(rt; text.as_slice(), OUTPUT);
+            break;
+        }
+        assert_eq!(rt; reader.tries, 1);
+        assert_fault(&rt, result, "read failed", 4)?;
+    }
+    assert!(rt; whole);
+    Ok(())
+}
+
+// Each stretch ends within a letter of two bytes.
+#[test]
+fn letters_cut_by_stretches(rt: HostRuntime) -> Result<(), Fail> {
+    let mut reader = ShortReader {
+        at_hand: b"",
+        later: "a\né\né\né".as_bytes(),
+        calls: 100,
+        tries: 0,
+        failures: Failures::none(),
+    };
+    let mut writer = MemoryWriter::new(rt.alloc());
+    assert!(rt; run(&rt, &mut reader, &mut writer, no_limit()) == Ok(()));
+    let output = "0 a\n1 é\n1 é\n1 é\n2 texts, 4096 bytes\n";
+    assert_eq!(rt; writer.into_bytes().as_slice(), output.as_bytes());
+    Ok(())
+}
+
+// What is shown is used up together, once each line that ends there is answered: not where one is faulty.
+#[test]
+fn a_faulty_line_leaves_what_is_shown(rt: HostRuntime) -> Result<(), Fail> {
+    let input = b"a\n\xff\nb\n".as_slice();
+    let mut reader = MemoryReader::new(input);
+    let mut writer = MemoryWriter::new(rt.alloc());
+    let result = run(&rt, &mut reader, &mut writer, no_limit());
+    assert_fault(&rt, result, "line 2: not UTF-8", 2)?;
+    assert_eq!(rt; reader.shown(), input);
+    assert_eq!(rt; writer.into_bytes().as_slice(), b"0 a\n".as_slice());
+    Ok(())
+}

@@ -1,0 +1,150 @@
+//! Runs for someone who types a line once the answers to those before it are seen.
+ghost use Rattle.std.specs.Prelude.{◌+◌, Some, None};
+
+use super::{OUTPUT, assert_fault, no_limit};
+use crate::engine::run;
+use crate::failures::Failures;
+use crate::stream::{ByteReader, ByteWriter, Failed};
+use std::cell::RefCell;
+use std::test::Fail;
+
+// A screen shows what was flushed.
+#[derive(Drop)]
+struct ScreenWriter<'a> {
+    pending: Vec<u8>,
+    screen: &'a RefCell<Vec<u8>>,
+    failures: Failures,
+}
+
+impl ByteWriter for ScreenWriter<'_> {
+    ghost delivered = { λ _. None };
+
+    ghost pending = { λ w. Some w.pending.items };
+
+    ghost failures = { λ w. w.failures.count };
+
+    ghost room = { λ _. 0 };
+
+    fn take_line(&mut self, _front: &[u8], _line: &[u8]) -> bool {
+        false
+    }
+
+    fn write(&mut self, bytes: &[u8]) -> Result<usize, Failed> {
+        if self.pending.extend_from_slice(bytes).is_err() {
+            self.failures = self.failures.and_one();
+            return Err(Failed);
+        }
+        Ok(bytes.len())
+    }
+
+    fn flush(&mut self) -> Result<(), Failed> {
+        let shown = match self.screen.try_borrow_mut() {
+            Ok(mut screen) => screen.extend_from_slice(&self.pending).is_ok(),
+            Err(_) => false,
+        };
+        if !shown {
+            self.failures = self.failures.and_one();
+            return Err(Failed);
+        }
+        self.pending.clear();
+        Ok(())
+    }
+}
+
+// Someone types a line at a time, and looks at the screen first: beside each line stands what the
+// screen has to show by then.
+#[derive(Drop)]
+struct TypedReader<'a> {
+    at_hand: &'a [u8],
+    typed: &'a [(&'a [u8], &'a [u8])],
+    screen: &'a RefCell<Vec<u8>>,
+    looks: usize,
+    answered: bool,
+}
+
+impl TypedReader<'_> {
+    // Whether the screen shows these bytes.
+    fn sees(&self, bytes: &[u8]) -> bool {
+        match self.screen.try_borrow() {
+            Ok(screen) => screen.as_slice() == bytes,
+            Err(_) => false,
+        }
+    }
+}
+
+impl ByteReader for TypedReader<'_> {
+    ghost at_hand = { λ r. r.at_hand.now };
+
+    ghost left = { λ _. None };
+
+    ghost failures = { λ _. 0 };
+
+    fn shown(&self) -> &[u8] {
+        self.at_hand
+    }
+
+    fn refill(&mut self) -> Result<(), Failed> {
+        if let Some((line, answers)) = self.typed.get(self.looks) {
+            self.answered = self.answered && self.sees(answers);
+            self.looks += 1;
+            self.at_hand = line;
+        }
+        Ok(())
+    }
+
+    fn use_up(&mut self, count: usize) {
+        self.at_hand = &self.at_hand[count..];
+    }
+}
+
+#[test]
+fn each_answer_is_seen_before_the_next_line(rt: HostRuntime) -> Result<(), Fail> {
+    let screen = RefCell::new(Vec::new(rt.alloc()));
+    let typed: [(&[u8], &[u8]); 4] = [
+        (b"b\n", b""),
+        (b"a\n", b"0 b\n"),
+        (b"b", b"0 b\n1 a\n"),
+        (b"", b"0 b\n1 a\n"),
+    ];
+    let mut reader = TypedReader {
+        at_hand: b"",
+        typed: &typed,
+        screen: &screen,
+        looks: 0,
+        answered: true,
+    };
+    let mut writer = ScreenWriter {
+        pending: Vec::new(rt.alloc()),
+        screen: &screen,
+        failures: Failures::none(),
+    };
+    assert!(rt; run(&rt, &mut reader, &mut writer, no_limit()) == Ok(()));
+    assert!(rt; reader.answered);
+    assert_eq!(rt; reader.looks, 4);
+    assert!(rt; reader.sees(OUTPUT));
+    Ok(())
+}
+
+#[test]
+fn no_line_is_read_behind_a_fault(rt: HostRuntime) -> Result<(), Fail> {
+    let screen = RefCell::new(Vec::new(rt.alloc()));
+    let typed: [(&[u8], &[u8]); 3] = [(b"a\n", b""), (b"\xff\n", b"0 a\n"), (b"b\n", b"0 a\n")];
+    let mut reader = TypedReader {
+        at_hand: b"",
+        typed: &typed,
+        screen: &screen,
+        looks: 0,
+        answered: true,
+    };
+    let mut writer = ScreenWriter {
+        pending: Vec::new(rt.alloc()),
+        screen: &screen,
+        failures: Failures::none(),
+    };
+    let result = run(&rt, &mut reader, &mut writer, no_limit());
+    assert_fault(&rt, result, "line 2: not UTF-8", 2)?;
+    assert!(rt; reader.answered);
+    assert_eq!(rt; reader.looks, 2);
+    assert!(rt; reader.sees(b"0 a\n"));
+    Ok(())
+}
