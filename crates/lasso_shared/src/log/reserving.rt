@@ -3,8 +3,11 @@ ghost use Rattle.std.specs.Prelude.{◌≡◌, ◌≢◌, ◌+◌, ◌<◌, ◌�
 ghost use Rattle.lasso_shared.specs.History.{Reserve};
 ghost use Rattle.lasso_shared.specs.Notes.{Since, state};
 ghost use Rattle.lasso_shared.specs.LentBuckets.{IsRightTo};
-ghost use Rattle.lasso_shared.specs.SharedBuckets.{SharedView, HasTaken, LacksRoom};
-ghost use Rattle.lasso_shared.specs.Views.{PassView, InternerId, IsSamePass};
+ghost use Rattle.lasso_shared.specs.Chunks.{era_named};
+ghost use Rattle.lasso_shared.specs.Pieces.{RangeView};
+ghost use Rattle.lasso_shared.specs.SharedBuckets.{SharedView, HasTaken, LacksRoom, names_with_book};
+ghost use Rattle.lasso_shared.specs.Turns.{NoneHasRoom};
+ghost use Rattle.lasso_shared.specs.Views.{PassView, InternerId, SpineView, TurnsView, IsSamePass};
 
 use crate::chunks::rule::BytesTaken;
 use crate::chunks::taking::{right_taken, take_bytes};
@@ -12,11 +15,15 @@ use crate::log::note::Note;
 use crate::log::pass::Pass;
 use crate::log::rule::{Add, LogRule, Shared};
 use crate::log::ticket::BytesAsked;
+use crate::log::spine::Spine;
 use crate::log::words::Log;
 use crate::shared_arena::bucket::SharedBucket;
+use crate::shared_arena::bucket_list::BucketList;
+use crate::shared_arena::piece::Range;
 use crate::shared_arena::rights::Free;
 use lasso_parts::keys::Key;
 use logbook::Offer;
+use std::sync::Wait;
 
 impl<K: Key> SharedBucket<K> {
     /// What its word has at one step: how many bytes were taken since it began.
@@ -34,6 +41,43 @@ impl<K: Key> SharedBucket<K> {
 }
 
 impl<K: Key> Log<K> {
+    /// Does nothing. Contracts learn that a bucket of the log's book has the log's opening.
+    pub(crate) fn share_opening(&self, bucket: &SharedBucket<K>)
+        requires { bucket.now.of.book ≡ self.now.book }
+        ensures { bucket.now.of.opening ≡ self.now.opening }
+    {
+        let mut both = self.seen.again();
+        both.learn(&bucket.seen);
+    }
+
+    /// Takes bytes of a bucket of this list that the spine's turns know, and gives the right to fill them. It is `None` only where none of
+    /// these has room for them, and no event is added then. It takes no memory. It waits where another thread takes bytes at the
+    /// same time, and where a bucket is not in the list yet.
+    pub fn reserve<R: Wait>(
+        &self,
+        rt: &R,
+        list: &BucketList<K>,
+        spine: &Spine<K>,
+        pass: &mut Pass<K>,
+        bytes: u64,
+    ) -> Option<Range>
+        requires of { (pass.old.of ≡ self.now) × (spine.now.of ≡ self.now) × (list.now ≡ names_with_book self.now) }
+        requires some { bytes ≢ 0 }
+        ensures same { IsSamePass pass.new pass.old }
+        ensures event { IfSome result (λ r. (bucket : ℕ) × (bucket < spine.now.turns.count) × Since pass.old.number pass.old.notes pass.new.notes (Reserve bucket bytes ∷ [])) }
+        ensures range { IfSome result (λ r. (r.era ≡ era_named self.now.chunks) × (r.len ≡ bytes)) }
+        ensures none { IfNone result (Since pass.old.number pass.old.notes pass.new.notes []) }
+        ensures full { IfNone result (NoneHasRoom (state self.now.opening pass.new.notes) spine.now.turns.count bytes) }
+    {
+        for position in 0..spine.turns.count {
+            let bucket = list.find(rt, self, position);
+            if let Some(range) = bucket.try_reserve(rt, self, pass, bytes) {
+                return Some(range);
+            }
+        }
+        None
+    }
+
     /// Takes the next bytes of a bucket where its word has this value still, and gives the right to them. Else nothing changes.
     pub(crate) fn reserve_at(
         &self,
