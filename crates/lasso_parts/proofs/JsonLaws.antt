@@ -21,7 +21,7 @@ use Rattle.lasso_parts.specs.declared.json.error.JsonError.{JsonError}
 
 -- ---- what was read
 
-and_then_ok : {A B : Type 0} (r : Result A JsonError) (rest : A → Result B JsonError) (b : B) → and_then r rest ≡ Ok b → (a : A) × (r ≡ Ok a) × (rest a ≡ Ok b)
+pub and_then_ok : {A B : Type 0} (r : Result A JsonError) (rest : A → Result B JsonError) (b : B) → and_then r rest ≡ Ok b → (a : A) × (r ≡ Ok a) × (rest a ≡ Ok b)
 and_then_ok (Err fault) rest b h = cc
 and_then_ok (Ok a) rest b h = (a, refl, h)
 

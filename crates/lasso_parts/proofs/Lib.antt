@@ -20,4 +20,5 @@ mod EmptyStructs
 mod Crossing
 mod JsonTexts
 mod JsonValues
+mod JsonMembers
 pub mod JsonLaws

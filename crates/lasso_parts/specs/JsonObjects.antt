@@ -1,5 +1,6 @@
 -- Lists of texts as JSON objects, from each text to its position plus one: what is written, and how a value is read.
-use Rattle.std.specs.Prelude.{◌≡◌, ℕ, zero, suc, ◌+◌, ◌==◌, List, [], ◌∷◌, ◌++◌, length, replicate, set, position, nat_lt, if◌then◌else◌, Option, Some, None, Result, Ok, Err}
+use Rattle.std.specs.Prelude.{◌≡◌, ℕ, zero, suc, ◌+◌, ◌==◌, List, [], ◌∷◌, ◌++◌, length, replicate, set, Bool, true, false, nat_lt, if◌then◌else◌, Option, Some, None, Result, Ok, Err}
+use Rattle.std.specs.List.{list_any}
 use Rattle.std.specs.List.Sorted.{IsStrictlySortedBy}
 use Rattle.std.specs.Ordering.{nat_cmp}
 use Rattle.std.specs.Cmp.Lexicographic.{slice_cmp}
@@ -34,9 +35,9 @@ position_among n at None = Err (NotAPosition at)
 position_among n at (Some zero) = Err (NotAPosition at)
 position_among n at (Some (suc p)) = if nat_lt p n then Ok p else Err (NotAPosition at)
 
--- where an earlier member has the position
-abbrev pub earlier_member : List ℕ → ℕ → Option ℕ
-earlier_member seen p = position (λ q. q == p) seen
+-- whether an earlier member has the position
+abbrev pub is_taken : List ℕ → ℕ → Bool
+is_taken seen p = list_any (λ q. p == q) seen
 
 -- the position, if it has a key
 abbrev pub keyed_position : {K : Type 0} → (ℕ → Option K) → ℕ → ℕ → Result ℕ JsonError
@@ -44,18 +45,18 @@ keyed_position key_at at p = and_then (key_or_too_many at (key_at p)) (λ _. Ok 
 
 -- the position, among n, that a member's number stands for and that has a key
 abbrev pub member_position : {K : Type 0} → (ℕ → Option K) → ℕ → ℕ → Option ℕ → Result ℕ JsonError
-member_position key_at n at number = and_then (position_among n at number) (keyed_position key_at at)
+member_position key_at n at kept = and_then (position_among n at kept) (keyed_position key_at at)
 
 -- a position that no earlier member has is the member's
-abbrev pub new_position : ℕ → ℕ → Option ℕ → Result ℕ JsonError
-new_position at p (Some _) = Err (Taken at)
-new_position at p None = Ok p
+abbrev pub new_position : ℕ → ℕ → Bool → Result ℕ JsonError
+new_position at p true = Err (Taken at)
+new_position at p false = Ok p
 
 -- the next of n members' position, after those of the members before it; or what is wrong with the member, of
 -- which the first holds: it is no whole number from 1 to n, or the position has no key, or an earlier member has it
 abbrev pub next_position : {K : Type 0} → (ℕ → Option K) → ℕ → List ℕ → Data → Result ℕ JsonError
 next_position key_at n seen d =
-    and_then (member_position key_at n (length seen) (whole_number d)) (λ p. new_position (length seen) p (earlier_member seen p))
+    and_then (member_position key_at n (length seen) (whole_number d)) (λ p. new_position (length seen) p (is_taken seen p))
 
 -- the texts, with those of the members at their positions; or what is wrong with the first faulty member
 abbrev pub read_members : {K : Type 0} → (ℕ → Option K) → ℕ → List ℕ → List Text → Members → Result (List Text) JsonError

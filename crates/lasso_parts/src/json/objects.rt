@@ -28,11 +28,12 @@ pub fn read_map<K: Key, A: Allocator + Clone>(
         return Err(JsonError::NotAnObject);
     };
     let texts = Vec::new(alloc);
+    let count = members.len();
     let Some((_, first)) = members.first_key_value() else {
         return Ok(texts);
     };
     // a fault of the first member is told before memory is asked for
-    let _position = member_position::<K>(first, 0, members.len())?;
+    let _position = member_position::<K>(first, 0, count)?;
     let taken = Vec::new(texts.allocator().clone()?);
     read_members::<K, A>(texts, taken, members)
 }
