@@ -21,4 +21,9 @@ mod Crossing
 mod JsonTexts
 mod JsonValues
 mod JsonMembers
+mod JsonPositions
+mod JsonOrder
+mod JsonWritten
+mod JsonPlaced
 pub mod JsonLaws
+pub mod JsonObjectLaws
