@@ -4,8 +4,8 @@
 -- read some members holds the texts that were set, and for each position a mark whether it is taken; what is left to
 -- read is what the definition gives for these texts and positions and the members left. So the fault of the next
 -- member is the fault of the whole.
-use Rattle.std.proofs.Common.{◌≡◌, ℕ, zero, suc, ◌+◌, ◌-◌, ◌<◌, ◌==◌, ◌||◌, List, [], ◌∷◌, ◌++◌, length, get_or, set, replicate, map, take, slice_get, String, Global, Less, string_bytes, string_cmp, nat_cmp, Bool, true, false, Option, Some, None, Result, Ok, Err, nat_lt, refl, sym, ap, subst, ◌∙◌, arith}
-use Rattle.std.specs.List.{list_any, AllByRecursion}
+use Rattle.std.proofs.Common.{◌≡◌, ℕ, zero, suc, ◌+◌, ◌-◌, ◌<◌, ◌==◌, List, [], ◌∷◌, ◌++◌, length, get_or, set, replicate, map, take, slice_get, Less, string_bytes, string_cmp, nat_cmp, Bool, true, false, Option, Some, None, Result, Ok, Err, refl, sym, ap, subst, ◌∙◌, arith}
+use Rattle.std.specs.List.{AllByRecursion}
 use Rattle.std.specs.List.Sorted.{IsStrictlySortedBy}
 use Rattle.std.specs.Map.{keys_of}
 use Rattle.std.specs.Cmp.Lexicographic.{slice_cmp}
@@ -13,7 +13,7 @@ use Rattle.std.proofs.Math.Seq.{take-nil}
 use Rattle.std.proofs.lemmas.Grind.{common_steps}
 use Rattle.std.proofs.lemmas.Bool.Decides.{nat_tests}
 use Rattle.std.proofs.lemmas.List.Folds.{list_any-append}
-use Rattle.serde_json.specs.Data.{Data, Members, no_members, member}
+use Rattle.serde_json.specs.Data.{Data, Members, member}
 use Rattle.serde_json.specs.Find.{as_object}
 use Rattle.serde_json.specs.Events.{members_len}
 use Rattle.serde_json.specs.View.{view, members_view}
@@ -140,7 +140,7 @@ first_fault key_at d (e' ∷ es) e n fault is first counted h =
     let m = length (e' ∷ es) in
     let here : Err fault ≡ member_position key_at m 0 (whole_number (view e'.1)) = rw (same, sym counted) h in
     no_position key_at m (read_members key_at m [] (replicate m []) (members_view (e' ∷ es))) (replicate m false) (replicate m []) 0 (string_bytes e'.0) (view e'.1) (members_view es) fault
-        (reading_begins key_at m (replicate m false) (replicate m []) (members_view (e' ∷ es)) refl refl) here
+    (reading_begins key_at m (replicate m false) (replicate m []) (members_view (e' ∷ es)) refl refl) here
     ∙ sym (whole_object key_at d (e' ∷ es) is)
 
 -- where the first member has a position, reading takes memory

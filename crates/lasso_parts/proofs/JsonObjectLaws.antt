@@ -5,7 +5,7 @@
 -- text stands there. Two positions with one text would have one member. The object of the list has the same members,
 -- since both are in order and each text is found in both with the same number. In the object of a distinct list that
 -- fits the keys each member has a free position, and setting the texts there gives the list.
-use Rattle.std.proofs.Common.{◌≡◌, ◌⊎◌, inl, inr, ℕ, ◌+◌, ◌<◌, List, [], ◌∷◌, ◌++◌, length, map, set, get_or, slice_get, replicate, Bool, true, false, Option, Some, None, IsSome, Result, Ok, Err, refl, sym, ap, subst, ◌∙◌, arith}
+use Rattle.std.proofs.Common.{◌≡◌, inl, inr, ℕ, ◌+◌, ◌<◌, List, [], ◌∷◌, ◌++◌, length, set, get_or, slice_get, replicate, true, Option, Some, None, IsSome, Result, Ok, refl, sym, ap, subst, ◌∙◌, arith}
 use Rattle.std.specs.List.{AllByRecursion}
 use Rattle.std.specs.Str.{bytes_eq}
 use Rattle.std.proofs.lemmas.Bool.{cases_Bool}
@@ -20,12 +20,12 @@ use Rattle.serde_json.specs.Find.{as_object, get_member}
 use Rattle.lasso_parts.specs.Texts.{Text, IsDistinct, Fits}
 use Rattle.lasso_parts.specs.Json.{and_then}
 use Rattle.lasso_parts.specs.JsonLaws.{IsReadable}
-use Rattle.lasso_parts.specs.JsonObjects.{AreInOrder, json_object, next_position, position_number, put_texts, read_members, read_object}
-use Rattle.lasso_parts.specs.JsonObjectLaws.{members_after, AreFree, FaultsObjectExactly, ReadsObjectBack, ReadsObjectExactly}
+use Rattle.lasso_parts.specs.JsonObjects.{AreInOrder, json_object, position_number, put_texts, read_members, read_object}
+use Rattle.lasso_parts.specs.JsonObjectLaws.{AreFree, FaultsObjectExactly, ReadsObjectBack, ReadsObjectExactly}
 use Rattle.lasso_parts.proofs.JsonOrder.{order_none, order_texts, same_members}
 use Rattle.lasso_parts.proofs.JsonWritten.{found_at, found_is, long_object}
 use Rattle.lasso_parts.proofs.JsonPositions.{fault_after, free_nil, placed, positions, read_as, read_on}
-use Rattle.lasso_parts.proofs.JsonPlaced.{AreAt, is_one, one_has, covered, long_after, pairs_of, found_pair, listed, found_one, apart_positions, at_below, long_placed, placed_at, settled}
+use Rattle.lasso_parts.proofs.JsonPlaced.{AreAt, one_has, covered, long_after, pairs_of, found_pair, listed, found_one, apart_positions, at_below, long_placed, placed_at, settled}
 use Rattle.lasso_parts.specs.declared.json.error.JsonError.{JsonError}
 
 -- the members that a list is written as
@@ -115,7 +115,7 @@ was_read key_at ms texts ordered h =
     let one = λ (p : ℕ) (inside : p < length texts). covered n (positions more) below r.3.apart many p (subst (λ (m : ℕ). p < m) long inside) in record {
       fits = λ p inside. one_has (λ q. IsSome (key_at q)) (positions more) p keyed (one p inside);
       each = λ p inside.
-      let f = found_one texts more p ordered' at (one p inside) in (f.0, f.1, ap (get_member f.0) r.1 ∙ f.2);
+          let f = found_one texts more p ordered' at (one p inside) in (f.0, f.1, ap (get_member f.0) r.1 ∙ f.2);
       found = λ q d here. found_pair texts more q d at (ap (get_member q) (sym r.1) ∙ here);
     }
 
@@ -135,15 +135,15 @@ read_is_written : {K : Type 0} (key_at : ℕ → Option K) (ms : Members) (texts
 read_is_written key_at ms texts ordered read =
     let apart = read_is_distinct key_at ms texts read in
     same_members ms (written texts) ordered (written_order texts) (λ q. found_alike (get_member q ms) (get_member q (written texts))
-      (λ d here.
-      let f = read.found q d here in
-      written_at texts f.0 q apart f.1 ∙ ap (λ (x : Data). Some x) (sym f.2))
-      (λ d there.
-      let f = written_is texts q d there in
-      let e = read.each f.0 (slice_get_within texts f.0 q f.1) in
-      let both : Some e.0 ≡ Some q = sym e.1 ∙ f.1 in
-      let same : e.0 ≡ q = cc in
-      ap (λ (t : Text). get_member t ms) (sym same) ∙ e.2 ∙ ap (λ (x : Data). Some x) (sym f.2)))
+    (λ d here.
+    let f = read.found q d here in
+    written_at texts f.0 q apart f.1 ∙ ap (λ (x : Data). Some x) (sym f.2))
+    (λ d there.
+    let f = written_is texts q d there in
+    let e = read.each f.0 (slice_get_within texts f.0 q f.1) in
+    let both : Some e.0 ≡ Some q = sym e.1 ∙ f.1 in
+    let same : e.0 ≡ q = cc in
+    ap (λ (t : Text). get_member t ms) (sym same) ∙ e.2 ∙ ap (λ (x : Data). Some x) (sym f.2)))
 
 read_exactly : {K : Type 0} (key_at : ℕ → Option K) (d : Data) (texts : List Text) → ((ms : Members) → as_object d ≡ Some ms → AreInOrder ms) → read_object key_at d ≡ Ok texts → (d ≡ json_object texts) × IsReadable key_at true texts
 read_exactly key_at null texts ordered h = cc

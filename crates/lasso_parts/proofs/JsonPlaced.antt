@@ -3,14 +3,13 @@
 -- As many positions as there are, each below their number and none twice, are all of them: one more would be one too
 -- many. So each position has a member, and a list in which each member's text stands at its position is the list of the
 -- texts that were set.
-use Rattle.std.proofs.Common.{◌≡◌, ◌≢◌, ◌⊎◌, inl, inr, ℕ, suc, ◌+◌, ◌<◌, ◌==◌, ◌||◌, List, [], ◌∷◌, length, map, set, get_or, slice_get, Bool, true, false, Option, Some, None, IsSome, true≢false, refl, sym, ap, subst, ◌∙◌, arith}
+use Rattle.std.proofs.Common.{◌≡◌, ◌≢◌, ◌⊎◌, inl, inr, ℕ, suc, ◌+◌, ◌<◌, ◌==◌, ◌||◌, List, [], ◌∷◌, length, set, get_or, slice_get, Bool, true, false, Some, None, true≢false, refl, sym, ap, subst, ◌∙◌, arith}
 use Rattle.std.specs.List as lists
-use Rattle.std.specs.List.{All, AllByRecursion, list_any}
+use Rattle.std.specs.List.{AllByRecursion, list_any}
 use Rattle.std.proofs.lemmas.Bool.{cases_Bool}
 use Rattle.std.proofs.lemmas.Bool.Decides.{Decides-eqb}
 use Rattle.std.proofs.lemmas.Grind.{get_or-set_at}
-use Rattle.std.proofs.lemmas.List.{ext_get_or, get_or-set_other, length-set, length-map}
-use Rattle.std.proofs.lemmas.List.Elements.{recursion_from_All}
+use Rattle.std.proofs.lemmas.List.{ext_get_or, get_or-set_other, length-set}
 use Rattle.std.proofs.lemmas.Map.Keys.{IsDistinct-cons, IsDistinct-head, IsDistinct-tail}
 use Rattle.std.proofs.lemmas.Map.Steps.{length-le_from_distinct_below}
 use Rattle.std.proofs.lemmas.Option.{slice_get_within, get_or_from_slice_get, slice_get-get_or}
@@ -161,7 +160,7 @@ pub apart_positions : (texts : List Text) (more : List (Text × ℕ)) → AreInO
 apart_positions texts [] ordered at = distinct_none
 apart_positions texts (m ∷ more) ordered at =
     IsDistinct-cons (λ p q. p == q) m.1 (positions more) (apart_first texts m more (order_head m.0 (position_number m.1) (members_after more no_members) ordered) at.0 at.1)
-        (apart_positions texts more (order_tail m.0 (position_number m.1) (members_after more no_members) ordered) at.1)
+    (apart_positions texts more (order_tail m.0 (position_number m.1) (members_after more no_members) ordered) at.1)
 
 pub at_below : (texts : List Text) (more : List (Text × ℕ)) → AreAt texts more → AllByRecursion (λ p. p < length texts) (positions more)
 at_below texts [] at = tt

@@ -2,8 +2,7 @@
 --
 -- In a distinct list no later text takes a text's number away. What is found was there before, or is the number after
 -- the position of the text.
-use Rattle.std.proofs.Common.{◌≡◌, ◌⊎◌, inl, inr, ℕ, zero, suc, ◌+◌, ◌<◌, List, [], ◌∷◌, length, slice_get, Bool, true, false, Option, Some, None, true≢false, refl, sym, ap, subst, ◌∙◌, arith}
-use Rattle.std.specs.List as lists
+use Rattle.std.proofs.Common.{◌≡◌, ◌⊎◌, inl, inr, ℕ, zero, suc, ◌+◌, List, [], ◌∷◌, length, slice_get, false, Some, None, true≢false, refl, sym, ap, ◌∙◌, arith}
 use Rattle.std.specs.List.{AllByRecursion}
 use Rattle.std.specs.Str.{bytes_eq}
 use Rattle.std.proofs.lemmas.Bool.{cases_Bool}

@@ -10,7 +10,7 @@ use Rattle.serde_json.specs.Find.{as_object}
 use Rattle.lasso_parts.specs.Texts.{Text}
 use Rattle.lasso_parts.specs.Json.{and_then, key_or_too_many, whole_number}
 use Rattle.lasso_parts.specs.declared.json.error.JsonError.{JsonError}
-use Rattle.lasso_parts.specs.declared.json.error.JsonError.TheVariants.{TooMany, NotAnObject, NotAPosition, Taken}
+use Rattle.lasso_parts.specs.declared.json.error.JsonError.TheVariants.{NotAnObject, NotAPosition, Taken}
 
 -- ---- what is written
 

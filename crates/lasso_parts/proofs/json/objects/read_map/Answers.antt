@@ -1,6 +1,6 @@
 -- The fault of the first member is that of the whole, and where it has a position, reading takes memory. A map's keys
 -- are in order.
-use Rattle.std.proofs.Common.{◌≡◌, inl, inr, refl, sym, ◌∙◌}
+use Rattle.std.proofs.Common.{inl, inr, refl, sym, ◌∙◌}
 use Rattle.std.proofs.lemmas.Result.{err_from_is_err_and}
 use Rattle.serde_json.specs.View.{view}
 use Rattle.lasso_parts.proofs.JsonMembers.{first_fault, first_position, object_in_order, whole_object}

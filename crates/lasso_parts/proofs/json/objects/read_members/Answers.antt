@@ -3,7 +3,6 @@
 use Rattle.std.proofs.Common.{◌≡◌, Bool, false, List, [], length, map, replicate, set, true, sym, ap, ◌∙◌, ◌+◌, subst, arith, string_bytes, get_or}
 use Rattle.std.proofs.lemmas.Grind.{common_steps}
 use Rattle.std.proofs.lemmas.List.{map-set, length-set, length-replicate}
-use Rattle.serde_json.specs.Data.{member}
 use Rattle.serde_json.specs.View.{view, members_view}
 use Rattle.serde_json.proofs.Views.{Entry}
 use Rattle.lasso_parts.specs.Texts.{Text}
