@@ -21,7 +21,7 @@ use Rattle.lasso_parts.specs.declared.json.error.JsonError.{JsonError}
 
 -- ---- what was read
 
-and_then_ok : {A B : Type 0} (r : Result A JsonError) (rest : A → Result B JsonError) (b : B) → and_then r rest ≡ Ok b → (a : A) × (r ≡ Ok a) × (rest a ≡ Ok b)
+pub and_then_ok : {A B : Type 0} (r : Result A JsonError) (rest : A → Result B JsonError) (b : B) → and_then r rest ≡ Ok b → (a : A) × (r ≡ Ok a) × (rest a ≡ Ok b)
 and_then_ok (Err fault) rest b h = cc
 and_then_ok (Ok a) rest b h = (a, refl, h)
 
@@ -122,7 +122,7 @@ written_is_read key_at distinct texts readable =
 
 -- ---- faults
 
-and_then_err : {A B : Type 0} (r : Result A JsonError) (rest : A → Result B JsonError) (fault : JsonError) → and_then r rest ≡ Err fault → (r ≡ Err fault) ⊎ ((a : A) × (r ≡ Ok a) × (rest a ≡ Err fault))
+pub and_then_err : {A B : Type 0} (r : Result A JsonError) (rest : A → Result B JsonError) (fault : JsonError) → and_then r rest ≡ Err fault → (r ≡ Err fault) ⊎ ((a : A) × (r ≡ Ok a) × (rest a ≡ Err fault))
 and_then_err (Err e) rest fault h = inl (let same : e ≡ fault = cc in ap (λ (x : JsonError). Err x) same)
 and_then_err (Ok a) rest fault h = inr (a, refl, h)
 

@@ -20,4 +20,10 @@ mod EmptyStructs
 mod Crossing
 mod JsonTexts
 mod JsonValues
+mod JsonMembers
+mod JsonPositions
+mod JsonOrder
+mod JsonWritten
+mod JsonPlaced
 pub mod JsonLaws
+pub mod JsonObjectLaws

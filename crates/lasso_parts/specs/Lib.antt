@@ -21,3 +21,5 @@ pub mod Loans
 pub mod Json
 pub mod JsonErrors
 pub mod JsonLaws
+pub mod JsonObjects
+pub mod JsonObjectLaws

@@ -3,12 +3,17 @@
 mod error;
 mod keys;
 mod laws;
+mod objects;
 mod reading;
 mod writing;
 
 pub use error::JsonError;
 pub use keys::JsonKey;
-pub use laws::{json_faults_exactly, json_reads_back, json_reads_exactly};
+pub use laws::{
+    json_faults_exactly, json_object_faults_exactly, json_object_reads_back,
+    json_object_reads_exactly, json_reads_back, json_reads_exactly,
+};
+pub use objects::{read_map, write_map};
 pub use reading::read_array;
 pub use writing::write_array;
 

@@ -1,5 +1,6 @@
-//! Laws of the JSON form of lists of texts, each as the contract of a function that does nothing.
+//! Laws of the JSON forms of lists of texts, each as the contract of a function that does nothing.
 ghost use Rattle.lasso_parts.specs.JsonLaws.{ReadsExactly, ReadsBack, FaultsExactly};
+ghost use Rattle.lasso_parts.specs.JsonObjectLaws.{ReadsObjectExactly, ReadsObjectBack, FaultsObjectExactly};
 
 use crate::keys::Key;
 
@@ -18,4 +19,21 @@ pub fn json_reads_back<K: Key>()
 /// The fault of an array is that of the first item that can't be read after the texts before it.
 pub fn json_faults_exactly<K: Key>()
     ensures { FaultsExactly K.key_at }
+{}
+
+/// A value whose members are in the byte order of their texts, as `read_map` says of any that it is given, is
+/// read as a list of texts exactly where it is the object from these texts to their positions plus one, each
+/// of the positions has a key, and no text stands twice.
+pub fn json_object_reads_exactly<K: Key>()
+    ensures { ReadsObjectExactly K.key_at }
+{}
+
+/// Reading back the object that was written for a list of distinct texts that fits the keys gives that list.
+pub fn json_object_reads_back<K: Key>()
+    ensures { ReadsObjectBack K.key_at }
+{}
+
+/// The fault of an object is that of the first member that can't be read after the members before it.
+pub fn json_object_faults_exactly<K: Key>()
+    ensures { FaultsObjectExactly K.key_at }
 {}

@@ -1,4 +1,6 @@
 //! Rows of reading arrays and keys, and printed faults.
+mod objects;
+
 use super::*;
 use crate::keys::{Key, LargeSpur, MicroSpur, MiniSpur, Spur};
 use crate::util::LassoErrorKind;
@@ -6,9 +8,14 @@ use serde_json::{Number, Value};
 use std::alloc::Global;
 use std::test::Fail;
 
-// What the value reads as: each text with a slash behind it, or the fault.
+// What the value reads as.
 fn reading<K: Key>(alloc: Global, value: &Value, distinct: bool) -> Result<String, Fail> {
-    match read_array::<K, Global>(alloc, value, distinct) {
+    told(alloc, read_array::<K, Global>(alloc, value, distinct))
+}
+
+// What was read: each text with a slash behind it, or the fault.
+fn told(alloc: Global, read: Result<Vec<&str>, JsonError>) -> Result<String, Fail> {
+    match read {
         Ok(texts) => {
             let mut all = String::new(alloc);
             for text in &texts {

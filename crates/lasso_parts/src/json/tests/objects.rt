@@ -1,0 +1,181 @@
+//! Rows of reading and writing objects.
+use super::*;
+use std::marker::Model;
+
+// A key type of 8 bits that lacks position 2.
+#[derive(Clone, Copy, PartialEq, Eq)]
+struct WithoutTwo {
+    position: u8,
+}
+
+impl Model for WithoutTwo {
+    ghost use Rattle.std.specs.Prelude.{ℕ, ◌≢◌};
+
+    ghost Value = { ℕ };
+
+    ghost view = { λ k. k.position };
+
+    ghost invariant = { λ k. k.position ≢ 2 };
+
+    ghost inverse = { λ n. record { position = n } };
+}
+
+impl Key for WithoutTwo {
+    ghost use Rattle.std.specs.Prelude.{◌<◌, ◌≢◌, ◌^◌, nat_lt, nat_eq, if◌then◌else◌, Some, None};
+    ghost use Rattle.std.proofs.Common.{arith};
+    ghost use Rattle.std.proofs.lemmas.Bool.Decides.{nat_tests};
+
+    ghost is_value = { λ k. (k ≢ 2) × (k < 2 ^ 8) };
+
+    ghost number = { λ k. k };
+
+    ghost key_at = { λ n. if nat_eq n 2 then None else if nat_lt n 256 then Some n else None };
+
+    fn into_usize(self) -> usize {
+        self.position as usize
+    }
+
+    fn try_from_usize(position: usize) -> Option<Self> {
+        if position == 2 || position > 255 {
+            return None;
+        }
+        Some(WithoutTwo {
+            position: position as u8,
+        })
+    }
+
+    fn show_value(self) {
+        let _position = self.position;
+    }
+
+    ghost made = { λ n k made. Prim.grind (arith, nat_tests) };
+
+    ghost made_again = { λ k is_value. Prim.grind (arith, nat_tests) };
+
+    ghost equal = { λ a b is_value is_value'. Prim.grind (arith, nat_tests) };
+}
+
+// What the JSON text reads as.
+fn reading<K: Key>(alloc: Global, text: &str) -> Result<String, Fail> {
+    let value = Value::from_str(alloc, text)?;
+    told(alloc, read_map::<K, Global>(alloc, &value))
+}
+
+#[test]
+fn objects_are_read(rt: HostRuntime) -> Result<(), Fail> {
+    let rows = [
+        ("{}", ""),
+        (r#"{"": 1}"#, "/"),
+        (r#"{"a": 2, "b": 1}"#, "b/a/"),
+        (r#"{"b": 1, "a": 2}"#, "b/a/"),
+        (
+            r#"{"abc": 1, "defghijk": 2, "x": 3, "yz": 4}"#,
+            "abc/defghijk/x/yz/",
+        ),
+        (r#"{"c": 2, "": 4, "bb": 1, "b": 3}"#, "bb/c/b//"),
+        (r#"{"a": 1, "a": 1}"#, "a/"),
+    ];
+    for (text, wanted) in rows {
+        let read = reading::<Spur>(rt.alloc(), text)?;
+        assert_eq!(rt; read.as_str(), wanted, "{text}");
+    }
+    Ok(())
+}
+
+#[test]
+fn faulty_objects(rt: HostRuntime) -> Result<(), Fail> {
+    let rows = [
+        (r#"{"a": 1, "b": 3}"#, "NotAPosition(1)"),
+        (r#"{"a": 1, "b": 1}"#, "Taken(1)"),
+        (r#"{"a": "1"}"#, "NotAPosition(0)"),
+        (r#"{"a": 0}"#, "NotAPosition(0)"),
+        (r#"{"a": -1}"#, "NotAPosition(0)"),
+        (r#"{"a": 1.0}"#, "NotAPosition(0)"),
+        (r#"{"a": null}"#, "NotAPosition(0)"),
+        (r#"{"a": [1]}"#, "NotAPosition(0)"),
+        (r#"{"a": 18446744073709551615}"#, "NotAPosition(0)"),
+        (r#"{"a": 18446744073709551616}"#, "NotAPosition(0)"),
+        (r#"{"a": 2, "b": 2}"#, "Taken(1)"),
+        (r#"{"a": 3, "b": 1}"#, "NotAPosition(0)"),
+        (r#"{"b": 0, "a": 3}"#, "NotAPosition(0)"),
+        (r#"{"a": 1, "b": 2, "c": 1}"#, "Taken(2)"),
+        (r#"{"a": 1, "b": 1, "c": 0}"#, "Taken(1)"),
+        (r#"{"a": 1, "b": 0, "c": 1}"#, "NotAPosition(1)"),
+        ("null", "NotAnObject"),
+        ("1", "NotAnObject"),
+        (r#""a""#, "NotAnObject"),
+        ("[]", "NotAnObject"),
+        (r#"["b", "a"]"#, "NotAnObject"),
+    ];
+    for (text, wanted) in rows {
+        let read = reading::<Spur>(rt.alloc(), text)?;
+        assert_eq!(rt; read.as_str(), wanted, "{text}");
+    }
+    Ok(())
+}
+
+#[test]
+fn positions_without_a_key(rt: HostRuntime) -> Result<(), Fail> {
+    let rows = [
+        (r#"{"a": 2, "b": 1}"#, "b/a/"),
+        (r#"{"a": 2, "b": 1, "c": 3}"#, "TooMany(2)"),
+        (r#"{"a": 3, "b": 1, "c": 2}"#, "TooMany(0)"),
+        (r#"{"a": 1, "b": 3, "c": 3}"#, "TooMany(1)"),
+        (r#"{"a": 1, "b": 1, "c": 3}"#, "Taken(1)"),
+        (r#"{"a": 3, "b": 1}"#, "NotAPosition(0)"),
+    ];
+    for (text, wanted) in rows {
+        let read = reading::<WithoutTwo>(rt.alloc(), text)?;
+        assert_eq!(rt; read.as_str(), wanted, "{text}");
+    }
+    Ok(())
+}
+
+// An object of texts of three digits, from 0 on, each to its position plus one.
+fn counted(alloc: Global, count: usize) -> Result<String, Fail> {
+    let mut all = String::from_str(alloc, "{")?;
+    for position in 0..count {
+        if position > 0 {
+            all.push(',')?;
+        }
+        let number = position as u64 + 1;
+        all.push_str(format!(in alloc; "\"{position:03}\":{number}")?.as_str())?;
+    }
+    all.push('}')?;
+    Ok(all)
+}
+
+#[test]
+fn more_members_than_keys(rt: HostRuntime) -> Result<(), Fail> {
+    let text = counted(rt.alloc(), 256)?;
+    assert_eq!(rt;
+        reading::<MicroSpur>(rt.alloc(), text.as_str())?.as_str(),
+        "TooMany(255)"
+    );
+    let text = counted(rt.alloc(), 255)?;
+    let value = Value::from_str(rt.alloc(), text.as_str())?;
+    let texts = read_map::<MicroSpur, Global>(rt.alloc(), &value)?;
+    assert_eq!(rt; texts.len(), 255);
+    assert_eq!(rt; texts[254], "254");
+    Ok(())
+}
+
+#[test]
+fn written_objects(rt: HostRuntime) -> Result<(), Fail> {
+    let none: [&str; 0] = [];
+    let rows = [
+        (none.as_slice(), "{}"),
+        ([""].as_slice(), r#"{"":1}"#),
+        (["b", "a"].as_slice(), r#"{"a":2,"b":1}"#),
+        (["b", "a", "c"].as_slice(), r#"{"a":2,"b":1,"c":3}"#),
+        (
+            ["abc", "defghijk", "x", "yz"].as_slice(),
+            r#"{"abc":1,"defghijk":2,"x":3,"yz":4}"#,
+        ),
+    ];
+    for (texts, wanted) in rows {
+        let value = write_map(rt.alloc(), &texts, texts.len())?;
+        assert_eq!(rt; value.to_string(rt.alloc())?.as_str(), wanted);
+    }
+    Ok(())
+}
