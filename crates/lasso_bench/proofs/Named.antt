@@ -1,6 +1,5 @@
 -- A list that lacks the texts of all numbers from some on, as it grows by the next one.
-use Rattle.std.proofs.Common.{◌≡◌, ◌≢◌, ℕ, ◌+◌, ◌^◌, ◌<◌, ◌≤◌, List, [], ◌∷◌, ◌++◌, length, Option, Some, None, IsSome, refl, ap, ◌∙◌, subst, arith, drop}
-use Rattle.std.specs.Prelude.{decimal}
+use Rattle.std.proofs.Common.{◌≡◌, ◌≢◌, ℕ, ◌+◌, ◌^◌, ◌<◌, ◌≤◌, List, [], ◌∷◌, ◌++◌, length, Option, None, IsSome, ap, ◌∙◌, subst, arith, drop}
 use Rattle.std.proofs.lemmas.Fmt.{decimal_injective}
 use Rattle.lasso_parts.specs.Texts.{Text, position_of}
 use Rattle.lasso_shared.proofs.Positions.{position_other}

@@ -33,7 +33,6 @@ impl Shelf {
     pub fn new<R: AllocGlobal + Wait>(rt: &R, count: u32) -> Result<Shelf> {
         let opened = Opened {
             size: 4096,
-            used: 0,
             limit: u64::MAX,
         };
         let (log, spine) = Log::open(rt.alloc(), opened)?;
@@ -61,7 +60,7 @@ fn fill<R: AllocGlobal + Wait>(rt: &R, shelf: &Shelf, spine: Spine<Spur>, count:
         if log.reserve_next(rt.alloc(), &mut spine).is_err() {
             bail!("no memory for a text");
         }
-        log.append(rt, &mut spine, &mut pass, text);
+        log.append_static(rt, &mut spine, &mut pass, text);
     }
     Ok(())
 }

@@ -5,8 +5,9 @@ use mathlib.Core.List.{IsPrefix}
 use Rattle.lasso_parts.specs.Texts.{Text}
 use Rattle.lasso_shared.specs.History.{Event, Reserve, Charge, Append, Limit, Totals, totals, counted, Lacks, MayFollow}
 use Rattle.lasso_shared.specs.Chunks.{ListOnlyGrows}
-use Rattle.lasso_shared.specs.Notes.{NoteView, history, state, worded, words_after, words_of, first_words, IsWord, IsWordWith, titled, texts_titled, appended_text}
-use Rattle.lasso_shared.specs.Book.{May, Moving, Lets, titles_of}
+use Rattle.lasso_shared.specs.Notes.{NoteView, history, state, worded, words_after, words_of, first_words, IsWord, IsWordWith, shown, texts_shown, lent_after, lent_by}
+use Rattle.lasso_shared.specs.LentBuckets.{LentBucket}
+use Rattle.lasso_shared.specs.Book.{May, Moving, MovesBy, Lets, shown_of}
 use Rattle.lasso_shared.specs.Events.{IsQuiet, ready}
 use Rattle.lasso_shared.proofs.Histories.{state_past, prefix_whole, prefix_tail}
 use Rattle.lasso_shared.proofs.Legal.{list_grows}
@@ -45,8 +46,8 @@ pub same_texts : (o : Totals) (v log : List NoteView) → IsPrefix v log → len
 same_texts o v log p len = prefix_whole (state o v).texts (state o log).texts (texts_past o v log p) (sym len)
 
 -- what the cells of the texts see only grows
-pub only_grows : ListOnlyGrows titles_of texts_titled
-only_grows [] after p = (texts_titled (titles_of after), refl)
+pub only_grows : ListOnlyGrows shown_of texts_shown
+only_grows [] after p = (texts_shown (shown_of after), refl)
 only_grows (x ∷ xs) [] p = absurd (cc (p.1))
 only_grows (x ∷ xs) (y ∷ ys) p =
     let r = prefix_tail x y xs ys p in
@@ -54,6 +55,11 @@ only_grows (x ∷ xs) (y ∷ ys) p =
 
 pub text_added : (s : Totals) (e : Event) (t : Text) → e ≡ Append t → (counted s e).texts ≡ s.texts ++ t ∷ []
 text_added s e t is = ap (λ (f : Event). (counted s f).texts) is
+
+-- the lent buckets with one note more
+pub lent_more : (bs : List LentBucket) (log : List NoteView) (e : NoteView) → lent_after bs (log ++ e ∷ []) ≡ lent_by (lent_after bs log) e.event e.lent
+lent_more bs [] e = refl
+lent_more bs (f ∷ log) e = lent_more (lent_by bs f.event f.lent) log e
 
 -- the state with one note more
 pub one_more : (o : Totals) (log : List NoteView) (e : NoteView) → state o (log ++ e ∷ []) ≡ counted (state o log) e.event
@@ -68,33 +74,30 @@ module _ {Key : Type 0} (keys : ℕ → Option Key) where
       let more : length ((state o log).texts ++ t ∷ []) ≡ length (state o log).texts + 1 = length-append (state o log).texts (t ∷ []) in
       (subst (λ (ts : List Text). Lacks ts t × IsSome (keys (length ts))) same may, omega (arith, small, here, more))
 
-  -- the update of an append files the text at the position that was the length
-  pub lets_append : (o : Totals) (v : List NoteView) (e : NoteView) (old : ℕ) (t : Text) → e.event ≡ Append t → e.position ≡ length o.texts + old → Lets keys o v 0 0 old e None
-  lets_append o v e old t is place = (
-    Some 0,
-    λ cells log kept begins word.
-        let after : (state o (log ++ e ∷ [])).texts ≡ (state o log).texts ++ t ∷ [] = ap (λ (s : Totals). s.texts) (one_more o log e) ∙ text_added (state o log) e.event t is in
-        let last : appended_text e.event ≡ t = ap appended_text is in
-        inr (0, refl, refl, (after ∙ ap (λ (x : Text). (state o log).texts ++ x ∷ []) (sym last), length_of o log 0 old word ∙ sym place)),
-  )
+  -- the update of an append files the text at the position that was the length; `f` is the log's first note
+  pub lets_append : (f : NoteView) (v : List NoteView) (e : NoteView) (old : ℕ) (t : Text) → e.event ≡ Append t → e.position ≡ length f.opening.texts + old → Lets keys f v 0 0 old e None
+  lets_append f v e old t is place cells log kept begins word =
+      let o : Totals = f.opening in
+      let after : (state o (log ++ e ∷ [])).texts ≡ (state o log).texts ++ t ∷ [] = ap (λ (s : Totals). s.texts) (one_more o log e) ∙ text_added (state o log) e.event t is in
+      let still : lent_after f.lent (log ++ e ∷ []) ≡ lent_after f.lent log = lent_more f.lent log e ∙ ap (λ (x : Event). lent_by (lent_after f.lent log) x e.lent) is in
+      inr (0, refl, refl, subst (λ (x : Event). MovesBy x e (shown_of (f ∷ log)) (shown_of (f ∷ (log ++ e ∷ [])))) (sym is) ((after, length_of o log 0 old word ∙ sym place), still))
 
-  -- an event that leaves the list as it is needs no update
-  pub lets_quiet : (o : Totals) (v : List NoteView) (e : NoteView) (j k old : ℕ) (s : Option ℕ) → ((t : Totals) → (counted t e.event).texts ≡ t.texts) → Lets keys o v j k old e s
-  lets_quiet o v e j k old s quiet = (
-    s,
-    λ cells log kept begins word.
-        inl (refl, ap titled (ap (λ (x : Totals). x.texts) (one_more o log e) ∙ quiet (state o log))),
-  )
+  -- an event that leaves the list and the buckets' bytes as they are needs no update
+  pub lets_quiet : (f : NoteView) (v : List NoteView) (e : NoteView) (j k old : ℕ) → ((t : Totals) → (counted t e.event).texts ≡ t.texts) → ((bs : List LentBucket) → lent_by bs e.event e.lent ≡ bs) → Lets keys f v j k old e (Some 0)
+  lets_quiet f v e j k old quiet still cells log kept begins word =
+      let texts = ap (λ (x : Totals). x.texts) (one_more f.opening log e) ∙ quiet (state f.opening log) in
+      let lent = lent_more f.lent log e ∙ still (lent_after f.lent log) in
+      inl (refl, λ i. shown (texts i) (lent i))
 
 pub moving_append : (t : ℕ) (x : Text) (y : ℕ) → Moving t (Append x) 0 1 y
 moving_append t x y ws = inl refl
 
--- the update of a note: it files an appended text, or has nothing to do
-pub lets_filed : {Key F : Type 0} (keys : ℕ → Option Key) (o : Totals) (v : List NoteView) (e : NoteView) (j k old : ℕ) (cell_proof : Option F) (text : F → Text) (At : F → Type 0)
-    → MatchOption cell_proof (IsQuiet e.event) (λ f. At f × (e.event ≡ Append (text f)) × (j ≡ 0) × (k ≡ 0) × (e.position ≡ length o.texts + old)) → Lets keys o v j k old e (ready cell_proof)
-lets_filed keys o v e j k old None text At quiet = lets_quiet keys o v e j k old (Some 0) quiet
-lets_filed keys o v e j k old (Some f) text At is =
-    subst (λ (i : ℕ). Lets keys o v i k old e None) (sym is.2) (subst (λ (i : ℕ). Lets keys o v 0 i old e None) (sym is.3) (lets_append keys o v e old (text f) is.1 is.4))
+-- the update of a note that speaks of no bucket: it files an appended text, or has nothing to do
+pub lets_filed : {Key F : Type 0} (keys : ℕ → Option Key) (f : NoteView) (v : List NoteView) (e : NoteView) (j k old : ℕ) (cell_proof : Option F) (text : F → Text) (At Lasts : F → Type 0) → e.lent ≡ []
+    → MatchOption cell_proof (IsQuiet e.event) (λ p. At p × (e.event ≡ Append (text p)) × Lasts p × (j ≡ 0) × (k ≡ 0) × (e.position ≡ length f.opening.texts + old)) → Lets keys f v j k old e (ready cell_proof)
+lets_filed keys f v e j k old None text At Lasts none quiet = lets_quiet keys f v e j k old quiet.0 (λ bs. subst (λ (own : List LentBucket). lent_by bs e.event own ≡ bs) (sym none) (quiet.1 bs))
+lets_filed keys f v e j k old (Some p) text At Lasts none is =
+    subst (λ (i : ℕ). Lets keys f v i k old e None) (sym is.3) (subst (λ (i : ℕ). Lets keys f v 0 i old e None) (sym is.4) (lets_append keys f v e old (text p) is.1 is.5))
 
 -- every history has the length word, at place 0 and with key 0
 pub has_head : (notes : List NoteView) → IsWord notes 0 0

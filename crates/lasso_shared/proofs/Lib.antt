@@ -21,5 +21,9 @@ pub mod CallerLaws
 pub mod Alike
 pub mod Desks
 pub mod LentBytes
+pub mod LentRights
+pub mod BucketWords
+pub mod TurnWords
+pub mod NewBuckets
 pub mod Crossing
 pub mod FillCalls

@@ -4,8 +4,8 @@ use mathlib.Core.List.{IsPrefix}
 use prog.Atomic.{either}
 use Rattle.logbook.specs.Pages.{Cell, cell, Nib, no_nib, may_write, step, View, Moves}
 use Rattle.lasso_shared.specs.History.{Totals, IsLegal}
-use Rattle.lasso_shared.specs.Notes.{NoteView, history, opening_of, notes_of, IsOpened, ticket_of, Since, IsWord, IsWordWith}
-use Rattle.lasso_shared.specs.Book.{KeepsRule, LogKeepsRule, Peeks, Fetches, Adds, Moving, May, Lets, Moved, IsDone, Reads, titles_of}
+use Rattle.lasso_shared.specs.Notes.{NoteView, history, opening_of, first_note, notes_of, IsOpened, ticket_of, Since, IsWord, IsWordWith}
+use Rattle.lasso_shared.specs.Book.{KeepsRule, LogKeepsRule, Peeks, Fetches, Adds, Moving, May, Lets, Moved, IsIn, Reads, shown_of}
 use Rattle.lasso_shared.proofs.Histories.{prefix_tail, prefix_trans, prefix_self}
 use Rattle.lasso_shared.proofs.Tickets.{still, grown, next_ticket}
 use Rattle.lasso_shared.proofs.Words.{word_later}
@@ -17,6 +17,16 @@ tails [] ys o p = absurd o
 tails (x ∷ xs) [] o p = absurd (cc (p.1))
 tails (x ∷ xs) (y ∷ ys) o p = let r = prefix_tail x y xs ys p in (tt, ap (λ (e : NoteView). e.opening) r.0, r.1)
 
+pub opening_first : (xs : List NoteView) → opening_of xs ≡ (first_note xs).opening
+opening_first [] = refl
+opening_first (x ∷ xs) = refl
+
+-- a longer log has the same first note
+pub firsts : (xs ys : List NoteView) → IsOpened xs → IsPrefix xs ys → first_note xs ≡ first_note ys
+firsts [] ys o p = absurd o
+firsts (x ∷ xs) [] o p = absurd (cc (p.1))
+firsts (x ∷ xs) (y ∷ ys) o p = (prefix_tail x y xs ys p).0
+
 notes_push : (xs : List NoteView) (e : NoteView) → IsOpened xs → notes_of (xs ++ e ∷ []) ≡ notes_of xs ++ e ∷ []
 notes_push [] e o = absurd o
 notes_push (x ∷ xs) e o = refl
@@ -26,11 +36,11 @@ module _ {Key : Type 0} (keys : ℕ → Option Key) where
   kept_opened cells [] kept = absurd kept
   kept_opened cells (o ∷ log) kept = (tt, kept)
 
-  pub peek_opened : (log : List NoteView) (e : NoteView) (s : Option ℕ) (j k : ℕ) → IsOpened log → IsWord (notes_of log) j k → Moves (LogKeepsRule keys) titles_of (Moved e) k (log, (no_nib, s)) (λ n. n) (Peeks keys (step k 0 0 e) (log, (no_nib, s)))
+  pub peek_opened : (log : List NoteView) (e : NoteView) (s : Option ℕ) (j k : ℕ) → IsOpened log → IsWord (notes_of log) j k → Moves (LogKeepsRule keys) shown_of (Moved e) k (log, (no_nib, s)) (λ n. n) (Peeks keys (step k 0 0 e) (log, (no_nib, s)))
   peek_opened [] e s j k o word = absurd o
   peek_opened (f ∷ log) e s j k o word = peek_moves keys f log e s j k word
 
-  pub fetch_opened : (log : List NoteView) (e : NoteView) (s : Option ℕ) → IsOpened log → Moves (LogKeepsRule keys) titles_of (Moved e) 0 (log, (no_nib, s)) (λ n. either (n == 0) 0 n) (Fetches keys (step 0 0 0 e) (log, (no_nib, s)))
+  pub fetch_opened : (log : List NoteView) (e : NoteView) (s : Option ℕ) → IsOpened log → Moves (LogKeepsRule keys) shown_of (Moved e) 0 (log, (no_nib, s)) (λ n. either (n == 0) 0 n) (Fetches keys (step 0 0 0 e) (log, (no_nib, s)))
   fetch_opened [] e s o = absurd o
   fetch_opened (f ∷ log) e s o = fetch_moves keys f log e s
 
@@ -59,31 +69,24 @@ module _ {Key : Type 0} (keys : ℕ → Option Key) where
 
   -- the exchange, where `a` is what the pass had seen, `g` what was given, and `v` both
   pub add_opened : (a g v : List NoteView) (p : Nib) (e : NoteView) (s : Option ℕ) (j k old n : ℕ) → IsOpened a → IsPrefix a v → IsOpened g → IsPrefix g v → p.right ≡ may_write → e.ticket ≡ p.key → p.key ≡ ticket_of e.by (notes_of a)
-      → IsWord (notes_of g) j k → Moving e.ticket e.event j n p.value → May keys (opening_of g) (notes_of g) j k old e.event → Lets keys (opening_of g) (notes_of g) j k old e s
-      → Moves (LogKeepsRule keys) titles_of (Moved e) k (v, (p, s)) (λ m. either (m == old) (old + n) m) (Adds keys (step k old (old + n) e) (v, (p, s)))
+      → IsWord (notes_of g) j k → Moving e.ticket e.event j n p.value → May keys (opening_of g) (notes_of g) j k old e.event → Lets keys (first_note g) (notes_of g) j k old e s
+      → Moves (LogKeepsRule keys) shown_of (Moved e) k (v, (p, s)) (λ m. either (m == old) (old + n) m) (Adds keys (step k old (old + n) e) (v, (p, s)))
   add_opened a g [] p e s j k old n oa av og gv right is at word moving may lets = absurd ((tails a [] oa av).0)
   add_opened a g (f ∷ v) p e s j k old n oa av og gv right is at word moving may lets =
       let ra = tails a (f ∷ v) oa av in
       let rg = tails g (f ∷ v) og gv in
       let later = word_later (notes_of g) v j k word.0 rg.2 word.1 in
       let may1 : May keys f.opening (notes_of g) j k old e.event = subst (λ (t : Totals). May keys t (notes_of g) j k old e.event) rg.1 may in
-      let lets1 : Lets keys f.opening (notes_of g) j k old e s = subst (λ (t : Totals). Lets keys t (notes_of g) j k old e s) rg.1 lets in
+      let lets1 : Lets keys f (notes_of g) j k old e s = subst (λ (t : NoteView). Lets keys t (notes_of g) j k old e s) (firsts g (f ∷ v) og gv) lets in
       add_moves keys f (notes_of a) v p e s j k old n right is at ra.2 (later.0, later.1) moving (λ cells log kept begins here. may1 cells log kept (prefix_trans (notes_of g) v log rg.2 begins) here)
-      (lets1.0, λ cells log kept begins here. lets1.1 cells log kept (prefix_trans (notes_of g) v log rg.2 begins) here)
+      (λ cells log kept begins here. lets1 cells log kept (prefix_trans (notes_of g) v log rg.2 begins) here)
 
   -- what is known once the note is in
-  pub record Added (o : Totals) (before given after : List NoteView) (e : NoteView) (j k old : ℕ) : Type 0 where
-    pub opened : IsOpened after
-    pub opening : opening_of after ≡ o
-    pub done : IsDone keys o e.by (notes_of before) (notes_of given) (notes_of after) e.event j k old e.ticket
-    pub ticket : ticket_of e.by (notes_of after) ≡ e.next
-    pub legal : IsLegal keys o (history (notes_of after))
-
   pub added : (a g v : List NoteView) (p : Nib) (e : NoteView) (j k old new found : ℕ) (s : Option ℕ) (w : View NoteView ℕ) → IsOpened a → IsPrefix a v → IsOpened g → IsPrefix g v → p.key ≡ ticket_of e.by (notes_of a) → IsWord (notes_of g) j k
-      → found ≡ old → Adds keys (step k old new e) (v, (p, s)) found w → Added (opening_of a) a g w.0 e j k old
+      → found ≡ old → Adds keys (step k old new e) (v, (p, s)) found w → IsIn keys (opening_of a) a g w.0 e j k old
   added a g v p e j k old new found s w oa av og gv at word here add = go add.done
     where
-      go : ((found ≡ old) × (w.0 ≡ add.log ++ e ∷ []) × (w.1.0 ≡ no_nib) × ((after : List Cell) × LogKeepsRule keys after w.0)) ⊎ ((found ≢ old) × (w.0 ≡ add.log) × (w.1.0 ≡ p)) → Added (opening_of a) a g w.0 e j k old
+      go : ((found ≡ old) × (w.0 ≡ add.log ++ e ∷ []) × (w.1.0 ≡ no_nib) × ((after : List Cell) × LogKeepsRule keys after w.0)) ⊎ ((found ≢ old) × (w.0 ≡ add.log) × (w.1.0 ≡ p)) → IsIn keys (opening_of a) a g w.0 e j k old
       go (inr r) = absurd (r.0 here)
       go (inl r) =
           let al : IsPrefix a add.log = prefix_trans a v add.log av add.begins in
@@ -112,6 +115,7 @@ module _ {Key : Type 0} (keys : ℕ → Option Key) where
               value = subst (IsWordWith (notes_of add.log) j k) value st.1;
               kept = (r.3.0, after);
             };
+            note = refl;
             ticket = ap (ticket_of e.by) notes ∙ next_ticket e.by (notes_of add.log) e refl;
             legal = after.legal;
           }
@@ -123,6 +127,10 @@ module _ {Key : Type 0} (keys : ℕ → Option Key) where
       go : ((found ≡ old) × (w.0 ≡ add.log ++ e ∷ []) × (w.1.0 ≡ no_nib) × ((after : List Cell) × LogKeepsRule keys after w.0)) ⊎ ((found ≢ old) × (w.0 ≡ add.log) × (w.1.0 ≡ p)) → w.1.0 ≡ p
       go (inl r) = absurd (ne r.0)
       go (inr r) = r.2
+
+  -- and so does the update
+  pub as_it_was : (v : List NoteView) (p : Nib) (e : NoteView) (k old new found : ℕ) (s : Option ℕ) (w : View NoteView ℕ) → found ≢ old → Adds keys (step k old new e) (v, (p, s)) found w → (w.1.0 ≡ p) × (w.1.1 ≡ s)
+  as_it_was v p e k old new found s w ne add = (refused v p e k old new found s w ne add, add.idle ne)
 
 -- of two beginnings of one list, one begins the other
 pub either_begins : {A : Type 0} (xs ys zs : List A) → IsPrefix xs zs → IsPrefix ys zs → IsPrefix xs ys ⊎ IsPrefix ys xs

@@ -1,5 +1,5 @@
 -- The three kinds of step keep the rule: a look, the fetching of a ticket, and the exchange that adds a note.
-use Rattle.std.proofs.Common.{◌≡◌, ◌≢◌, ℕ, zero, suc, ◌+◌, ◌<◌, ◌==◌, Bool, true, false, List, [], ◌∷◌, ◌++◌, length, set, refl, ap, sym, ◌∙◌, subst, arith, inl, inr, length-set, Option}
+use Rattle.std.proofs.Common.{◌≡◌, ◌≢◌, ℕ, zero, suc, ◌+◌, ◌<◌, ◌==◌, Bool, true, false, List, [], ◌∷◌, ◌++◌, length, set, refl, ap, sym, ◌∙◌, subst, arith, inl, inr, length-set, Option, Some}
 use Rattle.std.proofs.lemmas.List.{append-nil, set-get_or}
 use Rattle.std.proofs.lemmas.Bool.Decides.{nat_tests}
 use mathlib.Core.List.{IsPrefix}
@@ -7,7 +7,7 @@ use prog.Atomic.{either}
 use Rattle.logbook.specs.Pages.{Cell, cell, keeps, gives, adds, Nib, no_nib, may_write, Away, step, Moves, Goes}
 use Rattle.lasso_shared.specs.History.{Totals, counted, MayFollow, IsLegal}
 use Rattle.lasso_shared.specs.Notes.{NoteView, history, state, ticket_of, worded, words_of, first_words, IsWord, IsWordWith}
-use Rattle.lasso_shared.specs.Book.{IsHome, Words, Apart, KeepsRule, LogKeepsRule, Peeks, Fetches, Adds, Bumps, Moving, May, Lets, Moved, IsShort, titles_of}
+use Rattle.lasso_shared.specs.Book.{IsHome, Words, Apart, KeepsRule, LogKeepsRule, Peeks, Fetches, Adds, Bumps, Moving, May, Lets, Moved, IsShort, shown_of}
 use Rattle.lasso_shared.proofs.Histories.{history_append, state_past, prefix_tail, prefix_self, prefix_trans}
 use Rattle.lasso_shared.proofs.Legal.{legal_push}
 use Rattle.lasso_shared.proofs.Tickets.{by_cases, not_both, used_still, used_more, chained_more, still}
@@ -52,7 +52,7 @@ module _ {Key : Type 0} (keys : ℕ → Option Key) where
       let later = word_later v log j k word.0 begins word.1 in
       (later.0, later.1, words_get cells (words_of log) j k later.0 kept.words later.1)
 
-  pub peek_moves : (o : NoteView) (v : List NoteView) (e : NoteView) (s : Option ℕ) (j k : ℕ) → IsWord v j k → Moves (LogKeepsRule keys) titles_of (Moved e) k (o ∷ v, (no_nib, s)) (λ n. n) (Peeks keys (step k 0 0 e) (o ∷ v, (no_nib, s)))
+  pub peek_moves : (o : NoteView) (v : List NoteView) (e : NoteView) (s : Option ℕ) (j k : ℕ) → IsWord v j k → Moves (LogKeepsRule keys) shown_of (Moved e) k (o ∷ v, (no_nib, s)) (λ n. n) (Peeks keys (step k 0 0 e) (o ∷ v, (no_nib, s)))
   peek_moves o v e s j k word cells [] kept begins away = absurd kept
   peek_moves o v e s j k word cells (p ∷ log) kept begins away =
       let tail = prefix_tail o p v log begins in
@@ -64,7 +64,7 @@ module _ {Key : Type 0} (keys : ℕ → Option Key) where
       let kept' : LogKeepsRule keys cells ((p ∷ log) ++ []) = subst (LogKeepsRule keys cells) (sym all) kept in (
         home_bound cells k home,
         home,
-        (keeps, [], s, tt, subst (λ (ds : List Cell). LogKeepsRule keys ds ((p ∷ log) ++ [])) (sym same) kept', inl (refl, ap titles_of all), (cells, kept', refl)),
+        (keeps, [], s, tt, subst (λ (ds : List Cell). LogKeepsRule keys ds ((p ∷ log) ++ [])) (sym same) kept', inl (refl, ap shown_of all), (cells, kept', refl)),
       )
 
   with_ticket : (cells : List Cell) (o : Totals) (log : List NoteView) → KeepsRule keys cells o log → KeepsRule keys (cells ++ (0, false) ∷ []) o log
@@ -79,7 +79,7 @@ module _ {Key : Type 0} (keys : ℕ → Option Key) where
   }
 
   -- a ticket is fetched by an exchange of the length word with itself
-  pub fetch_moves : (o : NoteView) (v : List NoteView) (e : NoteView) (s : Option ℕ) → Moves (LogKeepsRule keys) titles_of (Moved e) 0 (o ∷ v, (no_nib, s)) (λ n. either (n == 0) 0 n) (Fetches keys (step 0 0 0 e) (o ∷ v, (no_nib, s)))
+  pub fetch_moves : (o : NoteView) (v : List NoteView) (e : NoteView) (s : Option ℕ) → Moves (LogKeepsRule keys) shown_of (Moved e) 0 (o ∷ v, (no_nib, s)) (λ n. either (n == 0) 0 n) (Fetches keys (step 0 0 0 e) (o ∷ v, (no_nib, s)))
   fetch_moves o v e s cells [] kept begins away = absurd kept
   fetch_moves o v e s cells (p ∷ log) kept begins away =
       let at = stands cells p.opening [] log 0 0 kept (log, refl) (0, refl) in
@@ -90,7 +90,7 @@ module _ {Key : Type 0} (keys : ℕ → Option Key) where
       let more : LogKeepsRule keys (cells ++ (0, false) ∷ []) ((p ∷ log) ++ []) = subst (LogKeepsRule keys (cells ++ (0, false) ∷ [])) (sym all) (with_ticket cells p.opening log kept) in (
         home_bound cells 0 home,
         home,
-        (adds, [], s, tt, subst (λ (ds : List Cell). LogKeepsRule keys (ds ++ (0, false) ∷ []) ((p ∷ log) ++ [])) (sym same) more, inl (refl, ap titles_of all), (length cells, refl, (cells ++ (0, false) ∷ [], more))),
+        (adds, [], s, tt, subst (λ (ds : List Cell). LogKeepsRule keys (ds ++ (0, false) ∷ []) ((p ∷ log) ++ [])) (sym same) more, inl (refl, ap shown_of all), (length cells, refl, (cells ++ (0, false) ∷ [], more))),
       )
 
   with_event : (cells : List Cell) (o : Totals) (log : List NoteView) (e : NoteView) (j k v n t x : ℕ) → KeepsRule keys cells o log → IsWordWith log j k v → t < length cells → (cell cells t).1 ≡ false → e.ticket ≡ t
@@ -114,9 +114,9 @@ module _ {Key : Type 0} (keys : ℕ → Option Key) where
       }
 
   add_goes : (o : NoteView) (before v : List NoteView) (p : Nib) (e : NoteView) (s : Option ℕ) (j k old n : ℕ) → p.right ≡ may_write → e.ticket ≡ p.key → p.key ≡ ticket_of e.by before → IsPrefix before v
-      → Moving e.ticket e.event j n p.value → May keys o.opening v j k old e.event → Lets keys o.opening v j k old e s
+      → Moving e.ticket e.event j n p.value → May keys o.opening v j k old e.event → Lets keys o v j k old e s
       → (cells : List Cell) (log : List NoteView) → KeepsRule keys cells o.opening log → IsPrefix v log → Away p cells → (m : ℕ) → IsWordWith log j k m → cell cells k ≡ (m, true) → (b : Bool) → ((cell cells k).0 == old) ≡ b
-      → Goes (LogKeepsRule keys) titles_of (Moved e) k (o ∷ v, (p, s)) (λ n'. either (n' == old) (old + n) n') (Adds keys (step k old (old + n) e) (o ∷ v, (p, s))) cells (o ∷ log)
+      → Goes (LogKeepsRule keys) shown_of (Moved e) k (o ∷ v, (p, s)) (λ n'. either (n' == old) (old + n) n') (Adds keys (step k old (old + n) e) (o ∷ v, (p, s))) cells (o ∷ log)
   add_goes o before v p e s j k old n right is at begun moving may lets cells log kept begins away m word here true test =
       let found : (cell cells k).0 ≡ old = grind (arith, nat_tests) in
       let m_is : m ≡ old = sym (ap (λ (c : Cell). c.0) here) ∙ found in
@@ -129,10 +129,10 @@ module _ {Key : Type 0} (keys : ℕ → Option Key) where
       let becomes : either ((cell cells k).0 == old) (old + n) (cell cells k).0 ≡ old + n = rw test refl in (
         gives,
         e ∷ [],
-        lets.0,
+        Some 0,
         right,
         subst (λ (i : ℕ). LogKeepsRule keys (set (set cells k (i, true)) p.key (p.value, true)) ((o ∷ log) ++ e ∷ [])) (sym becomes) kept',
-        lets.1 cells log kept begins word',
+        lets cells log kept begins word',
         record {
           log = o ∷ log;
           cells = cells;
@@ -140,6 +140,8 @@ module _ {Key : Type 0} (keys : ℕ → Option Key) where
           kept = kept;
           out = gone.1;
           value = refl;
+          ran = λ is. refl;
+          idle = λ other. absurd (other found);
           done = inl (found, refl, refl, (set (set cells k (old + n, true)) p.key (p.value, true), kept'));
         },
       )
@@ -154,7 +156,7 @@ module _ {Key : Type 0} (keys : ℕ → Option Key) where
         s,
         tt,
         subst (λ (ds : List Cell). LogKeepsRule keys ds ((o ∷ log) ++ [])) (sym same) kept',
-        inl (refl, ap titles_of all),
+        inl (refl, ap shown_of all),
         record {
           log = o ∷ log;
           cells = cells;
@@ -162,14 +164,16 @@ module _ {Key : Type 0} (keys : ℕ → Option Key) where
           kept = kept;
           out = (away right).1;
           value = refl;
+          ran = λ is. absurd (ne is);
+          idle = λ other. refl;
           done = inr (ne, all, refl);
         },
       )
 
   -- the exchange of a word that adds a note, where `before` is what the pass had seen and `v` what is seen now
   pub add_moves : (o : NoteView) (before v : List NoteView) (p : Nib) (e : NoteView) (s : Option ℕ) (j k old n : ℕ) → p.right ≡ may_write → e.ticket ≡ p.key → p.key ≡ ticket_of e.by before → IsPrefix before v
-      → IsWord v j k → Moving e.ticket e.event j n p.value → May keys o.opening v j k old e.event → Lets keys o.opening v j k old e s
-      → Moves (LogKeepsRule keys) titles_of (Moved e) k (o ∷ v, (p, s)) (λ m. either (m == old) (old + n) m) (Adds keys (step k old (old + n) e) (o ∷ v, (p, s)))
+      → IsWord v j k → Moving e.ticket e.event j n p.value → May keys o.opening v j k old e.event → Lets keys o v j k old e s
+      → Moves (LogKeepsRule keys) shown_of (Moved e) k (o ∷ v, (p, s)) (λ m. either (m == old) (old + n) m) (Adds keys (step k old (old + n) e) (o ∷ v, (p, s)))
   add_moves o before v p e s j k old n right is at begun seen moving may lets cells [] kept begins away = absurd kept
   add_moves o before v p e s j k old n right is at begun seen moving may lets cells (f ∷ log) kept begins away =
       let tail = prefix_tail o f v log begins in
@@ -178,6 +182,6 @@ module _ {Key : Type 0} (keys : ℕ → Option Key) where
       let home : IsHome cells k = ap (λ (c : Cell). c.1) w.2 in (
         home_bound cells k home,
         home,
-        subst (λ (g : NoteView). Goes (LogKeepsRule keys) titles_of (Moved e) k (o ∷ v, (p, s)) (λ m. either (m == old) (old + n) m) (Adds keys (step k old (old + n) e) (o ∷ v, (p, s))) cells (g ∷ log)) tail.0
+        subst (λ (g : NoteView). Goes (LogKeepsRule keys) shown_of (Moved e) k (o ∷ v, (p, s)) (λ m. either (m == old) (old + n) m) (Adds keys (step k old (old + n) e) (o ∷ v, (p, s))) cells (g ∷ log)) tail.0
             (add_goes o before v p e s j k old n right is at begun moving may lets cells log kept' tail.1 away w.0 w.1 w.2 ((cell cells k).0 == old) refl),
       )

@@ -41,3 +41,6 @@ module _ {M : Type 1} {𝓤 : Ura M} (𝓛 : Logic 𝓤) where
 
   pub says_three : (A B C : Type 0) → A → B → C → ent 𝓤 (emp 𝓤) (sep 𝓤 (fact 𝓤 A) (sep 𝓤 (fact 𝓤 B) (fact 𝓤 C)))
   says_three A B C a b c = qed 𝓛 [] ∵ use0 𝓛 (raw (sep 𝓤 (fact 𝓤 B) (fact 𝓤 C))) (says_two B C b c) $ use0 𝓛 (raw (fact 𝓤 A)) (fact_i 𝓤 A (emp 𝓤) a) $ join ! $ done !
+
+  pub says_four : (A B C D : Type 0) → A → B → C → D → ent 𝓤 (emp 𝓤) (sep 𝓤 (fact 𝓤 A) (sep 𝓤 (fact 𝓤 B) (sep 𝓤 (fact 𝓤 C) (fact 𝓤 D))))
+  says_four A B C D a b c d = qed 𝓛 [] ∵ use0 𝓛 (raw (sep 𝓤 (fact 𝓤 B) (sep 𝓤 (fact 𝓤 C) (fact 𝓤 D)))) (says_three B C D b c d) $ use0 𝓛 (raw (fact 𝓤 A)) (fact_i 𝓤 A (emp 𝓤) a) $ join ! $ done !

@@ -1,11 +1,12 @@
 -- The rule of the book: what holds between any two steps, and what each step tells the one who takes it.
-use Rattle.std.specs.Prelude.{◌≡◌, ◌≢◌, ℕ, ◌⊎◌, true, false, List, [], ◌∷◌, ◌++◌, ◌^◌, ◌<◌, length, Option}
+use Rattle.std.specs.Prelude.{◌≡◌, ◌≢◌, ℕ, ◌⊎◌, true, false, List, [], ◌∷◌, ◌++◌, ◌^◌, ◌<◌, length, Option, Some}
 use mathlib.Core.List.{IsPrefix}
 use Rattle.logbook.specs.Pages.{Cell, cell, Step, View, Book, Named, may_write, may_make, nib, no_nib, Runs}
 use Rattle.logbook.specs.declared.tokens.Pen.{Pen}
-use Rattle.lasso_shared.specs.History.{Event, Totals, counted, IsOpening, IsLegal, MayFollow}
-use Rattle.lasso_shared.specs.Notes.{NoteView, history, state, Chained, words_of, worded, bumped, titled, texts_in, texts_titled, appended_text, Since, IsWordWith}
+use Rattle.lasso_shared.specs.History.{Event, Reserve, Charge, Append, Limit, Totals, counted, IsOpening, IsLegal, MayFollow}
+use Rattle.lasso_shared.specs.Notes.{NoteView, history, state, Chained, words_of, worded, bumped, shown, texts_in, lent_in, texts_shown, lent_shown, bucket_in, Since, IsWordWith, IsOpened, opening_of, notes_of, ticket_of}
 use Rattle.lasso_shared.specs.Chunks.{PutsLast}
+use Rattle.lasso_shared.specs.LentBuckets.{TakesBytes, AddsBucket}
 
 -- the cell is at home: the book holds its value
 abbrev pub IsHome : List Cell → ℕ → Type 0
@@ -50,9 +51,9 @@ abbrev pub LogKeepsRule : {Key : Type 0} → (ℕ → Option Key) → List Cell 
 LogKeepsRule keys cells [] = ⊥
 LogKeepsRule keys cells (first ∷ notes) = KeepsRule keys cells first.opening notes
 
--- what the cells of the texts see of a log
-abbrev pub titles_of : List NoteView → List NoteView
-titles_of log = titled (texts_in log)
+-- what the book's keepers see of a log
+abbrev pub shown_of : List NoteView → List NoteView
+shown_of log = shown (texts_in log) (lent_in log)
 
 abbrev pub word_of : Book → ℕ → Named
 word_of b k = record { tracked = true; key = k; book = b }
@@ -81,6 +82,9 @@ pub record IsAdded {Key : Type 0} (keys : ℕ → Option Key) (s : Step NoteView
   pub kept : LogKeepsRule keys cells log
   pub out : (cell cells v.1.0.key).1 ≡ false
   pub value : (cell cells s.key).0 ≡ found
+  -- where it was the old one, the update has run; else it is as it was
+  pub ran : found ≡ s.old → w.1.1 ≡ Some 0
+  pub idle : found ≢ s.old → w.1.1 ≡ v.1.1
   pub done :
       ((found ≡ s.old) × (w.0 ≡ log ++ s.ask ∷ []) × (w.1.0 ≡ no_nib) × ((after : List Cell) × LogKeepsRule keys after w.0))
       ⊎ ((found ≢ s.old) × (w.0 ≡ log) × (w.1.0 ≡ v.1.0))
@@ -123,13 +127,28 @@ pub record IsDone {Key : Type 0} (keys : ℕ → Option Key) (o : Totals) (p : �
 abbrev pub Reads : {Key : Type 0} → (ℕ → Option Key) → Totals → List NoteView → ℕ → ℕ → ℕ → Type 0
 Reads keys o notes position key n = IsWordWith notes position key n × ((cells : List Cell) × KeepsRule keys cells o notes)
 
--- how the update of a note moves what the cells of the texts see
-abbrev pub Moved : NoteView → List NoteView → List NoteView → ℕ → Type 0
-Moved e before after answer = PutsLast texts_titled e.position (appended_text e.event) before after
+-- how an event moves what the book's keepers see, where `e` is its note
+abbrev pub MovesBy : Event → NoteView → List NoteView → List NoteView → Type 0
+MovesBy (Reserve bucket n) e before after = (texts_shown after ≡ texts_shown before) × TakesBytes lent_shown bucket (bucket_in e.lent) n before after
+MovesBy (Charge size n) e before after = (texts_shown after ≡ texts_shown before) × AddsBucket lent_shown (bucket_in e.lent) before after
+MovesBy (Append text) e before after = PutsLast texts_shown e.position text before after × (lent_shown after ≡ lent_shown before)
+MovesBy (Limit limit) e before after = (texts_shown after ≡ texts_shown before) × (lent_shown after ≡ lent_shown before)
 
--- wherever the note comes while the word has its old value, the update runs or has nothing to do
-abbrev pub Lets : {Key : Type 0} → (ℕ → Option Key) → Totals → List NoteView → ℕ → ℕ → ℕ → NoteView → Option ℕ → Type 0
-Lets keys o notes position key old e s =
-    (t : Option ℕ)
-    × ((cells : List Cell) (log : List NoteView) → KeepsRule keys cells o log → IsPrefix notes log → IsWordWith log position key old
-    → Runs (Moved e) s t (titled (state o log).texts) (titled (state o (log ++ e ∷ [])).texts))
+-- how the update of a note moves it
+abbrev pub Moved : NoteView → List NoteView → List NoteView → ℕ → Type 0
+Moved e before after answer = MovesBy e.event e before after
+
+-- wherever the note comes while the word has its old value, the update runs or has nothing to do; `first` is the log's first note
+abbrev pub Lets : {Key : Type 0} → (ℕ → Option Key) → NoteView → List NoteView → ℕ → ℕ → ℕ → NoteView → Option ℕ → Type 0
+Lets keys first notes position key old e s =
+    (cells : List Cell) (log : List NoteView) → KeepsRule keys cells first.opening log → IsPrefix notes log → IsWordWith log position key old
+    → Runs (Moved e) s (Some 0) (shown_of (first ∷ log)) (shown_of (first ∷ (log ++ e ∷ [])))
+
+-- what is known once a note is in, where a pass had seen `before`, and `given` was seen
+pub record IsIn {Key : Type 0} (keys : ℕ → Option Key) (o : Totals) (before given after : List NoteView) (e : NoteView) (position key old : ℕ) : Type 0 where
+  pub opened : IsOpened after
+  pub opening : opening_of after ≡ o
+  pub done : IsDone keys o e.by (notes_of before) (notes_of given) (notes_of after) e.event position key old e.ticket
+  pub note : done.note ≡ e
+  pub ticket : ticket_of e.by (notes_of after) ≡ e.next
+  pub legal : IsLegal keys o (history (notes_of after))

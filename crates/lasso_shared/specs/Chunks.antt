@@ -37,39 +37,47 @@ names_of cells = map (λ (c : Named). c.id) cells
 abbrev pub name_at : List Named → ℕ → ℕ
 name_at cells position = (slice_index_or cells position record { id = 0; tag = [] }).id
 
--- a chunk and a cell that have these names are those of the position, where `cells` is what the chunk has
-abbrev pub IsCellAt : List ℕ → ℕ → ℕ → List Named → ℕ → Type 0
-IsCellAt names position chunk cells cell = (chunk ≡ slice_index names (chunk_of position)) × (cell ≡ name_at cells (offset_of position))
-
 -- the first of these numbers, and 0 where there is none
 abbrev pub first_number : List ℕ → ℕ
 first_number [] = 0
 first_number (n ∷ ns) = n
 
+-- The first of an interner's names is the number of its era; the others are the names of the cells that its chunks lie in.
+abbrev pub era_named : List ℕ → ℕ
+era_named names = first_number names
+
+-- the name of the chunk of a position
+abbrev pub chunk_named : List ℕ → ℕ → ℕ
+chunk_named names position = slice_index names (suc (chunk_of position))
+
+-- a chunk and a cell that have these names are those of the position, where `cells` is what the chunk has
+abbrev pub IsCellAt : List ℕ → ℕ → ℕ → List Named → ℕ → Type 0
+IsCellAt names position chunk cells cell = (chunk ≡ chunk_named names position) × (cell ≡ name_at cells (offset_of position))
+
 -- a chunk's cell is tagged with the chunk's number
 abbrev pub IsNumbered : ℕ → List Named → Type 0
 IsNumbered count cells = (length cells ≡ count) × ((chunk : ℕ) (d : Named) → chunk < count → (slice_index_or cells chunk d).tag ≡ chunk ∷ [])
 
--- V is a chunk, and `cells` what it has; R is what a cell holds, and `meaning` its text
-module _ (V R : RattleType) (cells : V.Denot → List Named) (meaning : R.Denot → Text) where
-  abbrev pub held : ℕ → Text → R.Denot → Fml
-  held cell text x = fsep (written R cell x) (fex (meaning x ≡ text) (λ _. ftrue))
+-- V is a chunk, and `cells` what it has; R is what a cell holds, `meaning` its text, and `lasts` that the text lies there as long as an era
+module _ (V R : RattleType) (cells : V.Denot → List Named) (meaning : R.Denot → Text) (lasts : R.Denot → ℕ → Type 0) where
+  abbrev pub held : ℕ → ℕ → Text → R.Denot → Fml
+  held era cell text x = fsep (written R cell x) (fex ((meaning x ≡ text) × lasts x era) (λ _. ftrue))
 
   -- the cell holds this text, for good
-  abbrev pub holds_text : ℕ → Text → Fml
-  holds_text cell text = fex R.Denot (held cell text)
+  abbrev pub holds_text : ℕ → ℕ → Text → Fml
+  holds_text era cell text = fex R.Denot (held era cell text)
 
-  abbrev pub in_chunk : ℕ → ℕ → Text → V.Denot → Fml
-  in_chunk chunk offset text v = fsep (written V chunk v) (holds_text (name_at (cells v) offset) text)
+  abbrev pub in_chunk : ℕ → ℕ → ℕ → Text → V.Denot → Fml
+  in_chunk era chunk offset text v = fsep (written V chunk v) (holds_text era (name_at (cells v) offset) text)
 
   -- the chunk is there, and its cell at this offset holds this text
-  abbrev pub filled : ℕ → ℕ → Text → Fml
-  filled chunk offset text = fex V.Denot (in_chunk chunk offset text)
+  abbrev pub filled : ℕ → ℕ → ℕ → Text → Fml
+  filled era chunk offset text = fex V.Denot (in_chunk era chunk offset text)
 
   -- these texts lie from position n on, in the chunks with these names
   abbrev pub lined : List ℕ → ℕ → List Text → Fml
   lined names n [] = ftrue
-  lined names n (text ∷ texts) = fsep (filled (slice_index names (chunk_of n)) (offset_of n) text) (lined names (suc n) texts)
+  lined names n (text ∷ texts) = fsep (filled (era_named names) (chunk_named names n) (offset_of n) text) (lined names (suc n) texts)
 
 -- a longer log has all the texts of a shorter one, in their positions
 abbrev pub ListOnlyGrows : {E : Type 0} → (List E → List E) → (List E → List Text) → Type 0

@@ -17,3 +17,7 @@ pub mod CallerLaws
 pub mod Openings
 pub mod Eras
 pub mod Pieces
+pub mod LentBuckets
+pub mod SharedBuckets
+pub mod Turns
+pub mod Bids

@@ -8,6 +8,7 @@ use Rattle.lasso_parts.specs.Texts.{Text}
 use Rattle.lasso_shared.specs.History.{Event, Reserve, Charge, Append, Limit, History, Totals, totals}
 use Rattle.lasso_shared.specs.Buckets.{CountedBucket, changed_at}
 use Rattle.lasso_shared.specs.Calls.{events_of}
+use Rattle.lasso_shared.specs.LentBuckets.{Site, LentBucket, more_taken}
 
 pub record NoteView : Type 0 where
   -- the number of the pass whose event it is
@@ -20,13 +21,15 @@ pub record NoteView : Type 0 where
   pub next : ℕ
   -- in the first note, what stood at the opening
   pub opening : Totals
+  -- where bytes lie: in the first note the opening's bucket, in a charge the new one, in a reservation its bucket as it was found
+  pub lent : List LentBucket
 
 abbrev pub no_totals : Totals
 no_totals = record { texts = []; buckets = []; doubling = 0; usage = 0; limit = 0 }
 
 -- a note that stands for an opening
 abbrev pub opening_note : Totals → NoteView
-opening_note o = record { by = 0; event = Limit 0; position = 0; ticket = 0; next = 0; opening = o }
+opening_note o = record { by = 0; event = Limit 0; position = 0; ticket = 0; next = 0; opening = o; lent = [] }
 
 abbrev pub no_note : NoteView
 no_note = opening_note no_totals
@@ -65,11 +68,17 @@ totals_coded =
     (λ (s : Totals). (s.texts, (s.buckets, (s.doubling, (s.usage, s.limit)))))
     (λ x y e i. record { texts = (e i).0; buckets = (e i).1.0; doubling = (e i).1.1.0; usage = (e i).1.1.1.0; limit = (e i).1.1.1.1 })
 
+abbrev pub site_coded : Coded Site
+site_coded = coded_via (coded× coded_ℕ (coded× coded_ℕ coded_ℕ)) (λ (s : Site). (s.era, (s.block, s.start))) (λ x y e i. record { era = (e i).0; block = (e i).1.0; start = (e i).1.1 })
+
+abbrev pub lent_coded : Coded LentBucket
+lent_coded = coded_via (coded× site_coded (coded× coded_ℕ coded_ℕ)) (λ (b : LentBucket). (b.site, (b.size, b.used))) (λ x y e i. record { site = (e i).0; size = (e i).1.0; used = (e i).1.1 })
+
 abbrev pub note_coded : Coded NoteView
 note_coded =
-    coded_via (coded× coded_ℕ (coded× event_coded (coded× coded_ℕ (coded× coded_ℕ (coded× coded_ℕ totals_coded)))))
-    (λ (e : NoteView). (e.by, (e.event, (e.position, (e.ticket, (e.next, e.opening))))))
-    (λ x y e i. record { by = (e i).0; event = (e i).1.0; position = (e i).1.1.0; ticket = (e i).1.1.1.0; next = (e i).1.1.1.1.0; opening = (e i).1.1.1.1.1 })
+    coded_via (coded× coded_ℕ (coded× event_coded (coded× coded_ℕ (coded× coded_ℕ (coded× coded_ℕ (coded× totals_coded (coded_list lent_coded)))))))
+    (λ (e : NoteView). (e.by, (e.event, (e.position, (e.ticket, (e.next, (e.opening, e.lent)))))))
+    (λ x y e i. record { by = (e i).0; event = (e i).1.0; position = (e i).1.1.0; ticket = (e i).1.1.1.0; next = (e i).1.1.1.1.0; opening = (e i).1.1.1.1.1.0; lent = (e i).1.1.1.1.1.1 })
 
 -- the history that the notes past the opening are
 abbrev pub history : List NoteView → History
@@ -84,6 +93,11 @@ abbrev pub opening_of : List NoteView → Totals
 opening_of [] = no_totals
 opening_of (e ∷ es) = e.opening
 
+-- the first note of a log
+abbrev pub first_note : List NoteView → NoteView
+first_note [] = no_note
+first_note (e ∷ es) = e
+
 abbrev pub notes_of : List NoteView → List NoteView
 notes_of [] = []
 notes_of (e ∷ es) = es
@@ -97,12 +111,36 @@ IsOpened (e ∷ es) = Unit {0}
 abbrev pub texts_in : List NoteView → List Text
 texts_in log = (state (opening_of log) (notes_of log)).texts
 
--- What is shown of a log to the cells that hold its texts: one note, which has the list.
-abbrev pub titled : List Text → List NoteView
-titled texts = opening_note record no_totals { texts = texts } ∷ []
+-- the bucket that a note speaks of
+abbrev pub bucket_in : List LentBucket → LentBucket
+bucket_in [] = record { site = record { era = 0; block = 0; start = 0 }; size = 0; used = 0 }
+bucket_in (b ∷ bs) = b
 
-abbrev pub texts_titled : List NoteView → List Text
-texts_titled shown = (opening_of shown).texts
+-- the lent buckets after one more event, where `own` are those that its note speaks of
+abbrev pub lent_by : List LentBucket → Event → List LentBucket → List LentBucket
+lent_by buckets (Reserve bucket n) own = changed_at bucket (more_taken n) buckets
+lent_by buckets (Charge size n) own = buckets ++ record (bucket_in own) { size = size; used = n } ∷ []
+lent_by buckets (Append t) own = buckets
+lent_by buckets (Limit m) own = buckets
+
+-- the lent buckets after these notes
+abbrev pub lent_after : List LentBucket → List NoteView → List LentBucket
+lent_after buckets [] = buckets
+lent_after buckets (e ∷ es) = lent_after (lent_by buckets e.event e.lent) es
+
+-- the lent buckets that a log has
+abbrev pub lent_in : List NoteView → List LentBucket
+lent_in log = lent_after (first_note log).lent (notes_of log)
+
+-- What the book's keepers see of a log: one note, which has the list and the lent buckets.
+abbrev pub shown : List Text → List LentBucket → List NoteView
+shown texts buckets = record (opening_note record no_totals { texts = texts }) { lent = buckets } ∷ []
+
+abbrev pub texts_shown : List NoteView → List Text
+texts_shown log = (opening_of log).texts
+
+abbrev pub lent_shown : List NoteView → List LentBucket
+lent_shown log = (first_note log).lent
 
 -- the text of an append
 abbrev pub appended_text : Event → Text

@@ -8,7 +8,7 @@ use Rattle.lasso_parts.specs.Texts.{Text, position_of}
 use Rattle.lasso_parts.specs.declared.util.LassoErrorKind.{LassoErrorKind}
 use Rattle.lasso_shared.specs.Notes.{NoteView, note_coded, totals_coded, history, state, Since}
 
--- which interner a thing is of: its book, the names of the chunks that its texts lie in, and what it opened with
+-- which interner a thing is of: its book, its names (of its era and of the chunks that its texts lie in), and what it opened with
 pub record InternerId : Type 0 where
   pub book : Book
   pub chunks : List ℕ
@@ -41,14 +41,31 @@ IsSamePass now before = (now.number ≡ before.number) × (now.of ≡ before.of)
 abbrev pub list_of : InternerId → List NoteView → List Text
 list_of of notes = (state of.opening notes).texts
 
--- a spine: how many slots it keeps for texts to come, its interner, and the notes that it has seen
+-- turns that were seen: their interner, the notes, and the numbers of these
+pub record TurnsView : Type 0 where
+  pub of : InternerId
+  pub notes : List NoteView
+  pub turns : ℕ
+  pub doubling : ℕ
+  pub usage : ℕ
+  pub limit : ℕ
+  pub count : ℕ
+
+abbrev pub turns_view_coded : Coded TurnsView
+turns_view_coded =
+    coded_via (coded× interner_id_coded (coded× (coded_list note_coded) (coded× coded_ℕ (coded× coded_ℕ (coded× coded_ℕ (coded× coded_ℕ coded_ℕ))))))
+    (λ (t : TurnsView). (t.of, (t.notes, (t.turns, (t.doubling, (t.usage, (t.limit, t.count)))))))
+    (λ x y e i. record { of = (e i).0; notes = (e i).1.0; turns = (e i).1.1.0; doubling = (e i).1.1.1.0; usage = (e i).1.1.1.1.0; limit = (e i).1.1.1.1.1.0; count = (e i).1.1.1.1.1.1 })
+
+-- a spine: how many slots it keeps for texts to come, its interner, the notes that it has seen of the list, and the turns
 pub record SpineView : Type 0 where
   pub kept : ℕ
   pub of : InternerId
   pub notes : List NoteView
+  pub turns : TurnsView
 
 abbrev pub spine_view_coded : Coded SpineView
-spine_view_coded = coded_via (coded× coded_ℕ (coded× interner_id_coded (coded_list note_coded))) (λ (s : SpineView). (s.kept, (s.of, s.notes))) (λ x y e i. record { kept = (e i).0; of = (e i).1.0; notes = (e i).1.1 })
+spine_view_coded = coded_via (coded× coded_ℕ (coded× interner_id_coded (coded× (coded_list note_coded) turns_view_coded))) (λ (s : SpineView). (s.kept, (s.of, (s.notes, s.turns)))) (λ x y e i. record { kept = (e i).0; of = (e i).1.0; notes = (e i).1.1.0; turns = (e i).1.1.1 })
 
 -- the spine has seen the same, and is of the same interner
 abbrev pub IsSameSpine : SpineView → SpineView → Type 0

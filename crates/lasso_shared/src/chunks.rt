@@ -2,16 +2,19 @@
 //!
 //! A cell is filled once, before the list has its position, and never changes after. So a thread that has
 //! seen the list's length reads a cell below it without a lock, and what it reads is lent as long as the chunks.
-ghost use Rattle.std.specs.Prelude.{◌≡◌, ◌<◌, ℕ, List, [], ◌∷◌, length, IfOk, IfErr, IfSome, slice_index, slice_index_or};
-ghost use Rattle.lasso_shared.specs.Chunks.{IsCellAt, ListOnlyGrows, chunk_of, offset_of, chunk_length};
+//! The chunks own the era for which the bytes of the texts are lent: it is over when the chunks are.
+ghost use Rattle.std.specs.Prelude.{◌≡◌, ◌<◌, ℕ, List, [], ◌∷◌, length, IfOk, IfErr, IfSome, slice_index_or};
+ghost use Rattle.lasso_shared.specs.Chunks.{IsCellAt, ListOnlyGrows, era_named, chunk_named, chunk_of, offset_of, chunk_length};
 
 pub mod facts;
 pub mod rule;
+pub mod taking;
 #[cfg(test)]
 mod tests;
 
 use crate::chunks::facts::{Lines, found_chunk, found_item};
 use crate::chunks::rule::{HasCells, HasText, InChunks, Listed};
+use crate::shared_arena::era::{Ended, Era};
 use boxcar::slot::{OnceSlot, SlotRule, Written};
 use boxcar::tag::{Names, Tag};
 use logbook::Seen;
@@ -47,17 +50,18 @@ impl<T> HasCells for Vec<OnceSlot<T, Any>> {
     ghost cells = { λ chunk. chunk.items };
 }
 
-/// The chunks. A contract sees the names of the cells that they lie in, which never change.
-#[derive(Drop)]
+/// The chunks, with their era. A contract sees the number of the era, and after it the names of the cells that the chunks lie in.
+/// None of these ever changes.
 pub struct Chunks<T: Drop> {
     chunks: Vec<OnceSlot<Chunk<T>, ByNumber>>,
+    era: Era,
     // Any two tokens. They have no bytes.
     chunk: Written<Chunk<T>>,
     item: Written<T>,
 }
 
 impl<T: Drop> Model for Chunks<T> {
-    ghost use Rattle.std.specs.Prelude.{ℕ, List};
+    ghost use Rattle.std.specs.Prelude.{ℕ, List, ◌∷◌};
     ghost use base.Stored.{coded_list, coded_ℕ};
     ghost use Rattle.lasso_shared.specs.Chunks.{names_of, IsNumbered};
 
@@ -65,9 +69,39 @@ impl<T: Drop> Model for Chunks<T> {
 
     ghost coded = { coded_list coded_ℕ };
 
-    ghost view = { λ r. names_of r.chunks.items };
+    ghost view = { λ r. r.era.id ∷ names_of r.chunks.items };
 
     ghost invariant = { λ r. IsNumbered 60 r.chunks.items };
+}
+
+// The era ends with them.
+impl<T: Drop> Drop for Chunks<T> {
+    fn drop(self) {
+        drop(self.end());
+    }
+}
+
+impl<T: Drop> Chunks<T> {
+    /// The era for which the bytes of their texts are lent.
+    pub fn era(&self) -> &Era
+        ensures { result.now.id ≡ era_named self.now }
+    {
+        &self.era
+    }
+
+    /// Ends their era, and frees them.
+    pub fn end(self) -> Ended
+        ensures { result.id ≡ era_named self }
+    {
+        let Chunks {
+            chunks,
+            era,
+            chunk: _,
+            item: _,
+        } = self;
+        drop(chunks);
+        era.end()
+    }
 }
 
 /// The chunk of a position, and how far behind the chunk's first cell it lies.
@@ -110,7 +144,7 @@ impl Names<usize> for Number {
     ghost numbers = { λ n. n ∷ [] };
 }
 
-// The names of the chunks.
+// The names that the chunks have.
 struct ChunkNames;
 
 impl<T: Drop> Names<Chunks<T>> for ChunkNames {
@@ -120,7 +154,7 @@ impl<T: Drop> Names<Chunks<T>> for ChunkNames {
 impl<T: HasText + Drop> Chunks<T> {
     /// Chunks of which none is made yet. `sample` is dropped: from it the tokens have their type.
     pub fn new(alloc: Global, sample: T) -> Result<Chunks<T>, AllocError>
-        ensures { IfOk result (λ chunks. length chunks ≡ 60) }
+        ensures { IfOk result (λ chunks. length chunks ≡ 61) }
     {
         let item: OnceSlot<T, Any> = OnceSlot::new(&Tag::empty());
         let Ok(item) = item.set_written(sample) else {
@@ -136,6 +170,7 @@ impl<T: HasText + Drop> Chunks<T> {
         }
         Ok(Chunks {
             chunks,
+            era: Era::begin(),
             chunk,
             item,
         })
@@ -148,7 +183,7 @@ impl<T: HasText + Drop> Chunks<T> {
         alloc: Global,
         position: u64,
     ) -> Result<Option<Written<Chunk<T>>>, AllocError>
-        ensures { IfOk result (λ r. IfSome r (λ chunk. chunk.of ≡ slice_index self.now (chunk_of position))) }
+        ensures { IfOk result (λ r. IfSome r (λ chunk. chunk.of ≡ chunk_named self.now position)) }
     {
         let (number, _) = chunk_and_offset(position);
         let slot = &self.chunks[number];
@@ -224,6 +259,7 @@ impl<T: HasText + Drop> Chunks<T> {
         requires grows { ListOnlyGrows B.shows B.texts }
         requires below { position < length (B.texts (B.shows seen.old.log)) }
         ensures text { T.meaning result.now ≡ slice_index_or (B.texts (B.shows seen.old.log)) position [] }
+        ensures lasts { T.lasts result.now (era_named self.now) }
         ensures same { seen.new ≡ seen.old }
     {
         let chunk = found_chunk(seen, position, self.chunk.again());

@@ -18,14 +18,13 @@ use std::hint::spin_loop;
 use std::marker::Model;
 use std::sync::{Mutex, MutexGuard, RwLock, RwLockReadGuard, RwLockWriteGuard, Wait};
 
-/// A value that one thread at a time has.
-#[derive(Drop)]
-pub struct TaggedMutex<X: Fits + Drop> {
+/// A value that one thread at a time has. Where the value must be spent the lock must be, by `into_inner`.
+pub struct TaggedMutex<X: Fits> {
     lock: Mutex<()>,
     slot: Counted<Option<X>>,
 }
 
-impl<X: Fits + Drop> Model for TaggedMutex<X> {
+impl<X: Fits> Model for TaggedMutex<X> {
     ghost Value = { X.Tag };
 
     ghost coded = { X.Tag.code };
@@ -35,12 +34,12 @@ impl<X: Fits + Drop> Model for TaggedMutex<X> {
 
 /// What a holder has beside the value that it took. It ends by `give` and by nothing else. A contract sees the
 /// lock's tag.
-pub struct TaggedMutexGuard<'a, X: Fits + Drop> {
+pub struct TaggedMutexGuard<'a, X: Fits> {
     lock: &'a TaggedMutex<X>,
     guard: MutexGuard<'a, ()>,
 }
 
-impl<'a, X: Fits + Drop> Model for TaggedMutexGuard<'a, X> {
+impl<'a, X: Fits> Model for TaggedMutexGuard<'a, X> {
     ghost Value = { X.Tag };
 
     ghost coded = { X.Tag.code };
@@ -48,7 +47,13 @@ impl<'a, X: Fits + Drop> Model for TaggedMutexGuard<'a, X> {
     ghost view = { λ t. t.lock.now };
 }
 
-impl<X: Fits + Drop> TaggedMutex<X> {
+impl<X: Fits + Drop> Drop for TaggedMutex<X> {
+    fn drop(self) {
+        drop(self.into_inner());
+    }
+}
+
+impl<X: Fits> TaggedMutex<X> {
     /// A lock with this value, which nobody has taken.
     pub fn new(value: X, tag: &X::Tag) -> TaggedMutex<X>
         requires { X.fits tag.now value }
@@ -75,7 +80,18 @@ impl<X: Fits + Drop> TaggedMutex<X> {
     }
 }
 
-impl<'a, X: Fits + Drop> TaggedMutexGuard<'a, X> {
+impl<X: Fits> TaggedMutex<X> {
+    /// The value that is in the lock, which ends.
+    pub fn into_inner(self) -> Option<X>
+        ensures { IfSome result (λ x. X.fits self x) }
+    {
+        let TaggedMutex { lock, slot } = self;
+        drop(lock);
+        slot.into_inner()
+    }
+}
+
+impl<'a, X: Fits> TaggedMutexGuard<'a, X> {
     /// Puts the value back, and ends the lock.
     pub fn give<R: Wait>(self, rt: &R, value: X)
         requires { X.fits self value }
@@ -216,7 +232,7 @@ impl<'a, X: Fits + Drop> TaggedRwLockReadGuard<'a, X> {
 }
 
 // Takes the value out, where the slot's word is this one and there is a value.
-fn pull<X: Fits + Drop>(slot: &Counted<Option<X>>, word: u64) -> Option<X>
+fn pull<X: Fits>(slot: &Counted<Option<X>>, word: u64) -> Option<X>
     requires { (word ≡ 0) ⊎ (word ≡ 1) }
     ensures { IfSome result (λ x. X.fits slot.now x) }
 {
@@ -229,17 +245,21 @@ fn pull<X: Fits + Drop>(slot: &Counted<Option<X>>, word: u64) -> Option<X>
     }
 }
 
-// Puts the value into the slot, and leaves it with this word.
-fn push<X: Fits + Drop, R: Wait>(slot: &Counted<Option<X>>, rt: &R, value: X, word: u64)
+// Puts the value into the slot, and leaves it with this word. It waits where the slot has another value.
+fn push<X: Fits, R: Wait>(slot: &Counted<Option<X>>, rt: &R, value: X, word: u64)
     requires { ((word ≡ 0) ⊎ (word ≡ 1)) × X.fits slot.now value }
 {
+    let mut value = value;
     for _ in rt.forever() {
         let (found, claim) = slot.turn(FREE, TAKEN);
         if found == FREE {
-            drop(claim.put(Some(value), word));
-            return;
+            let Some(other) = claim.put(Some(value), word) else {
+                return;
+            };
+            value = other;
+        } else {
+            claim.done();
         }
-        claim.done();
         spin_loop();
     }
     unreachable!()

@@ -1,17 +1,23 @@
 //! The history that the passes of a shared interner see: a log that only grows, with the words of the
 //! interner and the list of its texts under one rule.
 mod apart;
+mod charges;
+mod charging;
+mod limits;
 pub mod look;
+pub mod memory;
 pub mod note;
 pub mod opening;
 pub mod pass;
 pub mod reading;
+mod reserving;
 pub mod rule;
 pub mod seen_texts;
 pub mod spine;
 #[cfg(test)]
 mod tests;
 pub mod ticket;
+pub mod turns;
 pub mod words;
 
 pub use opening::{NewLog, Opened, OpeningTexts};

@@ -98,7 +98,6 @@ impl<K: Key, S: BuildHasher + Drop> Drop for ThreadedRodeo<K, S> {
 // The bytes of the first bucket, and the most bytes that all buckets take, where none are named.
 const DEFAULT: Opened = Opened {
     size: 4096,
-    used: 0,
     limit: u64::MAX,
 };
 
@@ -223,7 +222,7 @@ impl<K: Key, S: BuildHasher + Drop> ThreadedRodeo<K, S> {
         if let Err(error) = self.log.reserve_next(self.alloc, &mut desk.spine) {
             return Some(Err(error));
         }
-        self.log.append(rt, &mut desk.spine, pass, text);
+        self.log.append_static(rt, &mut desk.spine, pass, text);
         desk.index.insert_reserved(hash, key);
         Some(Ok(key))
     }

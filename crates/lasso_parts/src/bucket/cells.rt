@@ -61,7 +61,7 @@ unsafe impl<A: Allocator + Send> Send for Deed<A> {}
 unsafe impl<A: Allocator> Sync for Deed<A> {}
 
 /// A block of `len` bytes of that allocator, with the right to free it. No place holds a byte yet.
-pub(crate) fn allocate<A: Allocator>(alloc: &A, len: usize) -> Result<(Cells, Deed<A>), AllocError>
+pub fn allocate<A: Allocator>(alloc: &A, len: usize) -> Result<(Cells, Deed<A>), AllocError>
     requires { len < 2 ^ 63 }
     ensures { IfOk result (λ r. (slots_len r.0 ≡ len) × (r.1.at ≡ slots_ptr r.0) × (r.1.len ≡ len) × (r.1.alloc ≡ alloc.now)) }
 {
@@ -76,7 +76,7 @@ pub(crate) fn allocate<A: Allocator>(alloc: &A, len: usize) -> Result<(Cells, De
 }
 
 /// Gives the block back to the allocator that it came from.
-pub(crate) fn deallocate<A: Allocator>(alloc: &A, cells: Cells, deed: Deed<A>)
+pub fn deallocate<A: Allocator>(alloc: &A, cells: Cells, deed: Deed<A>)
     requires { (deed.at ≡ slots_ptr cells) × (deed.len ≡ slots_len cells) × (deed.alloc ≡ alloc.now) }
 {
     let Cells { ptr: _, slots } = cells;
@@ -88,6 +88,26 @@ pub(crate) fn deallocate<A: Allocator>(alloc: &A, cells: Cells, deed: Deed<A>)
 }
 
 impl Cells {
+    /// The row of the places, and where the first of them lies.
+    pub fn into_row(self) -> (*mut u8, Slots<u8>)
+        ensures first { (result.0 ≡ slots_ptr self) × LeadsToBlock result.0 }
+        ensures row { result.1 ≡ self }
+    {
+        let Cells { ptr, slots } = self;
+        (ptr, slots)
+    }
+
+    /// The places of a row, of which the first lies where the pointer leads.
+    pub fn from_row(first: *mut u8, row: Slots<u8>) -> Cells
+        requires { (first ≡ slots_ptr row) × LeadsToBlock first }
+        ensures { result ≡ row }
+    {
+        Cells {
+            ptr: first,
+            slots: row,
+        }
+    }
+
     /// How many places there are.
     #[inline]
     pub(crate) fn len(&self) -> usize

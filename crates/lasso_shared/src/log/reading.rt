@@ -1,5 +1,6 @@
 //! What is read off the log: a text, and the length.
 ghost use Rattle.std.specs.Prelude.{◌≡◌, ◌<◌, [], Some, length, slice_get, option_map};
+ghost use Rattle.lasso_shared.specs.Chunks.{era_named};
 ghost use Rattle.lasso_shared.specs.Notes.{Since, texts_in};
 ghost use Rattle.lasso_shared.specs.Views.{PassView, InternerId, IsSamePass, list_of};
 
@@ -7,6 +8,7 @@ use crate::log::note::Note;
 use crate::log::pass::Pass;
 use crate::log::rule::LogRule;
 use crate::log::words::Log;
+use crate::shared_arena::era::Era;
 use lasso_parts::keys::Key;
 use logbook::Seen;
 
@@ -38,12 +40,20 @@ impl<K: Key> Log<K> {
         Some(self.lend(&mut seen, position))
     }
 
+    /// The era for which the bytes of its texts are lent.
+    pub fn era(&self) -> &Era
+        ensures { result.now.id ≡ era_named self.now.chunks }
+    {
+        self.memory.chunks.era()
+    }
+
     // The text at a position below the length of a list that was seen.
     pub(super) fn lend(&self, seen: &mut Seen<Note, u64, LogRule<K>>, position: u64) -> &str
         requires chunks { seen.old.names ≡ self.now.chunks }
         requires below { position < length (texts_in seen.old.log) }
         ensures text { slice_get (texts_in seen.old.log) position ≡ Some result.now }
     {
-        *self.chunks.lend(seen, position)
+        let piece = self.memory.chunks.lend(seen, position);
+        piece.text(self.memory.chunks.era())
     }
 }

@@ -6,13 +6,17 @@ ghost use Rattle.lasso_parts.specs.Texts.{Fits};
 ghost use Rattle.lasso_shared.specs.History.{Append, MayFollow, IsLegal};
 ghost use Rattle.lasso_shared.specs.Notes.{Since, state, history};
 ghost use Rattle.lasso_shared.specs.Views.{PassView, InternerId, SpineView, IsSamePass, IsSameSpine, IsAppended, list_of, seen};
-ghost use Rattle.lasso_shared.specs.Chunks.{IsCellAt};
+ghost use base.Fml.{Incl};
+ghost use Rattle.lasso_shared.specs.Eras.{life};
+ghost use Rattle.lasso_shared.specs.Chunks.{IsCellAt, era_named};
 
 use crate::log::note::{Change, Note};
 use crate::log::pass::Pass;
 use crate::log::rule::{LogRule, StoredText};
 use crate::log::ticket::CellProof;
+use crate::log::turns::Turns;
 use crate::log::words::{Exchange, Log};
+use crate::shared_arena::piece::Piece;
 use lasso_parts::keys::Key;
 use lasso_parts::util::{LassoError, LassoErrorKind, LassoResult};
 use logbook::Seen;
@@ -21,12 +25,14 @@ use std::marker::Model;
 use std::sync::Wait;
 
 /// The length of the list in a history that was seen, as the texts of the opening and those appended, and how many
-/// slots past it are kept for texts to come. It lies under a lock. Contracts see the slots kept, the interner, and what the spine has seen.
+/// slots past it are kept for texts to come; and the turns. It lies under a lock. Contracts see the slots kept, the interner, and what
+/// the spine has seen of the list and of the turns.
 pub struct Spine<K: Key> {
     pub(super) kept: u64,
     pub(super) first: u64,
     pub(super) appended: u64,
     pub(super) seen: Seen<Note, u64, LogRule<K>>,
+    pub(super) turns: Turns<K>,
 }
 
 impl<K: Key> Model for Spine<K> {
@@ -39,9 +45,9 @@ impl<K: Key> Model for Spine<K> {
 
     ghost coded = { spine_view_coded };
 
-    ghost view = { λ s. record { kept = s.kept; of = interner_id s.seen.book s.seen.names (opening_of s.seen.log); notes = notes_of s.seen.log } };
+    ghost view = { λ s. record { kept = s.kept; of = interner_id s.seen.book s.seen.names (opening_of s.seen.log); notes = notes_of s.seen.log; turns = s.turns } };
 
-    ghost invariant = { λ s. IsOpened s.seen.log × (s.first ≡ length (opening_of s.seen.log).texts) × Reads K.key_at (opening_of s.seen.log) (notes_of s.seen.log) 0 0 s.appended × (s.first + s.appended + s.kept < 2 ^ 64) };
+    ghost invariant = { λ s. IsOpened s.seen.log × (s.first ≡ length (opening_of s.seen.log).texts) × Reads K.key_at (opening_of s.seen.log) (notes_of s.seen.log) 0 0 s.appended × (s.first + s.appended + s.kept < 2 ^ 64) × (s.turns.of ≡ interner_id s.seen.book s.seen.names (opening_of s.seen.log)) };
 }
 
 // One call, so that proofs of callers see nothing of the fields where a spine is let go.
@@ -52,6 +58,7 @@ impl<K: Key> Drop for Spine<K> {
             first: _,
             appended: _,
             seen: _,
+            turns: _,
         } = self;
     }
 }
@@ -100,13 +107,13 @@ impl<K: Key> Log<K> {
         if position == u64::MAX {
             return Err(LassoError::new(LassoErrorKind::FailedAllocation));
         }
-        self.chunks.make_chunk(alloc, position)?;
+        self.memory.chunks.make_chunk(alloc, position)?;
         spine.kept += 1;
         Ok(())
     }
 
-    /// Puts the text last, in a slot that `reserve_next` kept. The list of the spine must lack the text, and have a
-    /// key for its length. The text's cell is filled before the length moves. It waits where the length isn't the
+    /// Puts the text last, in a slot that `reserve_next` kept. The text must lie where it is as long as the interner's era. The list of
+    /// the spine must lack it, and have a key for its length. The text's cell is filled before the length moves. It waits where the length isn't the
     /// spine's, where the chunk of its position isn't made, and where the cell is filled.
     pub fn append<R: Wait>(
         &self,
@@ -114,6 +121,43 @@ impl<K: Key> Log<K> {
         spine: &mut Spine<K>,
         pass: &mut Pass<K>,
         text: StoredText,
+    )
+        requires of { (pass.old.of ≡ self.now) × (spine.old.of ≡ self.now) }
+        requires kept { 0 < spine.old.kept }
+        requires lasts { Incl (life (era_named self.now.chunks)) text.until }
+        requires may { MayFollow K.key_at (state self.now.opening spine.old.notes) (Append text.text) }
+        ensures same { IsSamePass pass.new pass.old × (spine.new.of ≡ spine.old.of) }
+        ensures kept { spine.new.kept + 1 ≡ spine.old.kept }
+        ensures event { Since pass.old.number pass.old.notes pass.new.notes (Append text.text ∷ []) }
+        ensures legal { IsLegal K.key_at self.now.opening (seen pass.new) }
+        ensures spine { spine.new.notes ≡ pass.new.notes }
+        ensures begins { IsPrefix spine.old.notes spine.new.notes }
+        ensures list { list_of self.now pass.new.notes ≡ list_of self.now spine.old.notes ++ text.text ∷ [] }
+    {
+        let position = spine.len();
+        let (chunk, item) = self.memory.chunks.fill(rt, position, text);
+        let text = self
+            .memory
+            .chunks
+            .value(position, &chunk, &item)
+            .text(self.memory.chunks.era());
+        for _ in rt.forever() {
+            let cell_proof = (chunk.again(), item.again());
+            if self.try_append(spine, pass, text, cell_proof) {
+                pass.show_legal();
+                return;
+            }
+        }
+        unreachable!()
+    }
+
+    /// The same for a static text, which lasts as long as any era. It is kept where it lies.
+    pub fn append_static<R: Wait>(
+        &self,
+        rt: &R,
+        spine: &mut Spine<K>,
+        pass: &mut Pass<K>,
+        text: &'static str,
     )
         requires of { (pass.old.of ≡ self.now) × (spine.old.of ≡ self.now) }
         requires kept { 0 < spine.old.kept }
@@ -126,15 +170,7 @@ impl<K: Key> Log<K> {
         ensures begins { IsPrefix spine.old.notes spine.new.notes }
         ensures list { list_of self.now pass.new.notes ≡ list_of self.now spine.old.notes ++ text.now ∷ [] }
     {
-        let (chunk, item) = self.chunks.fill(rt, spine.len(), text);
-        for _ in rt.forever() {
-            let cell_proof = (chunk.again(), item.again());
-            if self.try_append(spine, pass, text, cell_proof) {
-                pass.show_legal();
-                return;
-            }
-        }
-        unreachable!()
+        self.append(rt, spine, pass, Piece::lasting(text));
     }
 
     // Appends where the length is the spine's. Else nothing is done.
@@ -142,14 +178,14 @@ impl<K: Key> Log<K> {
         &self,
         spine: &mut Spine<K>,
         pass: &mut Pass<K>,
-        text: StoredText,
+        text: &str,
         cell_proof: CellProof,
     ) -> bool
         requires of { (pass.old.of ≡ self.now) × (spine.old.of ≡ self.now) }
         requires kept { 0 < spine.old.kept }
         requires may { MayFollow K.key_at (state self.now.opening spine.old.notes) (Append text.now) }
         requires cell { IsCellAt self.now.chunks (length (list_of self.now spine.old.notes)) cell_proof.0.of cell_proof.0.value.items cell_proof.1.of }
-        requires filled { cell_proof.1.value.now ≡ text.now }
+        requires filled { (cell_proof.1.value.text ≡ text.now) × Incl (life (era_named self.now.chunks)) cell_proof.1.value.until }
         ensures same { IsSamePass pass.new pass.old × (spine.new.of ≡ spine.old.of) }
         ensures done { MatchBool result (IsAppended self.now pass.old pass.new spine.old spine.new text.now) ((pass.new ≡ pass.old) × (spine.new ≡ spine.old)) }
     {

@@ -88,7 +88,7 @@ fn appends<R: Wait>(
     if spine.kept == 0 || text.len() as u64 != len {
         return false;
     }
-    log.append(rt, spine, pass, text);
+    log.append_static(rt, spine, pass, text);
     true
 }
 
@@ -127,7 +127,6 @@ fn read_all(log: &Log<Spur>, texts: &[&'static str]) -> usize {
 fn slots_kept_ahead_have_their_rows(rt: HostRuntime) -> Result<(), Fail> {
     let opened = Opened {
         size: 4096,
-        used: 0,
         limit: 10_000,
     };
     let (log, mut spine) = Log::open(rt.alloc(), opened)?;

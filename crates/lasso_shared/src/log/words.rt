@@ -4,13 +4,15 @@ ghost use Rattle.std.specs.Prelude.{◌≡◌, ◌+◌, ◌<◌, ◌^◌, [], �
 ghost use Rattle.lasso_shared.specs.History.{Append};
 ghost use Rattle.lasso_shared.specs.Notes.{Since, IsWord, IsOpened, opening_of, notes_of};
 ghost use Rattle.lasso_shared.specs.Book.{word_of, IsTicket, Moving, May, IsDone, Reads};
-ghost use Rattle.lasso_shared.specs.Chunks.{IsCellAt};
+ghost use base.Fml.{Incl};
+ghost use Rattle.lasso_shared.specs.Eras.{life};
+ghost use Rattle.lasso_shared.specs.Chunks.{IsCellAt, era_named};
 ghost use Rattle.lasso_shared.specs.Views.{InternerId, IsSamePass};
 ghost use Rattle.lasso_shared.specs.Events.{event_of, IsQuiet};
 
-use crate::chunks::Chunks;
 use crate::chunks::rule::NoGain;
 use crate::log::look::look;
+use crate::log::memory::TextMemory;
 use crate::log::note::{Change, Note};
 use crate::log::pass::Pass;
 use crate::log::rule::{Add, Fetch, LogRule, Nothing, Peek, StoredText};
@@ -20,13 +22,13 @@ use lasso_parts::keys::Key;
 use logbook::{Offer, Seen, Word};
 use std::marker::Model;
 
-/// The log of one interner: the word that counts the texts appended, the word that counts the turns, the chunks
+/// The log of one interner: the word that counts the texts appended, the word that counts the turns, the memory
 /// that the texts lie in, the number of texts at the opening, and the log as it was then. A contract sees which
 /// interner it is of.
 pub struct Log<K: Key> {
     pub(super) head: Word<Note, u64, LogRule<K>>,
     pub(super) turns: Word<Note, u64, LogRule<K>>,
-    pub(super) chunks: Chunks<StoredText>,
+    pub(super) memory: TextMemory,
     pub(super) first: u64,
     pub(super) seen: Seen<Note, u64, LogRule<K>>,
 }
@@ -34,7 +36,7 @@ pub struct Log<K: Key> {
 impl<K: Key> Model for Log<K> {
     ghost use Rattle.std.specs.Prelude.{◌≡◌, [], length};
     ghost use Rattle.lasso_shared.specs.History.{IsOpening};
-    ghost use Rattle.lasso_shared.specs.Notes.{opening_of, notes_of, IsOpened};
+    ghost use Rattle.lasso_shared.specs.Notes.{opening_of, first_note, notes_of, IsOpened};
     ghost use Rattle.lasso_shared.specs.Book.{head_of, turn_of};
     ghost use Rattle.lasso_shared.specs.Views.{InternerId, interner_id_coded, interner_id};
 
@@ -44,7 +46,7 @@ impl<K: Key> Model for Log<K> {
 
     ghost view = { λ l. interner_id l.seen.book l.seen.names (opening_of l.seen.log) };
 
-    ghost invariant = { λ l. (l.head ≡ head_of l.seen.book) × (l.chunks ≡ l.seen.names) × IsOpened l.seen.log × (notes_of l.seen.log ≡ []) × (l.first ≡ length (opening_of l.seen.log).texts) × IsOpening K.key_at (opening_of l.seen.log) × (l.turns ≡ turn_of l.seen.book) };
+    ghost invariant = { λ l. (l.head ≡ head_of l.seen.book) × (l.memory ≡ l.seen.names) × IsOpened l.seen.log × (notes_of l.seen.log ≡ []) × (l.first ≡ length (opening_of l.seen.log).texts) × IsOpening K.key_at (opening_of l.seen.log) × (l.turns ≡ turn_of l.seen.book) × (length (first_note l.seen.log).lent ≡ 1) };
 }
 
 // One call, so that proofs of callers see nothing of the fields where a log is let go.
@@ -53,7 +55,7 @@ impl<K: Key> Drop for Log<K> {
         let Log {
             head: _,
             turns: _,
-            chunks: _,
+            memory: _,
             first: _,
             seen: _,
         } = self;
@@ -77,7 +79,7 @@ pub(super) struct Exchange {
 
 impl<K: Key> Log<K> {
     // A new ticket, by an exchange of the length word with itself.
-    fn ticket(&self) -> Ticket<K>
+    pub(super) fn ticket(&self) -> Ticket<K>
         ensures { IsTicket self.now.book result.word result.pen }
     {
         let mut seen = self.seen.again();
@@ -107,7 +109,7 @@ impl<K: Key> Log<K> {
     }
 
     // What a word that the pass knows has at one step. `word_index` says which word it is.
-    pub(super) fn load(
+    pub(crate) fn load(
         &self,
         word: &Word<Note, u64, LogRule<K>>,
         word_index: u64,
@@ -144,7 +146,7 @@ impl<K: Key> Log<K> {
         requires sum { numbers.expected + numbers.more < 2 ^ 64 }
         requires known { IsOpened given.now.log × (opening_of given.now.log ≡ self.now.opening) × IsWord (notes_of given.now.log) numbers.word_index word.now.key }
         requires may { ((ticket : ℕ) → Moving ticket (event_of change) numbers.word_index numbers.more numbers.value) × May K.key_at self.now.opening (notes_of given.now.log) numbers.word_index word.now.key numbers.expected (event_of change) }
-        requires filed { MatchOption cell_proof (IsQuiet (event_of change)) (λ f. IsCellAt self.now.chunks numbers.position f.0.of f.0.value.items f.1.of × (event_of change ≡ Append f.1.value.now) × (numbers.word_index ≡ 0) × (word.now.key ≡ 0) × (numbers.position ≡ length self.now.opening.texts + numbers.expected)) }
+        requires filed { MatchOption cell_proof (IsQuiet (event_of change)) (λ f. IsCellAt self.now.chunks numbers.position f.0.of f.0.value.items f.1.of × (event_of change ≡ Append f.1.value.text) × Incl (life (era_named self.now.chunks)) f.1.value.until × (numbers.word_index ≡ 0) × (word.now.key ≡ 0) × (numbers.position ≡ length self.now.opening.texts + numbers.expected)) }
         ensures same { IsSamePass pass.new pass.old }
         ensures done { MatchOption result (pass.new ≡ pass.old) (λ w. (w ≡ word_of self.now.book w.key) × IsDone K.key_at self.now.opening pass.old.number pass.old.notes (notes_of given.now.log) pass.new.notes (event_of change.entry) numbers.word_index word.now.key numbers.expected w.key) }
     {

@@ -3,7 +3,8 @@
 ghost use Rattle.std.specs.Prelude.{◌≡◌, ◌+◌, [], length};
 ghost use base.Fml.{Incl};
 ghost use denote.RawPtr.{block_ptr, count_of, ◌+ₚ◌};
-ghost use Rattle.lasso_shared.specs.Eras.{life, LeadsToBlock};
+ghost use Rattle.lasso_shared.specs.Eras.{life};
+ghost use Rattle.lasso_parts.specs.Cells.{LeadsToBlock};
 ghost use Rattle.lasso_shared.specs.Pieces.{PieceView, RangeView};
 
 use crate::shared_arena::era::Era;

@@ -9,14 +9,16 @@ ghost use denote.RawPtr.{Ptr, block_ptr, block_of, count_of};
 ghost use Rattle.core.specs.Mem.Slots.{slots_items, slots_filled, slots_ptr, slots_len, SamePlaces, IsFull};
 ghost use base.Stored.{coded_list, coded_ℕ};
 ghost use base.Fml.{Incl};
-ghost use Rattle.lasso_shared.specs.Eras.{life, LeadsToBlock};
+ghost use Rattle.lasso_shared.specs.Eras.{life};
+ghost use Rattle.lasso_parts.specs.Cells.{LeadsToBlock};
 
 use crate::shared_arena::era::{Ended, Era};
 use core::slots::Slots;
 use std::marker::{Model, PhantomData, Send, Sync};
 use std::slice;
 
-/// The one right to fill `len` places of a block from `start` on. It must be spent.
+/// The one right to fill `len` places of a block from `start` on. Where it is let go they stay empty for good.
+#[derive(Drop)]
 pub struct Free {
     pub marker: PhantomData<()>,
     pub ghost era: { ℕ },

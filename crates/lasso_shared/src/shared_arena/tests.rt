@@ -1,4 +1,7 @@
-//! Pieces of static texts.
+//! Pieces of static texts, and of texts that threads fill side by side in one bucket.
+
+mod charges;
+mod ranges;
 
 use crate::shared_arena::era::Era;
 use crate::shared_arena::piece::Piece;

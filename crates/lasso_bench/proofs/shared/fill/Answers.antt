@@ -1,7 +1,6 @@
-use Rattle.std.proofs.Common.{◌≡◌, ◌<◌, ◌^◌, ◌+◌, ◌++◌, ◌∷◌, [], ◌∙◌, sym, ap, subst, ℕ, List, Some, None, refl, arith}
+use Rattle.std.proofs.Common.{◌≡◌, ◌<◌, ◌^◌, ◌+◌, ◌++◌, ◌∷◌, [], ◌∙◌, sym, ap, subst, ℕ, List, Some, None, arith}
 use Rattle.std.specs.Prelude.{is_some, nat_lt, if◌then◌else◌}
 use Rattle.lasso_parts.specs.Texts.{Text, position_of}
-use Rattle.lasso_parts.specs.declared.keys.spurs.Spur.{Spur}
 use Rattle.lasso_shared.specs.Views.{list_of}
 use Rattle.lasso_bench.specs.Names.{named}
 use Rattle.lasso_bench.proofs.Named.{LacksFrom, lacks_next, key_there}
@@ -16,11 +15,11 @@ loop-number-init g c =
 pub reserve_next-requires : goal.reserve_next-requires
 reserve_next-requires g c = c.loop-number.invariant.1
 
-pub append-requires-clause-of : goal.append-requires-clause-of
-append-requires-clause-of g c = (c.loop-number.invariant.0, c.reserve_next.ensures.same.0 ∙ c.loop-number.invariant.1)
+pub append_static-requires-clause-of : goal.append_static-requires-clause-of
+append_static-requires-clause-of g c = (c.loop-number.invariant.0, c.reserve_next.ensures.same.0 ∙ c.loop-number.invariant.1)
 
-pub append-requires-clause-may : goal.append-requires-clause-may
-append-requires-clause-may g c =
+pub append_static-requires-clause-may : goal.append_static-requires-clause-may
+append_static-requires-clause-may g c =
     let log = c.args.shelf.now.log in
     let n = c.loop-number.number in
     let same = c.reserve_next.ensures.same in
@@ -39,11 +38,11 @@ loop-number-preserved g c =
     let log = c.args.shelf.now.log in
     let n = c.loop-number.number in
     let same = c.reserve_next.ensures.same in
-    let a = c.append.ensures in
+    let a = c.append_static.ensures in
     let list = list_of log c.loop-number.spine.notes in
     let still : list_of log c.reserve_next.new.spine.notes ≡ list = ap (list_of log) same.1 in
     let text : c.in_ok-text.text.now ≡ named n = c.in_ok-text.ensures in
-    let longer : list_of log c.append.new.spine.notes ≡ list ++ named n ∷ [] =
+    let longer : list_of log c.append_static.new.spine.notes ≡ list ++ named n ∷ [] =
     ap (list_of log) a.spine ∙ (a.list ∙ (ap (λ (ts : List Text). ts ++ c.in_ok-text.text.now ∷ []) still ∙ ap (λ (t : Text). list ++ t ∷ []) text)) in (
       a.same.0.1 ∙ c.loop-number.invariant.0,
       a.same.1 ∙ (same.0 ∙ c.loop-number.invariant.1),

@@ -12,7 +12,6 @@ use std::test::*;
 
 const OPENED: Opened = Opened {
     size: 4096,
-    used: 0,
     limit: u64::MAX,
 };
 
@@ -54,7 +53,7 @@ pub(super) fn add<R: Wait>(
         return Err(LassoError::new(LassoErrorKind::KeySpaceExhaustion));
     }
     log.reserve_next(alloc, spine)?;
-    log.append(rt, spine, pass, text);
+    log.append_static(rt, spine, pass, text);
     Ok(())
 }
 

@@ -3,27 +3,26 @@ ghost use Rattle.std.specs.Prelude.{◌≡◌, ◌∷◌, [], IfOk, codes};
 ghost use Rattle.lasso_shared.specs.Views.{list_of};
 
 use crate::log::tests::given_back::add;
-use crate::log::{Log, NewLog, Opened, OpeningTexts};
+use crate::log::{Log, NewLog, OpeningTexts};
+use crate::shared_arena::piece::Piece;
 use lasso_parts::keys::Spur;
-use lasso_parts::util::LassoResult;
+use lasso_parts::util::{LassoError, LassoErrorKind, LassoResult};
 use std::alloc::Global;
 use std::test::*;
 
-const OPENED: Opened = Opened {
-    size: 4096,
-    used: 2,
-    limit: u64::MAX,
-};
-
-// A log that opens with two texts, one of which is empty.
+// A log that opens with two texts, one of which is empty. The other is copied.
 fn opens(alloc: Global) -> LassoResult<NewLog<Spur>>
     ensures spine { IfOk result (λ n. n.spine.of ≡ n.log) }
     ensures list { IfOk result (λ n. list_of n.log n.spine.notes ≡ codes "bc" ∷ [] ∷ []) }
+    ensures bucket { IfOk result (λ n. n.bucket.of ≡ n.log) }
 {
-    let texts = OpeningTexts::new(alloc)?;
-    let texts = texts.push(alloc, "bc")?;
-    let texts = texts.push(alloc, "")?;
-    Ok(Log::open_with(texts, OPENED))
+    let mut texts = OpeningTexts::new(alloc, 8)?;
+    let Some(copied) = texts.copy_in("bc") else {
+        return Err(LassoError::new(LassoErrorKind::FailedAllocation));
+    };
+    texts.push(alloc, copied)?;
+    texts.push(alloc, Piece::lasting(""))?;
+    Ok(Log::open_with(texts, u64::MAX))
 }
 
 #[test]
@@ -31,7 +30,7 @@ fn the_texts_of_an_opening_have_the_first_positions(rt: HostRuntime) -> Result<(
     let NewLog {
         log,
         mut spine,
-        bucket: _,
+        bucket,
     } = opens(rt.alloc())?;
     let mut pass = log.pass();
     assert_eq!(rt; spine.len(), 2);
@@ -39,11 +38,23 @@ fn the_texts_of_an_opening_have_the_first_positions(rt: HostRuntime) -> Result<(
     assert_eq!(rt; log.read(0, &mut pass), Some("bc"));
     assert_eq!(rt; log.read(1, &mut pass), Some(""));
     assert_eq!(rt; log.read(2, &mut pass), None);
+    assert_eq!(rt; (bucket.capacity(), bucket.len(&log, &mut pass)), (8, 2));
     add(&rt, rt.alloc(), &log, &mut spine, &mut pass, "a")?;
     assert_eq!(rt; spine.len(), 3);
     assert_eq!(rt; log.len(&mut pass), 3);
     assert_eq!(rt; log.read(0, &mut pass), Some("bc"));
     assert_eq!(rt; log.read(2, &mut pass), Some("a"));
     assert_eq!(rt; log.read(3, &mut pass), None);
+    Ok(())
+}
+
+#[test]
+fn a_bucket_that_is_full_takes_no_text_of_an_opening(rt: HostRuntime) -> Result<(), Fail> {
+    let mut texts = OpeningTexts::new(rt.alloc(), 4)?;
+    assert!(rt; texts.copy_in("abc").is_some());
+    assert!(rt; texts.copy_in("de").is_none());
+    assert!(rt; texts.copy_in("d").is_some());
+    assert!(rt; texts.copy_in("").is_some());
+    assert!(rt; texts.copy_in("e").is_none());
     Ok(())
 }

@@ -9,7 +9,8 @@ use Rattle.logbook.specs.Kept.{offer_owns}
 use Rattle.logbook.specs.contracts.tokens.Seen as Seen
 use Rattle.logbook.specs.contracts.tokens.Offer as Offer
 use Rattle.boxcar.specs.contracts.slot.Written as Written
-use Rattle.lasso_shared.specs.Chunks.{IsCellAt}
+use Rattle.std.proofs.Common.{List}
+use Rattle.lasso_shared.specs.Chunks.{IsCellAt, PutsLast, era_named}
 use Rattle.lasso_shared.specs.contracts.chunks.rule.InChunks as InChunks
 use Rattle.lasso_shared.specs.contracts.chunks.rule.NoGain as NoGain
 use Rattle.lasso_shared.specs.contracts.chunks.rule.InChunksRuleU64.TheImpl as law
@@ -34,14 +35,15 @@ hand_in_spec 𝓤 𝓛 𝓜 𝓡 wired E B T V X N _ _ _ _ _ _ gb db gt dt gv dv
     let me = a.0.now in let z = a.1.0.now in let w = a.1.1.0.now in let ask : E'.Denot = gn.ask a.1.1.1.0.now in
     let p : Val = vptr a.0.ref_ptr.0 a.0.ref_ptr.1 in let p' : Val = vptr a.1.0.ref_ptr.0 a.1.0.ref_ptr.1 in let p'' : Val = vptr a.1.1.0.ref_ptr.0 a.1.1.0.ref_ptr.1 in let p''' : Val = vptr a.1.1.1.0.ref_ptr.0 a.1.1.1.0.ref_ptr.1 in
     let y : (walk_of 𝓛 En hs c).Ghost = ((κs, qs, bounds, a, (p ∷ [], (p' ∷ [], (p'' ∷ [], (p''' ∷ [], tt))))), gh) in let Post : Val → SProp 𝓤 = (walk_of 𝓛 En hs c).post y in
+    let Puts : Type 0 = (before after : List E'.Denot) → gb.moves ask before after → PutsLast gb.texts (gb.appended_at ask) (gb.text ask) before after × (gb.buckets after ≡ gb.buckets before) in
     qed 𝓛 ((raw (alive 𝓛 En.signature κs qs) ⊛ ‵ (owns (types_at En.signature.params κs) a y.0.4)) ∷ raw (fact 𝓤 _) ∷ raw (fact 𝓤 _) ∷ raw (fact 𝓤 _) ∷ raw (fact 𝓤 _) ∷ raw (fact 𝓤 _) ∷ raw (fact 𝓤 _)
-    ∷ raw (fact 𝓤 (IsCellAt me.names (gb.appended_at ask) z.of (gv.cells z.value) w.of)) ∷ raw (fact 𝓤 (gt.meaning w.value ≡ gb.text ask)) ∷ []) ∵
-    keep ! (7 ∷ 8 ∷ 0 ∷ []) $ heard ! _ (λ at. heard ! _ (λ means. split ! $
+    ∷ raw (fact 𝓤 (IsCellAt me.names (gb.appended_at ask) z.of (gv.cells z.value) w.of)) ∷ raw (fact 𝓤 (gt.meaning w.value ≡ gb.text ask)) ∷ raw (fact 𝓤 (gt.lasts w.value (era_named me.names))) ∷ raw (fact 𝓤 Puts) ∷ []) ∵
+    keep ! (7 ∷ 8 ∷ 9 ∷ 10 ∷ 0 ∷ []) $ heard ! _ (λ at. heard ! _ (λ means. heard ! _ (λ long. heard ! Puts (λ puts. split ! $
     move ! (1 ∷ []) $ fsplit ! $ move ! (1 ∷ []) $ fsplit ! $ fsplit ! $ keep ! (1 ∷ 2 ∷ 4 ∷ []) $ unhide ! $ fsplit ! $ let_go ! $
     move ! (1 ∷ []) $ fsplit ! $ fsplit ! $ keep ! (1 ∷ 3 ∷ 4 ∷ []) $ unhide ! $ fsplit ! $ let_go ! $ move ! (1 ∷ 0 ∷ []) $
-    use2 𝓛 (‵ (offer_owns (G.keeps me.names) (G.moves ask) ((no_gain.ghosts E').after me.names []) None)) (offered 𝓛 V' T' gv.cells gt.meaning gb.texts (G.moves ask) me.names (gb.appended_at ask) z.of w.of (gb.text ask) z.value w.value (λ before after answer puts. puts) at means) $
+    use2 𝓛 (‵ (offer_owns (G.keeps me.names) (G.moves ask) ((no_gain.ghosts E').after me.names []) None)) (offered 𝓛 V' T' gv.cells gt.meaning gt.lasts gb.texts gb.buckets (G.moves ask) me.names (gb.appended_at ask) z.of w.of (gb.text ask) z.value w.value (λ before after answer moved. puts before after moved) at means long) $
     enter ! 𝓣.C 𝓣.Λ fn (p ∷ p' ∷ p'' ∷ p''' ∷ []) Post $ alloc_all ! (λ l. pass_all ! refl ((tt, tt), ((tt, tt), ((tt, tt), ((tt, tt), tt)))) $
     use0 𝓛 (‵ ((Token All).own_val (record {}, tt) (token ∷ []))) (token_made All 𝓛) $ fjoin ! $ sets ! (agg ! (no_more !)) refl (tt, tt) $ sets ! (agg ! (and_then ! (get ! refl) (no_more !))) refl (tt, (tt, tt)) $
     nothing ! $ nothing ! $ fjoin ! $ nothing ! $ fjoin ! $ nothing ! $ fjoin ! $ nothing ! $ fjoin ! $
     returns ! (look_at ! 0 refl) $ free_all ! refl $ keep ! (2 ∷ 0 ∷ 1 ∷ []) $
-    by ! (ends 𝓛 En hs c y token (record { marker = record {}; names = me.names; ask = ask; about = []; state = None }) (tt, (tt, (tt, (tt, tt)))) (tt, (tt, (tt, (tt, tt)))) (fact_i 𝓤 _ (emp 𝓤) (refl, refl, refl, refl)))))))
+    by ! (ends 𝓛 En hs c y token (record { marker = record {}; names = me.names; ask = ask; about = []; state = None }) (tt, (tt, (tt, (tt, tt)))) (tt, (tt, (tt, (tt, tt)))) (fact_i 𝓤 _ (emp 𝓤) (refl, refl, refl, refl)))))))))

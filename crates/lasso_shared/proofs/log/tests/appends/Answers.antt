@@ -21,8 +21,8 @@ push_longer texts t short long =
     let more : length (texts ++ t ∷ []) ≡ length texts + 1 = length-append texts (t ∷ []) in
     All-push (λ (u : Text). length u < length (texts ++ t ∷ [])) texts t (All-weaker (λ (u : Text). length u < length texts) (λ (u : Text). length u < length (texts ++ t ∷ [])) (λ u low. omega (arith, low, more)) texts short) (omega (arith, long, more))
 
-pub append-requires-clause-may : goal.append-requires-clause-may
-append-requires-clause-may g c =
+pub append_static-requires-clause-may : goal.append_static-requires-clause-may
+append_static-requires-clause-may g c =
     let list = list_of c.args.log.now c.args.spine.now.notes in
     let len : c.len-len.result ≡ length list = c.len-len.ensures.len ∙ ap (λ o. length (list_of o c.args.spine.now.notes)) c.requires.of.1 in
     (lacks_longer list c.args.text.now c.requires.short (c.if-text-len.false ∙ len), rw (← len, ← c.in-Some.ensures) refl)
@@ -31,5 +31,5 @@ pub returns-clause-short : goal.returns-clause-short
 returns-clause-short g c =
     let list = list_of c.args.log.now c.args.spine.now.notes in
     let len : c.len-len.result ≡ length list = c.len-len.ensures.len ∙ ap (λ o. length (list_of o c.args.spine.now.notes)) c.requires.of.1 in
-    let after : list_of c.args.log.now c.append.new.spine.notes ≡ list ++ c.args.text.now ∷ [] = ap (list_of c.args.log.now) c.append.ensures.spine ∙ c.append.ensures.list in
+    let after : list_of c.args.log.now c.append_static.new.spine.notes ≡ list ++ c.args.text.now ∷ [] = ap (list_of c.args.log.now) c.append_static.ensures.spine ∙ c.append_static.ensures.list in
     rw after (push_longer list c.args.text.now c.requires.short (c.if-text-len.false ∙ len))

@@ -1,10 +1,10 @@
 -- `address_at` moves the pointer, which leads to a block.
-use Rattle.lasso_shared.proofs.WalkWords.{◌≡◌, ◌<◌, ◌^◌, ◌+◌, [], ◌∷◌, List, ℕ, arith, w64, refl, sym, ap, ◌∙◌, named, Val, vptr, vint, emp, ftrue, ‵, raw, ◌⊛◌, prop, at_ret, ◌$◌, ◌∵◌, !, qed, by, keep, move, split, fjoin, regoal, no_more, of_opd, first, blocks, exec, returns, enter, alloc_all, pass_all, free_all, look_at, get, sets, sets_last, env, tables, yes, Stays, stay_dropped, Goes-dropped, walk_of, proved, owns, types_at, plain, usize, RawPtr, nothing, fact, uint_vals, uint_Tells, ptr_val, Ptr, block_ptr, block_of, count_of, says, ends_at, suffices, feq_i, done}
+use Rattle.lasso_shared.proofs.WalkWords.{◌≡◌, ◌<◌, ◌^◌, ◌+◌, [], ◌∷◌, List, ℕ, arith, w64, refl, sym, ap, ◌∙◌, Val, vptr, vint, ftrue, ‵, raw, ◌⊛◌, prop, at_ret, ◌$◌, ◌∵◌, !, qed, keep, move, split, fjoin, regoal, of_opd, first, blocks, exec, returns, enter, alloc_all, pass_all, free_all, look_at, get, sets, sets_last, env, tables, yes, Stays, stay_dropped, Goes-dropped, walk_of, proved, owns, types_at, plain, usize, RawPtr, nothing, fact, uint_vals, uint_Tells, ptr_val, Ptr, block_ptr, block_of, count_of, says, ends_at, suffices, feq_i, done}
 use denote.RawPtr.{◌+ₚ◌}
 use denote.Steps.{heard}
 use prog.Wp.{WpFn}
 use types.Run.{bin}
-use Rattle.lasso_shared.specs.Eras.{LeadsToBlock}
+use Rattle.lasso_parts.specs.Cells.{LeadsToBlock}
 use Rattle.lasso_shared.specs.contracts.shared_arena.piece.address_at as f
 use Rattle.lasso_shared.proofs.shared_arena.piece.address_at.Statement.{statement}
 use Rattle.lasso_shared.proofs.shared_arena.piece.address_at.Code as code

@@ -70,15 +70,15 @@ invariant_of-desk-2 g c =
     let absent : position_of list t ≡ None = ap (λ (ts : List Text). position_of ts t) (sym mine) ∙ sym (c.in_default.ensures.whole (subst (λ (ts : List Text). IsIndexOf (text_hash g.S.BuildHasher.build_hasher g.S.Hasher.Hasher.write g.S.Hasher.Hasher.finish c.desk.inside.hasher) ts c.desk.inside.index) (sym mine) c.desk.invariant)) in
     let same = c.reserve_next.ensures.same in
     let r = c.in_default-reserve_one.ensures in
-    let a = c.append.ensures in
+    let a = c.append_static.ensures in
     let key = c.in-Some-try_from_usize.key in
     let made : Some key ≡ g.K.Key.key_at (length list) = subst (λ (n : ℕ). Some key ≡ g.K.Key.key_at n) c.len-3.ensures.len c.in-Some-try_from_usize.ensures in
     let number : g.K.Key.number key ≡ length list = (g.met.K.Key.made (length list) key (sym made)).2 in
     let desk : c.desk.inside.spine.of ≡ c.self.inside.log = ap (λ d. d.of) c.desk.view_is ∙ (c.requires.of.1 ∙ sym c.self.view_is) in
-    let of : c.append.new.spine.of ≡ c.self.inside.log = a.same.1 ∙ (same.0 ∙ desk) in
+    let of : c.append_static.new.spine.of ≡ c.self.inside.log = a.same.1 ∙ (same.0 ∙ desk) in
     let before : list_of c.self.inside.log c.reserve_next.new.spine.notes ≡ list = ap (λ of. list_of of c.reserve_next.new.spine.notes) (sym desk) ∙ ap (list_of c.desk.inside.spine.of) same.1 in
-    let after : list_of c.append.new.spine.of c.append.new.spine.notes ≡ list ++ t ∷ [] =
-    ap (λ of. list_of of c.append.new.spine.notes) of ∙ (ap (list_of c.self.inside.log) a.spine ∙ (a.list ∙ ap (λ (ts : List Text). ts ++ t ∷ []) before)) in
+    let after : list_of c.append_static.new.spine.of c.append_static.new.spine.notes ≡ list ++ t ∷ [] =
+    ap (λ of. list_of of c.append_static.new.spine.notes) of ∙ (ap (list_of c.self.inside.log) a.spine ∙ (a.list ∙ ap (λ (ts : List Text). ts ++ t ∷ []) before)) in
     let whole = IsIndexOf-reserved (text_hash g.S.BuildHasher.build_hasher g.S.Hasher.Hasher.write g.S.Hasher.Hasher.finish c.desk.inside.hasher) list c.desk.inside.index c.reserve_one.new.self c.desk.invariant (subst (λ (ts : List Text). IsFiled (text_hash g.S.BuildHasher.build_hasher g.S.Hasher.Hasher.write g.S.Hasher.Hasher.finish c.desk.inside.hasher) ts c.reserve_one.new.self) mine r.filed) r.same r.used in
     subst (λ (ts : List Text). IsIndexOf (text_hash g.S.BuildHasher.build_hasher g.S.Hasher.Hasher.write g.S.Hasher.Hasher.finish c.desk.inside.hasher) ts c.insert_reserved.new.self) (sym after)
     (IsIndexOf-push (text_hash g.S.BuildHasher.build_hasher g.S.Hasher.Hasher.write g.S.Hasher.Hasher.finish c.desk.inside.hasher) list t c.hash_text-hash.result (g.K.Key.number key) c.reserve_one.new.self c.insert_reserved.new.self whole absent number c.hash_text-hash.ensures c.insert_reserved.ensures.holds c.insert_reserved.ensures.used c.insert_reserved.ensures.filed)
@@ -91,14 +91,14 @@ returns-clause-call g c =
     let mine : c.seen_texts-seen_texts.result ≡ list = c.seen_texts-seen_texts.ensures ∙ sym c.agrees.ensures in
     let absent : position_of list t ≡ None = ap (λ (ts : List Text). position_of ts t) (sym mine) ∙ sym (c.in_default.ensures.whole (subst (λ (ts : List Text). IsIndexOf (text_hash g.S.BuildHasher.build_hasher g.S.Hasher.Hasher.write g.S.Hasher.Hasher.finish c.desk.inside.hasher) ts c.desk.inside.index) (sym mine) c.desk.invariant)) in
     let same = c.reserve_next.ensures.same in
-    let a = c.append.ensures in
+    let a = c.append_static.ensures in
     let key = c.in-Some-try_from_usize.key in
     let made : Some key ≡ g.K.Key.key_at (length list) = subst (λ (n : ℕ). Some key ≡ g.K.Key.key_at n) c.len-3.ensures.len c.in-Some-try_from_usize.ensures in
     let desk : c.desk.inside.spine.of ≡ c.self.inside.log = ap (λ d. d.of) c.desk.view_is ∙ (c.requires.of.1 ∙ sym c.self.view_is) in
     let before : list_of c.self.inside.log c.reserve_next.new.spine.notes ≡ list = ap (λ of. list_of of c.reserve_next.new.spine.notes) (sym desk) ∙ ap (list_of c.desk.inside.spine.of) same.1 in
-    let after : (state o c.append.new.pass.notes).texts ≡ list ++ t ∷ [] = ap (λ of. list_of of c.append.new.pass.notes) (sym c.self.view_is) ∙ (a.list ∙ ap (λ (ts : List Text). ts ++ t ∷ []) before) in
-    let event : Since c.args.pass.now.number c.len.new.pass.notes c.append.new.pass.notes (Append t ∷ []) = subst (λ (p : ℕ). Since p c.len.new.pass.notes c.append.new.pass.notes (Append t ∷ [])) c.len.ensures.same.0 a.event in
-    added g.K.Key.key_at o c.args.pass.now.number c.args.pass.now.notes c.append.new.pass.notes list t key (since_trans c.args.pass.now.number c.args.pass.now.notes c.len.new.pass.notes c.append.new.pass.notes (Append t ∷ []) c.len.ensures.since event)
+    let after : (state o c.append_static.new.pass.notes).texts ≡ list ++ t ∷ [] = ap (λ of. list_of of c.append_static.new.pass.notes) (sym c.self.view_is) ∙ (a.list ∙ ap (λ (ts : List Text). ts ++ t ∷ []) before) in
+    let event : Since c.args.pass.now.number c.len.new.pass.notes c.append_static.new.pass.notes (Append t ∷ []) = subst (λ (p : ℕ). Since p c.len.new.pass.notes c.append_static.new.pass.notes (Append t ∷ [])) c.len.ensures.same.0 a.event in
+    added g.K.Key.key_at o c.args.pass.now.number c.args.pass.now.notes c.append_static.new.pass.notes list t key (since_trans c.args.pass.now.number c.args.pass.now.notes c.len.new.pass.notes c.append_static.new.pass.notes (Append t ∷ []) c.len.ensures.since event)
     after c.desk.invariant.distinct absent (sym made)
 
 pub returns-in-Some-clause-desk : goal.returns-in-Some-clause-desk
@@ -151,10 +151,10 @@ returns-clause-desk g c =
     let was : list ≡ list_of of c.args.desk.now.notes = ap (λ s. list_of s.of s.notes) c.desk.view_is ∙ ap (λ o. list_of o c.args.desk.now.notes) c.requires.of.1 in
     let mine : c.seen_texts-seen_texts.result ≡ list = c.seen_texts-seen_texts.ensures ∙ sym c.agrees.ensures in
     let absent : position_of list t ≡ None = ap (λ (ts : List Text). position_of ts t) (sym mine) ∙ sym (c.in_default.ensures.whole (subst (λ (ts : List Text). IsIndexOf (text_hash g.S.BuildHasher.build_hasher g.S.Hasher.Hasher.write g.S.Hasher.Hasher.finish c.desk.inside.hasher) ts c.desk.inside.index) (sym mine) c.desk.invariant)) in
-    let a = c.append.ensures in
-    let event : Since c.args.pass.now.number c.len.new.pass.notes c.append.new.pass.notes (Append t ∷ []) = subst (λ (p : ℕ). Since p c.len.new.pass.notes c.append.new.pass.notes (Append t ∷ [])) c.len.ensures.same.0 a.event in
+    let a = c.append_static.ensures in
+    let event : Since c.args.pass.now.number c.len.new.pass.notes c.append_static.new.pass.notes (Append t ∷ []) = subst (λ (p : ℕ). Since p c.len.new.pass.notes c.append_static.new.pass.notes (Append t ∷ [])) c.len.ensures.same.0 a.event in
     let begins : list_of of c.reserve_next.new.spine.notes ≡ list_of of c.args.desk.now.notes = ap (list_of of) (c.reserve_next.ensures.same.1 ∙ ap (λ s. s.notes) c.desk.view_is) in
-    let after : list_of of c.append.new.spine.notes ≡ list_of of c.args.desk.now.notes ++ t ∷ [] =
-    ap (list_of of) a.spine ∙ (ap (λ o. list_of o c.append.new.pass.notes) (sym c.self.view_is) ∙ (a.list ∙ (ap (λ o. list_of o c.reserve_next.new.spine.notes ++ t ∷ []) c.self.view_is ∙ ap (λ (ts : List Text). ts ++ t ∷ []) begins))) in
-    added_at g.K.Key.key_at of c.args.pass.now c.append.new.pass c.args.desk.now c.append.new.spine t c.in-Some-try_from_usize.key (ap (λ (ts : List Text). position_of ts t) (sym was) ∙ absent)
-    (since_trans c.args.pass.now.number c.args.pass.now.notes c.len.new.pass.notes c.append.new.pass.notes (Append t ∷ []) c.len.ensures.since event) after
+    let after : list_of of c.append_static.new.spine.notes ≡ list_of of c.args.desk.now.notes ++ t ∷ [] =
+    ap (list_of of) a.spine ∙ (ap (λ o. list_of o c.append_static.new.pass.notes) (sym c.self.view_is) ∙ (a.list ∙ (ap (λ o. list_of o c.reserve_next.new.spine.notes ++ t ∷ []) c.self.view_is ∙ ap (λ (ts : List Text). ts ++ t ∷ []) begins))) in
+    added_at g.K.Key.key_at of c.args.pass.now c.append_static.new.pass c.args.desk.now c.append_static.new.spine t c.in-Some-try_from_usize.key (ap (λ (ts : List Text). position_of ts t) (sym was) ∙ absent)
+    (since_trans c.args.pass.now.number c.args.pass.now.notes c.len.new.pass.notes c.append_static.new.pass.notes (Append t ∷ []) c.len.ensures.since event) after

@@ -3,7 +3,7 @@
 use Rattle.lasso_shared.proofs.WalkWords.{◌≡◌, ◌+◌, arith, rewrite, ℕ, List, [], ◌∷◌, ◌++◌, length, refl, a_type, dcons, dnil, named, inst_fn, Val, vptr, vunit, SProp, Fml, ftrue, fsep, flft, ‵, raw, ◌⊛◌, ◌$◌, ◌∵◌, !, qed, by, move, keep, let_go, split, fsplit, fsplit3, fjoin, fjoin3, use2, feq_i, of_opd, unit_lit, returns, enter, alloc_all, pass_all, free_all, look_at, sets, fact, says_two, tables, yes, RattleType, owns, types_at, plain, RefOf, mut_vals, mut_Tells, shr_vals, shr_Tells, param, bounded, unhide, nothing, opens, closes, heard, Stays, stay_dropped, stay_ref, walk_of, Goes-dropped, Goes-ref, proved, ends}
 use Rattle.boxcar.specs.contracts.slot.Written as Written
 use Rattle.lasso_parts.specs.Texts.{Text}
-use Rattle.lasso_shared.specs.Chunks.{IsCellAt}
+use Rattle.lasso_shared.specs.Chunks.{IsCellAt, era_named}
 use Rattle.lasso_shared.proofs.Lined.{Lined, Filled, grown, fills_place}
 use Rattle.lasso_shared.specs.contracts.chunks.facts.Lines as Lines
 use Rattle.lasso_shared.specs.contracts.chunks.facts.Lines.push.{ended, clauses}
@@ -25,19 +25,19 @@ push_spec 𝓤 𝓛 𝓜 𝓡 wired T V _ _ gt dt gv dv _ _ =
     let b = a.0.ref_ptr.0 in let o = a.0.ref_ptr.1 in let p : Val = vptr a.1.0.ref_ptr.0 a.1.0.ref_ptr.1 in let p' : Val = vptr a.1.1.0.ref_ptr.0 a.1.1.0.ref_ptr.1 in
     let toks : Fml = fsep (flft κs.0 qs.0) (fsep (flft κs.1.0 qs.1.0) (fsep (flft κs.1.1.0 qs.1.1.0) (fsep (flft κs.1.1.1.0 qs.1.1.1.0) (fsep (flft κs.1.1.1.1.0 qs.1.1.1.1.0) ftrue)))) in
     let y : (walk_of 𝓛 En hs c).Ghost = ((κs, qs, bounds, a, (vptr b o ∷ [], (p ∷ [], (p' ∷ [], tt)))), gh) in let Post : Val → SProp 𝓤 = (walk_of 𝓛 En hs c).post y in
-    let Put = Lined 𝓛 V' T' gv.cells gt.meaning me.names 0 in let me' : Y.Denot = record me { texts = me.texts ++ text ∷ [] } in
-    qed 𝓛 ((‵ toks ⊛ ‵ (owns (types_at En.signature.params κs) a y.0.4)) ∷ raw (fact 𝓤 _) ∷ raw (fact 𝓤 _) ∷ raw (fact 𝓤 (IsCellAt me.names n z.of (gv.cells z.value) w.of)) ∷ []) ∵
-    keep ! (3 ∷ 0 ∷ []) $ heard ! _ (λ at. split ! $
+    let Put = Lined 𝓛 V' T' gv.cells gt.meaning gt.lasts me.names 0 in let me' : Y.Denot = record me { texts = me.texts ++ text ∷ [] } in
+    qed 𝓛 ((‵ toks ⊛ ‵ (owns (types_at En.signature.params κs) a y.0.4)) ∷ raw (fact 𝓤 _) ∷ raw (fact 𝓤 _) ∷ raw (fact 𝓤 (IsCellAt me.names n z.of (gv.cells z.value) w.of)) ∷ raw (fact 𝓤 (gt.lasts w.value (era_named me.names))) ∷ []) ∵
+    keep ! (3 ∷ 4 ∷ 0 ∷ []) $ heard ! _ (λ at. heard ! _ (λ long. split ! $
     fsplit ! $ move ! (2 ∷ []) $ fsplit ! $ fsplit3 ! $ move ! (3 ∷ []) $ fsplit ! $ fsplit ! $ move ! (2 ∷ []) $ fsplit ! $ fsplit ! $ keep ! (1 ∷ 4 ∷ 6 ∷ 7 ∷ 8 ∷ 9 ∷ []) $
     unhide ! $ fsplit ! $ let_go ! $ move ! (1 ∷ []) $ unhide ! $ fsplit ! $ let_go ! $
-    use2 𝓛 (‵ (Filled 𝓛 V' T' gv.cells gt.meaning me.names n text)) (fills_place 𝓛 V' T' gv.cells gt.meaning me.names n z.of w.of z.value w.value text at refl) $
-    rewrite ! 0 (λ (k : ℕ). ‵ (Filled 𝓛 V' T' gv.cells gt.meaning me.names k text)) here refl $
+    use2 𝓛 (‵ (Filled 𝓛 V' T' gv.cells gt.meaning gt.lasts me.names n text)) (fills_place 𝓛 V' T' gv.cells gt.meaning gt.lasts me.names n z.of w.of z.value w.value text at refl long) $
+    rewrite ! 0 (λ (k : ℕ). ‵ (Filled 𝓛 V' T' gv.cells gt.meaning gt.lasts me.names k text)) here refl $
     -- [the new place; the lines, in two parts; the token of their lifetime; the other tokens]
     enter ! 𝓣.C 𝓣.Λ fn (vptr b o ∷ p ∷ p' ∷ []) Post $ alloc_all ! (λ l. pass_all ! refl ((tt, tt), ((tt, tt), ((tt, tt), tt))) $
     move ! (1 ∷ 2 ∷ 3 ∷ []) $ opens ! tt Y b o (λ ts. move ! (1 ∷ []) $ fsplit ! $ move ! (1 ∷ 6 ∷ []) $
-    use2 𝓛 (‵ (Put (me.texts ++ text ∷ []))) (grown 𝓛 V' T' gv.cells gt.meaning me.names 0 me.texts text) $
+    use2 𝓛 (‵ (Put (me.texts ++ text ∷ []))) (grown 𝓛 V' T' gv.cells gt.meaning gt.lasts me.names 0 me.texts text) $
     move ! (1 ∷ 0 ∷ []) $ fjoin ! $ move ! (1 ∷ 0 ∷ 2 ∷ 3 ∷ 4 ∷ []) $ closes ! tt Y me' ts b o $
     feq_i ! (List Val) (vptr b o ∷ []) (vptr b o ∷ []) refl $ fjoin3 ! $ nothing ! $ nothing ! $ fjoin ! $ nothing ! $ fjoin ! $ move ! (1 ∷ 0 ∷ []) $ fjoin ! $
     move ! (1 ∷ 2 ∷ []) $ fjoin ! $ feq_i ! (List Val) (vunit ∷ []) (vunit ∷ []) refl $
     sets ! (of_opd ! (unit_lit !)) refl (tt, tt) $
-    returns ! (look_at ! 0 refl) $ free_all ! refl $ keep ! (1 ∷ 2 ∷ 0 ∷ []) $ by ! (ends 𝓛 En hs c y vunit tt (me', (tt, (tt, tt))) (tt, (tt, (tt, tt))) (says_two 𝓛 _ _ refl refl))))))
+    returns ! (look_at ! 0 refl) $ free_all ! refl $ keep ! (1 ∷ 2 ∷ 0 ∷ []) $ by ! (ends 𝓛 En hs c y vunit tt (me', (tt, (tt, tt))) (tt, (tt, (tt, tt))) (says_two 𝓛 _ _ refl refl)))))))

@@ -1,14 +1,15 @@
-use Rattle.std.proofs.Common.{◌≡◌, ◌+◌, sym, ◌∙◌, ap, subst, ℕ, List}
+use Rattle.std.proofs.Common.{◌≡◌, ◌+◌, refl, sym, ◌∙◌, ap, subst, ℕ, List}
 use mathlib.Core.List.{IsPrefix}
+use base.Fml.{Incl}
 use Rattle.lasso_shared.specs.History.{Event, Totals}
-use Rattle.lasso_shared.specs.Notes.{NoteView, notes_of, ticket_of, opening_of}
-use Rattle.lasso_shared.specs.Book.{Moving, May, Lets, IsDone, word_of}
-use Rattle.lasso_shared.specs.Chunks.{IsCellAt}
-use Rattle.lasso_shared.specs.Chunks.{first_number}
+use Rattle.lasso_shared.specs.Notes.{NoteView, notes_of, ticket_of, opening_of, first_note}
+use Rattle.lasso_shared.specs.Book.{Moving, May, Lets, IsDone, IsIn, word_of}
+use Rattle.lasso_shared.specs.Chunks.{IsCellAt, era_named, first_number}
+use Rattle.lasso_shared.specs.Eras.{life}
 use Rattle.lasso_shared.specs.Events.{event_of, note_of}
 use Rattle.lasso_shared.proofs.Histories.{prefix_trans}
 use Rattle.lasso_shared.proofs.Lengths.{lets_filed}
-use Rattle.lasso_shared.proofs.Logs.{add_opened, Added, added}
+use Rattle.lasso_shared.proofs.Logs.{add_opened, opening_first, added}
 use Rattle.lasso_shared.proofs.log.words.Log.exchange.Given.{Over}
 use Rattle.lasso_shared.proofs.log.words.Log.exchange.Goals as goal
 
@@ -29,9 +30,10 @@ compare_exchange-found-requires g c =
     let value : c.set.new.self.pen.nib.value ≡ c.args.numbers.value = ap (λ p. p.value) set.1 in
     let moving : Moving e.ticket e.event c.args.numbers.word_index c.args.numbers.more c.set.new.self.pen.nib.value = rw (event, value) (c.requires.may.0 e.ticket) in
     let may : May g.K.Key.key_at (opening_of gl) (notes_of gl) c.args.numbers.word_index c.args.word.now.key c.args.numbers.expected e.event = rw (c.requires.known.1, event) c.requires.may.1 in
-    let lets : Lets g.K.Key.key_at (opening_of gl) (notes_of gl) c.args.numbers.word_index c.args.word.now.key c.args.numbers.expected e c.offered-offer.result.state =
-    rw (c.requires.known.1, offer.1, offer.2) (lets_filed g.K.Key.key_at c.args.self.now.opening (notes_of gl) (note_of (first_number c.pass.inside.number.numbers) (event_of c.args.change) c.args.numbers.position c.set.new.self.pen.nib.key c.pass.inside.next.pen.nib.key) c.args.numbers.word_index c.args.word.now.key c.args.numbers.expected c.args.cell_proof
-    (λ f. f.1.value.now) (λ f. IsCellAt c.args.self.now.chunks c.args.numbers.position f.0.of f.0.value.items f.1.of) c.requires.filed) in (
+    let opening : (first_note gl).opening ≡ c.args.self.now.opening = sym (opening_first gl) ∙ c.requires.known.1 in
+    let lets : Lets g.K.Key.key_at (first_note gl) (notes_of gl) c.args.numbers.word_index c.args.word.now.key c.args.numbers.expected e c.offered-offer.result.state =
+    rw (offer.1, offer.2) (lets_filed g.K.Key.key_at (first_note gl) (notes_of gl) (note_of (first_number c.pass.inside.number.numbers) (event_of c.args.change) c.args.numbers.position c.set.new.self.pen.nib.key c.pass.inside.next.pen.nib.key) c.args.numbers.word_index c.args.word.now.key c.args.numbers.expected c.args.cell_proof
+    (λ f. f.1.value.text) (λ f. IsCellAt c.args.self.now.chunks c.args.numbers.position f.0.of f.0.value.items f.1.of) (λ f. Incl (life (era_named c.args.self.now.chunks)) f.1.value.until) refl (rw opening c.requires.filed)) in (
       ap (λ w. w.tracked) c.requires.of.2,
       c.learn-2.ensures.0 ∙ (self ∙ word),
       set.0 ∙ (i.0.1 ∙ (ap (λ s. s.of.book) c.pass.view_is ∙ (ap (λ o. o.book) c.requires.of.0 ∙ word))),
@@ -41,7 +43,7 @@ compare_exchange-found-requires g c =
     )
 
 facts : (g : Over) (c : goal.After-drop-offer-2 g)
-    → Added g.K.Key.key_at (opening_of c.pass.inside.seen.log) c.pass.inside.seen.log c.args.given.now.log c.compare_exchange-found.new.seen.log c.offered-offer.result.ask c.args.numbers.word_index c.args.word.now.key c.args.numbers.expected
+    → IsIn g.K.Key.key_at (opening_of c.pass.inside.seen.log) c.pass.inside.seen.log c.args.given.now.log c.compare_exchange-found.new.seen.log c.offered-offer.result.ask c.args.numbers.word_index c.args.word.now.key c.args.numbers.expected
 facts g c =
     let i = c.pass.invariant in
     let offer = c.offered-offer.ensures.offer in

@@ -4,8 +4,8 @@ use Rattle.lasso_shared.proofs.Lengths.{only_grows}
 use Rattle.lasso_shared.proofs.Reading.{get_is}
 use Rattle.lasso_shared.proofs.log.words.Log.lend.Goals as goal
 
-pub lend-requires-clause-grows : goal.lend-requires-clause-grows
-lend-requires-clause-grows g c = only_grows
+pub lend-piece-requires-clause-grows : goal.lend-piece-requires-clause-grows
+lend-piece-requires-clause-grows g c = only_grows
 
 pub returns : goal.returns
-returns g c = record { text = get_is (texts_in c.args.seen.now.log) c.args.position c.requires.below ∙ ap (λ (t : List ℕ). Some t) (sym c.lend.ensures.text) }
+returns g c = record { text = get_is (texts_in c.args.seen.now.log) c.args.position c.requires.below ∙ ap (λ (t : List ℕ). Some t) (sym (c.text.ensures ∙ c.lend-piece.ensures.text)) }

@@ -1,9 +1,8 @@
-use Rattle.std.proofs.Common.{◌≡◌, ◌+◌, ◌^◌, ◌<◌, ◌++◌, ◌∷◌, sym, ◌∙◌, ap, subst, ℕ, [], List, length, refl, arith}
-use Rattle.lasso_parts.specs.Texts.{Text}
+use Rattle.std.proofs.Common.{◌≡◌, ◌+◌, ◌^◌, ◌<◌, ◌++◌, ◌∷◌, sym, ◌∙◌, ap, subst, ℕ, [], length, refl, arith}
 use Rattle.lasso_shared.specs.History.{Append, Totals, MayFollow}
 use Rattle.lasso_shared.specs.Notes.{notes_of, opening_of, state}
 use Rattle.lasso_shared.specs.Book.{IsDone, Reads, word_of}
-use Rattle.lasso_shared.specs.Views.{list_of}
+use Rattle.lasso_shared.specs.Views.{interner_id, list_of}
 use Rattle.lasso_shared.proofs.Histories.{prefix_trans}
 use Rattle.lasso_shared.proofs.Lengths.{length_of, may_append, moving_append}
 use Rattle.lasso_shared.proofs.Reading.{list_after, length_after_append}
@@ -36,7 +35,7 @@ exchange-requires-clause-filed g c =
     let first : c.spine.inside.first ≡ length o.texts = c.spine.invariant.1 ∙ (ap (λ s. length s.of.opening.texts) c.spine.view_is ∙ ap (λ of. length of.opening.texts) c.requires.of.1) in
     let len : length (state o v).texts ≡ length o.texts + c.spine.inside.appended = length_of o v 0 c.spine.inside.appended c.spine.invariant.2.0 in
     let here : c.spine.inside.first + c.spine.inside.appended ≡ length (list_of c.args.self.now c.args.spine.now.notes) = omega (arith, len, first, ap (λ s. length (state o s.notes).texts) c.spine.view_is) in
-    (rw here c.requires.cell, ap (λ t. Append t) (sym c.requires.filled), refl, ap (λ w. w.key) c.self.invariant.0, ap (λ n. n + c.spine.inside.appended) first)
+    (rw here c.requires.cell, ap (λ t. Append t) (sym c.requires.filled.0), c.requires.filled.1, refl, ap (λ w. w.key) c.self.invariant.0, ap (λ n. n + c.spine.inside.appended) first)
 
 pub invariant_of-spine : goal.invariant_of-spine
 invariant_of-spine g c =
@@ -50,7 +49,10 @@ invariant_of-spine g c =
     let first : c.spine.inside.first ≡ length o.texts = c.spine.invariant.1 ∙ (ap (λ s. length s.of.opening.texts) c.spine.view_is ∙ ap (λ of. length of.opening.texts) c.requires.of.1) in
     let reads = length_after_append g.K.Key.key_at o c.args.pass.now.number c.args.pass.now.notes v c.exchange.new.pass.notes c.args.text.now c.spine.inside.appended c.in-Some.word.key done in
     let some : 0 < c.spine.inside.kept = rw (ap (λ s. s.kept) c.spine.view_is) c.requires.kept in
-    (s.log.0, rw opening first, rw (opening, s.log.1) reads, omega (arith, c.spine.invariant.3, some))
+    let sighted : interner_id c.sighting.result.book c.sighting.result.names (opening_of c.sighting.result.log) ≡ c.exchange.new.pass.of = λ i. interner_id (s.of.0 i) (s.of.1 i) (s.of.2 i) in
+    let turns : c.spine.inside.turns.of ≡ interner_id c.sighting.result.book c.sighting.result.names (opening_of c.sighting.result.log) =
+    c.spine.invariant.4 ∙ (ap (λ y. y.of) c.spine.view_is ∙ (c.requires.of.1 ∙ (sym (c.exchange.ensures.same.1 ∙ c.requires.of.0) ∙ sym sighted))) in
+    (s.log.0, rw opening first, rw (opening, s.log.1) reads, omega (arith, c.spine.invariant.3, some), turns)
 
 pub returns-clause-done : goal.returns-clause-done
 returns-clause-done g c =

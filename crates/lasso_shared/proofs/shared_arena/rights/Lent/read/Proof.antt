@@ -3,7 +3,8 @@ use Rattle.lasso_shared.proofs.WalkWords.{◌≡◌, ◌<◌, ◌*◌, ◌^◌, 
 use base.Fml.{Incl}
 use prog.Wp.{WpFn}
 use denote.SharingLaws.{shortens}
-use Rattle.lasso_shared.specs.Eras.{life, lies, LeadsToBlock}
+use Rattle.lasso_parts.specs.Cells.{LeadsToBlock}
+use Rattle.lasso_shared.specs.Eras.{life, lies}
 use Rattle.lasso_shared.proofs.LentBytes.{lies_laws, read_within}
 use Rattle.lasso_shared.specs.contracts.shared_arena.era.Era as Era
 use Rattle.lasso_shared.specs.contracts.shared_arena.rights.Lent as Lent

@@ -1,5 +1,5 @@
 -- The two passes have seen one history, in which both texts have their keys.
-use Rattle.std.proofs.Common.{◌≡◌, ◌∙◌, sym, arith}
+use Rattle.std.proofs.Common.{◌∙◌, sym, arith}
 use Rattle.std.proofs.lemmas.Bool.Decides.{nat_tests}
 use Rattle.lasso_shared.specs.Replies.{Static}
 use Rattle.lasso_shared.specs.Views.{seen}
