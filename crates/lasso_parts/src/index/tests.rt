@@ -60,6 +60,21 @@ impl<'a, S: BuildHasher + Drop> Entered<'a, S> {
         Ok(())
     }
 
+    // The same, in the slot where the search for the text ends.
+    fn enter_located(&mut self, position: usize) -> LassoResult<()> {
+        if let Some(text) = self.texts.get(position) {
+            if let Some(key) = Spur::try_from_usize(position) {
+                let hash = hash_text(&self.hasher, text);
+                self.index.reserve_one(&self.texts, &self.hasher)?;
+                let located = self.index.locate(&self.texts, &self.hasher, hash, text);
+                if let Err(vacancy) = located {
+                    self.index.insert_at(vacancy, hash, key);
+                }
+            }
+        }
+        Ok(())
+    }
+
     fn find(&self, text: &str) -> Option<usize> {
         self.index.find(&self.texts, &self.hasher, text)
     }
@@ -174,5 +189,20 @@ fn other_tags_are_passed_over(rt: HostRuntime) -> Result<(), Fail> {
     assert_eq!(rt; read.get(), 2);
     assert_eq!(rt; words.find_counted(&read, "zzzz"), None);
     assert_eq!(rt; read.get(), 0);
+    Ok(())
+}
+
+#[test]
+fn entered_where_the_search_ended(rt: HostRuntime) -> Result<(), Fail> {
+    let mut words = Entered::new(Index::new(rt.alloc()), FixedState::new(), WORDS.as_slice());
+    for n in 0..WORDS.len() {
+        words.enter_located(n)?;
+        assert_eq!(rt; words.find(WORDS[n]), Some(n));
+    }
+    for n in 0..WORDS.len() {
+        words.enter_located(n)?;
+        assert_eq!(rt; words.find(WORDS[n]), Some(n));
+    }
+    assert_eq!(rt; words.find("bbba"), None);
     Ok(())
 }
