@@ -76,13 +76,13 @@ pub fn best_shared_timings<T: SharedTexts, R: AllocGlobal + Clock + Threads + Sy
         count: [u64::MAX; 3],
     };
     for _ in 0..ROUNDS {
-        for place in 0..3usize {
-            best.read[place] = best.read[place].min(time_reads(rt, texts, walk, THREADS[place])?);
-            best.count[place] = best.count[place].min(time_counts(
+        for at in 0..3usize {
+            best.read[at] = best.read[at].min(time_reads(rt, texts, walk, THREADS[at])?);
+            best.count[at] = best.count[at].min(time_counts(
                 rt,
                 texts,
                 walk,
-                THREADS[place],
+                THREADS[at],
             )?);
         }
     }

@@ -29,7 +29,7 @@ figures (Some a) = Some (a.room, a.spare, a.doubling, a.usage)
 
 -- from an account that was just made, with a first bucket of so many bytes and that limit
 abbrev pub Gives : ℕ → ℕ → List AccountStep → Option (ℕ × ℕ × ℕ × ℕ) → Type 0
-Gives first most steps wanted = figures (account_after first (Some (fresh first most)) steps) ≡ wanted
+Gives first permitted steps wanted = figures (account_after first (Some (fresh first permitted)) steps) ≡ wanted
 
 abbrev pub no_limit : ℕ
 no_limit = 2 ^ 64 - 1

@@ -11,7 +11,7 @@ use std::thread;
 
 type SpurReader = RodeoReader<Spur, FixedState, Global>;
 
-fn places(reader: &SpurReader) -> (Option<usize>, Option<usize>) {
+fn positions(reader: &SpurReader) -> (Option<usize>, Option<usize>) {
     (
         reader.get("A").map(|key| key.into_usize()),
         reader.get("F").map(|key| key.into_usize()),
@@ -35,10 +35,10 @@ fn two_threads_share_a_reader(rt: HostRuntime) -> Result<(), Fail> {
     rodeo.try_get_or_intern("A")?;
     let reader = rodeo.into_reader();
     crosses(&reader);
-    let (here, there) = thread::join(&rt, || places(&reader), || places(&reader));
+    let (here, there) = thread::join(&rt, || positions(&reader), || positions(&reader));
     assert_eq!(rt; here, (Some(0), None));
     assert_eq!(rt; there, (Some(0), None));
-    assert_eq!(rt; places(&reader), (Some(0), None));
+    assert_eq!(rt; positions(&reader), (Some(0), None));
     Ok(())
 }
 
