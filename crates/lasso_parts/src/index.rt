@@ -117,7 +117,7 @@ impl<K: Key, A: Allocator> Index<K, A> {
 
     /// The position of the text as `find_hashed` has it, or else where its key would go, which `insert_at`
     /// takes.
-    #[inline]
+    #[inline(always)]
     pub fn locate<T: Texts, S: BuildHasher>(
         &self,
         texts: &T,
@@ -252,7 +252,7 @@ impl<K: Key, A: Allocator> Index<K, A> {
     }
 
     // What `locate` answers, from the slots: first from the home slot up, then below it.
-    #[inline]
+    #[inline(always)]
     fn search<T: Texts, S: BuildHasher>(
         &self,
         texts: &T,

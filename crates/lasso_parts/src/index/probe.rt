@@ -1,6 +1,6 @@
 //! The search through the slots of a table: from the slot that a hash names to the last one, and then
 //! from the first.
-ghost use Rattle.std.specs.Prelude.{◌≡◌, ◌<◌, ◌≤◌, ◌^◌, length, None, IfSome, IfNone};
+ghost use Rattle.std.specs.Prelude.{◌≡◌, ◌<◌, ◌≤◌, ◌^◌, length, None, IfSome, IfNone, bytes_eq};
 ghost use Rattle.lasso_parts.specs.Index.{slot, used, home, tag_of, IsFull, Reaches};
 ghost use Rattle.lasso_parts.specs.IndexTable.{AllInList, HaveTag};
 ghost use Rattle.lasso_parts.specs.Scan.{Tells};
@@ -48,8 +48,9 @@ pub fn tag_of(hash: u64) -> u8
 }
 
 // Looks for the text in the slots from the first index up to the last, which is not among them. A slot with
-// another tag than the text's is passed over: neither its key nor that key's text is read.
-#[inline]
+// another tag than the text's is passed over: neither its key nor that key's text is read. It goes into its caller,
+// as `locate` does: a search mostly ends after a few slots, and a call would cost about as much.
+#[inline(always)]
 pub fn scan_slots<K: Key, A: Allocator, T: Texts>(
     slots: &KeySlots<K, A>,
     texts: &T,
@@ -69,7 +70,7 @@ pub fn scan_slots<K: Key, A: Allocator, T: Texts>(
         let found = tags[j];
         if found == tag {
             let position = slots.key(j).into_usize();
-            if texts.text_at(position) == text {
+            if is_same(texts.text_at(position), text) {
                 return Scan::Found(position);
             }
         } else if found == 0 {
@@ -77,6 +78,15 @@ pub fn scan_slots<K: Key, A: Allocator, T: Texts>(
         }
     }
     Scan::Passed
+}
+
+// Whether both texts are the same. It stays out of line, so that a search makes nothing ready to compare before a
+// slot has the text's tag.
+#[inline(never)]
+fn is_same(one: &str, other: &str) -> bool
+    ensures { result ≡ bytes_eq one.now other.now }
+{
+    one == other
 }
 
 // The first empty slot from the first index up to the last, which is not among them.
