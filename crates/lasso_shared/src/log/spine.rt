@@ -207,7 +207,7 @@ impl<K: Key> Log<K> {
             return false;
         };
         drop(word);
-        spine.seen = pass.sighting();
+        spine.seen = pass.copy_seen();
         spine.appended = appended + 1;
         spine.kept -= 1;
         true

@@ -124,7 +124,7 @@ fn read_all(log: &Log<Spur>, texts: &[&'static str]) -> usize {
 }
 
 #[test]
-fn slots_kept_ahead_have_their_rows(rt: HostRuntime) -> Result<(), Fail> {
+fn slots_kept_ahead_have_their_chunks(rt: HostRuntime) -> Result<(), Fail> {
     let opened = Opened {
         size: 4096,
         limit: 10_000,
