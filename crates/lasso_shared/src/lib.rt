@@ -7,4 +7,5 @@ pub mod locks;
 pub mod log;
 pub mod machine;
 pub mod shared_arena;
+pub mod shards;
 pub mod threaded;
