@@ -1,19 +1,19 @@
 -- Why a shard's index is exact for a longer history that has as many texts of the shard.
-use Rattle.std.proofs.Common.{◌≡◌, ◌≢◌, ℕ, zero, suc, ◌+◌, ◌<◌, ◌≤◌, ◌⊎◌, ◌↔◌, List, [], ◌∷◌, ◌++◌, Bool, true, false, Option, Some, None, IfSome, IfNone, if◌then◌else◌, length, slice_get, refl, sym, ap, ◌∙◌, subst, inl, inr, arith}
-use Rattle.std.proofs.lemmas.Bool.{cases_lt, cases_Bool, true≢false}
+use Rattle.std.proofs.Common.{◌≡◌, ◌≢◌, ℕ, zero, suc, ◌+◌, ◌<◌, ◌≤◌, ◌⊎◌, ◌↔◌, List, [], ◌∷◌, ◌++◌, Bool, true, false, Option, Some, None, IfSome, IfNone, length, slice_get, refl, sym, ap, ◌∙◌, subst, inl, inr, arith}
+use Rattle.std.proofs.lemmas.Bool.{cases_lt, cases_Bool}
 use Rattle.std.proofs.lemmas.List.{length_push, append-nil, get_or-set_same, get_or-set_other}
 use Rattle.std.proofs.lemmas.Option.{slice_get_within}
 use Rattle.std.specs.Prelude.{nat_eq, IsSome, slice_set}
 use Rattle.std.proofs.lemmas.Bool.Decides.{nat_tests}
 use mathlib.Core.List.{IsPrefix}
 use Rattle.lasso_parts.specs.Texts.{Text, position_of, IsDistinct, Fits}
-use Rattle.lasso_parts.specs.Index.{Holds, HoldsNone, IsFiled, IsFiledAnywhere, StaysFiled}
+use Rattle.lasso_parts.specs.Index.{Table, Holds, HoldsNone, IsFiled, IsFiledAnywhere, StaysFiled}
 use Rattle.lasso_parts.proofs.TextLemmas.{distinct_push}
 use Rattle.lasso_parts.proofs.IndexLaws.{IsFiled-append, slice_get-append_left, slice_get_push, position_of_at, position_of_none}
 use Rattle.lasso_shared.specs.History.{Lacks, Totals, IsOpening, IsLegal}
 use Rattle.lasso_shared.specs.Notes.{NoteView, history, state, Since}
 use Rattle.lasso_shared.specs.Views.{InternerId, list_of}
-use Rattle.lasso_shared.specs.Shards.{shard_of, is_in, count_where, count_in, StandsIn, IsShardOf, IsWhole, Counts}
+use Rattle.lasso_shared.specs.Shards.{shard_of, is_in, count_where, count_in, IsShardOf, IsWhole, Counts}
 use Rattle.lasso_shared.proofs.Legal.{list_kept}
 use Rattle.lasso_shared.proofs.Reading.{none_distinct}
 use Rattle.lasso_shared.proofs.Tickets.{since_trans}
@@ -69,7 +69,7 @@ pub is_some_at : {K : Type 0} (key_at : ℕ → Option K) (n m : ℕ) (k : K) �
 is_some_at key_at n m k e s = subst (λ (i : ℕ). IsSome (key_at i)) e (subst (λ (o : Option _). IsSome o) s refl)
 
 -- an index that holds nothing is each shard's of the empty list
-pub none_yet : (hash_of : Text → ℕ) (number : ℕ) (texts : List Text) (index : List (Option ℕ)) → texts ≡ [] → HoldsNone index → IsFiledAnywhere index → IsShardOf hash_of number texts index
+pub none_yet : (hash_of : Text → ℕ) (number : ℕ) (texts : List Text) (index : Table) → texts ≡ [] → HoldsNone index.slots → IsFiledAnywhere index → IsShardOf hash_of number texts index
 none_yet hash_of number texts index is none filed = record {
   filed = filed hash_of texts;
   holds = λ m. (λ h. absurd (none m h), λ s. absurd (cc (sym (ap (λ (ts : List Text). slice_get ts m) is) ∙ s.1)));
@@ -119,7 +119,7 @@ tally_pushed hash_of number texts t counts c low long is more each i below = eli
 
 module _ (hash_of : Text → ℕ) (number : ℕ) where
   -- the index of a shard of a list is that of a longer one that has no more of its texts
-  later : (xs rest : List Text) (index : List (Option ℕ)) → IsShardOf hash_of number xs index → count_in hash_of number rest ≡ 0 → IsDistinct (xs ++ rest) → IsShardOf hash_of number (xs ++ rest) index
+  later : (xs rest : List Text) (index : Table) → IsShardOf hash_of number xs index → count_in hash_of number rest ≡ 0 → IsDistinct (xs ++ rest) → IsShardOf hash_of number (xs ++ rest) index
   later xs rest index shard none distinct = record {
     filed = IsFiled-append hash_of xs rest index shard.filed;
     holds = λ m. (
@@ -133,19 +133,20 @@ module _ (hash_of : Text → ℕ) (number : ℕ) where
   lacks_later xs rest t none is distinct lacks = position_of_none (xs ++ rest) t (λ m low at. absurd (cc (position_of_at xs t m distinct (only_in_front (is_in hash_of number) xs rest m t none is at), lacks)))
 
   -- an index stays that of the shard when it makes room, where a longer list was seen_texts to it
-  pub reserved : (xs longer : List Text) (old new : List (Option ℕ)) → IsPrefix xs longer → IsShardOf hash_of number xs old → IsFiled hash_of longer new → ((m : ℕ) → Holds new m ↔ Holds old m) → IsShardOf hash_of number xs new
+  pub reserved : (xs longer : List Text) (old new : Table) → IsPrefix xs longer → IsShardOf hash_of number xs old → IsFiled hash_of longer new → ((m : ℕ) → Holds new.slots m ↔ Holds old.slots m) → IsShardOf hash_of number xs new
   reserved xs longer old new p shard filed same =
-      let low : (m : ℕ) → Holds new m → m < length xs = λ m h. let s = (shard.holds m).0 ((same m).0 h) in slice_get_within xs m s.0 s.1 in record {
+      let low : (m : ℕ) → Holds new.slots m → m < length xs = λ m h. let s = (shard.holds m).0 ((same m).0 h) in slice_get_within xs m s.0 s.1 in record {
         filed = record {
           in_list = λ j m e. low m (j, e);
           reached = λ j m t e g. filed.reached j m t e (ap (λ (ts : List Text). slice_get ts m) (sym p.1) ∙ (slice_get-append_left xs p.0 m (low m (j, e)) ∙ g));
+          tagged = λ j m t e g. filed.tagged j m t e (ap (λ (ts : List Text). slice_get ts m) (sym p.1) ∙ (slice_get-append_left xs p.0 m (low m (j, e)) ∙ g));
         };
         holds = λ m. (λ h. (shard.holds m).0 ((same m).0 h), λ l. (same m).1 ((shard.holds m).1 l));
         distinct = shard.distinct;
       }
 
   -- a new text of the shard goes last in the list, and its position is entered under its hash
-  pub pushed : (xs : List Text) (t : Text) (hash n : ℕ) (old new : List (Option ℕ)) → IsShardOf hash_of number xs old → Lacks xs t → is_in hash_of number t ≡ true → n ≡ length xs → hash ≡ hash_of t → ((m : ℕ) → Holds new m ↔ (Holds old m ⊎ (m ≡ n))) → StaysFiled hash n old new → IsShardOf hash_of number (xs ++ t ∷ []) new
+  pub pushed : (xs : List Text) (t : Text) (hash n : ℕ) (old new : Table) → IsShardOf hash_of number xs old → Lacks xs t → is_in hash_of number t ≡ true → n ≡ length xs → hash ≡ hash_of t → ((m : ℕ) → Holds new.slots m ↔ (Holds old.slots m ⊎ (m ≡ n))) → StaysFiled hash n old new → IsShardOf hash_of number (xs ++ t ∷ []) new
   pushed xs t hash n old new shard lacks is last hashed held stays =
       let at : slice_get (xs ++ t ∷ []) n ≡ Some t = ap (slice_get (xs ++ t ∷ [])) last ∙ slice_get_push xs t in record {
         filed = stays hash_of (xs ++ t ∷ []) t (IsFiled-append hash_of xs (t ∷ []) old shard.filed) at hashed;
@@ -163,18 +164,18 @@ module _ (hash_of : Text → ℕ) (number : ℕ) where
       }
 
   -- a search by a history that begins with the shard's: what it finds is the text's position there
-  pub found_at : (longer : List Text) (index : List (Option ℕ)) (t : Text) (r : Option ℕ) → IsDistinct longer → IfSome r (λ m. Holds index m × (slice_get longer m ≡ Some t)) → IfSome r (λ m. (position_of longer t ≡ Some m) × (m < length longer))
+  pub found_at : (longer : List Text) (index : Table) (t : Text) (r : Option ℕ) → IsDistinct longer → IfSome r (λ m. Holds index.slots m × (slice_get longer m ≡ Some t)) → IfSome r (λ m. (position_of longer t ≡ Some m) × (m < length longer))
   found_at longer index t None distinct found = tt
   found_at longer index t (Some m) distinct found = (position_of_at longer t m distinct found.1, slice_get_within longer m t found.1)
 
   -- and where it finds none the shard's own list lacks the text
-  pub missed : (xs longer : List Text) (index : List (Option ℕ)) (t : Text) (r : Option ℕ) → IsPrefix xs longer → IsShardOf hash_of number xs index → is_in hash_of number t ≡ true → IfNone r ((m : ℕ) → Holds index m → slice_get longer m ≢ Some t) → IfNone r (Lacks xs t)
+  pub missed : (xs longer : List Text) (index : Table) (t : Text) (r : Option ℕ) → IsPrefix xs longer → IsShardOf hash_of number xs index → is_in hash_of number t ≡ true → IfNone r ((m : ℕ) → Holds index.slots m → slice_get longer m ≢ Some t) → IfNone r (Lacks xs t)
   missed xs longer index t None p shard is missing =
       position_of_none xs t (λ m low at. missing m ((shard.holds m).1 (t, at, is)) (ap (λ (ts : List Text). slice_get ts m) (sym p.1) ∙ (slice_get-append_left xs p.0 m low ∙ at)))
   missed xs longer index t (Some m) p shard is missing = tt
 
   -- the shard's index is filed under the list of a history that begins with the shard's
-  pub filed_later : (of : InternerId) (known notes : List NoteView) (index : List (Option ℕ)) → IsPrefix known notes → IsShardOf hash_of number (list_of of known) index → IsFiled hash_of (list_of of notes) index
+  pub filed_later : (of : InternerId) (known notes : List NoteView) (index : Table) → IsPrefix known notes → IsShardOf hash_of number (list_of of known) index → IsFiled hash_of (list_of of notes) index
   filed_later of known notes index begins shard =
       let p = texts_past of.opening known notes begins in
       subst (λ (ts : List Text). IsFiled hash_of ts index) p.1 (IsFiled-append hash_of (list_of of known) p.0 index shard.filed)
@@ -191,7 +192,7 @@ module _ (hash_of : Text → ℕ) (number : ℕ) where
         omega (arith, sum, same)
 
     -- the shard's index is the shard's of it
-    pub exact_shard : (index : List (Option ℕ)) → IsShardOf hash_of number (list_of of known) index → IsDistinct (list_of of notes) → IsShardOf hash_of number (list_of of notes) index
+    pub exact_shard : (index : Table) → IsShardOf hash_of number (list_of of known) index → IsDistinct (list_of of notes) → IsShardOf hash_of number (list_of of notes) index
     exact_shard index shard distinct =
         subst (λ (ts : List Text). IsShardOf hash_of number ts index) grows.1 (later (list_of of known) grows.0 index shard no_more (subst IsDistinct (sym grows.1) distinct))
 

@@ -1,8 +1,8 @@
 -- Shards: which texts of a list are a shard's, and what its index and its number say of a history that was seen.
-use Rattle.std.specs.Prelude.{◌≡◌, ℕ, suc, ◌+◌, ◌/◌, ◌^◌, ◌<◌, ◌↔◌, Bool, true, nat_eq, List, [], ◌∷◌, Option, Some, slice_get, slice_index_or, length, if◌then◌else◌}
+use Rattle.std.specs.Prelude.{◌≡◌, ℕ, suc, ◌/◌, ◌^◌, ◌<◌, ◌↔◌, Bool, true, nat_eq, List, [], ◌∷◌, Some, slice_get, slice_index_or, length, if◌then◌else◌}
 use mathlib.Core.List.{IsPrefix}
 use Rattle.lasso_parts.specs.Texts.{Text, IsDistinct}
-use Rattle.lasso_parts.specs.Index.{Holds, IsFiled}
+use Rattle.lasso_parts.specs.Index.{Table, Holds, IsFiled}
 use Rattle.lasso_shared.specs.Notes.{NoteView}
 use Rattle.lasso_shared.specs.Views.{InternerId, KnownView, SpineView, list_of}
 
@@ -28,14 +28,14 @@ abbrev pub StandsIn : (Text → ℕ) → ℕ → List Text → ℕ → Type 0
 StandsIn hash_of number texts m = (t : Text) × (slice_get texts m ≡ Some t) × (is_in hash_of number t ≡ true)
 
 -- the index of a shard of a list: exactly the positions of the shard's texts are held
-pub record IsShardOf (hash_of : Text → ℕ) (number : ℕ) (texts : List Text) (xs : List (Option ℕ)) : Type 0 where
-  pub filed : IsFiled hash_of texts xs
-  pub holds : (m : ℕ) → Holds xs m ↔ StandsIn hash_of number texts m
+pub record IsShardOf (hash_of : Text → ℕ) (number : ℕ) (texts : List Text) (table : Table) : Type 0 where
+  pub filed : IsFiled hash_of texts table
+  pub holds : (m : ℕ) → Holds table.slots m ↔ StandsIn hash_of number texts m
   pub distinct : IsDistinct texts
 
 -- What a shard's lock keeps: its index maps exactly the shard's texts of a history that it has seen to their positions,
 -- and its number counts them.
-pub record IsShard (hash_of : Text → ℕ) (number : ℕ) (of : InternerId) (known : KnownView) (index : List (Option ℕ)) (count : ℕ) : Type 0 where
+pub record IsShard (hash_of : Text → ℕ) (number : ℕ) (of : InternerId) (known : KnownView) (index : Table) (count : ℕ) : Type 0 where
   pub mine : known.of ≡ of
   pub exact : IsShardOf hash_of number (list_of of known.notes) index
   pub counts : count ≡ count_in hash_of number (list_of of known.notes)

@@ -39,7 +39,7 @@ impl<K: Key, S: BuildHasher + Drop> Shards<K, S> {
         requires begins { IsPrefix shard.old.known.notes pass.now.notes }
         ensures held { IsShard (text_hash S.build_hasher S.Hasher.write S.Hasher.finish self.now.hasher) number self.now.log shard.new.known shard.new.index shard.new.count }
         ensures known { shard.new.known ≡ shard.old.known }
-        ensures room { IfOk result (λ slot. (slot ≡ self.now.log) × (0 < room shard.new.index)) }
+        ensures room { IfOk result (λ slot. (slot ≡ self.now.log) × (0 < room shard.new.index.slots)) }
         ensures refused { IfErr result (λ error. error ≡ FailedAllocation) }
     {
         let seen_texts = self.log.seen_texts(pass);
@@ -69,7 +69,7 @@ impl<K: Key, S: BuildHasher + Drop> Shards<K, S> {
         requires whole { IsWhole (text_hash S.build_hasher S.Hasher.write S.Hasher.finish self.now.hasher) (shard_of hash) self.now.log shard.old.known.notes pass.old.notes }
         requires list { list_of self.now.log pass.old.notes ≡ list_of self.now.log tally.old.spine.notes }
         requires lacks { Lacks (list_of self.now.log shard.old.known.notes) text.now }
-        requires room { 0 < room shard.old.index }
+        requires room { 0 < room shard.old.index.slots }
         ensures same { IsSamePass pass.new pass.old }
         ensures call { IsCall K.key_at self.now.log.opening (seen pass.old) (seen pass.new) pass.old.number (Intern Static text.now) (Interned result) }
         ensures held { IsShard (text_hash S.build_hasher S.Hasher.write S.Hasher.finish self.now.hasher) (shard_of hash) self.now.log shard.new.known shard.new.index shard.new.count }
@@ -81,7 +81,8 @@ impl<K: Key, S: BuildHasher + Drop> Shards<K, S> {
             tally.spine.give_back(slot);
             return Err(LassoError::new(LassoErrorKind::KeySpaceExhaustion));
         };
-        self.log.append_static(rt, &mut tally.spine, pass, slot, text);
+        self.log
+            .append_static(rt, &mut tally.spine, pass, slot, text);
         let _len = tally.spine.len();
         shard.index.insert_reserved(hash, key);
         shard.known = pass.known();
@@ -105,7 +106,7 @@ impl<K: Key, S: BuildHasher + Drop> Shards<K, S> {
         requires held { IsShard (text_hash S.build_hasher S.Hasher.write S.Hasher.finish self.now.hasher) (shard_of hash) self.now.log shard.old.known shard.old.index shard.old.count }
         requires begins { IsPrefix shard.old.known.notes pass.old.notes }
         requires lacks { Lacks (list_of self.now.log shard.old.known.notes) text.now }
-        requires room { 0 < room shard.old.index }
+        requires room { 0 < room shard.old.index.slots }
         ensures same { IsSamePass pass.new pass.old }
         ensures call { IsCall K.key_at self.now.log.opening (seen pass.old) (seen pass.new) pass.old.number (Intern Static text.now) (Interned result) }
         ensures held { IsShard (text_hash S.build_hasher S.Hasher.write S.Hasher.finish self.now.hasher) (shard_of hash) self.now.log shard.new.known shard.new.index shard.new.count }

@@ -1,7 +1,6 @@
-use Rattle.std.proofs.Common.{ℕ, subst, sym, ap, ◌∙◌, ◌≡◌}
+use Rattle.std.proofs.Common.{ℕ, subst, ap, ◌∙◌, ◌≡◌}
 use Rattle.lasso_shared.specs.Replies.{Static, Intern, Interned}
 use Rattle.lasso_shared.specs.Calls.{IsCall}
-use Rattle.lasso_shared.specs.Notes.{history}
 use Rattle.lasso_shared.specs.Views.{seen}
 use Rattle.lasso_shared.proofs.Called.{called_later}
 use Rattle.lasso_shared.proofs.Whole.{since_both}

@@ -1,4 +1,4 @@
-use Rattle.std.proofs.Common.{rules, ◌≡◌, ◌<◌, ◌+◌, ◌++◌, ◌∷◌, [], ℕ, List, Some, slice_get, refl, sym, ◌∙◌, subst}
+use Rattle.std.proofs.Common.{rules, ℕ, refl, ◌∙◌}
 use Rattle.lasso_shared.proofs.Whole.{numbered_push}
 use Rattle.lasso_shared.proofs.shards.tag.ShardTag.shards.Goals as goal
 
