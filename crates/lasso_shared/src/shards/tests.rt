@@ -1,7 +1,9 @@
 //! Shards that stand apart, hashers that put all texts into one, and slots that are given back.
 ghost use Rattle.std.specs.Prelude.{◌≡◌};
 
+mod armed;
 mod hashers;
+mod writers;
 
 use crate::log::Opened;
 use crate::shards::Shards;
@@ -184,6 +186,12 @@ fn a_refused_text_gives_its_slot_back(rt: HostRuntime) -> Result<(), Fail> {
     assert_eq!(rt; kept_slots(&rt, &shards), 0);
     assert_eq!(rt;
         number(&rt, &shards, TEXTS[255]),
+        Err(LassoErrorKind::KeySpaceExhaustion)
+    );
+    assert_eq!(rt; kept_slots(&rt, &shards), 0);
+    // no number is left for the empty text either, and the texts that are there keep theirs
+    assert_eq!(rt;
+        number(&rt, &shards, ""),
         Err(LassoErrorKind::KeySpaceExhaustion)
     );
     assert_eq!(rt; kept_slots(&rt, &shards), 0);
