@@ -57,10 +57,10 @@ fn fill<R: AllocGlobal + Wait>(rt: &R, shelf: &Shelf, spine: Spine<Spur>, count:
         let Some(_key) = Spur::try_from_usize(spine.len() as usize) else {
             bail!("no key is left");
         };
-        if log.reserve_next(rt.alloc(), &mut spine).is_err() {
+        let Ok(slot) = log.reserve_next(rt.alloc(), &mut spine) else {
             bail!("no memory for a text");
-        }
-        log.append_static(rt, &mut spine, &mut pass, text);
+        };
+        log.append_static(rt, &mut spine, &mut pass, slot, text);
     }
     Ok(())
 }

@@ -1,15 +1,16 @@
 -- Calls of a pass, from what it had seen and has seen: a reply that is explained at the end of it.
 use Rattle.std.proofs.Common.{◌≡◌, ℕ, List, [], ◌∷◌, ◌++◌, length, slice_get, Option, Some, None, refl, ap, sym, ◌∙◌, subst, inl, inr, append_assoc, append-nil}
-use Rattle.std.specs.Prelude.{Ok, Err, option_and_then}
-use Rattle.lasso_parts.specs.Texts.{Text, IsDistinct, position_of}
-use Rattle.lasso_parts.proofs.TextLemmas.{distinct_push}
+use Rattle.std.specs.Prelude.{Ok, Err, Bool, nat_eq, nat_lt, is_some, option_and_then}
+use Rattle.lasso_parts.specs.Texts.{Text, IsDistinct, Fits, position_of, key_of}
+use Rattle.lasso_parts.proofs.TextLemmas.{distinct_push, key_of_present}
 use Rattle.lasso_parts.proofs.IndexLaws.{position_of_at, slice_get_push}
 use Rattle.lasso_parts.specs.declared.util.LassoErrorKind.TheVariants.{KeySpaceExhaustion, FailedAllocation}
-use Rattle.lasso_shared.specs.History.{Event, Append, History, Totals, totals, Lacks}
-use Rattle.lasso_shared.specs.Replies.{Static, Question, Intern, Resolve, Reply, Interned, Resolved, MayReply}
-use Rattle.lasso_shared.specs.Calls.{events_of, Makes, MayComeAfter, IsCall}
+use Rattle.lasso_shared.specs.History.{Event, Append, History, Totals, totals, Lacks, IsLegal, IsOpening}
+use Rattle.lasso_shared.specs.Replies.{Static, Question, Intern, Get, Contains, ContainsKey, Resolve, Len, IsEmpty, Reply, Interned, Found, Flag, Resolved, Number, MayReply}
+use Rattle.lasso_shared.specs.Calls.{events_of, Makes, MayComeAfter, IsCall, IsPlainCall}
 use Rattle.lasso_shared.specs.Notes.{NoteView, history, state, Since}
 use Rattle.lasso_shared.proofs.Histories.{history_append, events_append}
+use Rattle.lasso_shared.proofs.Legal.{legal_parts, list_kept}
 
 module _ {K : Type 0} (key_at : ℕ → Option K) (o : Totals) (p : ℕ) where
   -- the reply is that of the list at the end
@@ -42,6 +43,17 @@ module _ {K : Type 0} (key_at : ℕ → Option K) (o : Totals) (p : ℕ) where
   pub resolved : (before after : List NoteView) (n : ℕ) (r : Option Text) → Since p before after [] → r ≡ slice_get (state o after).texts n → IsCall key_at o (history before) (history after) p (Resolve n) (Resolved r)
   resolved before after n r s is = explained_last before after [] (Resolve n) (Resolved r) s tt is refl
 
+  -- the key of a text that was looked up, or none
+  pub got : (before after : List NoteView) (t : Text) (r : Option K) → Since p before after [] → r ≡ key_of key_at (state o after).texts t → IsCall key_at o (history before) (history after) p (Get t) (Found r)
+  got before after t r s is = explained_last before after [] (Get t) (Found r) s tt is refl
+
+  -- whether a key stands for a text
+  pub key_tested : (before after : List NoteView) (n : ℕ) (r : Bool) → Since p before after [] → r ≡ nat_lt n (length (state o after).texts) → IsCall key_at o (history before) (history after) p (ContainsKey n) (Flag r)
+  key_tested before after n r s is = explained_last before after [] (ContainsKey n) (Flag r) s tt is refl
+
+  pub measured : (before after : List NoteView) (r : ℕ) → Since p before after [] → r ≡ length (state o after).texts → IsCall key_at o (history before) (history after) p Len (Number r)
+  measured before after r s is = explained_last before after [] Len (Number r) s tt is refl
+
   -- the text is there
   pub found : (before after : List NoteView) (t : Text) (n : ℕ) (k : K) → Since p before after [] → position_of (state o after).texts t ≡ Some n → key_at n ≡ Some k → IsCall key_at o (history before) (history after) p (Intern Static t) (Interned (Ok k))
   found before after t n k s at key = explained_last before after [] (Intern Static t) (Interned (Ok k)) s tt (ap (option_and_then key_at) at ∙ key) (inl refl)
@@ -60,3 +72,51 @@ module _ {K : Type 0} (key_at : ℕ → Option K) (o : Totals) (p : ℕ) where
   added before after texts t k s is distinct lacks key =
       let at : position_of (state o after).texts t ≡ Some (length texts) = ap (λ (ts : List Text). position_of ts t) is ∙ position_of_at (texts ++ t ∷ []) t (length texts) (distinct_push texts t distinct lacks) (slice_get_push texts t) in
       explained_last before after (Append t ∷ []) (Intern Static t) (Interned (Ok k)) s tt (ap (option_and_then key_at) at ∙ key) (inr ([], refl, refl))
+
+-- ---- plain calls
+
+-- the call of a pass that had seen nothing
+pub plain : {K : Type 0} (key_at : ℕ → Option K) (o : Totals) (p : ℕ) (before after : List NoteView) (q : Question) (r : Reply K) → before ≡ [] → IsCall key_at o (history before) (history after) p q r → IsLegal key_at o (history after) → IsPlainCall key_at o q r
+plain key_at o p before after q r none call legal = record {
+  pass = p;
+  seen = history after;
+  call = subst (λ (b : List NoteView). IsCall key_at o (history b) (history after) p q r) none call;
+  legal = legal;
+}
+
+-- the list of a legal history has a key for each of its texts: so a text has a key exactly where it is there
+has_key : {K : Type 0} (key_at : ℕ → Option K) (texts : List Text) (t : Text) → Fits key_at (length texts) → is_some (key_of key_at texts t) ≡ is_some (position_of texts t)
+has_key key_at texts t fits = key_of_present key_at texts t fits
+
+-- one who was told a text's key, or that it has none, was told whether the text is there
+pub told_whether : {K : Type 0} (key_at : ℕ → Option K) (o : Totals) (t : Text) (r : Option K) → IsOpening key_at o → IsPlainCall key_at o (Get t) (Found r) → IsPlainCall key_at o (Contains t) (Flag (is_some r))
+told_whether key_at o t r opens c =
+    let x = c.call.explained in
+    let whole : x.0 ++ x.1 ≡ c.seen = x.2 ∙ c.call.begins in
+    let legal : IsLegal key_at o x.0 = (legal_parts key_at o x.0 x.1 (subst (IsLegal key_at o) (sym whole) c.legal)).0 in
+    let fits = (list_kept key_at o x.0 opens.distinct opens.fits legal).1 in record {
+      pass = c.pass;
+      seen = c.seen;
+      call = record {
+        past = c.call.past;
+        begins = c.call.begins;
+        explained = (x.0, x.1, x.2, tt, ap is_some x.4 ∙ has_key key_at (totals o x.0).texts t fits);
+        makes = c.call.makes;
+      };
+      legal = c.legal;
+    }
+
+-- one who was told the length was told whether it is 0
+pub told_empty : {K : Type 0} (key_at : ℕ → Option K) (o : Totals) (n : ℕ) → IsPlainCall key_at o Len (Number n) → IsPlainCall key_at o IsEmpty (Flag (nat_eq n 0))
+told_empty key_at o n c =
+    let x = c.call.explained in record {
+      pass = c.pass;
+      seen = c.seen;
+      call = record {
+        past = c.call.past;
+        begins = c.call.begins;
+        explained = (x.0, x.1, x.2, tt, ap (λ (m : ℕ). nat_eq m 0) x.4);
+        makes = c.call.makes;
+      };
+      legal = c.legal;
+    }

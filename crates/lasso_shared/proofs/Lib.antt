@@ -19,7 +19,6 @@ pub mod Reading
 pub mod Called
 pub mod CallerLaws
 pub mod Alike
-pub mod Desks
 pub mod LentBytes
 pub mod LentRights
 pub mod BucketWords
@@ -27,3 +26,4 @@ pub mod TurnWords
 pub mod NewBuckets
 pub mod Crossing
 pub mod FillCalls
+pub mod Whole

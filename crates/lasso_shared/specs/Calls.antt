@@ -2,7 +2,7 @@
 use Rattle.std.specs.Prelude.{◌≡◌, ◌⊎◌, ◌==◌, ℕ, List, [], ◌∷◌, ◌++◌, length, Option, Ok, Err, if◌then◌else◌}
 use Rattle.lasso_parts.specs.Texts.{Text}
 use Rattle.lasso_parts.specs.declared.util.LassoErrorKind.TheVariants.{KeySpaceExhaustion}
-use Rattle.lasso_shared.specs.History.{Event, Reserve, Charge, Append, Limit, History, Totals, totals}
+use Rattle.lasso_shared.specs.History.{Event, Reserve, Charge, Append, Limit, History, Totals, totals, IsLegal}
 use Rattle.lasso_shared.specs.Replies.{Keeping, Copied, Static, Question, Intern, SetLimit, Iterate, Strings, Serialize, Freeze, Reply, Interned, MayReply}
 
 -- the events of one pass, in order
@@ -46,3 +46,10 @@ pub record IsCall {K : Type 0} (key_at : ℕ → Option K) (opening : Totals) (b
   pub begins : before ++ past ≡ after
   pub explained : (front back : History) × (front ++ back ≡ past) × MayComeAfter question back × MayReply key_at (totals opening (before ++ front)) question reply
   pub makes : Makes question reply (events_of pass past)
+
+-- A plain call: the call of a pass that had seen nothing, which has then seen a legal history.
+pub record IsPlainCall {K : Type 0} (key_at : ℕ → Option K) (opening : Totals) (question : Question) (reply : Reply K) : Type 0 where
+  pub pass : ℕ
+  pub seen : History
+  pub call : IsCall key_at opening [] seen pass question reply
+  pub legal : IsLegal key_at opening seen

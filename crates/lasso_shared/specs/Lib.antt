@@ -21,3 +21,4 @@ pub mod LentBuckets
 pub mod SharedBuckets
 pub mod Turns
 pub mod Bids
+pub mod Shards

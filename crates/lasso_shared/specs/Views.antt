@@ -1,11 +1,10 @@
 -- What contracts see of a pass, of a log and of a spine.
-use Rattle.std.specs.Prelude.{◌≡◌, ℕ, ◌+◌, List, [], ◌∷◌, ◌++◌, Option, Some, IsSomeAnd, Result, Ok, OnOk, OnErr}
+use Rattle.std.specs.Prelude.{◌≡◌, ℕ, ◌+◌, List, [], ◌∷◌, ◌++◌}
 use mathlib.Core.List.{IsPrefix}
 use base.Stored.{Coded, coded×, coded_ℕ, coded_list, coded_via}
 use Rattle.logbook.specs.Pages.{Book, book_coded}
-use Rattle.lasso_shared.specs.History.{History, Append, Totals, Lacks}
-use Rattle.lasso_parts.specs.Texts.{Text, position_of}
-use Rattle.lasso_parts.specs.declared.util.LassoErrorKind.{LassoErrorKind}
+use Rattle.lasso_shared.specs.History.{History, Append, Totals}
+use Rattle.lasso_parts.specs.Texts.{Text}
 use Rattle.lasso_shared.specs.Notes.{NoteView, note_coded, totals_coded, history, state, Since}
 
 -- which interner a thing is of: its book, its names (of its era and of the chunks that its texts lie in), and what it opened with
@@ -57,6 +56,14 @@ turns_view_coded =
     (λ (t : TurnsView). (t.of, (t.notes, (t.turns, (t.doubling, (t.usage, (t.limit, t.count)))))))
     (λ x y e i. record { of = (e i).0; notes = (e i).1.0; turns = (e i).1.1.0; doubling = (e i).1.1.1.0; usage = (e i).1.1.1.1.0; limit = (e i).1.1.1.1.1.0; count = (e i).1.1.1.1.1.1 })
 
+-- a history that was seen: its interner, and its notes past the opening
+pub record KnownView : Type 0 where
+  pub of : InternerId
+  pub notes : List NoteView
+
+abbrev pub known_view_coded : Coded KnownView
+known_view_coded = coded_via (coded× interner_id_coded (coded_list note_coded)) (λ (k : KnownView). (k.of, k.notes)) (λ x y e i. record { of = (e i).0; notes = (e i).1 })
+
 -- a spine: how many slots it keeps for texts to come, its interner, the notes that it has seen of the list, and the turns
 pub record SpineView : Type 0 where
   pub kept : ℕ
@@ -78,18 +85,3 @@ pub record IsAppended (of : InternerId) (before after : PassView) (spine_before 
   pub spine : spine_after.notes ≡ after.notes
   pub begins : IsPrefix spine_before.notes spine_after.notes
   pub kept : spine_after.kept + 1 ≡ spine_before.kept
-
--- nothing was added: no event of the pass came, and the spine has seen what it had
-abbrev pub IsIdle : (before after : PassView) (spine_before spine_after : SpineView) → Type 0
-IsIdle before after spine_before spine_after = Since before.number before.notes after.notes [] × IsSameSpine spine_after spine_before
-
--- An intern at the desk, by the list that the spine had seen. A text of the list is answered by its key, and nothing is
--- added. Another one that is answered was put last by the one event of the pass. Where it is refused, nothing is added.
-pub record IsInternedAt {K : Type 0} (key_at : ℕ → Option K) (of : InternerId) (before after : PassView) (spine_before spine_after : SpineView) (text : Text) (reply : Result K LassoErrorKind) : Type 0 where
-  pub found :
-      (n : ℕ) → position_of (list_of of spine_before.notes) text ≡ Some n
-      → IsSomeAnd (key_at n) (λ k. reply ≡ Ok k) × IsIdle before after spine_before spine_after
-  pub added :
-      Lacks (list_of of spine_before.notes) text
-      → OnOk reply (Since before.number before.notes after.notes (Append text ∷ []) × (list_of of spine_after.notes ≡ list_of of spine_before.notes ++ text ∷ []))
-  pub refused : OnErr reply (IsIdle before after spine_before spine_after)

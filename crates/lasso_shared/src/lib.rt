@@ -6,5 +6,6 @@ pub mod laws;
 pub mod locks;
 pub mod log;
 pub mod machine;
+pub mod shards;
 pub mod shared_arena;
 pub mod threaded;

@@ -3,6 +3,8 @@
 mod apart;
 mod charges;
 mod charging;
+pub mod kept_slot;
+pub mod known;
 mod limits;
 pub mod look;
 pub mod memory;
@@ -20,6 +22,8 @@ pub mod ticket;
 pub mod turns;
 pub mod words;
 
+pub use kept_slot::KeptSlot;
+pub use known::Known;
 pub use opening::{NewLog, Opened, OpeningTexts};
 pub use pass::Pass;
 pub use spine::Spine;

@@ -11,7 +11,7 @@ use std::thread::join;
 const TEXTS: [&str; 4] = ["", "a", "Bär", "long enough to tell from the others"];
 
 #[test]
-fn positions_lie_in_rows_that_double(rt: HostRuntime) {
+fn positions_lie_in_chunks_that_double(rt: HostRuntime) {
     let worked = [
         (0, (0, 0)),
         (31, (0, 31)),
@@ -66,7 +66,7 @@ fn keeps<R: Wait>(
 }
 
 #[test]
-fn a_row_is_made_once(rt: HostRuntime) -> Result<(), Fail> {
+fn a_chunk_is_made_once(rt: HostRuntime) -> Result<(), Fail> {
     let chunks = Chunks::new(rt.alloc(), "")?;
     assert!(rt; chunks.make_chunk(rt.alloc(), 40)?.is_some());
     assert_eq!(rt; keeps(&rt, rt.alloc(), &chunks, 40, 41), (true, true));
@@ -75,7 +75,7 @@ fn a_row_is_made_once(rt: HostRuntime) -> Result<(), Fail> {
 }
 
 #[test]
-fn a_row_past_all_memory_is_refused(rt: HostRuntime) -> Result<(), Fail> {
+fn a_chunk_past_all_memory_is_refused(rt: HostRuntime) -> Result<(), Fail> {
     let chunks = Chunks::new(rt.alloc(), "")?;
     assert!(rt; chunks.make_chunk(rt.alloc(), 5)?.is_some());
     assert_eq!(rt; keeps(&rt, rt.alloc(), &chunks, 5, 1 << 62), (false, true));
@@ -104,7 +104,7 @@ fn fill_every_other<R: Wait>(
 }
 
 #[test]
-fn two_threads_fill_cells_of_the_same_rows(rt: HostRuntime) -> Result<(), Fail> {
+fn two_threads_fill_cells_of_the_same_chunks(rt: HostRuntime) -> Result<(), Fail> {
     let alloc = rt.alloc();
     let chunks = Chunks::new(alloc, "")?;
     let (even, odd) = join(

@@ -121,7 +121,7 @@ impl<K: Key> Log<K> {
             usage,
             limit,
             count,
-            seen: pass.sighting(),
+            seen: pass.copy_seen(),
         };
         shared
     }

@@ -62,7 +62,7 @@ impl<K: Key> Pass<K> {
     }
 
     /// The log that it has seen.
-    pub(super) fn sighting(&self) -> Seen<Note, u64, LogRule<K>>
+    pub(super) fn copy_seen(&self) -> Seen<Note, u64, LogRule<K>>
         ensures of { (result.book ≡ self.now.of.book) × (result.names ≡ self.now.of.chunks) × (opening_of result.log ≡ self.now.of.opening) }
         ensures log { IsOpened result.log × (notes_of result.log ≡ self.now.notes) }
     {

@@ -50,7 +50,7 @@ impl<K: Key> Log<K> {
     {
         SeenTexts {
             log: self,
-            seen: pass.sighting(),
+            seen: pass.copy_seen(),
         }
     }
 }

@@ -120,7 +120,7 @@ impl<K: Key> Log<K> {
         drop(word);
         turns.turns = expected + 1;
         turns.limit = limit;
-        turns.seen = pass.sighting();
+        turns.seen = pass.copy_seen();
         true
     }
 }

@@ -2,6 +2,7 @@
 ghost use Rattle.std.specs.Prelude.{◌≡◌};
 
 mod callers;
+mod looking;
 mod passes;
 
 use super::ThreadedRodeo;
@@ -147,7 +148,7 @@ fn two_threads_append(rt: HostRuntime) -> Result<(), Fail> {
     );
     assert!(rt; a && b);
     let mut pass = shared.pass();
-    assert_eq!(rt; shared.log.len(&mut pass), 200);
+    assert_eq!(rt; shared.shards.log.len(&mut pass), 200);
     // 100 texts of each thread at 200 positions: each stands once, in its thread's order
     assert_eq!(rt; in_order(&shared, &FIRST), 100);
     assert_eq!(rt; in_order(&shared, &SECOND), 100);
@@ -168,7 +169,7 @@ fn takes_all<R: Wait>(
     for position in 0..texts.len() {
         let mut found = number(rt, shared, &mut pass, texts[position]);
         if found == Err(LassoErrorKind::FailedAllocation) {
-            if shared.log.len(&mut pass) != position as u64 {
+            if shared.shards.log.len(&mut pass) != position as u64 {
                 return false;
             }
             found = number(rt, shared, &mut pass, texts[position]);
@@ -231,6 +232,6 @@ fn a_text_of_two_threads_has_one_key(rt: HostRuntime) -> Result<(), Fail> {
     assert!(rt; a.is_some());
     assert_eq!(rt; a, b);
     let mut pass = shared.pass();
-    assert_eq!(rt; shared.log.len(&mut pass), 3);
+    assert_eq!(rt; shared.shards.log.len(&mut pass), 3);
     Ok(())
 }

@@ -16,7 +16,7 @@ pub reserve_next-requires : goal.reserve_next-requires
 reserve_next-requires g c = c.loop-number.invariant.1
 
 pub append_static-requires-clause-of : goal.append_static-requires-clause-of
-append_static-requires-clause-of g c = (c.loop-number.invariant.0, c.reserve_next.ensures.same.0 ∙ c.loop-number.invariant.1)
+append_static-requires-clause-of g c = (c.loop-number.invariant.0, c.reserve_next.ensures.same.0 ∙ c.loop-number.invariant.1, c.in-Ok.ensures.slot)
 
 pub append_static-requires-clause-may : goal.append_static-requires-clause-may
 append_static-requires-clause-may g c =

@@ -23,7 +23,7 @@ fn lends_after_meeting(
     ensures of { pass.new.of ≡ shared.now }
 {
     pass.meet(other);
-    let seen_texts = shared.log.seen_texts(pass);
+    let seen_texts = shared.shards.log.seen_texts(pass);
     let mut all = true;
     for position in 0..texts.len() {
         if seen_texts.text_at(position) != texts[position] {
@@ -41,7 +41,7 @@ fn a_pass_that_meets_another_has_seen_its_texts(rt: HostRuntime) -> Result<(), F
     shared.try_get_or_intern_static_as(&rt, &mut behind, "p")?;
     shared.try_get_or_intern_static_as(&rt, &mut ahead, "q")?;
     shared.try_get_or_intern_static_as(&rt, &mut ahead, "Bär")?;
-    assert_eq!(rt; shared.log.len(&mut ahead), 3);
+    assert_eq!(rt; shared.shards.log.len(&mut ahead), 3);
     assert!(rt; lends_after_meeting(&shared, &mut behind, &ahead, &TEXTS));
     // what it has seen stays, and both go on interning
     let nothing = shared.pass();
@@ -67,8 +67,8 @@ fn both_lend(
     ensures same { result.0 ≡ result.1 }
 {
     one.compare(other);
-    let mine = shared.log.seen_texts(one);
-    let theirs = shared.log.seen_texts(other);
+    let mine = shared.shards.log.seen_texts(one);
+    let theirs = shared.shards.log.seen_texts(other);
     let here = mine.text_at(position);
     let there = theirs.text_at(position);
     let first = here == text;
@@ -82,9 +82,9 @@ fn passes_have_seen_the_same_text_at_a_position(rt: HostRuntime) -> Result<(), F
     let mut one = shared.pass();
     let mut other = shared.pass();
     shared.try_get_or_intern_static_as(&rt, &mut one, "p")?;
-    assert_eq!(rt; shared.log.len(&mut one), 1);
+    assert_eq!(rt; shared.shards.log.len(&mut one), 1);
     shared.try_get_or_intern_static_as(&rt, &mut other, "q")?;
-    assert_eq!(rt; shared.log.len(&mut other), 2);
+    assert_eq!(rt; shared.shards.log.len(&mut other), 2);
     assert_eq!(rt; both_lend(&shared, &one, &other, 0, "p"), (true, true));
     assert_eq!(rt; both_lend(&shared, &other, &one, 0, "q"), (false, false));
     Ok(())

@@ -1,0 +1,7 @@
+use Rattle.lasso_shared.proofs.Called.{got}
+use Rattle.lasso_shared.proofs.shards.Shards.get.Goals as goal
+
+pub returns-clause-call : goal.returns-clause-call
+returns-clause-call g c =
+    let found = c.look_up-found.ensures in
+    got g.K.Key.key_at c.args.self.now.log.opening c.args.pass.now.number c.args.pass.now.notes c.look_up-found.new.pass.notes c.args.text.now c.look_up-found.result found.since found.found

@@ -1,0 +1,56 @@
+-- Shards: which texts of a list are a shard's, and what its index and its number say of a history that was seen.
+use Rattle.std.specs.Prelude.{◌≡◌, ℕ, suc, ◌/◌, ◌^◌, ◌<◌, ◌↔◌, Bool, true, nat_eq, List, [], ◌∷◌, Some, slice_get, slice_index_or, length, if◌then◌else◌}
+use mathlib.Core.List.{IsPrefix}
+use Rattle.lasso_parts.specs.Texts.{Text, IsDistinct}
+use Rattle.lasso_parts.specs.Index.{Table, Holds, IsFiled}
+use Rattle.lasso_shared.specs.Notes.{NoteView}
+use Rattle.lasso_shared.specs.Views.{InternerId, KnownView, SpineView, list_of}
+
+-- the shard of a hash: the number in its four highest bits
+abbrev pub shard_of : ℕ → ℕ
+shard_of hash = hash / 2 ^ 60
+
+-- whether a text is of the shard of this number
+abbrev pub is_in : (Text → ℕ) → ℕ → Text → Bool
+is_in hash_of number text = nat_eq (shard_of (hash_of text)) number
+
+-- how many texts of the list are so
+abbrev pub count_where : (Text → Bool) → List Text → ℕ
+count_where p [] = 0
+count_where p (t ∷ ts) = if p t then suc (count_where p ts) else count_where p ts
+
+-- how many texts of the list are of the shard
+abbrev pub count_in : (Text → ℕ) → ℕ → List Text → ℕ
+count_in hash_of number texts = count_where (is_in hash_of number) texts
+
+-- a text of the shard stands at this position
+abbrev pub StandsIn : (Text → ℕ) → ℕ → List Text → ℕ → Type 0
+StandsIn hash_of number texts m = (t : Text) × (slice_get texts m ≡ Some t) × (is_in hash_of number t ≡ true)
+
+-- the index of a shard of a list: exactly the positions of the shard's texts are held
+pub record IsShardOf (hash_of : Text → ℕ) (number : ℕ) (texts : List Text) (table : Table) : Type 0 where
+  pub filed : IsFiled hash_of texts table
+  pub holds : (m : ℕ) → Holds table.slots m ↔ StandsIn hash_of number texts m
+  pub distinct : IsDistinct texts
+
+-- What a shard's lock keeps: its index maps exactly the shard's texts of a history that it has seen to their positions,
+-- and its number counts them.
+pub record IsShard (hash_of : Text → ℕ) (number : ℕ) (of : InternerId) (known : KnownView) (index : Table) (count : ℕ) : Type 0 where
+  pub mine : known.of ≡ of
+  pub exact : IsShardOf hash_of number (list_of of known.notes) index
+  pub counts : count ≡ count_in hash_of number (list_of of known.notes)
+
+-- these are the numbers of the list's texts in each shard
+abbrev pub Counts : (Text → ℕ) → List Text → List ℕ → Type 0
+Counts hash_of texts counts = (i : ℕ) → i < 16 → slice_index_or counts i 0 ≡ count_in hash_of i texts
+
+-- what the spine's lock keeps: the shards' numbers are those of the list that the spine has seen
+pub record IsTally (hash_of : Text → ℕ) (of : InternerId) (spine : SpineView) (counts : List ℕ) : Type 0 where
+  pub mine : spine.of ≡ of
+  pub all : length counts ≡ 16
+  pub counts_each : Counts hash_of (list_of of spine.notes) counts
+
+-- the notes begin with what the shard has seen, and have no more texts of the shard
+pub record IsWhole (hash_of : Text → ℕ) (number : ℕ) (of : InternerId) (known notes : List NoteView) : Type 0 where
+  pub begins : IsPrefix known notes
+  pub counts : count_in hash_of number (list_of of known) ≡ count_in hash_of number (list_of of notes)

@@ -1,0 +1,45 @@
+//! The shards: 16 indexes, each behind a lock of its own, and the spine behind another.
+//!
+//! A text is of one shard, by its hash. A shard's index is exact for a history that the shard has seen. So it is for each history that
+//! begins with that one and has no more texts of the shard, which the spine's number of them tells. Who holds a shard's lock
+//! may take the spine's; who holds the spine's takes no other.
+ghost use Rattle.std.specs.Prelude.{◌≡◌, ◌<◌, ℕ, length, Some, slice_get};
+
+mod intern;
+mod look;
+mod open;
+pub mod shard;
+pub mod tag;
+#[cfg(test)]
+mod tests;
+
+use crate::locks::{TaggedMutex, TaggedRwLock};
+use crate::log::Log;
+use crate::shards::shard::{Shard, Tally};
+use lasso_parts::keys::Key;
+use std::alloc::Global;
+use std::hash::BuildHasher;
+
+/// The log, the hasher and the locks of one interner. The hasher is asked outside the locks.
+#[derive(Drop)]
+pub struct Shards<K: Key, S: BuildHasher + Drop> {
+    pub log: Log<K>,
+    pub hasher: S,
+    shards: Vec<TaggedRwLock<Shard<K, S>>>,
+    spine: TaggedMutex<Tally<K, S>>,
+    alloc: Global,
+    ghost all: { length shards.items ≡ 16 },
+    ghost tags: { (i : ℕ) → i < 16 → slice_get shards.items i ≡ Some (record { log = log; hasher = hasher; number = i }) },
+    ghost spine_log: { spine.log ≡ log },
+    ghost spine_hasher: { spine.hasher ≡ hasher },
+}
+
+impl<K: Key, S: BuildHasher + Drop> Shards<K, S> {
+    // The lock of the shard of this number.
+    fn lock(&self, number: usize) -> &TaggedRwLock<Shard<K, S>>
+        requires { number < 16 }
+        ensures { (result.now.log ≡ self.now.log) × (result.now.hasher ≡ self.now.hasher) × (result.now.number ≡ number) }
+    {
+        &self.shards[number]
+    }
+}

@@ -1,0 +1,189 @@
+//! Looking a text up: in a shard that is read, and in one that is held.
+ghost use Rattle.std.specs.Prelude.{◌≡◌, ◌<◌, [], true, length, Some, IfSome, IfNone};
+ghost use mathlib.Core.List.{IsPrefix};
+ghost use Rattle.lasso_parts.specs.Hashing.{text_hash};
+ghost use Rattle.lasso_parts.specs.Texts.{position_of, key_of};
+ghost use Rattle.lasso_shared.specs.History.{Lacks};
+ghost use Rattle.lasso_shared.specs.Notes.{Since};
+ghost use Rattle.lasso_shared.specs.Replies.{Get, Found};
+ghost use Rattle.lasso_shared.specs.Calls.{IsCall};
+ghost use Rattle.lasso_shared.specs.Views.{PassView, InternerId, IsSamePass, list_of, seen};
+ghost use Rattle.lasso_shared.specs.Shards.{IsShard, IsTally, IsWhole, shard_of};
+
+use crate::log::Pass;
+use crate::shards::Shards;
+use crate::shards::shard::{Shard, Tally};
+use crate::shards::tag::number_of;
+use lasso_parts::index::hash_text;
+use lasso_parts::keys::Key;
+use std::hash::BuildHasher;
+use std::sync::Wait;
+
+// The key of a text's position in the list that the pass has seen.
+fn key_at<K: Key>(pass: &Pass<K>, position: usize) -> K
+    requires { position < length (list_of pass.now.of pass.now.notes) }
+    ensures { K.key_at position ≡ Some result }
+{
+    pass.show_legal();
+    K::try_from_usize(position).unwrap()
+}
+
+impl<K: Key, S: BuildHasher + Drop> Shards<K, S> {
+    // The position of the text in the history that the pass has then seen, where the shard's index has it. Else the list of
+    // the shard's own history lacks it. The pass learns that history.
+    fn find_position(
+        &self,
+        shard: &Shard<K, S>,
+        pass: &mut Pass<K>,
+        hash: u64,
+        text: &str,
+    ) -> Option<usize>
+        requires of { pass.old.of ≡ self.now.log }
+        requires hashed { hash ≡ text_hash S.build_hasher S.Hasher.write S.Hasher.finish self.now.hasher text.now }
+        requires held { IsShard (text_hash S.build_hasher S.Hasher.write S.Hasher.finish self.now.hasher) (shard_of hash) self.now.log shard.now.known shard.now.index shard.now.count }
+        ensures same { IsSamePass pass.new pass.old }
+        ensures since { Since pass.old.number pass.old.notes pass.new.notes [] }
+        ensures begins { IsPrefix shard.now.known.notes pass.new.notes }
+        ensures found { IfSome result (λ n. (position_of (list_of self.now.log pass.new.notes) text.now ≡ Some n) × (n < length (list_of self.now.log pass.new.notes))) }
+        ensures missing { IfNone result (Lacks (list_of self.now.log shard.now.known.notes) text.now) }
+    {
+        pass.recall(&shard.known);
+        pass.show_legal();
+        let seen_texts = self.log.seen_texts(pass);
+        shard
+            .index
+            .find_hashed(&seen_texts, &self.hasher, hash, text)
+    }
+
+    // The same, with the key of the position.
+    pub(super) fn find(
+        &self,
+        shard: &Shard<K, S>,
+        pass: &mut Pass<K>,
+        hash: u64,
+        text: &str,
+    ) -> Option<K>
+        requires of { pass.old.of ≡ self.now.log }
+        requires hashed { hash ≡ text_hash S.build_hasher S.Hasher.write S.Hasher.finish self.now.hasher text.now }
+        requires held { IsShard (text_hash S.build_hasher S.Hasher.write S.Hasher.finish self.now.hasher) (shard_of hash) self.now.log shard.now.known shard.now.index shard.now.count }
+        ensures same { IsSamePass pass.new pass.old }
+        ensures since { Since pass.old.number pass.old.notes pass.new.notes [] }
+        ensures begins { IsPrefix shard.now.known.notes pass.new.notes }
+        ensures found { IfSome result (λ k. key_of K.key_at (list_of self.now.log pass.new.notes) text.now ≡ Some k) }
+        ensures missing { IfNone result (Lacks (list_of self.now.log shard.now.known.notes) text.now) }
+    {
+        match self.find_position(shard, pass, hash, text) {
+            Some(position) => Some(key_at(pass, position)),
+            None => None,
+        }
+    }
+
+    // Whether the pass has then seen a list that the spine has seen too, with no more texts of the shard than the shard has.
+    pub(super) fn is_whole(
+        &self,
+        tally: &Tally<K, S>,
+        shard: &Shard<K, S>,
+        pass: &mut Pass<K>,
+        number: usize,
+    ) -> bool
+        requires of { (pass.old.of ≡ self.now.log) × (number < 16) }
+        requires held { IsShard (text_hash S.build_hasher S.Hasher.write S.Hasher.finish self.now.hasher) number self.now.log shard.now.known shard.now.index shard.now.count }
+        requires tally { IsTally (text_hash S.build_hasher S.Hasher.write S.Hasher.finish self.now.hasher) self.now.log tally.now.spine tally.now.counts }
+        requires begins { IsPrefix shard.now.known.notes pass.old.notes }
+        ensures same { IsSamePass pass.new pass.old }
+        ensures since { Since pass.old.number pass.old.notes pass.new.notes [] }
+        ensures begins { IsPrefix shard.now.known.notes pass.new.notes }
+        ensures whole { result ≡ true → IsWhole (text_hash S.build_hasher S.Hasher.write S.Hasher.finish self.now.hasher) number self.now.log shard.now.known.notes pass.new.notes }
+        ensures list { result ≡ true → list_of self.now.log pass.new.notes ≡ list_of self.now.log tally.now.spine.notes }
+    {
+        if self.log.len(pass) != tally.spine.len() {
+            return false;
+        }
+        tally.spine.agrees(pass);
+        tally.counts[number] == shard.count
+    }
+
+    // Compares a held shard with the spine's number of it, until they are equal and the length is the spine's. The shard's index
+    // is exact for what the pass has then seen.
+    pub(super) fn see_whole<R: Wait>(
+        &self,
+        rt: &R,
+        shard: &Shard<K, S>,
+        pass: &mut Pass<K>,
+        number: usize,
+    )
+        requires of { (pass.old.of ≡ self.now.log) × (number < 16) }
+        requires held { IsShard (text_hash S.build_hasher S.Hasher.write S.Hasher.finish self.now.hasher) number self.now.log shard.now.known shard.now.index shard.now.count }
+        requires begins { IsPrefix shard.now.known.notes pass.old.notes }
+        ensures same { IsSamePass pass.new pass.old }
+        ensures since { Since pass.old.number pass.old.notes pass.new.notes [] }
+        ensures whole { IsWhole (text_hash S.build_hasher S.Hasher.write S.Hasher.finish self.now.hasher) number self.now.log shard.now.known.notes pass.new.notes }
+    {
+        for _ in rt.forever() {
+            let (guard, tally) = self.spine.take(rt);
+            if self.is_whole(&tally, shard, pass, number) {
+                guard.give(rt, tally);
+                return;
+            }
+            guard.give(rt, tally);
+        }
+        unreachable!()
+    }
+
+    // The key of the text, where the shard's index has it. It is looked up beside other readers.
+    pub(super) fn peek<R: Wait>(
+        &self,
+        rt: &R,
+        pass: &mut Pass<K>,
+        hash: u64,
+        text: &str,
+    ) -> Option<K>
+        requires of { pass.old.of ≡ self.now.log }
+        requires hashed { hash ≡ text_hash S.build_hasher S.Hasher.write S.Hasher.finish self.now.hasher text.now }
+        ensures same { IsSamePass pass.new pass.old }
+        ensures since { Since pass.old.number pass.old.notes pass.new.notes [] }
+        ensures found { IfSome result (λ k. key_of K.key_at (list_of self.now.log pass.new.notes) text.now ≡ Some k) }
+    {
+        let reading = self.lock(number_of(hash)).read(rt);
+        let found = self.find(reading.get(), pass, hash, text);
+        reading.leave();
+        found
+    }
+
+    // The key of the text in the list that the pass has then seen, or none where that list lacks it. The shard is held.
+    fn look_up<R: Wait>(
+        &self,
+        rt: &R,
+        shard: &Shard<K, S>,
+        pass: &mut Pass<K>,
+        hash: u64,
+        text: &str,
+    ) -> Option<K>
+        requires of { pass.old.of ≡ self.now.log }
+        requires hashed { hash ≡ text_hash S.build_hasher S.Hasher.write S.Hasher.finish self.now.hasher text.now }
+        requires held { IsShard (text_hash S.build_hasher S.Hasher.write S.Hasher.finish self.now.hasher) (shard_of hash) self.now.log shard.now.known shard.now.index shard.now.count }
+        ensures same { IsSamePass pass.new pass.old }
+        ensures since { Since pass.old.number pass.old.notes pass.new.notes [] }
+        ensures found { result ≡ key_of K.key_at (list_of self.now.log pass.new.notes) text.now }
+    {
+        if let Some(key) = self.find(shard, pass, hash, text) {
+            return Some(key);
+        }
+        self.see_whole(rt, shard, pass, number_of(hash));
+        None
+    }
+
+    /// The key of the text, or `None` where it is not in the list. No text of its shard is interned meanwhile. It takes no
+    /// memory.
+    pub fn get<R: Wait>(&self, rt: &R, pass: &mut Pass<K>, text: &str) -> Option<K>
+        requires { pass.old.of ≡ self.now.log }
+        ensures same { IsSamePass pass.new pass.old }
+        ensures call { IsCall K.key_at self.now.log.opening (seen pass.old) (seen pass.new) pass.old.number (Get text.now) (Found result) }
+    {
+        let hash = hash_text(&self.hasher, text);
+        let reading = self.lock(number_of(hash)).read(rt);
+        let found = self.look_up(rt, reading.get(), pass, hash, text);
+        reading.leave();
+        found
+    }
+}

@@ -1,0 +1,200 @@
+//! Shards that stand apart, hashers that put all texts into one, and slots that are given back.
+ghost use Rattle.std.specs.Prelude.{◌≡◌};
+
+mod armed;
+mod hashers;
+mod writers;
+
+use crate::log::Opened;
+use crate::shards::Shards;
+use crate::shards::tag::number_of;
+use crate::threaded::ThreadedRodeo;
+use hashers::{FirstState, SameState};
+use lasso_parts::index::hash_text;
+use lasso_parts::keys::{Key, MicroSpur, Spur};
+use lasso_parts::util::{FixedState, LassoErrorKind};
+use std::hash::BuildHasher;
+use std::process::Abort;
+use std::sync::Wait;
+use std::sync::atomic::{AtomicU64, Ordering};
+use std::test::*;
+use std::thread;
+use std::thread::{Threads, join};
+
+const OPENED: Opened = Opened {
+    size: 4096,
+    limit: u64::MAX,
+};
+
+// How often a test looks for a flag, yielding between.
+const TURNS: u32 = 10_000_000;
+
+const TEXTS: [&str; 300] = [
+    "000", "001", "002", "003", "004", "005", "006", "007", "008", "009", "010", "011", "012",
+    "013", "014", "015", "016", "017", "018", "019", "020", "021", "022", "023", "024", "025",
+    "026", "027", "028", "029", "030", "031", "032", "033", "034", "035", "036", "037", "038",
+    "039", "040", "041", "042", "043", "044", "045", "046", "047", "048", "049", "050", "051",
+    "052", "053", "054", "055", "056", "057", "058", "059", "060", "061", "062", "063", "064",
+    "065", "066", "067", "068", "069", "070", "071", "072", "073", "074", "075", "076", "077",
+    "078", "079", "080", "081", "082", "083", "084", "085", "086", "087", "088", "089", "090",
+    "091", "092", "093", "094", "095", "096", "097", "098", "099", "100", "101", "102", "103",
+    "104", "105", "106", "107", "108", "109", "110", "111", "112", "113", "114", "115", "116",
+    "117", "118", "119", "120", "121", "122", "123", "124", "125", "126", "127", "128", "129",
+    "130", "131", "132", "133", "134", "135", "136", "137", "138", "139", "140", "141", "142",
+    "143", "144", "145", "146", "147", "148", "149", "150", "151", "152", "153", "154", "155",
+    "156", "157", "158", "159", "160", "161", "162", "163", "164", "165", "166", "167", "168",
+    "169", "170", "171", "172", "173", "174", "175", "176", "177", "178", "179", "180", "181",
+    "182", "183", "184", "185", "186", "187", "188", "189", "190", "191", "192", "193", "194",
+    "195", "196", "197", "198", "199", "200", "201", "202", "203", "204", "205", "206", "207",
+    "208", "209", "210", "211", "212", "213", "214", "215", "216", "217", "218", "219", "220",
+    "221", "222", "223", "224", "225", "226", "227", "228", "229", "230", "231", "232", "233",
+    "234", "235", "236", "237", "238", "239", "240", "241", "242", "243", "244", "245", "246",
+    "247", "248", "249", "250", "251", "252", "253", "254", "255", "256", "257", "258", "259",
+    "260", "261", "262", "263", "264", "265", "266", "267", "268", "269", "270", "271", "272",
+    "273", "274", "275", "276", "277", "278", "279", "280", "281", "282", "283", "284", "285",
+    "286", "287", "288", "289", "290", "291", "292", "293", "294", "295", "296", "297", "298",
+    "299",
+];
+
+// Whether the flag is set at one of the turns.
+fn is_seen(flag: &AtomicU64) -> bool {
+    for _ in 0..TURNS {
+        if flag.load(Ordering::SeqCst) != 0 {
+            return true;
+        }
+        thread::yield_now();
+    }
+    false
+}
+
+// Interns the text, and then sets the flag.
+fn intern_and_set<S: BuildHasher + Drop, R: Wait>(
+    rt: &R,
+    shards: &Shards<Spur, S>,
+    text: &'static str,
+    flag: &AtomicU64,
+) {
+    let mut pass = shards.log.pass();
+    if shards.intern_static(rt, &mut pass, text).is_ok() {
+        flag.store(1, Ordering::SeqCst);
+    }
+}
+
+#[test]
+fn shards_apart(rt: HostRuntime) -> Result<(), Fail> {
+    let hasher = FirstState::new();
+    assert_eq!(rt; number_of(hash_text(&hasher, "0")), 3);
+    assert_eq!(rt; number_of(hash_text(&hasher, "a")), 6);
+    let shards = Shards::open(rt.alloc(), hasher, OPENED)?;
+    let flag = AtomicU64::new(0);
+    let (guard, shard) = shards.lock(3).take(&rt);
+    let (seen, ()) = join(
+        &rt,
+        || is_seen(&flag),
+        || intern_and_set(&rt, &shards, "a", &flag),
+    );
+    guard.give(&rt, shard);
+    assert!(rt; seen);
+    Ok(())
+}
+
+// Whether each text gets its position as its number when it is interned, and is found there.
+fn in_order<S: BuildHasher + Drop, R: Wait>(
+    rt: &R,
+    shared: &ThreadedRodeo<Spur, S>,
+    texts: &[&'static str],
+) -> bool {
+    for position in 0..texts.len() {
+        match shared.try_get_or_intern_static(rt, texts[position]) {
+            Ok(key) if key.into_usize() == position => {}
+            _ => return false,
+        }
+    }
+    for position in 0..texts.len() {
+        match shared.get(rt, texts[position]) {
+            Some(key) if key.into_usize() == position => {}
+            _ => return false,
+        }
+    }
+    true
+}
+
+#[test]
+fn constant_hash(rt: HostRuntime) -> Result<(), Fail> {
+    let shared: ThreadedRodeo<Spur, SameState> = ThreadedRodeo::with_hasher(
+        rt.alloc(),
+        SameState::new(),
+    )?;
+    assert!(rt; in_order(&rt, &shared, &TEXTS));
+    assert_eq!(rt; shared.get(&rt, "300"), None);
+    assert_eq!(rt; shared.len(), 300);
+    Ok(())
+}
+
+#[test]
+fn texts_of_one_shard_and_of_others(rt: HostRuntime) -> Result<(), Fail> {
+    let shared: ThreadedRodeo<Spur, FirstState> = ThreadedRodeo::with_hasher(
+        rt.alloc(),
+        FirstState::new(),
+    )?;
+    assert!(rt; in_order(&rt, &shared, &TEXTS));
+    assert!(rt; in_order(&rt, &shared, &TEXTS));
+    assert_eq!(rt; shared.get(&rt, "a"), None);
+    assert_eq!(rt; shared.len(), 300);
+    Ok(())
+}
+
+// How many slots the spine keeps.
+fn kept_slots<K: Key, R: Wait>(rt: &R, shards: &Shards<K, FixedState>) -> u64 {
+    let (guard, tally) = shards.spine.take(rt);
+    let kept = tally.spine.kept();
+    guard.give(rt, tally);
+    kept
+}
+
+// The number of an interned text, or why it was refused. It is asked for again where memory was wanting, which kept no slot.
+fn number<K: Key, R: Wait>(
+    rt: &R,
+    shards: &Shards<K, FixedState>,
+    text: &'static str,
+) -> Result<usize, LassoErrorKind> {
+    let mut pass = shards.log.pass();
+    let mut reply = shards.intern_static(rt, &mut pass, text);
+    if let Err(error) = &reply
+        && error.kind() == LassoErrorKind::FailedAllocation
+        && kept_slots(rt, shards) == 0
+    {
+        let mut again = shards.log.pass();
+        reply = shards.intern_static(rt, &mut again, text);
+    }
+    match reply {
+        Ok(key) => Ok(key.into_usize()),
+        Err(error) => Err(error.kind()),
+    }
+}
+
+#[test]
+fn a_refused_text_gives_its_slot_back(rt: HostRuntime) -> Result<(), Fail> {
+    let shards: Shards<MicroSpur, FixedState> = Shards::open(
+        rt.alloc(),
+        FixedState::new(),
+        OPENED,
+    )?;
+    for position in 0..255usize {
+        assert_eq!(rt; number(&rt, &shards, TEXTS[position]), Ok(position));
+    }
+    assert_eq!(rt; kept_slots(&rt, &shards), 0);
+    assert_eq!(rt;
+        number(&rt, &shards, TEXTS[255]),
+        Err(LassoErrorKind::KeySpaceExhaustion)
+    );
+    assert_eq!(rt; kept_slots(&rt, &shards), 0);
+    // no number is left for the empty text either, and the texts that are there keep theirs
+    assert_eq!(rt;
+        number(&rt, &shards, ""),
+        Err(LassoErrorKind::KeySpaceExhaustion)
+    );
+    assert_eq!(rt; kept_slots(&rt, &shards), 0);
+    assert_eq!(rt; number(&rt, &shards, TEXTS[0]), Ok(0));
+    Ok(())
+}

@@ -1,0 +1,118 @@
+//! A hasher that waits for another writer while a table grows.
+ghost use Rattle.std.specs.Prelude.{◌≡◌, ◌+◌, ◌%◌, ◌^◌, length};
+
+use crate::shards::tests::is_seen;
+use std::hash::{BuildHasher, Hasher};
+use std::sync::atomic::{AtomicU64, Ordering};
+
+// Where two writers meet: the first sets its flag and looks for the second one's, once after the gate was armed.
+#[derive(Drop)]
+pub struct Gate {
+    armed: AtomicU64,
+    first: AtomicU64,
+    second: AtomicU64,
+    met: AtomicU64,
+}
+
+impl Gate {
+    pub fn new() -> Gate {
+        Gate {
+            armed: AtomicU64::new(0),
+            first: AtomicU64::new(0),
+            second: AtomicU64::new(0),
+            met: AtomicU64::new(0),
+        }
+    }
+
+    // From now on the first writer stops at the gate.
+    pub fn arm(&self) {
+        self.armed.store(1, Ordering::SeqCst);
+    }
+
+    // The first writer stops, if the gate is armed, and goes on once it saw the second.
+    fn stop(&self) {
+        if self.armed.swap(0, Ordering::SeqCst) == 0 {
+            return;
+        }
+        self.first.store(1, Ordering::SeqCst);
+        if is_seen(&self.second) {
+            self.met.store(1, Ordering::SeqCst);
+        }
+    }
+
+    // Whether the first writer stops at the gate now or has stopped there.
+    pub fn is_first_there(&self) -> bool {
+        is_seen(&self.first)
+    }
+
+    // The second writer is done.
+    pub fn pass(&self) {
+        self.second.store(1, Ordering::SeqCst);
+    }
+
+    // Whether the first writer saw the second while it stopped.
+    pub fn is_met(&self) -> bool {
+        self.met.load(Ordering::SeqCst) == 1
+    }
+}
+
+// Makes hashers that answer a text's first byte times 2^56, and that stop at a gate where the text has two bytes.
+#[derive(Clone, Copy)]
+pub struct ArmedState<'a> {
+    gate: &'a Gate,
+}
+
+impl<'a> ArmedState<'a> {
+    pub fn new(gate: &'a Gate) -> Self {
+        ArmedState { gate }
+    }
+}
+
+impl<'a> BuildHasher for ArmedState<'a> {
+    type Hasher = ArmedHasher<'a>;
+
+    ghost use Rattle.std.specs.Prelude.{false};
+
+    ghost build_hasher = { λ state. record { gate = state.gate; begun = false; first = 0; given = 0 } };
+
+    fn build_hasher(&self) -> ArmedHasher<'a> {
+        ArmedHasher {
+            gate: self.gate,
+            begun: false,
+            first: 0,
+            given: 0,
+        }
+    }
+}
+
+// Keeps the first byte, and how many bytes it was given: those of the text, and one more.
+#[derive(Clone, Copy)]
+pub struct ArmedHasher<'a> {
+    gate: &'a Gate,
+    begun: bool,
+    first: u8,
+    given: u64,
+}
+
+impl Hasher for ArmedHasher<'_> {
+    ghost use Rattle.std.specs.Prelude.{◌*◌, true, slice_index, if◌then◌else◌};
+
+    ghost write = { λ hasher bytes. record hasher { begun = true; first = if hasher.begun then hasher.first else slice_index bytes 0; given = (hasher.given + length bytes) % 2 ^ 64 } };
+
+    ghost finish = { λ hasher. hasher.first * 2 ^ 56 };
+
+    fn finish(&self) -> u64 {
+        if self.given == 3 {
+            self.gate.stop();
+        }
+        u64::from(self.first) * 0x100_0000_0000_0000
+    }
+
+    fn write(&mut self, bytes: &[u8]) {
+        if !self.begun {
+            self.begun = true;
+            self.first = if bytes.is_empty() { 0 } else { bytes[0] };
+        }
+        self.given = self.given.wrapping_add(bytes.len() as u64);
+    }
+}

@@ -1,0 +1,35 @@
+//! Interning texts in an interner that threads share, with a pass.
+ghost use Rattle.std.specs.Prelude.{◌≡◌};
+ghost use Rattle.lasso_shared.specs.History.{IsLegal, IsOpening};
+ghost use Rattle.lasso_shared.specs.Replies.{Static, Intern, Interned};
+ghost use Rattle.lasso_shared.specs.Calls.{IsCall};
+ghost use Rattle.lasso_shared.specs.Views.{PassView, InternerId, IsSamePass, seen};
+
+use crate::log::Pass;
+use crate::threaded::ThreadedRodeo;
+use lasso_parts::keys::Key;
+use lasso_parts::util::LassoResult;
+use std::hash::BuildHasher;
+use std::sync::Wait;
+
+impl<K: Key, S: BuildHasher + Drop> ThreadedRodeo<K, S> {
+    /// The key of the text, which goes last in the list if it is not there. The text is kept as it is, with no copy, so
+    /// the memory limit never refuses it. A text that the pass had seen is never refused. A new one is refused where
+    /// the key type has no key for its position, else for want of memory; no event is added then.
+    pub fn try_get_or_intern_static_as<R: Wait>(
+        &self,
+        rt: &R,
+        pass: &mut Pass<K>,
+        text: &'static str,
+    ) -> LassoResult<K>
+        requires { pass.old.of ≡ self.now }
+        ensures same { IsSamePass pass.new pass.old }
+        ensures call { IsCall K.key_at self.now.opening (seen pass.old) (seen pass.new) pass.old.number (Intern Static text.now) (Interned result) }
+        ensures opening { IsOpening K.key_at self.now.opening }
+        ensures legal { IsLegal K.key_at self.now.opening (seen pass.new) }
+    {
+        let reply = self.shards.intern_static(rt, pass, text);
+        pass.show_legal();
+        reply
+    }
+}

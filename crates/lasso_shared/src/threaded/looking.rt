@@ -1,0 +1,67 @@
+//! Reading an interner that threads share, with a pass.
+ghost use Rattle.std.specs.Prelude.{◌≡◌, option_map};
+ghost use Rattle.lasso_shared.specs.History.{IsLegal, IsOpening};
+ghost use Rattle.lasso_shared.specs.Replies.{Get, ContainsKey, Resolve, Len, Found, Flag, Resolved, Number};
+ghost use Rattle.lasso_shared.specs.Calls.{IsCall};
+ghost use Rattle.lasso_shared.specs.Views.{PassView, InternerId, IsSamePass, seen};
+
+use crate::log::Pass;
+use crate::threaded::ThreadedRodeo;
+use lasso_parts::keys::Key;
+use std::hash::BuildHasher;
+use std::sync::Wait;
+
+impl<K: Key, S: BuildHasher + Drop> ThreadedRodeo<K, S> {
+    /// The key of the text, or `None` where it is not in the list. It takes no memory.
+    pub fn get_as<R: Wait>(&self, rt: &R, pass: &mut Pass<K>, text: &str) -> Option<K>
+        requires { pass.old.of ≡ self.now }
+        ensures same { IsSamePass pass.new pass.old }
+        ensures call { IsCall K.key_at self.now.opening (seen pass.old) (seen pass.new) pass.old.number (Get text.now) (Found result) }
+        ensures opening { IsOpening K.key_at self.now.opening }
+        ensures legal { IsLegal K.key_at self.now.opening (seen pass.new) }
+    {
+        let found = self.shards.get(rt, pass, text);
+        pass.show_legal();
+        found
+    }
+
+    /// Whether the key stands for a text. It takes no memory and does not wait.
+    pub fn contains_key_as(&self, pass: &mut Pass<K>, key: K) -> bool
+        requires { pass.old.of ≡ self.now }
+        ensures same { IsSamePass pass.new pass.old }
+        ensures call { IsCall K.key_at self.now.opening (seen pass.old) (seen pass.new) pass.old.number (ContainsKey (K.number key)) (Flag result) }
+        ensures opening { IsOpening K.key_at self.now.opening }
+        ensures legal { IsLegal K.key_at self.now.opening (seen pass.new) }
+    {
+        let len = self.shards.log.len(pass);
+        pass.show_legal();
+        (key.into_usize() as u64) < len
+    }
+
+    /// The key's text, or `None` where the key stands for no text yet. It is lent as long as the interner. It takes no
+    /// memory and does not wait.
+    pub fn try_resolve_as(&self, pass: &mut Pass<K>, key: K) -> Option<&str>
+        requires { pass.old.of ≡ self.now }
+        ensures same { IsSamePass pass.new pass.old }
+        ensures call { IsCall K.key_at self.now.opening (seen pass.old) (seen pass.new) pass.old.number (Resolve (K.number key)) (Resolved (option_map (λ t. t.now) result)) }
+        ensures opening { IsOpening K.key_at self.now.opening }
+        ensures legal { IsLegal K.key_at self.now.opening (seen pass.new) }
+    {
+        let found = self.shards.log.read(key.into_usize() as u64, pass);
+        pass.show_legal();
+        found
+    }
+
+    /// How many texts there are. It takes no memory and does not wait.
+    pub fn len_as(&self, pass: &mut Pass<K>) -> usize
+        requires { pass.old.of ≡ self.now }
+        ensures same { IsSamePass pass.new pass.old }
+        ensures call { IsCall K.key_at self.now.opening (seen pass.old) (seen pass.new) pass.old.number Len (Number result) }
+        ensures opening { IsOpening K.key_at self.now.opening }
+        ensures legal { IsLegal K.key_at self.now.opening (seen pass.new) }
+    {
+        let len = self.shards.log.len(pass);
+        pass.show_legal();
+        len as usize
+    }
+}

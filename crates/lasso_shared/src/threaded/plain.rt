@@ -1,0 +1,94 @@
+//! Plain calls of an interner that threads share: each is the call of a new pass.
+ghost use Rattle.std.specs.Prelude.{◌≡◌, option_map};
+ghost use Rattle.lasso_shared.specs.History.{IsOpening};
+ghost use Rattle.lasso_shared.specs.Replies.{Static, Intern, Get, Contains, ContainsKey, Resolve, Len, IsEmpty, Interned, Found, Flag, Resolved, Number};
+ghost use Rattle.lasso_shared.specs.Calls.{IsPlainCall};
+ghost use Rattle.lasso_shared.specs.Views.{InternerId};
+
+use crate::threaded::ThreadedRodeo;
+use lasso_parts::keys::Key;
+use lasso_parts::util::LassoResult;
+use std::hash::BuildHasher;
+use std::sync::Wait;
+
+impl<K: Key, S: BuildHasher + Drop> ThreadedRodeo<K, S> {
+    /// The key of the text, which goes last in the list if it is not there. The text is kept as it is, with no copy, so
+    /// the memory limit never refuses it. A new one is refused where the key type has no key for its position, else for
+    /// want of memory; no event is added then.
+    pub fn try_get_or_intern_static<R: Wait>(&self, rt: &R, text: &'static str) -> LassoResult<K>
+        ensures call { IsPlainCall K.key_at self.now.opening (Intern Static text.now) (Interned result) }
+        ensures opening { IsOpening K.key_at self.now.opening }
+    {
+        let mut pass = self.pass();
+        self.try_get_or_intern_static_as(rt, &mut pass, text)
+    }
+
+    /// The same call as `try_get_or_intern_static`.
+    pub fn get_or_intern_static<R: Wait>(&self, rt: &R, text: &'static str) -> LassoResult<K>
+        ensures call { IsPlainCall K.key_at self.now.opening (Intern Static text.now) (Interned result) }
+        ensures opening { IsOpening K.key_at self.now.opening }
+    {
+        self.try_get_or_intern_static(rt, text)
+    }
+
+    /// The key of the text, or `None` where it is not in the list. It takes no memory.
+    pub fn get<R: Wait>(&self, rt: &R, text: &str) -> Option<K>
+        ensures call { IsPlainCall K.key_at self.now.opening (Get text.now) (Found result) }
+        ensures opening { IsOpening K.key_at self.now.opening }
+    {
+        let mut pass = self.pass();
+        self.get_as(rt, &mut pass, text)
+    }
+
+    /// Whether the text is in the list. It takes no memory.
+    pub fn contains<R: Wait>(&self, rt: &R, text: &str) -> bool
+        ensures call { IsPlainCall K.key_at self.now.opening (Contains text.now) (Flag result) }
+        ensures opening { IsOpening K.key_at self.now.opening }
+    {
+        self.get(rt, text).is_some()
+    }
+
+    /// Whether the key stands for a text. It takes no memory and does not wait.
+    pub fn contains_key(&self, key: K) -> bool
+        ensures call { IsPlainCall K.key_at self.now.opening (ContainsKey (K.number key)) (Flag result) }
+        ensures opening { IsOpening K.key_at self.now.opening }
+    {
+        let mut pass = self.pass();
+        self.contains_key_as(&mut pass, key)
+    }
+
+    /// The key's text, or `None` where the key stands for no text yet. It is lent as long as the interner. It takes no
+    /// memory and does not wait.
+    pub fn try_resolve(&self, key: K) -> Option<&str>
+        ensures call { IsPlainCall K.key_at self.now.opening (Resolve (K.number key)) (Resolved (option_map (λ t. t.now) result)) }
+        ensures opening { IsOpening K.key_at self.now.opening }
+    {
+        let mut pass = self.pass();
+        self.try_resolve_as(&mut pass, key)
+    }
+
+    /// The same call as `try_resolve`.
+    pub fn resolve(&self, key: K) -> Option<&str>
+        ensures call { IsPlainCall K.key_at self.now.opening (Resolve (K.number key)) (Resolved (option_map (λ t. t.now) result)) }
+        ensures opening { IsOpening K.key_at self.now.opening }
+    {
+        self.try_resolve(key)
+    }
+
+    /// How many texts there are. It takes no memory and does not wait.
+    pub fn len(&self) -> usize
+        ensures call { IsPlainCall K.key_at self.now.opening Len (Number result) }
+        ensures opening { IsOpening K.key_at self.now.opening }
+    {
+        let mut pass = self.pass();
+        self.len_as(&mut pass)
+    }
+
+    /// Whether there is no text. It takes no memory and does not wait.
+    pub fn is_empty(&self) -> bool
+        ensures call { IsPlainCall K.key_at self.now.opening IsEmpty (Flag result) }
+        ensures opening { IsOpening K.key_at self.now.opening }
+    {
+        self.len() == 0
+    }
+}
