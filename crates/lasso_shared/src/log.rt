@@ -18,6 +18,7 @@ pub mod spine;
 mod tests;
 pub mod ticket;
 pub mod turns;
+mod walks;
 pub mod words;
 
 pub use opening::{NewLog, Opened, OpeningTexts};
