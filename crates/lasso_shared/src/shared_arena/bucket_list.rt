@@ -61,6 +61,23 @@ impl<K: Key> BucketList<K> {
         })
     }
 
+    /// The list of a new interner, with its first bucket. It is refused for want of memory alone.
+    pub fn with_first<R: Wait>(
+        rt: &R,
+        alloc: Global,
+        log: &Log<K>,
+        bucket: SharedBucket<K>,
+    ) -> LassoResult<BucketList<K>>
+        requires { bucket.of ≡ log.now }
+        ensures list { IfOk result (λ l. l ≡ names_with_book log.now) }
+        ensures refused { IfErr result (λ error. error ≡ FailedAllocation) }
+    {
+        let list = BucketList::new(alloc, log)?;
+        list.reserve_one()?;
+        list.push_front(rt, bucket);
+        Ok(list)
+    }
+
     /// Makes room for one bucket more. It is refused for want of memory alone.
     pub fn reserve_one(&self) -> LassoResult<()>
         ensures { IfErr result (λ error. error ≡ FailedAllocation) }
