@@ -3,6 +3,7 @@
 mod apart;
 mod charges;
 mod charging;
+pub mod kept_slot;
 mod limits;
 pub mod look;
 pub mod memory;
@@ -21,6 +22,7 @@ pub mod turns;
 mod walks;
 pub mod words;
 
+pub use kept_slot::KeptSlot;
 pub use opening::{NewLog, Opened, OpeningTexts};
 pub use pass::Pass;
 pub use spine::Spine;

@@ -219,10 +219,12 @@ impl<K: Key, S: BuildHasher + Drop> ThreadedRodeo<K, S> {
         if let Err(error) = desk.index.reserve_one(&seen_texts, &desk.hasher) {
             return Some(Err(error));
         }
-        if let Err(error) = self.log.reserve_next(self.alloc, &mut desk.spine) {
-            return Some(Err(error));
-        }
-        self.log.append_static(rt, &mut desk.spine, pass, text);
+        let slot = match self.log.reserve_next(self.alloc, &mut desk.spine) {
+            Ok(slot) => slot,
+            Err(error) => return Some(Err(error)),
+        };
+        self.log
+            .append_static(rt, &mut desk.spine, pass, slot, text);
         desk.index.insert_reserved(hash, key);
         Some(Ok(key))
     }

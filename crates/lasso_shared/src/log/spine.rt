@@ -1,5 +1,5 @@
 //! The spine: the numbers of the list, which one thread at a time has, and the slots that it keeps.
-ghost use Rattle.std.specs.Prelude.{◌≡◌, ◌+◌, ◌<◌, ◌∷◌, ◌++◌, [], length, OnOk, OnErr, IfErr, MatchBool};
+ghost use Rattle.std.specs.Prelude.{◌≡◌, ◌+◌, ◌-◌, ◌∷◌, ◌++◌, [], length, OnOk, OnErr, IfOk, IfErr, MatchBool};
 ghost use mathlib.Core.List.{IsPrefix};
 ghost use Rattle.lasso_parts.specs.declared.util.LassoErrorKind.TheVariants.{FailedAllocation};
 ghost use Rattle.lasso_parts.specs.Texts.{Fits};
@@ -10,6 +10,7 @@ ghost use base.Fml.{Incl};
 ghost use Rattle.lasso_shared.specs.Eras.{life};
 ghost use Rattle.lasso_shared.specs.Chunks.{IsCellAt, era_named};
 
+use crate::log::kept_slot::KeptSlot;
 use crate::log::note::{Change, Note};
 use crate::log::pass::Pass;
 use crate::log::rule::{LogRule, StoredText};
@@ -91,20 +92,22 @@ impl<K: Key> Spine<K> {
     }
 
     /// Gives back a slot that `reserve_next` kept. Nothing else changes, and it is never refused.
-    pub fn give_back(&mut self)
-        requires { 0 < self.old.kept }
-        ensures kept { self.new.kept + 1 ≡ self.old.kept }
+    pub fn give_back(&mut self, slot: KeptSlot<K>)
+        requires { slot ≡ self.old.of }
+        ensures kept { self.new.kept ≡ self.old.kept - 1 }
         ensures same { IsSameSpine self.new self.old }
     {
-        self.kept -= 1;
+        slot.end();
+        self.kept = self.kept.saturating_sub(1);
     }
 }
 
 impl<K: Key> Log<K> {
     /// Keeps one slot more for a text to come, until it is appended or given back. It is refused for want of memory
     /// alone, which is told of position 2^64 - 1 too, and nothing changes then.
-    pub fn reserve_next(&self, alloc: Global, spine: &mut Spine<K>) -> LassoResult<()>
+    pub fn reserve_next(&self, alloc: Global, spine: &mut Spine<K>) -> LassoResult<KeptSlot<K>>
         requires { spine.old.of ≡ self.now }
+        ensures slot { IfOk result (λ slot. slot ≡ self.now) }
         ensures kept { OnOk result (spine.new.kept ≡ spine.old.kept + 1) }
         ensures same { IsSameSpine spine.new spine.old }
         ensures refused { IfErr result (λ error. error ≡ FailedAllocation) }
@@ -116,21 +119,21 @@ impl<K: Key> Log<K> {
         }
         self.memory.chunks.make_chunk(alloc, position)?;
         spine.kept += 1;
-        Ok(())
+        Ok(KeptSlot::new(self.seen.again()))
     }
 
     /// Puts the text last, in a slot that `reserve_next` kept. The text must lie where it is as long as the interner's era. The list of
     /// the spine must lack it, and have a key for its length. The text's cell is filled before the length moves. It waits where the length isn't the
-    /// spine's, where the chunk of its position isn't made, and where the cell is filled.
+    /// spine's, where the spine keeps no slot, where the chunk of its position isn't made, and where the cell is filled.
     pub fn append<R: Wait>(
         &self,
         rt: &R,
         spine: &mut Spine<K>,
         pass: &mut Pass<K>,
+        slot: KeptSlot<K>,
         text: StoredText,
     )
-        requires of { (pass.old.of ≡ self.now) × (spine.old.of ≡ self.now) }
-        requires kept { 0 < spine.old.kept }
+        requires of { (pass.old.of ≡ self.now) × (spine.old.of ≡ self.now) × (slot ≡ self.now) }
         requires lasts { Incl (life (era_named self.now.chunks)) text.until }
         requires may { MayFollow K.key_at (state self.now.opening spine.old.notes) (Append text.text) }
         ensures same { IsSamePass pass.new pass.old × (spine.new.of ≡ spine.old.of) }
@@ -151,6 +154,7 @@ impl<K: Key> Log<K> {
         for _ in rt.forever() {
             let cell_proof = (chunk.again(), item.again());
             if self.try_append(spine, pass, text, cell_proof) {
+                slot.end();
                 pass.show_legal();
                 return;
             }
@@ -164,10 +168,10 @@ impl<K: Key> Log<K> {
         rt: &R,
         spine: &mut Spine<K>,
         pass: &mut Pass<K>,
+        slot: KeptSlot<K>,
         text: &'static str,
     )
-        requires of { (pass.old.of ≡ self.now) × (spine.old.of ≡ self.now) }
-        requires kept { 0 < spine.old.kept }
+        requires of { (pass.old.of ≡ self.now) × (spine.old.of ≡ self.now) × (slot ≡ self.now) }
         requires may { MayFollow K.key_at (state self.now.opening spine.old.notes) (Append text.now) }
         ensures same { IsSamePass pass.new pass.old × (spine.new.of ≡ spine.old.of) }
         ensures kept { spine.new.kept + 1 ≡ spine.old.kept }
@@ -177,10 +181,10 @@ impl<K: Key> Log<K> {
         ensures begins { IsPrefix spine.old.notes spine.new.notes }
         ensures list { list_of self.now pass.new.notes ≡ list_of self.now spine.old.notes ++ text.now ∷ [] }
     {
-        self.append(rt, spine, pass, Piece::lasting(text));
+        self.append(rt, spine, pass, slot, Piece::lasting(text));
     }
 
-    // Appends where the length is the spine's. Else nothing is done.
+    // Appends where the length is the spine's, and it keeps a slot. Else nothing is done.
     fn try_append(
         &self,
         spine: &mut Spine<K>,
@@ -189,13 +193,15 @@ impl<K: Key> Log<K> {
         cell_proof: CellProof,
     ) -> bool
         requires of { (pass.old.of ≡ self.now) × (spine.old.of ≡ self.now) }
-        requires kept { 0 < spine.old.kept }
         requires may { MayFollow K.key_at (state self.now.opening spine.old.notes) (Append text.now) }
         requires cell { IsCellAt self.now.chunks (length (list_of self.now spine.old.notes)) cell_proof.0.of cell_proof.0.value.items cell_proof.1.of }
         requires filled { (cell_proof.1.value.text ≡ text.now) × Incl (life (era_named self.now.chunks)) cell_proof.1.value.until }
         ensures same { IsSamePass pass.new pass.old × (spine.new.of ≡ spine.old.of) }
         ensures done { MatchBool result (IsAppended self.now pass.old pass.new spine.old spine.new text.now) ((pass.new ≡ pass.old) × (spine.new ≡ spine.old)) }
     {
+        if spine.kept == 0 {
+            return false;
+        }
         let appended = spine.appended;
         let Some(word) = self.exchange(
             &self.head,

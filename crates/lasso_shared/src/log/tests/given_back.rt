@@ -1,5 +1,5 @@
 //! Slots that the spine keeps and gives back, and texts that take them.
-ghost use Rattle.std.specs.Prelude.{◌≡◌, ◌+◌, ◌-◌, ◌≤◌, ◌∷◌, ◌++◌, [], OnOk, OnErr, IfOk, codes};
+ghost use Rattle.std.specs.Prelude.{◌≡◌, ◌∷◌, ◌++◌, [], OnOk};
 ghost use Rattle.lasso_shared.specs.History.{Lacks};
 ghost use Rattle.lasso_shared.specs.Views.{IsSameSpine, list_of};
 
@@ -15,22 +15,20 @@ const OPENED: Opened = Opened {
     limit: u64::MAX,
 };
 
-// Keeps so many slots more, and gives them back.
+// Keeps a slot and gives it back, so often.
 fn keep_and_give_back(
     alloc: Global,
     log: &Log<Spur>,
     spine: &mut Spine<Spur>,
-    slots: u32,
+    times: u32,
 ) -> LassoResult<()>
     requires { spine.old.of ≡ log.now }
     ensures same { IsSameSpine spine.new spine.old }
-    ensures kept { OnOk result (spine.new.kept ≡ spine.old.kept) }
+    ensures kept { spine.new.kept ≡ spine.old.kept }
 {
-    for _ in 0..slots {
-        log.reserve_next(alloc, spine)?;
-    }
-    for _ in 0..slots {
-        spine.give_back();
+    for _ in 0..times {
+        let slot = log.reserve_next(alloc, spine)?;
+        spine.give_back(slot);
     }
     Ok(())
 }
@@ -52,8 +50,8 @@ pub(super) fn add<R: Wait>(
     if Spur::try_from_usize(spine.len() as usize).is_none() {
         return Err(LassoError::new(LassoErrorKind::KeySpaceExhaustion));
     }
-    log.reserve_next(alloc, spine)?;
-    log.append_static(rt, spine, pass, text);
+    let slot = log.reserve_next(alloc, spine)?;
+    log.append_static(rt, spine, pass, slot, text);
     Ok(())
 }
 
@@ -61,7 +59,6 @@ pub(super) fn add<R: Wait>(
 fn slots_that_were_given_back_are_kept_again(rt: HostRuntime) -> Result<(), Fail> {
     let (log, mut spine) = Log::<Spur>::open(rt.alloc(), OPENED)?;
     let mut pass = log.pass();
-    // the first chunk has 32 slots
     keep_and_give_back(rt.alloc(), &log, &mut spine, 33)?;
     add(&rt, rt.alloc(), &log, &mut spine, &mut pass, "p")?;
     keep_and_give_back(rt.alloc(), &log, &mut spine, 1)?;

@@ -24,7 +24,7 @@ exchange-requires-clause-may g c =
     let v = notes_of c.spine.inside.seen.log in
     let legal : MayFollow g.K.Key.key_at (state o v) (Append c.args.text.now) = rw (ap (λ s. s.notes) c.spine.view_is) c.requires.may in
     let opening : length (opening_of c.spine.inside.seen.log).texts ≡ length o.texts = ap (λ s. length s.of.opening.texts) c.spine.view_is ∙ ap (λ of. length of.opening.texts) c.requires.of.1 in
-    let some : 0 < c.spine.inside.kept = rw (ap (λ s. s.kept) c.spine.view_is) c.requires.kept in
+    let some = c.if-spine-eq0.false in
     let small : length o.texts + c.spine.inside.appended + 1 < 2 ^ 64 = omega (arith, opening, some, c.spine.invariant.1, c.spine.invariant.3) in
     (λ t. moving_append t c.args.text.now 0, rw (ap (λ w. w.key) c.self.invariant.0) (may_append g.K.Key.key_at o v c.args.text.now c.spine.inside.appended (length_of o v 0 c.spine.inside.appended c.spine.invariant.2.0) small legal))
 
@@ -48,7 +48,7 @@ invariant_of-spine g c =
     let opening : opening_of c.copy_seen.result.log ≡ o = s.of.2 ∙ (ap (λ of. of.opening) c.exchange.ensures.same.1 ∙ ap (λ of. of.opening) c.requires.of.0) in
     let first : c.spine.inside.first ≡ length o.texts = c.spine.invariant.1 ∙ (ap (λ s. length s.of.opening.texts) c.spine.view_is ∙ ap (λ of. length of.opening.texts) c.requires.of.1) in
     let reads = length_after_append g.K.Key.key_at o c.args.pass.now.number c.args.pass.now.notes v c.exchange.new.pass.notes c.args.text.now c.spine.inside.appended c.in-Some.word.key done in
-    let some : 0 < c.spine.inside.kept = rw (ap (λ s. s.kept) c.spine.view_is) c.requires.kept in
+    let some = c.if-spine-eq0.false in
     let sighted : interner_id c.copy_seen.result.book c.copy_seen.result.names (opening_of c.copy_seen.result.log) ≡ c.exchange.new.pass.of = λ i. interner_id (s.of.0 i) (s.of.1 i) (s.of.2 i) in
     let turns : c.spine.inside.turns.of ≡ interner_id c.copy_seen.result.book c.copy_seen.result.names (opening_of c.copy_seen.result.log) =
     c.spine.invariant.4 ∙ (ap (λ y. y.of) c.spine.view_is ∙ (c.requires.of.1 ∙ (sym (c.exchange.ensures.same.1 ∙ c.requires.of.0) ∙ sym sighted))) in
@@ -65,7 +65,7 @@ returns-clause-done g c =
     let spine : opening_of c.spine.inside.seen.log ≡ o = ap (λ s. s.of.opening) c.spine.view_is ∙ ap (λ of. of.opening) c.requires.of.1 in
     let reads : Reads g.K.Key.key_at o v 0 0 c.spine.inside.appended = subst (λ (t : Totals). Reads g.K.Key.key_at t v 0 0 c.spine.inside.appended) spine c.spine.invariant.2 in
     let list = list_after g.K.Key.key_at o c.args.pass.now.number c.args.pass.now.notes v c.exchange.new.pass.notes c.args.text.now c.spine.inside.appended c.in-Some.word.key done reads in
-    let some : 0 < c.spine.inside.kept = rw (ap (λ s. s.kept) c.spine.view_is) c.requires.kept in record {
+    let some = c.if-spine-eq0.false in record {
       event = done.since;
       list = list ∙ ap (λ s. (state o s.notes).texts ++ c.args.text.now ∷ []) c.spine.view_is;
       spine = s.log.1;
