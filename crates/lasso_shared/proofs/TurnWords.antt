@@ -53,6 +53,14 @@ lacks_later o v log i n begins lacks =
     let at : slice_get (state o log).buckets i ≡ Some (with_taken now.0 was.0) = ap (λ (s : Totals). slice_get s.buckets i) (sym all) ∙ now.1 in
     let past = was.2 in subst (λ (q : Option CountedBucket). IsSomeAnd q (λ (b : CountedBucket). b.size < b.used + n)) (sym at) (omega (arith, past))
 
+-- one bucket more that has no room, where none before it had any
+pub lacks_one_more : (o : Totals) (v log : List NoteView) (count n : ℕ) → IsPrefix v log → NoneHasRoom (state o v) count n → LacksRoom (state o log) count n → NoneHasRoom (state o log) (count + 1) n
+lacks_one_more o v log count n begins none here i low = by (ℕ_discrete i count)
+  where
+    by : Dec (i ≡ count) → LacksRoom (state o log) i n
+    by (yes is) = subst (λ (k : ℕ). LacksRoom (state o log) k n) (sym is) here
+    by (no ne) = lacks_later o v log i n begins (none i (omega (arith, low, ne)))
+
 each_lacks : (bs : List CountedBucket) (n : ℕ) → ((i : ℕ) → i < length bs → IsSomeAnd (slice_get bs i) (λ (b : CountedBucket). b.size < b.used + n)) → AllByRecursion (λ (b : CountedBucket). b.size < b.used + n) bs
 each_lacks [] n each = tt
 each_lacks (b ∷ bs) n each = (each zero (omega arith), each_lacks bs n (λ i low. each (suc i) (omega (arith, low))))

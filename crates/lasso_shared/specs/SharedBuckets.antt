@@ -1,5 +1,5 @@
 -- What contracts see of buckets of the shared arena: of what is owned of one, of one that is not in a history yet, and of one that is.
-use Rattle.std.specs.Prelude.{◌≡◌, ℕ, suc, ◌+◌, ◌-◌, ◌^◌, ◌≤◌, ◌<◌, List, Some, slice_get, IsSomeAnd}
+use Rattle.std.specs.Prelude.{◌≡◌, ℕ, suc, ◌+◌, ◌-◌, ◌^◌, ◌≤◌, ◌<◌, List, ◌∷◌, Some, slice_get, IsSomeAnd}
 use denote.RawPtr.{Ptr, block_ptr}
 use Rattle.logbook.specs.Pages.{Book, Named}
 use Rattle.lasso_shared.specs.Buckets.{CountedBucket}
@@ -87,3 +87,7 @@ pub record IsRangeOf (b : SharedView) (notes : List NoteView) (r : RangeView) (b
   pub start : r.start ≡ b.site.start + before
   pub len : r.len ≡ bytes
   pub taken : HasTaken (state b.of.opening notes) b.position (before + bytes)
+
+-- the numbers of an interner's book, and behind them its names
+abbrev pub names_with_book : InternerId → List ℕ
+names_with_book of = of.book.number ∷ of.book.log_name ∷ of.book.cells_name ∷ of.chunks

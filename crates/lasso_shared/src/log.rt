@@ -20,6 +20,7 @@ pub mod spine;
 mod tests;
 pub mod ticket;
 pub mod turns;
+mod walks;
 pub mod words;
 
 pub use kept_slot::KeptSlot;

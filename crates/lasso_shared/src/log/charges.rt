@@ -1,5 +1,5 @@
 //! What a spine does where no bucket has room for a text: it adds one, or the limit refuses the text.
-ghost use Rattle.std.specs.Prelude.{◌≡◌, ◌≢◌, ◌+◌, ◌<◌, ◌≤◌, ◌^◌, ◌⊎◌, ◌∷◌, [], length, Some, IfOk, IfErr, OnOk, OnErr};
+ghost use Rattle.std.specs.Prelude.{◌≡◌, ◌≢◌, ◌+◌, ◌<◌, ◌≤◌, ◌^◌, ◌⊎◌, ◌∷◌, [], length, Some, IsSomeAnd, IfOk, IfErr, OnOk, OnErr};
 ghost use Rattle.lasso_parts.specs.declared.util.LassoErrorKind.TheVariants.{FailedAllocation, MemoryLimitReached};
 ghost use Rattle.lasso_shared.specs.Buckets.{bucket_size};
 ghost use Rattle.lasso_shared.specs.Chunks.{era_named};
@@ -7,7 +7,7 @@ ghost use Rattle.lasso_shared.specs.History.{Charge, IsLegal};
 ghost use Rattle.lasso_shared.specs.LentBuckets.{LentBucket};
 ghost use Rattle.lasso_shared.specs.Notes.{Since, state};
 ghost use Rattle.lasso_shared.specs.Pieces.{RangeView};
-ghost use Rattle.lasso_shared.specs.SharedBuckets.{SharedView};
+ghost use Rattle.lasso_shared.specs.SharedBuckets.{SharedView, names_with_book};
 ghost use Rattle.lasso_shared.specs.Turns.{NoneHasRoom, IsPastLimit};
 ghost use Rattle.lasso_shared.specs.Views.{PassView, InternerId, SpineView, TurnsView, IsSamePass, IsSameSpine, list_of, seen};
 
@@ -16,6 +16,7 @@ use crate::log::spine::Spine;
 use crate::log::turns::Turns;
 use crate::log::words::Log;
 use crate::shared_arena::bucket::SharedBucket;
+use crate::shared_arena::bucket_list::BucketList;
 use crate::shared_arena::new_bucket::NewBucket;
 use crate::shared_arena::piece::Range;
 use lasso_parts::keys::Key;
@@ -25,14 +26,41 @@ use std::hint::spin_loop;
 use std::sync::Wait;
 
 impl<K: Key> Log<K> {
-    /// Adds a bucket for so many bytes, at least one, for which none of the buckets that the spine's turns know has room, and gives the range of
-    /// just these bytes, the bucket's first. The bucket has the size that *store* gives. It is refused by the limit, at one step at
-    /// which the list is as long as the spine's, or for want of memory; no event is added then. It waits where the turns are not the
-    /// spine's, and does not return where the turn word is 2^64 - 1.
+    /// Adds a bucket for so many bytes, at least one, for which none of the buckets that the spine's turns know has room, puts it into the
+    /// list, and gives the right to fill just these bytes, the bucket's first. The bucket has the size that *store* gives. It is refused by the
+    /// limit, at one step at which the list of texts is as long as the spine's, or for want of memory; no event is added then. It
+    /// waits where the turns are not the spine's, and does not return where the turn word is 2^64 - 1.
     pub fn charge<R: Wait>(
         &self,
         rt: &R,
         alloc: Global,
+        list: &BucketList<K>,
+        spine: &mut Spine<K>,
+        pass: &mut Pass<K>,
+        bytes: u64,
+    ) -> LassoResult<Range>
+        requires of { (pass.old.of ≡ self.now) × (spine.old.of ≡ self.now) × (list.now ≡ names_with_book self.now) }
+        requires some { bytes ≢ 0 }
+        requires room { NoneHasRoom (state self.now.opening pass.old.notes) spine.old.turns.count bytes }
+        ensures same { IsSamePass pass.new pass.old × IsSameSpine spine.new spine.old × (spine.new.kept ≡ spine.old.kept) }
+        ensures event { IfOk result (λ r. IsSomeAnd (bucket_size spine.old.turns.doubling spine.old.turns.usage spine.old.turns.limit bytes) (λ size. Since pass.old.number pass.old.notes pass.new.notes (Charge size bytes ∷ []))) }
+        ensures range { IfOk result (λ r. (r.era ≡ era_named self.now.chunks) × (r.len ≡ bytes)) }
+        ensures turns { OnOk result ((spine.new.turns.notes ≡ pass.new.notes) × (spine.new.turns.count ≡ spine.old.turns.count + 1)) }
+        ensures refused { IfErr result (λ error. (error ≡ FailedAllocation) ⊎ ((error ≡ MemoryLimitReached) × IsPastLimit self.now.opening pass.old.notes pass.new.notes (length (list_of self.now spine.old.notes)) bytes)) }
+        ensures err { OnErr result (Since pass.old.number pass.old.notes pass.new.notes [] × (spine.new ≡ spine.old)) }
+        ensures legal { IsLegal K.key_at self.now.opening (seen pass.new) }
+    {
+        let (range, bucket) = self.charge_new(rt, alloc, list, spine, pass, bytes)?;
+        list.push_front(rt, bucket);
+        Ok(range)
+    }
+
+    // The same, but for putting the bucket into the list, where room for it is made before the step that adds it.
+    fn charge_new<R: Wait>(
+        &self,
+        rt: &R,
+        alloc: Global,
+        list: &BucketList<K>,
         spine: &mut Spine<K>,
         pass: &mut Pass<K>,
         bytes: u64,
@@ -58,6 +86,7 @@ impl<K: Key> Log<K> {
         if spine.turns.count >= u64::MAX - 2 {
             return Err(LassoError::new(LassoErrorKind::FailedAllocation));
         }
+        list.reserve_one()?;
         let mut bucket = self.new_bucket(rt, alloc, size)?;
         let Some(range) = bucket.reserve(bytes as usize) else {
             unreachable!()

@@ -74,6 +74,13 @@ impl<K: Key> Spine<K> {
         self.first + self.appended
     }
 
+    /// How many buckets the spine has seen.
+    pub fn buckets(&self) -> u64
+        ensures { result ≡ self.now.turns.count }
+    {
+        self.turns.count
+    }
+
     /// Does nothing. Contracts learn that a pass of the same interner that has seen a list of the same length has
     /// seen the same list.
     pub fn agrees(&self, pass: &Pass<K>)

@@ -54,6 +54,13 @@ impl<K: Key> SharedBucket<K> {
         self.size
     }
 
+    /// Its position in the history.
+    pub(crate) fn position(&self) -> u64
+        ensures { result ≡ self.now.position }
+    {
+        self.position
+    }
+
     /// How many of its bytes are taken, at one step. It takes no memory and does not wait.
     pub fn len(&self, log: &Log<K>, pass: &mut Pass<K>) -> u64
         requires { (pass.old.of ≡ log.now) × (self.now.of ≡ log.now) }

@@ -1,7 +1,10 @@
 //! Pieces of static texts, and of texts that threads fill side by side in one bucket.
 
 mod charges;
+mod filling;
+mod lists;
 mod ranges;
+mod storing;
 
 use crate::shared_arena::era::Era;
 use crate::shared_arena::piece::Piece;

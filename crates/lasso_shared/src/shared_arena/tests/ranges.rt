@@ -17,7 +17,7 @@ use std::test::*;
 use std::thread::join;
 
 // A log that opens with an empty bucket of so many bytes.
-fn opens(alloc: Global, bytes: usize) -> LassoResult<NewLog<Spur>>
+pub(super) fn opens(alloc: Global, bytes: usize) -> LassoResult<NewLog<Spur>>
     requires { bytes ≢ 0 }
     ensures { IfOk result (λ n. n.bucket.of ≡ n.log) }
 {
@@ -26,7 +26,7 @@ fn opens(alloc: Global, bytes: usize) -> LassoResult<NewLog<Spur>>
 }
 
 // Takes as many bytes as the text has, fills them, and gives the piece.
-fn copies<R: Wait>(
+pub(super) fn copies<R: Wait>(
     rt: &R,
     log: &Log<Spur>,
     bucket: &SharedBucket<Spur>,
