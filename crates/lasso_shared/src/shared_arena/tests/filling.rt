@@ -1,5 +1,6 @@
 //! Four threads that fill one bucket with texts of lengths at random.
-ghost use Rattle.std.specs.Prelude.{◌≡◌, All, IfOk};
+ghost use denote.Param.Send.{IsSync};
+ghost use Rattle.std.specs.Prelude.{◌≡◌, All, IfOk, IfSome};
 ghost use Rattle.lasso_shared.specs.Chunks.{era_named};
 ghost use Rattle.lasso_shared.specs.Eras.{life};
 ghost use Rattle.lasso_shared.specs.Pieces.{PieceView};
@@ -15,7 +16,7 @@ use lasso_parts::util::LassoResult;
 use std::alloc::Global;
 use std::sync::Wait;
 use std::test::*;
-use std::thread::join;
+use std::thread::{Threads, join};
 
 // What each thread writes, 40 bytes of its own letter.
 const LETTERS: [&str; 4] = [
@@ -85,38 +86,76 @@ fn bytes_of(log: &Log<Spur>, pieces: &Vec<Piece>, letters: &str) -> Option<u64>
     Some(bytes)
 }
 
+// What two threads have filled.
+type Filled = (LassoResult<Vec<Piece>>, LassoResult<Vec<Piece>>);
+
+// Two threads that fill the bucket, each with its own letters.
+fn two_fill<R: Threads + Wait + Sync>(
+    rt: &R,
+    alloc: Global,
+    log: &Log<Spur>,
+    bucket: &SharedBucket<Spur>,
+    letters: (&str, &str),
+) -> Filled
+    requires { bucket.now.of ≡ log.now }
+    ensures first { IfOk result.0 (λ v. All (λ p. p.until ≡ life (era_named log.now.chunks)) v.items) }
+    ensures second { IfOk result.1 (λ v. All (λ p. p.until ≡ life (era_named log.now.chunks)) v.items) }
+{
+    join(
+        rt,
+        || fills(rt, alloc, log, bucket, letters.0, 7),
+        || fills(rt, alloc, log, bucket, letters.1, 41),
+    )
+}
+
+// Four threads that fill it.
+fn four_fill<R: Threads + Wait + Sync>(
+    rt: &R,
+    alloc: Global,
+    log: &Log<Spur>,
+    bucket: &SharedBucket<Spur>,
+) -> (Filled, Filled)
+    requires { bucket.now.of ≡ log.now }
+    ensures first { IfOk result.0.0 (λ v. All (λ p. p.until ≡ life (era_named log.now.chunks)) v.items) }
+    ensures second { IfOk result.0.1 (λ v. All (λ p. p.until ≡ life (era_named log.now.chunks)) v.items) }
+    ensures third { IfOk result.1.0 (λ v. All (λ p. p.until ≡ life (era_named log.now.chunks)) v.items) }
+    ensures fourth { IfOk result.1.1 (λ v. All (λ p. p.until ≡ life (era_named log.now.chunks)) v.items) }
+{
+    join(
+        rt,
+        ||
+            requires { IsSync R.row × (bucket.now.of ≡ log.now) }
+        { two_fill(rt, alloc, log, bucket, (LETTERS[0], LETTERS[1])) },
+        ||
+            requires { IsSync R.row × (bucket.now.of ≡ log.now) }
+        { two_fill(rt, alloc, log, bucket, (LETTERS[2], LETTERS[3])) },
+    )
+}
+
+// How many bytes a thread has filled, where each of its pieces shows its letters.
+fn filled_by(log: &Log<Spur>, filled: LassoResult<Vec<Piece>>, letters: &str) -> Option<u64>
+    requires { IfOk filled (λ v. All (λ p. p.until ≡ life (era_named log.now.chunks)) v.items) }
+{
+    let pieces = filled.ok()?;
+    bytes_of(log, &pieces, letters)
+}
+
 #[test]
 fn four_threads_fill_a_bucket_side_by_side(rt: HostRuntime) -> Result<(), Fail> {
-    let alloc = rt.alloc();
     let NewLog {
         log,
         spine: _,
         bucket,
-    } = opens(alloc, 65_536)?;
-    let fill = |thread: usize| fills(
-        &rt,
-        alloc,
-        &log,
-        &bucket,
-        LETTERS[thread],
-        7 + thread as u32,
-    );
-    let ((a, b), (c, d)) = join(
-        &rt,
-        || join(&rt, || fill(0), || fill(1)),
-        || join(&rt, || fill(2), || fill(3)),
-    );
-    let mut sum: u64 = 0;
-    for (pieces, letters) in [
-        (a?, LETTERS[0]),
-        (b?, LETTERS[1]),
-        (c?, LETTERS[2]),
-        (d?, LETTERS[3]),
-    ] {
-        sum = sum.saturating_add(bytes_of(&log, &pieces, letters).ok_or(
-            "a piece shows another text",
-        )?);
-    }
+    } = opens(rt.alloc(), 65_536)?;
+    let ((a, b), (c, d)) = four_fill(&rt, rt.alloc(), &log, &bucket);
+    let first = filled_by(&log, a, LETTERS[0]).ok_or("another text, or no memory")?;
+    let second = filled_by(&log, b, LETTERS[1]).ok_or("another text, or no memory")?;
+    let third = filled_by(&log, c, LETTERS[2]).ok_or("another text, or no memory")?;
+    let fourth = filled_by(&log, d, LETTERS[3]).ok_or("another text, or no memory")?;
+    let sum = first
+        .saturating_add(second)
+        .saturating_add(third)
+        .saturating_add(fourth);
     let mut pass = log.pass();
     assert_eq!(rt; (sum, bucket.len(&log, &mut pass)), (65_536, 65_536));
     Ok(())

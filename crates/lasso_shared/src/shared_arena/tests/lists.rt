@@ -167,6 +167,6 @@ fn a_thread_walks_while_another_adds_buckets(rt: HostRuntime) -> Result<(), Fail
         || walks_twenty(&rt, &log, &list),
     );
     stored?;
-    assert_eq!(rt; taken(&rt, &log, &list), 80 + copied);
+    assert_eq!(rt; taken(&rt, &log, &list), copied.saturating_add(80));
     Ok(())
 }
