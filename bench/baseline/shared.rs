@@ -5,7 +5,9 @@ mod positions;
 
 use positions::random_positions;
 use std::hint::black_box;
+use std::ptr;
 use std::sync::RwLock;
+use std::sync::atomic::{AtomicUsize, Ordering};
 use std::thread;
 use std::time::Instant;
 
@@ -16,6 +18,8 @@ const TEXTS: usize = 100_000;
 const CALLS: usize = 2_000_000;
 
 const THREADS: [usize; 3] = [1, 2, 4];
+
+const COPIES: usize = 65_536;
 
 /// A list that threads read at once.
 trait SharedTexts: Sync {
@@ -102,9 +106,33 @@ fn measure<T: SharedTexts>(name: &str, call: &str, texts: &T, positions: &[u32])
     }
 }
 
+// Takes 16 bytes of a buffer by adding to a number that threads share, and copies a text there, so often. The least
+// nanoseconds of a call in several rounds, each with a new buffer.
+fn time_copies(text: &[u8; 16]) -> f64 {
+    let mut best = f64::INFINITY;
+    for _ in 0..ROUNDS {
+        let mut buffer: Vec<u8> = Vec::with_capacity(COPIES * 16);
+        let first = buffer.as_mut_ptr();
+        let taken = AtomicUsize::new(0);
+        let start = Instant::now();
+        for _ in 0..COPIES {
+            let at = black_box(&taken).fetch_add(16, Ordering::SeqCst);
+            assert!(at + 16 <= COPIES * 16);
+            // The bytes from `at` on are in the buffer, and nobody else has them.
+            unsafe { ptr::copy_nonoverlapping(black_box(text).as_ptr(), first.add(at), 16) };
+        }
+        best = best.min(start.elapsed().as_secs_f64() * 1e9 / COPIES as f64);
+        unsafe { buffer.set_len(COPIES * 16) };
+        assert!(black_box(&buffer).chunks(16).all(|copy| copy == text));
+    }
+    best
+}
+
 fn main() {
     let texts: Vec<&'static str> = (0..TEXTS).map(|n| &*format!("text {n}").leak()).collect();
     let positions = random_positions(TEXTS as u32, CALLS as u32);
     measure("RwLock<Vec<&str>>", "index", &RwLock::new(texts.clone()), &positions);
     measure("Vec<&str>", "index", &texts, &positions);
+    println!("{COPIES} texts of 16 bytes");
+    println!("{:<18}{:<18}{:>9.1}", "AtomicUsize", "add, memcpy", time_copies(b"a text of length"));
 }

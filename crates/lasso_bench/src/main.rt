@@ -6,6 +6,7 @@
 
 ghost use Rattle.std.specs.Prelude.{◌<◌};
 
+mod copying;
 mod frozen;
 mod pools;
 mod positions;
@@ -18,6 +19,7 @@ mod threads;
 mod timing;
 
 use anyhow::{Result, bail};
+use copying::{COPIES, best_copy_timings};
 use frozen::{FrozenSample, best_frozen_timings};
 use pools::{MapPool, RodeoPool, SetPool};
 use refill::best_refill_timings;
@@ -126,7 +128,17 @@ fn print_shared<R: AllocGlobal + Clock + Print + Threads + Wait + Sync>(rt: &R) 
     print_columns(rt, "Log", "len", log.count)?;
     let vector = best_shared_timings(rt, &shelf.vector, &walk)?;
     print_columns(rt, "boxcar::Vec", "get", vector.read)?;
-    print_columns(rt, "boxcar::Vec", "count", vector.count)
+    print_columns(rt, "boxcar::Vec", "count", vector.count)?;
+    print_copies(rt)
+}
+
+// Times texts that are copied into a bucket that threads share, and passes, and prints a line for each.
+fn print_copies<R: AllocGlobal + Clock + Print + Wait>(rt: &R) -> Result<()> {
+    let timings = best_copy_timings(rt)?;
+    println!(rt; "{COPIES} texts of 16 bytes")?;
+    println!(rt; "{:<18}{:<18}{:>9}", "name", "operation", "ns a call")?;
+    print_line(rt, "SharedBucket", "reserve, fill", timings.copy)?;
+    print_line(rt, "Log", "pass", timings.pass)
 }
 
 // Prints the times of a call, which are given in tenths of a nanosecond.

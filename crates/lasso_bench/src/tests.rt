@@ -1,4 +1,5 @@
 //! One run of each pool over a few texts.
+use crate::copying::best_copy_timings;
 use crate::frozen::{FrozenSample, FrozenTexts, best_frozen_timings, keys_at, resolve_all};
 use crate::pools::{KeyedTexts, MapPool, RodeoPool, SetPool, TextPool};
 use crate::positions::random_positions;
@@ -72,6 +73,12 @@ fn shared_lists_answer_right(rt: HostRuntime) -> Result<(), Fail> {
     let walk = Walk::new(rt.alloc(), 1000, 5000)?;
     assert!(rt; best_shared_timings(&rt, &shelf.log, &walk).is_ok());
     assert!(rt; best_shared_timings(&rt, &shelf.vector, &walk).is_ok());
+    Ok(())
+}
+
+#[test]
+fn a_bucket_is_filled_with_copies(rt: HostRuntime) -> Result<(), Fail> {
+    assert!(rt; best_copy_timings(&rt).is_ok());
     Ok(())
 }
 

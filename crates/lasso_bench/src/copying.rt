@@ -1,0 +1,78 @@
+//! Texts that one thread copies into a bucket that threads share, and passes that it makes: how long a call takes.
+ghost use Rattle.std.specs.Prelude.{◌≡◌};
+ghost use Rattle.lasso_shared.specs.SharedBuckets.{SharedView};
+ghost use Rattle.lasso_shared.specs.Views.{InternerId};
+
+use crate::timing::{ROUNDS, tenths_a_call};
+use anyhow::{Result, ensure};
+use lasso_parts::keys::Spur;
+use lasso_shared::log::{Log, NewLog, OpeningTexts};
+use lasso_shared::shared_arena::bucket::SharedBucket;
+use std::rt::Clock;
+use std::sync::Wait;
+use std::time::Instant;
+
+/// How many texts are copied in a round, and how many passes are made.
+pub const COPIES: u32 = 65_536;
+
+// The text that is copied, of 16 bytes.
+const TEXT: &str = "a text of length";
+
+/// How long a call takes, in tenths of a nanosecond.
+#[derive(Clone, Copy, Debug)]
+pub struct CopyTimings {
+    /// To take 16 bytes of a bucket, and to fill them.
+    pub copy: u64,
+    /// To make a pass.
+    pub pass: u64,
+}
+
+/// The least that each call took in several rounds, each with a new bucket. It fails where the clock does, for want of memory, and
+/// where a text was not copied.
+pub fn best_copy_timings<R: AllocGlobal + Clock + Wait>(rt: &R) -> Result<CopyTimings> {
+    let mut best = CopyTimings {
+        copy: u64::MAX,
+        pass: u64::MAX,
+    };
+    for _ in 0..ROUNDS {
+        let texts = OpeningTexts::new(rt.alloc(), COPIES as usize * 16)?;
+        let NewLog {
+            log,
+            spine: _,
+            bucket,
+        } = Log::<Spur>::open_with(texts, u64::MAX);
+        let start = Instant::now(rt)?;
+        let copied = copy_all(rt, &log, &bucket);
+        best.copy = best
+            .copy
+            .min(tenths_a_call(start.elapsed(rt)?, COPIES as usize));
+        ensure!(copied == COPIES, "a text was not copied");
+        let start = Instant::now(rt)?;
+        make_passes(&log);
+        best.pass = best
+            .pass
+            .min(tenths_a_call(start.elapsed(rt)?, COPIES as usize));
+    }
+    Ok(best)
+}
+
+/// Copies the text as often as the bucket has room for it, and at most `COPIES` times, and tells how often it was copied.
+pub fn copy_all<R: Wait>(rt: &R, log: &Log<Spur>, bucket: &SharedBucket<Spur>) -> u32
+    requires { bucket.now.of ≡ log.now }
+{
+    let mut pass = log.pass();
+    for copied in 0..COPIES {
+        let Some(range) = bucket.try_reserve(rt, log, &mut pass, TEXT.len() as u64) else {
+            return copied;
+        };
+        drop(range.fill(log.era(), TEXT));
+    }
+    COPIES
+}
+
+// Makes `COPIES` passes, one after another.
+fn make_passes(log: &Log<Spur>) {
+    for _ in 0..COPIES {
+        drop(log.pass());
+    }
+}
