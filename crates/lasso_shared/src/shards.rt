@@ -2,7 +2,7 @@
 //!
 //! A text is of one shard, by its hash. A shard's index is exact for a history that the shard has seen. So it is for each history that
 //! begins with that one and has no more texts of the shard, which the spine's number of them tells. Who holds a shard's lock
-//! may take the spine's; who holds the spine's takes no other.
+//! may take the spine's; who holds the spine's takes no shard.
 ghost use Rattle.std.specs.Prelude.{◌≡◌, ◌<◌, ℕ, length, Some, slice_get};
 
 mod intern;

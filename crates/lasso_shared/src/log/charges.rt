@@ -27,8 +27,8 @@ use std::sync::Wait;
 
 impl<K: Key> Log<K> {
     /// Adds a bucket for so many bytes, at least one, for which none of the buckets that the spine's turns know has room, puts it into the
-    /// list, and gives the right to fill just these bytes, the bucket's first. The bucket has the size that *store* gives. It is refused by the
-    /// limit, at one step at which the list of texts is as long as the spine's, or for want of memory; no event is added then. It
+    /// list, and gives the right to fill as many bytes. The bucket has the size that *store* gives. That it is in the list afterwards, and that
+    /// the bytes are its first, tests carry and no clause. It is refused by the limit, at one step at which the list of texts is as long as the spine's, or for want of memory; no event is added then. It
     /// waits where the turns are not the spine's, and does not return where the turn word is 2^64 - 1.
     pub fn charge<R: Wait>(
         &self,

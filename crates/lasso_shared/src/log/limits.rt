@@ -1,4 +1,4 @@
-//! What a spine does about the memory of an interner: it adds buckets under the limit, and sets and reads the limit and the usage.
+//! What a spine does about the memory limit of an interner: it replaces the limit, and reads it and the usage.
 ghost use Rattle.std.specs.Prelude.{◌≡◌, ◌∷◌, [], MatchBool};
 ghost use Rattle.lasso_shared.specs.History.{Limit, IsLegal};
 ghost use Rattle.lasso_shared.specs.Notes.{Since, IsWordWith, state};

@@ -1,4 +1,4 @@
-//! The spine: the numbers of the list, which one thread at a time has, and the slots that it keeps.
+//! The spine: the numbers of the list and of the turns, which one thread at a time has, and the slots that it keeps.
 ghost use Rattle.std.specs.Prelude.{◌≡◌, ◌+◌, ◌-◌, ◌∷◌, ◌++◌, [], length, OnOk, OnErr, IfOk, IfErr, MatchBool};
 ghost use mathlib.Core.List.{IsPrefix};
 ghost use Rattle.lasso_parts.specs.declared.util.LassoErrorKind.TheVariants.{FailedAllocation};

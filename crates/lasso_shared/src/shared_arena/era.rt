@@ -1,5 +1,5 @@
-//! The era of an interner: the time for which the bytes of its buckets are lent. Used by the shared arena and by the
-//! interner's end.
+//! The era of an interner: the time for which the bytes of its buckets are lent. Used by the shared arena, and by the
+//! chunks, which own an interner's era until its end.
 ghost use Rattle.std.specs.Prelude.{◌≡◌, ℕ};
 
 use std::marker::{Model, PhantomData, Send, Sync};

@@ -1,5 +1,5 @@
 //! Rights to bytes that are lent for an era. None of them has bytes of its own. Used by the ranges, pieces and
-//! buckets of the shared arena.
+//! buckets of the shared arena, and by the chunks' rule, which keeps the rights to bytes that nobody has taken.
 //!
 //! A bucket's room is lent to the era byte by byte. `Free` is the exclusive right to fill places that nobody has
 //! taken, `Owed` the right to have them back once the era is over, and `Lent` says that bytes lie somewhere until the

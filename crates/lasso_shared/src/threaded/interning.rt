@@ -14,8 +14,8 @@ use std::sync::Wait;
 
 impl<K: Key, S: BuildHasher + Drop> ThreadedRodeo<K, S> {
     /// The key of the text, which goes last in the list if it is not there. The text is kept as it is, with no copy, so
-    /// the memory limit never refuses it. A text that the pass had seen is never refused. A new one is refused where
-    /// the key type has no key for its position, else for want of memory; no event is added then.
+    /// the memory limit never refuses it. A text that the pass had seen is never refused. A new one is refused for
+    /// want of memory, else where the key type has no key for its position; no event is added then.
     pub fn try_get_or_intern_static_as<R: Wait>(
         &self,
         rt: &R,

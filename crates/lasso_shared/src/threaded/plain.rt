@@ -1,4 +1,5 @@
-//! Plain calls of an interner that threads share: each is the call of a new pass.
+//! Plain calls of an interner that threads share: each is the call of a new pass, which is gone afterwards. So a clause explains each
+//! reply by a legal history of its own; what holds across calls is said by the calls with a pass, and tested of these.
 ghost use Rattle.std.specs.Prelude.{◌≡◌, option_map};
 ghost use Rattle.lasso_shared.specs.History.{IsOpening};
 ghost use Rattle.lasso_shared.specs.Replies.{Static, Intern, Get, Contains, ContainsKey, Resolve, Len, IsEmpty, Interned, Found, Flag, Resolved, Number};
@@ -13,8 +14,8 @@ use std::sync::Wait;
 
 impl<K: Key, S: BuildHasher + Drop> ThreadedRodeo<K, S> {
     /// The key of the text, which goes last in the list if it is not there. The text is kept as it is, with no copy, so
-    /// the memory limit never refuses it. A new one is refused where the key type has no key for its position, else for
-    /// want of memory; no event is added then.
+    /// the memory limit never refuses it. A new one is refused for want of memory, else where the key type has no key for
+    /// its position; no event is added then.
     pub fn try_get_or_intern_static<R: Wait>(&self, rt: &R, text: &'static str) -> LassoResult<K>
         ensures call { IsPlainCall K.key_at self.now.opening (Intern Static text.now) (Interned result) }
         ensures opening { IsOpening K.key_at self.now.opening }
