@@ -78,12 +78,7 @@ pub fn best_shared_timings<T: SharedTexts, R: AllocGlobal + Clock + Threads + Sy
     for _ in 0..ROUNDS {
         for at in 0..3usize {
             best.read[at] = best.read[at].min(time_reads(rt, texts, walk, THREADS[at])?);
-            best.count[at] = best.count[at].min(time_counts(
-                rt,
-                texts,
-                walk,
-                THREADS[at],
-            )?);
+            best.count[at] = best.count[at].min(time_counts(rt, texts, walk, THREADS[at])?);
         }
     }
     Ok(best)
