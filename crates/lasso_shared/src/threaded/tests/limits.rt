@@ -4,7 +4,8 @@ ghost use Rattle.std.specs.Prelude.{◌≡◌};
 use super::FIRST;
 use crate::threaded::ThreadedRodeo;
 use lasso_parts::keys::{MicroSpur, Spur};
-use lasso_parts::util::{Capacity, FixedState, LassoErrorKind, MemoryLimits};
+use lasso_parts::util::{Capacity, FixedState, LassoResult, MemoryLimits};
+use std::alloc::Global;
 use std::process::Abort;
 use std::sync::Wait;
 use std::test::*;
@@ -83,29 +84,19 @@ fn capacity_is_room_for_texts(rt: HostRuntime) -> Result<(), Fail> {
     Ok(())
 }
 
-// Why no interner was made.
-fn refusal(
-    made: Result<ThreadedRodeo<Spur, FixedState>, lasso_parts::util::LassoError>,
-) -> Option<LassoErrorKind> {
+fn is_refused(rt: &impl Abort, alloc: Global, capacity: Capacity) {
+    let made: LassoResult<ThreadedRodeo<Spur, FixedState>> =
+        ThreadedRodeo::with_capacity(alloc, capacity);
     match made {
-        Ok(_) => None,
-        Err(error) => Some(error.kind()),
+        Ok(_made) => assert!(rt; false),
+        Err(error) => assert!(rt; error.kind().is_failed_alloc()),
     }
 }
 
 #[test]
-fn what_no_memory_has_is_refused(rt: HostRuntime) -> Result<(), Fail> {
-    let texts = Capacity::for_strings(usize::MAX);
-    assert_eq!(rt;
-        refusal(ThreadedRodeo::with_capacity(rt.alloc(), texts)),
-        Some(LassoErrorKind::FailedAllocation)
-    );
-    let bytes = Capacity::for_bytes(usize::MAX);
-    assert_eq!(rt;
-        refusal(ThreadedRodeo::with_capacity(rt.alloc(), bytes)),
-        Some(LassoErrorKind::FailedAllocation)
-    );
-    Ok(())
+fn sizes_that_no_memory_has(rt: HostRuntime) {
+    is_refused(&rt, rt.alloc(), Capacity::for_bytes(usize::MAX));
+    is_refused(&rt, rt.alloc(), Capacity::for_strings(usize::MAX));
 }
 
 #[test]
