@@ -96,6 +96,7 @@ impl<K: Key, S: BuildHasher + Drop> ThreadedRodeo<K, S> {
     /// memory and does not wait.
     pub fn capacity(&self) -> usize
         ensures enough { (n : ℕ) × IsPlainCall K.key_at self.now.opening Len (Number n) × (n ≤ result) }
+        ensures opening { IsOpening K.key_at self.now.opening }
     {
         let len = self.len();
         let cells = self.shards.log.cells() as usize;
