@@ -1,5 +1,4 @@
 //! What makers open with, and limits that are set and read.
-ghost use Rattle.std.specs.Prelude.{◌≡◌};
 
 use super::FIRST;
 use crate::threaded::ThreadedRodeo;
@@ -85,8 +84,9 @@ fn capacity_is_room_for_texts(rt: HostRuntime) -> Result<(), Fail> {
 }
 
 fn is_refused(rt: &impl Abort, alloc: Global, capacity: Capacity) {
-    let made: LassoResult<ThreadedRodeo<Spur, FixedState>> =
-        ThreadedRodeo::with_capacity(alloc, capacity);
+    let made: LassoResult<ThreadedRodeo<Spur, FixedState>> = ThreadedRodeo::with_capacity(
+        alloc, capacity,
+    );
     match made {
         Ok(_made) => assert!(rt; false),
         Err(error) => assert!(rt; error.kind().is_failed_alloc()),
