@@ -5,8 +5,8 @@ use Rattle.lasso_parts.specs.Texts.{Text, IsDistinct, Fits, position_of, key_of}
 use Rattle.lasso_parts.proofs.TextLemmas.{distinct_push, key_of_present}
 use Rattle.lasso_parts.proofs.IndexLaws.{position_of_at, slice_get_push}
 use Rattle.lasso_parts.specs.declared.util.LassoErrorKind.TheVariants.{KeySpaceExhaustion, FailedAllocation}
-use Rattle.lasso_shared.specs.History.{Event, Append, History, Totals, totals, Lacks, IsLegal, IsOpening}
-use Rattle.lasso_shared.specs.Replies.{Static, Question, Intern, Get, Contains, ContainsKey, Resolve, Len, IsEmpty, Reply, Interned, Found, Flag, Resolved, Number, MayReply}
+use Rattle.lasso_shared.specs.History.{Event, Append, Limit, History, Totals, totals, Lacks, IsLegal, IsOpening}
+use Rattle.lasso_shared.specs.Replies.{Static, Question, Intern, Get, Contains, ContainsKey, Resolve, Len, IsEmpty, Usage, MaxUsage, SetLimit, Reply, Interned, Found, Flag, Resolved, Number, Done, MayReply}
 use Rattle.lasso_shared.specs.Calls.{events_of, Makes, MayComeAfter, IsCall, IsPlainCall}
 use Rattle.lasso_shared.specs.Notes.{NoteView, history, state, Since}
 use Rattle.lasso_shared.proofs.Histories.{history_append, events_append}
@@ -53,6 +53,16 @@ module _ {K : Type 0} (key_at : ℕ → Option K) (o : Totals) (p : ℕ) where
 
   pub measured : (before after : List NoteView) (r : ℕ) → Since p before after [] → r ≡ length (state o after).texts → IsCall key_at o (history before) (history after) p Len (Number r)
   measured before after r s is = explained_last before after [] Len (Number r) s tt is refl
+
+  pub weighed : (before after : List NoteView) (r : ℕ) → Since p before after [] → r ≡ (state o after).usage → IsCall key_at o (history before) (history after) p Usage (Number r)
+  weighed before after r s is = explained_last before after [] Usage (Number r) s tt is refl
+
+  pub limited : (before after : List NoteView) (r : ℕ) → Since p before after [] → r ≡ (state o after).limit → IsCall key_at o (history before) (history after) p MaxUsage (Number r)
+  limited before after r s is = explained_last before after [] MaxUsage (Number r) s tt is refl
+
+  -- the limit was replaced
+  pub replaced : (before after : List NoteView) (m : ℕ) → Since p before after (Limit m ∷ []) → IsCall key_at o (history before) (history after) p (SetLimit m) Done
+  replaced before after m s = explained_last before after (Limit m ∷ []) (SetLimit m) Done s tt tt refl
 
   -- the text is there
   pub found : (before after : List NoteView) (t : Text) (n : ℕ) (k : K) → Since p before after [] → position_of (state o after).texts t ≡ Some n → key_at n ≡ Some k → IsCall key_at o (history before) (history after) p (Intern Static t) (Interned (Ok k))

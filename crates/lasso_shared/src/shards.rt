@@ -6,6 +6,7 @@
 ghost use Rattle.std.specs.Prelude.{◌≡◌, ◌<◌, ℕ, length, Some, slice_get};
 
 mod intern;
+mod limits;
 mod look;
 mod open;
 pub mod shard;
