@@ -2,7 +2,7 @@
 --
 -- What a pass saw comes in parts, each with its own events: none until the bytes are stored, then those that store them, then none or
 -- the append. The whole is a call, whose reply is explained at its end, or for a refusal by the limit at the step that has its ground.
-use Rattle.std.proofs.Common.{◌≡◌, ◌≢◌, ℕ, List, [], ◌∷◌, ◌++◌, length, Option, Some, None, refl, ap, sym, ◌∙◌, subst, inl, inr, append_assoc, append-nil, absurd}
+use Rattle.std.proofs.Common.{◌≡◌, ◌≢◌, ℕ, List, [], ◌∷◌, ◌++◌, length, Option, Some, None, refl, ap, sym, ◌∙◌, subst, inl, inr, append_assoc, append-nil, arith}
 use Rattle.std.specs.Prelude.{◌⊎◌, ◌+◌, ◌<◌, Result, Ok, Err, IfOk, IfErr, OnErr, IsSomeAnd, option_and_then}
 use mathlib.Core.List.{IsPrefix}
 use Rattle.lasso_parts.specs.Texts.{Text, IsDistinct, position_of, key_of}
@@ -13,7 +13,7 @@ use Rattle.lasso_parts.specs.declared.util.LassoErrorKind.TheVariants.{FailedAll
 use Rattle.lasso_shared.specs.Calls.{events_of, TakesBytes, Stores, Makes, IsCall}
 use Rattle.lasso_shared.specs.History.{Event, Append, Reserve, Charge, History, Totals, totals, Lacks}
 use Rattle.lasso_shared.specs.Notes.{NoteView, history, state, Since}
-use Rattle.lasso_shared.specs.Replies.{Keeping, Copied, Static, Intern, Interned, MayReply}
+use Rattle.lasso_shared.specs.Replies.{Keeping, Copied, Intern, Reply, Interned, MayReply}
 use Rattle.lasso_shared.specs.Shards.{PutsLast}
 use Rattle.lasso_shared.specs.Turns.{IsPastLimit}
 use Rattle.lasso_shared.specs.Views.{InternerId, list_of}
@@ -39,6 +39,11 @@ cancel (x ∷ xs) ys zs e = cancel xs ys zs (cc e)
 pub takes_later : (p : ℕ) (a b c : List NoteView) (n : ℕ) → Since p a b [] → ((own : List Event) × TakesBytes n own × Since p b c own) → (own : List Event) × TakesBytes n own × Since p a c own
 takes_later p a b c n s t = (t.0, t.1, since_trans p a b c t.0 s t.2)
 
+pub takes_later_where : {A E : Type 0} (p q : ℕ) (a b c : List NoteView) (n : ℕ) (r : Result A E) → q ≡ p → Since p a b [] → IfOk r (λ x. (own : List Event) × TakesBytes n own × Since q b c own)
+    → IfOk r (λ x. (own : List Event) × TakesBytes n own × Since p a c own)
+takes_later_where p q a b c n (Ok x) same s t = takes_later p a b c n s (t.0, t.1, subst (λ (i : ℕ). Since i b c t.0) same t.2)
+takes_later_where p q a b c n (Err e) same s t = tt
+
 -- ---- the bytes
 
 -- one event took the bytes, in a bucket that was there or in a new one
@@ -49,10 +54,25 @@ pub charged_bytes : (p : ℕ) (a b : List NoteView) (n : ℕ) (size : Option ℕ
 charged_bytes p a b n (Some m) s = (Charge m n ∷ [], inr (m, refl), s)
 charged_bytes p a b n None s = absurd s
 
+-- the same of what adds a bucket, or is refused
+pub charged_later : {A E : Type 0} (p q : ℕ) (a b c : List NoteView) (n : ℕ) (size : Option ℕ) (r : Result A E) → q ≡ p → Since p a b [] → IfOk r (λ x. IsSomeAnd size (λ m. Since q b c (Charge m n ∷ [])))
+    → IfOk r (λ x. (own : List Event) × TakesBytes n own × Since p a c own)
+charged_later p q a b c n size (Ok x) same s charged =
+    takes_later p a b c n s (charged_bytes p b c n size (subst (λ (i : ℕ). IsSomeAnd size (λ m. Since i b c (Charge m n ∷ []))) same charged))
+charged_later p q a b c n size (Err e) same s charged = tt
+
+pub none_later : {A E : Type 0} (X : Type 0) (p q : ℕ) (a b c : List NoteView) (r : Result A E) → q ≡ p → Since p a b [] → OnErr r (Since q b c [] × X) → OnErr r (Since p a c [])
+none_later X p q a b c (Ok x) same s none = tt
+none_later X p q a b c (Err e) same s none = since_trans p a b c [] s (subst (λ (i : ℕ). Since i b c []) same none.0)
+
 -- the bytes of a text that is not empty
 pub stores_bytes : (text : Text) (own : List Event) → text ≢ [] → TakesBytes (length text) own → Stores Copied text own
 stores_bytes [] own some takes = absurd (some refl)
 stores_bytes (byte ∷ bytes) own some takes = takes
+
+pub is_none : (text : Text) → length text ≡ 0 → text ≡ []
+is_none [] e = refl
+is_none (byte ∷ bytes) e = absurd (omega (arith, e))
 
 -- an empty text has none
 pub stores_none : (text : Text) → text ≡ [] → Stores Copied text []
@@ -69,6 +89,11 @@ past_earlier o a b c len n before l = record {
   room = l.room;
   limit = l.limit;
 }
+
+pub refused_later : {A : Type 0} (o : Totals) (a b c : List NoteView) (len n : ℕ) (r : Result A LassoErrorKind) → IsPrefix a b → IfErr r (λ e. (e ≡ FailedAllocation) ⊎ ((e ≡ MemoryLimitReached) × IsPastLimit o b c len n))
+    → IfErr r (λ e. (e ≡ FailedAllocation) ⊎ ((e ≡ MemoryLimitReached) × IsPastLimit o a c len n))
+refused_later o a b c len n (Ok x) before refused = tt
+refused_later o a b c len n (Err e) before refused = elim refused [ inl want ↦ inl want | inr l ↦ inr (l.0, past_earlier o a b c len n before l.1) ]
 
 module _ {K : Type 0} (key_at : ℕ → Option K) where
   -- the key of a new text that stands last
@@ -100,20 +125,31 @@ module _ {K : Type 0} (key_at : ℕ → Option K) where
         let all : Since p before after stored = subst (λ (es : List Event). Since p before after es) (append-nil stored) (since_append p before mid after stored [] s put.1) in
         rw put.0 (explained_last key_at of.opening p before after stored (Intern keeping text) (Interned (Err KeySpaceExhaustion)) all tt (put.2, put.3) stores)
 
-    -- the limit refuses the text, at a step at which the list is as long as one that was seen and lacks it
-    pub called_past_limit : (before mid after : List NoteView) (text : Text) (len : ℕ) → text ≢ [] → Since p before after [] → IsPrefix before mid → Lacks (list_of of mid) text → length (list_of of mid) ≡ len → IsPastLimit of.opening mid after len (length text)
-        → IsCall key_at of.opening (history before) (history after) p (Intern Copied text) (Interned (Err MemoryLimitReached))
-    called_past_limit before mid after text len some s begins lacks long l =
-        let q = Intern Copied text in
-        let r = Interned (Err MemoryLimitReached) in
-        let a = prefix_trans before mid l.notes begins l.past in
-        let b = l.begins in
-        let same : list_of of mid ≡ list_of of l.notes = same_texts of.opening mid l.notes l.past (long ∙ sym l.list) in
-        let reply : MayReply key_at (state of.opening l.notes) q r = (subst (λ (ts : List Text). Lacks ts text) same lacks, refl, some, l.room, l.limit) in
+    -- no event is added, and the reply is that of the list at a step between
+    explained_at : (before at after : List NoteView) (keeping : Keeping) (text : Text) (r : Reply K) → Since p before after [] → IsPrefix before at → IsPrefix at after → MayReply key_at (state of.opening at) (Intern keeping text) r → Makes (Intern keeping text) r []
+        → IsCall key_at of.opening (history before) (history after) p (Intern keeping text) r
+    explained_at before at after keeping text r s a b reply makes =
+        let q = Intern keeping text in
         let parts : a.0 ++ b.0 ≡ s.rest = cancel before (a.0 ++ b.0) s.rest (sym (append_assoc before a.0 b.0) ∙ (ap (λ (h : List NoteView). h ++ b.0) a.1 ∙ b.1) ∙ sym s.begins) in
-        let at : history l.notes ≡ history before ++ history a.0 = ap history (sym a.1) ∙ history_append before a.0 in record {
+        let there : history at ≡ history before ++ history a.0 = ap history (sym a.1) ∙ history_append before a.0 in record {
           past = history s.rest;
           begins = sym (history_append before s.rest) ∙ ap history s.begins;
-          explained = (history a.0, history b.0, sym (history_append a.0 b.0) ∙ ap history parts, tt, subst (λ (h : History). MayReply key_at (totals of.opening h) q r) at reply);
-          makes = subst (Makes q r) (sym s.events) refl;
+          explained = (history a.0, history b.0, sym (history_append a.0 b.0) ∙ ap history parts, tt, subst (λ (h : History). MayReply key_at (totals of.opening h) q r) there reply);
+          makes = subst (Makes q r) (sym s.events) makes;
         }
+
+    -- the bytes are refused after a step at which the list lacks the text: for want of memory, or by the limit at a later step at which the
+    -- list is as long, and so the same
+    pub called_refused : {A : Type 0} (before mid after : List NoteView) (text : Text) (len : ℕ) (r : Result A LassoErrorKind) → text ≢ [] → Since p before mid [] → Lacks (list_of of mid) text → length (list_of of mid) ≡ len
+        → IfErr r (λ e. (e ≡ FailedAllocation) ⊎ ((e ≡ MemoryLimitReached) × IsPastLimit of.opening mid after len (length text))) → OnErr r (Since p mid after [])
+        → IfErr r (λ e. IsCall key_at of.opening (history before) (history after) p (Intern Copied text) (Interned (Err e)))
+    called_refused before mid after text len (Ok x) some s lacks long refused none = tt
+    called_refused before mid after text len (Err e) some s lacks long refused none =
+        let all = since_trans p before mid after [] s none in
+        let first : IsPrefix before mid = (s.rest, s.begins) in elim refused [
+          | inl want ↦ rw want (explained_at before mid after Copied text (Interned (Err FailedAllocation)) all first (none.rest, none.begins) lacks refl)
+          | inr l ↦ (let x = l.1 in
+              let same : list_of of mid ≡ list_of of x.notes = same_texts of.opening mid x.notes x.past (long ∙ sym x.list) in
+              rw l.0 (explained_at before x.notes after Copied text (Interned (Err MemoryLimitReached)) all (prefix_trans before mid x.notes first x.past) x.begins
+                  (subst (λ (ts : List Text). Lacks ts text) same lacks, refl, some, x.room, x.limit) refl))
+        ]

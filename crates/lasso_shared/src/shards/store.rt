@@ -73,7 +73,6 @@ impl<K: Key, S: BuildHasher + Drop> Shards<K, S> {
         requires lacks { Lacks (list_of self.now.log shard.now.known.notes) text.now }
         requires some { text.now ≢ [] }
         ensures same { IsSamePass pass.new pass.old }
-        ensures begins { IsPrefix shard.now.known.notes pass.new.notes }
         ensures event { IfOk result (λ r. (own : List Event) × TakesBytes (length text.now) own × Since pass.old.number pass.old.notes pass.new.notes own) }
         ensures range { IfOk result (λ r. (r.era ≡ era_named self.now.log.chunks) × (r.len ≡ length text.now)) }
         ensures refused { IfErr result (λ error. IsCall K.key_at self.now.log.opening (seen pass.old) (seen pass.new) pass.old.number (Intern Copied text.now) (Interned (Err error))) }
@@ -109,7 +108,6 @@ impl<K: Key, S: BuildHasher + Drop> Shards<K, S> {
         requires begins { IsPrefix shard.now.known.notes pass.old.notes }
         requires lacks { Lacks (list_of self.now.log shard.now.known.notes) text.now }
         ensures same { IsSamePass pass.new pass.old }
-        ensures begins { IsPrefix shard.now.known.notes pass.new.notes }
         ensures event { IfOk result (λ p. (own : List Event) × Stores Copied text.now own × Since pass.old.number pass.old.notes pass.new.notes own) }
         ensures piece { IfOk result (λ p. (p.text ≡ text.now) × Incl (life (era_named self.now.log.chunks)) p.until) }
         ensures refused { IfErr result (λ error. IsCall K.key_at self.now.log.opening (seen pass.old) (seen pass.new) pass.old.number (Intern Copied text.now) (Interned (Err error))) }
