@@ -21,8 +21,7 @@ impl<K: Key, S: BuildHasher + Drop> ThreadedRodeo<K, S> {
     /// ```rust
     /// let rodeo: SpurThreadedRodeo = ThreadedRodeo::default(rt.alloc())?;
     /// let mut pass = rodeo.pass();
-    /// let text = String::from(rt.alloc(), "Hello, world!")?;
-    /// let key = rodeo.try_get_or_intern_as(&rt, &mut pass, &text)?;
+    /// let key = rodeo.try_get_or_intern_as(&rt, &mut pass, "Hello, world!")?;
     /// assert_eq!(rt; rodeo.try_resolve_as(&mut pass, key), Some("Hello, world!"));
     /// ```
     pub fn try_get_or_intern_as<R: Wait>(
