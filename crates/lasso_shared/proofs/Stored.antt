@@ -151,5 +151,5 @@ module _ {K : Type 0} (key_at : ℕ → Option K) where
           | inr l ↦ (let x = l.1 in
               let same : list_of of mid ≡ list_of of x.notes = same_texts of.opening mid x.notes x.past (long ∙ sym x.list) in
               rw l.0 (explained_at before x.notes after Copied text (Interned (Err MemoryLimitReached)) all (prefix_trans before mid x.notes first x.past) x.begins
-                  (subst (λ (ts : List Text). Lacks ts text) same lacks, refl, some, x.room, x.limit) refl))
+              (subst (λ (ts : List Text). Lacks ts text) same lacks, refl, some, x.room, x.limit) refl))
         ]

@@ -30,9 +30,7 @@ fn usage<K: Key, R: Wait>(rt: &R, shards: &Shards<K, FixedState>) -> u64 {
 fn set_limit<K: Key, R: Wait>(rt: &R, shards: &Shards<K, FixedState>, limit: u64) {
     let (guard, mut tally) = shards.spine.take(rt);
     let mut pass = shards.log.pass();
-    shards
-        .log
-        .set_limit(rt, &mut tally.spine, &mut pass, limit);
+    shards.log.set_limit(rt, &mut tally.spine, &mut pass, limit);
     guard.give(rt, tally);
 }
 

@@ -16,7 +16,10 @@ fn a_copied_and_a_static_text_have_one_key(rt: HostRuntime) -> Result<(), Fail> 
     let empty = shared.get_or_intern(&rt, "")?;
     assert_eq!(rt; shared.get_or_intern_static(&rt, "")?, empty);
     assert_eq!(rt; shared.len(), 3);
-    assert_eq!(rt; (first.into_usize(), second.into_usize(), empty.into_usize()), (0, 1, 2));
+    assert_eq!(rt;
+        (first.into_usize(), second.into_usize(), empty.into_usize()),
+        (0, 1, 2)
+    );
     assert_eq!(rt; shared.resolve(first), Some("p"));
     assert_eq!(rt; shared.resolve(empty), Some(""));
     Ok(())
