@@ -2,7 +2,7 @@
 //! reply by a legal history of its own; what holds across calls is said by the calls with a pass, and tested of these.
 ghost use Rattle.std.specs.Prelude.{◌≡◌, ◌≤◌, ℕ, option_map};
 ghost use Rattle.lasso_shared.specs.History.{IsOpening};
-ghost use Rattle.lasso_shared.specs.Replies.{Static, Intern, Get, Contains, ContainsKey, Resolve, Len, IsEmpty, Usage, MaxUsage, SetLimit, Interned, Found, Flag, Resolved, Number, Done};
+ghost use Rattle.lasso_shared.specs.Replies.{Copied, Static, Intern, Get, Contains, ContainsKey, Resolve, Len, IsEmpty, Usage, MaxUsage, SetLimit, Interned, Found, Flag, Resolved, Number, Done};
 ghost use Rattle.lasso_shared.specs.Calls.{IsPlainCall};
 ghost use Rattle.lasso_shared.specs.Views.{InternerId};
 
@@ -13,6 +13,31 @@ use std::hash::BuildHasher;
 use std::sync::Wait;
 
 impl<K: Key, S: BuildHasher + Drop> ThreadedRodeo<K, S> {
+    /// The key of the text, of which a copy goes last in the list if it is not there. A new one is refused where no bucket has room for
+    /// its bytes and the memory limit leaves none; else where the key type has no key for its position, and its bytes stay taken then;
+    /// else for want of memory. A refusal by the limit or for want of memory adds no event.
+    ///
+    /// ```rust
+    /// let rodeo: SpurThreadedRodeo = ThreadedRodeo::default(rt.alloc())?;
+    /// let key = rodeo.try_get_or_intern(&rt, "Hello, world!")?;
+    /// assert_eq!(rt; rodeo.try_get_or_intern_static(&rt, "Hello, world!")?, key);
+    /// ```
+    pub fn try_get_or_intern<R: Wait>(&self, rt: &R, text: &str) -> LassoResult<K>
+        ensures call { IsPlainCall K.key_at self.now.opening (Intern Copied text.now) (Interned result) }
+        ensures opening { IsOpening K.key_at self.now.opening }
+    {
+        let mut pass = self.pass();
+        self.try_get_or_intern_as(rt, &mut pass, text)
+    }
+
+    /// The same call as `try_get_or_intern`.
+    pub fn get_or_intern<R: Wait>(&self, rt: &R, text: &str) -> LassoResult<K>
+        ensures call { IsPlainCall K.key_at self.now.opening (Intern Copied text.now) (Interned result) }
+        ensures opening { IsOpening K.key_at self.now.opening }
+    {
+        self.try_get_or_intern(rt, text)
+    }
+
     /// The key of the text, which goes last in the list if it is not there. The text is kept as it is, with no copy, so
     /// the memory limit never refuses it. A new one is refused for want of memory, else where the key type has no key for
     /// its position; no event is added then.
