@@ -15,7 +15,7 @@ ghost use Rattle.lasso_shared.specs.History.{Event, Lacks};
 ghost use Rattle.lasso_shared.specs.Notes.{Since};
 ghost use Rattle.lasso_shared.specs.Pieces.{PieceView, RangeView};
 ghost use Rattle.lasso_shared.specs.Replies.{Copied, Intern, Interned};
-ghost use Rattle.lasso_shared.specs.Shards.{IsShard, IsTally, shard_of};
+ghost use Rattle.lasso_shared.specs.Shards.{IsShard, shard_of};
 ghost use Rattle.lasso_shared.specs.Turns.{IsPastLimit};
 ghost use Rattle.lasso_shared.specs.Views.{PassView, InternerId, SpineView, IsSamePass, IsSameSpine, list_of, seen};
 

@@ -1,5 +1,5 @@
 //! Copied texts: what they take of the buckets, and what refuses them.
-ghost use Rattle.std.specs.Prelude.{◌≡◌, ◌≢◌};
+ghost use Rattle.std.specs.Prelude.{◌≢◌};
 
 use super::{TEXTS, kept_slots};
 use crate::log::Opened;
