@@ -1,4 +1,4 @@
-//! Threads that intern static texts in one interner.
+//! Threads that intern texts in one interner.
 ghost use Rattle.std.specs.Prelude.{◌≡◌};
 
 mod callers;
