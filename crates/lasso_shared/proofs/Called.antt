@@ -1,5 +1,5 @@
 -- Calls of a pass, from what it had seen and has seen: a reply that is explained at the end of it.
-use Rattle.std.proofs.Common.{◌≡◌, ℕ, List, [], ◌++◌, length, slice_get, Option, refl, ap, sym, ◌∙◌, subst, append_assoc, append-nil}
+use Rattle.std.proofs.Common.{◌≡◌, ℕ, List, [], ◌∷◌, ◌++◌, length, slice_get, Option, refl, ap, sym, ◌∙◌, subst, append_assoc, append-nil}
 use Rattle.std.specs.Prelude.{Bool, nat_eq, nat_lt, is_some}
 use Rattle.lasso_parts.specs.Texts.{Text, Fits, position_of, key_of}
 use Rattle.lasso_parts.proofs.TextLemmas.{key_of_present}
