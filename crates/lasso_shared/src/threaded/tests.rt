@@ -3,6 +3,7 @@ ghost use Rattle.std.specs.Prelude.{◌≡◌};
 
 mod callers;
 mod crowd;
+mod gaps;
 mod looking;
 mod passes;
 
