@@ -1,12 +1,10 @@
 -- Calls of a pass, from what it had seen and has seen: a reply that is explained at the end of it.
-use Rattle.std.proofs.Common.{◌≡◌, ℕ, List, [], ◌∷◌, ◌++◌, length, slice_get, Option, Some, None, refl, ap, sym, ◌∙◌, subst, inl, inr, append_assoc, append-nil}
-use Rattle.std.specs.Prelude.{Ok, Err, Bool, nat_eq, nat_lt, is_some, option_and_then}
-use Rattle.lasso_parts.specs.Texts.{Text, IsDistinct, Fits, position_of, key_of}
-use Rattle.lasso_parts.proofs.TextLemmas.{distinct_push, key_of_present}
-use Rattle.lasso_parts.proofs.IndexLaws.{position_of_at, slice_get_push}
-use Rattle.lasso_parts.specs.declared.util.LassoErrorKind.TheVariants.{KeySpaceExhaustion, FailedAllocation}
-use Rattle.lasso_shared.specs.History.{Event, Append, History, Totals, totals, Lacks, IsLegal, IsOpening}
-use Rattle.lasso_shared.specs.Replies.{Static, Question, Intern, Get, Contains, ContainsKey, Resolve, Len, IsEmpty, Reply, Interned, Found, Flag, Resolved, Number, MayReply}
+use Rattle.std.proofs.Common.{◌≡◌, ℕ, List, [], ◌∷◌, ◌++◌, length, slice_get, Option, refl, ap, sym, ◌∙◌, subst, append_assoc, append-nil}
+use Rattle.std.specs.Prelude.{Bool, nat_eq, nat_lt, is_some}
+use Rattle.lasso_parts.specs.Texts.{Text, Fits, position_of, key_of}
+use Rattle.lasso_parts.proofs.TextLemmas.{key_of_present}
+use Rattle.lasso_shared.specs.History.{Event, Limit, History, Totals, totals, IsLegal, IsOpening}
+use Rattle.lasso_shared.specs.Replies.{Question, Get, Contains, ContainsKey, Resolve, Len, IsEmpty, Usage, MaxUsage, SetLimit, Reply, Found, Flag, Resolved, Number, Done, MayReply}
 use Rattle.lasso_shared.specs.Calls.{events_of, Makes, MayComeAfter, IsCall, IsPlainCall}
 use Rattle.lasso_shared.specs.Notes.{NoteView, history, state, Since}
 use Rattle.lasso_shared.proofs.Histories.{history_append, events_append}
@@ -14,7 +12,7 @@ use Rattle.lasso_shared.proofs.Legal.{legal_parts, list_kept}
 
 module _ {K : Type 0} (key_at : ℕ → Option K) (o : Totals) (p : ℕ) where
   -- the reply is that of the list at the end
-  explained_last : (before after : List NoteView) (own : List Event) (q : Question) (r : Reply K) → Since p before after own → MayComeAfter q [] → MayReply key_at (state o after) q r → Makes q r own → IsCall key_at o (history before) (history after) p q r
+  pub explained_last : (before after : List NoteView) (own : List Event) (q : Question) (r : Reply K) → Since p before after own → MayComeAfter q [] → MayReply key_at (state o after) q r → Makes q r own → IsCall key_at o (history before) (history after) p q r
   explained_last before after own q r s last reply makes =
       let whole : history before ++ history s.rest ≡ history after = sym (history_append before s.rest) ∙ ap history s.begins in record {
         past = history s.rest;
@@ -54,24 +52,15 @@ module _ {K : Type 0} (key_at : ℕ → Option K) (o : Totals) (p : ℕ) where
   pub measured : (before after : List NoteView) (r : ℕ) → Since p before after [] → r ≡ length (state o after).texts → IsCall key_at o (history before) (history after) p Len (Number r)
   measured before after r s is = explained_last before after [] Len (Number r) s tt is refl
 
-  -- the text is there
-  pub found : (before after : List NoteView) (t : Text) (n : ℕ) (k : K) → Since p before after [] → position_of (state o after).texts t ≡ Some n → key_at n ≡ Some k → IsCall key_at o (history before) (history after) p (Intern Static t) (Interned (Ok k))
-  found before after t n k s at key = explained_last before after [] (Intern Static t) (Interned (Ok k)) s tt (ap (option_and_then key_at) at ∙ key) (inl refl)
+  pub weighed : (before after : List NoteView) (r : ℕ) → Since p before after [] → r ≡ (state o after).usage → IsCall key_at o (history before) (history after) p Usage (Number r)
+  weighed before after r s is = explained_last before after [] Usage (Number r) s tt is refl
 
-  -- the text is new, and no key is left for it
-  pub keyless : (before after : List NoteView) (t : Text) → Since p before after [] → Lacks (state o after).texts t → key_at (length (state o after).texts) ≡ None → IsCall key_at o (history before) (history after) p (Intern Static t) (Interned (Err KeySpaceExhaustion))
-  keyless before after t s lacks none = explained_last before after [] (Intern Static t) (Interned (Err KeySpaceExhaustion)) s tt (lacks, none) refl
+  pub limited : (before after : List NoteView) (r : ℕ) → Since p before after [] → r ≡ (state o after).limit → IsCall key_at o (history before) (history after) p MaxUsage (Number r)
+  limited before after r s is = explained_last before after [] MaxUsage (Number r) s tt is refl
 
-  -- the text is new, and memory is wanting
-  pub wanting : (before after : List NoteView) (t : Text) → Since p before after [] → Lacks (state o after).texts t → IsCall key_at o (history before) (history after) p (Intern Static t) (Interned (Err FailedAllocation))
-  wanting before after t s lacks = explained_last before after [] (Intern Static t) (Interned (Err FailedAllocation)) s tt lacks refl
-
-  -- the text is new, and was put last
-  pub added : (before after : List NoteView) (texts : List Text) (t : Text) (k : K) → Since p before after (Append t ∷ []) → (state o after).texts ≡ texts ++ t ∷ [] → IsDistinct texts → Lacks texts t → key_at (length texts) ≡ Some k
-      → IsCall key_at o (history before) (history after) p (Intern Static t) (Interned (Ok k))
-  added before after texts t k s is distinct lacks key =
-      let at : position_of (state o after).texts t ≡ Some (length texts) = ap (λ (ts : List Text). position_of ts t) is ∙ position_of_at (texts ++ t ∷ []) t (length texts) (distinct_push texts t distinct lacks) (slice_get_push texts t) in
-      explained_last before after (Append t ∷ []) (Intern Static t) (Interned (Ok k)) s tt (ap (option_and_then key_at) at ∙ key) (inr ([], refl, refl))
+  -- the limit was replaced
+  pub replaced : (before after : List NoteView) (m : ℕ) → Since p before after (Limit m ∷ []) → IsCall key_at o (history before) (history after) p (SetLimit m) Done
+  replaced before after m s = explained_last before after (Limit m ∷ []) (SetLimit m) Done s tt tt refl
 
 -- ---- plain calls
 

@@ -27,3 +27,4 @@ pub mod NewBuckets
 pub mod Crossing
 pub mod FillCalls
 pub mod Whole
+pub mod Stored

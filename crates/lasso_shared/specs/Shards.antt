@@ -1,9 +1,13 @@
--- Shards: which texts of a list are a shard's, and what its index and its number say of a history that was seen.
-use Rattle.std.specs.Prelude.{◌≡◌, ℕ, suc, ◌/◌, ◌^◌, ◌<◌, ◌↔◌, Bool, true, nat_eq, List, [], ◌∷◌, Some, slice_get, slice_index_or, length, if◌then◌else◌}
+-- Shards: which texts of a list are a shard's, what its index and its number say of a history that was seen, and how a new text of it
+-- goes last in the list.
+use Rattle.std.specs.Prelude.{◌≡◌, ℕ, suc, ◌/◌, ◌^◌, ◌<◌, ◌↔◌, Bool, true, nat_eq, List, [], ◌∷◌, Option, Some, None, Result, Ok, Err, slice_get, slice_index_or, length, if◌then◌else◌}
 use mathlib.Core.List.{IsPrefix}
-use Rattle.lasso_parts.specs.Texts.{Text, IsDistinct}
+use Rattle.lasso_parts.specs.Texts.{Text, IsDistinct, key_of}
 use Rattle.lasso_parts.specs.Index.{Table, Holds, IsFiled}
-use Rattle.lasso_shared.specs.Notes.{NoteView}
+use Rattle.lasso_parts.specs.declared.util.LassoErrorKind.{LassoErrorKind}
+use Rattle.lasso_parts.specs.declared.util.LassoErrorKind.TheVariants.{KeySpaceExhaustion}
+use Rattle.lasso_shared.specs.History.{Append, Lacks}
+use Rattle.lasso_shared.specs.Notes.{NoteView, Since}
 use Rattle.lasso_shared.specs.Views.{InternerId, KnownView, SpineView, list_of}
 
 -- the shard of a hash: the number in its four highest bits
@@ -54,3 +58,10 @@ pub record IsTally (hash_of : Text → ℕ) (of : InternerId) (spine : SpineView
 pub record IsWhole (hash_of : Text → ℕ) (number : ℕ) (of : InternerId) (known notes : List NoteView) : Type 0 where
   pub begins : IsPrefix known notes
   pub counts : count_in hash_of number (list_of of known) ≡ count_in hash_of number (list_of of notes)
+
+-- Between these notes the pass put the text last, once, and this is its key; or no key is left for the text, which the list lacks, and
+-- the pass made no event.
+abbrev pub PutsLast : {K : Type 0} → (ℕ → Option K) → InternerId → (pass : ℕ) → (before after : List NoteView) → Text → Result K LassoErrorKind → Type 0
+PutsLast key_at of pass before after text (Ok k) = Since pass before after (Append text ∷ []) × (key_of key_at (list_of of after) text ≡ Some k)
+PutsLast key_at of pass before after text (Err error) =
+    (error ≡ KeySpaceExhaustion) × Since pass before after [] × Lacks (list_of of after) text × (key_at (length (list_of of after)) ≡ None)

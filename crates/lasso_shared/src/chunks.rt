@@ -194,6 +194,38 @@ impl<T: HasText + Drop> Chunks<T> {
         Ok(slot.set_written(chunk).ok())
     }
 
+    /// Makes the chunks of the first `count` positions, where they are not there: the longest first, so that a count that no memory
+    /// has is refused at once. Want of memory leaves the chunks that are made by then.
+    pub fn make_cells(&self, alloc: Global, count: u64) -> Result<(), AllocError> {
+        if count == 0 {
+            return Ok(());
+        }
+        let (last, _) = chunk_and_offset(count - 1);
+        for shorter in 0..last + 1 {
+            let number = last - shorter;
+            let first = if number == 0 {
+                0
+            } else {
+                length_of(number) as u64
+            };
+            self.make_chunk(alloc, first)?;
+        }
+        Ok(())
+    }
+
+    /// How many cells the chunks have that are made, from the first on, or 2^64 - 1 where all are. It takes no memory and does
+    /// not wait.
+    pub fn cells(&self) -> u64 {
+        let mut cells: u64 = 0;
+        for number in 0..CHUNKS {
+            if self.chunks[number].witness().is_none() {
+                return cells;
+            }
+            cells = cells.saturating_add(length_of(number) as u64);
+        }
+        cells
+    }
+
     // Hands the text back where the chunk is not there, or where the cell is filled or being filled.
     pub(crate) fn try_fill(
         &self,

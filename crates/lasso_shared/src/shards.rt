@@ -4,11 +4,16 @@
 //! begins with that one and has no more texts of the shard, which the spine's number of them tells. Who holds a shard's lock
 //! may take the spine's; who holds the spine's takes no shard.
 ghost use Rattle.std.specs.Prelude.{◌≡◌, ◌<◌, ℕ, length, Some, slice_get};
+ghost use Rattle.lasso_shared.specs.SharedBuckets.{names_with_book};
+ghost use Rattle.lasso_shared.specs.Views.{InternerId};
 
 mod intern;
+mod limits;
 mod look;
 mod open;
+mod put;
 pub mod shard;
+mod store;
 pub mod tag;
 #[cfg(test)]
 mod tests;
@@ -16,22 +21,25 @@ mod tests;
 use crate::locks::{TaggedMutex, TaggedRwLock};
 use crate::log::Log;
 use crate::shards::shard::{Shard, Tally};
+use crate::shared_arena::bucket_list::BucketList;
 use lasso_parts::keys::Key;
 use std::alloc::Global;
 use std::hash::BuildHasher;
 
-/// The log, the hasher and the locks of one interner. The hasher is asked outside the locks.
+/// The log, the buckets, the hasher and the locks of one interner. The hasher is asked outside the locks.
 #[derive(Drop)]
 pub struct Shards<K: Key, S: BuildHasher + Drop> {
     pub log: Log<K>,
     pub hasher: S,
     shards: Vec<TaggedRwLock<Shard<K, S>>>,
     spine: TaggedMutex<Tally<K, S>>,
+    buckets: BucketList<K>,
     alloc: Global,
     ghost all: { length shards.items ≡ 16 },
     ghost tags: { (i : ℕ) → i < 16 → slice_get shards.items i ≡ Some (record { log = log; hasher = hasher; number = i }) },
     ghost spine_log: { spine.log ≡ log },
     ghost spine_hasher: { spine.hasher ≡ hasher },
+    ghost buckets_log: { buckets ≡ names_with_book log },
 }
 
 impl<K: Key, S: BuildHasher + Drop> Shards<K, S> {

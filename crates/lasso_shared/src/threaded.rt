@@ -8,6 +8,7 @@ ghost use Rattle.std.specs.Prelude.{◌≡◌, []};
 ghost use Rattle.lasso_shared.specs.Views.{PassView, InternerId};
 
 mod interning;
+mod limits;
 mod looking;
 mod makers;
 mod plain;

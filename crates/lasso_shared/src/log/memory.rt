@@ -2,7 +2,10 @@
 use crate::chunks::Chunks;
 use crate::locks::TaggedMutex;
 use crate::log::rule::StoredText;
+use crate::log::words::Log;
 use crate::shared_arena::holding::Holdings;
+use lasso_parts::keys::Key;
+use std::alloc::{AllocError, Global};
 use std::marker::Model;
 
 /// The chunks of an interner, and what is owned of its buckets. A contract sees the names of the chunks.
@@ -23,6 +26,18 @@ impl Model for TextMemory {
     ghost view = { λ m. m.chunks };
 
     ghost invariant = { λ m. m.holdings.id ≡ era_named m.chunks };
+}
+
+impl<K: Key> Log<K> {
+    /// Makes cells for the first `count` texts, where they are not there. Want of memory leaves those that are made by then.
+    pub fn make_cells(&self, alloc: Global, count: u64) -> Result<(), AllocError> {
+        self.memory.chunks.make_cells(alloc, count)
+    }
+
+    /// For how many texts there are cells, from the first on. It takes no memory and does not wait.
+    pub fn cells(&self) -> u64 {
+        self.memory.chunks.cells()
+    }
 }
 
 // The end: the era is over, and then each bucket is freed.

@@ -76,7 +76,12 @@ impl<K: Key> Log<K> {
         ensures none { IfNone result (Since pass.old.number pass.old.notes pass.new.notes []) }
         ensures legal { IsLegal K.key_at self.now.opening (seen pass.new) }
     {
-        for (_, bucket) in list.iter() {
+        let first = list.first();
+        self.share_opening(first);
+        if let Some(range) = first.try_reserve(rt, self, pass, bytes) {
+            return Some(range);
+        }
+        for (_, bucket) in list.later() {
             self.share_opening(bucket);
             if let Some(range) = bucket.try_reserve(rt, self, pass, bytes) {
                 return Some(range);

@@ -1,130 +1,30 @@
-//! Interning a static text, in phases.
+//! Interning a text, in phases.
 //!
 //! The text is looked up beside other readers. Where it is missing its shard is held, it is looked up again, and the shard is
-//! compared with the spine's number of it. Then room is made in the index and a slot of the log is kept; the key type is
-//! asked, the text is appended, and its position is entered into the index. The spine is let go between these, and the shard
-//! is held to the end: so what was looked up stays, and a retry looks at numbers alone.
-ghost use Rattle.std.specs.Prelude.{◌≡◌, ◌<◌, ◌-◌, [], Some, IfOk, IfErr, OnErr, OnOk};
-ghost use mathlib.Core.List.{IsPrefix};
-ghost use Rattle.lasso_parts.specs.declared.util.LassoErrorKind.TheVariants.{FailedAllocation};
+//! compared with the spine's number of it. Then room is made, the bytes of a text that is copied are stored, and the text is put last.
+//! The shard is held to the end: so what was looked up stays. A text that is static or empty has no bytes to be stored.
+ghost use Rattle.std.specs.Prelude.{◌≡◌};
 ghost use Rattle.lasso_parts.specs.Hashing.{text_hash};
-ghost use Rattle.lasso_parts.specs.Index.{room};
-ghost use Rattle.lasso_shared.specs.History.{Lacks};
-ghost use Rattle.lasso_shared.specs.Replies.{Static, Intern, Interned};
+ghost use Rattle.lasso_shared.specs.Pieces.{PieceView};
+ghost use Rattle.lasso_shared.specs.Replies.{Copied, Static, Intern, Interned};
 ghost use Rattle.lasso_shared.specs.Calls.{IsCall};
-ghost use Rattle.lasso_shared.specs.Views.{PassView, InternerId, IsSamePass, list_of, seen};
-ghost use Rattle.lasso_shared.specs.Shards.{IsShard, IsTally, IsWhole, shard_of};
+ghost use Rattle.lasso_shared.specs.Views.{PassView, InternerId, IsSamePass, seen};
+ghost use Rattle.lasso_shared.specs.Shards.{IsShard, shard_of};
 
-use crate::log::{KeptSlot, Pass};
+use crate::log::Pass;
 use crate::shards::Shards;
-use crate::shards::shard::{Shard, Tally};
+use crate::shards::shard::Shard;
 use crate::shards::tag::number_of;
+use crate::shared_arena::piece::Piece;
 use lasso_parts::index::hash_text;
 use lasso_parts::keys::Key;
-use lasso_parts::util::{LassoError, LassoErrorKind, LassoResult};
+use lasso_parts::util::LassoResult;
 use std::hash::BuildHasher;
 use std::sync::Wait;
 
 impl<K: Key, S: BuildHasher + Drop> Shards<K, S> {
-    // Makes room in the shard's index, and keeps a slot. Want of memory keeps none, and the shard has the texts that it had.
-    fn make_room<R: Wait>(
-        &self,
-        rt: &R,
-        shard: &mut Shard<K, S>,
-        pass: &Pass<K>,
-        number: usize,
-    ) -> LassoResult<KeptSlot<K>>
-        requires of { pass.now.of ≡ self.now.log }
-        requires held { IsShard (text_hash S.build_hasher S.Hasher.write S.Hasher.finish self.now.hasher) number self.now.log shard.old.known shard.old.index shard.old.count }
-        requires begins { IsPrefix shard.old.known.notes pass.now.notes }
-        ensures held { IsShard (text_hash S.build_hasher S.Hasher.write S.Hasher.finish self.now.hasher) number self.now.log shard.new.known shard.new.index shard.new.count }
-        ensures known { shard.new.known ≡ shard.old.known }
-        ensures room { IfOk result (λ slot. (slot ≡ self.now.log) × (0 < room shard.new.index.slots)) }
-        ensures refused { IfErr result (λ error. error ≡ FailedAllocation) }
-    {
-        let seen_texts = self.log.seen_texts(pass);
-        shard.index.reserve_one(&seen_texts, &self.hasher)?;
-        let (guard, mut tally) = self.spine.take(rt);
-        let slot = self.log.reserve_next(self.alloc, &mut tally.spine);
-        guard.give(rt, tally);
-        slot
-    }
-
-    // Puts the text last, where the shard is whole for what the pass has seen, and the spine has seen that list. Where the key
-    // type has no key for its position, the slot is given back.
-    fn append_at<R: Wait>(
-        &self,
-        rt: &R,
-        tally: &mut Tally<K, S>,
-        shard: &mut Shard<K, S>,
-        pass: &mut Pass<K>,
-        slot: KeptSlot<K>,
-        hash: u64,
-        text: &'static str,
-    ) -> LassoResult<K>
-        requires of { (pass.old.of ≡ self.now.log) × (slot ≡ self.now.log) }
-        requires hashed { hash ≡ text_hash S.build_hasher S.Hasher.write S.Hasher.finish self.now.hasher text.now }
-        requires held { IsShard (text_hash S.build_hasher S.Hasher.write S.Hasher.finish self.now.hasher) (shard_of hash) self.now.log shard.old.known shard.old.index shard.old.count }
-        requires tally { IsTally (text_hash S.build_hasher S.Hasher.write S.Hasher.finish self.now.hasher) self.now.log tally.old.spine tally.old.counts }
-        requires whole { IsWhole (text_hash S.build_hasher S.Hasher.write S.Hasher.finish self.now.hasher) (shard_of hash) self.now.log shard.old.known.notes pass.old.notes }
-        requires list { list_of self.now.log pass.old.notes ≡ list_of self.now.log tally.old.spine.notes }
-        requires lacks { Lacks (list_of self.now.log shard.old.known.notes) text.now }
-        requires room { 0 < room shard.old.index.slots }
-        ensures same { IsSamePass pass.new pass.old }
-        ensures call { IsCall K.key_at self.now.log.opening (seen pass.old) (seen pass.new) pass.old.number (Intern Static text.now) (Interned result) }
-        ensures held { IsShard (text_hash S.build_hasher S.Hasher.write S.Hasher.finish self.now.hasher) (shard_of hash) self.now.log shard.new.known shard.new.index shard.new.count }
-        ensures tally { IsTally (text_hash S.build_hasher S.Hasher.write S.Hasher.finish self.now.hasher) self.now.log tally.new.spine tally.new.counts }
-        ensures kept { tally.new.spine.kept ≡ tally.old.spine.kept - 1 }
-    {
-        pass.show_legal();
-        let Some(key) = K::try_from_usize(tally.spine.len() as usize) else {
-            tally.spine.give_back(slot);
-            return Err(LassoError::new(LassoErrorKind::KeySpaceExhaustion));
-        };
-        self.log
-            .append_static(rt, &mut tally.spine, pass, slot, text);
-        let _len = tally.spine.len();
-        shard.index.insert_reserved(hash, key);
-        shard.known = pass.known();
-        shard.count += 1;
-        tally.counts[number_of(hash)] = shard.count;
-        Ok(key)
-    }
-
-    // Puts the text last, once the shard is whole for what the pass has then seen.
-    fn put_last<R: Wait>(
-        &self,
-        rt: &R,
-        shard: &mut Shard<K, S>,
-        pass: &mut Pass<K>,
-        slot: KeptSlot<K>,
-        hash: u64,
-        text: &'static str,
-    ) -> LassoResult<K>
-        requires of { (pass.old.of ≡ self.now.log) × (slot ≡ self.now.log) }
-        requires hashed { hash ≡ text_hash S.build_hasher S.Hasher.write S.Hasher.finish self.now.hasher text.now }
-        requires held { IsShard (text_hash S.build_hasher S.Hasher.write S.Hasher.finish self.now.hasher) (shard_of hash) self.now.log shard.old.known shard.old.index shard.old.count }
-        requires begins { IsPrefix shard.old.known.notes pass.old.notes }
-        requires lacks { Lacks (list_of self.now.log shard.old.known.notes) text.now }
-        requires room { 0 < room shard.old.index.slots }
-        ensures same { IsSamePass pass.new pass.old }
-        ensures call { IsCall K.key_at self.now.log.opening (seen pass.old) (seen pass.new) pass.old.number (Intern Static text.now) (Interned result) }
-        ensures held { IsShard (text_hash S.build_hasher S.Hasher.write S.Hasher.finish self.now.hasher) (shard_of hash) self.now.log shard.new.known shard.new.index shard.new.count }
-    {
-        for _ in rt.forever() {
-            let (guard, mut tally) = self.spine.take(rt);
-            if self.is_whole(&tally, shard, pass, number_of(hash)) {
-                let reply = self.append_at(rt, &mut tally, shard, pass, slot, hash, text);
-                guard.give(rt, tally);
-                return reply;
-            }
-            guard.give(rt, tally);
-        }
-        unreachable!()
-    }
-
-    // Interns a text of the held shard.
-    fn intern_held<R: Wait>(
+    // Interns a static text of the held shard.
+    fn intern_static_held<R: Wait>(
         &self,
         rt: &R,
         shard: &mut Shard<K, S>,
@@ -144,8 +44,41 @@ impl<K: Key, S: BuildHasher + Drop> Shards<K, S> {
         }
         self.see_whole(rt, shard, pass, number_of(hash));
         match self.make_room(rt, shard, pass, number_of(hash)) {
-            Ok(slot) => self.put_last(rt, shard, pass, slot, hash, text),
+            Ok(slot) => self.put_last(rt, shard, pass, slot, hash, Piece::lasting(text)),
             Err(error) => Err(error),
+        }
+    }
+
+    // Interns a text of the held shard, of which a copy is kept.
+    fn intern_copied_held<R: Wait>(
+        &self,
+        rt: &R,
+        shard: &mut Shard<K, S>,
+        pass: &mut Pass<K>,
+        hash: u64,
+        text: &str,
+    ) -> LassoResult<K>
+        requires of { pass.old.of ≡ self.now.log }
+        requires hashed { hash ≡ text_hash S.build_hasher S.Hasher.write S.Hasher.finish self.now.hasher text.now }
+        requires held { IsShard (text_hash S.build_hasher S.Hasher.write S.Hasher.finish self.now.hasher) (shard_of hash) self.now.log shard.old.known shard.old.index shard.old.count }
+        ensures same { IsSamePass pass.new pass.old }
+        ensures call { IsCall K.key_at self.now.log.opening (seen pass.old) (seen pass.new) pass.old.number (Intern Copied text.now) (Interned result) }
+        ensures held { IsShard (text_hash S.build_hasher S.Hasher.write S.Hasher.finish self.now.hasher) (shard_of hash) self.now.log shard.new.known shard.new.index shard.new.count }
+    {
+        if let Some(key) = self.find(shard, pass, hash, text) {
+            return Ok(key);
+        }
+        self.see_whole(rt, shard, pass, number_of(hash));
+        let slot = match self.make_room(rt, shard, pass, number_of(hash)) {
+            Ok(slot) => slot,
+            Err(error) => return Err(error),
+        };
+        match self.store(rt, shard, pass, hash, text) {
+            Ok(piece) => self.put_last(rt, shard, pass, slot, hash, piece),
+            Err(error) => {
+                self.give_back(rt, slot);
+                Err(error)
+            }
         }
     }
 
@@ -166,7 +99,25 @@ impl<K: Key, S: BuildHasher + Drop> Shards<K, S> {
             return Ok(key);
         }
         let (guard, mut shard) = self.lock(number_of(hash)).take(rt);
-        let reply = self.intern_held(rt, &mut shard, pass, hash, text);
+        let reply = self.intern_static_held(rt, &mut shard, pass, hash, text);
+        guard.give(rt, shard);
+        reply
+    }
+
+    /// The key of the text, of which a copy goes last in the list if it is not there. A new text is refused where the memory limit leaves
+    /// no room for its bytes, for want of memory, or where the key type has no key for its position. In the last case its bytes may stay
+    /// taken; else no event is added.
+    pub fn intern_copied<R: Wait>(&self, rt: &R, pass: &mut Pass<K>, text: &str) -> LassoResult<K>
+        requires { pass.old.of ≡ self.now.log }
+        ensures same { IsSamePass pass.new pass.old }
+        ensures call { IsCall K.key_at self.now.log.opening (seen pass.old) (seen pass.new) pass.old.number (Intern Copied text.now) (Interned result) }
+    {
+        let hash = hash_text(&self.hasher, text);
+        if let Some(key) = self.peek(rt, pass, hash, text) {
+            return Ok(key);
+        }
+        let (guard, mut shard) = self.lock(number_of(hash)).take(rt);
+        let reply = self.intern_copied_held(rt, &mut shard, pass, hash, text);
         guard.give(rt, shard);
         reply
     }

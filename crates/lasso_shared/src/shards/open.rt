@@ -1,4 +1,4 @@
-//! The locks of an interner that holds nothing.
+//! The locks and the first bucket of an interner that holds nothing.
 ghost use Rattle.std.specs.Prelude.{◌≡◌, ◌<◌, ◌≢◌, [], ℕ, length, Some, IfOk, IfErr, slice_get};
 ghost use Rattle.lasso_parts.specs.declared.util.LassoErrorKind.TheVariants.{FailedAllocation};
 ghost use Rattle.lasso_parts.specs.Hashing.{text_hash};
@@ -7,10 +7,11 @@ ghost use Rattle.lasso_shared.specs.Shards.{IsShard, IsTally};
 ghost use Rattle.lasso_shared.specs.Views.{list_of};
 
 use crate::locks::{TaggedMutex, TaggedRwLock};
-use crate::log::{Log, Opened, Spine};
+use crate::log::{Log, NewLog, Opened, OpeningTexts, Spine};
 use crate::shards::Shards;
 use crate::shards::shard::{Shard, Tally};
 use crate::shards::tag::{SHARDS, ShardTag};
+use crate::shared_arena::bucket_list::BucketList;
 use lasso_parts::index::Index;
 use lasso_parts::keys::Key;
 use lasso_parts::util::LassoResult;
@@ -62,13 +63,15 @@ impl<K: Key, S: BuildHasher + Drop> ShardTag<K, S> {
 }
 
 impl<K: Key, S: BuildHasher + Drop> Shards<K, S> {
-    /// The log, the locks and the spine of an interner that holds nothing. It is refused for want of memory alone.
+    /// The log, the first bucket, the locks and the spine of an interner that holds nothing. It is refused for want of memory alone.
     pub fn open(alloc: Global, hasher: S, first: Opened) -> LassoResult<Shards<K, S>>
         requires { first.size ≢ 0 }
         ensures opening { IfOk result (λ s. s.log.opening ≡ opened [] first.size 0 first.limit) }
         ensures refused { IfErr result (λ error. error ≡ FailedAllocation) }
     {
-        let (log, spine) = Log::open(alloc, first)?;
+        let texts = OpeningTexts::new(alloc, first.size as usize)?;
+        let NewLog { log, spine, bucket } = Log::open_with(texts, first.limit);
+        let buckets = BucketList::new(alloc, &log, bucket)?;
         let mut tag = ShardTag {
             log,
             hasher,
@@ -86,6 +89,7 @@ impl<K: Key, S: BuildHasher + Drop> Shards<K, S> {
             hasher,
             shards,
             spine,
+            buckets,
             alloc,
         })
     }

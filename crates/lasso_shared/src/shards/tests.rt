@@ -2,6 +2,7 @@
 ghost use Rattle.std.specs.Prelude.{◌≡◌};
 
 mod armed;
+mod copied;
 mod hashers;
 mod writers;
 

@@ -31,51 +31,40 @@ impl<K: Key> Names<Log<K>> for OfInterner {
     ghost numbers = { λ l. names_with_book l };
 }
 
-/// The buckets of one interner, in no order that is told. It only grows. A contract sees of which interner they are, by its book and
-/// its names.
+/// The buckets of one interner: the one that it opened with, and behind it the later ones, in no order that is told. It only grows. A
+/// contract sees of which interner they are, by its book and its names.
 #[derive(Drop)]
 pub struct BucketList<K: Key> {
+    first: SharedBucket<K>,
     cells: boxcar::Vec<SharedBucket<K>, Global, OfInterner>,
 }
 
 impl<K: Key> Model for BucketList<K> {
-    ghost use Rattle.std.specs.Prelude.{ℕ, List};
+    ghost use Rattle.std.specs.Prelude.{◌≡◌, ℕ, List};
     ghost use base.Stored.{coded_list, coded_ℕ};
+    ghost use Rattle.lasso_shared.specs.SharedBuckets.{SharedView, names_with_book};
 
     ghost Value = { List ℕ };
 
     ghost coded = { coded_list coded_ℕ };
 
     ghost view = { λ l. l.cells.tag };
+
+    ghost invariant = { λ l. names_with_book l.first.of ≡ l.cells.tag };
 }
 
 impl<K: Key> BucketList<K> {
-    /// No bucket of this interner. It is refused for want of memory alone.
-    pub fn new(alloc: Global, log: &Log<K>) -> LassoResult<BucketList<K>>
+    /// The list of a new interner, which has its first bucket. It is refused for want of memory alone, and does not wait.
+    pub fn new(alloc: Global, log: &Log<K>, bucket: SharedBucket<K>) -> LassoResult<BucketList<K>>
+        requires { bucket.of ≡ log.now }
         ensures list { IfOk result (λ l. l ≡ names_with_book log.now) }
         ensures refused { IfErr result (λ error. error ≡ FailedAllocation) }
     {
         let tag = Tag::of::<Log<K>, OfInterner>(log);
         Ok(BucketList {
+            first: bucket,
             cells: boxcar::Vec::with_rule(alloc, tag)?,
         })
-    }
-
-    /// The list of a new interner, with its first bucket. It is refused for want of memory alone.
-    pub fn with_first<R: Wait>(
-        rt: &R,
-        alloc: Global,
-        log: &Log<K>,
-        bucket: SharedBucket<K>,
-    ) -> LassoResult<BucketList<K>>
-        requires { bucket.of ≡ log.now }
-        ensures list { IfOk result (λ l. l ≡ names_with_book log.now) }
-        ensures refused { IfErr result (λ error. error ≡ FailedAllocation) }
-    {
-        let list = BucketList::new(alloc, log)?;
-        list.reserve_one()?;
-        list.push_front(rt, bucket);
-        Ok(list)
     }
 
     /// Makes room for one bucket more. It is refused for want of memory alone.
@@ -101,27 +90,32 @@ impl<K: Key> BucketList<K> {
         unreachable!()
     }
 
-    /// The buckets, each beside its number in the list.
-    pub fn iter(&self) -> boxcar::Iter<'_, SharedBucket<K>, Global, OfInterner>
+    /// The bucket that the interner opened with.
+    pub fn first(&self) -> &SharedBucket<K>
+        ensures { names_with_book result.now.of ≡ self.now }
+    {
+        &self.first
+    }
+
+    /// The later buckets, each beside its number among them.
+    pub fn later(&self) -> boxcar::Iter<'_, SharedBucket<K>, Global, OfInterner>
         ensures { (result.vec.now.tag ≡ self.now) × (result.index ≡ 0) }
     {
         self.cells.iter()
     }
 
-    /// How many there are.
+    /// How many buckets there are.
     pub fn len(&self) -> usize {
-        self.cells.count()
-    }
-
-    /// Whether there is none.
-    pub fn is_empty(&self) -> bool {
-        self.cells.is_empty()
+        self.cells.count().saturating_add(1)
     }
 
     // The bucket at this position of the history, where a walk finds it.
     fn find_once(&self, position: u64) -> Option<&SharedBucket<K>>
         ensures { IfSome result (λ b. (names_with_book b.now.of ≡ self.now) × (b.now.position ≡ position)) }
     {
+        if self.first.position() == position {
+            return Some(&self.first);
+        }
         for (_, bucket) in self.cells.iter() {
             if bucket.position() == position {
                 return Some(bucket);

@@ -1,7 +1,7 @@
 //! Interning texts in an interner that threads share, with a pass.
 ghost use Rattle.std.specs.Prelude.{◌≡◌};
 ghost use Rattle.lasso_shared.specs.History.{IsLegal, IsOpening};
-ghost use Rattle.lasso_shared.specs.Replies.{Static, Intern, Interned};
+ghost use Rattle.lasso_shared.specs.Replies.{Copied, Static, Intern, Interned};
 ghost use Rattle.lasso_shared.specs.Calls.{IsCall};
 ghost use Rattle.lasso_shared.specs.Views.{PassView, InternerId, IsSamePass, seen};
 
@@ -13,6 +13,34 @@ use std::hash::BuildHasher;
 use std::sync::Wait;
 
 impl<K: Key, S: BuildHasher + Drop> ThreadedRodeo<K, S> {
+    /// The key of the text, of which a copy goes last in the list if it is not there. A text that the pass had seen is never
+    /// refused. A new one is refused where no bucket has room for its bytes and the memory limit leaves none; else where the key type
+    /// has no key for its position, and its bytes stay taken then; else for want of memory. A refusal by the limit or for want of
+    /// memory adds no event.
+    ///
+    /// ```rust
+    /// let rodeo: SpurThreadedRodeo = ThreadedRodeo::default(rt.alloc())?;
+    /// let mut pass = rodeo.pass();
+    /// let key = rodeo.try_get_or_intern_as(&rt, &mut pass, "Hello, world!")?;
+    /// assert_eq!(rt; rodeo.try_resolve_as(&mut pass, key), Some("Hello, world!"));
+    /// ```
+    pub fn try_get_or_intern_as<R: Wait>(
+        &self,
+        rt: &R,
+        pass: &mut Pass<K>,
+        text: &str,
+    ) -> LassoResult<K>
+        requires { pass.old.of ≡ self.now }
+        ensures same { IsSamePass pass.new pass.old }
+        ensures call { IsCall K.key_at self.now.opening (seen pass.old) (seen pass.new) pass.old.number (Intern Copied text.now) (Interned result) }
+        ensures opening { IsOpening K.key_at self.now.opening }
+        ensures legal { IsLegal K.key_at self.now.opening (seen pass.new) }
+    {
+        let reply = self.shards.intern_copied(rt, pass, text);
+        pass.show_legal();
+        reply
+    }
+
     /// The key of the text, which goes last in the list if it is not there. The text is kept as it is, with no copy, so
     /// the memory limit never refuses it. A text that the pass had seen is never refused. A new one is refused for
     /// want of memory, else where the key type has no key for its position; no event is added then.

@@ -1,4 +1,4 @@
-//! Making an interner that threads share.
+//! The makers of an interner that threads share: by default or given capacity, limit and hasher.
 ghost use Rattle.std.specs.Prelude.{◌≡◌, ◌-◌, ◌^◌, [], IfOk, IfErr};
 ghost use Rattle.lasso_parts.specs.declared.util.LassoErrorKind.TheVariants.{FailedAllocation};
 ghost use Rattle.lasso_shared.specs.History.{opened};
@@ -8,30 +8,66 @@ use crate::log::Opened;
 use crate::shards::Shards;
 use crate::threaded::ThreadedRodeo;
 use lasso_parts::keys::{Key, Spur};
-use lasso_parts::util::{FixedState, LassoResult};
+use lasso_parts::util::{Capacity, FixedState, LassoResult, MemoryLimits};
 use std::alloc::Global;
 use std::hash::BuildHasher;
 
-// The bytes of the first bucket, and the most bytes that all buckets take, where none are named.
-const DEFAULT: Opened = Opened {
-    size: 4096,
-    limit: u64::MAX,
-};
-
 impl ThreadedRodeo<Spur, FixedState> {
-    /// An interner with `Spur` keys, a first bucket of 4096 bytes, and no limit below the greatest number. It is
+    /// An interner with `Spur` keys, of default capacity (50 texts, 4096 bytes) and with no limit below the greatest number. It is
     /// refused for want of memory alone.
     pub fn default(alloc: Global) -> LassoResult<Self>
         ensures opening { IfOk result (λ t. t.opening ≡ opened [] 4096 0 (2 ^ 64 - 1)) }
         ensures refused { IfErr result (λ error. error ≡ FailedAllocation) }
     {
+        ThreadedRodeo::new(alloc)
+    }
+}
+
+impl<K: Key> ThreadedRodeo<K, FixedState> {
+    /// An interner of default capacity and limit. It is refused for want of memory alone.
+    pub fn new(alloc: Global) -> LassoResult<Self>
+        ensures opening { IfOk result (λ t. t.opening ≡ opened [] 4096 0 (2 ^ 64 - 1)) }
+        ensures refused { IfErr result (λ error. error ≡ FailedAllocation) }
+    {
         ThreadedRodeo::with_hasher(alloc, FixedState::new())
+    }
+
+    /// An interner of default limit, whose first bucket has the bytes of `capacity`. Its texts are a hint: the log has cells for
+    /// them, and the shards' indexes grow. It is refused for want of memory alone.
+    pub fn with_capacity(alloc: Global, capacity: Capacity) -> LassoResult<Self>
+        ensures opening { IfOk result (λ t. t.opening ≡ opened [] capacity.bytes 0 (2 ^ 64 - 1)) }
+        ensures refused { IfErr result (λ error. error ≡ FailedAllocation) }
+    {
+        ThreadedRodeo::with_capacity_and_hasher(alloc, capacity, FixedState::new())
+    }
+
+    /// An interner of default capacity, whose buckets take at most `limits` in bytes. The limit may lie below the 4096 bytes of the
+    /// first bucket. It is refused for want of memory alone.
+    pub fn with_memory_limits(alloc: Global, limits: MemoryLimits) -> LassoResult<Self>
+        ensures opening { IfOk result (λ t. t.opening ≡ opened [] 4096 0 limits) }
+        ensures refused { IfErr result (λ error. error ≡ FailedAllocation) }
+    {
+        ThreadedRodeo::with_capacity_and_memory_limits(alloc, Capacity::default(), limits)
+    }
+
+    /// An interner whose first bucket has the bytes of `capacity`, and whose buckets take at most `limits` in bytes. The limit may
+    /// lie below the first bucket's bytes. The texts of `capacity` are a hint, as `with_capacity` has it. It is refused for want of
+    /// memory alone.
+    pub fn with_capacity_and_memory_limits(
+        alloc: Global,
+        capacity: Capacity,
+        limits: MemoryLimits,
+    ) -> LassoResult<Self>
+        ensures opening { IfOk result (λ t. t.opening ≡ opened [] capacity.bytes 0 limits) }
+        ensures refused { IfErr result (λ error. error ≡ FailedAllocation) }
+    {
+        let hasher = FixedState::new();
+        ThreadedRodeo::with_capacity_memory_limits_and_hasher(alloc, capacity, limits, hasher)
     }
 }
 
 impl<K: Key, S: BuildHasher + Drop> ThreadedRodeo<K, S> {
-    /// An interner whose indexes ask the hasher, with a first bucket of 4096 bytes, and no limit below the greatest
-    /// number. It is refused for want of memory alone.
+    /// An interner of default capacity and limit, whose indexes ask the hasher. It is refused for want of memory alone.
     ///
     /// ```rust
     /// let hasher = FixedState::new();
@@ -43,7 +79,41 @@ impl<K: Key, S: BuildHasher + Drop> ThreadedRodeo<K, S> {
         ensures opening { IfOk result (λ t. t.opening ≡ opened [] 4096 0 (2 ^ 64 - 1)) }
         ensures refused { IfErr result (λ error. error ≡ FailedAllocation) }
     {
-        let shards = Shards::open(alloc, hasher, DEFAULT)?;
+        ThreadedRodeo::with_capacity_and_hasher(alloc, Capacity::default(), hasher)
+    }
+
+    /// An interner of default limit, whose indexes ask the hasher, and whose first bucket has the bytes of `capacity`. The texts of
+    /// `capacity` are a hint, as `with_capacity` has it. It is refused for want of memory alone.
+    pub fn with_capacity_and_hasher(
+        alloc: Global,
+        capacity: Capacity,
+        hasher: S,
+    ) -> LassoResult<Self>
+        ensures opening { IfOk result (λ t. t.opening ≡ opened [] capacity.bytes 0 (2 ^ 64 - 1)) }
+        ensures refused { IfErr result (λ error. error ≡ FailedAllocation) }
+    {
+        let limits = MemoryLimits::default();
+        ThreadedRodeo::with_capacity_memory_limits_and_hasher(alloc, capacity, limits, hasher)
+    }
+
+    /// An interner whose first bucket has the bytes of `capacity`, whose buckets take at most `limits` in bytes, and whose indexes
+    /// ask the hasher. The limit may lie below the first bucket's bytes. The texts of `capacity` are a hint, as `with_capacity` has
+    /// it. It is refused for want of memory alone.
+    pub fn with_capacity_memory_limits_and_hasher(
+        alloc: Global,
+        capacity: Capacity,
+        limits: MemoryLimits,
+        hasher: S,
+    ) -> LassoResult<Self>
+        ensures opening { IfOk result (λ t. t.opening ≡ opened [] capacity.bytes 0 limits) }
+        ensures refused { IfErr result (λ error. error ≡ FailedAllocation) }
+    {
+        let first = Opened {
+            size: capacity.bytes() as u64,
+            limit: limits.max_memory_usage() as u64,
+        };
+        let shards = Shards::open(alloc, hasher, first)?;
+        shards.log.make_cells(alloc, capacity.strings() as u64)?;
         Ok(ThreadedRodeo { shards })
     }
 }

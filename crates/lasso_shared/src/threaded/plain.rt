@@ -1,18 +1,43 @@
 //! Plain calls of an interner that threads share: each is the call of a new pass, which is gone afterwards. So a clause explains each
 //! reply by a legal history of its own; what holds across calls is said by the calls with a pass, and tested of these.
-ghost use Rattle.std.specs.Prelude.{◌≡◌, option_map};
+ghost use Rattle.std.specs.Prelude.{◌≡◌, ◌≤◌, ℕ, option_map};
 ghost use Rattle.lasso_shared.specs.History.{IsOpening};
-ghost use Rattle.lasso_shared.specs.Replies.{Static, Intern, Get, Contains, ContainsKey, Resolve, Len, IsEmpty, Interned, Found, Flag, Resolved, Number};
+ghost use Rattle.lasso_shared.specs.Replies.{Copied, Static, Intern, Get, Contains, ContainsKey, Resolve, Len, IsEmpty, Usage, MaxUsage, SetLimit, Interned, Found, Flag, Resolved, Number, Done};
 ghost use Rattle.lasso_shared.specs.Calls.{IsPlainCall};
 ghost use Rattle.lasso_shared.specs.Views.{InternerId};
 
 use crate::threaded::ThreadedRodeo;
 use lasso_parts::keys::Key;
-use lasso_parts::util::LassoResult;
+use lasso_parts::util::{LassoResult, MemoryLimits};
 use std::hash::BuildHasher;
 use std::sync::Wait;
 
 impl<K: Key, S: BuildHasher + Drop> ThreadedRodeo<K, S> {
+    /// The key of the text, of which a copy goes last in the list if it is not there. A new one is refused where no bucket has room for
+    /// its bytes and the memory limit leaves none; else where the key type has no key for its position, and its bytes stay taken then;
+    /// else for want of memory. A refusal by the limit or for want of memory adds no event.
+    ///
+    /// ```rust
+    /// let rodeo: SpurThreadedRodeo = ThreadedRodeo::default(rt.alloc())?;
+    /// let key = rodeo.try_get_or_intern(&rt, "Hello, world!")?;
+    /// assert_eq!(rt; rodeo.try_get_or_intern_static(&rt, "Hello, world!")?, key);
+    /// ```
+    pub fn try_get_or_intern<R: Wait>(&self, rt: &R, text: &str) -> LassoResult<K>
+        ensures call { IsPlainCall K.key_at self.now.opening (Intern Copied text.now) (Interned result) }
+        ensures opening { IsOpening K.key_at self.now.opening }
+    {
+        let mut pass = self.pass();
+        self.try_get_or_intern_as(rt, &mut pass, text)
+    }
+
+    /// The same call as `try_get_or_intern`.
+    pub fn get_or_intern<R: Wait>(&self, rt: &R, text: &str) -> LassoResult<K>
+        ensures call { IsPlainCall K.key_at self.now.opening (Intern Copied text.now) (Interned result) }
+        ensures opening { IsOpening K.key_at self.now.opening }
+    {
+        self.try_get_or_intern(rt, text)
+    }
+
     /// The key of the text, which goes last in the list if it is not there. The text is kept as it is, with no copy, so
     /// the memory limit never refuses it. A new one is refused for want of memory, else where the key type has no key for
     /// its position; no event is added then.
@@ -91,5 +116,46 @@ impl<K: Key, S: BuildHasher + Drop> ThreadedRodeo<K, S> {
         ensures opening { IsOpening K.key_at self.now.opening }
     {
         self.len() == 0
+    }
+
+    /// For how many texts the log has cells: at least as many as there are. Other memory may be wanting for them yet. It takes no
+    /// memory and does not wait.
+    pub fn capacity(&self) -> usize
+        ensures enough { (n : ℕ) × IsPlainCall K.key_at self.now.opening Len (Number n) × (n ≤ result) }
+        ensures opening { IsOpening K.key_at self.now.opening }
+    {
+        let len = self.len();
+        let cells = self.shards.log.cells() as usize;
+        if cells < len { len } else { cells }
+    }
+
+    /// The bytes that all buckets take, also those that no text has taken. It takes no memory. It waits for the spine.
+    pub fn current_memory_usage<R: Wait>(&self, rt: &R) -> usize
+        ensures call { IsPlainCall K.key_at self.now.opening Usage (Number result) }
+        ensures opening { IsOpening K.key_at self.now.opening }
+    {
+        let mut pass = self.pass();
+        self.current_memory_usage_as(rt, &mut pass)
+    }
+
+    /// The most bytes that all buckets may take: what the interner was made with, or what was set last. It takes no memory. It
+    /// waits for the spine.
+    pub fn max_memory_usage<R: Wait>(&self, rt: &R) -> usize
+        ensures call { IsPlainCall K.key_at self.now.opening MaxUsage (Number result) }
+        ensures opening { IsOpening K.key_at self.now.opening }
+    {
+        let mut pass = self.pass();
+        self.max_memory_usage_as(rt, &mut pass)
+    }
+
+    /// Sets the most bytes that all buckets may take. It may lie below what they take already: they stay, and copied texts that
+    /// need another bucket are then refused. The texts stay. It takes no memory and is never refused. It waits for the spine, and
+    /// does not return where limits and buckets came 2^64 - 1 times before.
+    pub fn set_memory_limits<R: Wait>(&self, rt: &R, limits: MemoryLimits)
+        ensures call { IsPlainCall K.key_at self.now.opening (SetLimit limits) Done }
+        ensures opening { IsOpening K.key_at self.now.opening }
+    {
+        let mut pass = self.pass();
+        self.set_memory_limits_as(rt, &mut pass, limits);
     }
 }

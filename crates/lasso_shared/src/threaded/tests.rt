@@ -1,8 +1,10 @@
-//! Threads that intern static texts in one interner.
+//! Threads that intern texts in one interner.
 ghost use Rattle.std.specs.Prelude.{◌≡◌};
 
 mod callers;
+mod copied;
 mod crowd;
+mod limits;
 mod looking;
 mod passes;
 

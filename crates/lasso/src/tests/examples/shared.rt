@@ -19,3 +19,20 @@ fn shared_with_a_hasher(rt: HostRuntime) -> Result<(), Fail> {
     assert_eq!(rt; rodeo.try_resolve_as(&mut pass, Spur::default()), None);
     Ok(())
 }
+
+#[test]
+fn shared_copied_with_a_pass(rt: HostRuntime) -> Result<(), Fail> {
+    let rodeo: SpurThreadedRodeo = ThreadedRodeo::default(rt.alloc())?;
+    let mut pass = rodeo.pass();
+    let key = rodeo.try_get_or_intern_as(&rt, &mut pass, "Hello, world!")?;
+    assert_eq!(rt; rodeo.try_resolve_as(&mut pass, key), Some("Hello, world!"));
+    Ok(())
+}
+
+#[test]
+fn shared_copied(rt: HostRuntime) -> Result<(), Fail> {
+    let rodeo: SpurThreadedRodeo = ThreadedRodeo::default(rt.alloc())?;
+    let key = rodeo.try_get_or_intern(&rt, "Hello, world!")?;
+    assert_eq!(rt; rodeo.try_get_or_intern_static(&rt, "Hello, world!")?, key);
+    Ok(())
+}

@@ -15,7 +15,7 @@ use std::test::*;
 #[test]
 fn a_long_text_gets_a_bucket_of_its_size(rt: HostRuntime) -> Result<(), Fail> {
     let alloc = rt.alloc();
-    let (log, mut spine, list) = opens(&rt, alloc, 4, u64::MAX)?;
+    let (log, mut spine, list) = opens(alloc, 4, u64::MAX)?;
     let mut pass = log.pass();
     assert_eq!(rt; log.usage(&rt, &spine, &mut pass), 4);
     stores(&rt, alloc, &log, &list, &mut spine, &mut pass, "123456789")?;
@@ -29,7 +29,7 @@ fn a_long_text_gets_a_bucket_of_its_size(rt: HostRuntime) -> Result<(), Fail> {
 #[test]
 fn buckets_are_doubled_and_then_what_the_limit_leaves(rt: HostRuntime) -> Result<(), Fail> {
     let alloc = rt.alloc();
-    let (log, mut spine, list) = opens(&rt, alloc, 4, 12)?;
+    let (log, mut spine, list) = opens(alloc, 4, 12)?;
     let mut pass = log.pass();
     stores(&rt, alloc, &log, &list, &mut spine, &mut pass, "abc")?;
     assert_eq!(rt; log.usage(&rt, &spine, &mut pass), 4);
@@ -53,7 +53,7 @@ fn buckets_are_doubled_and_then_what_the_limit_leaves(rt: HostRuntime) -> Result
 #[test]
 fn a_charge_that_the_limit_refuses_leaves_no_event(rt: HostRuntime) -> Result<(), Fail> {
     let alloc = rt.alloc();
-    let (log, mut spine, list) = opens(&rt, alloc, 4, 12)?;
+    let (log, mut spine, list) = opens(alloc, 4, 12)?;
     let mut pass = log.pass();
     let refused = stores(&rt, alloc, &log, &list, &mut spine, &mut pass, "123456789");
     assert!(rt; refused.is_err_and(|e| e.kind() == LassoErrorKind::MemoryLimitReached));
@@ -94,7 +94,7 @@ fn stores_again<R: Wait>(
 #[test]
 fn a_charge_that_was_refused_once_is_made_later(rt: HostRuntime) -> Result<(), Fail> {
     let alloc = rt.alloc();
-    let (log, mut spine, list) = opens(&rt, alloc, 4, u64::MAX)?;
+    let (log, mut spine, list) = opens(alloc, 4, u64::MAX)?;
     let mut pass = log.pass();
     assert!(rt; stores_again(&rt, alloc, &log, &list, &mut spine, &mut pass, "defghijk"));
     assert!(rt;

@@ -15,8 +15,7 @@ use std::alloc::Global;
 use std::sync::Wait;
 
 // A log that opens with an empty bucket of so many bytes, under this limit, with its spine and the list of its buckets.
-pub(super) fn opens<R: Wait>(
-    rt: &R,
+pub(super) fn opens(
     alloc: Global,
     bytes: usize,
     limit: u64,
@@ -26,7 +25,7 @@ pub(super) fn opens<R: Wait>(
 {
     let texts = OpeningTexts::new(alloc, bytes)?;
     let NewLog { log, spine, bucket } = Log::open_with(texts, limit);
-    let list = BucketList::with_first(rt, alloc, &log, bucket)?;
+    let list = BucketList::new(alloc, &log, bucket)?;
     Ok((log, spine, list))
 }
 

@@ -1,34 +1,34 @@
-use Rattle.std.proofs.Common.{◌≡◌, ◌+◌, ◌++◌, ◌∷◌, [], ℕ, List, Some, None, length, sym, ap, ◌∙◌, subst, arith}
+use Rattle.std.proofs.Common.{◌≡◌, ◌+◌, ◌++◌, ◌∷◌, [], ℕ, List, Some, None, length, refl, sym, ap, ◌∙◌, subst, arith}
 use Rattle.std.proofs.lemmas.List.{length-set}
 use Rattle.lasso_parts.specs.Texts.{Text, IsDistinct}
 use Rattle.lasso_parts.specs.Hashing.{text_hash}
 use Rattle.lasso_shared.specs.History.{Lacks}
 use Rattle.lasso_shared.specs.Views.{InternerId, list_of}
 use Rattle.lasso_shared.specs.Shards.{shard_of, is_in, count_in, IsShardOf, Counts}
-use Rattle.lasso_shared.proofs.Called.{keyless, added}
+use Rattle.lasso_shared.proofs.Stored.{key_of_last}
 use Rattle.lasso_shared.proofs.Whole.{list_good, is_home, exact_lacks, exact_shard, is_some_at, since_self, count_in_one, count_short, pushed, tally_pushed}
 use Rattle.lasso_shared.proofs.shards.Shards.append_at.Goals as goal
 
-pub returns-in_default-clause-call : goal.returns-in_default-clause-call
-returns-in_default-clause-call g c =
+pub returns-in_default-clause-put : goal.returns-in_default-clause-put
+returns-in_default-clause-put g c =
     let hash_of = text_hash g.S.BuildHasher.build_hasher g.S.Hasher.Hasher.write g.S.Hasher.Hasher.finish c.args.self.now.hasher in
     let n = shard_of c.args.hash in
     let log = c.args.self.now.log in
-    let t = c.args.text.now in
+    let t = c.args.text.text in
     let before = c.args.pass.now.notes in
     let spine = c.args.tally.now.spine.notes in
     let is = is_home hash_of c.args.hash t c.requires.hashed in
     let lacks : Lacks (list_of log before) t = exact_lacks hash_of n log c.args.shard.now.known.notes before c.requires.whole t is c.requires.held.exact.distinct c.requires.lacks in
     let long : c.len.result ≡ length (list_of log spine) = c.len.ensures.len ∙ ap (λ of. length (list_of of spine)) c.requires.tally.mine in
     let none : None ≡ g.K.Key.key_at (length (list_of log before)) = subst (λ (m : ℕ). None ≡ g.K.Key.key_at m) (long ∙ ap (λ (ts : List Text). length ts) (sym c.requires.list)) c.in_default.ensures in
-    rw c.new.ensures (keyless g.K.Key.key_at log.opening c.args.pass.now.number before before t (since_self c.args.pass.now.number before) lacks (sym none))
+    rw c.new.ensures (refl, since_self c.args.pass.now.number before, lacks, sym none)
 
-pub append_static-requires-clause-may : goal.append_static-requires-clause-may
-append_static-requires-clause-may g c =
+pub append-requires-clause-may : goal.append-requires-clause-may
+append-requires-clause-may g c =
     let hash_of = text_hash g.S.BuildHasher.build_hasher g.S.Hasher.Hasher.write g.S.Hasher.Hasher.finish c.args.self.now.hasher in
     let n = shard_of c.args.hash in
     let log = c.args.self.now.log in
-    let t = c.args.text.now in
+    let t = c.args.text.text in
     let before = c.args.pass.now.notes in
     let spine = c.args.tally.now.spine.notes in
     let is = is_home hash_of c.args.hash t c.requires.hashed in
@@ -41,58 +41,58 @@ overflow_add-shard g c =
     let hash_of = text_hash g.S.BuildHasher.build_hasher g.S.Hasher.Hasher.write g.S.Hasher.Hasher.finish c.args.self.now.hasher in
     let n = shard_of c.args.hash in
     let log = c.args.self.now.log in
-    let t = c.args.text.now in
+    let t = c.args.text.text in
     let before = c.args.pass.now.notes in
     let spine = c.args.tally.now.spine.notes in
     let is = is_home hash_of c.args.hash t c.requires.hashed in
     let lacks : Lacks (list_of log before) t = exact_lacks hash_of n log c.args.shard.now.known.notes before c.requires.whole t is c.requires.held.exact.distinct c.requires.lacks in
     let long : c.len.result ≡ length (list_of log spine) = c.len.ensures.len ∙ ap (λ of. length (list_of of spine)) c.requires.tally.mine in
-    let a = c.append_static.ensures in
-    let after = c.append_static.new.pass.notes in
+    let a = c.append.ensures in
+    let after = c.append.new.pass.notes in
     let list : list_of log after ≡ list_of log before ++ t ∷ [] = a.list ∙ ap (λ (ts : List Text). ts ++ t ∷ []) (sym c.requires.list) in
     let good = (list_good g.K.Key.key_at c.args.pass.now.of.opening before c.show_legal.ensures.opening c.show_legal.ensures.legal).0 in
     let distinct : IsDistinct (list_of log before) = subst (λ (o : InternerId). IsDistinct (list_of o before)) c.requires.of.0 good in
     let made : Some c.in-Some.key ≡ g.K.Key.key_at (length (list_of log before)) = subst (λ (m : ℕ). Some c.in-Some.key ≡ g.K.Key.key_at m) (long ∙ ap (λ (ts : List Text). length ts) (sym c.requires.list)) c.in-Some.ensures in
     let count : c.args.shard.now.count ≡ count_in hash_of n (list_of log before) = c.requires.held.counts ∙ c.requires.whole.counts in
     let more : c.args.shard.now.count + 1 ≡ count_in hash_of n (list_of log after) = ap (λ m. m + 1) count ∙ (sym (count_in_one (is_in hash_of n) (list_of log before) t is) ∙ ap (count_in hash_of n) (sym list)) in
-    let of : c.append_static.new.spine.of ≡ log = a.same.1 ∙ c.requires.tally.mine in
-    let there : list_of c.append_static.new.spine.of c.append_static.new.spine.notes ≡ list_of log after = ap (λ o. list_of o c.append_static.new.spine.notes) of ∙ ap (list_of log) a.spine in
+    let of : c.append.new.spine.of ≡ log = a.same.1 ∙ c.requires.tally.mine in
+    let there : list_of c.append.new.spine.of c.append.new.spine.notes ≡ list_of log after = ap (λ o. list_of o c.append.new.spine.notes) of ∙ ap (list_of log) a.spine in
     let few = count_short (is_in hash_of n) (list_of log after) in
     let short = c.len-len.type_inv in
     omega (arith, more, few, short, c.len-len.ensures.len, ap (λ (ts : List Text). length ts) there)
 
-pub returns-clause-call : goal.returns-clause-call
-returns-clause-call g c =
+pub returns-clause-put : goal.returns-clause-put
+returns-clause-put g c =
     let hash_of = text_hash g.S.BuildHasher.build_hasher g.S.Hasher.Hasher.write g.S.Hasher.Hasher.finish c.args.self.now.hasher in
     let n = shard_of c.args.hash in
     let log = c.args.self.now.log in
-    let t = c.args.text.now in
+    let t = c.args.text.text in
     let before = c.args.pass.now.notes in
     let spine = c.args.tally.now.spine.notes in
     let is = is_home hash_of c.args.hash t c.requires.hashed in
     let lacks : Lacks (list_of log before) t = exact_lacks hash_of n log c.args.shard.now.known.notes before c.requires.whole t is c.requires.held.exact.distinct c.requires.lacks in
     let long : c.len.result ≡ length (list_of log spine) = c.len.ensures.len ∙ ap (λ of. length (list_of of spine)) c.requires.tally.mine in
-    let a = c.append_static.ensures in
-    let after = c.append_static.new.pass.notes in
+    let a = c.append.ensures in
+    let after = c.append.new.pass.notes in
     let list : list_of log after ≡ list_of log before ++ t ∷ [] = a.list ∙ ap (λ (ts : List Text). ts ++ t ∷ []) (sym c.requires.list) in
     let good = (list_good g.K.Key.key_at c.args.pass.now.of.opening before c.show_legal.ensures.opening c.show_legal.ensures.legal).0 in
     let distinct : IsDistinct (list_of log before) = subst (λ (o : InternerId). IsDistinct (list_of o before)) c.requires.of.0 good in
     let made : Some c.in-Some.key ≡ g.K.Key.key_at (length (list_of log before)) = subst (λ (m : ℕ). Some c.in-Some.key ≡ g.K.Key.key_at m) (long ∙ ap (λ (ts : List Text). length ts) (sym c.requires.list)) c.in-Some.ensures in
-    added g.K.Key.key_at log.opening c.args.pass.now.number before after (list_of log before) t c.in-Some.key a.event list distinct lacks (sym made)
+    (a.event, key_of_last g.K.Key.key_at (list_of log before) (list_of log after) t c.in-Some.key list distinct lacks (sym made))
 
 pub returns-clause-held : goal.returns-clause-held
 returns-clause-held g c =
     let hash_of = text_hash g.S.BuildHasher.build_hasher g.S.Hasher.Hasher.write g.S.Hasher.Hasher.finish c.args.self.now.hasher in
     let n = shard_of c.args.hash in
     let log = c.args.self.now.log in
-    let t = c.args.text.now in
+    let t = c.args.text.text in
     let before = c.args.pass.now.notes in
     let spine = c.args.tally.now.spine.notes in
     let is = is_home hash_of c.args.hash t c.requires.hashed in
     let lacks : Lacks (list_of log before) t = exact_lacks hash_of n log c.args.shard.now.known.notes before c.requires.whole t is c.requires.held.exact.distinct c.requires.lacks in
     let long : c.len.result ≡ length (list_of log spine) = c.len.ensures.len ∙ ap (λ of. length (list_of of spine)) c.requires.tally.mine in
-    let a = c.append_static.ensures in
-    let after = c.append_static.new.pass.notes in
+    let a = c.append.ensures in
+    let after = c.append.new.pass.notes in
     let list : list_of log after ≡ list_of log before ++ t ∷ [] = a.list ∙ ap (λ (ts : List Text). ts ++ t ∷ []) (sym c.requires.list) in
     let good = (list_good g.K.Key.key_at c.args.pass.now.of.opening before c.show_legal.ensures.opening c.show_legal.ensures.legal).0 in
     let distinct : IsDistinct (list_of log before) = subst (λ (o : InternerId). IsDistinct (list_of o before)) c.requires.of.0 good in
@@ -115,22 +115,22 @@ returns-clause-tally g c =
     let hash_of = text_hash g.S.BuildHasher.build_hasher g.S.Hasher.Hasher.write g.S.Hasher.Hasher.finish c.args.self.now.hasher in
     let n = shard_of c.args.hash in
     let log = c.args.self.now.log in
-    let t = c.args.text.now in
+    let t = c.args.text.text in
     let before = c.args.pass.now.notes in
     let spine = c.args.tally.now.spine.notes in
     let is = is_home hash_of c.args.hash t c.requires.hashed in
     let lacks : Lacks (list_of log before) t = exact_lacks hash_of n log c.args.shard.now.known.notes before c.requires.whole t is c.requires.held.exact.distinct c.requires.lacks in
     let long : c.len.result ≡ length (list_of log spine) = c.len.ensures.len ∙ ap (λ of. length (list_of of spine)) c.requires.tally.mine in
-    let a = c.append_static.ensures in
-    let after = c.append_static.new.pass.notes in
+    let a = c.append.ensures in
+    let after = c.append.new.pass.notes in
     let list : list_of log after ≡ list_of log before ++ t ∷ [] = a.list ∙ ap (λ (ts : List Text). ts ++ t ∷ []) (sym c.requires.list) in
     let good = (list_good g.K.Key.key_at c.args.pass.now.of.opening before c.show_legal.ensures.opening c.show_legal.ensures.legal).0 in
     let distinct : IsDistinct (list_of log before) = subst (λ (o : InternerId). IsDistinct (list_of o before)) c.requires.of.0 good in
     let made : Some c.in-Some.key ≡ g.K.Key.key_at (length (list_of log before)) = subst (λ (m : ℕ). Some c.in-Some.key ≡ g.K.Key.key_at m) (long ∙ ap (λ (ts : List Text). length ts) (sym c.requires.list)) c.in-Some.ensures in
     let count : c.args.shard.now.count ≡ count_in hash_of n (list_of log before) = c.requires.held.counts ∙ c.requires.whole.counts in
     let more : c.args.shard.now.count + 1 ≡ count_in hash_of n (list_of log after) = ap (λ m. m + 1) count ∙ (sym (count_in_one (is_in hash_of n) (list_of log before) t is) ∙ ap (count_in hash_of n) (sym list)) in
-    let of : c.append_static.new.spine.of ≡ log = a.same.1 ∙ c.requires.tally.mine in
-    let lists : list_of log c.append_static.new.spine.notes ≡ list_of log spine ++ t ∷ [] = ap (list_of log) a.spine ∙ a.list in
+    let of : c.append.new.spine.of ≡ log = a.same.1 ∙ c.requires.tally.mine in
+    let lists : list_of log c.append.new.spine.notes ≡ list_of log spine ++ t ∷ [] = ap (list_of log) a.spine ∙ a.list in
     let number = c.number_of.ensures in
     let one : c.args.shard.now.count + 1 ≡ count_in hash_of c.number_of.result (list_of log spine) + 1 = rw number.0 (ap (λ m. m + 1) (count ∙ ap (count_in hash_of n) c.requires.list)) in
     let each : Counts hash_of (list_of log spine ++ t ∷ []) _ = tally_pushed hash_of c.number_of.result (list_of log spine) t c.args.tally.now.counts (c.args.shard.now.count + 1) number.1 c.requires.tally.all (rw number.0 is) one c.requires.tally.counts_each in record {
@@ -140,4 +140,4 @@ returns-clause-tally g c =
     }
 
 pub returns-clause-kept : goal.returns-clause-kept
-returns-clause-kept g c = omega (arith, c.append_static.ensures.kept)
+returns-clause-kept g c = omega (arith, c.append.ensures.kept)

@@ -1,24 +1,26 @@
-use Rattle.std.proofs.Common.{◌≡◌, ℕ, true, ◌∙◌, subst}
+use Rattle.std.proofs.Common.{◌≡◌, ℕ, [], true, refl, ◌∙◌, subst}
+use Rattle.lasso_parts.specs.Texts.{Text}
 use Rattle.lasso_parts.specs.Hashing.{text_hash}
 use Rattle.lasso_shared.specs.History.{Lacks}
-use Rattle.lasso_shared.specs.Replies.{Static, Intern, Interned}
-use Rattle.lasso_shared.specs.Calls.{IsCall}
-use Rattle.lasso_shared.specs.Views.{list_of, seen}
-use Rattle.lasso_shared.specs.Shards.{is_in}
-use Rattle.lasso_shared.proofs.Called.{called_later, wanting}
+use Rattle.lasso_shared.specs.Replies.{Static}
+use Rattle.lasso_shared.specs.Views.{list_of}
+use Rattle.lasso_shared.specs.Shards.{is_in, PutsLast}
+use Rattle.lasso_shared.proofs.Stored.{called_put, called_wanting}
 use Rattle.lasso_shared.proofs.Whole.{is_home, exact_lacks, since_both}
-use Rattle.lasso_shared.proofs.shards.Shards.intern_held.Goals as goal
+use Rattle.lasso_shared.proofs.shards.Shards.intern_static_held.Goals as goal
 
 pub returns-in-Ok-clause-call : goal.returns-in-Ok-clause-call
 returns-in-Ok-clause-call g c =
     let since = since_both c.args.pass.now.number c.find.new.pass.number c.args.pass.now.notes c.find.new.pass.notes c.see_whole.new.pass.notes c.find.ensures.same.0 c.find.ensures.since c.see_whole.ensures.since in
     let p = c.args.pass.now.number in
-    let o = c.args.self.now.log.opening in
-    let q = Intern Static c.args.text.now in
+    let log = c.args.self.now.log in
+    let mid = c.see_whole.new.pass.notes in
+    let after = c.put_last.new.pass.notes in
+    let r = c.put_last.result in
     let same : c.see_whole.new.pass.number ≡ p = c.see_whole.ensures.same.0 ∙ c.find.ensures.same.0 in
-    let call : IsCall g.K.Key.key_at o (seen c.see_whole.new.pass) (seen c.put_last.new.pass) p q (Interned c.put_last.result) =
-    subst (λ (n : ℕ). IsCall g.K.Key.key_at o (seen c.see_whole.new.pass) (seen c.put_last.new.pass) n q (Interned c.put_last.result)) same c.put_last.ensures.call in
-    called_later g.K.Key.key_at o p c.args.pass.now.notes c.see_whole.new.pass.notes (seen c.put_last.new.pass) q (Interned c.put_last.result) since call
+    let put : PutsLast g.K.Key.key_at log p mid after c.args.text.now r =
+    subst (λ (t : Text). PutsLast g.K.Key.key_at log p mid after t r) c.lasting.ensures.text (subst (λ (n : ℕ). PutsLast g.K.Key.key_at log n mid after c.lasting.result.text r) same c.put_last.ensures.put) in
+    called_put g.K.Key.key_at log p Static c.args.pass.now.notes mid after [] c.args.text.now r since refl put
 
 pub returns-in-Err-clause-call : goal.returns-in-Err-clause-call
 returns-in-Err-clause-call g c =
@@ -29,4 +31,4 @@ returns-in-Err-clause-call g c =
     let is : is_in hash_of c.number_of.result t ≡ true = rw c.number_of.ensures.0 (is_home hash_of c.args.hash t c.requires.hashed) in
     let lacks : Lacks (list_of log c.see_whole.new.pass.notes) t =
     exact_lacks hash_of c.number_of.result log c.args.shard.now.known.notes c.see_whole.new.pass.notes c.see_whole.ensures.whole t is c.requires.held.exact.distinct c.in_default.ensures.missing in
-    rw c.in-Err.ensures.refused (wanting g.K.Key.key_at log.opening c.args.pass.now.number c.args.pass.now.notes c.see_whole.new.pass.notes t since lacks)
+    rw c.in-Err.ensures.refused (called_wanting g.K.Key.key_at log c.args.pass.now.number Static c.args.pass.now.notes c.see_whole.new.pass.notes t since lacks)

@@ -1,0 +1,17 @@
+use Rattle.std.proofs.Common.{ℕ, subst}
+use Rattle.lasso_shared.specs.Replies.{Copied, Intern, Interned}
+use Rattle.lasso_shared.specs.Calls.{IsCall}
+use Rattle.lasso_shared.specs.Views.{seen}
+use Rattle.lasso_shared.proofs.Called.{called_later}
+use Rattle.lasso_shared.proofs.shards.Shards.intern_copied.Goals as goal
+
+pub returns-clause-call : goal.returns-clause-call
+returns-clause-call g c =
+    let p = c.args.pass.now.number in
+    let o = c.args.self.now.log.opening in
+    let q = Intern Copied c.args.text.now in
+    let after = seen c.intern_copied_held-reply.new.pass in
+    let r = c.intern_copied_held-reply.result in
+    let call : IsCall g.K.Key.key_at o (seen c.peek.new.pass) after p q (Interned r) =
+    subst (λ (n : ℕ). IsCall g.K.Key.key_at o (seen c.peek.new.pass) after n q (Interned r)) c.peek.ensures.same.0 c.intern_copied_held-reply.ensures.call in
+    called_later g.K.Key.key_at o p c.args.pass.now.notes c.peek.new.pass.notes after q (Interned r) c.peek.ensures.since call

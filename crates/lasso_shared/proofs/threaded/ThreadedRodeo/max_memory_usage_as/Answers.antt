@@ -1,0 +1,13 @@
+use Rattle.std.proofs.Common.{◌≡◌, ◌∙◌, ap}
+use Rattle.lasso_shared.specs.Notes.{state}
+use Rattle.lasso_shared.specs.Views.{InternerId}
+use Rattle.lasso_shared.proofs.Called.{limited}
+use Rattle.lasso_shared.proofs.threaded.ThreadedRodeo.max_memory_usage_as.Goals as goal
+
+pub returns-clause-call : goal.returns-clause-call
+returns-clause-call g c =
+    let o = c.args.self.now.opening in
+    let told = c.max_usage-limit in
+    let after = told.new.pass.notes in
+    let is : told.result ≡ (state o after).limit = told.ensures.reply ∙ ap (λ (of : InternerId). (state of.opening after).limit) c.self.view_is in
+    limited g.K.Key.key_at o c.args.pass.now.number c.args.pass.now.notes after told.result told.ensures.since is

@@ -1,0 +1,51 @@
+//! Usage and limit, by the spine.
+ghost use Rattle.std.specs.Prelude.{◌≡◌, ◌∷◌, []};
+ghost use Rattle.lasso_shared.specs.History.{Limit};
+ghost use Rattle.lasso_shared.specs.Notes.{Since, state};
+ghost use Rattle.lasso_shared.specs.Views.{PassView, InternerId, IsSamePass};
+
+use crate::log::Pass;
+use crate::shards::Shards;
+use lasso_parts::keys::Key;
+use std::hash::BuildHasher;
+use std::sync::Wait;
+
+impl<K: Key, S: BuildHasher + Drop> Shards<K, S> {
+    /// The bytes that all buckets take, in what the pass has then seen. It takes no memory. It waits for the spine.
+    pub fn usage<R: Wait>(&self, rt: &R, pass: &mut Pass<K>) -> u64
+        requires { pass.old.of ≡ self.now.log }
+        ensures same { IsSamePass pass.new pass.old }
+        ensures since { Since pass.old.number pass.old.notes pass.new.notes [] }
+        ensures reply { result ≡ (state self.now.log.opening pass.new.notes).usage }
+    {
+        let (guard, tally) = self.spine.take(rt);
+        let usage = self.log.usage(rt, &tally.spine, pass);
+        guard.give(rt, tally);
+        usage
+    }
+
+    /// The most bytes that all buckets may take, likewise.
+    pub fn max_usage<R: Wait>(&self, rt: &R, pass: &mut Pass<K>) -> u64
+        requires { pass.old.of ≡ self.now.log }
+        ensures same { IsSamePass pass.new pass.old }
+        ensures since { Since pass.old.number pass.old.notes pass.new.notes [] }
+        ensures reply { result ≡ (state self.now.log.opening pass.new.notes).limit }
+    {
+        let (guard, tally) = self.spine.take(rt);
+        let limit = self.log.max_usage(rt, &tally.spine, pass);
+        guard.give(rt, tally);
+        limit
+    }
+
+    /// Replaces the most bytes that all buckets may take. It takes no memory. It waits for the spine, and does not return where the
+    /// turn word is 2^64 - 1.
+    pub fn set_limit<R: Wait>(&self, rt: &R, pass: &mut Pass<K>, limit: u64)
+        requires { pass.old.of ≡ self.now.log }
+        ensures same { IsSamePass pass.new pass.old }
+        ensures event { Since pass.old.number pass.old.notes pass.new.notes (Limit limit ∷ []) }
+    {
+        let (guard, mut tally) = self.spine.take(rt);
+        self.log.set_limit(rt, &mut tally.spine, pass, limit);
+        guard.give(rt, tally);
+    }
+}

@@ -1,0 +1,136 @@
+//! Putting a new text last, while its shard is held.
+//!
+//! Room is made in the index, and a slot of the log is kept. The key type is asked, the text is appended, and its position is entered
+//! into the index. The spine is let go between these, and the shard is held: so what was looked up stays, what was stored is not
+//! stored again, and a retry looks at numbers alone.
+ghost use Rattle.std.specs.Prelude.{◌≡◌, ◌<◌, ◌-◌, IfOk, IfErr};
+ghost use base.Fml.{Incl};
+ghost use mathlib.Core.List.{IsPrefix};
+ghost use Rattle.lasso_parts.specs.declared.util.LassoErrorKind.TheVariants.{FailedAllocation};
+ghost use Rattle.lasso_parts.specs.Hashing.{text_hash};
+ghost use Rattle.lasso_parts.specs.Index.{room};
+ghost use Rattle.lasso_shared.specs.Chunks.{era_named};
+ghost use Rattle.lasso_shared.specs.Eras.{life};
+ghost use Rattle.lasso_shared.specs.History.{Lacks};
+ghost use Rattle.lasso_shared.specs.Pieces.{PieceView};
+ghost use Rattle.lasso_shared.specs.Shards.{IsShard, IsTally, IsWhole, PutsLast, shard_of};
+ghost use Rattle.lasso_shared.specs.Views.{PassView, InternerId, IsSamePass, list_of};
+
+use crate::log::{KeptSlot, Pass};
+use crate::shards::Shards;
+use crate::shards::shard::{Shard, Tally};
+use crate::shards::tag::number_of;
+use crate::shared_arena::piece::Piece;
+use lasso_parts::keys::Key;
+use lasso_parts::util::{LassoError, LassoErrorKind, LassoResult};
+use std::hash::BuildHasher;
+use std::sync::Wait;
+
+impl<K: Key, S: BuildHasher + Drop> Shards<K, S> {
+    // Makes room in the shard's index, and keeps a slot. Want of memory keeps none, and the shard has the texts that it had.
+    pub(super) fn make_room<R: Wait>(
+        &self,
+        rt: &R,
+        shard: &mut Shard<K, S>,
+        pass: &Pass<K>,
+        number: usize,
+    ) -> LassoResult<KeptSlot<K>>
+        requires of { pass.now.of ≡ self.now.log }
+        requires held { IsShard (text_hash S.build_hasher S.Hasher.write S.Hasher.finish self.now.hasher) number self.now.log shard.old.known shard.old.index shard.old.count }
+        requires begins { IsPrefix shard.old.known.notes pass.now.notes }
+        ensures held { IsShard (text_hash S.build_hasher S.Hasher.write S.Hasher.finish self.now.hasher) number self.now.log shard.new.known shard.new.index shard.new.count }
+        ensures known { shard.new.known ≡ shard.old.known }
+        ensures room { IfOk result (λ slot. (slot ≡ self.now.log) × (0 < room shard.new.index.slots)) }
+        ensures refused { IfErr result (λ error. error ≡ FailedAllocation) }
+    {
+        let seen_texts = self.log.seen_texts(pass);
+        shard.index.reserve_one(&seen_texts, &self.hasher)?;
+        let (guard, mut tally) = self.spine.take(rt);
+        let slot = self.log.reserve_next(self.alloc, &mut tally.spine);
+        guard.give(rt, tally);
+        slot
+    }
+
+    // Gives a slot back.
+    pub(super) fn give_back<R: Wait>(&self, rt: &R, slot: KeptSlot<K>)
+        requires { slot ≡ self.now.log }
+    {
+        let (guard, mut tally) = self.spine.take(rt);
+        tally.spine.give_back(slot);
+        guard.give(rt, tally);
+    }
+
+    // Puts the text last, where the shard is whole for what the pass has seen, and the spine has seen that list. Where the key
+    // type has no key for its position, the slot is given back.
+    fn append_at<R: Wait>(
+        &self,
+        rt: &R,
+        tally: &mut Tally<K, S>,
+        shard: &mut Shard<K, S>,
+        pass: &mut Pass<K>,
+        slot: KeptSlot<K>,
+        hash: u64,
+        text: Piece,
+    ) -> LassoResult<K>
+        requires of { (pass.old.of ≡ self.now.log) × (slot ≡ self.now.log) }
+        requires lasts { Incl (life (era_named self.now.log.chunks)) text.until }
+        requires hashed { hash ≡ text_hash S.build_hasher S.Hasher.write S.Hasher.finish self.now.hasher text.text }
+        requires held { IsShard (text_hash S.build_hasher S.Hasher.write S.Hasher.finish self.now.hasher) (shard_of hash) self.now.log shard.old.known shard.old.index shard.old.count }
+        requires tally { IsTally (text_hash S.build_hasher S.Hasher.write S.Hasher.finish self.now.hasher) self.now.log tally.old.spine tally.old.counts }
+        requires whole { IsWhole (text_hash S.build_hasher S.Hasher.write S.Hasher.finish self.now.hasher) (shard_of hash) self.now.log shard.old.known.notes pass.old.notes }
+        requires list { list_of self.now.log pass.old.notes ≡ list_of self.now.log tally.old.spine.notes }
+        requires lacks { Lacks (list_of self.now.log shard.old.known.notes) text.text }
+        requires room { 0 < room shard.old.index.slots }
+        ensures same { IsSamePass pass.new pass.old }
+        ensures put { PutsLast K.key_at self.now.log pass.old.number pass.old.notes pass.new.notes text.text result }
+        ensures held { IsShard (text_hash S.build_hasher S.Hasher.write S.Hasher.finish self.now.hasher) (shard_of hash) self.now.log shard.new.known shard.new.index shard.new.count }
+        ensures tally { IsTally (text_hash S.build_hasher S.Hasher.write S.Hasher.finish self.now.hasher) self.now.log tally.new.spine tally.new.counts }
+        ensures kept { tally.new.spine.kept ≡ tally.old.spine.kept - 1 }
+    {
+        pass.show_legal();
+        let Some(key) = K::try_from_usize(tally.spine.len() as usize) else {
+            tally.spine.give_back(slot);
+            return Err(LassoError::new(LassoErrorKind::KeySpaceExhaustion));
+        };
+        self.log.append(rt, &mut tally.spine, pass, slot, text);
+        let _len = tally.spine.len();
+        shard.index.insert_reserved(hash, key);
+        shard.known = pass.known();
+        shard.count += 1;
+        tally.counts[number_of(hash)] = shard.count;
+        Ok(key)
+    }
+
+    // Puts the text last, once the shard is whole for what the pass has then seen.
+    pub(super) fn put_last<R: Wait>(
+        &self,
+        rt: &R,
+        shard: &mut Shard<K, S>,
+        pass: &mut Pass<K>,
+        slot: KeptSlot<K>,
+        hash: u64,
+        text: Piece,
+    ) -> LassoResult<K>
+        requires of { (pass.old.of ≡ self.now.log) × (slot ≡ self.now.log) }
+        requires lasts { Incl (life (era_named self.now.log.chunks)) text.until }
+        requires hashed { hash ≡ text_hash S.build_hasher S.Hasher.write S.Hasher.finish self.now.hasher text.text }
+        requires held { IsShard (text_hash S.build_hasher S.Hasher.write S.Hasher.finish self.now.hasher) (shard_of hash) self.now.log shard.old.known shard.old.index shard.old.count }
+        requires begins { IsPrefix shard.old.known.notes pass.old.notes }
+        requires lacks { Lacks (list_of self.now.log shard.old.known.notes) text.text }
+        requires room { 0 < room shard.old.index.slots }
+        ensures same { IsSamePass pass.new pass.old }
+        ensures put { PutsLast K.key_at self.now.log pass.old.number pass.old.notes pass.new.notes text.text result }
+        ensures held { IsShard (text_hash S.build_hasher S.Hasher.write S.Hasher.finish self.now.hasher) (shard_of hash) self.now.log shard.new.known shard.new.index shard.new.count }
+    {
+        for _ in rt.forever() {
+            let (guard, mut tally) = self.spine.take(rt);
+            if self.is_whole(&tally, shard, pass, number_of(hash)) {
+                let reply = self.append_at(rt, &mut tally, shard, pass, slot, hash, text);
+                guard.give(rt, tally);
+                return reply;
+            }
+            guard.give(rt, tally);
+        }
+        unreachable!()
+    }
+}

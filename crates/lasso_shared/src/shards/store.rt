@@ -1,0 +1,121 @@
+//! The bytes of a text that is copied: they are stored while the text's shard is held, before the key type is asked.
+//!
+//! The buckets are walked without the spine. Where none has room the spine is taken, and the shard is compared with its number of it.
+//! Then the buckets are walked again, and one is added where none has room still. So a refusal by the limit is one of a step at
+//! which the list lacks the text.
+ghost use Rattle.std.specs.Prelude.{◌≡◌, ◌≢◌, ◌⊎◌, [], List, length, Err, IfOk, IfErr, OnErr};
+ghost use mathlib.Core.List.{IsPrefix};
+ghost use base.Fml.{Incl};
+ghost use Rattle.lasso_parts.specs.declared.util.LassoErrorKind.TheVariants.{FailedAllocation, MemoryLimitReached};
+ghost use Rattle.lasso_parts.specs.Hashing.{text_hash};
+ghost use Rattle.lasso_shared.specs.Calls.{IsCall, TakesBytes, Stores};
+ghost use Rattle.lasso_shared.specs.Chunks.{era_named};
+ghost use Rattle.lasso_shared.specs.Eras.{life};
+ghost use Rattle.lasso_shared.specs.History.{Event, Lacks};
+ghost use Rattle.lasso_shared.specs.Notes.{Since};
+ghost use Rattle.lasso_shared.specs.Pieces.{PieceView, RangeView};
+ghost use Rattle.lasso_shared.specs.Replies.{Copied, Intern, Interned};
+ghost use Rattle.lasso_shared.specs.Shards.{IsShard, shard_of};
+ghost use Rattle.lasso_shared.specs.Turns.{IsPastLimit};
+ghost use Rattle.lasso_shared.specs.Views.{PassView, InternerId, SpineView, IsSamePass, IsSameSpine, list_of, seen};
+
+use crate::log::Pass;
+use crate::shards::Shards;
+use crate::shards::shard::{Shard, Tally};
+use crate::shards::tag::number_of;
+use crate::shared_arena::piece::{Piece, Range};
+use lasso_parts::keys::Key;
+use lasso_parts::util::LassoResult;
+use std::hash::BuildHasher;
+use std::sync::Wait;
+
+impl<K: Key, S: BuildHasher + Drop> Shards<K, S> {
+    // Takes so many bytes, at least one, with the spine held: in a bucket that has room for them, or else in a new one. A refusal
+    // leaves no event, and one by the limit comes at a step at which the list is as long as the spine's.
+    fn reserve_or_charge<R: Wait>(
+        &self,
+        rt: &R,
+        tally: &mut Tally<K, S>,
+        pass: &mut Pass<K>,
+        bytes: u64,
+    ) -> LassoResult<Range>
+        requires of { (pass.old.of ≡ self.now.log) × (tally.old.spine.of ≡ self.now.log) }
+        requires some { bytes ≢ 0 }
+        ensures same { IsSamePass pass.new pass.old }
+        ensures tally { IsSameSpine tally.new.spine tally.old.spine × (tally.new.counts ≡ tally.old.counts) }
+        ensures event { IfOk result (λ r. (own : List Event) × TakesBytes bytes own × Since pass.old.number pass.old.notes pass.new.notes own) }
+        ensures range { IfOk result (λ r. (r.era ≡ era_named self.now.log.chunks) × (r.len ≡ bytes)) }
+        ensures refused { IfErr result (λ error. (error ≡ FailedAllocation) ⊎ ((error ≡ MemoryLimitReached) × IsPastLimit self.now.log.opening pass.old.notes pass.new.notes (length (list_of self.now.log tally.old.spine.notes)) bytes)) }
+        ensures err { OnErr result (Since pass.old.number pass.old.notes pass.new.notes []) }
+    {
+        if let Some(range) = self
+            .log
+            .reserve(rt, &self.buckets, &tally.spine, pass, bytes)
+        {
+            return Ok(range);
+        }
+        self.log.charge(rt, self.alloc, &self.buckets, &mut tally.spine, pass, bytes)
+    }
+
+    // Takes the bytes of a text that is not empty and that the held shard lacks. The reply to a refusal is explained.
+    fn take_bytes<R: Wait>(
+        &self,
+        rt: &R,
+        shard: &Shard<K, S>,
+        pass: &mut Pass<K>,
+        hash: u64,
+        text: &str,
+    ) -> LassoResult<Range>
+        requires of { pass.old.of ≡ self.now.log }
+        requires hashed { hash ≡ text_hash S.build_hasher S.Hasher.write S.Hasher.finish self.now.hasher text.now }
+        requires held { IsShard (text_hash S.build_hasher S.Hasher.write S.Hasher.finish self.now.hasher) (shard_of hash) self.now.log shard.now.known shard.now.index shard.now.count }
+        requires begins { IsPrefix shard.now.known.notes pass.old.notes }
+        requires lacks { Lacks (list_of self.now.log shard.now.known.notes) text.now }
+        requires some { text.now ≢ [] }
+        ensures same { IsSamePass pass.new pass.old }
+        ensures event { IfOk result (λ r. (own : List Event) × TakesBytes (length text.now) own × Since pass.old.number pass.old.notes pass.new.notes own) }
+        ensures range { IfOk result (λ r. (r.era ≡ era_named self.now.log.chunks) × (r.len ≡ length text.now)) }
+        ensures refused { IfErr result (λ error. IsCall K.key_at self.now.log.opening (seen pass.old) (seen pass.new) pass.old.number (Intern Copied text.now) (Interned (Err error))) }
+    {
+        let bytes = text.len() as u64;
+        if let Some(range) = self.log.reserve_anywhere(rt, &self.buckets, pass, bytes) {
+            return Ok(range);
+        }
+        for _ in rt.forever() {
+            let (guard, mut tally) = self.spine.take(rt);
+            if self.is_whole(&tally, shard, pass, number_of(hash)) {
+                let range = self.reserve_or_charge(rt, &mut tally, pass, bytes);
+                guard.give(rt, tally);
+                return range;
+            }
+            guard.give(rt, tally);
+        }
+        unreachable!()
+    }
+
+    // The text where it lies from then on, as long as the interner: in a bucket, where it is not empty. The held shard lacks it.
+    pub(super) fn store<R: Wait>(
+        &self,
+        rt: &R,
+        shard: &Shard<K, S>,
+        pass: &mut Pass<K>,
+        hash: u64,
+        text: &str,
+    ) -> LassoResult<Piece>
+        requires of { pass.old.of ≡ self.now.log }
+        requires hashed { hash ≡ text_hash S.build_hasher S.Hasher.write S.Hasher.finish self.now.hasher text.now }
+        requires held { IsShard (text_hash S.build_hasher S.Hasher.write S.Hasher.finish self.now.hasher) (shard_of hash) self.now.log shard.now.known shard.now.index shard.now.count }
+        requires begins { IsPrefix shard.now.known.notes pass.old.notes }
+        requires lacks { Lacks (list_of self.now.log shard.now.known.notes) text.now }
+        ensures same { IsSamePass pass.new pass.old }
+        ensures event { IfOk result (λ p. (own : List Event) × Stores Copied text.now own × Since pass.old.number pass.old.notes pass.new.notes own) }
+        ensures piece { IfOk result (λ p. (p.text ≡ text.now) × Incl (life (era_named self.now.log.chunks)) p.until) }
+        ensures refused { IfErr result (λ error. IsCall K.key_at self.now.log.opening (seen pass.old) (seen pass.new) pass.old.number (Intern Copied text.now) (Interned (Err error))) }
+    {
+        if text.is_empty() {
+            return Ok(Piece::lasting(""));
+        }
+        let range = self.take_bytes(rt, shard, pass, hash, text)?;
+        Ok(range.fill(self.log.era(), text))
+    }
+}

@@ -1,0 +1,57 @@
+//! Usage and limit of an interner that threads share, with a pass.
+ghost use Rattle.std.specs.Prelude.{◌≡◌};
+ghost use Rattle.lasso_shared.specs.History.{IsLegal, IsOpening};
+ghost use Rattle.lasso_shared.specs.Replies.{Usage, MaxUsage, SetLimit, Number, Done};
+ghost use Rattle.lasso_shared.specs.Calls.{IsCall};
+ghost use Rattle.lasso_shared.specs.Views.{PassView, InternerId, IsSamePass, seen};
+
+use crate::log::Pass;
+use crate::threaded::ThreadedRodeo;
+use lasso_parts::keys::Key;
+use lasso_parts::util::MemoryLimits;
+use std::hash::BuildHasher;
+use std::sync::Wait;
+
+impl<K: Key, S: BuildHasher + Drop> ThreadedRodeo<K, S> {
+    /// The bytes that all buckets take, also those that no text has taken. It takes no memory. It waits for the spine.
+    pub fn current_memory_usage_as<R: Wait>(&self, rt: &R, pass: &mut Pass<K>) -> usize
+        requires { pass.old.of ≡ self.now }
+        ensures same { IsSamePass pass.new pass.old }
+        ensures call { IsCall K.key_at self.now.opening (seen pass.old) (seen pass.new) pass.old.number Usage (Number result) }
+        ensures opening { IsOpening K.key_at self.now.opening }
+        ensures legal { IsLegal K.key_at self.now.opening (seen pass.new) }
+    {
+        let usage = self.shards.usage(rt, pass);
+        pass.show_legal();
+        usage as usize
+    }
+
+    /// The most bytes that all buckets may take: what the interner was made with, or what was set last. It takes no memory. It
+    /// waits for the spine.
+    pub fn max_memory_usage_as<R: Wait>(&self, rt: &R, pass: &mut Pass<K>) -> usize
+        requires { pass.old.of ≡ self.now }
+        ensures same { IsSamePass pass.new pass.old }
+        ensures call { IsCall K.key_at self.now.opening (seen pass.old) (seen pass.new) pass.old.number MaxUsage (Number result) }
+        ensures opening { IsOpening K.key_at self.now.opening }
+        ensures legal { IsLegal K.key_at self.now.opening (seen pass.new) }
+    {
+        let limit = self.shards.max_usage(rt, pass);
+        pass.show_legal();
+        limit as usize
+    }
+
+    /// Sets the most bytes that all buckets may take. It may lie below what they take already: they stay, and copied texts that
+    /// need another bucket are then refused. The texts stay. It takes no memory and is never refused. It waits for the spine, and
+    /// does not return where limits and buckets came 2^64 - 1 times before.
+    pub fn set_memory_limits_as<R: Wait>(&self, rt: &R, pass: &mut Pass<K>, limits: MemoryLimits)
+        requires { pass.old.of ≡ self.now }
+        ensures same { IsSamePass pass.new pass.old }
+        ensures call { IsCall K.key_at self.now.opening (seen pass.old) (seen pass.new) pass.old.number (SetLimit limits) Done }
+        ensures opening { IsOpening K.key_at self.now.opening }
+        ensures legal { IsLegal K.key_at self.now.opening (seen pass.new) }
+    {
+        let limit = limits.max_memory_usage();
+        self.shards.set_limit(rt, pass, limit as u64);
+        pass.show_legal();
+    }
+}

@@ -1,0 +1,82 @@
+//! Copied texts, beside static ones and of two threads.
+use super::ThreadedRodeo;
+use lasso_parts::keys::{Key, Spur};
+use lasso_parts::util::{FixedState, LassoResult};
+use std::sync::Wait;
+use std::test::*;
+use std::thread::join;
+
+#[test]
+fn a_copied_and_a_static_text_have_one_key(rt: HostRuntime) -> Result<(), Fail> {
+    let shared = ThreadedRodeo::default(rt.alloc())?;
+    let first = shared.try_get_or_intern(&rt, "p")?;
+    assert_eq!(rt; shared.try_get_or_intern_static(&rt, "p")?, first);
+    let second = shared.get_or_intern_static(&rt, "q")?;
+    assert_eq!(rt; shared.get_or_intern(&rt, "q")?, second);
+    let empty = shared.get_or_intern(&rt, "")?;
+    assert_eq!(rt; shared.get_or_intern_static(&rt, "")?, empty);
+    assert_eq!(rt; shared.len(), 3);
+    assert_eq!(rt;
+        (first.into_usize(), second.into_usize(), empty.into_usize()),
+        (0, 1, 2)
+    );
+    assert_eq!(rt; shared.resolve(first), Some("p"));
+    assert_eq!(rt; shared.resolve(empty), Some(""));
+    Ok(())
+}
+
+#[test]
+fn a_copy_stays_where_its_source_changes(rt: HostRuntime) -> Result<(), Fail> {
+    let shared = ThreadedRodeo::default(rt.alloc())?;
+    let mut bytes = [97u8, 98u8];
+    let text = str::from_utf8(&bytes).ok().ok_or("no text")?;
+    let key = shared.try_get_or_intern(&rt, text)?;
+    bytes[0] = 122;
+    assert_eq!(rt; shared.resolve(key), Some("ab"));
+    let changed = str::from_utf8(&bytes).ok().ok_or("no text")?;
+    assert_eq!(rt; shared.get(&rt, changed), None);
+    assert_eq!(rt; shared.get(&rt, "ab"), Some(key));
+    Ok(())
+}
+
+// Interns `x` and a text of its own, and gives the number of `x` where both keys stand for their texts.
+fn meets<R: Wait>(
+    rt: &R,
+    shared: &ThreadedRodeo<Spur, FixedState>,
+    own: &str,
+) -> LassoResult<Option<usize>> {
+    let mut pass = shared.pass();
+    let x = shared.try_get_or_intern_as(rt, &mut pass, "x")?;
+    let mine = shared.try_get_or_intern_as(rt, &mut pass, own)?;
+    let both = shared.try_resolve_as(&mut pass, x) == Some("x")
+        && shared.try_resolve_as(&mut pass, mine) == Some(own);
+    Ok(if both { Some(x.into_usize()) } else { None })
+}
+
+#[test]
+fn a_copied_text_of_two_threads_has_one_key(rt: HostRuntime) -> Result<(), Fail> {
+    let shared = ThreadedRodeo::default(rt.alloc())?;
+    let (a, b) = join(
+        &rt,
+        || meets(&rt, &shared, "a"),
+        || meets(&rt, &shared, "b"),
+    );
+    let (a, b) = (a?, b?);
+    assert!(rt; a.is_some());
+    assert_eq!(rt; a, b);
+    assert_eq!(rt; shared.len(), 3);
+    Ok(())
+}
+
+#[test]
+fn a_text_of_each_thread_resolves(rt: HostRuntime) -> Result<(), Fail> {
+    let shared = ThreadedRodeo::default(rt.alloc())?;
+    let (here, there) = join(
+        &rt,
+        || shared.get_or_intern(&rt, "Hello, world!"),
+        || shared.get_or_intern(&rt, "Hello from the thread!"),
+    );
+    assert_eq!(rt; shared.resolve(here?), Some("Hello, world!"));
+    assert_eq!(rt; shared.resolve(there?), Some("Hello from the thread!"));
+    Ok(())
+}

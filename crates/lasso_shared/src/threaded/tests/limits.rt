@@ -1,0 +1,154 @@
+//! What makers open with, and limits that are set and read.
+
+use super::FIRST;
+use crate::threaded::ThreadedRodeo;
+use lasso_parts::keys::{MicroSpur, Spur};
+use lasso_parts::util::{Capacity, FixedState, LassoResult, MemoryLimits};
+use std::alloc::Global;
+use std::process::Abort;
+use std::sync::Wait;
+use std::test::*;
+use std::thread::{Threads, join};
+
+#[test]
+fn makers_open_with_capacity_and_limit(rt: HostRuntime) -> Result<(), Fail> {
+    let shared = ThreadedRodeo::default(rt.alloc())?;
+    assert_eq!(rt; shared.current_memory_usage(&rt), 4096);
+    assert_eq!(rt; shared.max_memory_usage(&rt), usize::MAX);
+    let shared: ThreadedRodeo<MicroSpur, FixedState> = ThreadedRodeo::new(rt.alloc())?;
+    assert_eq!(rt; shared.current_memory_usage(&rt), 4096);
+    let shared: ThreadedRodeo<Spur, FixedState> = ThreadedRodeo::with_capacity(
+        rt.alloc(),
+        Capacity::new(1000, 65536),
+    )?;
+    assert_eq!(rt; shared.current_memory_usage(&rt), 65536);
+    assert_eq!(rt; shared.max_memory_usage(&rt), usize::MAX);
+    let shared: ThreadedRodeo<Spur, FixedState> = ThreadedRodeo::with_memory_limits(
+        rt.alloc(),
+        MemoryLimits::new(10000),
+    )?;
+    assert_eq!(rt; shared.current_memory_usage(&rt), 4096);
+    assert_eq!(rt; shared.max_memory_usage(&rt), 10000);
+    let shared: ThreadedRodeo<Spur, FixedState> = ThreadedRodeo::with_capacity_and_memory_limits(
+        rt.alloc(),
+        Capacity::for_bytes(4),
+        MemoryLimits::new(12),
+    )?;
+    assert_eq!(rt; shared.current_memory_usage(&rt), 4);
+    assert_eq!(rt; shared.max_memory_usage(&rt), 12);
+    Ok(())
+}
+
+#[test]
+fn makers_take_a_hasher(rt: HostRuntime) -> Result<(), Fail> {
+    let shared: ThreadedRodeo<Spur, FixedState> = ThreadedRodeo::with_capacity_and_hasher(
+        rt.alloc(),
+        Capacity::for_bytes(7),
+        FixedState::new(),
+    )?;
+    assert_eq!(rt; shared.current_memory_usage(&rt), 7);
+    assert_eq!(rt; shared.max_memory_usage(&rt), usize::MAX);
+    let room = Capacity::for_bytes(10);
+    let limits = MemoryLimits::new(5);
+    let hasher = FixedState::new();
+    let shared: ThreadedRodeo<Spur, FixedState> =
+        ThreadedRodeo::with_capacity_memory_limits_and_hasher(rt.alloc(), room, limits, hasher)?;
+    // the limit lies below the first bucket, which stays
+    assert_eq!(rt; shared.current_memory_usage(&rt), 10);
+    assert_eq!(rt; shared.max_memory_usage(&rt), 5);
+    shared.try_get_or_intern_static(&rt, "0123456789ab")?;
+    assert_eq!(rt; shared.current_memory_usage(&rt), 10);
+    Ok(())
+}
+
+#[test]
+fn capacity_is_room_for_texts(rt: HostRuntime) -> Result<(), Fail> {
+    let shared: ThreadedRodeo<Spur, FixedState> = ThreadedRodeo::with_capacity(
+        rt.alloc(),
+        Capacity::for_strings(70),
+    )?;
+    assert!(rt; shared.capacity() >= 70);
+    for text in FIRST {
+        shared.try_get_or_intern_static(&rt, text)?;
+        shared.try_get_or_intern_static(&rt, "another")?;
+    }
+    assert!(rt; shared.capacity() >= 101);
+    let shared: ThreadedRodeo<Spur, FixedState> = ThreadedRodeo::with_capacity(
+        rt.alloc(),
+        Capacity::minimal(),
+    )?;
+    assert_eq!(rt; shared.current_memory_usage(&rt), 1);
+    shared.try_get_or_intern_static(&rt, "p")?;
+    assert!(rt; shared.capacity() >= 1);
+    Ok(())
+}
+
+fn is_refused(rt: &impl Abort, alloc: Global, capacity: Capacity) {
+    let made: LassoResult<ThreadedRodeo<Spur, FixedState>> = ThreadedRodeo::with_capacity(
+        alloc, capacity,
+    );
+    match made {
+        Ok(_made) => assert!(rt; false),
+        Err(error) => assert!(rt; error.kind().is_failed_alloc()),
+    }
+}
+
+#[test]
+fn sizes_that_no_memory_has(rt: HostRuntime) {
+    is_refused(&rt, rt.alloc(), Capacity::for_bytes(usize::MAX));
+    is_refused(&rt, rt.alloc(), Capacity::for_strings(usize::MAX));
+}
+
+#[test]
+fn a_limit_is_what_was_set_last(rt: HostRuntime) -> Result<(), Fail> {
+    let shared: ThreadedRodeo<Spur, FixedState> = ThreadedRodeo::with_capacity_and_memory_limits(
+        rt.alloc(),
+        Capacity::for_bytes(4),
+        MemoryLimits::new(12),
+    )?;
+    let mut pass = shared.pass();
+    let mut other = shared.pass();
+    shared.set_memory_limits_as(&rt, &mut pass, MemoryLimits::new(14));
+    assert_eq!(rt; shared.max_memory_usage_as(&rt, &mut other), 14);
+    assert_eq!(rt; shared.current_memory_usage_as(&rt, &mut other), 4);
+    shared.set_memory_limits(&rt, MemoryLimits::new(0));
+    assert_eq!(rt; shared.max_memory_usage_as(&rt, &mut pass), 0);
+    assert_eq!(rt; shared.current_memory_usage_as(&rt, &mut pass), 4);
+    // no limit refuses a static text
+    let key = shared.try_get_or_intern_static_as(&rt, &mut pass, "0123456789")?;
+    shared.set_memory_limits_as(&rt, &mut other, MemoryLimits::default());
+    shared.set_memory_limits_as(&rt, &mut other, MemoryLimits::default());
+    assert_eq!(rt; shared.max_memory_usage(&rt), usize::MAX);
+    assert_eq!(rt; shared.current_memory_usage(&rt), 4);
+    assert_eq!(rt; shared.try_resolve_as(&mut other, key), Some("0123456789"));
+    assert_eq!(rt; shared.len(), 1);
+    Ok(())
+}
+
+// Sets the limit many times, with one value and another, and gives the last that it reads then.
+fn set_often<R: Wait>(rt: &R, shared: &ThreadedRodeo<Spur, FixedState>, last: usize) -> usize {
+    let mut pass = shared.pass();
+    for limit in 0..100usize {
+        shared.set_memory_limits_as(rt, &mut pass, MemoryLimits::new(limit));
+    }
+    shared.set_memory_limits_as(rt, &mut pass, MemoryLimits::new(last));
+    shared.max_memory_usage_as(rt, &mut pass)
+}
+
+#[test]
+fn two_threads_set_limits(rt: HostRuntime) -> Result<(), Fail> {
+    let shared = ThreadedRodeo::default(rt.alloc())?;
+    let (a, b) = join(
+        &rt,
+        || set_often(&rt, &shared, 1000),
+        || set_often(&rt, &shared, 2000),
+    );
+    // each reads its own limit, or one that the other set after it
+    assert!(rt; a == 1000 || a == 2000 || a < 100);
+    assert!(rt; b == 1000 || b == 2000 || b < 100);
+    let last = shared.max_memory_usage(&rt);
+    assert!(rt; last == 1000 || last == 2000);
+    assert!(rt; a == last || b == last);
+    assert_eq!(rt; shared.current_memory_usage(&rt), 4096);
+    Ok(())
+}
