@@ -1,10 +1,10 @@
 -- What contracts see of buckets of the shared arena: of what is owned of one, of one that is not in a history yet, and of one that is.
-use Rattle.std.specs.Prelude.{◌≡◌, ℕ, suc, ◌+◌, ◌-◌, ◌^◌, ◌≤◌, ◌<◌, List, ◌∷◌, Some, slice_get, IsSomeAnd}
+use Rattle.std.specs.Prelude.{◌≡◌, ℕ, suc, ◌+◌, ◌-◌, ◌^◌, ◌≤◌, ◌<◌, List, [], ◌∷◌, ◌++◌, Some, slice_get, IsSomeAnd}
 use denote.RawPtr.{Ptr, block_ptr}
 use Rattle.logbook.specs.Pages.{Book, Named}
 use Rattle.lasso_shared.specs.Buckets.{CountedBucket}
-use Rattle.lasso_shared.specs.History.{Totals}
-use Rattle.lasso_shared.specs.Notes.{NoteView, state, words_of, lent_after, first_note, notes_of, IsOpened}
+use Rattle.lasso_shared.specs.History.{Event, Reserve, Totals}
+use Rattle.lasso_shared.specs.Notes.{NoteView, state, words_of, lent_after, bucket_in, first_note, notes_of, IsOpened, Since}
 use Rattle.lasso_shared.specs.Book.{word_of}
 use Rattle.lasso_shared.specs.Chunks.{era_named}
 use Rattle.lasso_shared.specs.Events.{site_at, bucket_at}
@@ -87,6 +87,25 @@ pub record IsRangeOf (b : SharedView) (notes : List NoteView) (r : RangeView) (b
   pub start : r.start ≡ b.site.start + before
   pub len : r.len ≡ bytes
   pub taken : HasTaken (state b.of.opening notes) b.position (before + bytes)
+
+-- the last of these notes is of this event, which is the pass p's, and the bucket that it speaks of lies here
+pub record IsNoteOf (p : ℕ) (notes : List NoteView) (e : Event) (site : Site) : Type 0 where
+  pub before : List NoteView
+  pub note : NoteView
+  pub last : notes ≡ before ++ note ∷ []
+  pub own : note.by ≡ p
+  pub event : note.event ≡ e
+  pub lies : (bucket_in note.lent).site ≡ site
+
+-- the range has the bytes that a reservation took of the bucket b, which is the one event of the pass p past `before`
+pub record IsReserved (b : SharedView) (p : ℕ) (before after : List NoteView) (r : RangeView) (bytes : ℕ) : Type 0 where
+  pub event : Since p before after (Reserve b.position bytes ∷ [])
+  pub note : IsNoteOf p after (Reserve b.position bytes) b.site
+  pub range : IsRangeOf b after r bytes
+
+-- where a bucket lies whose first bytes the range has
+abbrev pub site_of : RangeView → Site
+site_of r = record { era = r.era; block = r.block; start = r.start }
 
 -- the numbers of an interner's book, and behind them its names
 abbrev pub names_with_book : InternerId → List ℕ

@@ -7,7 +7,7 @@ ghost use Rattle.lasso_shared.specs.History.{Charge, IsLegal};
 ghost use Rattle.lasso_shared.specs.LentBuckets.{LentBucket};
 ghost use Rattle.lasso_shared.specs.Notes.{Since, state};
 ghost use Rattle.lasso_shared.specs.Pieces.{RangeView};
-ghost use Rattle.lasso_shared.specs.SharedBuckets.{SharedView, names_with_book};
+ghost use Rattle.lasso_shared.specs.SharedBuckets.{SharedView, IsNoteOf, site_of, names_with_book};
 ghost use Rattle.lasso_shared.specs.Turns.{NoneHasRoom, IsPastLimit};
 ghost use Rattle.lasso_shared.specs.Views.{PassView, InternerId, SpineView, TurnsView, IsSamePass, IsSameSpine, list_of, seen};
 
@@ -26,10 +26,11 @@ use std::hint::spin_loop;
 use std::sync::Wait;
 
 impl<K: Key> Log<K> {
-    /// Adds a bucket for so many bytes, at least one, for which none of the buckets that the spine's turns know has room, puts it into the
-    /// list, and gives the right to fill as many bytes. The bucket has the size that *store* gives. That it is in the list afterwards, and that
-    /// the bytes are its first, tests carry and no clause. It is refused by the limit, at one step at which the list of texts is as long as the spine's, or for want of memory; no event is added then. It
-    /// waits where the turns are not the spine's, and does not return where the turn word is 2^64 - 1.
+    /// Adds a bucket for so many bytes, at least one, for which none of the buckets that the spine's turns know has room, and gives the
+    /// right to fill just these bytes, the first of the bucket that the event's note tells of. The bucket has the size that *store* gives. It
+    /// is refused by the limit, at one step at which the list of texts is as long as the spine's, or for want of memory; no event is added
+    /// then. It waits where the turns are not the spine's, and does not return where the turn word is 2^64 - 1. That the bucket is in the
+    /// list from then on is tested, and not proved.
     pub fn charge<R: Wait>(
         &self,
         rt: &R,
@@ -45,6 +46,7 @@ impl<K: Key> Log<K> {
         ensures same { IsSamePass pass.new pass.old × IsSameSpine spine.new spine.old × (spine.new.kept ≡ spine.old.kept) }
         ensures event { IfOk result (λ r. IsSomeAnd (bucket_size spine.old.turns.doubling spine.old.turns.usage spine.old.turns.limit bytes) (λ size. Since pass.old.number pass.old.notes pass.new.notes (Charge size bytes ∷ []))) }
         ensures range { IfOk result (λ r. (r.era ≡ era_named self.now.chunks) × (r.len ≡ bytes)) }
+        ensures bucket { IfOk result (λ r. IsSomeAnd (bucket_size spine.old.turns.doubling spine.old.turns.usage spine.old.turns.limit bytes) (λ size. IsNoteOf pass.old.number pass.new.notes (Charge size bytes) (site_of r))) }
         ensures turns { OnOk result ((spine.new.turns.notes ≡ pass.new.notes) × (spine.new.turns.count ≡ spine.old.turns.count + 1)) }
         ensures refused { IfErr result (λ error. (error ≡ FailedAllocation) ⊎ ((error ≡ MemoryLimitReached) × IsPastLimit self.now.opening pass.old.notes pass.new.notes (length (list_of self.now spine.old.notes)) bytes)) }
         ensures err { OnErr result (Since pass.old.number pass.old.notes pass.new.notes [] × (spine.new ≡ spine.old)) }
@@ -70,7 +72,8 @@ impl<K: Key> Log<K> {
         requires room { NoneHasRoom (state self.now.opening pass.old.notes) spine.old.turns.count bytes }
         ensures same { IsSamePass pass.new pass.old × IsSameSpine spine.new spine.old × (spine.new.kept ≡ spine.old.kept) }
         ensures event { IfOk result (λ r. Since pass.old.number pass.old.notes pass.new.notes (Charge r.1.size bytes ∷ []) × (bucket_size spine.old.turns.doubling spine.old.turns.usage spine.old.turns.limit bytes ≡ Some r.1.size)) }
-        ensures range { IfOk result (λ r. (r.0.era ≡ era_named self.now.chunks) × (r.0.block ≡ r.1.site.block) × (r.0.start ≡ r.1.site.start) × (r.0.len ≡ bytes)) }
+        ensures range { IfOk result (λ r. (r.0.era ≡ era_named self.now.chunks) × (site_of r.0 ≡ r.1.site) × (r.0.len ≡ bytes)) }
+        ensures note { IfOk result (λ r. IsNoteOf pass.old.number pass.new.notes (Charge r.1.size bytes) (site_of r.0)) }
         ensures bucket { IfOk result (λ r. (r.1.of ≡ self.now) × (r.1.position ≡ spine.old.turns.count)) }
         ensures turns { OnOk result ((spine.new.turns.notes ≡ pass.new.notes) × (spine.new.turns.count ≡ spine.old.turns.count + 1)) }
         ensures refused { IfErr result (λ error. (error ≡ FailedAllocation) ⊎ ((error ≡ MemoryLimitReached) × IsPastLimit self.now.opening pass.old.notes pass.new.notes (length (list_of self.now spine.old.notes)) bytes)) }
@@ -130,6 +133,7 @@ impl<K: Key> Log<K> {
         requires more { spine.old.turns.count + 2 < 2 ^ 64 }
         ensures same { IsSamePass pass.new pass.old × IsSameSpine spine.new spine.old × (spine.new.kept ≡ spine.old.kept) }
         ensures event { Since pass.old.number pass.old.notes pass.new.notes (Charge bucket.size bucket.used ∷ []) }
+        ensures note { IsNoteOf pass.old.number pass.new.notes (Charge bucket.size bucket.used) bucket.site }
         ensures bucket { (result.of ≡ self.now) × (result.position ≡ spine.old.turns.count) × (result.site ≡ bucket.site) × (result.size ≡ bucket.size) }
         ensures turns { (spine.new.turns.notes ≡ pass.new.notes) × (spine.new.turns.count ≡ spine.old.turns.count + 1) }
     {

@@ -7,7 +7,7 @@ ghost use Rattle.lasso_shared.specs.Buckets.{bucket_size, doubling_after};
 ghost use Rattle.lasso_shared.specs.History.{Charge};
 ghost use Rattle.lasso_shared.specs.LentBuckets.{LentBucket};
 ghost use Rattle.lasso_shared.specs.Notes.{Since, opening_of, state};
-ghost use Rattle.lasso_shared.specs.SharedBuckets.{SharedView};
+ghost use Rattle.lasso_shared.specs.SharedBuckets.{SharedView, IsNoteOf};
 ghost use Rattle.lasso_shared.specs.Chunks.{era_named};
 ghost use Rattle.lasso_shared.specs.Turns.{IsTurned, NoneHasRoom};
 ghost use Rattle.lasso_shared.specs.Views.{PassView, InternerId, TurnsView, IsSamePass};
@@ -120,6 +120,7 @@ impl<K: Key> Log<K> {
         requires more { (turns.now.turns + 1 < 2 ^ 64) × (turns.now.count + 2 < 2 ^ 64) }
         ensures same { IsSamePass pass.new pass.old }
         ensures event { Since pass.old.number pass.old.notes pass.new.notes (Charge bucket.size bucket.used ∷ []) }
+        ensures note { IsNoteOf pass.old.number pass.new.notes (Charge bucket.size bucket.used) bucket.site }
         ensures bucket { (result.of ≡ self.now) × (result.position ≡ turns.now.count) × (result.site ≡ bucket.site) × (result.size ≡ bucket.size) × (result.base ≡ 0) }
         ensures turns { IsTurned K.key_at self.now.opening pass.new.notes (turns.now.turns + 1) (doubling_after turns.now.doubling turns.now.usage turns.now.limit bucket.used) (turns.now.usage + bucket.size) turns.now.limit (turns.now.count + 1) }
     {

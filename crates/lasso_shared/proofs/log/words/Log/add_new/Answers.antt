@@ -7,7 +7,7 @@ use Rattle.lasso_shared.specs.Chunks.{first_number, era_named}
 use Rattle.lasso_shared.specs.Events.{bucket_at}
 use Rattle.lasso_shared.specs.History.{Event, Charge, Totals}
 use Rattle.lasso_shared.specs.LentBuckets.{LentBucket}
-use Rattle.lasso_shared.specs.Notes.{NoteView, first_note, notes_of, opening_of, ticket_of, state}
+use Rattle.lasso_shared.specs.Notes.{NoteView, bucket_in, first_note, notes_of, opening_of, ticket_of, state}
 use Rattle.lasso_shared.specs.Turns.{IsTurned, NoneHasRoom}
 use Rattle.lasso_shared.specs.Views.{TurnsView}
 use Rattle.lasso_shared.proofs.Histories.{prefix_self, prefix_trans}
@@ -113,3 +113,14 @@ returns-clause-turns g c =
     let found = charge_turned g.K.Key.key_at o e.by (notes_of c.again-before.result.log) (notes_of c.again-given.result.log) after (notes_of t.seen.log) b.size n t.turns e.ticket t.doubling t.usage t.limit t.count done here turned in
     subst (λ (y : TurnsView). IsTurned g.K.Key.key_at o after (y.turns + 1) (doubling_after y.doubling y.usage y.limit c.args.bucket.used) (y.usage + c.args.bucket.size) y.limit (y.count + 1)) c.turns.view_is
     (subst (λ (x : LentBucket). IsTurned g.K.Key.key_at o after (t.turns + 1) (doubling_after t.doubling t.usage t.limit x.used) (t.usage + x.size) t.limit (t.count + 1)) c.bucket.view_is found)
+
+pub returns-clause-note : goal.returns-clause-note
+returns-clause-note g c =
+    let f = c.offer-after.ensures.done in let d = f.done in let made = f.note ∙ c.add_bucket-offer.ensures.1 in record {
+      before = d.mid;
+      note = d.note;
+      last = d.last;
+      own = ap (λ (w : NoteView). w.by) made ∙ ap (λ s. s.number) c.pass.view_is;
+      event = ap (λ (w : NoteView). w.event) made ∙ ap (λ (x : LentBucket). Charge x.size x.used) c.bucket.view_is;
+      lies = ap (λ (w : NoteView). (bucket_in w.lent).site) made ∙ ap (λ (x : LentBucket). x.site) c.bucket.view_is;
+    }
