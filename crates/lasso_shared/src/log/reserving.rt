@@ -3,7 +3,7 @@ ghost use Rattle.std.specs.Prelude.{◌≡◌, ◌≢◌, ◌+◌, ◌<◌, ◌�
 ghost use Rattle.lasso_shared.specs.History.{Reserve};
 ghost use Rattle.lasso_shared.specs.Notes.{Since, state};
 ghost use Rattle.lasso_shared.specs.LentBuckets.{IsRightTo};
-ghost use Rattle.lasso_shared.specs.SharedBuckets.{SharedView, HasTaken, LacksRoom};
+ghost use Rattle.lasso_shared.specs.SharedBuckets.{SharedView, HasTaken, LacksRoom, IsNoteOf};
 ghost use Rattle.lasso_shared.specs.Views.{PassView, InternerId, IsSamePass};
 
 use crate::chunks::rule::BytesTaken;
@@ -49,6 +49,7 @@ impl<K: Key> Log<K> {
         ensures none { IfNone result (pass.new ≡ pass.old) }
         ensures right { IfSome result (λ r. IsRightTo r record { site = bucket.now.site; size = bucket.now.size; used = bucket.now.base + expected } bytes) }
         ensures event { IfSome result (λ r. Since pass.old.number pass.old.notes pass.new.notes (Reserve bucket.now.position bytes ∷ [])) }
+        ensures note { IfSome result (λ r. IsNoteOf pass.old.number pass.new.notes (Reserve bucket.now.position bytes) bucket.now.site) }
         ensures taken { IfSome result (λ r. HasTaken (state self.now.opening pass.new.notes) bucket.now.position (bucket.now.base + expected + bytes)) }
     {
         let mut seen = self.seen.again();

@@ -1,10 +1,10 @@
 //! Walks over the list of buckets, for bytes of any of them. Used by whoever copies a text into a shared interner.
-ghost use Rattle.std.specs.Prelude.{◌≡◌, ◌≢◌, ◌<◌, ℕ, [], ◌∷◌, IfSome, IfNone};
+ghost use Rattle.std.specs.Prelude.{◌≡◌, ◌≢◌, ◌<◌, [], IfSome, IfNone};
 ghost use Rattle.lasso_shared.specs.Chunks.{era_named};
-ghost use Rattle.lasso_shared.specs.History.{Reserve, IsLegal};
+ghost use Rattle.lasso_shared.specs.History.{IsLegal};
 ghost use Rattle.lasso_shared.specs.Notes.{Since, state};
 ghost use Rattle.lasso_shared.specs.Pieces.{RangeView};
-ghost use Rattle.lasso_shared.specs.SharedBuckets.{SharedView, names_with_book};
+ghost use Rattle.lasso_shared.specs.SharedBuckets.{SharedView, IsReserved, names_with_book};
 ghost use Rattle.lasso_shared.specs.Turns.{NoneHasRoom};
 ghost use Rattle.lasso_shared.specs.Views.{PassView, InternerId, SpineView, TurnsView, IsSamePass, seen};
 
@@ -42,7 +42,7 @@ impl<K: Key> Log<K> {
         requires of { (pass.old.of ≡ self.now) × (spine.now.of ≡ self.now) × (list.now ≡ names_with_book self.now) }
         requires some { bytes ≢ 0 }
         ensures same { IsSamePass pass.new pass.old }
-        ensures event { IfSome result (λ r. (bucket : ℕ) × (bucket < spine.now.turns.count) × Since pass.old.number pass.old.notes pass.new.notes (Reserve bucket bytes ∷ [])) }
+        ensures event { IfSome result (λ r. (b : SharedView) × (b.of ≡ self.now) × (b.position < spine.now.turns.count) × IsReserved b pass.old.number pass.old.notes pass.new.notes r bytes) }
         ensures range { IfSome result (λ r. (r.era ≡ era_named self.now.chunks) × (r.len ≡ bytes)) }
         ensures none { IfNone result (Since pass.old.number pass.old.notes pass.new.notes []) }
         ensures full { IfNone result (NoneHasRoom (state self.now.opening pass.new.notes) spine.now.turns.count bytes) }
@@ -71,7 +71,7 @@ impl<K: Key> Log<K> {
         requires of { (pass.old.of ≡ self.now) × (list.now ≡ names_with_book self.now) }
         requires some { bytes ≢ 0 }
         ensures same { IsSamePass pass.new pass.old }
-        ensures event { IfSome result (λ r. (bucket : ℕ) × Since pass.old.number pass.old.notes pass.new.notes (Reserve bucket bytes ∷ [])) }
+        ensures event { IfSome result (λ r. (b : SharedView) × (b.of ≡ self.now) × IsReserved b pass.old.number pass.old.notes pass.new.notes r bytes) }
         ensures range { IfSome result (λ r. (r.era ≡ era_named self.now.chunks) × (r.len ≡ bytes)) }
         ensures none { IfNone result (Since pass.old.number pass.old.notes pass.new.notes []) }
         ensures legal { IsLegal K.key_at self.now.opening (seen pass.new) }

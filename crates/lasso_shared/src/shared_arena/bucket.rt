@@ -3,7 +3,7 @@ ghost use Rattle.std.specs.Prelude.{◌≡◌, ◌≢◌, ◌+◌, [], ◌∷◌
 ghost use Rattle.lasso_shared.specs.History.{Reserve, IsLegal};
 ghost use Rattle.lasso_shared.specs.Notes.{Since, state};
 ghost use Rattle.lasso_shared.specs.Pieces.{RangeView};
-ghost use Rattle.lasso_shared.specs.SharedBuckets.{SharedView, HasTaken, LacksRoom, IsRangeOf};
+ghost use Rattle.lasso_shared.specs.SharedBuckets.{SharedView, HasTaken, LacksRoom, IsRangeOf, IsNoteOf};
 ghost use Rattle.lasso_shared.specs.Views.{PassView, IsSamePass, seen};
 
 use crate::log::note::Note;
@@ -85,6 +85,7 @@ impl<K: Key> SharedBucket<K> {
         requires some { bytes ≢ 0 }
         ensures same { IsSamePass pass.new pass.old }
         ensures event { IfSome result (λ r. Since pass.old.number pass.old.notes pass.new.notes (Reserve self.now.position bytes ∷ [])) }
+        ensures note { IfSome result (λ r. IsNoteOf pass.old.number pass.new.notes (Reserve self.now.position bytes) self.now.site) }
         ensures range { IfSome result (λ r. IsRangeOf self.now pass.new.notes r bytes) }
         ensures none { IfNone result (Since pass.old.number pass.old.notes pass.new.notes []) }
         ensures full { IfNone result (LacksRoom (state log.now.opening pass.new.notes) self.now.position bytes) }

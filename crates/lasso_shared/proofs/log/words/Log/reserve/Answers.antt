@@ -3,19 +3,24 @@ use mathlib.Core.Logic.{inl, inr}
 use mathlib.Core.List.{IsPrefix}
 use Rattle.lasso_shared.specs.History.{Reserve}
 use Rattle.lasso_shared.specs.Notes.{NoteView, Since, state}
-use Rattle.lasso_shared.specs.SharedBuckets.{LacksRoom}
+use Rattle.lasso_shared.specs.SharedBuckets.{SharedView, LacksRoom, IsNoteOf}
 use Rattle.lasso_shared.proofs.Tickets.{since_trans}
 use Rattle.lasso_shared.proofs.TurnWords.{lacks_later, lacks_one_more}
 use Rattle.lasso_shared.proofs.log.words.Log.reserve.Goals as goal
 
 pub returns-in-Some-clause-event : goal.returns-in-Some-clause-event
 returns-in-Some-clause-event g c =
-    let p = c.args.pass.now.number in let i = c.loop-position.invariant in let at : ℕ = c.find-bucket.result.now.position in
-    let after : List NoteView = c.try_reserve.new.pass.notes in let own = Reserve at c.args.bytes ∷ [] in
-    let low : at < c.args.spine.now.turns.count = omega (arith, c.find-bucket.ensures.1, c.loop-position-test.true, c.buckets-position-end.ensures) in (
-      at,
+    let p = c.args.pass.now.number in let i = c.loop-position.invariant in let b : SharedView = c.find-bucket.result.now in
+    let after : List NoteView = c.try_reserve.new.pass.notes in let own = Reserve b.position c.args.bytes ∷ [] in let e = c.in-Some.ensures in
+    let low : b.position < c.args.spine.now.turns.count = omega (arith, c.find-bucket.ensures.1, c.loop-position-test.true, c.buckets-position-end.ensures) in (
+      b,
+      c.find-bucket.ensures.0,
       low,
-      since_trans p c.args.pass.now.notes c.loop-position.pass.notes after own i.1 (subst (λ (q : ℕ). Since q c.loop-position.pass.notes after own) i.0.0 c.in-Some.ensures.event),
+      record {
+        event = since_trans p c.args.pass.now.notes c.loop-position.pass.notes after own i.1 (subst (λ (q : ℕ). Since q c.loop-position.pass.notes after own) i.0.0 e.event);
+        note = subst (λ (q : ℕ). IsNoteOf q after (Reserve b.position c.args.bytes) b.site) i.0.0 e.note;
+        range = e.range;
+      },
     )
 
 pub loop-position-preserved : goal.loop-position-preserved

@@ -82,3 +82,14 @@ returns-clause-taken g c =
     subst (λ (s : SharedView). HasTaken (state c.args.self.now.opening after) s.position (s.base + c.args.expected + c.args.bytes)) c.bucket.view_is
     (subst (λ (o : Totals). HasTaken (state o after) b.position (b.base + c.args.expected + c.args.bytes)) opening
     (taken_more (first_note gl) (notes_of gl) d.mid after d.note b.position b.word.key b.base b.size c.args.expected c.args.bytes b.site.numbers d.begins c.bucket.invariant.stands d.value event d.last))
+
+pub returns-clause-note : goal.returns-clause-note
+returns-clause-note g c =
+    let f = facts g c in let d = f.done in let made = f.note ∙ c.take_bytes-offer.ensures.1 in record {
+      before = d.mid;
+      note = d.note;
+      last = d.last;
+      own = ap (λ (w : NoteView). w.by) made ∙ ap (λ s. s.number) c.pass.view_is;
+      event = ap (λ (w : NoteView). w.event) made ∙ ap (λ (s : SharedView). Reserve s.position c.args.bytes) c.bucket.view_is;
+      lies = ap (λ (w : NoteView). (bucket_in w.lent).site) made ∙ ap (λ (s : SharedView). s.site) c.bucket.view_is;
+    }
