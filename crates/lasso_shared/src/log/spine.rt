@@ -103,6 +103,7 @@ impl<K: Key> Spine<K> {
         requires { slot ≡ self.old.of }
         ensures kept { self.new.kept ≡ self.old.kept - 1 }
         ensures same { IsSameSpine self.new self.old }
+        ensures turns { self.new.turns ≡ self.old.turns }
     {
         slot.end();
         self.kept = self.kept.saturating_sub(1);
@@ -117,6 +118,7 @@ impl<K: Key> Log<K> {
         ensures slot { IfOk result (λ slot. slot ≡ self.now) }
         ensures kept { OnOk result (spine.new.kept ≡ spine.old.kept + 1) }
         ensures same { IsSameSpine spine.new spine.old }
+        ensures turns { spine.new.turns ≡ spine.old.turns }
         ensures refused { IfErr result (λ error. error ≡ FailedAllocation) }
         ensures unchanged { OnErr result (spine.new.kept ≡ spine.old.kept) }
     {
@@ -148,6 +150,7 @@ impl<K: Key> Log<K> {
         ensures event { Since pass.old.number pass.old.notes pass.new.notes (Append text.text ∷ []) }
         ensures legal { IsLegal K.key_at self.now.opening (seen pass.new) }
         ensures spine { spine.new.notes ≡ pass.new.notes }
+        ensures turns { spine.new.turns ≡ spine.old.turns }
         ensures begins { IsPrefix spine.old.notes spine.new.notes }
         ensures list { list_of self.now pass.new.notes ≡ list_of self.now spine.old.notes ++ text.text ∷ [] }
     {
@@ -185,6 +188,7 @@ impl<K: Key> Log<K> {
         ensures event { Since pass.old.number pass.old.notes pass.new.notes (Append text.now ∷ []) }
         ensures legal { IsLegal K.key_at self.now.opening (seen pass.new) }
         ensures spine { spine.new.notes ≡ pass.new.notes }
+        ensures turns { spine.new.turns ≡ spine.old.turns }
         ensures begins { IsPrefix spine.old.notes spine.new.notes }
         ensures list { list_of self.now pass.new.notes ≡ list_of self.now spine.old.notes ++ text.now ∷ [] }
     {
@@ -204,6 +208,7 @@ impl<K: Key> Log<K> {
         requires cell { IsCellAt self.now.chunks (length (list_of self.now spine.old.notes)) cell_proof.0.of cell_proof.0.value.items cell_proof.1.of }
         requires filled { (cell_proof.1.value.text ≡ text.now) × Incl (life (era_named self.now.chunks)) cell_proof.1.value.until }
         ensures same { IsSamePass pass.new pass.old × (spine.new.of ≡ spine.old.of) }
+        ensures turns { spine.new.turns ≡ spine.old.turns }
         ensures done { MatchBool result (IsAppended self.now pass.old pass.new spine.old spine.new text.now) ((pass.new ≡ pass.old) × (spine.new ≡ spine.old)) }
     {
         if spine.kept == 0 {
