@@ -4,12 +4,10 @@ use Rattle.lasso_shared.specs.History.{Event, Totals, counted}
 use Rattle.lasso_shared.specs.Notes.{NoteView, no_totals, lent_by}
 use Rattle.lasso_shared.specs.LentBuckets.{Site, LentBucket}
 use Rattle.lasso_shared.specs.declared.log.note.Change.{Change}
-use Rattle.lasso_shared.specs.declared.log.note.Change.TheVariants.{Reserve, Charge, Append, Limit}
+use Rattle.lasso_shared.specs.declared.log.note.Change.TheVariants.{Append, Limit}
 
 -- the event that a change stands for
 abbrev pub event_of : Change → Event
-event_of (Reserve bucket bytes) = Event.Reserve bucket bytes
-event_of (Charge size bytes) = Event.Charge size bytes
 event_of (Append text) = Event.Append text.now
 event_of (Limit limit) = Event.Limit limit
 

@@ -14,13 +14,9 @@ impl Model for Note {
     ghost view = { λ e. no_note };
 }
 
-/// A change of what an interner holds.
+/// A change of what an interner holds that takes no bytes.
 #[derive(Clone, Copy)]
 pub enum Change<'t> {
-    /// Bytes are taken in the bucket at this position.
-    Reserve { bucket: u64, bytes: u64 },
-    /// A bucket of this size is added, with these bytes taken.
-    Charge { size: u64, bytes: u64 },
     /// The text is put last.
     Append { text: &'t str },
     /// The limit is replaced, in bytes.

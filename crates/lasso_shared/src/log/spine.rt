@@ -220,8 +220,6 @@ impl<K: Key> Log<K> {
             Exchange {
                 word_index: 0,
                 expected: appended,
-                more: 1,
-                value: 0,
                 position: spine.first + appended,
             },
             Change::Append { text },

@@ -109,8 +109,6 @@ impl<K: Key> Log<K> {
         let numbers = Exchange {
             word_index: 1,
             expected,
-            more: 1,
-            value: 0,
             position: 0,
         };
         let change = Change::Limit { limit };

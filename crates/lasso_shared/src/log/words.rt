@@ -69,10 +69,6 @@ pub(super) struct Exchange {
     pub word_index: u64,
     /// The value that the word must have still.
     pub expected: u64,
-    /// By how much the word grows.
-    pub more: u64,
-    /// What the used ticket's own word has from then on.
-    pub value: u64,
     /// Where an appended text stands in the list.
     pub position: u64,
 }
@@ -130,8 +126,8 @@ impl<K: Key> Log<K> {
         found
     }
 
-    // Adds an event where the word still has the value that is expected, and gives the word that the used ticket
-    // has become. `given` is a log that was seen, in which the event may follow while the word has this value;
+    // Adds an event where the word still has the value that is expected, which then is one more, and gives the word that the
+    // used ticket has become. `given` is a log that was seen, in which the event may follow while the word has this value;
     // `cell_proof` shows that an appended text is in the cell of its position.
     pub(super) fn exchange(
         &self,
@@ -143,9 +139,9 @@ impl<K: Key> Log<K> {
         pass: &mut Pass<K>,
     ) -> Option<Word<Note, u64, LogRule<K>>>
         requires of { (pass.old.of ≡ self.now) × (given.now.book ≡ self.now.book) × (word.now ≡ word_of self.now.book word.now.key) }
-        requires sum { numbers.expected + numbers.more < 2 ^ 64 }
+        requires sum { numbers.expected + 1 < 2 ^ 64 }
         requires known { IsOpened given.now.log × (opening_of given.now.log ≡ self.now.opening) × IsWord (notes_of given.now.log) numbers.word_index word.now.key }
-        requires may { ((ticket : ℕ) → Moving ticket (event_of change) numbers.word_index numbers.more numbers.value) × May K.key_at self.now.opening (notes_of given.now.log) numbers.word_index word.now.key numbers.expected (event_of change) }
+        requires may { ((ticket : ℕ) → Moving ticket (event_of change) numbers.word_index 1 0) × May K.key_at self.now.opening (notes_of given.now.log) numbers.word_index word.now.key numbers.expected (event_of change) }
         requires filed { MatchOption cell_proof (IsQuiet (event_of change)) (λ f. IsCellAt self.now.chunks numbers.position f.0.of f.0.value.items f.1.of × (event_of change ≡ Append f.1.value.text) × Incl (life (era_named self.now.chunks)) f.1.value.until × (numbers.word_index ≡ 0) × (word.now.key ≡ 0) × (numbers.position ≡ length self.now.opening.texts + numbers.expected)) }
         ensures same { IsSamePass pass.new pass.old }
         ensures done { MatchOption result (pass.new ≡ pass.old) (λ w. (w ≡ word_of self.now.book w.key) × IsDone K.key_at self.now.opening pass.old.number pass.old.notes (notes_of given.now.log) pass.new.notes (event_of change.entry) numbers.word_index word.now.key numbers.expected w.key) }
@@ -153,7 +149,7 @@ impl<K: Key> Log<K> {
         let mut seen = self.seen.again();
         seen.learn(given);
         seen.learn(&pass.seen);
-        pass.ticket.set(numbers.value);
+        pass.ticket.set(0);
         let proposal = Proposal {
             change,
             position: numbers.position,
@@ -165,7 +161,7 @@ impl<K: Key> Log<K> {
         let mut offer = offered(known, proposal, cell_proof);
         let found = word.compare_exchange::<Add<K>, NoGain>(
             numbers.expected,
-            numbers.expected + numbers.more,
+            numbers.expected + 1,
             &mut seen,
             &mut offer,
             &mut pass.ticket.pen,

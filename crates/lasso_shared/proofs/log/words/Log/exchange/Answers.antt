@@ -27,8 +27,8 @@ compare_exchange-found-requires g c =
     let by : e.by ≡ first_number c.pass.inside.number.numbers = ap (λ (w : NoteView). w.by) offer.1 in
     let event : e.event ≡ event_of c.args.change = ap (λ (w : NoteView). w.event) offer.1 in
     let begun : IsPrefix gl v = prefix_trans gl c.learn.new.self.log v c.learn.ensures.3 c.learn-2.ensures.2 in
-    let value : c.set.new.self.pen.nib.value ≡ c.args.numbers.value = ap (λ p. p.value) set.1 in
-    let moving : Moving e.ticket e.event c.args.numbers.word_index c.args.numbers.more c.set.new.self.pen.nib.value = rw (event, value) (c.requires.may.0 e.ticket) in
+    let value : c.set.new.self.pen.nib.value ≡ 0 = ap (λ p. p.value) set.1 in
+    let moving : Moving e.ticket e.event c.args.numbers.word_index 1 c.set.new.self.pen.nib.value = rw (event, value) (c.requires.may.0 e.ticket) in
     let may : May g.K.Key.key_at (opening_of gl) (notes_of gl) c.args.numbers.word_index c.args.word.now.key c.args.numbers.expected e.event = rw (c.requires.known.1, event) c.requires.may.1 in
     let opening : (first_note gl).opening ≡ c.args.self.now.opening = sym (opening_first gl) ∙ c.requires.known.1 in
     let lets : Lets g.K.Key.key_at (first_note gl) (notes_of gl) c.args.numbers.word_index c.args.word.now.key c.args.numbers.expected e c.offered-offer.result.state =
@@ -38,7 +38,7 @@ compare_exchange-found-requires g c =
       c.learn-2.ensures.0 ∙ (self ∙ word),
       set.0 ∙ (i.0.1 ∙ (ap (λ s. s.of.book) c.pass.view_is ∙ (ap (λ o. o.book) c.requires.of.0 ∙ word))),
       offer.0 ∙ ap (λ s. s.names) c.again-known.ensures,
-      add_opened g.K.Key.key_at a gl v c.set.new.self.pen.nib e c.offered-offer.result.state c.args.numbers.word_index c.args.word.now.key c.args.numbers.expected c.args.numbers.more i.3 c.learn-2.ensures.3 c.requires.known.0 begun (ap (λ p. p.right) set.1)
+      add_opened g.K.Key.key_at a gl v c.set.new.self.pen.nib e c.offered-offer.result.state c.args.numbers.word_index c.args.word.now.key c.args.numbers.expected 1 i.3 c.learn-2.ensures.3 c.requires.known.0 begun (ap (λ p. p.right) set.1)
           (ap (λ (w : NoteView). w.ticket) offer.1) (ap (λ p. p.key) set.1 ∙ (i.2 ∙ ap (λ (p : ℕ). ticket_of p (notes_of a)) (sym by))) c.requires.known.2 moving may lets,
     )
 
@@ -53,7 +53,7 @@ facts g c =
     let v = c.learn-2.new.self.log in
     let by : e.by ≡ first_number c.pass.inside.number.numbers = ap (λ (w : NoteView). w.by) offer.1 in
     let begun : IsPrefix gl v = prefix_trans gl c.learn.new.self.log v c.learn.ensures.3 c.learn-2.ensures.2 in
-    added g.K.Key.key_at a gl v c.set.new.self.pen.nib e c.args.numbers.word_index c.args.word.now.key c.args.numbers.expected (c.args.numbers.expected + c.args.numbers.more) c.compare_exchange-found.result c.offered-offer.result.state
+    added g.K.Key.key_at a gl v c.set.new.self.pen.nib e c.args.numbers.word_index c.args.word.now.key c.args.numbers.expected (c.args.numbers.expected + 1) c.compare_exchange-found.result c.offered-offer.result.state
     (c.compare_exchange-found.new.seen.log, (c.compare_exchange-found.new.pen.nib, c.compare_exchange-found.new.offer.state)) i.3 c.learn-2.ensures.3 c.requires.known.0 begun
     (ap (λ p. p.key) c.set.ensures.pen.1 ∙ (i.2 ∙ ap (λ (p : ℕ). ticket_of p (notes_of a)) (sym by))) c.requires.known.2 c.if-found-numbers.false c.compare_exchange-found.ensures.7
 
