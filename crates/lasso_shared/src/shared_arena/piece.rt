@@ -120,9 +120,9 @@ impl Piece {
         }
     }
 
-    /// The text, lent as long as the era. Nothing is copied, and nothing tested.
+    /// The text, lent as long as the era, also where the piece itself is let go. Nothing is copied, and nothing tested.
     #[inline]
-    pub fn text<'a>(&'a self, era: &'a Era) -> &'a str
+    pub fn text<'a>(&self, era: &'a Era) -> &'a str
         requires { Incl (life era.now.id) self.now.until }
         ensures { result.now ≡ self.now.text }
     {

@@ -178,8 +178,8 @@ impl Lent {
         }
     }
 
-    /// The bytes, where they lie.
-    pub fn read<'a>(&'a self, era: &'a Era, ptr: *const u8, len: usize) -> &'a [u8]
+    /// The bytes, where they lie, lent as long as the era.
+    pub fn read<'a>(&self, era: &'a Era, ptr: *const u8, len: usize) -> &'a [u8]
         requires until { Incl (life era.now.id) self.now.until }
         requires at { (ptr ≡ self.now.at) × LeadsToBlock ptr }
         requires count { (len ≡ length self.now.bytes) × (len < 2 ^ 63) }
