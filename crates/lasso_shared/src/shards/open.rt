@@ -67,6 +67,7 @@ impl<K: Key, S: BuildHasher + Drop> Shards<K, S> {
     pub fn open(alloc: Global, hasher: S, first: Opened) -> LassoResult<Shards<K, S>>
         requires { first.size ≢ 0 }
         ensures opening { IfOk result (λ s. s.log.opening ≡ opened [] first.size 0 first.limit) }
+        ensures hasher { IfOk result (λ s. s.hasher ≡ hasher) }
         ensures refused { IfErr result (λ error. error ≡ FailedAllocation) }
     {
         let texts = OpeningTexts::new(alloc, first.size as usize)?;
