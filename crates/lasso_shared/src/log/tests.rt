@@ -2,6 +2,7 @@
 ghost use Rattle.std.specs.Prelude.{◌≡◌, ◌<◌, [], All, length};
 ghost use Rattle.lasso_shared.specs.Views.{InternerId, list_of};
 
+mod copied;
 mod given_back;
 mod opened;
 

@@ -11,7 +11,7 @@ use std::alloc::Global;
 use std::test::*;
 
 // A log that opens with two texts, one of which is empty. The other is copied.
-fn opens(alloc: Global) -> LassoResult<NewLog<Spur>>
+pub(super) fn opens(alloc: Global) -> LassoResult<NewLog<Spur>>
     ensures spine { IfOk result (λ n. n.spine.of ≡ n.log) }
     ensures list { IfOk result (λ n. list_of n.log n.spine.notes ≡ codes "bc" ∷ [] ∷ []) }
     ensures bucket { IfOk result (λ n. n.bucket.of ≡ n.log) }
