@@ -20,7 +20,7 @@ pub use lasso_parts::util::{
 };
 pub use lasso_parts::{arena, bucket, entries, index, iter, json, keys, util};
 pub use lasso_shared::threaded::ThreadedRodeo;
-pub use lasso_shared::{log, machine, shared_arena, threaded};
+pub use lasso_shared::{log, machine, shards, shared_arena, threaded};
 pub use lasso_single::commands::{Command, Reply, run_commands};
 pub use lasso_single::reader::RodeoReader;
 pub use lasso_single::resolver::RodeoResolver;

@@ -1,9 +1,9 @@
-//! A list of buckets with none, and walks over lists, with the spine and without it.
+//! Walks over lists of buckets, with the spine and without it.
 ghost use Rattle.std.specs.Prelude.{◌≡◌, ◌≢◌, length};
 ghost use Rattle.lasso_shared.specs.SharedBuckets.{names_with_book};
 ghost use Rattle.lasso_shared.specs.Views.{InternerId, PassView, SpineView};
 
-use crate::log::{Log, Opened, Pass, Spine};
+use crate::log::{Log, Pass, Spine};
 use crate::shared_arena::bucket_list::BucketList;
 use crate::shared_arena::tests::storing::{bucket_at, opens, stores};
 use lasso_parts::keys::Spur;
@@ -76,13 +76,10 @@ fn taken<R: Wait>(rt: &R, log: &Log<Spur>, list: &BucketList<Spur>) -> u64
 }
 
 #[test]
-fn a_new_list_is_empty(rt: HostRuntime) -> Result<(), Fail> {
-    let opened = Opened { size: 8, limit: 8 };
-    let (log, _spine) = Log::<Spur>::open(rt.alloc(), opened)?;
-    let list = BucketList::new(rt.alloc(), &log)?;
-    assert_eq!(rt; list.len(), 0);
-    assert!(rt; list.is_empty());
-    assert_eq!(rt; walk(&list), (0, 0));
+fn a_new_list_has_the_first_bucket(rt: HostRuntime) -> Result<(), Fail> {
+    let (_log, _spine, list) = opens(rt.alloc(), 8, u64::MAX)?;
+    assert_eq!(rt; list.len(), 1);
+    assert_eq!(rt; walk(&list), (1, 8));
     Ok(())
 }
 
