@@ -3,9 +3,9 @@ ghost use Rattle.std.specs.Prelude.{◌<◌, IfSome};
 
 use std::alloc::{AllocError, Global};
 
-/// One call of an interner, with its arguments.
+/// A call that every interner has, with its arguments.
 #[derive(Drop)]
-pub enum ScriptCommand {
+pub enum Call {
     Intern(String),
     Get(String),
     Contains(String),
@@ -15,27 +15,41 @@ pub enum ScriptCommand {
     Usage,
     Max,
     Limit(usize),
-    Clear,
     Extend(Vec<String>),
+}
+
+/// A command for an interner of one thread, with its arguments.
+#[derive(Drop)]
+pub enum ScriptCommand {
+    Call(Call),
+    Clear,
     CloneFrom(Vec<String>),
+}
+
+/// The call that the words of a line spell, or `None` where they spell none.
+pub fn parse_call(alloc: Global, words: &[&str]) -> Result<Option<Call>, AllocError> {
+    let call = match words {
+        ["intern", text] => parse_text(alloc, text)?.map(Call::Intern),
+        ["get", text] => parse_text(alloc, text)?.map(Call::Get),
+        ["contains", text] => parse_text(alloc, text)?.map(Call::Contains),
+        ["has", number] => parse_number(number).map(Call::Has),
+        ["resolve", number] => parse_number(number).map(Call::Resolve),
+        ["len"] => Some(Call::Len),
+        ["usage"] => Some(Call::Usage),
+        ["max"] => Some(Call::Max),
+        ["limit", bytes] => parse_limit(bytes).map(Call::Limit),
+        ["extend", texts @ ..] => parse_texts(alloc, texts)?.map(Call::Extend),
+        _ => None,
+    };
+    Ok(call)
 }
 
 /// The command that the words of a line spell, or `None` where they spell none.
 pub fn parse_command(alloc: Global, words: &[&str]) -> Result<Option<ScriptCommand>, AllocError> {
     let command = match words {
-        ["intern", text] => parse_text(alloc, text)?.map(ScriptCommand::Intern),
-        ["get", text] => parse_text(alloc, text)?.map(ScriptCommand::Get),
-        ["contains", text] => parse_text(alloc, text)?.map(ScriptCommand::Contains),
-        ["has", number] => parse_number(number).map(ScriptCommand::Has),
-        ["resolve", number] => parse_number(number).map(ScriptCommand::Resolve),
-        ["len"] => Some(ScriptCommand::Len),
-        ["usage"] => Some(ScriptCommand::Usage),
-        ["max"] => Some(ScriptCommand::Max),
-        ["limit", bytes] => parse_limit(bytes).map(ScriptCommand::Limit),
         ["clear"] => Some(ScriptCommand::Clear),
-        ["extend", texts @ ..] => parse_texts(alloc, texts)?.map(ScriptCommand::Extend),
         ["clonefrom", texts @ ..] => parse_texts(alloc, texts)?.map(ScriptCommand::CloneFrom),
-        _ => None,
+        _ => parse_call(alloc, words)?.map(ScriptCommand::Call),
     };
     Ok(command)
 }

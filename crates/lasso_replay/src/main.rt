@@ -6,6 +6,8 @@
 mod keys;
 mod lines;
 mod replay;
+mod replay_shared;
+mod replies;
 mod scripts;
 
 use scripts::{Fault, Script, parse_scripts};
@@ -29,7 +31,7 @@ fn main(rt: HostRuntime) -> io::Result<ExitCode> {
         Ok(scripts) => {
             let mut out = BufWriter::new(alloc, io::writer(&rt))?;
             for script in &scripts {
-                script.replay(alloc, &mut out)?;
+                script.replay(&rt, alloc, &mut out)?;
             }
             out.flush()?;
             Ok(ExitCode::SUCCESS)

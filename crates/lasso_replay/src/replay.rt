@@ -1,8 +1,11 @@
-//! Replaying a script on an interner of its key type.
+//! Replaying a script on an interner of one thread.
 
-use crate::lines::ScriptCommand;
-use lasso::{FixedState, Key, LassoError, LassoErrorKind, LassoResult, MemoryLimits, Rodeo};
-use std::alloc::{AllocError, Global};
+use crate::lines::{Call, ScriptCommand};
+use crate::replies::{
+    write_flag, write_found, write_interned, write_number, write_outcome, write_text,
+};
+use lasso::{FixedState, Key, LassoResult, MemoryLimits, Rodeo};
+use std::alloc::Global;
 use std::io;
 use std::io::Write;
 
@@ -16,32 +19,43 @@ pub fn replay_command<K: Key, W: Write>(
     out: &mut W,
 ) -> io::Result<()> {
     match command {
-        ScriptCommand::Intern(text) => write_interned(out, rodeo.try_get_or_intern(text.as_str())),
-        ScriptCommand::Get(text) => write_found(out, rodeo.get(text.as_str())),
-        ScriptCommand::Contains(text) => write_flag(out, rodeo.contains(text.as_str())),
-        ScriptCommand::Has(number) => {
-            let key = K::try_from_usize(*number);
-            write_flag(out, key.is_some_and(|key| rodeo.contains_key(key)))
-        }
-        ScriptCommand::Resolve(number) => match K::try_from_usize(*number) {
-            Some(key) => write_text(out, rodeo.try_resolve(key)),
-            None => write_text(out, None),
-        },
-        ScriptCommand::Len => write_number(out, rodeo.len()),
-        ScriptCommand::Usage => write_number(out, rodeo.current_memory_usage()),
-        ScriptCommand::Max => write_number(out, rodeo.max_memory_usage()),
-        ScriptCommand::Limit(bytes) => {
-            rodeo.set_memory_limits(MemoryLimits::new(*bytes));
-            write_outcome(out, Ok(()))
-        }
+        ScriptCommand::Call(call) => replay_call(rodeo, call, out),
         ScriptCommand::Clear => {
             rodeo.clear();
             write_outcome(out, Ok(()))
         }
-        ScriptCommand::Extend(texts) => write_outcome(out, intern_all(rodeo, texts)),
         ScriptCommand::CloneFrom(texts) => {
             write_outcome(out, clone_from_texts(alloc, rodeo, texts))
         }
+    }
+}
+
+// Makes one call, and writes its reply.
+fn replay_call<K: Key, W: Write>(
+    rodeo: &mut Interner<K>,
+    call: &Call,
+    out: &mut W,
+) -> io::Result<()> {
+    match call {
+        Call::Intern(text) => write_interned(out, rodeo.try_get_or_intern(text.as_str())),
+        Call::Get(text) => write_found(out, rodeo.get(text.as_str())),
+        Call::Contains(text) => write_flag(out, rodeo.contains(text.as_str())),
+        Call::Has(number) => {
+            let key = K::try_from_usize(*number);
+            write_flag(out, key.is_some_and(|key| rodeo.contains_key(key)))
+        }
+        Call::Resolve(number) => match K::try_from_usize(*number) {
+            Some(key) => write_text(out, rodeo.try_resolve(key)),
+            None => write_text(out, None),
+        },
+        Call::Len => write_number(out, rodeo.len()),
+        Call::Usage => write_number(out, rodeo.current_memory_usage()),
+        Call::Max => write_number(out, rodeo.max_memory_usage()),
+        Call::Limit(bytes) => {
+            rodeo.set_memory_limits(MemoryLimits::new(*bytes));
+            write_outcome(out, Ok(()))
+        }
+        Call::Extend(texts) => write_outcome(out, intern_all(rodeo, texts)),
     }
 }
 
@@ -63,63 +77,4 @@ fn clone_from_texts<K: Key>(
     let mut source = Rodeo::new(alloc)?;
     intern_all(&mut source, texts)?;
     rodeo.clone_from(&source)
-}
-
-fn write_interned<K: Key, W: Write>(out: &mut W, outcome: LassoResult<K>) -> io::Result<()> {
-    match outcome {
-        Ok(key) => {
-            let number = key.into_usize();
-            writeln!(out, "key {number}")
-        }
-        Err(error) => write_refusal(out, &error),
-    }
-}
-
-fn write_found<K: Key, W: Write>(out: &mut W, found: Option<K>) -> io::Result<()> {
-    match found {
-        Some(key) => {
-            let number = key.into_usize();
-            writeln!(out, "found {number}")
-        }
-        None => writeln!(out, "found none"),
-    }
-}
-
-fn write_flag<W: Write>(out: &mut W, flag: bool) -> io::Result<()> {
-    writeln!(out, "flag {flag}")
-}
-
-fn write_number<W: Write>(out: &mut W, number: usize) -> io::Result<()> {
-    writeln!(out, "number {number}")
-}
-
-fn write_outcome<W: Write>(out: &mut W, outcome: LassoResult<()>) -> io::Result<()> {
-    match outcome {
-        Ok(()) => writeln!(out, "done"),
-        Err(error) => write_refusal(out, &error),
-    }
-}
-
-fn write_refusal<W: Write>(out: &mut W, error: &LassoError) -> io::Result<()> {
-    let kind = match error.kind() {
-        LassoErrorKind::MemoryLimitReached => "MemoryLimitReached",
-        LassoErrorKind::KeySpaceExhaustion => "KeySpaceExhaustion",
-        LassoErrorKind::FailedAllocation => "FailedAllocation",
-    };
-    writeln!(out, "refused {kind}")
-}
-
-// A text in hexadecimal digits, two a byte; `-` is the empty text.
-fn write_text<W: Write>(out: &mut W, text: Option<&str>) -> io::Result<()> {
-    let Some(text) = text else {
-        return writeln!(out, "text none");
-    };
-    if text.is_empty() {
-        return writeln!(out, "text -");
-    }
-    write!(out, "text ")?;
-    for byte in text.as_bytes() {
-        write!(out, "{byte:02x}")?;
-    }
-    writeln!(out)
 }

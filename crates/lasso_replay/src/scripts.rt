@@ -1,14 +1,16 @@
 //! Scripts: a header, and then one command a line.
 
 use crate::keys::{BelowTwo, WithoutTwo};
-use crate::lines::{ScriptCommand, parse_command, parse_limit, parse_number};
+use crate::lines::{Call, ScriptCommand, parse_call, parse_command, parse_limit, parse_number};
 use crate::replay::replay_command;
+use crate::replay_shared::replay_shared_call;
 use lasso::{
     Capacity, FixedState, Key, LargeSpur, LassoResult, MemoryLimits, MicroSpur, MiniSpur, Rodeo,
-    Spur,
+    Spur, ThreadedRodeo,
 };
 use std::alloc::{AllocError, Global};
 use std::io::Write;
+use std::sync::Wait;
 use std::{fmt, io};
 
 // The key type of a script's interner.
@@ -22,14 +24,21 @@ pub enum KeyType {
     WithoutTwo,
 }
 
-/// A script: what its interner is made with, and its commands in order.
+/// The commands of a script in order, for the interner of its kind.
+#[derive(Drop)]
+enum Commands {
+    OneThread(Vec<ScriptCommand>),
+    Shared(Vec<Call>),
+}
+
+/// A script: what its interner is made with, and its commands.
 #[derive(Drop)]
 pub struct Script {
     name: String,
     key_type: KeyType,
     capacity: Capacity,
     limits: MemoryLimits,
-    commands: Vec<ScriptCommand>,
+    commands: Commands,
 }
 
 /// Why a line is bad.
@@ -119,11 +128,27 @@ fn add_line(
     let Some(script) = scripts.last_mut() else {
         return Ok(Some(Reason::NoScript));
     };
-    let Some(command) = parse_command(alloc, words.as_slice())? else {
-        return Ok(Some(Reason::BadCommand));
+    let known = match &mut script.commands {
+        Commands::OneThread(commands) => match parse_command(alloc, words.as_slice())? {
+            Some(command) => {
+                commands.push(command)?;
+                true
+            }
+            None => false,
+        },
+        Commands::Shared(calls) => match parse_call(alloc, words.as_slice())? {
+            Some(call) => {
+                calls.push(call)?;
+                true
+            }
+            None => false,
+        },
     };
-    script.commands.push(command)?;
-    Ok(None)
+    Ok(if known {
+        None
+    } else {
+        Some(Reason::BadCommand)
+    })
 }
 
 // What the words after `script` say, or why they are bad.
@@ -131,9 +156,11 @@ fn parse_header(alloc: Global, words: &[&str]) -> Result<Result<Script, Reason>,
     let [name, kind, key_type, strings, bytes, limit] = words else {
         return Ok(Err(Reason::BadHeader));
     };
-    if *kind != "rodeo" {
-        return Ok(Err(Reason::UnknownKind));
-    }
+    let commands = match *kind {
+        "rodeo" => Commands::OneThread(Vec::new(alloc)),
+        "threaded" => Commands::Shared(Vec::new(alloc)),
+        _ => return Ok(Err(Reason::UnknownKind)),
+    };
     let Some(key_type) = parse_key_type(key_type) else {
         return Ok(Err(Reason::UnknownKeyType));
     };
@@ -152,7 +179,7 @@ fn parse_header(alloc: Global, words: &[&str]) -> Result<Result<Script, Reason>,
         key_type,
         capacity: Capacity::new(strings, bytes),
         limits: MemoryLimits::new(limit),
-        commands: Vec::new(alloc),
+        commands,
     }))
 }
 
@@ -171,28 +198,51 @@ fn parse_key_type(word: &str) -> Option<KeyType> {
 impl Script {
     /// Makes the script's interner, carries its commands out, and writes their replies. Where memory is
     /// wanting for the interner, that is the error.
-    pub fn replay<W: Write>(&self, alloc: Global, out: &mut W) -> io::Result<()> {
+    pub fn replay<R: Wait, W: Write>(&self, rt: &R, alloc: Global, out: &mut W) -> io::Result<()> {
         match self.key_type {
-            KeyType::Spur => self.replay_with::<Spur, W>(alloc, out),
-            KeyType::MiniSpur => self.replay_with::<MiniSpur, W>(alloc, out),
-            KeyType::MicroSpur => self.replay_with::<MicroSpur, W>(alloc, out),
-            KeyType::LargeSpur => self.replay_with::<LargeSpur, W>(alloc, out),
-            KeyType::BelowTwo => self.replay_with::<BelowTwo, W>(alloc, out),
-            KeyType::WithoutTwo => self.replay_with::<WithoutTwo, W>(alloc, out),
+            KeyType::Spur => self.replay_with::<R, Spur, W>(rt, alloc, out),
+            KeyType::MiniSpur => self.replay_with::<R, MiniSpur, W>(rt, alloc, out),
+            KeyType::MicroSpur => self.replay_with::<R, MicroSpur, W>(rt, alloc, out),
+            KeyType::LargeSpur => self.replay_with::<R, LargeSpur, W>(rt, alloc, out),
+            KeyType::BelowTwo => self.replay_with::<R, BelowTwo, W>(rt, alloc, out),
+            KeyType::WithoutTwo => self.replay_with::<R, WithoutTwo, W>(rt, alloc, out),
         }
     }
 
-    fn replay_with<K: Key, W: Write>(&self, alloc: Global, out: &mut W) -> io::Result<()> {
+    fn replay_with<R: Wait, K: Key, W: Write>(
+        &self,
+        rt: &R,
+        alloc: Global,
+        out: &mut W,
+    ) -> io::Result<()> {
         let name = self.name.as_str();
         writeln!(out, "script {name}")?;
-        let made: LassoResult<Rodeo<K, FixedState, Global>> =
-            Rodeo::with_capacity_and_memory_limits(alloc, self.capacity, self.limits);
-        let Ok(mut rodeo) = made else {
-            return Err(io::Error::from(AllocError));
-        };
-        for command in &self.commands {
-            replay_command(alloc, &mut rodeo, command, out)?;
+        match &self.commands {
+            Commands::OneThread(commands) => {
+                let mut rodeo = self.make_rodeo::<K>(alloc)?;
+                for command in commands {
+                    replay_command(alloc, &mut rodeo, command, out)?;
+                }
+            }
+            Commands::Shared(calls) => {
+                let interner = self.make_threaded::<K>(alloc)?;
+                for call in calls {
+                    replay_shared_call(rt, &interner, call, out)?;
+                }
+            }
         }
         Ok(())
+    }
+
+    fn make_rodeo<K: Key>(&self, alloc: Global) -> io::Result<Rodeo<K, FixedState, Global>> {
+        let made: LassoResult<Rodeo<K, FixedState, Global>> =
+            Rodeo::with_capacity_and_memory_limits(alloc, self.capacity, self.limits);
+        made.map_err(|_| io::Error::from(AllocError))
+    }
+
+    fn make_threaded<K: Key>(&self, alloc: Global) -> io::Result<ThreadedRodeo<K, FixedState>> {
+        let made: LassoResult<ThreadedRodeo<K, FixedState>> =
+            ThreadedRodeo::with_capacity_and_memory_limits(alloc, self.capacity, self.limits);
+        made.map_err(|_| io::Error::from(AllocError))
     }
 }

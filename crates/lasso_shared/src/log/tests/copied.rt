@@ -52,7 +52,7 @@ fn copied_texts_are_put_last_and_read_back(rt: HostRuntime) -> Result<(), Fail> 
         bucket,
     } = opens(rt.alloc())?;
     let alloc = rt.alloc();
-    let list = BucketList::with_first(&rt, alloc, &log, bucket)?;
+    let list = BucketList::new(alloc, &log, bucket)?;
     let mut pass = log.pass();
     add_copied(&rt, alloc, &log, &list, &mut spine, &mut pass, "defghi")?;
     assert_eq!(rt; list.len(), 1);

@@ -1,10 +1,101 @@
 //! Copied texts, beside static ones and of two threads.
 use super::ThreadedRodeo;
-use lasso_parts::keys::{Key, Spur};
-use lasso_parts::util::{FixedState, LassoResult};
+use lasso_parts::keys::{Key, MicroSpur, Spur};
+use lasso_parts::util::{Capacity, FixedState, LassoErrorKind, LassoResult, MemoryLimits};
 use std::sync::Wait;
 use std::test::*;
 use std::thread::join;
+
+/// The number of a copied text, or why it was refused. It is asked for again where memory was wanting.
+pub fn number<K: Key, R: Wait>(
+    rt: &R,
+    shared: &ThreadedRodeo<K, FixedState>,
+    text: &str,
+) -> Result<usize, LassoErrorKind> {
+    let mut reply = shared.try_get_or_intern(rt, text);
+    if let Err(error) = &reply
+        && error.kind() == LassoErrorKind::FailedAllocation
+    {
+        reply = shared.try_get_or_intern(rt, text);
+    }
+    match reply {
+        Ok(key) => Ok(key.into_usize()),
+        Err(error) => Err(error.kind()),
+    }
+}
+
+#[test]
+fn usage_grows_by_whole_buckets(rt: HostRuntime) -> Result<(), Fail> {
+    let shared: ThreadedRodeo<Spur, FixedState> = ThreadedRodeo::with_capacity(
+        rt.alloc(),
+        Capacity::for_bytes(4),
+    )?;
+    assert_eq!(rt; number(&rt, &shared, "abc"), Ok(0));
+    assert_eq!(rt; shared.current_memory_usage(&rt), 4);
+    assert_eq!(rt; number(&rt, &shared, "defghijk"), Ok(1));
+    assert_eq!(rt; shared.current_memory_usage(&rt), 12);
+    // the first bucket has a byte left
+    assert_eq!(rt; number(&rt, &shared, "x"), Ok(2));
+    assert_eq!(rt; shared.current_memory_usage(&rt), 12);
+    Ok(())
+}
+
+#[test]
+fn a_raised_limit_lets_a_text_in(rt: HostRuntime) -> Result<(), Fail> {
+    let shared: ThreadedRodeo<Spur, FixedState> = ThreadedRodeo::with_capacity_and_memory_limits(
+        rt.alloc(),
+        Capacity::for_bytes(4),
+        MemoryLimits::new(12),
+    )?;
+    assert_eq!(rt; number(&rt, &shared, "abc"), Ok(0));
+    assert_eq!(rt; shared.current_memory_usage(&rt), 4);
+    assert_eq!(rt; number(&rt, &shared, "defghijk"), Ok(1));
+    assert_eq!(rt; number(&rt, &shared, "x"), Ok(2));
+    assert_eq!(rt; shared.current_memory_usage(&rt), 12);
+    assert_eq!(rt;
+        number(&rt, &shared, "yz"),
+        Err(LassoErrorKind::MemoryLimitReached)
+    );
+    assert_eq!(rt; shared.current_memory_usage(&rt), 12);
+    shared.set_memory_limits(&rt, MemoryLimits::new(14));
+    assert_eq!(rt; shared.current_memory_usage(&rt), 12);
+    assert_eq!(rt; number(&rt, &shared, "yz"), Ok(3));
+    assert_eq!(rt; shared.current_memory_usage(&rt), 14);
+    assert_eq!(rt; shared.max_memory_usage(&rt), 14);
+    assert_eq!(rt; shared.len(), 4);
+    Ok(())
+}
+
+#[test]
+fn the_limit_answers_before_the_key_type(rt: HostRuntime) -> Result<(), Fail> {
+    let shared: ThreadedRodeo<MicroSpur, FixedState> =
+        ThreadedRodeo::with_capacity_and_memory_limits(
+            rt.alloc(),
+            Capacity::for_bytes(655),
+            MemoryLimits::new(655),
+        )?;
+    for position in 0..255usize {
+        let text = format!(in rt.alloc(); "{position}")?;
+        assert_eq!(rt; number(&rt, &shared, text.as_str()), Ok(position));
+    }
+    // 10 numbers of one digit, 90 of two and 155 of three fill the bucket
+    assert_eq!(rt;
+        number(&rt, &shared, "x"),
+        Err(LassoErrorKind::MemoryLimitReached)
+    );
+    assert_eq!(rt; number(&rt, &shared, "0"), Ok(0));
+    assert_eq!(rt;
+        number(&rt, &shared, ""),
+        Err(LassoErrorKind::KeySpaceExhaustion)
+    );
+    match shared.try_get_or_intern_static(&rt, "x") {
+        Ok(_) => assert!(rt; false),
+        Err(error) => assert!(rt; error.kind() == LassoErrorKind::KeySpaceExhaustion),
+    }
+    assert_eq!(rt; shared.len(), 255);
+    assert_eq!(rt; shared.current_memory_usage(&rt), 655);
+    Ok(())
+}
 
 #[test]
 fn a_copied_and_a_static_text_have_one_key(rt: HostRuntime) -> Result<(), Fail> {

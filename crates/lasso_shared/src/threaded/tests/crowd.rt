@@ -11,30 +11,37 @@ use std::thread::{Threads, join};
 // How many texts a thread has of its own, and how many all threads have.
 const EACH: u32 = 10_000;
 
-// The letter with the numbers from 0 on behind it. They are never freed.
-fn lettered(alloc: Global, letter: &str) -> Result<Vec<&'static str>, AllocError> {
+// The letter with the numbers from 0 on behind it.
+fn lettered(alloc: Global, letter: &str) -> Result<Vec<String>, AllocError> {
     let mut texts = Vec::new(alloc);
     for number in 0..EACH {
-        let bytes: &'static [u8] = format!(in alloc; "{letter}{number}")?.into_bytes().leak();
-        if let Ok(text) = std::str::from_utf8(bytes) {
-            texts.push(text)?;
-        }
+        texts.push(format!(in alloc; "{letter}{number}")?)?;
     }
     Ok(texts)
+}
+
+// How many bytes the texts have.
+fn bytes_of(texts: &[String]) -> usize {
+    let mut bytes: usize = 0;
+    for text in texts.iter() {
+        bytes = bytes.saturating_add(text.len());
+    }
+    bytes
 }
 
 // Interns a text of its own and a common one in turn, and tells whether each key resolves to its text.
 fn interns<R: Wait>(
     rt: &R,
     shared: &ThreadedRodeo<Spur, FixedState>,
-    own: &[&'static str],
-    common: &[&'static str],
+    own: &[String],
+    common: &[String],
 ) -> LassoResult<bool> {
     let mut all = true;
     for (mine, ours) in own.iter().zip(common.iter()) {
-        let first = shared.try_get_or_intern_static(rt, *mine)?;
-        let second = shared.try_get_or_intern_static(rt, *ours)?;
-        if shared.resolve(first) != Some(*mine) || shared.resolve(second) != Some(*ours) {
+        let (mine, ours) = (mine.as_str(), ours.as_str());
+        let first = shared.try_get_or_intern(rt, mine)?;
+        let second = shared.try_get_or_intern(rt, ours)?;
+        if shared.resolve(first) != Some(mine) || shared.resolve(second) != Some(ours) {
             all = false;
         }
     }
@@ -42,15 +49,12 @@ fn interns<R: Wait>(
 }
 
 // Whether each text is found, and its key resolves to it.
-fn are_there<R: Wait>(
-    rt: &R,
-    shared: &ThreadedRodeo<Spur, FixedState>,
-    texts: &[&'static str],
-) -> bool {
+fn are_there<R: Wait>(rt: &R, shared: &ThreadedRodeo<Spur, FixedState>, texts: &[String]) -> bool {
     let mut all = true;
     for text in texts.iter() {
-        match shared.get(rt, *text) {
-            Some(key) if shared.resolve(key) == Some(*text) => {}
+        let text = text.as_str();
+        match shared.get(rt, text) {
+            Some(key) if shared.resolve(key) == Some(text) => {}
             _ => all = false,
         }
     }
@@ -88,5 +92,12 @@ fn four_threads_share_half_of_their_texts(rt: HostRuntime) -> Result<(), Fail> {
     assert!(rt; are_there(&rt, &shared, &a) && are_there(&rt, &shared, &b));
     assert!(rt; are_there(&rt, &shared, &c) && are_there(&rt, &shared, &d));
     assert!(rt; are_there(&rt, &shared, &common));
+    // each list has 38890 digits and 10000 letters
+    let mut bytes: usize = 0;
+    for texts in [&a, &b, &c, &d, &common] {
+        bytes = bytes.saturating_add(bytes_of(texts));
+    }
+    assert_eq!(rt; bytes, 244_450);
+    assert!(rt; shared.current_memory_usage(&rt) <= 4096 + 4 * 244_450);
     Ok(())
 }

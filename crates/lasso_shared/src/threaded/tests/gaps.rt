@@ -1,8 +1,8 @@
 //! A key type that lacks number 2 and has number 3.
-use super::number;
+use super::copied::number;
 use crate::threaded::ThreadedRodeo;
 use lasso_parts::keys::Key;
-use lasso_parts::util::{FixedState, LassoErrorKind};
+use lasso_parts::util::{Capacity, FixedState, LassoErrorKind, MemoryLimits};
 use std::marker::Model;
 use std::test::*;
 
@@ -61,23 +61,30 @@ impl Key for WithoutTwo {
 
 #[test]
 fn no_text_passes_over_a_number_without_a_key(rt: HostRuntime) -> Result<(), Fail> {
-    let shared: ThreadedRodeo<WithoutTwo, FixedState> = ThreadedRodeo::with_hasher(
-        rt.alloc(),
-        FixedState::new(),
-    )?;
+    let shared: ThreadedRodeo<WithoutTwo, FixedState> =
+        ThreadedRodeo::with_capacity_and_memory_limits(
+            rt.alloc(),
+            Capacity::for_bytes(4),
+            MemoryLimits::new(4),
+        )?;
     assert!(rt; WithoutTwo::try_from_usize(3).is_some());
-    let mut pass = shared.pass();
-    assert_eq!(rt; number(&rt, &shared, &mut pass, "p"), Ok(0));
-    assert_eq!(rt; number(&rt, &shared, &mut pass, "q"), Ok(1));
+    assert_eq!(rt; number(&rt, &shared, "p"), Ok(0));
+    assert_eq!(rt; number(&rt, &shared, "q"), Ok(1));
+    // each of these takes one of the two bytes that are left
     assert_eq!(rt;
-        number(&rt, &shared, &mut pass, "r"),
+        number(&rt, &shared, "r"),
         Err(LassoErrorKind::KeySpaceExhaustion)
     );
     assert_eq!(rt;
-        number(&rt, &shared, &mut pass, "r"),
+        number(&rt, &shared, "r"),
         Err(LassoErrorKind::KeySpaceExhaustion)
     );
-    assert_eq!(rt; number(&rt, &shared, &mut pass, "q"), Ok(1));
+    assert_eq!(rt;
+        number(&rt, &shared, "r"),
+        Err(LassoErrorKind::MemoryLimitReached)
+    );
+    assert_eq!(rt; number(&rt, &shared, "q"), Ok(1));
     assert_eq!(rt; shared.len(), 2);
+    assert_eq!(rt; shared.current_memory_usage(&rt), 4);
     Ok(())
 }
