@@ -43,6 +43,14 @@ impl<K: Key, S: BuildHasher + Drop> ThreadedRodeo<K, S> {
     /// Sets the most bytes that all buckets may take. It may lie below what they take already: they stay, and copied texts that
     /// need another bucket are then refused. The texts stay. It takes no memory and is never refused. It waits for the spine, and
     /// does not return where limits and buckets came 2^64 - 1 times before.
+    ///
+    /// ```rust
+    /// let rodeo: SpurThreadedRodeo = ThreadedRodeo::default(rt.alloc())?;
+    /// let mut pass = rodeo.pass();
+    /// rodeo.set_memory_limits_as(&rt, &mut pass, MemoryLimits::new(10));
+    /// assert_eq!(rt; rodeo.max_memory_usage_as(&rt, &mut pass), 10);
+    /// assert_eq!(rt; rodeo.current_memory_usage_as(&rt, &mut pass), 4096);
+    /// ```
     pub fn set_memory_limits_as<R: Wait>(&self, rt: &R, pass: &mut Pass<K>, limits: MemoryLimits)
         requires { pass.old.of ≡ self.now }
         ensures same { IsSamePass pass.new pass.old }

@@ -53,6 +53,15 @@ impl<K: Key> ThreadedRodeo<K, FixedState> {
     /// An interner whose first bucket has the bytes of `capacity`, and whose buckets take at most `limits` in bytes. The limit may
     /// lie below the first bucket's bytes. The texts of `capacity` are a hint, as `with_capacity` has it. It is refused for want of
     /// memory alone.
+    ///
+    /// ```rust
+    /// let capacity = Capacity::new(50, 100);
+    /// let limits = MemoryLimits::new(10000);
+    /// let rodeo: SpurThreadedRodeo =
+    ///     ThreadedRodeo::with_capacity_and_memory_limits(rt.alloc(), capacity, limits)?;
+    /// assert_eq!(rt; rodeo.current_memory_usage(&rt), 100);
+    /// assert_eq!(rt; rodeo.max_memory_usage(&rt), 10000);
+    /// ```
     pub fn with_capacity_and_memory_limits(
         alloc: Global,
         capacity: Capacity,

@@ -58,6 +58,15 @@ impl<K: Key, S: BuildHasher + Drop> ThreadedRodeo<K, S> {
     }
 
     /// The key of the text, or `None` where it is not in the list. It takes no memory.
+    ///
+    /// ```rust
+    /// let rodeo: SpurThreadedRodeo = ThreadedRodeo::default(rt.alloc())?;
+    /// let key = rodeo.get_or_intern(&rt, "Hello, world!")?;
+    /// assert_eq!(rt; rodeo.get(&rt, "Hello, world!"), Some(key));
+    /// assert!(rt; rodeo.contains(&rt, "Hello, world!") && rodeo.contains_key(key));
+    /// assert_eq!(rt; rodeo.resolve(key), Some("Hello, world!"));
+    /// assert_eq!(rt; rodeo.len(), 1);
+    /// ```
     pub fn get<R: Wait>(&self, rt: &R, text: &str) -> Option<K>
         ensures call { IsPlainCall K.key_at self.now.opening (Get text.now) (Found result) }
         ensures opening { IsOpening K.key_at self.now.opening }
