@@ -63,11 +63,8 @@ fn shared_looked_up(rt: HostRuntime) -> Result<(), Fail> {
 fn shared_with_limits(rt: HostRuntime) -> Result<(), Fail> {
     let capacity = Capacity::new(50, 100);
     let limits = MemoryLimits::new(10000);
-    let rodeo: SpurThreadedRodeo = ThreadedRodeo::with_capacity_and_memory_limits(
-        rt.alloc(),
-        capacity,
-        limits,
-    )?;
+    let made = ThreadedRodeo::with_capacity_and_memory_limits(rt.alloc(), capacity, limits);
+    let rodeo: SpurThreadedRodeo = made?;
     assert_eq!(rt; rodeo.current_memory_usage(&rt), 100);
     assert_eq!(rt; rodeo.max_memory_usage(&rt), 10000);
     Ok(())
