@@ -26,26 +26,51 @@ fn a_long_text_gets_a_bucket_of_its_size(rt: HostRuntime) -> Result<(), Fail> {
     Ok(())
 }
 
+// Copies the text, and gives the usage then, or `None` where the text was refused.
+fn usage_with<R: Wait>(
+    rt: &R,
+    alloc: Global,
+    log: &Log<Spur>,
+    list: &BucketList<Spur>,
+    spine: &mut Spine<Spur>,
+    pass: &mut Pass<Spur>,
+    text: &str,
+) -> Option<u64>
+    requires of { (pass.old.of ≡ log.now) × (spine.old.of ≡ log.now) × (list.now ≡ names_with_book log.now) }
+    requires some { length text.now ≢ 0 }
+    ensures of { (pass.new.of ≡ log.now) × (spine.new.of ≡ log.now) }
+{
+    let Ok(_) = stores(rt, alloc, log, list, spine, pass, text) else {
+        return None;
+    };
+    Some(log.usage(rt, spine, pass))
+}
+
 #[test]
 fn buckets_are_doubled_and_then_what_the_limit_leaves(rt: HostRuntime) -> Result<(), Fail> {
     let alloc = rt.alloc();
     let (log, mut spine, list) = opens(alloc, 4, 12)?;
     let mut pass = log.pass();
-    stores(&rt, alloc, &log, &list, &mut spine, &mut pass, "abc")?;
-    assert_eq!(rt; log.usage(&rt, &spine, &mut pass), 4);
-    stores(&rt, alloc, &log, &list, &mut spine, &mut pass, "defghijk")?;
-    assert_eq!(rt; log.usage(&rt, &spine, &mut pass), 12);
-    assert_eq!(rt; bucket_at(&rt, &log, &list, &mut pass, 0), (4, 3));
+    assert_eq!(rt;
+        usage_with(&rt, alloc, &log, &list, &mut spine, &mut pass, "abc"),
+        Some(4)
+    );
+    assert_eq!(rt;
+        usage_with(&rt, alloc, &log, &list, &mut spine, &mut pass, "defghijk"),
+        Some(12)
+    );
     // the first bucket has room for one byte still
-    stores(&rt, alloc, &log, &list, &mut spine, &mut pass, "x")?;
-    assert_eq!(rt; log.usage(&rt, &spine, &mut pass), 12);
-    assert_eq!(rt; bucket_at(&rt, &log, &list, &mut pass, 0), (4, 4));
-    assert_eq!(rt; bucket_at(&rt, &log, &list, &mut pass, 1), (8, 8));
+    assert_eq!(rt;
+        usage_with(&rt, alloc, &log, &list, &mut spine, &mut pass, "x"),
+        Some(12)
+    );
     log.set_limit(&rt, &mut spine, &mut pass, 14);
-    assert_eq!(rt; log.max_usage(&rt, &spine, &mut pass), 14);
-    stores(&rt, alloc, &log, &list, &mut spine, &mut pass, "yz")?;
-    assert_eq!(rt; log.usage(&rt, &spine, &mut pass), 14);
+    assert_eq!(rt;
+        usage_with(&rt, alloc, &log, &list, &mut spine, &mut pass, "yz"),
+        Some(14)
+    );
     assert_eq!(rt; list.len(), 3);
+    assert_eq!(rt; bucket_at(&rt, &log, &list, &mut pass, 0), (4, 4));
     assert_eq!(rt; bucket_at(&rt, &log, &list, &mut pass, 2), (2, 2));
     Ok(())
 }
