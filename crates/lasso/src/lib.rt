@@ -12,6 +12,7 @@ pub use interface::{
     Interner, IntoReader, IntoReaderAndResolver, IntoResolver, Reader, Resolver, SpurInterner,
     SpurReader, SpurResolver,
 };
+pub use lasso_log::{log, shared_arena};
 pub use lasso_parts::iter::{Iter, Strings};
 pub use lasso_parts::json::{JsonError, JsonKey};
 pub use lasso_parts::keys::{Key, LargeSpur, MicroSpur, MiniSpur, Spur};
@@ -20,7 +21,7 @@ pub use lasso_parts::util::{
 };
 pub use lasso_parts::{arena, bucket, entries, index, iter, json, keys, util};
 pub use lasso_shared::threaded::ThreadedRodeo;
-pub use lasso_shared::{log, machine, shards, shared_arena, threaded};
+pub use lasso_shared::{machine, shards, threaded};
 pub use lasso_single::commands::{Command, Reply, run_commands};
 pub use lasso_single::reader::RodeoReader;
 pub use lasso_single::resolver::RodeoResolver;

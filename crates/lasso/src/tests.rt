@@ -1,6 +1,5 @@
-//! Tests that cross the crates below: examples for a library's front page, and the interfaces.
+//! Tests that cross the crates below: callers with contracts of their own, and the interfaces.
 mod calling;
-mod examples;
 mod interfaces;
 mod objects;
 

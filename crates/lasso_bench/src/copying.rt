@@ -1,13 +1,13 @@
 //! Texts that one thread copies into a bucket that threads share, and passes that it makes: how long a call takes.
 ghost use Rattle.std.specs.Prelude.{◌≡◌};
-ghost use Rattle.lasso_shared.specs.SharedBuckets.{SharedView};
-ghost use Rattle.lasso_shared.specs.Views.{InternerId};
+ghost use Rattle.lasso_log.specs.SharedBuckets.{SharedView};
+ghost use Rattle.lasso_log.specs.Views.{InternerId};
 
 use crate::timing::{ROUNDS, tenths_a_call};
 use anyhow::{Result, ensure};
 use lasso_parts::keys::Spur;
-use lasso_shared::log::{Log, NewLog, OpeningTexts};
-use lasso_shared::shared_arena::bucket::SharedBucket;
+use lasso_log::log::{Log, NewLog, OpeningTexts};
+use lasso_log::shared_arena::bucket::SharedBucket;
 use std::rt::Clock;
 use std::sync::Wait;
 use std::time::Instant;

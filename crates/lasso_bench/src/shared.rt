@@ -1,12 +1,12 @@
 //! Texts that threads read at once: the log of a shared interner, and a vector of `boxcar`.
 ghost use Rattle.std.specs.Prelude.{◌≡◌, [], IfOk};
-ghost use Rattle.lasso_shared.specs.Views.{list_of};
+ghost use Rattle.lasso_log.specs.Views.{list_of};
 ghost use Rattle.lasso_bench.specs.Names.{named};
 
 use crate::texts::numbered_text;
 use anyhow::{Result, bail, ensure};
 use lasso_parts::keys::{Key, Spur};
-use lasso_shared::log::{Log, Opened, Spine};
+use lasso_log::log::{Log, Opened, Spine};
 use std::alloc::{AllocError, Global};
 use std::sync::Wait;
 

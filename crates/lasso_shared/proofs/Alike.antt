@@ -2,11 +2,11 @@
 use Rattle.std.proofs.Common.{◌≡◌, ◌⊎◌, ◌<◌, ◌≤◌, ℕ, arith, List, length, slice_get, Some, subst, inl, inr}
 use mathlib.Core.List.{IsPrefix}
 use Rattle.lasso_parts.specs.Texts.{Text}
-use Rattle.lasso_shared.specs.Notes.{NoteView}
-use Rattle.lasso_shared.specs.Views.{InternerId, list_of}
-use Rattle.lasso_shared.proofs.Lengths.{texts_past}
-use Rattle.lasso_shared.proofs.Lined.{prefix_short}
-use Rattle.lasso_shared.proofs.Reading.{text_read}
+use Rattle.lasso_log.specs.Notes.{NoteView}
+use Rattle.lasso_log.specs.Views.{InternerId, list_of}
+use Rattle.lasso_log.proofs.Lengths.{texts_past}
+use Rattle.lasso_log.proofs.Lined.{prefix_short}
+use Rattle.lasso_log.proofs.Reading.{text_read}
 
 pub lists_alike : (a b : InternerId) (v w : List NoteView) → a ≡ b → IsPrefix v w ⊎ IsPrefix w v → IsPrefix (list_of a v) (list_of b w) ⊎ IsPrefix (list_of b w) (list_of a v)
 lists_alike a b v w same (inl p) = inl (subst (λ (o : InternerId). IsPrefix (list_of a v) (list_of o w)) same (texts_past a.opening v w p))

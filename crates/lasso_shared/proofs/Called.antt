@@ -3,12 +3,12 @@ use Rattle.std.proofs.Common.{◌≡◌, ℕ, List, [], ◌∷◌, ◌++◌, len
 use Rattle.std.specs.Prelude.{Bool, nat_eq, nat_lt, is_some}
 use Rattle.lasso_parts.specs.Texts.{Text, Fits, position_of, key_of}
 use Rattle.lasso_parts.proofs.TextLemmas.{key_of_present}
-use Rattle.lasso_shared.specs.History.{Event, Limit, History, Totals, totals, IsLegal, IsOpening}
-use Rattle.lasso_shared.specs.Replies.{Question, Get, Contains, ContainsKey, Resolve, Len, IsEmpty, Usage, MaxUsage, SetLimit, Reply, Found, Flag, Resolved, Number, Done, MayReply}
-use Rattle.lasso_shared.specs.Calls.{events_of, Makes, MayComeAfter, IsCall, IsPlainCall}
-use Rattle.lasso_shared.specs.Notes.{NoteView, history, state, Since}
-use Rattle.lasso_shared.proofs.Histories.{history_append, events_append}
-use Rattle.lasso_shared.proofs.Legal.{legal_parts, list_kept}
+use Rattle.lasso_log.specs.History.{Event, Limit, History, Totals, totals, IsLegal, IsOpening}
+use Rattle.lasso_log.specs.Replies.{Question, Get, Contains, ContainsKey, Resolve, Len, IsEmpty, Usage, MaxUsage, SetLimit, Reply, Found, Flag, Resolved, Number, Done, MayReply}
+use Rattle.lasso_log.specs.Calls.{events_of, Makes, MayComeAfter, IsCall, IsPlainCall}
+use Rattle.lasso_log.specs.Notes.{NoteView, history, state, Since}
+use Rattle.lasso_log.proofs.Histories.{history_append, events_append}
+use Rattle.lasso_log.proofs.Legal.{legal_parts, list_kept}
 
 module _ {K : Type 0} (key_at : ℕ → Option K) (o : Totals) (p : ℕ) where
   -- the reply is that of the list at the end

@@ -18,17 +18,17 @@ use Rattle.lasso_parts.specs.Texts.{Text, position_of, key_of}
 use Rattle.lasso_parts.specs.declared.util.LassoErrorKind.{LassoErrorKind}
 use Rattle.lasso_parts.specs.declared.util.LassoErrorKind.TheVariants.{MemoryLimitReached, KeySpaceExhaustion, FailedAllocation}
 use Rattle.lasso_parts.proofs.IndexLaws.{position_of_at}
-use Rattle.lasso_shared.specs.History.{Event, Append, History, Totals, totals, counted, MayFollow, IsLegal}
-use Rattle.lasso_shared.specs.Replies.{Keeping, Question, Intern, Get, Resolve, Reply, Interned, Found, Resolved, MayIntern}
-use Rattle.lasso_shared.specs.Calls.{events_of, StoresAndAppends, Makes, IsCall}
-use Rattle.lasso_shared.specs.Notes.{NoteView, history}
-use Rattle.lasso_shared.specs.Views.{InternerId, seen}
+use Rattle.lasso_log.specs.History.{Event, Append, History, Totals, totals, counted, MayFollow, IsLegal}
+use Rattle.lasso_log.specs.Replies.{Keeping, Question, Intern, Get, Resolve, Reply, Interned, Found, Resolved, MayIntern}
+use Rattle.lasso_log.specs.Calls.{events_of, StoresAndAppends, Makes, IsCall}
+use Rattle.lasso_log.specs.Notes.{NoteView, history}
+use Rattle.lasso_log.specs.Views.{InternerId, seen}
 use Rattle.lasso_shared.specs.CallerLaws.{HasKey, CallsTellKeys, SeenTextsKeepKeys, AnsweredKeysResolve, ResolvedTextsStay, KeysAreEqualWhereTextsAre, PassesShare}
-use Rattle.lasso_shared.proofs.Legal.{totals_append, legal_parts, list_kept, list_grows}
-use Rattle.lasso_shared.proofs.Histories.{history_append, prefix_trans}
+use Rattle.lasso_log.proofs.Legal.{totals_append, legal_parts, list_kept, list_grows}
+use Rattle.lasso_log.proofs.Histories.{history_append, prefix_trans}
 use Rattle.lasso_parts.proofs.TextLemmas.{position_here}
 use Rattle.lasso_shared.proofs.Positions.{get_front}
-use Rattle.lasso_shared.proofs.Tickets.{by_cases}
+use Rattle.lasso_log.proofs.Tickets.{by_cases}
 
 -- ---- lists that grow
 

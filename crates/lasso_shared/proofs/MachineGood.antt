@@ -11,7 +11,7 @@ use Rattle.std.proofs.lemmas.Slice.Eq.{bytes_eq-Decides}
 use Rattle.lasso_parts.specs.Texts.{Text, position_of, Fits}
 use Rattle.lasso_parts.proofs.TextLemmas.{distinct_push, fits_push}
 use Rattle.lasso_parts.proofs.IndexLaws.{position_of_at, slice_get_push}
-use Rattle.lasso_shared.specs.History.{Lacks}
+use Rattle.lasso_log.specs.History.{Lacks}
 use Rattle.lasso_shared.specs.Machine.{RangedBucket, Phase, Missing, Stored, Appended, Call, State, IsInFlight, IsFree, put, with_call, without, in_phase, entered}
 use Rattle.lasso_shared.specs.Runs.{position_in, IsFilled, StandsBy, IsNearly, IsGood}
 use Rattle.lasso_shared.proofs.Positions.{same_or_not, position_other, get_front}

@@ -14,12 +14,12 @@ use Rattle.lasso_parts.specs.declared.util.LassoErrorKind.{LassoErrorKind}
 use Rattle.lasso_parts.specs.declared.util.LassoErrorKind.TheVariants.{MemoryLimitReached, KeySpaceExhaustion, FailedAllocation}
 use Rattle.lasso_parts.proofs.TextLemmas.{key_of_present}
 use Rattle.lasso_parts.proofs.IndexLaws.{position_of_at}
-use Rattle.lasso_shared.specs.Buckets.{CountedBucket, with_taken, changed_at, doubling_after}
-use Rattle.lasso_shared.specs.History.{Totals, totals, IsLegal}
-use Rattle.lasso_shared.specs.Replies.{Keeping, Question, Intern, Get, Contains, ContainsKey, Resolve, Len, IsEmpty, Usage, MaxUsage, Iterate, Strings, Serialize, Freeze, Interned, MayReply}
+use Rattle.lasso_log.specs.Buckets.{CountedBucket, with_taken, changed_at, doubling_after}
+use Rattle.lasso_log.specs.History.{Totals, totals, IsLegal}
+use Rattle.lasso_log.specs.Replies.{Keeping, Question, Intern, Get, Contains, ContainsKey, Resolve, Len, IsEmpty, Usage, MaxUsage, Iterate, Strings, Serialize, Freeze, Interned, MayReply}
 use Rattle.lasso_shared.specs.Machine.{RangedBucket, Phase, Missing, Stored, Appended, Call, State, Step, Take, Reserve, Charge, Append, Release, Refuse, Read, SetLimit, IsInFlight, IsFree, IsReady, MayRefuse, MayRead, MayStep, new_call, taken, after, events, replied, found_reply, with_key, entries_from, read, reply, sums, reserved, charged}
 use Rattle.lasso_shared.specs.Runs.{IsFilled, StandsBy, IsGood, IsStart, IsRun, run, run_history, OwesReply, IsSound, HoldsInRun}
-use Rattle.lasso_shared.proofs.Legal.{totals_append, legal_append, bucket_fits}
+use Rattle.lasso_log.proofs.Legal.{totals_append, legal_append, bucket_fits}
 use Rattle.lasso_shared.proofs.Ranges.{map_changed, reserved_filled, charged_filled}
 use Rattle.lasso_shared.proofs.MachineGood.{HasAppendedNone, found_free, lacks_own, good_begun, good_stored, good_appended, good_refused, good_released, good_limited}
 

@@ -3,7 +3,7 @@ use Rattle.std.proofs.Common.{◌≡◌, ℕ, zero, suc, ◌+◌, ◌≤◌, Lis
 use Rattle.std.specs.Prelude.{IsSomeAnd}
 use Rattle.std.specs.List.{AllByRecursion}
 use Rattle.std.proofs.lemmas.List.Elements.{All-from_recursion, recursion_from_All}
-use Rattle.lasso_shared.specs.Buckets.{CountedBucket, changed_at}
+use Rattle.lasso_log.specs.Buckets.{CountedBucket, changed_at}
 use Rattle.lasso_shared.specs.Machine.{Range, RangedBucket, reserved, charged}
 use Rattle.lasso_shared.specs.Runs.{Follow, IsFilled}
 

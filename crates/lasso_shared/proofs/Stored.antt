@@ -10,17 +10,17 @@ use Rattle.lasso_parts.proofs.TextLemmas.{distinct_push}
 use Rattle.lasso_parts.proofs.IndexLaws.{position_of_at, slice_get_push}
 use Rattle.lasso_parts.specs.declared.util.LassoErrorKind.{LassoErrorKind}
 use Rattle.lasso_parts.specs.declared.util.LassoErrorKind.TheVariants.{FailedAllocation, KeySpaceExhaustion, MemoryLimitReached}
-use Rattle.lasso_shared.specs.Calls.{events_of, TakesBytes, Stores, Makes, IsCall}
-use Rattle.lasso_shared.specs.History.{Event, Append, Reserve, Charge, History, Totals, totals, Lacks}
-use Rattle.lasso_shared.specs.Notes.{NoteView, history, state, Since}
-use Rattle.lasso_shared.specs.Replies.{Keeping, Copied, Intern, Reply, Interned, MayReply}
+use Rattle.lasso_log.specs.Calls.{events_of, TakesBytes, Stores, Makes, IsCall}
+use Rattle.lasso_log.specs.History.{Event, Append, Reserve, Charge, History, Totals, totals, Lacks}
+use Rattle.lasso_log.specs.Notes.{NoteView, history, state, Since}
+use Rattle.lasso_log.specs.Replies.{Keeping, Copied, Intern, Reply, Interned, MayReply}
 use Rattle.lasso_shared.specs.Shards.{PutsLast}
-use Rattle.lasso_shared.specs.Turns.{IsPastLimit}
-use Rattle.lasso_shared.specs.Views.{InternerId, list_of}
+use Rattle.lasso_log.specs.Turns.{IsPastLimit}
+use Rattle.lasso_log.specs.Views.{InternerId, list_of}
 use Rattle.lasso_shared.proofs.Called.{explained_last}
-use Rattle.lasso_shared.proofs.Histories.{history_append, own_append, prefix_trans}
-use Rattle.lasso_shared.proofs.Lengths.{same_texts}
-use Rattle.lasso_shared.proofs.Tickets.{since_trans}
+use Rattle.lasso_log.proofs.Histories.{history_append, own_append, prefix_trans}
+use Rattle.lasso_log.proofs.Lengths.{same_texts}
+use Rattle.lasso_log.proofs.Tickets.{since_trans}
 
 -- ---- what was seen in two parts
 

@@ -10,14 +10,14 @@ use Rattle.lasso_parts.specs.Texts.{Text, position_of, IsDistinct, Fits}
 use Rattle.lasso_parts.specs.Index.{Table, Holds, HoldsNone, IsFiled, IsFiledAnywhere, StaysFiled}
 use Rattle.lasso_parts.proofs.TextLemmas.{distinct_push}
 use Rattle.lasso_parts.proofs.IndexLaws.{IsFiled-append, slice_get-append_left, slice_get_push, position_of_at, position_of_none}
-use Rattle.lasso_shared.specs.History.{Lacks, Totals, IsOpening, IsLegal}
-use Rattle.lasso_shared.specs.Notes.{NoteView, history, state, Since}
-use Rattle.lasso_shared.specs.Views.{InternerId, list_of}
+use Rattle.lasso_log.specs.History.{Lacks, Totals, IsOpening, IsLegal}
+use Rattle.lasso_log.specs.Notes.{NoteView, history, state, Since}
+use Rattle.lasso_log.specs.Views.{InternerId, list_of}
 use Rattle.lasso_shared.specs.Shards.{shard_of, is_in, count_where, count_in, IsShardOf, IsWhole, Counts}
-use Rattle.lasso_shared.proofs.Legal.{list_kept}
-use Rattle.lasso_shared.proofs.Reading.{none_distinct}
-use Rattle.lasso_shared.proofs.Tickets.{since_trans}
-use Rattle.lasso_shared.proofs.Lengths.{texts_past}
+use Rattle.lasso_log.proofs.Legal.{list_kept}
+use Rattle.lasso_log.proofs.Reading.{none_distinct}
+use Rattle.lasso_log.proofs.Tickets.{since_trans}
+use Rattle.lasso_log.proofs.Lengths.{texts_past}
 
 decide_nat : (i j : ℕ) → (i ≡ j) ⊎ (i ≢ j)
 decide_nat i j = elim (cases_lt i j) [

@@ -3,10 +3,10 @@ use Rattle.std.specs.Prelude.{◌≡◌, ◌↔◌, ◌⊎◌, ℕ, Bool, true, 
 use mathlib.Core.List.{IsPrefix}
 use Rattle.lasso_parts.specs.Texts.{Text, key_of}
 use Rattle.lasso_parts.specs.declared.util.LassoErrorKind.{LassoErrorKind}
-use Rattle.lasso_shared.specs.History.{History, Totals, IsOpening, totals, IsLegal}
-use Rattle.lasso_shared.specs.Replies.{Keeping, Intern, Get, Contains, ContainsKey, Resolve, Interned, Found, Flag, Resolved}
-use Rattle.lasso_shared.specs.Calls.{IsCall, events_of}
-use Rattle.lasso_shared.specs.Views.{PassView, seen}
+use Rattle.lasso_log.specs.History.{History, Totals, IsOpening, totals, IsLegal}
+use Rattle.lasso_log.specs.Replies.{Keeping, Intern, Get, Contains, ContainsKey, Resolve, Interned, Found, Flag, Resolved}
+use Rattle.lasso_log.specs.Calls.{IsCall, events_of}
+use Rattle.lasso_log.specs.Views.{PassView, seen}
 
 -- where the history stands, the text is in the list and this is its key
 abbrev pub HasKey : {K : Type 0} → (ℕ → Option K) → Totals → History → Text → K → Type 0

@@ -2,8 +2,8 @@
 use Rattle.std.specs.Prelude.{◌≡◌, ℕ, ◌%◌, List, [], ◌∷◌, Option, Some, None, Ok, Err, nat_lt, slice_index, if◌then◌else◌, codes}
 use Rattle.lasso_parts.specs.Texts.{Text}
 use Rattle.lasso_parts.specs.declared.util.LassoErrorKind.TheVariants.{MemoryLimitReached, KeySpaceExhaustion, FailedAllocation}
-use Rattle.lasso_shared.specs.History.{Event}
-use Rattle.lasso_shared.specs.Replies.{Keeping, Copied, Static, Intern, Get, Resolve, Usage, MaxUsage, Iterate, Interned, Found, Resolved, Number, Pairs}
+use Rattle.lasso_log.specs.History.{Event}
+use Rattle.lasso_log.specs.Replies.{Keeping, Copied, Static, Intern, Get, Resolve, Usage, MaxUsage, Iterate, Interned, Found, Resolved, Number, Pairs}
 use Rattle.lasso_shared.specs.Machine.{State, Call, Phase, Missing, Stored, Appended, Step, Take, Reserve, Charge, Append, Release, Refuse, Read, SetLimit}
 use Rattle.lasso_shared.specs.Runs.{IsStart, IsRun, run, run_history, replies}
 

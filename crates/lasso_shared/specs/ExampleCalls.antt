@@ -1,9 +1,9 @@
 -- Calls that were worked by hand, and wrong ones that are no calls.
 use Rattle.std.specs.Prelude.{ℕ, [], ◌∷◌, ◌++◌, Some, None, Ok, Err}
 use Rattle.lasso_parts.specs.declared.util.LassoErrorKind.TheVariants.{MemoryLimitReached, KeySpaceExhaustion, FailedAllocation}
-use Rattle.lasso_shared.specs.History.{Reserve, Charge, Append, Limit, History, Totals, IsOpening, opened, IsLegal}
-use Rattle.lasso_shared.specs.Replies.{Copied, Static, Question, Intern, Get, Resolve, Iterate, Strings, Serialize, Freeze, SetLimit, Reply, Interned, Found, Resolved, Done, Pairs, Listed}
-use Rattle.lasso_shared.specs.Calls.{IsCall}
+use Rattle.lasso_log.specs.History.{Reserve, Charge, Append, Limit, History, Totals, IsOpening, opened, IsLegal}
+use Rattle.lasso_log.specs.Replies.{Copied, Static, Question, Intern, Get, Resolve, Iterate, Strings, Serialize, Freeze, SetLimit, Reply, Interned, Found, Resolved, Done, Pairs, Listed}
+use Rattle.lasso_log.specs.Calls.{IsCall}
 use Rattle.lasso_shared.specs.Example.{three_keys, a, bc, ddd, e}
 
 -- no texts, one bucket of 2 bytes, and a limit of 6

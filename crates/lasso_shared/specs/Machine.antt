@@ -3,9 +3,9 @@ use Rattle.std.specs.Prelude.{◌≡◌, ◌≢◌, ◌⊎◌, ◌==◌, ℕ, �
 use Rattle.lasso_parts.specs.Texts.{Text}
 use Rattle.lasso_parts.specs.declared.util.LassoErrorKind.{LassoErrorKind}
 use Rattle.lasso_parts.specs.declared.util.LassoErrorKind.TheVariants.{MemoryLimitReached, KeySpaceExhaustion, FailedAllocation}
-use Rattle.lasso_shared.specs.Buckets.{CountedBucket, with_taken, changed_at, HasNoRoom, bucket_size, doubling_after}
-use Rattle.lasso_shared.specs.History.{Event, History, Totals}
-use Rattle.lasso_shared.specs.Replies.{Keeping, Copied, Static, Question, Intern, Get, Contains, ContainsKey, Resolve, Len, IsEmpty, Usage, MaxUsage, Iterate, Strings, Serialize, Reply, Interned, Found, Flag, Resolved, Number, Pairs, Listed}
+use Rattle.lasso_log.specs.Buckets.{CountedBucket, with_taken, changed_at, HasNoRoom, bucket_size, doubling_after}
+use Rattle.lasso_log.specs.History.{Event, History, Totals}
+use Rattle.lasso_log.specs.Replies.{Keeping, Copied, Static, Question, Intern, Get, Contains, ContainsKey, Resolve, Len, IsEmpty, Usage, MaxUsage, Iterate, Strings, Serialize, Reply, Interned, Found, Flag, Resolved, Number, Pairs, Listed}
 
 -- bytes that were taken in a bucket: where they begin, and how many they are
 pub record Range : Type 0 where

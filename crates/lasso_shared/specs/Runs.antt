@@ -2,8 +2,8 @@
 use Rattle.std.specs.Prelude.{◌≡◌, ◌⊎◌, ◌==◌, ℕ, ◌+◌, ◌<◌, ◌≤◌, List, [], ◌∷◌, ◌++◌, length, Option, Some, None, IsSome, IfSome, option_to_list, All, slice_get, if◌then◌else◌}
 use mathlib.Core.List.{IsPrefix}
 use Rattle.lasso_parts.specs.Texts.{Text, position_of, IsDistinct, Fits}
-use Rattle.lasso_shared.specs.History.{History, IsOpening, totals, Lacks, IsLegal}
-use Rattle.lasso_shared.specs.Replies.{Question, Reply, MayReply}
+use Rattle.lasso_log.specs.History.{History, IsOpening, totals, Lacks, IsLegal}
+use Rattle.lasso_log.specs.Replies.{Question, Reply, MayReply}
 use Rattle.lasso_shared.specs.Machine.{Range, RangedBucket, Phase, Missing, Stored, Appended, Call, State, Step, Take, Release, Refuse, Read, IsInFlight, IsFree, MayStep, after, events, reply, sums}
 
 -- what shard k's index has of the text while no call is in flight: its position, where it is one of the shard's

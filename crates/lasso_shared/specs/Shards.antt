@@ -6,9 +6,9 @@ use Rattle.lasso_parts.specs.Texts.{Text, IsDistinct, key_of}
 use Rattle.lasso_parts.specs.Index.{Table, Holds, IsFiled}
 use Rattle.lasso_parts.specs.declared.util.LassoErrorKind.{LassoErrorKind}
 use Rattle.lasso_parts.specs.declared.util.LassoErrorKind.TheVariants.{KeySpaceExhaustion}
-use Rattle.lasso_shared.specs.History.{Append, Lacks}
-use Rattle.lasso_shared.specs.Notes.{NoteView, Since}
-use Rattle.lasso_shared.specs.Views.{InternerId, KnownView, SpineView, list_of}
+use Rattle.lasso_log.specs.History.{Append, Lacks}
+use Rattle.lasso_log.specs.Notes.{NoteView, Since}
+use Rattle.lasso_log.specs.Views.{InternerId, KnownView, SpineView, list_of}
 
 -- the shard of a hash: the number in its four highest bits
 abbrev pub shard_of : ℕ → ℕ

@@ -1,7 +1,7 @@
 //! Laws of the shared history, each as the contract of a function that does nothing.
 
 ghost use Rattle.lasso_shared.specs.ExampleCalls.{AreCalls, AreNoCalls};
-ghost use Rattle.lasso_shared.specs.Laws.{EachHistoryHolds, ChargeRefusesExactlyPastLimit};
+ghost use Rattle.lasso_log.specs.Laws.{EachHistoryHolds, ChargeRefusesExactlyPastLimit};
 
 mod callers;
 

@@ -1,11 +1,9 @@
-//! The interner that threads share: its history, and the log that they append to.
+//! The interner that threads share: its shards over one log, its calls, and the laws of its history.
 #![tactic(auto)]
 
-pub mod chunks;
 pub mod laws;
-pub mod locks;
-pub mod log;
 pub mod machine;
 pub mod shards;
-pub mod shared_arena;
 pub mod threaded;
+
+pub use lasso_log::{log, shared_arena};

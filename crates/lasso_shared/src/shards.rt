@@ -4,8 +4,8 @@
 //! begins with that one and has no more texts of the shard, which the spine's number of them tells. Who holds a shard's lock
 //! may take the spine's; who holds the spine's takes no shard.
 ghost use Rattle.std.specs.Prelude.{◌≡◌, ◌<◌, ℕ, length, Some, slice_get};
-ghost use Rattle.lasso_shared.specs.SharedBuckets.{names_with_book};
-ghost use Rattle.lasso_shared.specs.Views.{InternerId};
+ghost use Rattle.lasso_log.specs.SharedBuckets.{names_with_book};
+ghost use Rattle.lasso_log.specs.Views.{InternerId};
 
 mod intern;
 mod limits;
@@ -18,15 +18,15 @@ pub mod tag;
 #[cfg(test)]
 mod tests;
 
-use crate::locks::{TaggedMutex, TaggedRwLock};
-use crate::log::Log;
 use crate::shards::shard::{Shard, Tally};
-use crate::shared_arena::bucket_list::BucketList;
+use lasso_log::locks::{TaggedMutex, TaggedRwLock};
+use lasso_log::log::Log;
+use lasso_log::shared_arena::bucket_list::BucketList;
 use lasso_parts::keys::Key;
 use std::alloc::Global;
 use std::hash::BuildHasher;
 
-/// The log, the buckets, the hasher and the locks of one interner. The hasher is asked outside the locks.
+/// The log, the buckets, the hasher and the locks of one interner. The hasher lies outside the locks; a growth asks it while its shard is held.
 #[derive(Drop)]
 pub struct Shards<K: Key, S: BuildHasher + Drop> {
     pub log: Log<K>,

@@ -5,7 +5,7 @@
 //! the call. A plain call is that call of a new pass. What is stored lies in a log that is read without a lock. A text is looked
 //! up in its shard, which other texts of the shard share; a new text goes through its shard and then through the spine.
 ghost use Rattle.std.specs.Prelude.{◌≡◌, []};
-ghost use Rattle.lasso_shared.specs.Views.{PassView, InternerId};
+ghost use Rattle.lasso_log.specs.Views.{PassView, InternerId};
 
 mod interning;
 mod limits;
@@ -15,8 +15,8 @@ mod plain;
 #[cfg(test)]
 mod tests;
 
-use crate::log::Pass;
 use crate::shards::Shards;
+use lasso_log::log::Pass;
 use lasso_parts::keys::Key;
 use std::hash::BuildHasher;
 use std::marker::Model;
@@ -35,7 +35,7 @@ pub struct ThreadedRodeo<K: Key, S: BuildHasher + Drop> {
 }
 
 impl<K: Key, S: BuildHasher + Drop> Model for ThreadedRodeo<K, S> {
-    ghost use Rattle.lasso_shared.specs.Views.{InternerId, interner_id_coded};
+    ghost use Rattle.lasso_log.specs.Views.{InternerId, interner_id_coded};
 
     ghost Value = { InternerId };
 

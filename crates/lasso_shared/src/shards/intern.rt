@@ -5,17 +5,17 @@
 //! The shard is held to the end: so what was looked up stays. A text that is static or empty has no bytes to be stored.
 ghost use Rattle.std.specs.Prelude.{◌≡◌};
 ghost use Rattle.lasso_parts.specs.Hashing.{text_hash};
-ghost use Rattle.lasso_shared.specs.Pieces.{PieceView};
-ghost use Rattle.lasso_shared.specs.Replies.{Copied, Static, Intern, Interned};
-ghost use Rattle.lasso_shared.specs.Calls.{IsCall};
-ghost use Rattle.lasso_shared.specs.Views.{PassView, InternerId, IsSamePass, seen};
+ghost use Rattle.lasso_log.specs.Pieces.{PieceView};
+ghost use Rattle.lasso_log.specs.Replies.{Copied, Static, Intern, Interned};
+ghost use Rattle.lasso_log.specs.Calls.{IsCall};
+ghost use Rattle.lasso_log.specs.Views.{PassView, InternerId, IsSamePass, seen};
 ghost use Rattle.lasso_shared.specs.Shards.{IsShard, shard_of};
 
-use crate::log::Pass;
 use crate::shards::Shards;
 use crate::shards::shard::Shard;
 use crate::shards::tag::number_of;
-use crate::shared_arena::piece::Piece;
+use lasso_log::log::Pass;
+use lasso_log::shared_arena::piece::Piece;
 use lasso_parts::index::hash_text;
 use lasso_parts::keys::Key;
 use lasso_parts::util::LassoResult;

@@ -1,11 +1,11 @@
 //! Usage and limit, by the spine.
 ghost use Rattle.std.specs.Prelude.{◌≡◌, ◌∷◌, []};
-ghost use Rattle.lasso_shared.specs.History.{Limit};
-ghost use Rattle.lasso_shared.specs.Notes.{Since, state};
-ghost use Rattle.lasso_shared.specs.Views.{PassView, InternerId, IsSamePass};
+ghost use Rattle.lasso_log.specs.History.{Limit};
+ghost use Rattle.lasso_log.specs.Notes.{Since, state};
+ghost use Rattle.lasso_log.specs.Views.{PassView, InternerId, IsSamePass};
 
-use crate::log::Pass;
 use crate::shards::Shards;
+use lasso_log::log::Pass;
 use lasso_parts::keys::Key;
 use std::hash::BuildHasher;
 use std::sync::Wait;

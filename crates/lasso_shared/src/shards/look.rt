@@ -3,17 +3,17 @@ ghost use Rattle.std.specs.Prelude.{◌≡◌, ◌<◌, [], true, length, Some, 
 ghost use mathlib.Core.List.{IsPrefix};
 ghost use Rattle.lasso_parts.specs.Hashing.{text_hash};
 ghost use Rattle.lasso_parts.specs.Texts.{position_of, key_of};
-ghost use Rattle.lasso_shared.specs.History.{Lacks};
-ghost use Rattle.lasso_shared.specs.Notes.{Since};
-ghost use Rattle.lasso_shared.specs.Replies.{Get, Found};
-ghost use Rattle.lasso_shared.specs.Calls.{IsCall};
-ghost use Rattle.lasso_shared.specs.Views.{PassView, InternerId, IsSamePass, list_of, seen};
+ghost use Rattle.lasso_log.specs.History.{Lacks};
+ghost use Rattle.lasso_log.specs.Notes.{Since};
+ghost use Rattle.lasso_log.specs.Replies.{Get, Found};
+ghost use Rattle.lasso_log.specs.Calls.{IsCall};
+ghost use Rattle.lasso_log.specs.Views.{PassView, InternerId, IsSamePass, list_of, seen};
 ghost use Rattle.lasso_shared.specs.Shards.{IsShard, IsTally, IsWhole, shard_of};
 
-use crate::log::Pass;
 use crate::shards::Shards;
 use crate::shards::shard::{Shard, Tally};
 use crate::shards::tag::number_of;
+use lasso_log::log::Pass;
 use lasso_parts::index::hash_text;
 use lasso_parts::keys::Key;
 use std::hash::BuildHasher;

@@ -2,16 +2,16 @@
 ghost use Rattle.std.specs.Prelude.{◌≡◌, ◌<◌, ◌≢◌, [], ℕ, length, Some, IfOk, IfErr, slice_get};
 ghost use Rattle.lasso_parts.specs.declared.util.LassoErrorKind.TheVariants.{FailedAllocation};
 ghost use Rattle.lasso_parts.specs.Hashing.{text_hash};
-ghost use Rattle.lasso_shared.specs.History.{opened};
+ghost use Rattle.lasso_log.specs.History.{opened};
 ghost use Rattle.lasso_shared.specs.Shards.{IsShard, IsTally};
-ghost use Rattle.lasso_shared.specs.Views.{list_of};
+ghost use Rattle.lasso_log.specs.Views.{list_of};
 
-use crate::locks::{TaggedMutex, TaggedRwLock};
-use crate::log::{Log, NewLog, Opened, OpeningTexts, Spine};
 use crate::shards::Shards;
 use crate::shards::shard::{Shard, Tally};
 use crate::shards::tag::{SHARDS, ShardTag};
-use crate::shared_arena::bucket_list::BucketList;
+use lasso_log::locks::{TaggedMutex, TaggedRwLock};
+use lasso_log::log::{Log, NewLog, Opened, OpeningTexts, Spine};
+use lasso_log::shared_arena::bucket_list::BucketList;
 use lasso_parts::index::Index;
 use lasso_parts::keys::Key;
 use lasso_parts::util::LassoResult;

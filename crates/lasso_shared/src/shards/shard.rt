@@ -1,7 +1,7 @@
 //! What lies under the locks: a shard, and the spine with the shards' numbers.
-use crate::log::{Known, Spine};
 use crate::shards::tag::ShardTag;
 use counted_slot::Fits;
+use lasso_log::log::{Known, Spine};
 use lasso_parts::index::Index;
 use lasso_parts::keys::Key;
 use std::alloc::Global;

@@ -8,22 +8,22 @@ ghost use mathlib.Core.List.{IsPrefix};
 ghost use base.Fml.{Incl};
 ghost use Rattle.lasso_parts.specs.declared.util.LassoErrorKind.TheVariants.{FailedAllocation, MemoryLimitReached};
 ghost use Rattle.lasso_parts.specs.Hashing.{text_hash};
-ghost use Rattle.lasso_shared.specs.Calls.{IsCall, TakesBytes, Stores};
-ghost use Rattle.lasso_shared.specs.Chunks.{era_named};
-ghost use Rattle.lasso_shared.specs.Eras.{life};
-ghost use Rattle.lasso_shared.specs.History.{Event, Lacks};
-ghost use Rattle.lasso_shared.specs.Notes.{Since};
-ghost use Rattle.lasso_shared.specs.Pieces.{PieceView, RangeView};
-ghost use Rattle.lasso_shared.specs.Replies.{Copied, Intern, Interned};
+ghost use Rattle.lasso_log.specs.Calls.{IsCall, TakesBytes, Stores};
+ghost use Rattle.lasso_log.specs.Chunks.{era_named};
+ghost use Rattle.lasso_log.specs.Eras.{life};
+ghost use Rattle.lasso_log.specs.History.{Event, Lacks};
+ghost use Rattle.lasso_log.specs.Notes.{Since};
+ghost use Rattle.lasso_log.specs.Pieces.{PieceView, RangeView};
+ghost use Rattle.lasso_log.specs.Replies.{Copied, Intern, Interned};
 ghost use Rattle.lasso_shared.specs.Shards.{IsShard, shard_of};
-ghost use Rattle.lasso_shared.specs.Turns.{IsPastLimit};
-ghost use Rattle.lasso_shared.specs.Views.{PassView, InternerId, SpineView, IsSamePass, IsSameSpine, list_of, seen};
+ghost use Rattle.lasso_log.specs.Turns.{IsPastLimit};
+ghost use Rattle.lasso_log.specs.Views.{PassView, InternerId, SpineView, IsSamePass, IsSameSpine, list_of, seen};
 
-use crate::log::Pass;
 use crate::shards::Shards;
 use crate::shards::shard::{Shard, Tally};
 use crate::shards::tag::number_of;
-use crate::shared_arena::piece::{Piece, Range};
+use lasso_log::log::Pass;
+use lasso_log::shared_arena::piece::{Piece, Range};
 use lasso_parts::keys::Key;
 use lasso_parts::util::LassoResult;
 use std::hash::BuildHasher;
@@ -110,6 +110,7 @@ impl<K: Key, S: BuildHasher + Drop> Shards<K, S> {
         ensures same { IsSamePass pass.new pass.old }
         ensures event { IfOk result (λ p. (own : List Event) × Stores Copied text.now own × Since pass.old.number pass.old.notes pass.new.notes own) }
         ensures piece { IfOk result (λ p. (p.text ≡ text.now) × Incl (life (era_named self.now.log.chunks)) p.until) }
+        ensures lies { IfOk result (λ p. text.now ≢ [] → p.until ≡ life (era_named self.now.log.chunks)) }
         ensures refused { IfErr result (λ error. IsCall K.key_at self.now.log.opening (seen pass.old) (seen pass.new) pass.old.number (Intern Copied text.now) (Interned (Err error))) }
     {
         if text.is_empty() {

@@ -2,7 +2,7 @@
 ghost use Rattle.std.specs.Prelude.{◌≡◌, ◌<◌};
 ghost use Rattle.lasso_shared.specs.Shards.{shard_of};
 
-use crate::log::Log;
+use lasso_log::log::Log;
 use lasso_parts::keys::Key;
 use std::hash::BuildHasher;
 

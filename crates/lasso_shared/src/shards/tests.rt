@@ -6,11 +6,11 @@ mod copied;
 mod hashers;
 mod writers;
 
-use crate::log::Opened;
 use crate::shards::Shards;
 use crate::shards::tag::number_of;
 use crate::threaded::ThreadedRodeo;
 use hashers::{FirstState, SameState};
+use lasso_log::log::Opened;
 use lasso_parts::index::hash_text;
 use lasso_parts::keys::{Key, MicroSpur, Spur};
 use lasso_parts::util::{FixedState, LassoErrorKind};
@@ -95,6 +95,39 @@ fn shards_apart(rt: HostRuntime) -> Result<(), Fail> {
         || intern_and_set(&rt, &shards, "a", &flag),
     );
     guard.give(&rt, shard);
+    assert!(rt; seen);
+    Ok(())
+}
+
+// Looks a text up that is there, interns it in both ways, and then sets the flag.
+fn find_and_set<S: BuildHasher + Drop, R: Wait>(
+    rt: &R,
+    shards: &Shards<Spur, S>,
+    text: &'static str,
+    flag: &AtomicU64,
+) {
+    let mut pass = shards.log.pass();
+    let found = shards.get(rt, &mut pass, text).is_some();
+    let kept = shards.intern_static(rt, &mut pass, text).is_ok();
+    let copied = shards.intern_copied(rt, &mut pass, text).is_ok();
+    if found && kept && copied {
+        flag.store(1, Ordering::SeqCst);
+    }
+}
+
+#[test]
+fn a_text_that_is_there_is_found_beside_readers(rt: HostRuntime) -> Result<(), Fail> {
+    let shards = Shards::open(rt.alloc(), FirstState::new(), OPENED)?;
+    let mut pass = shards.log.pass();
+    shards.intern_static(&rt, &mut pass, "0")?;
+    let flag = AtomicU64::new(0);
+    let reading = shards.lock(3).read(&rt);
+    let (seen, ()) = join(
+        &rt,
+        || is_seen(&flag),
+        || find_and_set(&rt, &shards, "0", &flag),
+    );
+    reading.leave();
     assert!(rt; seen);
     Ok(())
 }

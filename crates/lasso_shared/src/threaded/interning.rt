@@ -1,12 +1,12 @@
 //! Interning texts in an interner that threads share, with a pass.
 ghost use Rattle.std.specs.Prelude.{◌≡◌};
-ghost use Rattle.lasso_shared.specs.History.{IsLegal, IsOpening};
-ghost use Rattle.lasso_shared.specs.Replies.{Copied, Static, Intern, Interned};
-ghost use Rattle.lasso_shared.specs.Calls.{IsCall};
-ghost use Rattle.lasso_shared.specs.Views.{PassView, InternerId, IsSamePass, seen};
+ghost use Rattle.lasso_log.specs.History.{IsLegal, IsOpening};
+ghost use Rattle.lasso_log.specs.Replies.{Copied, Static, Intern, Interned};
+ghost use Rattle.lasso_log.specs.Calls.{IsCall};
+ghost use Rattle.lasso_log.specs.Views.{PassView, InternerId, IsSamePass, seen};
 
-use crate::log::Pass;
 use crate::threaded::ThreadedRodeo;
+use lasso_log::log::Pass;
 use lasso_parts::keys::Key;
 use lasso_parts::util::LassoResult;
 use std::hash::BuildHasher;
@@ -14,9 +14,9 @@ use std::sync::Wait;
 
 impl<K: Key, S: BuildHasher + Drop> ThreadedRodeo<K, S> {
     /// The key of the text, of which a copy goes last in the list if it is not there. A text that the pass had seen is never
-    /// refused. A new one is refused where no bucket has room for its bytes and the memory limit leaves none; else where the key type
-    /// has no key for its position, and its bytes stay taken then; else for want of memory. A refusal by the limit or for want of
-    /// memory adds no event.
+    /// refused. A new one may be refused for want of memory; else it is where no bucket has room for its bytes and the memory limit
+    /// leaves none, or else where the key type has no key for its position, and its bytes stay taken then. A refusal by the limit or
+    /// for want of memory adds no event. It waits for those who write in the text's shard, and for the spine.
     ///
     /// ```rust
     /// let rodeo: SpurThreadedRodeo = ThreadedRodeo::default(rt.alloc())?;
@@ -42,8 +42,9 @@ impl<K: Key, S: BuildHasher + Drop> ThreadedRodeo<K, S> {
     }
 
     /// The key of the text, which goes last in the list if it is not there. The text is kept as it is, with no copy, so
-    /// the memory limit never refuses it. A text that the pass had seen is never refused. A new one is refused for
-    /// want of memory, else where the key type has no key for its position; no event is added then.
+    /// the memory limit never refuses it. A text that the pass had seen is never refused. A new one may be refused
+    /// for want of memory, else where the key type has no key for its position; no event is added then. It waits for those who write in
+    /// the text's shard, and for the spine.
     pub fn try_get_or_intern_static_as<R: Wait>(
         &self,
         rt: &R,

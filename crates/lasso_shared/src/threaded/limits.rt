@@ -1,12 +1,12 @@
 //! Usage and limit of an interner that threads share, with a pass.
 ghost use Rattle.std.specs.Prelude.{◌≡◌};
-ghost use Rattle.lasso_shared.specs.History.{IsLegal, IsOpening};
-ghost use Rattle.lasso_shared.specs.Replies.{Usage, MaxUsage, SetLimit, Number, Done};
-ghost use Rattle.lasso_shared.specs.Calls.{IsCall};
-ghost use Rattle.lasso_shared.specs.Views.{PassView, InternerId, IsSamePass, seen};
+ghost use Rattle.lasso_log.specs.History.{IsLegal, IsOpening};
+ghost use Rattle.lasso_log.specs.Replies.{Usage, MaxUsage, SetLimit, Number, Done};
+ghost use Rattle.lasso_log.specs.Calls.{IsCall};
+ghost use Rattle.lasso_log.specs.Views.{PassView, InternerId, IsSamePass, seen};
 
-use crate::log::Pass;
 use crate::threaded::ThreadedRodeo;
+use lasso_log::log::Pass;
 use lasso_parts::keys::Key;
 use lasso_parts::util::MemoryLimits;
 use std::hash::BuildHasher;

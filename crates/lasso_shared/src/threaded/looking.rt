@@ -1,18 +1,19 @@
 //! Reading an interner that threads share, with a pass.
 ghost use Rattle.std.specs.Prelude.{◌≡◌, option_map};
-ghost use Rattle.lasso_shared.specs.History.{IsLegal, IsOpening};
-ghost use Rattle.lasso_shared.specs.Replies.{Get, ContainsKey, Resolve, Len, Found, Flag, Resolved, Number};
-ghost use Rattle.lasso_shared.specs.Calls.{IsCall};
-ghost use Rattle.lasso_shared.specs.Views.{PassView, InternerId, IsSamePass, seen};
+ghost use Rattle.lasso_log.specs.History.{IsLegal, IsOpening};
+ghost use Rattle.lasso_log.specs.Replies.{Get, ContainsKey, Resolve, Len, Found, Flag, Resolved, Number};
+ghost use Rattle.lasso_log.specs.Calls.{IsCall};
+ghost use Rattle.lasso_log.specs.Views.{PassView, InternerId, IsSamePass, seen};
 
-use crate::log::Pass;
 use crate::threaded::ThreadedRodeo;
+use lasso_log::log::Pass;
 use lasso_parts::keys::Key;
 use std::hash::BuildHasher;
 use std::sync::Wait;
 
 impl<K: Key, S: BuildHasher + Drop> ThreadedRodeo<K, S> {
-    /// The key of the text, or `None` where it is not in the list. It takes no memory.
+    /// The key of the text, or `None` where it is not in the list. It takes no memory. It waits for those who write in the text's
+    /// shard, and for the spine where the text is missing.
     ///
     /// ```rust
     /// let rodeo: SpurThreadedRodeo = ThreadedRodeo::default(rt.alloc())?;

@@ -1,12 +1,12 @@
 //! The makers of an interner that threads share: by default or given capacity, limit and hasher.
 ghost use Rattle.std.specs.Prelude.{◌≡◌, ◌-◌, ◌^◌, [], IfOk, IfErr};
 ghost use Rattle.lasso_parts.specs.declared.util.LassoErrorKind.TheVariants.{FailedAllocation};
-ghost use Rattle.lasso_shared.specs.History.{opened};
-ghost use Rattle.lasso_shared.specs.Views.{InternerId};
+ghost use Rattle.lasso_log.specs.History.{opened};
+ghost use Rattle.lasso_log.specs.Views.{InternerId};
 
-use crate::log::Opened;
 use crate::shards::Shards;
 use crate::threaded::ThreadedRodeo;
+use lasso_log::log::Opened;
 use lasso_parts::keys::{Key, Spur};
 use lasso_parts::util::{Capacity, FixedState, LassoResult, MemoryLimits};
 use std::alloc::Global;

@@ -1,10 +1,10 @@
 //! Plain calls of an interner that threads share: each is the call of a new pass, which is gone afterwards. So a clause explains each
 //! reply by a legal history of its own; what holds across calls is said by the calls with a pass, and tested of these.
 ghost use Rattle.std.specs.Prelude.{◌≡◌, ◌≤◌, ℕ, option_map};
-ghost use Rattle.lasso_shared.specs.History.{IsOpening};
-ghost use Rattle.lasso_shared.specs.Replies.{Copied, Static, Intern, Get, Contains, ContainsKey, Resolve, Len, IsEmpty, Usage, MaxUsage, SetLimit, Interned, Found, Flag, Resolved, Number, Done};
-ghost use Rattle.lasso_shared.specs.Calls.{IsPlainCall};
-ghost use Rattle.lasso_shared.specs.Views.{InternerId};
+ghost use Rattle.lasso_log.specs.History.{IsOpening};
+ghost use Rattle.lasso_log.specs.Replies.{Copied, Static, Intern, Get, Contains, ContainsKey, Resolve, Len, IsEmpty, Usage, MaxUsage, SetLimit, Interned, Found, Flag, Resolved, Number, Done};
+ghost use Rattle.lasso_log.specs.Calls.{IsPlainCall};
+ghost use Rattle.lasso_log.specs.Views.{InternerId};
 
 use crate::threaded::ThreadedRodeo;
 use lasso_parts::keys::Key;
@@ -13,9 +13,10 @@ use std::hash::BuildHasher;
 use std::sync::Wait;
 
 impl<K: Key, S: BuildHasher + Drop> ThreadedRodeo<K, S> {
-    /// The key of the text, of which a copy goes last in the list if it is not there. A new one is refused where no bucket has room for
-    /// its bytes and the memory limit leaves none; else where the key type has no key for its position, and its bytes stay taken then;
-    /// else for want of memory. A refusal by the limit or for want of memory adds no event.
+    /// The key of the text, of which a copy goes last in the list if it is not there. A new one may be refused for want of memory; else it
+    /// is where no bucket has room for its bytes and the memory limit leaves none, or else where the key type has no key for its
+    /// position, and its bytes stay taken then. A refusal by the limit or for want of memory adds no event. It waits for those who write
+    /// in the text's shard, and for the spine.
     ///
     /// ```rust
     /// let rodeo: SpurThreadedRodeo = ThreadedRodeo::default(rt.alloc())?;
@@ -39,8 +40,8 @@ impl<K: Key, S: BuildHasher + Drop> ThreadedRodeo<K, S> {
     }
 
     /// The key of the text, which goes last in the list if it is not there. The text is kept as it is, with no copy, so
-    /// the memory limit never refuses it. A new one is refused for want of memory, else where the key type has no key for
-    /// its position; no event is added then.
+    /// the memory limit never refuses it. A new one may be refused for want of memory, else where the key type has no key
+    /// for its position; no event is added then. It waits for those who write in the text's shard, and for the spine.
     pub fn try_get_or_intern_static<R: Wait>(&self, rt: &R, text: &'static str) -> LassoResult<K>
         ensures call { IsPlainCall K.key_at self.now.opening (Intern Static text.now) (Interned result) }
         ensures opening { IsOpening K.key_at self.now.opening }
@@ -57,7 +58,8 @@ impl<K: Key, S: BuildHasher + Drop> ThreadedRodeo<K, S> {
         self.try_get_or_intern_static(rt, text)
     }
 
-    /// The key of the text, or `None` where it is not in the list. It takes no memory.
+    /// The key of the text, or `None` where it is not in the list. It takes no memory. It waits for those who write in the text's
+    /// shard, and for the spine where the text is missing.
     ///
     /// ```rust
     /// let rodeo: SpurThreadedRodeo = ThreadedRodeo::default(rt.alloc())?;
@@ -75,7 +77,7 @@ impl<K: Key, S: BuildHasher + Drop> ThreadedRodeo<K, S> {
         self.get_as(rt, &mut pass, text)
     }
 
-    /// Whether the text is in the list. It takes no memory.
+    /// Whether the text is in the list. It takes no memory, and waits as `get` does.
     pub fn contains<R: Wait>(&self, rt: &R, text: &str) -> bool
         ensures call { IsPlainCall K.key_at self.now.opening (Contains text.now) (Flag result) }
         ensures opening { IsOpening K.key_at self.now.opening }

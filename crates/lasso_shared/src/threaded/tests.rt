@@ -10,7 +10,7 @@ mod looking;
 mod passes;
 
 use super::ThreadedRodeo;
-use crate::log::Pass;
+use lasso_log::log::Pass;
 use lasso_parts::keys::{Key, Spur};
 use lasso_parts::util::{FixedState, LassoErrorKind, LassoResult};
 use std::marker::Model;

@@ -1,7 +1,7 @@
 use Rattle.std.proofs.Common.{◌≡◌, ◌<◌, ◌^◌, ◌+◌, ◌++◌, ◌∷◌, [], ◌∙◌, sym, ap, subst, ℕ, List, Some, None, arith}
 use Rattle.std.specs.Prelude.{is_some, nat_lt, if◌then◌else◌}
 use Rattle.lasso_parts.specs.Texts.{Text, position_of}
-use Rattle.lasso_shared.specs.Views.{list_of}
+use Rattle.lasso_log.specs.Views.{list_of}
 use Rattle.lasso_bench.specs.Names.{named}
 use Rattle.lasso_bench.proofs.Named.{LacksFrom, lacks_next, key_there}
 use Rattle.lasso_bench.proofs.shared.fill.Goals as goal

@@ -1,5 +1,5 @@
 use Rattle.std.proofs.Common.{◌≡◌}
-use Rattle.lasso_shared.specs.Views.{list_of}
+use Rattle.lasso_log.specs.Views.{list_of}
 use Rattle.lasso_bench.proofs.Named.{LacksFrom}
 use Rattle.lasso_bench.proofs.shared.fill.Given as goal
 

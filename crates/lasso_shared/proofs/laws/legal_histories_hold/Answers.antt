@@ -1,4 +1,4 @@
-use Rattle.lasso_shared.proofs.Legal.{holds_of_history}
+use Rattle.lasso_log.proofs.Legal.{holds_of_history}
 use Rattle.lasso_shared.proofs.laws.legal_histories_hold.Goals as goal
 
 pub returns : goal.returns

@@ -1,8 +1,8 @@
 -- Each call with the place at which its reply is read.
 use Rattle.std.proofs.Common.{◌<◌, ◌+◌, ℕ, List, [], ◌∷◌, refl, inl, inr, arith}
 use Rattle.std.proofs.lemmas.List.Elements.{All-cons, All-nil}
-use Rattle.lasso_shared.specs.Buckets.{CountedBucket, HasNoRoom}
-use Rattle.lasso_shared.specs.History.{Reserve, Charge, Append, Limit}
+use Rattle.lasso_log.specs.Buckets.{CountedBucket, HasNoRoom}
+use Rattle.lasso_log.specs.History.{Reserve, Charge, Append, Limit}
 use Rattle.std.proofs.lemmas.Bool.Decides.{nat_tests}
 use Rattle.std.proofs.lemmas.Map.Keys.{IsDistinct-from_apart}
 use Rattle.std.specs.Str.{bytes_eq}

@@ -5,12 +5,12 @@ use Rattle.std.proofs.lemmas.Option.{none-some}
 use Rattle.std.proofs.lemmas.Bool.{true≢false}
 use Rattle.std.proofs.lemmas.Map.Keys.{apart_from_distinct}
 use Rattle.std.specs.Str.{bytes_eq}
-use Rattle.lasso_shared.specs.Buckets.{CountedBucket}
-use Rattle.lasso_shared.specs.History.{Append, Limit, History, Totals, totals}
+use Rattle.lasso_log.specs.Buckets.{CountedBucket}
+use Rattle.lasso_log.specs.History.{Append, Limit, History, Totals, totals}
 use Rattle.lasso_parts.specs.Texts.{Text}
 use Rattle.lasso_parts.specs.declared.util.LassoErrorKind.TheVariants.{MemoryLimitReached, KeySpaceExhaustion, FailedAllocation}
-use Rattle.lasso_shared.specs.Replies.{Copied, Static, Question, Intern, Get, Iterate, Strings, Serialize, Freeze, SetLimit, Reply, Interned, Found, Done, Pairs, Listed, MayCopy, MayReply}
-use Rattle.lasso_shared.specs.Calls.{StoresAndAppends, Makes, events_of}
+use Rattle.lasso_log.specs.Replies.{Copied, Static, Question, Intern, Get, Iterate, Strings, Serialize, Freeze, SetLimit, Reply, Interned, Found, Done, Pairs, Listed, MayCopy, MayReply}
+use Rattle.lasso_log.specs.Calls.{StoresAndAppends, Makes, events_of}
 use Rattle.lasso_shared.specs.Example.{three_keys, a, bc, ddd, e}
 use Rattle.lasso_shared.specs.ExampleCalls.{opening, two, three, wider, Calls}
 use Rattle.lasso_shared.proofs.laws.wrong_calls_are_none.Goals as goal

@@ -5,7 +5,7 @@ use Rattle.std.proofs.lemmas.Bool.Decides.{nat_tests}
 use Rattle.std.proofs.lemmas.List.Elements.{All-cons, All-nil}
 use Rattle.std.proofs.lemmas.Map.Keys.{IsDistinct-from_apart}
 use Rattle.std.specs.Str.{bytes_eq}
-use Rattle.lasso_shared.specs.Buckets.{CountedBucket}
+use Rattle.lasso_log.specs.Buckets.{CountedBucket}
 use Rattle.lasso_shared.specs.Machine.{Step}
 use Rattle.lasso_shared.specs.Runs.{IsStart, IsRun, IsFilled, run}
 use Rattle.lasso_shared.specs.Example.{three_keys, shard_of, empty, two_calls, one_refused, keys_used_up, readings, steps}

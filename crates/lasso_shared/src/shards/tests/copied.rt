@@ -2,8 +2,8 @@
 ghost use Rattle.std.specs.Prelude.{◌≢◌};
 
 use super::{TEXTS, kept_slots};
-use crate::log::Opened;
 use crate::shards::Shards;
+use lasso_log::log::Opened;
 use lasso_parts::keys::{Key, MicroSpur, Spur};
 use lasso_parts::util::{FixedState, LassoErrorKind, LassoResult};
 use std::alloc::Global;

@@ -48,6 +48,50 @@ fn passes<R: Wait>(
     Ok(there)
 }
 
+// The same with copied texts.
+fn fills_copies<R: Wait>(
+    rt: &R,
+    shared: &ThreadedRodeo<Spur, ArmedState<'_>>,
+    gate: &Gate,
+    texts: &[&'static str],
+) -> LassoResult<()> {
+    shared.try_get_or_intern(rt, "00")?;
+    gate.arm();
+    for text in texts.iter() {
+        shared.try_get_or_intern(rt, *text)?;
+    }
+    Ok(())
+}
+
+// Copies `a` in while the other writer stops at the gate.
+fn passes_with_a_copy<R: Wait>(
+    rt: &R,
+    shared: &ThreadedRodeo<Spur, ArmedState<'_>>,
+    gate: &Gate,
+) -> LassoResult<bool> {
+    let there = gate.is_first_there();
+    shared.try_get_or_intern(rt, "a")?;
+    gate.pass();
+    Ok(there)
+}
+
+#[test]
+fn writers_of_copies_apart(rt: HostRuntime) -> Result<(), Fail> {
+    let texts = four_digits(rt.alloc())?;
+    let gate = Gate::new();
+    let shared = ThreadedRodeo::with_hasher(rt.alloc(), ArmedState::new(&gate))?;
+    let (filled, there) = join(
+        &rt,
+        || fills_copies(&rt, &shared, &gate, &texts),
+        || passes_with_a_copy(&rt, &shared, &gate),
+    );
+    filled?;
+    assert!(rt; there?);
+    assert!(rt; gate.is_met());
+    assert_eq!(rt; shared.len(), 1002);
+    Ok(())
+}
+
 #[test]
 fn writers_apart(rt: HostRuntime) -> Result<(), Fail> {
     let texts = four_digits(rt.alloc())?;

@@ -6,8 +6,8 @@ use crate::laws::{
     answered_keys_resolve, calls_tell_keys, keys_are_equal_where_texts_are, passes_share_keys,
     seen_texts_keep_keys,
 };
-use crate::log::Pass;
 use crate::threaded::ThreadedRodeo;
+use lasso_log::log::Pass;
 use lasso_parts::keys::{Key, Spur};
 use lasso_parts::util::{FixedState, LassoResult};
 use std::sync::Wait;

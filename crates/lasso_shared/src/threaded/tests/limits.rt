@@ -15,6 +15,8 @@ fn makers_open_with_capacity_and_limit(rt: HostRuntime) -> Result<(), Fail> {
     let shared = ThreadedRodeo::default(rt.alloc())?;
     assert_eq!(rt; shared.current_memory_usage(&rt), 4096);
     assert_eq!(rt; shared.max_memory_usage(&rt), usize::MAX);
+    // chunks of 32 and 32 cells for 50 texts
+    assert_eq!(rt; shared.capacity(), 64);
     let shared: ThreadedRodeo<MicroSpur, FixedState> = ThreadedRodeo::new(rt.alloc())?;
     assert_eq!(rt; shared.current_memory_usage(&rt), 4096);
     let shared: ThreadedRodeo<Spur, FixedState> = ThreadedRodeo::with_capacity(
@@ -31,11 +33,12 @@ fn makers_open_with_capacity_and_limit(rt: HostRuntime) -> Result<(), Fail> {
     assert_eq!(rt; shared.max_memory_usage(&rt), 10000);
     let shared: ThreadedRodeo<Spur, FixedState> = ThreadedRodeo::with_capacity_and_memory_limits(
         rt.alloc(),
-        Capacity::for_bytes(4),
+        Capacity::new(70, 4),
         MemoryLimits::new(12),
     )?;
     assert_eq!(rt; shared.current_memory_usage(&rt), 4);
     assert_eq!(rt; shared.max_memory_usage(&rt), 12);
+    assert_eq!(rt; shared.capacity(), 128);
     Ok(())
 }
 
@@ -67,19 +70,21 @@ fn capacity_is_room_for_texts(rt: HostRuntime) -> Result<(), Fail> {
         rt.alloc(),
         Capacity::for_strings(70),
     )?;
-    assert!(rt; shared.capacity() >= 70);
+    // chunks of 32, 32 and 64 cells
+    assert_eq!(rt; shared.capacity(), 128);
     for text in FIRST {
         shared.try_get_or_intern_static(&rt, text)?;
         shared.try_get_or_intern_static(&rt, "another")?;
     }
-    assert!(rt; shared.capacity() >= 101);
+    assert_eq!(rt; shared.capacity(), 128);
     let shared: ThreadedRodeo<Spur, FixedState> = ThreadedRodeo::with_capacity(
         rt.alloc(),
         Capacity::minimal(),
     )?;
     assert_eq!(rt; shared.current_memory_usage(&rt), 1);
+    assert_eq!(rt; shared.capacity(), 0);
     shared.try_get_or_intern_static(&rt, "p")?;
-    assert!(rt; shared.capacity() >= 1);
+    assert_eq!(rt; shared.capacity(), 32);
     Ok(())
 }
 

@@ -1,9 +1,9 @@
 //! Passes that meet and that are compared, where one has seen more than the other.
 ghost use Rattle.std.specs.Prelude.{◌≡◌, ◌≤◌, ◌<◌, ◌⊎◌, length};
-ghost use Rattle.lasso_shared.specs.Views.{list_of};
+ghost use Rattle.lasso_log.specs.Views.{list_of};
 
-use crate::log::Pass;
 use crate::threaded::ThreadedRodeo;
+use lasso_log::log::Pass;
 use lasso_parts::index::Texts;
 use lasso_parts::keys::{Key, Spur};
 use lasso_parts::util::FixedState;

@@ -2,8 +2,8 @@ use Rattle.std.proofs.Common.{◌≡◌, ◌+◌, ◌++◌, ◌∷◌, [], ℕ, 
 use Rattle.std.proofs.lemmas.List.{length-set}
 use Rattle.lasso_parts.specs.Texts.{Text, IsDistinct}
 use Rattle.lasso_parts.specs.Hashing.{text_hash}
-use Rattle.lasso_shared.specs.History.{Lacks}
-use Rattle.lasso_shared.specs.Views.{InternerId, list_of}
+use Rattle.lasso_log.specs.History.{Lacks}
+use Rattle.lasso_log.specs.Views.{InternerId, list_of}
 use Rattle.lasso_shared.specs.Shards.{shard_of, is_in, count_in, IsShardOf, Counts}
 use Rattle.lasso_shared.proofs.Stored.{key_of_last}
 use Rattle.lasso_shared.proofs.Whole.{list_good, is_home, exact_lacks, exact_shard, is_some_at, since_self, count_in_one, count_short, pushed, tally_pushed}

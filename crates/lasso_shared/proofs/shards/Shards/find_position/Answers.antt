@@ -3,9 +3,9 @@ use Rattle.std.specs.Prelude.{IfSome, IfNone, slice_get}
 use Rattle.lasso_parts.specs.Texts.{Text, IsDistinct}
 use Rattle.lasso_parts.specs.Hashing.{text_hash}
 use Rattle.lasso_parts.specs.Index.{IsFiled, Holds}
-use Rattle.lasso_shared.specs.Views.{InternerId, list_of}
+use Rattle.lasso_log.specs.Views.{InternerId, list_of}
 use Rattle.lasso_shared.specs.Shards.{shard_of}
-use Rattle.lasso_shared.proofs.Lengths.{texts_past}
+use Rattle.lasso_log.proofs.Lengths.{texts_past}
 use Rattle.lasso_shared.proofs.Whole.{list_good, filed_later, found_at, missed, is_home}
 use Rattle.lasso_shared.proofs.shards.Shards.find_position.Goals as goal
 

@@ -1,7 +1,7 @@
 use Rattle.std.proofs.Common.{ℕ, subst}
-use Rattle.lasso_shared.specs.Replies.{Copied, Intern, Interned}
-use Rattle.lasso_shared.specs.Calls.{IsCall}
-use Rattle.lasso_shared.specs.Views.{seen}
+use Rattle.lasso_log.specs.Replies.{Copied, Intern, Interned}
+use Rattle.lasso_log.specs.Calls.{IsCall}
+use Rattle.lasso_log.specs.Views.{seen}
 use Rattle.lasso_shared.proofs.Called.{called_later}
 use Rattle.lasso_shared.proofs.shards.Shards.intern_copied.Goals as goal
 

@@ -2,15 +2,15 @@ use Rattle.std.proofs.Common.{◌≡◌, ℕ, true, ◌∙◌, subst}
 use Rattle.std.specs.Prelude.{Err}
 use Rattle.lasso_parts.specs.Texts.{Text}
 use Rattle.lasso_parts.specs.Hashing.{text_hash}
-use Rattle.lasso_shared.specs.Calls.{IsCall}
-use Rattle.lasso_shared.specs.History.{Lacks}
-use Rattle.lasso_shared.specs.Notes.{Since}
-use Rattle.lasso_shared.specs.Replies.{Copied, Intern, Interned}
-use Rattle.lasso_shared.specs.Views.{list_of, seen}
+use Rattle.lasso_log.specs.Calls.{IsCall}
+use Rattle.lasso_log.specs.History.{Lacks}
+use Rattle.lasso_log.specs.Notes.{Since}
+use Rattle.lasso_log.specs.Replies.{Copied, Intern, Interned}
+use Rattle.lasso_log.specs.Views.{list_of, seen}
 use Rattle.lasso_shared.specs.Shards.{is_in, PutsLast}
 use Rattle.lasso_shared.proofs.Called.{called_later}
 use Rattle.lasso_shared.proofs.Stored.{called_put, called_wanting}
-use Rattle.lasso_shared.proofs.Tickets.{since_trans}
+use Rattle.lasso_log.proofs.Tickets.{since_trans}
 use Rattle.lasso_shared.proofs.Whole.{is_home, exact_lacks, since_both}
 use Rattle.lasso_shared.proofs.shards.Shards.intern_copied_held.Goals as goal
 

@@ -1,9 +1,9 @@
 use Rattle.std.proofs.Common.{◌≡◌, ℕ, [], true, refl, ◌∙◌, subst}
 use Rattle.lasso_parts.specs.Texts.{Text}
 use Rattle.lasso_parts.specs.Hashing.{text_hash}
-use Rattle.lasso_shared.specs.History.{Lacks}
-use Rattle.lasso_shared.specs.Replies.{Static}
-use Rattle.lasso_shared.specs.Views.{list_of}
+use Rattle.lasso_log.specs.History.{Lacks}
+use Rattle.lasso_log.specs.Replies.{Static}
+use Rattle.lasso_log.specs.Views.{list_of}
 use Rattle.lasso_shared.specs.Shards.{is_in, PutsLast}
 use Rattle.lasso_shared.proofs.Stored.{called_put, called_wanting}
 use Rattle.lasso_shared.proofs.Whole.{is_home, exact_lacks, since_both}

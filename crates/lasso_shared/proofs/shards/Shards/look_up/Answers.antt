@@ -1,8 +1,8 @@
 use Rattle.std.proofs.Common.{◌≡◌, true, sym, ap}
 use Rattle.std.specs.Prelude.{option_and_then}
 use Rattle.lasso_parts.specs.Hashing.{text_hash}
-use Rattle.lasso_shared.specs.History.{Lacks}
-use Rattle.lasso_shared.specs.Views.{list_of}
+use Rattle.lasso_log.specs.History.{Lacks}
+use Rattle.lasso_log.specs.Views.{list_of}
 use Rattle.lasso_shared.specs.Shards.{is_in}
 use Rattle.lasso_shared.proofs.Whole.{is_home, exact_lacks, since_both}
 use Rattle.lasso_shared.proofs.shards.Shards.look_up.Goals as goal

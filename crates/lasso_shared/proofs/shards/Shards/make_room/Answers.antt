@@ -2,8 +2,8 @@ use Rattle.std.proofs.Common.{◌≡◌, List, sym, ap, ◌∙◌, subst}
 use Rattle.lasso_parts.specs.Texts.{Text}
 use Rattle.lasso_parts.specs.Hashing.{text_hash}
 use Rattle.lasso_parts.specs.Index.{IsFiled}
-use Rattle.lasso_shared.specs.Views.{list_of}
-use Rattle.lasso_shared.proofs.Lengths.{texts_past}
+use Rattle.lasso_log.specs.Views.{list_of}
+use Rattle.lasso_log.proofs.Lengths.{texts_past}
 use Rattle.lasso_shared.proofs.Whole.{filed_later, reserved}
 use Rattle.lasso_shared.proofs.shards.Shards.make_room.Goals as goal
 

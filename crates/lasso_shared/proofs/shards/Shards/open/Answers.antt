@@ -1,4 +1,4 @@
-use Rattle.lasso_shared.proofs.Reading.{none_distinct}
+use Rattle.lasso_log.proofs.Reading.{none_distinct}
 use Rattle.lasso_shared.proofs.shards.Shards.open.Goals as goal
 
 pub open_with-log-requires-clause-distinct : goal.open_with-log-requires-clause-distinct

@@ -1,7 +1,7 @@
 use Rattle.std.proofs.Common.{◌≡◌, []}
 use mathlib.Core.List.{IsPrefix}
-use Rattle.lasso_shared.specs.Notes.{Since}
-use Rattle.lasso_shared.specs.Views.{IsSamePass}
+use Rattle.lasso_log.specs.Notes.{Since}
+use Rattle.lasso_log.specs.Views.{IsSamePass}
 use Rattle.lasso_shared.proofs.shards.Shards.put_last.Given as goal
 
 -- no event of its own was added yet, and the shard is as it was

@@ -1,6 +1,6 @@
 use Rattle.std.proofs.Common.{◌≡◌, length}
-use Rattle.lasso_shared.specs.Buckets.{bucket_size}
-use Rattle.lasso_shared.specs.Views.{list_of}
+use Rattle.lasso_log.specs.Buckets.{bucket_size}
+use Rattle.lasso_log.specs.Views.{list_of}
 use Rattle.lasso_shared.proofs.Stored.{charged_later, none_later, refused_later}
 use Rattle.lasso_shared.proofs.shards.Shards.reserve_or_charge.Goals as goal
 

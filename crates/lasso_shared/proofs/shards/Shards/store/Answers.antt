@@ -14,3 +14,8 @@ pub returns-then-is_empty-clause-piece : goal.returns-then-is_empty-clause-piece
 returns-then-is_empty-clause-piece g c =
     let zero : length c.args.text.now ≡ 0 = grind (arith, nat_tests, c.if-is_empty.true, c.is_empty.ensures) in
     (c.lasting.ensures.text ∙ sym (is_none c.args.text.now zero), λ a mem. absurd (ne-nil_of_mem mem c.lasting.ensures.until))
+
+pub returns-then-is_empty-clause-lies : goal.returns-then-is_empty-clause-lies
+returns-then-is_empty-clause-lies g c some =
+    let zero : length c.args.text.now ≡ 0 = grind (arith, nat_tests, c.if-is_empty.true, c.is_empty.ensures) in
+    absurd (some (is_none c.args.text.now zero))

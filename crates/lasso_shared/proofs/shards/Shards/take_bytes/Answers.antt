@@ -2,9 +2,9 @@ use Rattle.std.proofs.Common.{◌≡◌, ℕ, List, [], true, length, ap, ◌∙
 use Rattle.std.specs.Prelude.{OnErr}
 use Rattle.lasso_parts.specs.Texts.{Text}
 use Rattle.lasso_parts.specs.Hashing.{text_hash}
-use Rattle.lasso_shared.specs.History.{Lacks}
-use Rattle.lasso_shared.specs.Notes.{Since}
-use Rattle.lasso_shared.specs.Views.{list_of}
+use Rattle.lasso_log.specs.History.{Lacks}
+use Rattle.lasso_log.specs.Notes.{Since}
+use Rattle.lasso_log.specs.Views.{list_of}
 use Rattle.lasso_shared.specs.Shards.{is_in}
 use Rattle.lasso_shared.proofs.Stored.{takes_later_where, called_refused}
 use Rattle.lasso_shared.proofs.Whole.{is_home, exact_lacks, since_both}

@@ -1,6 +1,6 @@
 use Rattle.std.proofs.Common.{◌≡◌, ◌∙◌, ap, length, refl}
-use Rattle.lasso_shared.specs.Notes.{state}
-use Rattle.lasso_shared.specs.Views.{list_of}
+use Rattle.lasso_log.specs.Notes.{state}
+use Rattle.lasso_log.specs.Views.{list_of}
 use Rattle.lasso_shared.proofs.Called.{key_tested}
 use Rattle.lasso_shared.proofs.threaded.ThreadedRodeo.contains_key_as.Goals as goal
 

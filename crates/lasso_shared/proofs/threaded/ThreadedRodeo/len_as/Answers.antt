@@ -1,6 +1,6 @@
 use Rattle.std.proofs.Common.{◌≡◌, ◌∙◌, ap, length}
-use Rattle.lasso_shared.specs.Notes.{state}
-use Rattle.lasso_shared.specs.Views.{list_of}
+use Rattle.lasso_log.specs.Notes.{state}
+use Rattle.lasso_log.specs.Views.{list_of}
 use Rattle.lasso_shared.proofs.Called.{measured}
 use Rattle.lasso_shared.proofs.threaded.ThreadedRodeo.len_as.Goals as goal
 

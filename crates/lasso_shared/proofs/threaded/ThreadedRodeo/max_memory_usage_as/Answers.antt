@@ -1,6 +1,6 @@
 use Rattle.std.proofs.Common.{◌≡◌, ◌∙◌, ap}
-use Rattle.lasso_shared.specs.Notes.{state}
-use Rattle.lasso_shared.specs.Views.{InternerId}
+use Rattle.lasso_log.specs.Notes.{state}
+use Rattle.lasso_log.specs.Views.{InternerId}
 use Rattle.lasso_shared.proofs.Called.{limited}
 use Rattle.lasso_shared.proofs.threaded.ThreadedRodeo.max_memory_usage_as.Goals as goal
 

@@ -1,7 +1,7 @@
 use Rattle.std.proofs.Common.{ℕ, subst}
-use Rattle.lasso_shared.specs.Replies.{SetLimit, Done}
-use Rattle.lasso_shared.specs.Calls.{IsCall}
-use Rattle.lasso_shared.specs.Views.{seen}
+use Rattle.lasso_log.specs.Replies.{SetLimit, Done}
+use Rattle.lasso_log.specs.Calls.{IsCall}
+use Rattle.lasso_log.specs.Views.{seen}
 use Rattle.lasso_shared.proofs.Called.{replaced}
 use Rattle.lasso_shared.proofs.threaded.ThreadedRodeo.set_memory_limits_as.Goals as goal
 

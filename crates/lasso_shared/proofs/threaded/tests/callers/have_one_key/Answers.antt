@@ -1,8 +1,8 @@
 -- The two passes have seen one history, in which both texts have their keys.
 use Rattle.std.proofs.Common.{◌∙◌, sym, arith}
 use Rattle.std.proofs.lemmas.Bool.Decides.{nat_tests}
-use Rattle.lasso_shared.specs.Replies.{Static}
-use Rattle.lasso_shared.specs.Views.{seen}
+use Rattle.lasso_log.specs.Replies.{Static}
+use Rattle.lasso_log.specs.Views.{seen}
 use Rattle.lasso_shared.proofs.threaded.tests.callers.have_one_key.Goals as goal
 
 pub returns-clause-same : goal.returns-clause-same

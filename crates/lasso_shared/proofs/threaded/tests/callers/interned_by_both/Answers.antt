@@ -1,8 +1,8 @@
 -- The text has its key where the first call ends, and the other pass has seen that since the two met. So the second call answers it.
 use Rattle.std.proofs.Common.{◌≡◌, ◌∙◌, ap, Ok}
 use Rattle.std.specs.Result.{result_ok}
-use Rattle.lasso_shared.specs.Replies.{Static}
-use Rattle.lasso_shared.specs.Views.{seen}
+use Rattle.lasso_log.specs.Replies.{Static}
+use Rattle.lasso_log.specs.Views.{seen}
 use Rattle.lasso_shared.proofs.CallerLaws.{history_past}
 use Rattle.lasso_shared.proofs.threaded.tests.callers.interned_by_both.Goals as goal
 

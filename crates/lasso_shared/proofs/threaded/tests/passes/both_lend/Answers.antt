@@ -1,7 +1,7 @@
 use Rattle.std.proofs.Common.{◌≡◌, ◌∙◌, sym, ap, subst, List, slice_get, Some}
 use Rattle.std.specs.Prelude.{bytes_eq}
 use Rattle.lasso_parts.specs.Texts.{Text}
-use Rattle.lasso_shared.specs.Views.{list_of}
+use Rattle.lasso_log.specs.Views.{list_of}
 use Rattle.lasso_shared.proofs.Alike.{lists_alike, read_alike}
 use Rattle.lasso_shared.proofs.threaded.tests.passes.both_lend.Goals as goal
 

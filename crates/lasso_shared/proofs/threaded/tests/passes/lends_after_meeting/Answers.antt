@@ -1,6 +1,6 @@
 use Rattle.std.proofs.Common.{◌<◌, ◌≤◌, ◌∙◌, sym, subst, List, length, arith}
 use Rattle.lasso_parts.specs.Texts.{Text}
-use Rattle.lasso_shared.specs.Views.{list_of}
+use Rattle.lasso_log.specs.Views.{list_of}
 use Rattle.lasso_shared.proofs.Alike.{seen_by_either}
 use Rattle.lasso_shared.proofs.threaded.tests.passes.lends_after_meeting.Goals as goal
 

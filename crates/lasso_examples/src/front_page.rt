@@ -1,0 +1,133 @@
+//! The examples of the front page.
+use lasso::interface::Interner;
+use lasso::{
+    JsonError, Key, LassoResult, Rodeo, Spur, SpurRodeo, SpurRodeoReader, SpurRodeoResolver,
+};
+use serde_json::Value;
+use std::sync::Wait;
+use std::test::Fail;
+use std::thread;
+
+#[test]
+fn one_interner(rt: HostRuntime) -> Result<(), Fail> {
+    let mut rodeo = Rodeo::default(rt.alloc())?;
+    let hello = rodeo.try_get_or_intern("Hello, world!")?;
+    let again = rodeo.try_get_or_intern("Hello, world!")?;
+    assert!(rt; hello == again);
+    assert_eq!(rt; hello.into_usize(), 0);
+    assert_eq!(rt; rodeo.try_resolve(hello), Some("Hello, world!"));
+    assert_eq!(rt; rodeo.len(), 1);
+    assert!(rt; rodeo.get("Hello").is_none());
+
+    let saved = rodeo.serialize(rt.alloc())?.to_string(rt.alloc())?;
+    let value = Value::from_str(rt.alloc(), saved.as_str())?;
+    let loaded = SpurRodeo::deserialize(rt.alloc(), &value)?;
+    assert_eq!(rt; loaded.get("Hello, world!"), Some(hello));
+    Ok(())
+}
+
+#[test]
+fn freezing_to_a_reader(rt: HostRuntime) -> Result<(), Fail> {
+    let mut rodeo = Rodeo::default(rt.alloc())?;
+    let hello = rodeo.try_get_or_intern("Hello, world!")?;
+    let reader: SpurRodeoReader = rodeo.into_reader();
+    assert_eq!(rt; reader.try_resolve(hello), Some("Hello, world!"));
+    let found = reader.get("Hello, world!").ok_or("not there")?;
+    assert!(rt; found == hello);
+    assert!(rt; reader.get("Goodbye!").is_none());
+    Ok(())
+}
+
+#[test]
+fn freezing_to_a_resolver(rt: HostRuntime) -> Result<(), Fail> {
+    let mut rodeo = Rodeo::default(rt.alloc())?;
+    let hello = rodeo.try_get_or_intern("Hello, world!")?;
+    let resolver: SpurRodeoResolver = rodeo.into_resolver();
+    assert_eq!(rt; resolver.try_resolve(hello), Some("Hello, world!"));
+    assert_eq!(rt; resolver.len(), 1);
+    Ok(())
+}
+
+#[test]
+fn from_an_iterator(rt: HostRuntime) -> Result<(), Fail> {
+    let colours = ["red", "green", "red", "blue"];
+    let rodeo: SpurRodeo = Rodeo::from_iter(rt.alloc(), colours)?;
+    assert_eq!(rt; rodeo.len(), 3);
+    assert!(rt; rodeo.contains("red"));
+    assert!(rt; rodeo.contains("green"));
+    assert!(rt; rodeo.contains("blue"));
+    assert!(rt; !rodeo.contains("yellow"));
+    Ok(())
+}
+
+#[test]
+fn walking(rt: HostRuntime) -> Result<(), Fail> {
+    let rodeo: SpurRodeo = Rodeo::from_iter(rt.alloc(), ["red", "green", "blue"])?;
+    let mut lines = String::new(rt.alloc());
+    for (key, text) in &rodeo {
+        lines.push_str(format!(in rt.alloc(); "{} {text}\n", key.into_usize())?.as_str())?;
+    }
+    assert_eq!(rt; lines.as_str(), "0 red\n1 green\n2 blue\n");
+    let mut strings = rodeo.strings();
+    assert_eq!(rt; strings.next_back(), Some("blue"));
+    assert_eq!(rt; strings.next(), Some("red"));
+    assert_eq!(rt; strings.len(), 1);
+    Ok(())
+}
+
+#[test]
+fn sharing_a_reader_between_two_threads(rt: HostRuntime) -> Result<(), Fail> {
+    let mut rodeo = Rodeo::default(rt.alloc())?;
+    let hello = rodeo.try_get_or_intern("Hello, world!")?;
+    let reader = rodeo.into_reader();
+    let (here, there) = thread::join(
+        &rt,
+        || reader.try_resolve(hello) == Some("Hello, world!"),
+        || reader.get("Hello, world!").is_some() && reader.get("Goodbye!").is_none(),
+    );
+    assert!(rt; here);
+    assert!(rt; there);
+    Ok(())
+}
+
+/// How many different words the line has.
+fn count_words<K: Key, R: Wait, I: Interner<K>>(
+    rt: &R,
+    interner: &mut I,
+    line: &str,
+) -> LassoResult<usize> {
+    for word in line.split_whitespace() {
+        interner.try_get_or_intern(rt, word)?;
+    }
+    Ok(interner.len())
+}
+
+#[test]
+fn taking_any_interner(rt: HostRuntime) -> Result<(), Fail> {
+    let mut rodeo: SpurRodeo = Rodeo::new(rt.alloc())?;
+    assert_eq!(rt;
+        count_words::<Spur, _, _>(&rt, &mut rodeo, "to be or not to be")?,
+        4
+    );
+    let mut boxed = Box::new(rt.alloc(), rodeo)?;
+    assert_eq!(rt;
+        count_words::<Spur, _, _>(&rt, &mut boxed, "that is the question")?,
+        8
+    );
+    Ok(())
+}
+
+#[test]
+fn saved_and_loaded(rt: HostRuntime) -> Result<(), Fail> {
+    let mut rodeo = SpurRodeo::default(rt.alloc())?;
+    rodeo.extend(["red", "green", "blue"])?;
+    let saved = rodeo.serialize(rt.alloc())?.to_string(rt.alloc())?;
+
+    let value = Value::from_str(rt.alloc(), saved.as_str())?;
+    let loaded = SpurRodeo::deserialize(rt.alloc(), &value)?;
+    assert_eq!(rt; loaded.get("green"), rodeo.get("green"));
+    let damaged = Value::from_str(rt.alloc(), r#"["red", "green", "red"]"#)?;
+    let fault = SpurRodeo::deserialize(rt.alloc(), &damaged).err();
+    assert_eq!(rt; fault, Some(JsonError::Doubled(2)));
+    Ok(())
+}

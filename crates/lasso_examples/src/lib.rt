@@ -1,0 +1,20 @@
+//! Examples of the use of `lasso`, as a crate beside it has them: those of the front page, and those in the documents of the calls, where
+//! each stands in a test as it is there.
+#![tactic(auto)]
+
+#[cfg(test)]
+mod front_page;
+#[cfg(test)]
+mod frozen;
+#[cfg(test)]
+mod looking_up;
+#[cfg(test)]
+mod making;
+#[cfg(test)]
+mod own_key;
+#[cfg(test)]
+mod parts;
+#[cfg(test)]
+mod shared;
+#[cfg(test)]
+mod walks;

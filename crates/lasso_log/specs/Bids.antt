@@ -1,0 +1,21 @@
+-- What a pass has in hand that offers a note of a turn: the log that it has seen, the offer, and its ticket's pen.
+use Rattle.std.specs.Prelude.{◌≡◌, ℕ, List, Option}
+use mathlib.Core.List.{IsPrefix}
+use Rattle.logbook.specs.Pages.{Book, Nib, may_write}
+use Rattle.lasso_log.specs.Notes.{NoteView, first_note, IsOpened, IsWord, opening_of, notes_of, ticket_of}
+use Rattle.lasso_log.specs.Book.{Moving, May, Lets}
+
+-- The note may be added while the turn word has its old value. `before` is what the note's pass had seen, and `given` a log in which that
+-- is so; what is in hand has seen both, and all of it is of one book.
+pub record IsBid {Key : Type 0} (keys : ℕ → Option Key) (before given : List NoteView) (old : ℕ) (seen : List NoteView) (book : Book) (names : List ℕ) (pen : Book) (nib : Nib) (offered : List ℕ) (ask : NoteView) (state : Option ℕ) : Type 0 where
+  pub pen_of : pen ≡ book
+  pub names_of : offered ≡ names
+  pub begun : IsOpened before × IsPrefix before seen
+  pub told : IsOpened given × IsPrefix given seen
+  pub right : nib.right ≡ may_write
+  pub ticket : ask.ticket ≡ nib.key
+  pub own : nib.key ≡ ticket_of ask.by (notes_of before)
+  pub word : IsWord (notes_of given) 1 1
+  pub moving : Moving ask.ticket ask.event 1 1 nib.value
+  pub may : May keys (opening_of given) (notes_of given) 1 1 old ask.event
+  pub lets : Lets keys (first_note given) (notes_of given) 1 1 old ask state

@@ -1,0 +1,35 @@
+-- What contracts see of a range and of a piece.
+use Rattle.std.specs.Prelude.{◌≡◌, ℕ, ◌^◌, ◌<◌, List, length, IsUtf8}
+use denote.RawPtr.{Ptr, block_ptr}
+use base.Stored.{Coded, coded×, coded_ℕ, coded_list, coded_via}
+use Rattle.lasso_parts.specs.Cells.{LeadsToBlock}
+use Rattle.lasso_log.specs.declared.shared_arena.rights.Free.{Free}
+use Rattle.lasso_log.specs.declared.shared_arena.rights.Lent.{Lent}
+
+-- the bytes of a range: the era that they are lent for, and where they lie
+pub record RangeView : Type 0 where
+  pub era : ℕ
+  pub block : ℕ
+  pub start : ℕ
+  pub len : ℕ
+
+-- a text, and the lifetime up to whose end it lies there
+pub record PieceView : Type 0 where
+  pub until : List ℕ
+  pub text : List ℕ
+
+abbrev pub piece_coded : Coded PieceView
+piece_coded = coded_via (coded× (coded_list coded_ℕ) (coded_list coded_ℕ)) (λ (p : PieceView). (p.until, p.text)) (λ x y e i. record { until = (e i).0; text = (e i).1 })
+
+-- these are the two words of a range
+pub record IsRange (r : Free) (ptr : Ptr) (len : ℕ) : Type 0 where
+  pub at : ptr ≡ block_ptr r.block r.start
+  pub count : len ≡ r.len
+
+-- these are the two words of a piece
+pub record IsPiece (l : Lent) (ptr : Ptr) (len : ℕ) : Type 0 where
+  pub at : ptr ≡ l.at
+  pub block : LeadsToBlock ptr
+  pub count : len ≡ length l.bytes
+  pub small : len < 2 ^ 63
+  pub text : IsUtf8 l.bytes

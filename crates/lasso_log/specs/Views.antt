@@ -1,0 +1,87 @@
+-- What contracts see of a pass, of a log and of a spine.
+use Rattle.std.specs.Prelude.{◌≡◌, ℕ, ◌+◌, List, [], ◌∷◌, ◌++◌}
+use mathlib.Core.List.{IsPrefix}
+use base.Stored.{Coded, coded×, coded_ℕ, coded_list, coded_via}
+use Rattle.logbook.specs.Pages.{Book, book_coded}
+use Rattle.lasso_log.specs.History.{History, Append, Totals}
+use Rattle.lasso_parts.specs.Texts.{Text}
+use Rattle.lasso_log.specs.Notes.{NoteView, note_coded, totals_coded, history, state, Since}
+
+-- which interner a thing is of: its book, its names (of its era and of the chunks that its texts lie in), and what it opened with
+pub record InternerId : Type 0 where
+  pub book : Book
+  pub chunks : List ℕ
+  pub opening : Totals
+
+abbrev pub interner_id_coded : Coded InternerId
+interner_id_coded = coded_via (coded× book_coded (coded× (coded_list coded_ℕ) totals_coded)) (λ (o : InternerId). (o.book, (o.chunks, o.opening))) (λ x y e i. record { book = (e i).0; chunks = (e i).1.0; opening = (e i).1.1 })
+
+abbrev pub interner_id : Book → List ℕ → Totals → InternerId
+interner_id book chunks opening = record { book = book; chunks = chunks; opening = opening }
+
+-- a pass: its number, its interner, and the notes that it has seen past the opening
+pub record PassView : Type 0 where
+  pub number : ℕ
+  pub of : InternerId
+  pub notes : List NoteView
+
+abbrev pub pass_view_coded : Coded PassView
+pass_view_coded = coded_via (coded× coded_ℕ (coded× interner_id_coded (coded_list note_coded))) (λ (s : PassView). (s.number, (s.of, s.notes))) (λ x y e i. record { number = (e i).0; of = (e i).1.0; notes = (e i).1.1 })
+
+-- the history that it has seen
+abbrev pub seen : PassView → History
+seen s = history s.notes
+
+-- the pass is the same one: its number and its interner
+abbrev pub IsSamePass : PassView → PassView → Type 0
+IsSamePass now before = (now.number ≡ before.number) × (now.of ≡ before.of)
+
+-- the list at the end of these notes of an interner
+abbrev pub list_of : InternerId → List NoteView → List Text
+list_of of notes = (state of.opening notes).texts
+
+-- turns that were seen: their interner, the notes, and the numbers of these
+pub record TurnsView : Type 0 where
+  pub of : InternerId
+  pub notes : List NoteView
+  pub turns : ℕ
+  pub doubling : ℕ
+  pub usage : ℕ
+  pub limit : ℕ
+  pub count : ℕ
+
+abbrev pub turns_view_coded : Coded TurnsView
+turns_view_coded =
+    coded_via (coded× interner_id_coded (coded× (coded_list note_coded) (coded× coded_ℕ (coded× coded_ℕ (coded× coded_ℕ (coded× coded_ℕ coded_ℕ))))))
+    (λ (t : TurnsView). (t.of, (t.notes, (t.turns, (t.doubling, (t.usage, (t.limit, t.count)))))))
+    (λ x y e i. record { of = (e i).0; notes = (e i).1.0; turns = (e i).1.1.0; doubling = (e i).1.1.1.0; usage = (e i).1.1.1.1.0; limit = (e i).1.1.1.1.1.0; count = (e i).1.1.1.1.1.1 })
+
+-- a history that was seen: its interner, and its notes past the opening
+pub record KnownView : Type 0 where
+  pub of : InternerId
+  pub notes : List NoteView
+
+abbrev pub known_view_coded : Coded KnownView
+known_view_coded = coded_via (coded× interner_id_coded (coded_list note_coded)) (λ (k : KnownView). (k.of, k.notes)) (λ x y e i. record { of = (e i).0; notes = (e i).1 })
+
+-- a spine: how many slots it keeps for texts to come, its interner, the notes that it has seen of the list, and the turns
+pub record SpineView : Type 0 where
+  pub kept : ℕ
+  pub of : InternerId
+  pub notes : List NoteView
+  pub turns : TurnsView
+
+abbrev pub spine_view_coded : Coded SpineView
+spine_view_coded = coded_via (coded× coded_ℕ (coded× interner_id_coded (coded× (coded_list note_coded) turns_view_coded))) (λ (s : SpineView). (s.kept, (s.of, (s.notes, s.turns)))) (λ x y e i. record { kept = (e i).0; of = (e i).1.0; notes = (e i).1.1.0; turns = (e i).1.1.1 })
+
+-- the spine has seen the same, and is of the same interner
+abbrev pub IsSameSpine : SpineView → SpineView → Type 0
+IsSameSpine now before = (now.of ≡ before.of) × (now.notes ≡ before.notes)
+
+-- an append: the one event of its pass, which puts the text last in the list that the spine had seen, in one of its slots
+pub record IsAppended (of : InternerId) (before after : PassView) (spine_before spine_after : SpineView) (text : Text) : Type 0 where
+  pub event : Since before.number before.notes after.notes (Append text ∷ [])
+  pub list : list_of of after.notes ≡ list_of of spine_before.notes ++ text ∷ []
+  pub spine : spine_after.notes ≡ after.notes
+  pub begins : IsPrefix spine_before.notes spine_after.notes
+  pub kept : spine_after.kept + 1 ≡ spine_before.kept

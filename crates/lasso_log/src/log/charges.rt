@@ -1,0 +1,195 @@
+//! What a spine does where no bucket has room for a text: it adds one, or the limit refuses the text.
+ghost use Rattle.std.specs.Prelude.{◌≡◌, ◌≢◌, ◌+◌, ◌<◌, ◌≤◌, ◌^◌, ◌⊎◌, ◌∷◌, [], length, Some, IsSomeAnd, IfOk, IfErr, OnOk, OnErr};
+ghost use Rattle.lasso_parts.specs.declared.util.LassoErrorKind.TheVariants.{FailedAllocation, MemoryLimitReached};
+ghost use Rattle.lasso_log.specs.Buckets.{bucket_size};
+ghost use Rattle.lasso_log.specs.Chunks.{era_named};
+ghost use Rattle.lasso_log.specs.History.{Charge, IsLegal};
+ghost use Rattle.lasso_log.specs.LentBuckets.{LentBucket};
+ghost use Rattle.lasso_log.specs.Notes.{Since, state};
+ghost use Rattle.lasso_log.specs.Pieces.{RangeView};
+ghost use Rattle.lasso_log.specs.SharedBuckets.{SharedView, IsNoteOf, site_of, names_with_book};
+ghost use Rattle.lasso_log.specs.Turns.{NoneHasRoom, IsPastLimit};
+ghost use Rattle.lasso_log.specs.Views.{PassView, InternerId, SpineView, TurnsView, IsSamePass, IsSameSpine, list_of, seen};
+
+use crate::log::pass::Pass;
+use crate::log::spine::Spine;
+use crate::log::turns::Turns;
+use crate::log::words::Log;
+use crate::shared_arena::bucket::SharedBucket;
+use crate::shared_arena::bucket_list::BucketList;
+use crate::shared_arena::new_bucket::NewBucket;
+use crate::shared_arena::piece::Range;
+use lasso_parts::keys::Key;
+use lasso_parts::util::{LassoError, LassoErrorKind, LassoResult};
+use std::alloc::Global;
+use std::hint::spin_loop;
+use std::sync::Wait;
+
+impl<K: Key> Log<K> {
+    /// Adds a bucket for so many bytes, at least one, for which none of the buckets that the spine's turns know has room, and gives the
+    /// right to fill just these bytes, the first of the bucket that the event's note tells of. The bucket has the size that *store* gives. It
+    /// is refused by the limit, at one step at which the list of texts is as long as the spine's, or for want of memory, which is told of more than 2^64 - 3 buckets too; no event is
+    /// added then. It waits where the turns are not the spine's, and does not return where the turn word is 2^64 - 1. That the bucket is in the
+    /// list from then on is tested, and not proved.
+    pub fn charge<R: Wait>(
+        &self,
+        rt: &R,
+        alloc: Global,
+        list: &BucketList<K>,
+        spine: &mut Spine<K>,
+        pass: &mut Pass<K>,
+        bytes: u64,
+    ) -> LassoResult<Range>
+        requires of { (pass.old.of ≡ self.now) × (spine.old.of ≡ self.now) × (list.now ≡ names_with_book self.now) }
+        requires some { bytes ≢ 0 }
+        requires room { NoneHasRoom (state self.now.opening pass.old.notes) spine.old.turns.count bytes }
+        ensures same { IsSamePass pass.new pass.old × IsSameSpine spine.new spine.old × (spine.new.kept ≡ spine.old.kept) }
+        ensures event { IfOk result (λ r. IsSomeAnd (bucket_size spine.old.turns.doubling spine.old.turns.usage spine.old.turns.limit bytes) (λ size. Since pass.old.number pass.old.notes pass.new.notes (Charge size bytes ∷ []))) }
+        ensures range { IfOk result (λ r. (r.era ≡ era_named self.now.chunks) × (r.len ≡ bytes)) }
+        ensures bucket { IfOk result (λ r. IsSomeAnd (bucket_size spine.old.turns.doubling spine.old.turns.usage spine.old.turns.limit bytes) (λ size. IsNoteOf pass.old.number pass.new.notes (Charge size bytes) (site_of r))) }
+        ensures turns { OnOk result ((spine.new.turns.notes ≡ pass.new.notes) × (spine.new.turns.count ≡ spine.old.turns.count + 1)) }
+        ensures refused { IfErr result (λ error. (error ≡ FailedAllocation) ⊎ ((error ≡ MemoryLimitReached) × IsPastLimit self.now.opening pass.old.notes pass.new.notes (length (list_of self.now spine.old.notes)) bytes)) }
+        ensures err { OnErr result (Since pass.old.number pass.old.notes pass.new.notes [] × (spine.new ≡ spine.old)) }
+        ensures legal { IsLegal K.key_at self.now.opening (seen pass.new) }
+    {
+        let (range, bucket) = self.charge_new(rt, alloc, list, spine, pass, bytes)?;
+        list.push_front(rt, bucket);
+        Ok(range)
+    }
+
+    // The same, but for putting the bucket into the list, where room for it is made before the step that adds it.
+    fn charge_new<R: Wait>(
+        &self,
+        rt: &R,
+        alloc: Global,
+        list: &BucketList<K>,
+        spine: &mut Spine<K>,
+        pass: &mut Pass<K>,
+        bytes: u64,
+    ) -> LassoResult<(Range, SharedBucket<K>)>
+        requires of { (pass.old.of ≡ self.now) × (spine.old.of ≡ self.now) }
+        requires some { bytes ≢ 0 }
+        requires room { NoneHasRoom (state self.now.opening pass.old.notes) spine.old.turns.count bytes }
+        ensures same { IsSamePass pass.new pass.old × IsSameSpine spine.new spine.old × (spine.new.kept ≡ spine.old.kept) }
+        ensures event { IfOk result (λ r. Since pass.old.number pass.old.notes pass.new.notes (Charge r.1.size bytes ∷ []) × (bucket_size spine.old.turns.doubling spine.old.turns.usage spine.old.turns.limit bytes ≡ Some r.1.size)) }
+        ensures range { IfOk result (λ r. (r.0.era ≡ era_named self.now.chunks) × (site_of r.0 ≡ r.1.site) × (r.0.len ≡ bytes)) }
+        ensures note { IfOk result (λ r. IsNoteOf pass.old.number pass.new.notes (Charge r.1.size bytes) (site_of r.0)) }
+        ensures bucket { IfOk result (λ r. (r.1.of ≡ self.now) × (r.1.position ≡ spine.old.turns.count)) }
+        ensures turns { OnOk result ((spine.new.turns.notes ≡ pass.new.notes) × (spine.new.turns.count ≡ spine.old.turns.count + 1)) }
+        ensures refused { IfErr result (λ error. (error ≡ FailedAllocation) ⊎ ((error ≡ MemoryLimitReached) × IsPastLimit self.now.opening pass.old.notes pass.new.notes (length (list_of self.now spine.old.notes)) bytes)) }
+        ensures err { OnErr result (Since pass.old.number pass.old.notes pass.new.notes [] × (spine.new ≡ spine.old)) }
+        ensures legal { IsLegal K.key_at self.now.opening (seen pass.new) }
+    {
+        let Some(size) = spine.turns.bucket_for(bytes) else {
+            self.show_limit(rt, spine, pass, bytes);
+            pass.show_legal();
+            return Err(LassoError::new(LassoErrorKind::MemoryLimitReached));
+        };
+        pass.show_legal();
+        if spine.turns.count >= u64::MAX - 2 {
+            return Err(LassoError::new(LassoErrorKind::FailedAllocation));
+        }
+        list.reserve_one()?;
+        let mut bucket = self.new_bucket(rt, alloc, size)?;
+        let Some(range) = bucket.reserve(bytes as usize) else {
+            unreachable!()
+        };
+        let shared = self.charge_with(rt, spine, bucket, pass);
+        pass.show_legal();
+        Ok((range, shared))
+    }
+
+    // A bucket that no history has yet, whose memory the log has.
+    fn new_bucket<R: Wait>(&self, rt: &R, alloc: Global, size: u64) -> LassoResult<NewBucket>
+        requires { size ≢ 0 }
+        ensures bucket { IfOk result (λ b. (b.site.era ≡ era_named self.now.chunks) × (b.size ≡ size) × (b.used ≡ 0)) }
+        ensures refused { IfErr result (λ error. error ≡ FailedAllocation) }
+    {
+        let (taken, mut holdings) = self.memory.holdings.take(rt);
+        let made = NewBucket::with_capacity(
+            alloc,
+            self.memory.chunks.era(),
+            &mut holdings,
+            size as usize,
+        );
+        taken.give(rt, holdings);
+        made
+    }
+
+    // Adds the bucket, and counts it in the spine's turns.
+    fn charge_with<R: Wait>(
+        &self,
+        rt: &R,
+        spine: &mut Spine<K>,
+        bucket: NewBucket,
+        pass: &mut Pass<K>,
+    ) -> SharedBucket<K>
+        requires of { (pass.old.of ≡ self.now) × (spine.old.of ≡ self.now) }
+        requires era { bucket.site.era ≡ era_named self.now.chunks }
+        requires some { bucket.used ≢ 0 }
+        requires room { NoneHasRoom (state self.now.opening pass.old.notes) spine.old.turns.count bucket.used }
+        requires size { bucket_size spine.old.turns.doubling spine.old.turns.usage spine.old.turns.limit bucket.used ≡ Some bucket.size }
+        requires within { spine.old.turns.usage + bucket.size ≤ spine.old.turns.limit }
+        requires more { spine.old.turns.count + 2 < 2 ^ 64 }
+        ensures same { IsSamePass pass.new pass.old × IsSameSpine spine.new spine.old × (spine.new.kept ≡ spine.old.kept) }
+        ensures event { Since pass.old.number pass.old.notes pass.new.notes (Charge bucket.size bucket.used ∷ []) }
+        ensures note { IsNoteOf pass.old.number pass.new.notes (Charge bucket.size bucket.used) bucket.site }
+        ensures bucket { (result.of ≡ self.now) × (result.position ≡ spine.old.turns.count) × (result.site ≡ bucket.site) × (result.size ≡ bucket.size) }
+        ensures turns { (spine.new.turns.notes ≡ pass.new.notes) × (spine.new.turns.count ≡ spine.old.turns.count + 1) }
+    {
+        self.wait_for_a_turn(rt, spine);
+        let turns = &spine.turns;
+        let (taken, size) = (bucket.taken as u64, bucket.size as u64);
+        let doubling = turns.doubling_for(taken);
+        let shared = self.add_new(rt, turns, bucket, pass);
+        let (turns, usage, limit, count) = (
+            turns.turns + 1,
+            turns.usage + size,
+            turns.limit,
+            turns.count + 1,
+        );
+        spine.turns = Turns {
+            turns,
+            doubling,
+            usage,
+            limit,
+            count,
+            seen: pass.copy_seen(),
+        };
+        shared
+    }
+
+    // It does not return where the turn word can't move on.
+    fn wait_for_a_turn<R: Wait>(&self, rt: &R, spine: &Spine<K>)
+        ensures { spine.now.turns.turns + 1 < 2 ^ 64 }
+    {
+        if spine.turns.turns < u64::MAX {
+            return;
+        }
+        for _ in rt.forever() {
+            spin_loop();
+        }
+        unreachable!()
+    }
+
+    // Sees a step at which the bytes are refused: the length is loaded first, and then the turn word, which shows that no turn came before.
+    fn show_limit<R: Wait>(&self, rt: &R, spine: &Spine<K>, pass: &mut Pass<K>, bytes: u64)
+        requires of { (pass.old.of ≡ self.now) × (spine.now.of ≡ self.now) }
+        requires room { NoneHasRoom (state self.now.opening pass.old.notes) spine.now.turns.count bytes }
+        requires above { spine.now.turns.limit < spine.now.turns.usage + bytes }
+        ensures same { IsSamePass pass.new pass.old }
+        ensures since { Since pass.old.number pass.old.notes pass.new.notes [] }
+        ensures past { IsPastLimit self.now.opening pass.old.notes pass.new.notes (length (list_of self.now spine.now.notes)) bytes }
+    {
+        pass.learn(&spine.turns.seen);
+        for _ in rt.forever() {
+            let len = self.len(pass);
+            let is_at = self.is_at(&spine.turns, pass);
+            if is_at && len == spine.len() {
+                return;
+            }
+            spin_loop();
+        }
+        unreachable!()
+    }
+}

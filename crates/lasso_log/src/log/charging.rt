@@ -1,0 +1,165 @@
+//! The step that adds a bucket to a history, and hands in the right to its bytes that are not taken. Used by the spine.
+ghost use Rattle.std.specs.Prelude.{◌≡◌, ◌≢◌, ◌+◌, ◌<◌, ◌≤◌, ◌^◌, ◌∷◌, [], Some, MatchBool};
+ghost use mathlib.Core.List.{IsPrefix};
+ghost use Rattle.lasso_log.specs.Bids.{IsBid};
+ghost use Rattle.lasso_log.specs.Book.{IsIn};
+ghost use Rattle.lasso_log.specs.Buckets.{bucket_size, doubling_after};
+ghost use Rattle.lasso_log.specs.History.{Charge};
+ghost use Rattle.lasso_log.specs.LentBuckets.{LentBucket};
+ghost use Rattle.lasso_log.specs.Notes.{Since, opening_of, state};
+ghost use Rattle.lasso_log.specs.SharedBuckets.{SharedView, IsNoteOf};
+ghost use Rattle.lasso_log.specs.Chunks.{era_named};
+ghost use Rattle.lasso_log.specs.Turns.{IsTurned, NoneHasRoom};
+ghost use Rattle.lasso_log.specs.Views.{PassView, InternerId, TurnsView, IsSamePass};
+
+use crate::chunks::rule::BytesTaken;
+use crate::chunks::taking::add_bucket;
+use crate::log::note::Note;
+use crate::log::pass::Pass;
+use crate::log::rule::{Add, LogRule, Shared};
+use crate::log::ticket::BucketAsked;
+use crate::log::turns::Turns;
+use crate::log::words::Log;
+use crate::shared_arena::bucket::SharedBucket;
+use crate::shared_arena::new_bucket::NewBucket;
+use lasso_parts::keys::Key;
+use logbook::{Offer, Pen, Seen};
+use std::hint::spin_loop;
+use std::sync::Wait;
+
+/// What a pass has in hand that offers a bucket: the log that it has seen, the offer, and its ticket's pen.
+#[derive(Drop)]
+struct Bid<K: Key> {
+    seen: Seen<Note, u64, LogRule<K>>,
+    offer: Offer<Note, u64, LogRule<K>, BytesTaken<Shared<K>>>,
+    pen: Pen,
+}
+
+impl<K: Key> Log<K> {
+    // Offers a note where the turn word has this value. Else what is in hand is as good as it was.
+    fn offer_once(
+        &self,
+        turns: u64,
+        before: &Seen<Note, u64, LogRule<K>>,
+        given: &Seen<Note, u64, LogRule<K>>,
+        bid: Bid<K>,
+    ) -> (Bid<K>, bool)
+        requires of { bid.seen.book ≡ self.now.book }
+        requires sum { turns + 1 < 2 ^ 64 }
+        requires bid { IsBid K.key_at before.now.log given.now.log turns bid.seen.log bid.seen.book bid.seen.names bid.pen.book bid.pen.nib bid.offer.names bid.offer.ask bid.offer.state }
+        ensures same { (result.0.seen.book ≡ bid.seen.book) × (result.0.seen.names ≡ bid.seen.names) × (result.0.offer.ask ≡ bid.offer.ask) × IsPrefix bid.seen.log result.0.seen.log }
+        ensures done { MatchBool result.1 (IsIn K.key_at (opening_of before.now.log) before.now.log given.now.log result.0.seen.log bid.offer.ask 1 1 turns) (IsBid K.key_at before.now.log given.now.log turns result.0.seen.log result.0.seen.book result.0.seen.names result.0.pen.book result.0.pen.nib result.0.offer.names result.0.offer.ask result.0.offer.state) }
+    {
+        let _ = before;
+        let _ = given;
+        let Bid {
+            mut seen,
+            mut offer,
+            mut pen,
+        } = bid;
+        let found = self
+            .turns
+            .compare_exchange::<Add<K>, BytesTaken<Shared<K>>>(
+                turns,
+                turns + 1,
+                &mut seen,
+                &mut offer,
+                &mut pen,
+            );
+        (Bid { seen, offer, pen }, found == turns)
+    }
+
+    // The same until the turn word has this value. It waits while it has another one.
+    #[tactic(auto, using(crate::proofs::Histories::prefix_trans, crate::proofs::Histories::prefix_self))]
+    fn offer<R: Wait>(
+        &self,
+        rt: &R,
+        turns: u64,
+        before: &Seen<Note, u64, LogRule<K>>,
+        given: &Seen<Note, u64, LogRule<K>>,
+        bid: Bid<K>,
+    ) -> Seen<Note, u64, LogRule<K>>
+        requires of { bid.seen.book ≡ self.now.book }
+        requires sum { turns + 1 < 2 ^ 64 }
+        requires bid { IsBid K.key_at before.now.log given.now.log turns bid.seen.log bid.seen.book bid.seen.names bid.pen.book bid.pen.nib bid.offer.names bid.offer.ask bid.offer.state }
+        ensures same { (result.book ≡ bid.seen.book) × (result.names ≡ bid.seen.names) × IsPrefix bid.seen.log result.log }
+        ensures done { IsIn K.key_at (opening_of before.now.log) before.now.log given.now.log result.log bid.offer.ask 1 1 turns }
+    {
+        let mut bid = bid;
+        for _ in rt.forever() {
+            let (tried, done) = self.offer_once(turns, before, given, bid);
+            if done {
+                let Bid {
+                    seen,
+                    offer: _,
+                    pen: _,
+                } = tried;
+                return seen;
+            }
+            bid = tried;
+            spin_loop();
+        }
+        unreachable!()
+    }
+
+    /// Adds a bucket by the exchange of the turn word. The book has the right to its bytes that are not taken from then on. None of the
+    /// buckets that the turns know has room for as many bytes as are taken. It waits while the turn word has another value than theirs.
+    pub(super) fn add_new<R: Wait>(
+        &self,
+        rt: &R,
+        turns: &Turns<K>,
+        bucket: NewBucket,
+        pass: &mut Pass<K>,
+    ) -> SharedBucket<K>
+        requires of { (pass.old.of ≡ self.now) × (turns.now.of ≡ self.now) }
+        requires era { bucket.site.era ≡ era_named self.now.chunks }
+        requires some { bucket.used ≢ 0 }
+        requires room { NoneHasRoom (state self.now.opening pass.old.notes) turns.now.count bucket.used }
+        requires size { bucket_size turns.now.doubling turns.now.usage turns.now.limit bucket.used ≡ Some bucket.size }
+        requires within { turns.now.usage + bucket.size ≤ turns.now.limit }
+        requires more { (turns.now.turns + 1 < 2 ^ 64) × (turns.now.count + 2 < 2 ^ 64) }
+        ensures same { IsSamePass pass.new pass.old }
+        ensures event { Since pass.old.number pass.old.notes pass.new.notes (Charge bucket.size bucket.used ∷ []) }
+        ensures note { IsNoteOf pass.old.number pass.new.notes (Charge bucket.size bucket.used) bucket.site }
+        ensures bucket { (result.of ≡ self.now) × (result.position ≡ turns.now.count) × (result.site ≡ bucket.site) × (result.size ≡ bucket.size) × (result.base ≡ 0) }
+        ensures turns { IsTurned K.key_at self.now.opening pass.new.notes (turns.now.turns + 1) (doubling_after turns.now.doubling turns.now.usage turns.now.limit bucket.used) (turns.now.usage + bucket.size) turns.now.limit (turns.now.count + 1) }
+    {
+        let NewBucket {
+            ptr,
+            size,
+            taken,
+            site,
+            right,
+        } = bucket;
+        let mut seen = self.seen.again();
+        seen.learn(&turns.seen);
+        seen.learn(&pass.seen);
+        let given = seen.again();
+        pass.ticket.set(taken as u64);
+        let about = BucketAsked {
+            size: size as u64,
+            bytes: taken as u64,
+            site: &site,
+            number: &pass.number,
+            ticket: &pass.ticket,
+            next: &pass.next,
+        };
+        let offer = add_bucket::<_, _, _, _, BucketAsked<'_, K>, Add<K>>(&seen, &about, right);
+        let pen = std::mem::replace(&mut pass.ticket.pen, seen.no_pen());
+        let before = pass.seen.again();
+        let bid = Bid { seen, offer, pen };
+        let after = self.offer(rt, turns.turns, &before, &given, bid);
+        let next = std::mem::replace(&mut pass.next, self.ticket());
+        let used = std::mem::replace(&mut pass.ticket, next);
+        pass.seen = after;
+        SharedBucket {
+            word: used.word,
+            ptr,
+            size: size as u64,
+            base: 0,
+            position: turns.count,
+            site,
+            seen: pass.seen.again(),
+        }
+    }
+}

@@ -1,0 +1,66 @@
+//! A history that was seen, beside what was read off it. Used by the shards, whose indexes are exact for one.
+ghost use Rattle.std.specs.Prelude.{◌≡◌, []};
+ghost use mathlib.Core.List.{IsPrefix};
+ghost use Rattle.lasso_log.specs.History.{IsLegal};
+ghost use Rattle.lasso_log.specs.Notes.{Since};
+ghost use Rattle.lasso_log.specs.Views.{InternerId, KnownView, IsSamePass, seen};
+
+use crate::log::note::Note;
+use crate::log::pass::Pass;
+use crate::log::rule::LogRule;
+use crate::log::words::Log;
+use lasso_parts::keys::Key;
+use logbook::Seen;
+use std::marker::Model;
+
+/// A history of one interner that was seen. It has no bytes. A contract sees the interner and the notes.
+#[derive(Drop)]
+pub struct Known<K: Key> {
+    seen: Seen<Note, u64, LogRule<K>>,
+}
+
+impl<K: Key> Model for Known<K> {
+    ghost use Rattle.lasso_log.specs.Notes.{opening_of, notes_of, IsOpened};
+    ghost use Rattle.lasso_log.specs.Views.{KnownView, known_view_coded, interner_id};
+
+    ghost Value = { KnownView };
+
+    ghost coded = { known_view_coded };
+
+    ghost view = { λ k. record { of = interner_id k.seen.book k.seen.names (opening_of k.seen.log); notes = notes_of k.seen.log } };
+
+    ghost invariant = { λ k. IsOpened k.seen.log };
+}
+
+impl<K: Key> Log<K> {
+    /// What was seen of the log at its opening.
+    pub fn known(&self) -> Known<K>
+        ensures { (result.of ≡ self.now) × (result.notes ≡ []) }
+    {
+        Known {
+            seen: self.seen.again(),
+        }
+    }
+}
+
+impl<K: Key> Pass<K> {
+    /// The history that it has seen.
+    pub fn known(&self) -> Known<K>
+        ensures { (result.of ≡ self.now.of) × (result.notes ≡ self.now.notes) }
+    {
+        Known {
+            seen: self.copy_seen(),
+        }
+    }
+
+    /// Afterwards it has seen that history too. It adds no event, takes no memory and does not wait.
+    pub fn recall(&mut self, known: &Known<K>)
+        requires { self.old.of ≡ known.now.of }
+        ensures same { IsSamePass self.new self.old }
+        ensures since { Since self.old.number self.old.notes self.new.notes [] }
+        ensures known { IsPrefix known.now.notes self.new.notes }
+        ensures legal { IsLegal K.key_at self.new.of.opening (seen self.new) }
+    {
+        self.learn(&known.seen);
+    }
+}

@@ -1,0 +1,82 @@
+//! What a spine does about the memory limit of an interner: it replaces the limit, and reads it and the usage.
+ghost use Rattle.std.specs.Prelude.{◌≡◌, ◌∷◌, [], MatchBool};
+ghost use Rattle.lasso_log.specs.History.{Limit, IsLegal};
+ghost use Rattle.lasso_log.specs.Notes.{Since, IsWordWith, state};
+ghost use Rattle.lasso_log.specs.Turns.{IsTurned, IsSameTurn};
+ghost use Rattle.lasso_log.specs.Views.{PassView, InternerId, SpineView, TurnsView, IsSamePass, IsSameSpine, seen};
+
+use crate::log::pass::Pass;
+use crate::log::spine::Spine;
+use crate::log::words::Log;
+use lasso_parts::keys::Key;
+use std::hint::spin_loop;
+use std::sync::Wait;
+
+impl<K: Key> Log<K> {
+    /// Replaces the limit. It waits where the turns are not the spine's, and does not return where the turn word is 2^64 - 1.
+    pub fn set_limit<R: Wait>(&self, rt: &R, spine: &mut Spine<K>, pass: &mut Pass<K>, limit: u64)
+        requires { (pass.old.of ≡ self.now) × (spine.old.of ≡ self.now) }
+        ensures same { IsSamePass pass.new pass.old × IsSameSpine spine.new spine.old × (spine.new.kept ≡ spine.old.kept) }
+        ensures event { Since pass.old.number pass.old.notes pass.new.notes (Limit limit ∷ []) }
+        ensures turns { (spine.new.turns.notes ≡ pass.new.notes) × (spine.new.turns.limit ≡ limit) }
+        ensures stays { (spine.new.turns.count ≡ spine.old.turns.count) × (spine.new.turns.usage ≡ spine.old.turns.usage) × (spine.new.turns.doubling ≡ spine.old.turns.doubling) }
+        ensures legal { IsLegal K.key_at self.now.opening (seen pass.new) }
+    {
+        for _ in rt.forever() {
+            if self.try_limit(spine, pass, limit) {
+                pass.show_legal();
+                return;
+            }
+            spin_loop();
+        }
+        unreachable!()
+    }
+
+    // Replaces it where the turns are the spine's. Else nothing is done.
+    fn try_limit(&self, spine: &mut Spine<K>, pass: &mut Pass<K>, limit: u64) -> bool
+        requires { (pass.old.of ≡ self.now) × (spine.old.of ≡ self.now) }
+        ensures same { IsSamePass pass.new pass.old × IsSameSpine spine.new spine.old × (spine.new.kept ≡ spine.old.kept) }
+        ensures done { MatchBool result (Since pass.old.number pass.old.notes pass.new.notes (Limit limit ∷ []) × (spine.new.turns.notes ≡ pass.new.notes) × (spine.new.turns.limit ≡ limit) × (spine.new.turns.count ≡ spine.old.turns.count) × (spine.new.turns.usage ≡ spine.old.turns.usage) × (spine.new.turns.doubling ≡ spine.old.turns.doubling)) ((pass.new ≡ pass.old) × (spine.new ≡ spine.old)) }
+    {
+        self.try_set_limit(&mut spine.turns, pass, limit)
+    }
+
+    /// The bytes that all buckets take, at one step. It takes no memory. It waits where the turns are not the spine's.
+    pub fn usage<R: Wait>(&self, rt: &R, spine: &Spine<K>, pass: &mut Pass<K>) -> u64
+        requires { (pass.old.of ≡ self.now) × (spine.now.of ≡ self.now) }
+        ensures same { IsSamePass pass.new pass.old }
+        ensures since { Since pass.old.number pass.old.notes pass.new.notes [] }
+        ensures reply { result ≡ (state self.now.opening pass.new.notes).usage }
+    {
+        self.wait_for(rt, spine, pass);
+        spine.turns.usage
+    }
+
+    /// The most bytes that all buckets may take, at one step. It takes no memory. It waits where the turns are not the spine's.
+    pub fn max_usage<R: Wait>(&self, rt: &R, spine: &Spine<K>, pass: &mut Pass<K>) -> u64
+        requires { (pass.old.of ≡ self.now) × (spine.now.of ≡ self.now) }
+        ensures same { IsSamePass pass.new pass.old }
+        ensures since { Since pass.old.number pass.old.notes pass.new.notes [] }
+        ensures reply { result ≡ (state self.now.opening pass.new.notes).limit }
+    {
+        self.wait_for(rt, spine, pass);
+        spine.turns.limit
+    }
+
+    // Loads the turn word until it has the value of the spine's turns.
+    #[tactic(auto, using(crate::proofs::Tickets::since_trans))]
+    fn wait_for<R: Wait>(&self, rt: &R, spine: &Spine<K>, pass: &mut Pass<K>)
+        requires { (pass.old.of ≡ self.now) × (spine.now.of ≡ self.now) }
+        ensures same { IsSamePass pass.new pass.old }
+        ensures since { Since pass.old.number pass.old.notes pass.new.notes [] }
+        ensures at { IsWordWith pass.new.notes 1 1 spine.now.turns.turns × IsSameTurn (state self.now.opening spine.now.turns.notes) (state self.now.opening pass.new.notes) × IsTurned K.key_at self.now.opening spine.now.turns.notes spine.now.turns.turns spine.now.turns.doubling spine.now.turns.usage spine.now.turns.limit spine.now.turns.count }
+    {
+        for _ in rt.forever() {
+            if self.is_at(&spine.turns, pass) {
+                return;
+            }
+            spin_loop();
+        }
+        unreachable!()
+    }
+}

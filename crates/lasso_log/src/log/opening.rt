@@ -1,0 +1,263 @@
+//! The opening of a log. Used by the makers of interners.
+ghost use Rattle.std.specs.Prelude.{◌≡◌, ◌≢◌, ◌+◌, ◌≤◌, ◌<◌, [], ◌∷◌, ◌++◌, length, IfOk, IfErr, OnOk, OnErr, IfSome, IfNone};
+ghost use base.Fml.{Incl};
+ghost use Rattle.lasso_parts.specs.declared.util.LassoErrorKind.TheVariants.{FailedAllocation};
+ghost use Rattle.lasso_parts.specs.Texts.{IsDistinct, Fits};
+ghost use Rattle.lasso_log.specs.Eras.{life};
+ghost use Rattle.lasso_log.specs.History.{opened};
+ghost use Rattle.lasso_log.specs.LentBuckets.{LentBucket};
+ghost use Rattle.lasso_log.specs.Openings.{OpeningView, opening_with};
+ghost use Rattle.lasso_log.specs.SharedBuckets.{SharedView};
+ghost use Rattle.lasso_log.specs.Views.{InternerId, SpineView};
+
+use crate::chunks::facts::{Lines, OpensWith};
+use crate::chunks::{Chunk, Chunks};
+use crate::locks::TaggedMutex;
+use crate::log::memory::TextMemory;
+use crate::log::note::Note;
+use crate::log::rule::{LogRule, StoredText};
+use crate::log::spine::Spine;
+use crate::log::turns::Turns;
+use crate::log::words::Log;
+use crate::shared_arena::bucket::SharedBucket;
+use crate::shared_arena::era::Era;
+use crate::shared_arena::holding::Holdings;
+use crate::shared_arena::new_bucket::NewBucket;
+use crate::shared_arena::piece::Piece;
+use boxcar::tag::Tag;
+use lasso_parts::keys::Key;
+use lasso_parts::util::LassoResult;
+use logbook::{Opening, Seen, Word};
+use std::alloc::{AllocError, Global};
+use std::marker::Model;
+
+/// What an interner opens with, beside its texts: the bytes of its first bucket, and the most bytes that all buckets may take.
+#[derive(Clone, Copy)]
+pub struct Opened {
+    pub size: u64,
+    pub limit: u64,
+}
+
+/// The texts that an interner opens with, in the order of their keys, and the bucket that those of them lie in which are copied.
+/// Their cells are filled before there is a log. A contract sees the texts and the bucket.
+#[derive(Drop)]
+pub struct OpeningTexts {
+    memory: TextMemory,
+    len: u64,
+    // What shows that the cells are filled: for the book, and for its first note. It has no bytes.
+    lines: Lines<StoredText, Chunk<StoredText>>,
+    known: Lines<StoredText, Chunk<StoredText>>,
+    bucket: NewBucket,
+}
+
+impl Model for OpeningTexts {
+    ghost use Rattle.std.specs.Prelude.{◌≡◌, ◌<◌, ◌^◌, length};
+    ghost use Rattle.lasso_log.specs.Chunks.{era_named};
+    ghost use Rattle.lasso_log.specs.Openings.{OpeningView, opening_view_coded};
+
+    ghost Value = { OpeningView };
+
+    ghost coded = { opening_view_coded };
+
+    ghost view = { λ t. record { texts = t.lines.texts; bucket = t.bucket } };
+
+    ghost invariant = { λ t. (t.lines.names ≡ t.memory) × (t.known.names ≡ t.memory) × (t.known.texts ≡ t.lines.texts) × (t.len ≡ length t.lines.texts) × (length t.lines.texts < 2 ^ 64) × (t.bucket.site.era ≡ era_named t.memory) };
+}
+
+impl OpeningTexts {
+    /// No text, and a bucket of so many bytes, at least one, of which none is taken. It is refused for want of memory alone.
+    pub fn new(alloc: Global, size: usize) -> LassoResult<OpeningTexts>
+        requires { size ≢ 0 }
+        ensures texts { IfOk result (λ t. t.texts ≡ []) }
+        ensures bucket { IfOk result (λ t. (t.bucket.size ≡ size) × (t.bucket.used ≡ 0)) }
+        ensures refused { IfErr result (λ error. error ≡ FailedAllocation) }
+    {
+        let chunks = Chunks::new(alloc, Piece::lasting(""))?;
+        let mut holdings = Holdings::new(alloc);
+        let made = NewBucket::with_capacity(alloc, chunks.era(), &mut holdings, size);
+        let bucket = match made {
+            Ok(bucket) => bucket,
+            Err(error) => {
+                holdings.close(&chunks.end());
+                return Err(error);
+            }
+        };
+        let holdings = TaggedMutex::new(holdings, chunks.era());
+        let lines = chunks.lines();
+        let known = chunks.lines();
+        Ok(OpeningTexts {
+            memory: TextMemory { chunks, holdings },
+            len: 0,
+            lines,
+            known,
+            bucket,
+        })
+    }
+
+    /// Copies a text behind those that were copied before. It is `None` only where it does not fit, and nothing changes then.
+    pub fn copy_in(&mut self, text: &str) -> Option<Piece>
+        ensures piece { IfSome result (λ p. (p.text ≡ text.now) × (p.until ≡ life self.old.bucket.site.era)) }
+        ensures texts { self.new.texts ≡ self.old.texts }
+        ensures bucket { IfSome result (λ p. (self.new.bucket.site ≡ self.old.bucket.site) × (self.new.bucket.size ≡ self.old.bucket.size) × (self.new.bucket.used ≡ self.old.bucket.used + length text.now)) }
+        ensures none { IfNone result ((self.new.bucket ≡ self.old.bucket) × (self.old.bucket.size < self.old.bucket.used + length text.now)) }
+    {
+        let range = self.bucket.reserve(text.len())?;
+        Some(range.fill(self.memory.chunks.era(), text))
+    }
+
+    /// Puts a text last, which lies where it is as long as the era. It is refused for want of memory alone, which is told of position
+    /// 2^64 - 1 too, and nothing changes then.
+    pub fn push(&mut self, alloc: Global, text: Piece) -> Result<(), AllocError>
+        requires { Incl (life self.old.bucket.site.era) text.until }
+        ensures texts { OnOk result (self.new.texts ≡ self.old.texts ++ text.text ∷ []) }
+        ensures bucket { self.new.bucket ≡ self.old.bucket }
+        ensures err { OnErr result (self.new.texts ≡ self.old.texts) }
+    {
+        if self.len == u64::MAX {
+            return Err(AllocError);
+        }
+        self.memory.chunks.make_chunk(alloc, self.len)?;
+        // Nobody else has the chunks, so the cell is free.
+        let Ok((chunk, item)) = self.memory.chunks.try_fill(self.len, text) else {
+            return Err(AllocError);
+        };
+        self.lines.push(&chunk, &item);
+        self.known.push(&chunk, &item);
+        self.len += 1;
+        Ok(())
+    }
+}
+
+/// What the first note of a log tells of.
+#[derive(Drop)]
+pub struct First<'a> {
+    pub size: u64,
+    pub used: u64,
+    pub limit: u64,
+    pub site: &'a Tag,
+    pub known: &'a Lines<StoredText, Chunk<StoredText>>,
+}
+
+/// The first note of a log.
+pub struct ByOpening;
+
+impl<'a> Opening<First<'a>, Note> for ByOpening {
+    ghost use Rattle.std.specs.Prelude.{[], ◌∷◌};
+    ghost use Rattle.lasso_log.specs.Events.{bucket_at};
+    ghost use Rattle.lasso_log.specs.Openings.{note_of_opening};
+
+    ghost log = { λ count o. note_of_opening o.known.now.texts (bucket_at o.site.now.numbers o.size o.used) o.limit ∷ [] };
+}
+
+impl<'a> OpensWith<First<'a>, Note> for ByOpening {
+    ghost use Rattle.std.specs.Prelude.{[], ◌∷◌};
+    ghost use Rattle.lasso_log.specs.Events.{bucket_at};
+    ghost use Rattle.lasso_log.specs.Notes.{shown};
+
+    ghost shown = { λ o. shown o.known.now.texts (bucket_at o.site.now.numbers o.size o.used ∷ []) };
+}
+
+/// What a new log comes with: its spine, and its first bucket.
+#[derive(Drop)]
+pub struct NewLog<K: Key> {
+    pub log: Log<K>,
+    pub spine: Spine<K>,
+    pub bucket: SharedBucket<K>,
+}
+
+impl<K: Key> Log<K> {
+    /// The log of a new interner that has no text, and its spine. The first bucket's size is not 0. It is refused for
+    /// want of memory alone.
+    pub fn open(alloc: Global, first: Opened) -> LassoResult<(Log<K>, Spine<K>)>
+        requires { first.size ≢ 0 }
+        ensures opening { IfOk result (λ r. r.0.opening ≡ opened [] first.size 0 first.limit) }
+        ensures spine { IfOk result (λ r. (r.1.of ≡ r.0) × (r.1.notes ≡ []) × (r.1.kept ≡ 0)) }
+        ensures refused { IfErr result (λ error. error ≡ FailedAllocation) }
+    {
+        let texts = OpeningTexts::new(alloc, first.size as usize)?;
+        let NewLog {
+            log,
+            spine,
+            bucket: _,
+        } = Log::open_with(texts, first.limit);
+        Ok((log, spine))
+    }
+
+    /// The log of a new interner that has these texts, which are distinct and fit the keys, and their bucket. It is never refused, takes
+    /// no memory, and does not wait.
+    pub fn open_with(texts: OpeningTexts, limit: u64) -> NewLog<K>
+        requires distinct { IsDistinct texts.texts }
+        requires fits { Fits K.key_at (length texts.texts) }
+        requires bucket { texts.bucket.size ≢ 0 }
+        ensures opening { result.log.opening ≡ opening_with texts limit }
+        ensures spine { (result.spine.of ≡ result.log) × (result.spine.notes ≡ []) × (result.spine.kept ≡ 0) }
+        ensures turns { (result.spine.turns.of ≡ result.log) × (result.spine.turns.notes ≡ []) × (result.spine.turns.count ≡ 1) }
+        ensures bucket { (result.bucket.of ≡ result.log) × (result.bucket.position ≡ 0) × (result.bucket.site ≡ texts.bucket.site) × (result.bucket.size ≡ texts.bucket.size) × (result.bucket.base ≡ texts.bucket.used) }
+    {
+        let OpeningTexts {
+            memory,
+            len,
+            lines,
+            known,
+            bucket,
+        } = texts;
+        let NewBucket {
+            ptr,
+            size,
+            taken,
+            site,
+            right,
+        } = bucket;
+        let (size, base) = (size as u64, taken as u64);
+        let about = First {
+            size,
+            used: base,
+            limit,
+            site: &site,
+            known: &known,
+        };
+        let start = lines.start::<_, _, First<'_>, ByOpening>(&about, right);
+        let (seen, mut pens) = Seen::<Note, u64, LogRule<K>>::open_row::<First<'_>, ByOpening>(
+            &about, start, 3,
+        );
+        let mut pen = pens.take();
+        let head = Word::tracked(0, &mut pen);
+        let mut pen = pens.take();
+        let turns = Word::tracked(0, &mut pen);
+        let mut pen = pens.take();
+        let word = Word::tracked(0, &mut pen);
+        let bucket = SharedBucket {
+            word,
+            ptr,
+            size,
+            base,
+            position: 0,
+            site,
+            seen: seen.again(),
+        };
+        let no_turns = Turns {
+            turns: 0,
+            doubling: size,
+            usage: size,
+            limit,
+            count: 1,
+            seen: seen.again(),
+        };
+        let spine = Spine {
+            kept: 0,
+            first: len,
+            appended: 0,
+            seen: seen.again(),
+            turns: no_turns,
+        };
+        let first = len;
+        let log = Log {
+            head,
+            turns,
+            memory,
+            first,
+            seen,
+        };
+        NewLog { log, spine, bucket }
+    }
+}

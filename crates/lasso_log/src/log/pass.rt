@@ -1,0 +1,105 @@
+//! Passes: what a thread has seen of the history, with its number and its tickets.
+ghost use Rattle.std.specs.Prelude.{◌≡◌, ◌⊎◌, []};
+ghost use mathlib.Core.List.{IsPrefix};
+ghost use Rattle.lasso_log.specs.History.{IsLegal, IsOpening};
+ghost use Rattle.lasso_log.specs.Notes.{Since, opening_of, notes_of, IsOpened};
+ghost use Rattle.lasso_log.specs.Views.{PassView, interner_id, seen, IsSamePass};
+
+use crate::log::look::look;
+use crate::log::note::Note;
+use crate::log::rule::LogRule;
+use crate::log::ticket::Ticket;
+use boxcar::tag::Tag;
+use lasso_parts::keys::Key;
+use logbook::Seen;
+use std::marker::Model;
+
+/// What its holder has seen of the history of one interner. A contract sees its number, its interner and the
+/// notes that it has seen. It has no bytes but those of its tickets.
+pub struct Pass<K: Key> {
+    pub(super) seen: Seen<Note, u64, LogRule<K>>,
+    pub(super) ticket: Ticket<K>,
+    pub(super) next: Ticket<K>,
+    pub(super) number: Tag,
+}
+
+impl<K: Key> Model for Pass<K> {
+    ghost use Rattle.std.specs.Prelude.{◌≡◌};
+    ghost use Rattle.lasso_log.specs.History.{IsLegal, IsOpening};
+    ghost use Rattle.lasso_log.specs.Notes.{opening_of, notes_of, history, IsOpened, ticket_of};
+    ghost use Rattle.lasso_log.specs.Book.{IsTicket};
+    ghost use Rattle.lasso_log.specs.Views.{PassView, pass_view_coded, interner_id};
+    ghost use Rattle.lasso_log.specs.Chunks.{first_number};
+
+    ghost Value = { PassView };
+
+    ghost coded = { pass_view_coded };
+
+    ghost view = { λ p. record { number = first_number p.number.numbers; of = interner_id p.seen.book p.seen.names (opening_of p.seen.log); notes = notes_of p.seen.log } };
+
+    ghost invariant = { λ p. IsTicket p.seen.book p.ticket.word p.ticket.pen × IsTicket p.seen.book p.next.word p.next.pen × (p.ticket.pen.nib.key ≡ ticket_of (first_number p.number.numbers) (notes_of p.seen.log)) × IsOpened p.seen.log × IsLegal K.key_at (opening_of p.seen.log) (history (notes_of p.seen.log)) × IsOpening K.key_at (opening_of p.seen.log) };
+}
+
+// One call, so that proofs of callers see nothing of the fields where a pass is let go.
+impl<K: Key> Drop for Pass<K> {
+    fn drop(self) {
+        let Pass {
+            seen: _,
+            ticket: _,
+            next: _,
+            number: _,
+        } = self;
+    }
+}
+
+impl<K: Key> Pass<K> {
+    /// Does nothing. Contracts learn that what the pass has seen is a legal history of what an interner may begin with.
+    pub fn show_legal(&self)
+        ensures opening { IsOpening K.key_at self.now.of.opening }
+        ensures legal { IsLegal K.key_at self.now.of.opening (seen self.now) }
+    {
+        let _ = &self.seen;
+    }
+
+    /// The log that it has seen.
+    pub(super) fn copy_seen(&self) -> Seen<Note, u64, LogRule<K>>
+        ensures of { (result.book ≡ self.now.of.book) × (result.names ≡ self.now.of.chunks) × (opening_of result.log ≡ self.now.of.opening) }
+        ensures log { IsOpened result.log × (notes_of result.log ≡ self.now.notes) }
+    {
+        self.seen.again()
+    }
+
+    /// Afterwards it has seen what was given too.
+    pub(super) fn learn(&mut self, given: &Seen<Note, u64, LogRule<K>>)
+        requires { self.old.of.book ≡ given.now.book }
+        ensures same { IsSamePass self.new self.old }
+        ensures since { Since self.old.number self.old.notes self.new.notes [] }
+        ensures given { IsOpened given.now.log → IsPrefix (notes_of given.now.log) self.new.notes }
+        ensures legal { IsLegal K.key_at self.new.of.opening (seen self.new) }
+    {
+        self.seen.learn(given);
+        let mut later = self.seen.again();
+        look(&mut later, &mut self.ticket.pen);
+    }
+
+    /// Afterwards it has seen what either had. It adds no event, takes no memory and does not wait.
+    pub fn meet(&mut self, other: &Pass<K>)
+        requires { self.old.of ≡ other.now.of }
+        ensures same { IsSamePass self.new self.old }
+        ensures since { Since self.old.number self.old.notes self.new.notes [] }
+        ensures other { IsPrefix other.now.notes self.new.notes }
+        ensures legal { IsLegal K.key_at self.new.of.opening (seen self.new) }
+    {
+        self.learn(&other.seen);
+    }
+
+    /// Does nothing. Contracts learn that of two passes of one interner one has seen a beginning of what the
+    /// other has seen.
+    pub fn compare(&self, other: &Pass<K>)
+        requires { self.now.of ≡ other.now.of }
+        ensures { IsPrefix self.now.notes other.now.notes ⊎ IsPrefix other.now.notes self.now.notes }
+    {
+        let mut both = self.seen.again();
+        both.learn(&other.seen);
+    }
+}

@@ -1,0 +1,59 @@
+//! What is read off the log: a text, and the length.
+ghost use Rattle.std.specs.Prelude.{◌≡◌, ◌<◌, [], Some, length, slice_get, option_map};
+ghost use Rattle.lasso_log.specs.Chunks.{era_named};
+ghost use Rattle.lasso_log.specs.Notes.{Since, texts_in};
+ghost use Rattle.lasso_log.specs.Views.{PassView, InternerId, IsSamePass, list_of};
+
+use crate::log::note::Note;
+use crate::log::pass::Pass;
+use crate::log::rule::LogRule;
+use crate::log::words::Log;
+use crate::shared_arena::era::Era;
+use lasso_parts::keys::Key;
+use logbook::Seen;
+
+impl<K: Key> Log<K> {
+    /// The number of texts at one step. It takes no memory and does not wait.
+    pub fn len(&self, pass: &mut Pass<K>) -> u64
+        requires { pass.old.of ≡ self.now }
+        ensures same { IsSamePass pass.new pass.old }
+        ensures since { Since pass.old.number pass.old.notes pass.new.notes [] }
+        ensures reply { result ≡ length (list_of pass.new.of pass.new.notes) }
+    {
+        let appended = self.load(&self.head, 0, pass);
+        self.first + appended
+    }
+
+    /// The text at the position, of the list as it is at one step, or `None` past its end. It is lent as long as
+    /// the log. It takes no memory and does not wait.
+    pub fn read(&self, position: u64, pass: &mut Pass<K>) -> Option<&str>
+        requires { pass.old.of ≡ self.now }
+        ensures same { IsSamePass pass.new pass.old }
+        ensures since { Since pass.old.number pass.old.notes pass.new.notes [] }
+        ensures reply { option_map (λ t. t.now) result ≡ slice_get (list_of pass.new.of pass.new.notes) position }
+    {
+        if position >= self.len(pass) {
+            return None;
+        }
+        let mut seen = self.seen.again();
+        seen.learn(&pass.seen);
+        Some(self.lend(&mut seen, position))
+    }
+
+    /// The era for which the bytes of its texts are lent.
+    pub fn era(&self) -> &Era
+        ensures { result.now.id ≡ era_named self.now.chunks }
+    {
+        self.memory.chunks.era()
+    }
+
+    // The text at a position below the length of a list that was seen.
+    pub(super) fn lend(&self, seen: &mut Seen<Note, u64, LogRule<K>>, position: u64) -> &str
+        requires chunks { seen.old.names ≡ self.now.chunks }
+        requires below { position < length (texts_in seen.old.log) }
+        ensures text { slice_get (texts_in seen.old.log) position ≡ Some result.now }
+    {
+        let piece = self.memory.chunks.lend(seen, position);
+        piece.text(self.memory.chunks.era())
+    }
+}

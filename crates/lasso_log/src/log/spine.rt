@@ -1,0 +1,238 @@
+//! The spine: the numbers of the list and of the turns, which one thread at a time has, and the slots that it keeps.
+ghost use Rattle.std.specs.Prelude.{◌≡◌, ◌+◌, ◌-◌, ◌∷◌, ◌++◌, [], length, OnOk, OnErr, IfOk, IfErr, MatchBool};
+ghost use mathlib.Core.List.{IsPrefix};
+ghost use Rattle.lasso_parts.specs.declared.util.LassoErrorKind.TheVariants.{FailedAllocation};
+ghost use Rattle.lasso_parts.specs.Texts.{Fits};
+ghost use Rattle.lasso_log.specs.History.{Append, MayFollow, IsLegal};
+ghost use Rattle.lasso_log.specs.Notes.{Since, state, history};
+ghost use Rattle.lasso_log.specs.Views.{PassView, InternerId, SpineView, IsSamePass, IsSameSpine, IsAppended, list_of, seen};
+ghost use base.Fml.{Incl};
+ghost use Rattle.lasso_log.specs.Eras.{life};
+ghost use Rattle.lasso_log.specs.Chunks.{IsCellAt, era_named};
+
+use crate::log::kept_slot::KeptSlot;
+use crate::log::note::{Change, Note};
+use crate::log::pass::Pass;
+use crate::log::rule::{LogRule, StoredText};
+use crate::log::ticket::CellProof;
+use crate::log::turns::Turns;
+use crate::log::words::{Exchange, Log};
+use crate::shared_arena::piece::Piece;
+use lasso_parts::keys::Key;
+use lasso_parts::util::{LassoError, LassoErrorKind, LassoResult};
+use logbook::Seen;
+use std::alloc::Global;
+use std::marker::Model;
+use std::sync::Wait;
+
+/// The length of the list in a history that was seen, as the texts of the opening and those appended, and how many
+/// slots past it are kept for texts to come; and the turns. It lies under a lock. Contracts see the slots kept, the interner, and what
+/// the spine has seen of the list and of the turns.
+pub struct Spine<K: Key> {
+    pub(super) kept: u64,
+    pub(super) first: u64,
+    pub(super) appended: u64,
+    pub(super) seen: Seen<Note, u64, LogRule<K>>,
+    pub(super) turns: Turns<K>,
+}
+
+impl<K: Key> Model for Spine<K> {
+    ghost use Rattle.std.specs.Prelude.{◌≡◌, ◌+◌, ◌<◌, ◌^◌, length};
+    ghost use Rattle.lasso_log.specs.Notes.{opening_of, notes_of, IsOpened};
+    ghost use Rattle.lasso_log.specs.Book.{Reads};
+    ghost use Rattle.lasso_log.specs.Views.{SpineView, spine_view_coded, interner_id};
+
+    ghost Value = { SpineView };
+
+    ghost coded = { spine_view_coded };
+
+    ghost view = { λ s. record { kept = s.kept; of = interner_id s.seen.book s.seen.names (opening_of s.seen.log); notes = notes_of s.seen.log; turns = s.turns } };
+
+    ghost invariant = { λ s. IsOpened s.seen.log × (s.first ≡ length (opening_of s.seen.log).texts) × Reads K.key_at (opening_of s.seen.log) (notes_of s.seen.log) 0 0 s.appended × (s.first + s.appended + s.kept < 2 ^ 64) × (s.turns.of ≡ interner_id s.seen.book s.seen.names (opening_of s.seen.log)) };
+}
+
+// One call, so that proofs of callers see nothing of the fields where a spine is let go.
+impl<K: Key> Drop for Spine<K> {
+    fn drop(self) {
+        let Spine {
+            kept: _,
+            first: _,
+            appended: _,
+            seen: _,
+            turns: _,
+        } = self;
+    }
+}
+
+impl<K: Key> Spine<K> {
+    /// The length of the list that the spine has seen.
+    pub fn len(&self) -> u64
+        ensures len { result ≡ length (list_of self.now.of self.now.notes) }
+        ensures fits { Fits K.key_at (length (list_of self.now.of self.now.notes)) }
+        ensures legal { IsLegal K.key_at self.now.of.opening (history self.now.notes) }
+    {
+        self.first + self.appended
+    }
+
+    /// How many buckets the spine has seen.
+    pub fn buckets(&self) -> u64
+        ensures { result ≡ self.now.turns.count }
+    {
+        self.turns.count
+    }
+
+    /// Does nothing. Contracts learn that a pass of the same interner that has seen a list of the same length has
+    /// seen the same list.
+    pub fn agrees(&self, pass: &Pass<K>)
+        requires { (self.now.of ≡ pass.now.of) × (length (list_of self.now.of self.now.notes) ≡ length (list_of pass.now.of pass.now.notes)) }
+        ensures { list_of self.now.of self.now.notes ≡ list_of pass.now.of pass.now.notes }
+    {
+        let mut both = self.seen.again();
+        both.learn(&pass.seen);
+    }
+
+    /// How many slots it keeps for texts to come.
+    pub fn kept(&self) -> u64
+        ensures { result ≡ self.now.kept }
+    {
+        self.kept
+    }
+
+    /// Gives back a slot that `reserve_next` kept. Nothing else changes, and it is never refused.
+    pub fn give_back(&mut self, slot: KeptSlot<K>)
+        requires { slot ≡ self.old.of }
+        ensures kept { self.new.kept ≡ self.old.kept - 1 }
+        ensures same { IsSameSpine self.new self.old }
+        ensures turns { self.new.turns ≡ self.old.turns }
+    {
+        slot.end();
+        self.kept = self.kept.saturating_sub(1);
+    }
+}
+
+impl<K: Key> Log<K> {
+    /// Keeps one slot more for a text to come, until it is appended or given back. It is refused for want of memory
+    /// alone, which is told of position 2^64 - 1 too, and nothing changes then.
+    pub fn reserve_next(&self, alloc: Global, spine: &mut Spine<K>) -> LassoResult<KeptSlot<K>>
+        requires { spine.old.of ≡ self.now }
+        ensures slot { IfOk result (λ slot. slot ≡ self.now) }
+        ensures kept { OnOk result (spine.new.kept ≡ spine.old.kept + 1) }
+        ensures same { IsSameSpine spine.new spine.old }
+        ensures turns { spine.new.turns ≡ spine.old.turns }
+        ensures refused { IfErr result (λ error. error ≡ FailedAllocation) }
+        ensures unchanged { OnErr result (spine.new.kept ≡ spine.old.kept) }
+    {
+        let position = spine.first + spine.appended + spine.kept;
+        if position == u64::MAX {
+            return Err(LassoError::new(LassoErrorKind::FailedAllocation));
+        }
+        self.memory.chunks.make_chunk(alloc, position)?;
+        spine.kept += 1;
+        Ok(KeptSlot::new(self.known()))
+    }
+
+    /// Puts the text last, in a slot that `reserve_next` kept. The text must lie where it is as long as the interner's era. The list of
+    /// the spine must lack it, and have a key for its length. The text's cell is filled before the length moves. It waits where the length isn't the
+    /// spine's, where the spine keeps no slot, where the chunk of its position isn't made, and where the cell is filled.
+    pub fn append<R: Wait>(
+        &self,
+        rt: &R,
+        spine: &mut Spine<K>,
+        pass: &mut Pass<K>,
+        slot: KeptSlot<K>,
+        text: StoredText,
+    )
+        requires of { (pass.old.of ≡ self.now) × (spine.old.of ≡ self.now) × (slot ≡ self.now) }
+        requires lasts { Incl (life (era_named self.now.chunks)) text.until }
+        requires may { MayFollow K.key_at (state self.now.opening spine.old.notes) (Append text.text) }
+        ensures same { IsSamePass pass.new pass.old × (spine.new.of ≡ spine.old.of) }
+        ensures kept { spine.new.kept + 1 ≡ spine.old.kept }
+        ensures event { Since pass.old.number pass.old.notes pass.new.notes (Append text.text ∷ []) }
+        ensures legal { IsLegal K.key_at self.now.opening (seen pass.new) }
+        ensures spine { spine.new.notes ≡ pass.new.notes }
+        ensures turns { spine.new.turns ≡ spine.old.turns }
+        ensures begins { IsPrefix spine.old.notes spine.new.notes }
+        ensures list { list_of self.now pass.new.notes ≡ list_of self.now spine.old.notes ++ text.text ∷ [] }
+    {
+        let position = spine.len();
+        let (chunk, item) = self.memory.chunks.fill(rt, position, text);
+        let text = self
+            .memory
+            .chunks
+            .value(position, &chunk, &item)
+            .text(self.memory.chunks.era());
+        for _ in rt.forever() {
+            let cell_proof = (chunk.again(), item.again());
+            if self.try_append(spine, pass, text, cell_proof) {
+                slot.end();
+                pass.show_legal();
+                return;
+            }
+        }
+        unreachable!()
+    }
+
+    /// The same for a static text, which lasts as long as any era. It is kept where it lies.
+    pub fn append_static<R: Wait>(
+        &self,
+        rt: &R,
+        spine: &mut Spine<K>,
+        pass: &mut Pass<K>,
+        slot: KeptSlot<K>,
+        text: &'static str,
+    )
+        requires of { (pass.old.of ≡ self.now) × (spine.old.of ≡ self.now) × (slot ≡ self.now) }
+        requires may { MayFollow K.key_at (state self.now.opening spine.old.notes) (Append text.now) }
+        ensures same { IsSamePass pass.new pass.old × (spine.new.of ≡ spine.old.of) }
+        ensures kept { spine.new.kept + 1 ≡ spine.old.kept }
+        ensures event { Since pass.old.number pass.old.notes pass.new.notes (Append text.now ∷ []) }
+        ensures legal { IsLegal K.key_at self.now.opening (seen pass.new) }
+        ensures spine { spine.new.notes ≡ pass.new.notes }
+        ensures turns { spine.new.turns ≡ spine.old.turns }
+        ensures begins { IsPrefix spine.old.notes spine.new.notes }
+        ensures list { list_of self.now pass.new.notes ≡ list_of self.now spine.old.notes ++ text.now ∷ [] }
+    {
+        self.append(rt, spine, pass, slot, Piece::lasting(text));
+    }
+
+    // Appends where the length is the spine's, and it keeps a slot. Else nothing is done.
+    fn try_append(
+        &self,
+        spine: &mut Spine<K>,
+        pass: &mut Pass<K>,
+        text: &str,
+        cell_proof: CellProof,
+    ) -> bool
+        requires of { (pass.old.of ≡ self.now) × (spine.old.of ≡ self.now) }
+        requires may { MayFollow K.key_at (state self.now.opening spine.old.notes) (Append text.now) }
+        requires cell { IsCellAt self.now.chunks (length (list_of self.now spine.old.notes)) cell_proof.0.of cell_proof.0.value.items cell_proof.1.of }
+        requires filled { (cell_proof.1.value.text ≡ text.now) × Incl (life (era_named self.now.chunks)) cell_proof.1.value.until }
+        ensures same { IsSamePass pass.new pass.old × (spine.new.of ≡ spine.old.of) }
+        ensures turns { spine.new.turns ≡ spine.old.turns }
+        ensures done { MatchBool result (IsAppended self.now pass.old pass.new spine.old spine.new text.now) ((pass.new ≡ pass.old) × (spine.new ≡ spine.old)) }
+    {
+        if spine.kept == 0 {
+            return false;
+        }
+        let appended = spine.appended;
+        let Some(word) = self.exchange(
+            &self.head,
+            Exchange {
+                word_index: 0,
+                expected: appended,
+                position: spine.first + appended,
+            },
+            Change::Append { text },
+            Some(cell_proof),
+            &spine.seen,
+            pass,
+        ) else {
+            return false;
+        };
+        drop(word);
+        spine.seen = pass.copy_seen();
+        spine.appended = appended + 1;
+        spine.kept -= 1;
+        true
+    }
+}

@@ -1,0 +1,173 @@
+//! Slots that a spine keeps ahead of its list.
+ghost use Rattle.std.specs.Prelude.{◌≡◌, ◌<◌, [], All, length};
+ghost use Rattle.lasso_log.specs.Views.{InternerId, list_of};
+
+mod copied;
+mod given_back;
+mod opened;
+
+use crate::log::{KeptSlot, Log, Opened, Pass, Spine};
+use lasso_parts::keys::{Key, Spur};
+use lasso_parts::util::LassoResult;
+use std::alloc::Global;
+use std::sync::Wait;
+use std::test::*;
+
+// A text of each length below 33: the first chunk has 32 cells.
+const TEXTS: [&str; 33] = [
+    "",
+    "a",
+    "ab",
+    "abc",
+    "abcd",
+    "abcde",
+    "abcdef",
+    "abcdefg",
+    "abcdefgh",
+    "abcdefghi",
+    "abcdefghij",
+    "abcdefghijk",
+    "abcdefghijkl",
+    "abcdefghijklm",
+    "abcdefghijklmn",
+    "abcdefghijklmno",
+    "abcdefghijklmnop",
+    "abcdefghijklmnopq",
+    "abcdefghijklmnopqr",
+    "abcdefghijklmnopqrs",
+    "abcdefghijklmnopqrst",
+    "abcdefghijklmnopqrstu",
+    "abcdefghijklmnopqrstuv",
+    "abcdefghijklmnopqrstuvw",
+    "abcdefghijklmnopqrstuvwx",
+    "abcdefghijklmnopqrstuvwxy",
+    "abcdefghijklmnopqrstuvwxyz",
+    "abcdefghijklmnopqrstuvwxyzA",
+    "abcdefghijklmnopqrstuvwxyzAB",
+    "abcdefghijklmnopqrstuvwxyzABC",
+    "abcdefghijklmnopqrstuvwxyzABCD",
+    "abcdefghijklmnopqrstuvwxyzABCDE",
+    "abcdefghijklmnopqrstuvwxyzABCDEF",
+];
+
+// Appends a text that is longer than each of the list, in this slot. Any other text is left out, and the slot given back.
+fn appends<R: Wait>(
+    rt: &R,
+    log: &Log<Spur>,
+    spine: &mut Spine<Spur>,
+    pass: &mut Pass<Spur>,
+    slot: KeptSlot<Spur>,
+    text: &'static str,
+) -> bool
+    requires of { (pass.old.of ≡ log.now) × (spine.old.of ≡ log.now) × (slot ≡ log.now) }
+    requires short { All (λ t. length t < length (list_of log.now spine.old.notes)) (list_of log.now spine.old.notes) }
+    ensures of { (pass.new.of ≡ log.now) × (spine.new.of ≡ log.now) }
+    ensures short { All (λ t. length t < length (list_of log.now spine.new.notes)) (list_of log.now spine.new.notes) }
+{
+    let len = spine.len();
+    let Some(_key) = Spur::try_from_usize(len as usize) else {
+        spine.give_back(slot);
+        return false;
+    };
+    if text.len() as u64 != len {
+        spine.give_back(slot);
+        return false;
+    }
+    log.append_static(rt, spine, pass, slot, text);
+    true
+}
+
+// Keeps a slot for each of these texts in turn and appends it, and tells how many it appended.
+fn append_all<R: Wait>(
+    rt: &R,
+    alloc: Global,
+    log: &Log<Spur>,
+    spine: &mut Spine<Spur>,
+    texts: &[&'static str],
+) -> usize
+    requires { (spine.old.of ≡ log.now) × (list_of log.now spine.old.notes ≡ []) }
+    ensures of { spine.new.of ≡ log.now }
+    ensures short { All (λ t. length t < length (list_of log.now spine.new.notes)) (list_of log.now spine.new.notes) }
+{
+    let mut pass = log.pass();
+    let mut appended: usize = 0;
+    for text in texts.iter() {
+        if let Ok(slot) = log.reserve_next(alloc, spine)
+            && appends(rt, log, spine, &mut pass, slot, *text)
+            && appended < texts.len()
+        {
+            appended += 1;
+        }
+    }
+    appended
+}
+
+// Keeps three slots, gives one back, and appends both texts in the others. Tells how many slots were kept at most, and how
+// many texts were appended.
+fn append_ahead<R: Wait>(
+    rt: &R,
+    alloc: Global,
+    log: &Log<Spur>,
+    spine: &mut Spine<Spur>,
+    texts: [&'static str; 2],
+) -> LassoResult<(u64, u64)>
+    requires of { spine.old.of ≡ log.now }
+    requires short { All (λ t. length t < length (list_of log.now spine.old.notes)) (list_of log.now spine.old.notes) }
+{
+    let mut pass = log.pass();
+    let first = log.reserve_next(alloc, spine)?;
+    let second = match log.reserve_next(alloc, spine) {
+        Ok(slot) => slot,
+        Err(error) => {
+            spine.give_back(first);
+            return Err(error);
+        }
+    };
+    let third = match log.reserve_next(alloc, spine) {
+        Ok(slot) => slot,
+        Err(error) => {
+            spine.give_back(first);
+            spine.give_back(second);
+            return Err(error);
+        }
+    };
+    let kept = spine.kept();
+    spine.give_back(first);
+    let one = appends(rt, log, spine, &mut pass, second, texts[0]);
+    let other = appends(rt, log, spine, &mut pass, third, texts[1]);
+    Ok((kept, u64::from(one) + u64::from(other)))
+}
+
+// How many of these texts the list has in their positions.
+fn read_all(log: &Log<Spur>, texts: &[&'static str]) -> usize {
+    let mut pass = log.pass();
+    let mut found: usize = 0;
+    for position in 0..texts.len() {
+        if log.read(position as u64, &mut pass) == Some(texts[position]) && found < texts.len() {
+            found += 1;
+        }
+    }
+    found
+}
+
+#[test]
+fn slots_kept_ahead_have_their_chunks(rt: HostRuntime) -> Result<(), Fail> {
+    let opened = Opened {
+        size: 4096,
+        limit: 10_000,
+    };
+    let (log, mut spine) = Log::open(rt.alloc(), opened)?;
+    assert_eq!(rt;
+        append_all(&rt, rt.alloc(), &log, &mut spine, &TEXTS[..31]),
+        31
+    );
+    assert_eq!(rt; spine.kept(), 0);
+    // the slots of positions 31, 32 and 33, of which the first alone is in the first chunk
+    let (kept, appended) = append_ahead(&rt, rt.alloc(), &log, &mut spine, [TEXTS[31], TEXTS[32]])?;
+    assert_eq!(rt; (kept, appended), (3, 2));
+    assert_eq!(rt; spine.kept(), 0);
+    assert_eq!(rt; read_all(&log, &TEXTS), 33);
+    let mut pass = log.pass();
+    assert_eq!(rt; log.read(33, &mut pass), None);
+    Ok(())
+}

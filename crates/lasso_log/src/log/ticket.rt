@@ -1,0 +1,132 @@
+//! Tickets: a pass has one for its next event, and its number is the first one's. Used by passes and by the log's steps.
+ghost use Rattle.std.specs.Prelude.{◌≡◌, [], MatchOption};
+ghost use base.Fml.{Incl};
+ghost use Rattle.lasso_log.specs.History.{Append};
+ghost use Rattle.lasso_log.specs.Eras.{life};
+ghost use Rattle.logbook.specs.Pages.{may_write, nib};
+ghost use Rattle.lasso_log.specs.Book.{word_of};
+ghost use Rattle.lasso_log.specs.Chunks.{IsCellAt, era_named, first_number};
+ghost use Rattle.lasso_log.specs.Events.{event_of, note_of, ready};
+
+use crate::chunks::Chunk;
+use crate::chunks::facts::hand_in;
+use crate::chunks::rule::NoGain;
+use crate::log::note::{Change, Note};
+use crate::log::rule::{Add, LogRule, StoredText};
+use boxcar::slot::Written;
+use boxcar::tag::{Names, Tag};
+use lasso_parts::keys::Key;
+use logbook::{Offer, Pen, Plain, Seen, Word};
+
+/// A cell of the book that its holder alone can bring home.
+#[derive(Drop)]
+pub struct Ticket<K: Key> {
+    pub word: Word<Note, u64, LogRule<K>>,
+    pub pen: Pen,
+}
+
+impl<K: Key> Ticket<K> {
+    /// Writes its word, which no other thread sees yet.
+    pub fn set(&mut self, value: u64)
+        requires { (self.old.word ≡ word_of self.old.pen.book self.old.pen.nib.key) × (self.old.pen.nib.right ≡ may_write) }
+        ensures word { self.new.word ≡ self.old.word }
+        ensures pen { (self.new.pen.book ≡ self.old.pen.book) × (self.new.pen.nib ≡ nib may_write self.old.pen.nib.key value) }
+    {
+        self.word.store(&mut self.pen, value);
+    }
+}
+
+/// The number of a ticket.
+pub struct ByKey;
+
+impl<K: Key> Names<Ticket<K>> for ByKey {
+    ghost use Rattle.std.specs.Prelude.{[], ◌∷◌};
+
+    ghost numbers = { λ t. t.pen.nib.key ∷ [] };
+}
+
+/// A change that a pass asks for. `position` is where an appended text would stand.
+#[derive(Drop)]
+pub struct Proposal<'a, K: Key> {
+    pub change: Change<'a>,
+    pub position: u64,
+    pub number: &'a Tag,
+    pub ticket: &'a Ticket<K>,
+    pub next: &'a Ticket<K>,
+}
+
+impl<'a, K: Key> Plain<Proposal<'a, K>, Note, u64> for Add<K> {
+    ghost use Rattle.std.specs.Prelude.{Some};
+    ghost use Rattle.lasso_log.specs.Chunks.{first_number};
+    ghost use Rattle.lasso_log.specs.Events.{event_of, note_of};
+
+    ghost ask = { λ w. note_of (first_number w.number.now.numbers) (event_of w.change) w.position w.ticket.now.pen.nib.key w.next.now.pen.nib.key };
+
+    ghost state = { λ w. Some 0 };
+}
+
+/// Bytes of a bucket that a pass asks for. `site` says where the bucket lies, and `used` how many bytes of it were taken.
+#[derive(Drop)]
+pub struct BytesAsked<'a, K: Key> {
+    pub bucket: u64,
+    pub bytes: u64,
+    pub size: u64,
+    pub used: u64,
+    pub site: &'a Tag,
+    pub number: &'a Tag,
+    pub ticket: &'a Ticket<K>,
+    pub next: &'a Ticket<K>,
+}
+
+impl<'a, K: Key> Plain<BytesAsked<'a, K>, Note, u64> for Add<K> {
+    ghost use Rattle.std.specs.Prelude.{None};
+    ghost use Rattle.lasso_log.specs.Chunks.{first_number};
+    ghost use Rattle.lasso_log.specs.Events.{note_in, bucket_at};
+    ghost use Rattle.lasso_log.specs.History.{Reserve};
+
+    ghost ask = { λ a. note_in (bucket_at a.site.now.numbers a.size a.used) (first_number a.number.now.numbers) (Reserve a.bucket a.bytes) a.ticket.now.pen.nib.key a.next.now.pen.nib.key };
+
+    ghost state = { λ a. None };
+}
+
+/// A bucket that a pass asks for, of which so many bytes are taken. `site` says where it lies.
+#[derive(Drop)]
+pub struct BucketAsked<'a, K: Key> {
+    pub size: u64,
+    pub bytes: u64,
+    pub site: &'a Tag,
+    pub number: &'a Tag,
+    pub ticket: &'a Ticket<K>,
+    pub next: &'a Ticket<K>,
+}
+
+impl<'a, K: Key> Plain<BucketAsked<'a, K>, Note, u64> for Add<K> {
+    ghost use Rattle.std.specs.Prelude.{None};
+    ghost use Rattle.lasso_log.specs.Chunks.{first_number};
+    ghost use Rattle.lasso_log.specs.Events.{note_in, bucket_at};
+    ghost use Rattle.lasso_log.specs.History.{Charge};
+
+    ghost ask = { λ a. note_in (bucket_at a.site.now.numbers a.size a.bytes) (first_number a.number.now.numbers) (Charge a.size a.bytes) a.ticket.now.pen.nib.key a.next.now.pen.nib.key };
+
+    ghost state = { λ a. None };
+}
+
+/// What shows that the cell of an appended text is filled with it: its chunk's fact and its own.
+pub type CellProof = (Written<Chunk<StoredText>>, Written<StoredText>);
+
+/// The update of a proposal, which hands in what shows that an appended text is in its cell.
+pub fn offered<K: Key>(
+    seen: Seen<Note, u64, LogRule<K>>,
+    proposal: Proposal<'_, K>,
+    cell_proof: Option<CellProof>,
+) -> Offer<Note, u64, LogRule<K>, NoGain>
+    requires filed { MatchOption cell_proof (Unit {0}) (λ f. IsCellAt seen.names proposal.position f.0.of f.0.value.items f.1.of × (event_of proposal.change ≡ Append f.1.value.text) × Incl (life (era_named seen.names)) f.1.value.until) }
+    ensures offer { (result.names ≡ seen.names) × (result.ask ≡ note_of (first_number proposal.entry.number.now.numbers) (event_of proposal.entry.change) proposal.entry.position proposal.entry.ticket.now.pen.nib.key proposal.entry.next.now.pen.nib.key) × (result.state ≡ ready cell_proof) }
+{
+    match cell_proof {
+        Some((chunk, item)) => hand_in::<_, _, _, _, Proposal<'_, K>, Add<K>>(
+            &seen, &chunk, &item, &proposal,
+        ),
+        None => seen.plain::<NoGain, Proposal<'_, K>, Add<K>>(&proposal),
+    }
+}

@@ -1,0 +1,124 @@
+//! The turns that a spine has seen: what the charges and limits of a history add up to, and how the limit is replaced and read.
+ghost use Rattle.std.specs.Prelude.{◌≡◌, ◌≢◌, ◌+◌, ◌<◌, ◌≤◌, ◌∷◌, [], IfSome, IfNone, MatchBool};
+ghost use Rattle.lasso_log.specs.Buckets.{bucket_size, doubling_after};
+ghost use Rattle.lasso_log.specs.History.{Limit};
+ghost use Rattle.lasso_log.specs.Notes.{Since, IsWordWith, state};
+ghost use Rattle.lasso_log.specs.Turns.{IsTurned, IsSameTurn};
+ghost use Rattle.lasso_log.specs.Views.{PassView, InternerId, TurnsView, IsSamePass};
+
+use crate::log::note::{Change, Note};
+use crate::log::pass::Pass;
+use crate::log::rule::LogRule;
+use crate::log::words::{Exchange, Log};
+use lasso_parts::keys::Key;
+use logbook::Seen;
+use std::marker::Model;
+
+/// How many turns a history has that was seen, its doubling size, usage and limit in bytes, and how many buckets it has. A contract sees
+/// these numbers, the interner and the notes.
+#[derive(Drop)]
+pub struct Turns<K: Key> {
+    pub(super) turns: u64,
+    pub(super) doubling: u64,
+    pub(super) usage: u64,
+    pub(super) limit: u64,
+    pub(super) count: u64,
+    pub(super) seen: Seen<Note, u64, LogRule<K>>,
+}
+
+impl<K: Key> Model for Turns<K> {
+    ghost use Rattle.std.specs.Prelude.{◌<◌, ◌^◌};
+    ghost use Rattle.lasso_log.specs.Notes.{opening_of, notes_of, IsOpened};
+    ghost use Rattle.lasso_log.specs.Turns.{IsTurned};
+    ghost use Rattle.lasso_log.specs.Views.{TurnsView, turns_view_coded, interner_id};
+
+    ghost Value = { TurnsView };
+
+    ghost coded = { turns_view_coded };
+
+    ghost view = { λ t. record { of = interner_id t.seen.book t.seen.names (opening_of t.seen.log); notes = notes_of t.seen.log; turns = t.turns; doubling = t.doubling; usage = t.usage; limit = t.limit; count = t.count } };
+
+    ghost invariant = { λ t. IsOpened t.seen.log × IsTurned K.key_at (opening_of t.seen.log) (notes_of t.seen.log) t.turns t.doubling t.usage t.limit t.count × (t.limit < 2 ^ 64) };
+}
+
+impl<K: Key> Turns<K> {
+    // The size of the bucket that so many bytes get where no bucket has room for them, or `None` where the limit refuses them.
+    pub(super) fn bucket_for(&self, bytes: u64) -> Option<u64>
+        requires { bytes ≢ 0 }
+        ensures size { result ≡ bucket_size self.now.doubling self.now.usage self.now.limit bytes }
+        ensures within { IfSome result (λ size. (bytes ≤ size) × (self.now.usage + size ≤ self.now.limit)) }
+        ensures refused { IfNone result (self.now.limit < self.now.usage + bytes) }
+    {
+        let left = self.limit.saturating_sub(self.usage);
+        if left < bytes {
+            return None;
+        }
+        if self.doubling > u64::MAX / 2 {
+            return Some(left);
+        }
+        let doubled = 2 * self.doubling;
+        if doubled < bytes {
+            Some(bytes)
+        } else if left < doubled {
+            Some(left)
+        } else {
+            Some(doubled)
+        }
+    }
+
+    // The doubling size once that bucket is there.
+    pub(super) fn doubling_for(&self, bytes: u64) -> u64
+        requires { bytes ≢ 0 }
+        ensures { result ≡ doubling_after self.now.doubling self.now.usage self.now.limit bytes }
+    {
+        let left = self.limit.saturating_sub(self.usage);
+        if self.doubling > u64::MAX / 2 {
+            return self.doubling;
+        }
+        let doubled = 2 * self.doubling;
+        if doubled < bytes || left < doubled {
+            self.doubling
+        } else {
+            doubled
+        }
+    }
+}
+
+impl<K: Key> Log<K> {
+    // Whether the turn word has the value of these turns, at one step.
+    pub(super) fn is_at(&self, turns: &Turns<K>, pass: &mut Pass<K>) -> bool
+        requires { (pass.old.of ≡ self.now) × (turns.now.of ≡ self.now) }
+        ensures same { IsSamePass pass.new pass.old }
+        ensures since { Since pass.old.number pass.old.notes pass.new.notes [] }
+        ensures at { MatchBool result (IsWordWith pass.new.notes 1 1 turns.now.turns × IsSameTurn (state self.now.opening turns.now.notes) (state self.now.opening pass.new.notes) × IsTurned K.key_at self.now.opening turns.now.notes turns.now.turns turns.now.doubling turns.now.usage turns.now.limit turns.now.count) (Unit {0}) }
+    {
+        pass.learn(&turns.seen);
+        self.load(&self.turns, 1, pass) == turns.turns
+    }
+
+    // Replaces the limit where the turn word has the value of these turns. Else nothing is done.
+    pub(super) fn try_set_limit(&self, turns: &mut Turns<K>, pass: &mut Pass<K>, limit: u64) -> bool
+        requires { (pass.old.of ≡ self.now) × (turns.old.of ≡ self.now) }
+        ensures same { IsSamePass pass.new pass.old × (turns.new.of ≡ turns.old.of) }
+        ensures done { MatchBool result (Since pass.old.number pass.old.notes pass.new.notes (Limit limit ∷ []) × (turns.new.notes ≡ pass.new.notes) × (turns.new.limit ≡ limit) × (turns.new.count ≡ turns.old.count) × (turns.new.usage ≡ turns.old.usage) × (turns.new.doubling ≡ turns.old.doubling)) ((pass.new ≡ pass.old) × (turns.new ≡ turns.old)) }
+    {
+        if turns.turns == u64::MAX {
+            return false;
+        }
+        let expected = turns.turns;
+        let numbers = Exchange {
+            word_index: 1,
+            expected,
+            position: 0,
+        };
+        let change = Change::Limit { limit };
+        let Some(word) = self.exchange(&self.turns, numbers, change, None, &turns.seen, pass) else {
+            return false;
+        };
+        drop(word);
+        turns.turns = expected + 1;
+        turns.limit = limit;
+        turns.seen = pass.copy_seen();
+        true
+    }
+}

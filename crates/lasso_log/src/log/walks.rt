@@ -1,0 +1,93 @@
+//! Walks over the list of buckets, for bytes of any of them. Used by whoever copies a text into a shared interner.
+ghost use Rattle.std.specs.Prelude.{◌≡◌, ◌≢◌, ◌<◌, [], IfSome, IfNone};
+ghost use Rattle.lasso_log.specs.Chunks.{era_named};
+ghost use Rattle.lasso_log.specs.History.{IsLegal};
+ghost use Rattle.lasso_log.specs.Notes.{Since, state};
+ghost use Rattle.lasso_log.specs.Pieces.{RangeView};
+ghost use Rattle.lasso_log.specs.SharedBuckets.{SharedView, IsReserved, names_with_book};
+ghost use Rattle.lasso_log.specs.Turns.{NoneHasRoom};
+ghost use Rattle.lasso_log.specs.Views.{PassView, InternerId, SpineView, TurnsView, IsSamePass, seen};
+
+use crate::log::pass::Pass;
+use crate::log::spine::Spine;
+use crate::log::words::Log;
+use crate::shared_arena::bucket::SharedBucket;
+use crate::shared_arena::bucket_list::BucketList;
+use crate::shared_arena::piece::Range;
+use lasso_parts::keys::Key;
+use std::sync::Wait;
+
+impl<K: Key> Log<K> {
+    /// Does nothing. Contracts learn that a bucket of the log's book is of the log.
+    pub(crate) fn share_opening(&self, bucket: &SharedBucket<K>)
+        requires { names_with_book bucket.now.of ≡ names_with_book self.now }
+        ensures { bucket.now.of ≡ self.now }
+    {
+        let mut both = self.seen.again();
+        both.learn(&bucket.seen);
+    }
+
+    /// Takes bytes, at least one, in a bucket that the spine's turns know, and gives the right to fill them. It is `None` only where
+    /// none of these buckets has room for them, and no event is added then. It takes no memory. It waits where another thread
+    /// takes bytes at the same time, and where a bucket is not in the list yet.
+    #[tactic(auto, using(crate::proofs::Tickets::since_trans))]
+    pub fn reserve<R: Wait>(
+        &self,
+        rt: &R,
+        list: &BucketList<K>,
+        spine: &Spine<K>,
+        pass: &mut Pass<K>,
+        bytes: u64,
+    ) -> Option<Range>
+        requires of { (pass.old.of ≡ self.now) × (spine.now.of ≡ self.now) × (list.now ≡ names_with_book self.now) }
+        requires some { bytes ≢ 0 }
+        ensures same { IsSamePass pass.new pass.old }
+        ensures event { IfSome result (λ r. (b : SharedView) × (b.of ≡ self.now) × (b.position < spine.now.turns.count) × IsReserved b pass.old.number pass.old.notes pass.new.notes r bytes) }
+        ensures range { IfSome result (λ r. (r.era ≡ era_named self.now.chunks) × (r.len ≡ bytes)) }
+        ensures none { IfNone result (Since pass.old.number pass.old.notes pass.new.notes []) }
+        ensures full { IfNone result (NoneHasRoom (state self.now.opening pass.new.notes) spine.now.turns.count bytes) }
+        ensures legal { IsLegal K.key_at self.now.opening (seen pass.new) }
+    {
+        for position in 0..spine.buckets() {
+            let bucket = list.find(rt, self, position);
+            if let Some(range) = bucket.try_reserve(rt, self, pass, bytes) {
+                return Some(range);
+            }
+        }
+        pass.show_legal();
+        None
+    }
+
+    /// Takes bytes, at least one, in a bucket that is in the list, with no spine, and gives the right to fill them. Where it is `None` no
+    /// event is added, and nothing is known of the room. It takes no memory. It waits where another thread takes bytes at the same time.
+    #[tactic(auto, using(crate::proofs::Tickets::since_trans))]
+    pub fn reserve_anywhere<R: Wait>(
+        &self,
+        rt: &R,
+        list: &BucketList<K>,
+        pass: &mut Pass<K>,
+        bytes: u64,
+    ) -> Option<Range>
+        requires of { (pass.old.of ≡ self.now) × (list.now ≡ names_with_book self.now) }
+        requires some { bytes ≢ 0 }
+        ensures same { IsSamePass pass.new pass.old }
+        ensures event { IfSome result (λ r. (b : SharedView) × (b.of ≡ self.now) × IsReserved b pass.old.number pass.old.notes pass.new.notes r bytes) }
+        ensures range { IfSome result (λ r. (r.era ≡ era_named self.now.chunks) × (r.len ≡ bytes)) }
+        ensures none { IfNone result (Since pass.old.number pass.old.notes pass.new.notes []) }
+        ensures legal { IsLegal K.key_at self.now.opening (seen pass.new) }
+    {
+        let first = list.first();
+        self.share_opening(first);
+        if let Some(range) = first.try_reserve(rt, self, pass, bytes) {
+            return Some(range);
+        }
+        for (_, bucket) in list.later() {
+            self.share_opening(bucket);
+            if let Some(range) = bucket.try_reserve(rt, self, pass, bytes) {
+                return Some(range);
+            }
+        }
+        pass.show_legal();
+        None
+    }
+}

@@ -1,0 +1,162 @@
+//! Four threads that fill one bucket with texts of lengths at random.
+ghost use denote.Param.Send.{IsSync};
+ghost use Rattle.std.specs.Prelude.{◌≡◌, All, IfOk, IfSome};
+ghost use Rattle.lasso_log.specs.Chunks.{era_named};
+ghost use Rattle.lasso_log.specs.Eras.{life};
+ghost use Rattle.lasso_log.specs.Pieces.{PieceView};
+ghost use Rattle.lasso_log.specs.SharedBuckets.{SharedView};
+ghost use Rattle.lasso_log.specs.Views.{InternerId};
+
+use crate::log::{Log, NewLog, Pass};
+use crate::shared_arena::bucket::SharedBucket;
+use crate::shared_arena::piece::Piece;
+use crate::shared_arena::tests::ranges::{copies, opens};
+use lasso_parts::keys::Spur;
+use lasso_parts::util::LassoResult;
+use std::alloc::Global;
+use std::sync::Wait;
+use std::test::*;
+use std::thread::{Threads, join};
+
+// What each thread writes, 40 bytes of its own letter.
+const LETTERS: [&str; 4] = [
+    "aaaaaaaaaaaaaaaaaaaaaaaaaaaaaaaaaaaaaaaa",
+    "bbbbbbbbbbbbbbbbbbbbbbbbbbbbbbbbbbbbbbbb",
+    "cccccccccccccccccccccccccccccccccccccccc",
+    "dddddddddddddddddddddddddddddddddddddddd",
+];
+
+// Copies so many of the letters, or one where there is no room for them.
+fn copies_some<R: Wait>(
+    rt: &R,
+    log: &Log<Spur>,
+    bucket: &SharedBucket<Spur>,
+    pass: &mut Pass<Spur>,
+    letters: &str,
+    count: usize,
+) -> Option<Piece>
+    requires { (pass.old.of ≡ log.now) × (bucket.now.of ≡ log.now) }
+    ensures of { pass.new.of ≡ log.now }
+    ensures until { IfSome result (λ p. p.until ≡ life (era_named log.now.chunks)) }
+{
+    if let Some(piece) = copies(rt, log, bucket, pass, letters.get(..count)?) {
+        return Some(piece);
+    }
+    copies(rt, log, bucket, pass, letters.get(..1)?)
+}
+
+// Copies 1 to 40 of the letters, at random, until the bucket has no room for one.
+fn fills<R: Wait>(
+    rt: &R,
+    alloc: Global,
+    log: &Log<Spur>,
+    bucket: &SharedBucket<Spur>,
+    letters: &str,
+    seed: u32,
+) -> LassoResult<Vec<Piece>>
+    requires { bucket.now.of ≡ log.now }
+    ensures { IfOk result (λ v. All (λ p. p.until ≡ life (era_named log.now.chunks)) v.items) }
+{
+    let mut pass = log.pass();
+    let mut pieces = Vec::new(alloc);
+    let mut random = seed;
+    for _ in 0..65_536u32 {
+        random = random.wrapping_mul(1_664_525).wrapping_add(1_013_904_223);
+        let count = (random >> 16) % 40 + 1;
+        let Some(piece) = copies_some(rt, log, bucket, &mut pass, letters, count as usize) else {
+            return Ok(pieces);
+        };
+        pieces.push(piece)?;
+    }
+    Ok(pieces)
+}
+
+// How many bytes the pieces have, where each shows the letters.
+fn bytes_of(log: &Log<Spur>, pieces: &Vec<Piece>, letters: &str) -> Option<u64>
+    requires { All (λ p. p.until ≡ life (era_named log.now.chunks)) pieces.now.items }
+{
+    let mut bytes: u64 = 0;
+    for i in 0..pieces.len() {
+        let text = pieces[i].text(log.era());
+        if text.is_empty() || !letters.starts_with(text) {
+            return None;
+        }
+        bytes = bytes.saturating_add(text.len() as u64);
+    }
+    Some(bytes)
+}
+
+// What two threads have filled.
+type Filled = (LassoResult<Vec<Piece>>, LassoResult<Vec<Piece>>);
+
+// Two threads that fill the bucket, each with its own letters.
+fn two_fill<R: Threads + Wait + Sync>(
+    rt: &R,
+    alloc: Global,
+    log: &Log<Spur>,
+    bucket: &SharedBucket<Spur>,
+    letters: (&str, &str),
+) -> Filled
+    requires { bucket.now.of ≡ log.now }
+    ensures first { IfOk result.0 (λ v. All (λ p. p.until ≡ life (era_named log.now.chunks)) v.items) }
+    ensures second { IfOk result.1 (λ v. All (λ p. p.until ≡ life (era_named log.now.chunks)) v.items) }
+{
+    join(
+        rt,
+        || fills(rt, alloc, log, bucket, letters.0, 7),
+        || fills(rt, alloc, log, bucket, letters.1, 41),
+    )
+}
+
+// Four threads that fill it.
+fn four_fill<R: Threads + Wait + Sync>(
+    rt: &R,
+    alloc: Global,
+    log: &Log<Spur>,
+    bucket: &SharedBucket<Spur>,
+) -> (Filled, Filled)
+    requires { bucket.now.of ≡ log.now }
+    ensures first { IfOk result.0.0 (λ v. All (λ p. p.until ≡ life (era_named log.now.chunks)) v.items) }
+    ensures second { IfOk result.0.1 (λ v. All (λ p. p.until ≡ life (era_named log.now.chunks)) v.items) }
+    ensures third { IfOk result.1.0 (λ v. All (λ p. p.until ≡ life (era_named log.now.chunks)) v.items) }
+    ensures fourth { IfOk result.1.1 (λ v. All (λ p. p.until ≡ life (era_named log.now.chunks)) v.items) }
+{
+    join(
+        rt,
+        ||
+            requires { IsSync R.row × (bucket.now.of ≡ log.now) }
+        { two_fill(rt, alloc, log, bucket, (LETTERS[0], LETTERS[1])) },
+        ||
+            requires { IsSync R.row × (bucket.now.of ≡ log.now) }
+        { two_fill(rt, alloc, log, bucket, (LETTERS[2], LETTERS[3])) },
+    )
+}
+
+// How many bytes a thread has filled, where each of its pieces shows its letters.
+fn filled_by(log: &Log<Spur>, filled: LassoResult<Vec<Piece>>, letters: &str) -> Option<u64>
+    requires { IfOk filled (λ v. All (λ p. p.until ≡ life (era_named log.now.chunks)) v.items) }
+{
+    let pieces = filled.ok()?;
+    bytes_of(log, &pieces, letters)
+}
+
+#[test]
+fn four_threads_fill_a_bucket_side_by_side(rt: HostRuntime) -> Result<(), Fail> {
+    let NewLog {
+        log,
+        spine: _,
+        bucket,
+    } = opens(rt.alloc(), 65_536)?;
+    let ((a, b), (c, d)) = four_fill(&rt, rt.alloc(), &log, &bucket);
+    let first = filled_by(&log, a, LETTERS[0]).ok_or("another text, or no memory")?;
+    let second = filled_by(&log, b, LETTERS[1]).ok_or("another text, or no memory")?;
+    let third = filled_by(&log, c, LETTERS[2]).ok_or("another text, or no memory")?;
+    let fourth = filled_by(&log, d, LETTERS[3]).ok_or("another text, or no memory")?;
+    let sum = first
+        .saturating_add(second)
+        .saturating_add(third)
+        .saturating_add(fourth);
+    let mut pass = log.pass();
+    assert_eq!(rt; (sum, bucket.len(&log, &mut pass)), (65_536, 65_536));
+    Ok(())
+}

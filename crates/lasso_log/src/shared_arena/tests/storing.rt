@@ -1,0 +1,68 @@
+//! A log with the list of its buckets, and texts that are copied into them. Used by the tests of buckets.
+ghost use Rattle.std.specs.Prelude.{◌≡◌, ◌≢◌, IfOk, length};
+ghost use Rattle.lasso_log.specs.Chunks.{era_named};
+ghost use Rattle.lasso_log.specs.Eras.{life};
+ghost use Rattle.lasso_log.specs.Pieces.{PieceView};
+ghost use Rattle.lasso_log.specs.SharedBuckets.{names_with_book};
+ghost use Rattle.lasso_log.specs.Views.{InternerId, PassView, SpineView};
+
+use crate::log::{Log, NewLog, OpeningTexts, Pass, Spine};
+use crate::shared_arena::bucket_list::BucketList;
+use crate::shared_arena::piece::Piece;
+use lasso_parts::keys::Spur;
+use lasso_parts::util::LassoResult;
+use std::alloc::Global;
+use std::sync::Wait;
+
+// A log that opens with an empty bucket of so many bytes, under this limit, with its spine and the list of its buckets.
+pub(super) fn opens(
+    alloc: Global,
+    bytes: usize,
+    limit: u64,
+) -> LassoResult<(Log<Spur>, Spine<Spur>, BucketList<Spur>)>
+    requires { bytes ≢ 0 }
+    ensures { IfOk result (λ r. (r.1.of ≡ r.0) × (r.2 ≡ names_with_book r.0)) }
+{
+    let texts = OpeningTexts::new(alloc, bytes)?;
+    let NewLog { log, spine, bucket } = Log::open_with(texts, limit);
+    let list = BucketList::new(alloc, &log, bucket)?;
+    Ok((log, spine, list))
+}
+
+// Copies the text into a bucket that has room for it, or else into a new one.
+pub(super) fn stores<R: Wait>(
+    rt: &R,
+    alloc: Global,
+    log: &Log<Spur>,
+    list: &BucketList<Spur>,
+    spine: &mut Spine<Spur>,
+    pass: &mut Pass<Spur>,
+    text: &str,
+) -> LassoResult<Piece>
+    requires of { (pass.old.of ≡ log.now) × (spine.old.of ≡ log.now) × (list.now ≡ names_with_book log.now) }
+    requires some { length text.now ≢ 0 }
+    ensures of { (pass.new.of ≡ log.now) × (spine.new.of ≡ log.now) }
+    ensures piece { IfOk result (λ p. (p.text ≡ text.now) × (p.until ≡ life (era_named log.now.chunks))) }
+{
+    let bytes = text.len() as u64;
+    let range = match log.reserve(rt, list, spine, pass, bytes) {
+        Some(range) => range,
+        None => log.charge(rt, alloc, list, spine, pass, bytes)?,
+    };
+    Ok(range.fill(log.era(), text))
+}
+
+// The bytes of the bucket at this position, and how many of them are taken.
+pub(super) fn bucket_at<R: Wait>(
+    rt: &R,
+    log: &Log<Spur>,
+    list: &BucketList<Spur>,
+    pass: &mut Pass<Spur>,
+    position: u64,
+) -> (u64, u64)
+    requires { (pass.old.of ≡ log.now) × (list.now ≡ names_with_book log.now) }
+    ensures { pass.new.of ≡ log.now }
+{
+    let bucket = list.find(rt, log, position);
+    (bucket.capacity(), bucket.len(log, pass))
+}

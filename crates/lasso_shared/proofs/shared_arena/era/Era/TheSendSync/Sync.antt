@@ -1,6 +1,0 @@
-use denote.Param.Send.{IsSync}
-use Rattle.lasso_shared.proofs.Crossing.{era_sync}
-use Rattle.lasso_shared.specs.contracts.shared_arena.era.Era.{the_row}
-
-pub sync : IsSync the_row
-sync = era_sync
