@@ -5,8 +5,8 @@ ghost use Rattle.lasso_bench.specs.Names.{named};
 
 use crate::texts::numbered_text;
 use anyhow::{Result, bail, ensure};
-use lasso_parts::keys::{Key, Spur};
 use lasso_log::log::{Log, Opened, Spine};
+use lasso_parts::keys::{Key, Spur};
 use std::alloc::{AllocError, Global};
 use std::sync::Wait;
 
