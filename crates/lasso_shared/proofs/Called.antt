@@ -1,11 +1,10 @@
 -- Calls of a pass, from what it had seen and has seen: a reply that is explained at the end of it.
 use Rattle.std.proofs.Common.{◌≡◌, ℕ, List, [], ◌∷◌, ◌++◌, length, slice_get, Option, refl, ap, sym, ◌∙◌, subst, append_assoc, append-nil}
-use Rattle.std.specs.Prelude.{Bool, nat_eq, nat_lt, is_some, Result}
-use Rattle.lasso_parts.specs.declared.util.LassoErrorKind.{LassoErrorKind}
+use Rattle.std.specs.Prelude.{Bool, nat_eq, nat_lt, is_some}
 use Rattle.lasso_parts.specs.Texts.{Text, Fits, position_of, key_of}
 use Rattle.lasso_parts.proofs.TextLemmas.{key_of_present}
 use Rattle.lasso_shared.specs.History.{Event, Limit, History, Totals, totals, IsLegal, IsOpening}
-use Rattle.lasso_shared.specs.Replies.{Question, Get, Contains, ContainsKey, Resolve, Len, IsEmpty, Usage, MaxUsage, SetLimit, Freeze, Reply, Found, Flag, Resolved, Number, Done, Listed, MayCopy, MayReply}
+use Rattle.lasso_shared.specs.Replies.{Question, Get, Contains, ContainsKey, Resolve, Len, IsEmpty, Usage, MaxUsage, SetLimit, Reply, Found, Flag, Resolved, Number, Done, MayReply}
 use Rattle.lasso_shared.specs.Calls.{events_of, Makes, MayComeAfter, IsCall, IsPlainCall}
 use Rattle.lasso_shared.specs.Notes.{NoteView, history, state, Since}
 use Rattle.lasso_shared.proofs.Histories.{history_append, events_append}
@@ -62,10 +61,6 @@ module _ {K : Type 0} (key_at : ℕ → Option K) (o : Totals) (p : ℕ) where
   -- the limit was replaced
   pub replaced : (before after : List NoteView) (m : ℕ) → Since p before after (Limit m ∷ []) → IsCall key_at o (history before) (history after) p (SetLimit m) Done
   replaced before after m s = explained_last before after (Limit m ∷ []) (SetLimit m) Done s tt tt refl
-
-  -- the list at the end was copied, or memory was wanting
-  pub frozen : (before after : List NoteView) (r : Result (List Text) LassoErrorKind) → Since p before after [] → MayCopy (state o after).texts r → IsCall key_at o (history before) (history after) p Freeze (Listed r)
-  frozen before after r s is = explained_last before after [] Freeze (Listed r) s refl is refl
 
 -- ---- plain calls
 

@@ -4,7 +4,7 @@ use Rattle.std.proofs.Common.{◌≡◌, ◌∙◌, ap, sym, subst, inl, inr, Li
 use Rattle.lasso_parts.specs.Texts.{Text, IsDistinct, Fits}
 use Rattle.lasso_shared.specs.Notes.{history, state}
 use Rattle.lasso_shared.specs.Views.{InternerId, list_of}
-use Rattle.lasso_shared.proofs.Called.{frozen}
+use Rattle.lasso_shared.proofs.Frozen.{frozen}
 use Rattle.lasso_shared.proofs.Legal.{list_kept}
 use Rattle.lasso_shared.proofs.threaded.ThreadedRodeo.into_reader_as.Goals as goal
 
