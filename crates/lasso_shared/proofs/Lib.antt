@@ -29,3 +29,4 @@ pub mod FillCalls
 pub mod Whole
 pub mod Stored
 pub mod Frozen
+pub mod Filled

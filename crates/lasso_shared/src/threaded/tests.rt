@@ -4,6 +4,7 @@ ghost use Rattle.std.specs.Prelude.{◌≡◌};
 mod callers;
 mod copied;
 mod crowd;
+mod filling;
 mod freezing;
 mod gaps;
 mod limits;
