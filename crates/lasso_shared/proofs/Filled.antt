@@ -10,7 +10,7 @@ use Rattle.lasso_shared.specs.History.{History, Totals, IsLegal}
 use Rattle.lasso_shared.specs.Replies.{Copied, Intern, Interned}
 use Rattle.lasso_shared.specs.Calls.{IsCall}
 use Rattle.lasso_shared.specs.Filling.{InternsEach, IsPlainFilling}
-use Rattle.lasso_shared.specs.Notes.{NoteView, history}
+use Rattle.lasso_shared.specs.Notes.{history}
 use Rattle.lasso_shared.specs.Views.{InternerId, PassView, IsSamePass, seen}
 
 -- the texts were interned by calls of the pass, which had seen nothing before

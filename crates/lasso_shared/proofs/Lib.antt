@@ -30,3 +30,4 @@ pub mod Whole
 pub mod Stored
 pub mod Frozen
 pub mod Filled
+pub mod Listed

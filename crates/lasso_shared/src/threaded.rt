@@ -7,6 +7,7 @@
 ghost use Rattle.std.specs.Prelude.{◌≡◌, []};
 ghost use Rattle.lasso_shared.specs.Views.{PassView, InternerId};
 
+mod comparing;
 mod filling;
 mod freezing;
 mod interning;

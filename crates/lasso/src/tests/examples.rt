@@ -6,6 +6,7 @@ mod making;
 mod own_key;
 mod parts;
 mod shared;
+mod shared_lists;
 mod walks;
 
 use crate::interface::Interner;

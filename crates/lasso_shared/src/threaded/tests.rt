@@ -2,6 +2,7 @@
 ghost use Rattle.std.specs.Prelude.{◌≡◌};
 
 mod callers;
+mod comparing;
 mod copied;
 mod crowd;
 mod filling;
