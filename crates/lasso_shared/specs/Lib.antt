@@ -4,3 +4,4 @@ pub mod Example
 pub mod ExampleCalls
 pub mod CallerLaws
 pub mod Shards
+pub mod Filling

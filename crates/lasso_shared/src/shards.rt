@@ -11,6 +11,7 @@ mod intern;
 mod limits;
 mod look;
 mod open;
+pub mod parts;
 mod put;
 pub mod shard;
 mod store;

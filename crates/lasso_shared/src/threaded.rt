@@ -7,6 +7,9 @@
 ghost use Rattle.std.specs.Prelude.{◌≡◌, []};
 ghost use Rattle.lasso_log.specs.Views.{PassView, InternerId};
 
+mod comparing;
+mod filling;
+mod freezing;
 mod interning;
 mod limits;
 mod looking;

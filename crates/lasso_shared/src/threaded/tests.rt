@@ -2,8 +2,11 @@
 ghost use Rattle.std.specs.Prelude.{◌≡◌};
 
 mod callers;
+mod comparing;
 mod copied;
 mod crowd;
+mod filling;
+mod freezing;
 mod gaps;
 mod limits;
 mod looking;
