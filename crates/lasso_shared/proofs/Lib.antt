@@ -28,3 +28,4 @@ pub mod Crossing
 pub mod FillCalls
 pub mod Whole
 pub mod Stored
+pub mod Walked

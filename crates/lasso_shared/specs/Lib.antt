@@ -22,3 +22,4 @@ pub mod SharedBuckets
 pub mod Turns
 pub mod Bids
 pub mod Shards
+pub mod Walks

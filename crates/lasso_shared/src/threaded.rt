@@ -14,6 +14,9 @@ mod makers;
 mod plain;
 #[cfg(test)]
 mod tests;
+mod walking;
+
+pub use walking::{Iter, Strings};
 
 use crate::log::Pass;
 use crate::shards::Shards;

@@ -8,6 +8,7 @@ mod gaps;
 mod limits;
 mod looking;
 mod passes;
+mod walking;
 
 use super::ThreadedRodeo;
 use crate::log::Pass;

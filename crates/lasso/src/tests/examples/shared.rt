@@ -36,3 +36,15 @@ fn shared_copied(rt: HostRuntime) -> Result<(), Fail> {
     assert_eq!(rt; rodeo.try_get_or_intern_static(&rt, "Hello, world!")?, key);
     Ok(())
 }
+
+#[test]
+fn shared_walk(rt: HostRuntime) -> Result<(), Fail> {
+    let rodeo: SpurThreadedRodeo = ThreadedRodeo::default(rt.alloc())?;
+    let red = rodeo.try_get_or_intern(&rt, "red")?;
+    let mut walk = rodeo.iter();
+    rodeo.try_get_or_intern(&rt, "green")?;
+    assert_eq!(rt; walk.len(), 1);
+    assert_eq!(rt; walk.next(), Some((red, "red")));
+    assert_eq!(rt; walk.next(), None);
+    Ok(())
+}
