@@ -38,6 +38,7 @@ impl<'a, K: Key> Model for Strings<'a, K> {
     ghost invariant = { λ s. (s.position ≤ s.end) × (s.end ≡ length s.texts) };
 }
 
+#[tactic(auto, using(crate::proofs::Walked::walk_steps))]
 impl<'a, K: Key> Strings<'a, K> {
     // Does nothing. Contracts learn that the number of texts is one that a word can have.
     fn show_short(&self)
@@ -70,14 +71,15 @@ impl<'a, K: Key> Iterator for Strings<'a, K> {
         ensures least { result.0 ≡ length self.now }
         ensures most { result.1 ≡ Some (length self.now) }
     {
-        (self.len(), Some(self.len()))
+        let left = self.end - self.position;
+        (left, Some(left))
     }
 }
 
 #[tactic(auto, using(crate::proofs::Walked::walk_steps))]
 impl<'a, K: Key> ExactSizeIterator for Strings<'a, K> {
     fn len(&self) -> usize {
-        self.end - self.position
+        self.size_hint().0
     }
 }
 

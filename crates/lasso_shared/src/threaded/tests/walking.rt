@@ -81,11 +81,7 @@ fn walks_of_an_empty_interner_are_at_their_end(rt: HostRuntime) -> Result<(), Fa
 }
 
 // Interns copies of the texts, and tells whether each was accepted.
-fn copies<R: Wait>(
-    rt: &R,
-    shared: &ThreadedRodeo<Spur, FixedState>,
-    texts: &[&'static str],
-) -> bool {
+fn copies<R: Wait>(rt: &R, shared: &ThreadedRodeo<Spur, FixedState>, texts: &[&str]) -> bool {
     let mut all = true;
     for text in texts.iter() {
         if shared.try_get_or_intern(rt, *text).is_err() {
