@@ -10,3 +10,4 @@ pub mod Stored
 pub mod Frozen
 pub mod Filled
 pub mod Listed
+pub mod Walked

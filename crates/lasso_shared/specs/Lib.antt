@@ -5,3 +5,4 @@ pub mod ExampleCalls
 pub mod CallerLaws
 pub mod Shards
 pub mod Filling
+pub mod Walks

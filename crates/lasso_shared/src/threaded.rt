@@ -17,6 +17,9 @@ mod makers;
 mod plain;
 #[cfg(test)]
 mod tests;
+mod walking;
+
+pub use walking::{Iter, Strings};
 
 use crate::shards::Shards;
 use lasso_log::log::Pass;

@@ -11,6 +11,7 @@ mod gaps;
 mod limits;
 mod looking;
 mod passes;
+mod walking;
 
 use super::ThreadedRodeo;
 use lasso_log::log::Pass;
