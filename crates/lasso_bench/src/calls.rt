@@ -1,13 +1,11 @@
 //! Calls of an interner that threads share, with a pass and plain, over many texts or keys.
-ghost use Rattle.std.specs.Prelude.{◌≡◌};
-
 use anyhow::Result;
 use lasso::{Key, Spur, SpurThreadedRodeo, ThreadedRodeo};
 use std::io::BufRead;
 use std::sync::Wait;
 
 /// A way to call an interner that threads share.
-pub trait Calls {
+pub trait Calls: Sync {
     /// Interns the texts, and answers the sum of their positions, or `None` where one was refused.
     fn intern_all<R: Wait>(rt: &R, rodeo: &SpurThreadedRodeo, texts: &[String]) -> Option<usize>;
 

@@ -1,6 +1,4 @@
 //! An interner that threads share: how long a call takes each of them.
-ghost use Rattle.std.specs.Prelude.{◌<◌};
-
 use crate::calls::{Calls, WithPass};
 use crate::lines::Lines;
 use crate::threads::THREADS;

@@ -1,6 +1,4 @@
 //! The lines of an input, and what interning them has to answer.
-ghost use Rattle.std.specs.Prelude.{◌<◌};
-
 use crate::pools::{KeyedTexts, MapPool, TextPool};
 use crate::texts::jumped;
 use anyhow::{Result, bail, ensure};
