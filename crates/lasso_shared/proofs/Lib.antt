@@ -7,3 +7,4 @@ pub mod CallerLaws
 pub mod Alike
 pub mod Whole
 pub mod Stored
+pub mod Built

@@ -8,6 +8,7 @@ ghost use Rattle.std.specs.Prelude.{◌≡◌, []};
 ghost use Rattle.lasso_log.specs.Views.{PassView, InternerId};
 
 mod interning;
+mod json;
 mod limits;
 mod looking;
 mod makers;
