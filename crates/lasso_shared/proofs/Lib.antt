@@ -11,3 +11,4 @@ pub mod Frozen
 pub mod Filled
 pub mod Listed
 pub mod Walked
+pub mod Built

@@ -11,6 +11,7 @@ mod comparing;
 mod filling;
 mod freezing;
 mod interning;
+mod json;
 mod limits;
 mod looking;
 mod makers;
