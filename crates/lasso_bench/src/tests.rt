@@ -110,14 +110,25 @@ const LINES: &str = "b\nab\nb\n\nabc\nab\nb";
 #[test]
 fn lines_are_read_once(rt: HostRuntime) -> Result<(), Fail> {
     let lines = Lines::read(rt.alloc(), LINES.as_bytes()).map_err(|_| "no lines")?;
-    let distinct: Vec<&str> = lines.distinct.iter().map(|text| text.as_str()).collect(rt.alloc())?;
+    let distinct: Vec<&str> = lines
+        .distinct
+        .iter()
+        .map(|text| text.as_str())
+        .collect(rt.alloc())?;
     assert_eq!(rt; distinct.as_slice(), ["b", "ab", "", "abc"].as_slice());
     // positions 0, 1, 0, 2, 3, 1 and 0, and lengths 1, 2, 1, 0, 3, 2 and 1
     assert_eq!(rt; lines.positions, 7);
     assert_eq!(rt; lines.lengths, 10);
     // 7919 leaves 2 where it is divided by the 7 lines
-    let again: Vec<&str> = lines.again.iter().map(|text| text.as_str()).collect(rt.alloc())?;
-    assert_eq!(rt; again.as_slice(), ["b", "b", "abc", "b", "ab", "", "ab"].as_slice());
+    let again: Vec<&str> = lines
+        .again
+        .iter()
+        .map(|text| text.as_str())
+        .collect(rt.alloc())?;
+    assert_eq!(rt;
+        again.as_slice(),
+        ["b", "b", "abc", "b", "ab", "", "ab"].as_slice()
+    );
     assert!(rt; Lines::read(rt.alloc(), "".as_bytes()).is_err());
     Ok(())
 }
