@@ -2,7 +2,7 @@
 
 use super::FIRST;
 use crate::threaded::ThreadedRodeo;
-use lasso_parts::keys::{MicroSpur, Spur};
+use lasso_parts::keys::{Key, MicroSpur, Spur};
 use lasso_parts::util::{Capacity, FixedState, LassoResult, MemoryLimits};
 use std::alloc::Global;
 use std::process::Abort;
@@ -10,81 +10,93 @@ use std::sync::Wait;
 use std::test::*;
 use std::thread::{Threads, join};
 
-#[test]
-fn makers_open_with_capacity_and_limit(rt: HostRuntime) -> Result<(), Fail> {
-    let shared = ThreadedRodeo::default(rt.alloc())?;
-    assert_eq!(rt; shared.current_memory_usage(&rt), 4096);
-    assert_eq!(rt; shared.max_memory_usage(&rt), usize::MAX);
-    // chunks of 32 and 32 cells for 50 texts
-    assert_eq!(rt; shared.capacity(), 64);
-    let shared: ThreadedRodeo<MicroSpur, FixedState> = ThreadedRodeo::new(rt.alloc())?;
-    assert_eq!(rt; shared.current_memory_usage(&rt), 4096);
-    let shared: ThreadedRodeo<Spur, FixedState> = ThreadedRodeo::with_capacity(
-        rt.alloc(),
-        Capacity::new(1000, 65536),
-    )?;
-    assert_eq!(rt; shared.current_memory_usage(&rt), 65536);
-    assert_eq!(rt; shared.max_memory_usage(&rt), usize::MAX);
-    let shared: ThreadedRodeo<Spur, FixedState> = ThreadedRodeo::with_memory_limits(
-        rt.alloc(),
-        MemoryLimits::new(10000),
-    )?;
-    assert_eq!(rt; shared.current_memory_usage(&rt), 4096);
-    assert_eq!(rt; shared.max_memory_usage(&rt), 10000);
-    let shared: ThreadedRodeo<Spur, FixedState> = ThreadedRodeo::with_capacity_and_memory_limits(
-        rt.alloc(),
-        Capacity::new(70, 4),
-        MemoryLimits::new(12),
-    )?;
-    assert_eq!(rt; shared.current_memory_usage(&rt), 4);
-    assert_eq!(rt; shared.max_memory_usage(&rt), 12);
-    assert_eq!(rt; shared.capacity(), 128);
-    Ok(())
+// Whether an interner was made, with this usage, limit and number of cells.
+fn has<K: Key, R: Wait>(
+    rt: &R,
+    made: LassoResult<ThreadedRodeo<K, FixedState>>,
+    usage: usize,
+    limit: usize,
+    cells: usize,
+) -> bool {
+    let Ok(shared) = made else {
+        return false;
+    };
+    shared.current_memory_usage(rt) == usage
+        && shared.max_memory_usage(rt) == limit
+        && shared.capacity() == cells
 }
 
 #[test]
-fn makers_take_a_hasher(rt: HostRuntime) -> Result<(), Fail> {
-    let shared: ThreadedRodeo<Spur, FixedState> = ThreadedRodeo::with_capacity_and_hasher(
-        rt.alloc(),
-        Capacity::for_bytes(7),
-        FixedState::new(),
-    )?;
-    assert_eq!(rt; shared.current_memory_usage(&rt), 7);
-    assert_eq!(rt; shared.max_memory_usage(&rt), usize::MAX);
-    let room = Capacity::for_bytes(10);
-    let limits = MemoryLimits::new(5);
+fn makers_open_with_defaults(rt: HostRuntime) {
+    // chunks of 32 and 32 cells for 50 texts
+    assert!(rt;
+        has(
+            &rt,
+            ThreadedRodeo::default(rt.alloc()),
+            4096,
+            usize::MAX,
+            64
+        )
+    );
+    assert!(rt; has::<MicroSpur, _>(&rt, ThreadedRodeo::new(rt.alloc()), 4096, usize::MAX, 64));
+}
+
+#[test]
+fn makers_open_with_capacity_and_limit(rt: HostRuntime) {
+    let room = Capacity::new(1000, 65536);
+    let made = ThreadedRodeo::with_capacity(rt.alloc(), room);
+    assert!(rt; has::<Spur, _>(&rt, made, 65536, usize::MAX, 1024));
+    let made = ThreadedRodeo::with_memory_limits(rt.alloc(), MemoryLimits::new(10000));
+    assert!(rt; has::<Spur, _>(&rt, made, 4096, 10000, 64));
+    let (room, limits) = (Capacity::new(70, 4), MemoryLimits::new(12));
+    let made = ThreadedRodeo::with_capacity_and_memory_limits(rt.alloc(), room, limits);
+    // chunks of 32, 32 and 64 cells
+    assert!(rt; has::<Spur, _>(&rt, made, 4, 12, 128));
+}
+
+#[test]
+fn makers_take_a_hasher(rt: HostRuntime) {
     let hasher = FixedState::new();
-    let shared: ThreadedRodeo<Spur, FixedState> =
-        ThreadedRodeo::with_capacity_memory_limits_and_hasher(rt.alloc(), room, limits, hasher)?;
+    let made = ThreadedRodeo::with_capacity_and_hasher(rt.alloc(), Capacity::for_bytes(7), hasher);
+    assert!(rt; has::<Spur, _>(&rt, made, 7, usize::MAX, 64));
+    let (room, limits) = (Capacity::new(0, 10), MemoryLimits::new(5));
     // the limit lies below the first bucket, which stays
-    assert_eq!(rt; shared.current_memory_usage(&rt), 10);
-    assert_eq!(rt; shared.max_memory_usage(&rt), 5);
-    shared.try_get_or_intern_static(&rt, "0123456789ab")?;
-    assert_eq!(rt; shared.current_memory_usage(&rt), 10);
-    Ok(())
+    let made = ThreadedRodeo::with_capacity_memory_limits_and_hasher(
+        rt.alloc(),
+        room,
+        limits,
+        hasher,
+    );
+    assert!(rt; has::<Spur, _>(&rt, made, 10, 5, 0));
+}
+
+// Interns the texts, and gives the usage and the number of cells then.
+fn filled<R: Wait>(
+    rt: &R,
+    made: LassoResult<ThreadedRodeo<Spur, FixedState>>,
+    texts: &[&'static str],
+) -> LassoResult<(usize, usize)> {
+    let shared = made?;
+    for text in texts.iter() {
+        shared.try_get_or_intern_static(rt, *text)?;
+    }
+    Ok((shared.current_memory_usage(rt), shared.capacity()))
 }
 
 #[test]
 fn capacity_is_room_for_texts(rt: HostRuntime) -> Result<(), Fail> {
-    let shared: ThreadedRodeo<Spur, FixedState> = ThreadedRodeo::with_capacity(
-        rt.alloc(),
-        Capacity::for_strings(70),
-    )?;
-    // chunks of 32, 32 and 64 cells
-    assert_eq!(rt; shared.capacity(), 128);
-    for text in FIRST {
-        shared.try_get_or_intern_static(&rt, text)?;
-        shared.try_get_or_intern_static(&rt, "another")?;
-    }
-    assert_eq!(rt; shared.capacity(), 128);
-    let shared: ThreadedRodeo<Spur, FixedState> = ThreadedRodeo::with_capacity(
-        rt.alloc(),
-        Capacity::minimal(),
-    )?;
-    assert_eq!(rt; shared.current_memory_usage(&rt), 1);
-    assert_eq!(rt; shared.capacity(), 0);
-    shared.try_get_or_intern_static(&rt, "p")?;
-    assert_eq!(rt; shared.capacity(), 32);
+    let made = ThreadedRodeo::with_capacity(rt.alloc(), Capacity::for_strings(70));
+    assert_eq!(rt; filled(&rt, made, &FIRST)?, (4096, 128));
+    let made = ThreadedRodeo::with_capacity(rt.alloc(), Capacity::minimal());
+    assert_eq!(rt; filled(&rt, made, &["p"])?, (1, 32));
+    Ok(())
+}
+
+#[test]
+fn no_limit_refuses_a_static_text(rt: HostRuntime) -> Result<(), Fail> {
+    let (room, limits) = (Capacity::for_bytes(10), MemoryLimits::new(5));
+    let made = ThreadedRodeo::with_capacity_and_memory_limits(rt.alloc(), room, limits);
+    assert_eq!(rt; filled(&rt, made, &["0123456789ab"])?, (10, 64));
     Ok(())
 }
 
