@@ -1,5 +1,5 @@
 //! Examples of the use of `lasso`, as a crate beside it has them: those of the front page, and those in the documents of the calls, where
-//! each stands in a test as it is there.
+//! each stands in a test as it is there; and a key type of one's own.
 #![tactic(auto)]
 
 #[cfg(test)]
@@ -10,8 +10,7 @@ mod frozen;
 mod looking_up;
 #[cfg(test)]
 mod making;
-#[cfg(test)]
-mod own_key;
+pub mod own_key;
 #[cfg(test)]
 mod parts;
 #[cfg(test)]

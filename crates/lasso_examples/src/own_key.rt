@@ -1,8 +1,10 @@
 //! A key type of one's own, which leaves numbers free for other uses.
-use lasso::{Key, LassoErrorKind, Rodeo};
+#[cfg(test)]
+mod tests;
+
+use lasso::Key;
 use std::cmp::{Eq, PartialEq};
 use std::marker::Model;
-use std::test::Fail;
 
 /// A key of 8 bits for 200 positions: the numbers from 200 on are free for other uses.
 #[derive(Clone, Copy, PartialEq, Eq)]
@@ -56,24 +58,4 @@ impl Key for SmallKey {
     ghost made_again = { λ k is_value. Prim.grind (arith, nat_tests) };
 
     ghost equal = { λ a b is_value is_value'. Prim.grind (arith, nat_tests) };
-}
-
-#[test]
-fn a_key_type_of_ones_own(rt: HostRuntime) -> Result<(), Fail> {
-    let mut rodeo: Rodeo<SmallKey, _, _> = Rodeo::new(rt.alloc())?;
-    for number in 0..200usize {
-        let text = format!(in rt.alloc(); "text {number}")?;
-        assert_eq!(rt;
-            rodeo.try_get_or_intern(text.as_str())?.into_usize(),
-            number
-        );
-    }
-    let refusal = rodeo
-        .try_get_or_intern("one more")
-        .err()
-        .ok_or("not refused")?;
-    assert!(rt; refusal.kind() == LassoErrorKind::KeySpaceExhaustion);
-    let last = rodeo.get("text 199").ok_or("not there")?;
-    assert_eq!(rt; rodeo.try_resolve(last), Some("text 199"));
-    Ok(())
 }

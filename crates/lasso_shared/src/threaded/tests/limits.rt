@@ -10,55 +10,51 @@ use std::sync::Wait;
 use std::test::*;
 use std::thread::{Threads, join};
 
-// Whether an interner was made, with this usage, limit and number of cells.
+// Whether the interner that was made has this usage, this limit and so many cells; or why none was made.
 fn has<K: Key, R: Wait>(
     rt: &R,
     made: LassoResult<ThreadedRodeo<K, FixedState>>,
     usage: usize,
     limit: usize,
     cells: usize,
-) -> bool {
-    let Ok(shared) = made else {
-        return false;
-    };
-    shared.current_memory_usage(rt) == usage
-        && shared.max_memory_usage(rt) == limit
-        && shared.capacity() == cells
+) -> LassoResult<bool> {
+    let shared = made?;
+    Ok(
+        shared.current_memory_usage(rt) == usage
+            && shared.max_memory_usage(rt) == limit
+            && shared.capacity() == cells,
+    )
 }
 
 #[test]
-fn makers_open_with_defaults(rt: HostRuntime) {
+fn makers_open_with_defaults(rt: HostRuntime) -> Result<(), Fail> {
     // chunks of 32 and 32 cells for 50 texts
-    assert!(rt;
-        has(
-            &rt,
-            ThreadedRodeo::default(rt.alloc()),
-            4096,
-            usize::MAX,
-            64
-        )
-    );
-    assert!(rt; has::<MicroSpur, _>(&rt, ThreadedRodeo::new(rt.alloc()), 4096, usize::MAX, 64));
+    let made = ThreadedRodeo::default(rt.alloc());
+    assert!(rt; has(&rt, made, 4096, usize::MAX, 64)?);
+    let made = ThreadedRodeo::new(rt.alloc());
+    assert!(rt; has::<MicroSpur, _>(&rt, made, 4096, usize::MAX, 64)?);
+    Ok(())
 }
 
 #[test]
-fn makers_open_with_capacity_and_limit(rt: HostRuntime) {
+fn makers_open_with_capacity_and_limit(rt: HostRuntime) -> Result<(), Fail> {
     let room = Capacity::new(1000, 65536);
     let made = ThreadedRodeo::with_capacity(rt.alloc(), room);
-    assert!(rt; has::<Spur, _>(&rt, made, 65536, usize::MAX, 1024));
+    assert!(rt; has::<Spur, _>(&rt, made, 65536, usize::MAX, 1024)?);
     let made = ThreadedRodeo::with_memory_limits(rt.alloc(), MemoryLimits::new(10000));
-    assert!(rt; has::<Spur, _>(&rt, made, 4096, 10000, 64));
+    assert!(rt; has::<Spur, _>(&rt, made, 4096, 10000, 64)?);
     let (room, limits) = (Capacity::new(70, 4), MemoryLimits::new(12));
     let made = ThreadedRodeo::with_capacity_and_memory_limits(rt.alloc(), room, limits);
     // chunks of 32, 32 and 64 cells
-    assert!(rt; has::<Spur, _>(&rt, made, 4, 12, 128));
+    assert!(rt; has::<Spur, _>(&rt, made, 4, 12, 128)?);
+    Ok(())
 }
 
 #[test]
-fn makers_take_a_hasher(rt: HostRuntime) {
+fn makers_take_a_hasher(rt: HostRuntime) -> Result<(), Fail> {
     let hasher = FixedState::new();
     let made = ThreadedRodeo::with_capacity_and_hasher(rt.alloc(), Capacity::for_bytes(7), hasher);
-    assert!(rt; has::<Spur, _>(&rt, made, 7, usize::MAX, 64));
+    assert!(rt; has::<Spur, _>(&rt, made, 7, usize::MAX, 64)?);
     let (room, limits) = (Capacity::new(0, 10), MemoryLimits::new(5));
     // the limit lies below the first bucket, which stays
     let made = ThreadedRodeo::with_capacity_memory_limits_and_hasher(
@@ -67,7 +63,8 @@ fn makers_take_a_hasher(rt: HostRuntime) {
         limits,
         hasher,
     );
-    assert!(rt; has::<Spur, _>(&rt, made, 10, 5, 0));
+    assert!(rt; has::<Spur, _>(&rt, made, 10, 5, 0)?);
+    Ok(())
 }
 
 // Interns the texts, and gives the usage and the number of cells then.
