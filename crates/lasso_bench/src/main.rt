@@ -1,13 +1,18 @@
-//! Times the interner beside a map and a set of the standard kind, and the log of a shared one beside another
-//! list that threads share: with the word `measure` it prints the nanoseconds of a call of the first, with
+//! Times the interner beside a map and a set of the standard kind, the log of a shared one beside another list that
+//! threads share, and the shared one: with the word `measure` it prints the nanoseconds of a call of the first, with
 //! `round` those of one round of the interner alone, with `refill` those of an interner that is cleared and filled
-//! again, with `shared` those of a call of the lists that are shared, and without words nothing.
+//! again, with `shared` those of a call of the lists that are shared, with `interners` those of one round of the
+//! interner that threads share, over the lines of standard input; with `fill` it interns these lines as they come
+//! and prints how many texts there are, and without words nothing.
 #![tactic(auto)]
 
 ghost use Rattle.std.specs.Prelude.{◌<◌};
 
+mod calls;
 mod copying;
 mod frozen;
+mod interners;
+mod lines;
 mod pools;
 mod positions;
 mod refill;
@@ -19,17 +24,21 @@ mod threads;
 mod timing;
 
 use anyhow::{Result, bail};
+use calls::{Plain, WithPass, fill};
 use copying::{COPIES, best_copy_timings};
 use frozen::{FrozenSample, best_frozen_timings};
+use interners::{time_filled, time_filling};
+use lines::Lines;
 use pools::{MapPool, RodeoPool, SetPool};
 use refill::best_refill_timings;
 use shared::Shelf;
 use std::env;
+use std::io::BufReader;
 use std::rt::Clock;
 use std::sync::Wait;
 use std::thread::Threads;
 use texts::Sample;
-use threads::{CALLS, Walk, best_shared_timings};
+use threads::{CALLS, THREADS, Walk, best_shared_timings};
 use timing::{Timings, best_timings, round};
 
 const TEXTS: u32 = 100_000;
@@ -51,7 +60,9 @@ fn main(rt: HostRuntime) -> Result<()> {
         [word] if word.as_str() == "round" => print_rounds(&rt),
         [word] if word.as_str() == "refill" => print_refills(&rt),
         [word] if word.as_str() == "shared" => print_shared(&rt),
-        _ => bail!("usage: lasso_bench [measure|round|refill|shared]"),
+        [word] if word.as_str() == "interners" => print_interners(&rt),
+        [word] if word.as_str() == "fill" => print_fill(&rt),
+        _ => bail!("usage: lasso_bench [measure|round|refill|shared|interners|fill]"),
     }
 }
 
@@ -150,6 +161,41 @@ fn print_columns(rt: &impl Print, name: &str, call: &str, tenths: [u64; 3]) -> R
         print!(rt; "{whole:>7}.{tenth}")?;
     }
     println!(rt; "")?;
+    Ok(())
+}
+
+// Times one round of the interner that threads share over the lines of standard input, and prints a line for each call
+// and each number of threads: the call, the number, and the time.
+fn print_interners<R: AllocGlobal + Clock + Input + Print + Threads + Wait + Sync>(
+    rt: &R,
+) -> Result<()> {
+    let lines = Lines::read(rt.alloc(), BufReader::new(rt.alloc(), rt.reader())?)?;
+    let filling = time_filling(rt, &lines)?;
+    let with_pass = time_filled::<WithPass, R>(rt, &lines)?;
+    let plain = time_filled::<Plain, R>(rt, &lines)?;
+    print_calls(rt, "present", with_pass.present)?;
+    print_calls(rt, "plain_present", plain.present)?;
+    print_calls(rt, "new", filling.new)?;
+    print_calls(rt, "resolve", with_pass.resolve)?;
+    print_calls(rt, "plain_resolve", plain.resolve)?;
+    print_calls(rt, "intern", filling.intern)
+}
+
+// Prints a line for each number of threads, with the time of a call, which is given in tenths of a nanosecond.
+fn print_calls(rt: &impl Print, call: &str, tenths: [u64; 3]) -> Result<()> {
+    for at in 0..3usize {
+        let threads = THREADS[at];
+        let whole = tenths[at] / 10;
+        let tenth = tenths[at] % 10;
+        println!(rt; "{call} {threads} {whole}.{tenth}")?;
+    }
+    Ok(())
+}
+
+// Interns the lines of standard input in an interner that threads share, and prints how many texts there are.
+fn print_fill<R: AllocGlobal + Input + Print + Wait>(rt: &R) -> Result<()> {
+    let count = fill(rt, BufReader::new(rt.alloc(), rt.reader())?)?;
+    println!(rt; "{count}")?;
     Ok(())
 }
 

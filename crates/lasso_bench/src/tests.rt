@@ -1,6 +1,9 @@
 //! One run of each pool over a few texts.
+use crate::calls::{Calls, Plain, WithPass, fill};
 use crate::copying::best_copy_timings;
 use crate::frozen::{FrozenSample, FrozenTexts, best_frozen_timings, keys_at, resolve_all};
+use crate::interners::{time_filled, time_filling};
+use crate::lines::Lines;
 use crate::pools::{KeyedTexts, MapPool, RodeoPool, SetPool, TextPool};
 use crate::positions::random_positions;
 use crate::refill::best_refill_timings;
@@ -8,7 +11,9 @@ use crate::shared::{SharedTexts, Shelf};
 use crate::texts::{Sample, jumped};
 use crate::threads::{Walk, best_shared_timings};
 use crate::timing::best_timings;
+use lasso::{SpurThreadedRodeo, ThreadedRodeo};
 use std::process::Abort;
+use std::sync::Wait;
 use std::test::Fail;
 
 #[test]
@@ -79,6 +84,62 @@ fn shared_lists_answer_right(rt: HostRuntime) -> Result<(), Fail> {
 #[test]
 fn a_bucket_is_filled_with_copies(rt: HostRuntime) -> Result<(), Fail> {
     assert!(rt; best_copy_timings(&rt).is_ok());
+    Ok(())
+}
+
+fn few_calls<C: Calls>(rt: &(impl AllocGlobal + Abort + Wait)) -> Result<(), Fail> {
+    let rodeo: SpurThreadedRodeo = ThreadedRodeo::default(rt.alloc())?;
+    let lines = Lines::read(rt.alloc(), &b"b\nabc\nb\n"[..]).map_err(|_| "no lines")?;
+    // the positions of b, abc and b
+    assert_eq!(rt; C::intern_all(rt, &rodeo, &lines.texts), Some(1));
+    let Some(key) = rodeo.get(rt, "abc") else {
+        return Err("abc is missing".into());
+    };
+    assert_eq!(rt; C::resolve_all(&rodeo, &[key, key]), 6);
+    Ok(())
+}
+
+#[test]
+fn few_calls_of_each(rt: HostRuntime) -> Result<(), Fail> {
+    few_calls::<WithPass>(&rt)?;
+    few_calls::<Plain>(&rt)
+}
+
+const LINES: &str = "b\nab\nb\n\nabc\nab\nb";
+
+#[test]
+fn lines_are_read_once(rt: HostRuntime) -> Result<(), Fail> {
+    let lines = Lines::read(rt.alloc(), LINES.as_bytes()).map_err(|_| "no lines")?;
+    let distinct: Vec<&str> = lines
+        .distinct
+        .iter()
+        .map(|text| text.as_str())
+        .collect(rt.alloc())?;
+    assert_eq!(rt; distinct.as_slice(), ["b", "ab", "", "abc"].as_slice());
+    // positions 0, 1, 0, 2, 3, 1 and 0, and lengths 1, 2, 1, 0, 3, 2 and 1
+    assert_eq!(rt; lines.positions, 7);
+    assert_eq!(rt; lines.lengths, 10);
+    // 7919 leaves 2 where it is divided by the 7 lines
+    let again: Vec<&str> = lines
+        .again
+        .iter()
+        .map(|text| text.as_str())
+        .collect(rt.alloc())?;
+    assert_eq!(rt;
+        again.as_slice(),
+        ["b", "b", "abc", "b", "ab", "", "ab"].as_slice()
+    );
+    assert!(rt; Lines::read(rt.alloc(), "".as_bytes()).is_err());
+    Ok(())
+}
+
+#[test]
+fn shared_interners_answer_right(rt: HostRuntime) -> Result<(), Fail> {
+    let lines = Lines::read(rt.alloc(), LINES.as_bytes()).map_err(|_| "no lines")?;
+    assert!(rt; time_filling(&rt, &lines).is_ok());
+    assert!(rt; time_filled::<WithPass, _>(&rt, &lines).is_ok());
+    assert!(rt; time_filled::<Plain, _>(&rt, &lines).is_ok());
+    assert!(rt; fill(&rt, LINES.as_bytes()).is_ok_and(|count| count == 4));
     Ok(())
 }
 

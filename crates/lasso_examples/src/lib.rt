@@ -16,4 +16,6 @@ mod parts;
 #[cfg(test)]
 mod shared;
 #[cfg(test)]
+mod shared_lists;
+#[cfg(test)]
 mod walks;

@@ -79,3 +79,15 @@ fn shared_with_a_new_limit(rt: HostRuntime) -> Result<(), Fail> {
     assert_eq!(rt; rodeo.current_memory_usage_as(&rt, &mut pass), 4096);
     Ok(())
 }
+
+#[test]
+fn shared_walk(rt: HostRuntime) -> Result<(), Fail> {
+    let rodeo: SpurThreadedRodeo = ThreadedRodeo::default(rt.alloc())?;
+    let red = rodeo.try_get_or_intern(&rt, "red")?;
+    let mut walk = rodeo.iter();
+    rodeo.try_get_or_intern(&rt, "green")?;
+    assert_eq!(rt; walk.len(), 1);
+    assert_eq!(rt; walk.next(), Some((red, "red")));
+    assert_eq!(rt; walk.next(), None);
+    Ok(())
+}

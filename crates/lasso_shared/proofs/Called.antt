@@ -1,12 +1,14 @@
 -- Calls of a pass, from what it had seen and has seen: a reply that is explained at the end of it.
-use Rattle.std.proofs.Common.{◌≡◌, ℕ, List, [], ◌∷◌, ◌++◌, length, slice_get, Option, refl, ap, sym, ◌∙◌, subst, append_assoc, append-nil}
+use Rattle.std.proofs.Common.{◌≡◌, ℕ, List, [], ◌∷◌, ◌++◌, length, slice_get, Option, Result, Ok, Err, inl, inr, refl, ap, sym, ◌∙◌, subst, append_assoc, append-nil}
 use Rattle.std.specs.Prelude.{Bool, nat_eq, nat_lt, is_some}
 use Rattle.lasso_parts.specs.Texts.{Text, Fits, position_of, key_of}
+use Rattle.lasso_parts.specs.declared.util.LassoErrorKind.TheVariants.{FailedAllocation}
 use Rattle.lasso_parts.proofs.TextLemmas.{key_of_present}
 use Rattle.lasso_log.specs.History.{Event, Limit, History, Totals, totals, IsLegal, IsOpening}
-use Rattle.lasso_log.specs.Replies.{Question, Get, Contains, ContainsKey, Resolve, Len, IsEmpty, Usage, MaxUsage, SetLimit, Reply, Found, Flag, Resolved, Number, Done, MayReply}
+use Rattle.lasso_log.specs.Replies.{Question, Get, Contains, ContainsKey, Resolve, Len, IsEmpty, Usage, MaxUsage, SetLimit, Serialize, Listed, Reply, Found, Flag, Resolved, Number, Done, MayReply}
 use Rattle.lasso_log.specs.Calls.{events_of, Makes, MayComeAfter, IsCall, IsPlainCall}
 use Rattle.lasso_log.specs.Notes.{NoteView, history, state, Since}
+use Rattle.lasso_shared.specs.Json.{written_of}
 use Rattle.lasso_log.proofs.Histories.{history_append, events_append}
 use Rattle.lasso_log.proofs.Legal.{legal_parts, list_kept}
 
@@ -61,6 +63,11 @@ module _ {K : Type 0} (key_at : ℕ → Option K) (o : Totals) (p : ℕ) where
   -- the limit was replaced
   pub replaced : (before after : List NoteView) (m : ℕ) → Since p before after (Limit m ∷ []) → IsCall key_at o (history before) (history after) p (SetLimit m) Done
   replaced before after m s = explained_last before after (Limit m ∷ []) (SetLimit m) Done s tt tt refl
+
+  -- the list at the end was written, or memory was wanting
+  pub serialized : {A E : Type 0} (before after : List NoteView) (r : Result A E) → Since p before after [] → IsCall key_at o (history before) (history after) p Serialize (Listed (written_of (state o after).texts r))
+  serialized before after (Ok value) s = explained_last before after [] Serialize (Listed (Ok (state o after).texts)) s refl (inl refl) refl
+  serialized before after (Err error) s = explained_last before after [] Serialize (Listed (Err FailedAllocation)) s refl (inr refl) refl
 
 -- ---- plain calls
 

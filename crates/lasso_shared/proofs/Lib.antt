@@ -7,3 +7,8 @@ pub mod CallerLaws
 pub mod Alike
 pub mod Whole
 pub mod Stored
+pub mod Frozen
+pub mod Filled
+pub mod Listed
+pub mod Walked
+pub mod Built

@@ -3,4 +3,7 @@ pub mod Runs
 pub mod Example
 pub mod ExampleCalls
 pub mod CallerLaws
+pub mod Json
 pub mod Shards
+pub mod Filling
+pub mod Walks

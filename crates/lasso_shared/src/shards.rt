@@ -7,10 +7,12 @@ ghost use Rattle.std.specs.Prelude.{◌≡◌, ◌<◌, ℕ, length, Some, slice
 ghost use Rattle.lasso_log.specs.SharedBuckets.{names_with_book};
 ghost use Rattle.lasso_log.specs.Views.{InternerId};
 
+mod building;
 mod intern;
 mod limits;
 mod look;
 mod open;
+pub mod parts;
 mod put;
 pub mod shard;
 mod store;

@@ -7,13 +7,20 @@
 ghost use Rattle.std.specs.Prelude.{◌≡◌, []};
 ghost use Rattle.lasso_log.specs.Views.{PassView, InternerId};
 
+mod comparing;
+mod filling;
+mod freezing;
 mod interning;
+mod json;
 mod limits;
 mod looking;
 mod makers;
 mod plain;
 #[cfg(test)]
 mod tests;
+mod walking;
+
+pub use walking::{Iter, Strings};
 
 use crate::shards::Shards;
 use lasso_log::log::Pass;

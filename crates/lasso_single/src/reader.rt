@@ -10,6 +10,7 @@ mod tests;
 
 use crate::resolver::RodeoResolver;
 use crate::rodeo::Rodeo;
+use lasso_parts::index::Texts;
 use lasso_parts::iter::{Iter, Strings};
 use lasso_parts::keys::Key;
 use std::alloc::Allocator;
@@ -37,6 +38,14 @@ impl<K: Key, S: BuildHasher, A: Allocator> Model for RodeoReader<K, S, A> {
 impl<K: Key, S: BuildHasher + Drop, A: Allocator> Drop for RodeoReader<K, S, A> {
     fn drop(self) {
         let RodeoReader { rodeo: _ } = self;
+    }
+}
+
+impl<K: Key, S: BuildHasher, A: Allocator> Texts for RodeoReader<K, S, A> {
+    ghost list = { λ r. r };
+
+    fn text_at(&self, position: usize) -> &str {
+        self.rodeo.text_at(position)
     }
 }
 

@@ -45,6 +45,14 @@ impl<K: Key, A: Allocator> Drop for RodeoResolver<K, A> {
     }
 }
 
+impl<K: Key, A: Allocator> Texts for RodeoResolver<K, A> {
+    ghost list = { λ r. r };
+
+    fn text_at(&self, position: usize) -> &str {
+        self.list.text_at(position)
+    }
+}
+
 impl<K: Key, A: Allocator> RodeoResolver<K, A> {
     /// The frozen form of a list, whose positions must each have a key.
     pub(crate) fn new(list: TextList<A>) -> Self

@@ -8,7 +8,7 @@ use lasso_parts::util::{Capacity, LassoError, LassoErrorKind, LassoResult};
 
 /// Room for the texts, in one bucket of just their bytes (4096 where they have none); `len` must be how many
 /// there are. It is refused where the texts have more bytes than a `usize` counts.
-pub(crate) fn one_bucket<T: Texts>(texts: &T, len: usize) -> LassoResult<Capacity>
+pub fn one_bucket<T: Texts>(texts: &T, len: usize) -> LassoResult<Capacity>
     requires { len ≡ length (T.list texts.now) }
     ensures bytes { IfOk result (λ capacity. capacity.bytes ≡ clone_size (T.list texts.now)) }
     ensures counted { IfOk result (λ _. bytes_of (T.list texts.now) < 2 ^ 64) }

@@ -1,5 +1,5 @@
-//! The list of a history that was seen, as an index reads it. Used by the interner that threads share.
-ghost use Rattle.std.specs.Prelude.{◌≡◌};
+//! The list of a history that was seen, as an index and a walk read it. Used by the interner that threads share.
+ghost use Rattle.std.specs.Prelude.{◌≡◌, ◌<◌, Some, length, slice_get};
 ghost use Rattle.lasso_log.specs.Views.{PassView, InternerId, list_of};
 
 use crate::log::note::Note;
@@ -37,6 +37,16 @@ impl<'a, K: Key> Texts for SeenTexts<'a, K> {
     ghost list = { λ s. s };
 
     fn text_at(&self, position: usize) -> &str {
+        self.lend(position)
+    }
+}
+
+impl<'a, K: Key> SeenTexts<'a, K> {
+    /// The text at a position below the list's length. It is lent as long as the log. It takes no memory and does not wait.
+    pub fn lend(&self, position: usize) -> &'a str
+        requires { position < length self.now }
+        ensures { slice_get self.now position ≡ Some result.now }
+    {
         let mut seen = self.seen.again();
         self.log.lend(&mut seen, position as u64)
     }

@@ -162,6 +162,13 @@ fn constant_hash(rt: HostRuntime) -> Result<(), Fail> {
     assert!(rt; in_order(&rt, &shared, &TEXTS));
     assert_eq!(rt; shared.get(&rt, "300"), None);
     assert_eq!(rt; shared.len(), 300);
+    let reader = shared.into_reader(&rt)?;
+    assert_eq!(rt; reader.len(), 300);
+    for position in 0..TEXTS.len() {
+        let found = reader.get(TEXTS[position]).ok_or("not there")?;
+        assert_eq!(rt; found.into_usize(), position);
+    }
+    assert!(rt; reader.get("300").is_none());
     Ok(())
 }
 

@@ -1,12 +1,13 @@
 //! Plain calls of an interner that threads share: each is the call of a new pass, which is gone afterwards. So a clause explains each
 //! reply by a legal history of its own; what holds across calls is said by the calls with a pass, and tested of these.
-ghost use Rattle.std.specs.Prelude.{◌≡◌, ◌≤◌, ℕ, option_map};
+ghost use Rattle.std.specs.Prelude.{◌≡◌, ◌≤◌, ℕ, Ok, option_map};
 ghost use Rattle.lasso_log.specs.History.{IsOpening};
 ghost use Rattle.lasso_log.specs.Replies.{Copied, Static, Intern, Get, Contains, ContainsKey, Resolve, Len, IsEmpty, Usage, MaxUsage, SetLimit, Interned, Found, Flag, Resolved, Number, Done};
+ghost use Rattle.lasso_log.specs.Replies as replies;
 ghost use Rattle.lasso_log.specs.Calls.{IsPlainCall};
 ghost use Rattle.lasso_log.specs.Views.{InternerId};
 
-use crate::threaded::ThreadedRodeo;
+use crate::threaded::{Iter, Strings, ThreadedRodeo};
 use lasso_parts::keys::Key;
 use lasso_parts::util::{LassoResult, MemoryLimits};
 use std::hash::BuildHasher;
@@ -138,6 +139,35 @@ impl<K: Key, S: BuildHasher + Drop> ThreadedRodeo<K, S> {
         let len = self.len();
         let cells = self.shards.log.cells() as usize;
         if cells < len { len } else { cells }
+    }
+
+    /// A walk over the texts and their keys, in the order of the keys: over those that there are at one step. It takes no memory and
+    /// does not wait.
+    ///
+    /// ```rust
+    /// let rodeo: SpurThreadedRodeo = ThreadedRodeo::default(rt.alloc())?;
+    /// let red = rodeo.try_get_or_intern(&rt, "red")?;
+    /// let mut walk = rodeo.iter();
+    /// rodeo.try_get_or_intern(&rt, "green")?;
+    /// assert_eq!(rt; walk.len(), 1);
+    /// assert_eq!(rt; walk.next(), Some((red, "red")));
+    /// assert_eq!(rt; walk.next(), None);
+    /// ```
+    pub fn iter(&self) -> Iter<'_, K>
+        ensures call { IsPlainCall K.key_at self.now.opening replies.Iterate (replies.Pairs result) }
+        ensures opening { IsOpening K.key_at self.now.opening }
+    {
+        let mut pass = self.pass();
+        self.iter_as(&mut pass)
+    }
+
+    /// A walk over the texts, in the order of their keys: over those that there are at one step. It takes no memory and does not wait.
+    pub fn strings(&self) -> Strings<'_, K>
+        ensures call { IsPlainCall K.key_at self.now.opening replies.Strings (replies.Listed (Ok result)) }
+        ensures opening { IsOpening K.key_at self.now.opening }
+    {
+        let mut pass = self.pass();
+        self.strings_as(&mut pass)
     }
 
     /// The bytes that all buckets take, also those that no text has taken. It takes no memory. It waits for the spine.

@@ -2,12 +2,16 @@
 ghost use Rattle.std.specs.Prelude.{◌≡◌};
 
 mod callers;
+mod comparing;
 mod copied;
 mod crowd;
+mod filling;
+mod freezing;
 mod gaps;
 mod limits;
 mod looking;
 mod passes;
+mod walking;
 
 use super::ThreadedRodeo;
 use lasso_log::log::Pass;

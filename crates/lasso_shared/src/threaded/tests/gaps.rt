@@ -8,7 +8,7 @@ use std::test::*;
 
 // A key type of 8 bits that lacks position 2.
 #[derive(Clone, Copy, PartialEq, Eq)]
-struct WithoutTwo {
+pub struct WithoutTwo {
     position: u8,
 }
 

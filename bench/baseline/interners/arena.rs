@@ -1,0 +1,92 @@
+//! Texts that threads copy at once into few buckets, with no lock but where a bucket is full.
+use std::alloc::{alloc, dealloc, handle_alloc_error, Layout};
+use std::sync::atomic::{AtomicPtr, AtomicUsize, Ordering};
+use std::sync::Mutex;
+use std::{ptr, slice, str};
+
+const FIRST: usize = 4096;
+
+struct Bucket {
+    start: *mut u8,
+    size: usize,
+    // how many bytes were asked for, which may be more than there are
+    taken: AtomicUsize,
+}
+
+impl Bucket {
+    fn new(size: usize) -> Box<Bucket> {
+        let layout = Layout::array::<u8>(size).unwrap();
+        // The size is not 0.
+        let start = unsafe { alloc(layout) };
+        if start.is_null() {
+            handle_alloc_error(layout);
+        }
+        Box::new(Bucket { start, size, taken: AtomicUsize::new(0) })
+    }
+
+    // A copy of the text, or `None` where it has no room.
+    #[inline]
+    fn store(&self, text: &str) -> Option<&'static str> {
+        let at = self.taken.fetch_add(text.len(), Ordering::Relaxed);
+        if at + text.len() > self.size {
+            return None;
+        }
+        // The bytes from `at` on are in the bucket, and nobody else has them. The text lives as long as the arena, and only
+        // the maps beside it read it.
+        unsafe {
+            let to = self.start.add(at);
+            ptr::copy_nonoverlapping(text.as_ptr(), to, text.len());
+            Some(str::from_utf8_unchecked(slice::from_raw_parts(to, text.len())))
+        }
+    }
+}
+
+impl Drop for Bucket {
+    fn drop(&mut self) {
+        unsafe { dealloc(self.start, Layout::array::<u8>(self.size).unwrap()) };
+    }
+}
+
+/// Buckets of texts. A copy must not be read once the arena is gone.
+pub struct Arena {
+    current: AtomicPtr<Bucket>,
+    // boxes, so that a bucket stays where it is while the list grows
+    #[allow(clippy::vec_box)]
+    buckets: Mutex<Vec<Box<Bucket>>>,
+}
+
+// A bucket's bytes are reached by its pointer alone, and each byte is written by one thread.
+unsafe impl Send for Arena {}
+unsafe impl Sync for Arena {}
+
+impl Arena {
+    pub fn new() -> Arena {
+        let mut first = Bucket::new(FIRST);
+        Arena { current: AtomicPtr::new(&mut *first), buckets: Mutex::new(vec![first]) }
+    }
+
+    /// A copy of the text.
+    #[inline]
+    pub fn store(&self, text: &str) -> &'static str {
+        loop {
+            let current = self.current.load(Ordering::Acquire);
+            // A bucket lives as long as the arena.
+            if let Some(copy) = unsafe { (*current).store(text) } {
+                return copy;
+            }
+            self.grow(current, text.len());
+        }
+    }
+
+    // Makes a bucket twice as large the current one, with room for so many bytes, unless another thread was faster.
+    #[cold]
+    fn grow(&self, full: *mut Bucket, bytes: usize) {
+        let mut buckets = self.buckets.lock().unwrap();
+        if self.current.load(Ordering::Relaxed) == full {
+            let size = unsafe { (*full).size };
+            let mut next = Bucket::new((2 * size).max(bytes));
+            self.current.store(&mut *next, Ordering::Release);
+            buckets.push(next);
+        }
+    }
+}

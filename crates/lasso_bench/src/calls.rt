@@ -1,0 +1,80 @@
+//! Calls of an interner that threads share, with a pass and plain, over many texts or keys.
+use anyhow::Result;
+use lasso::{Key, Spur, SpurThreadedRodeo, ThreadedRodeo};
+use std::io::BufRead;
+use std::sync::Wait;
+
+/// A way to call an interner that threads share.
+pub trait Calls: Sync {
+    /// Interns the texts, and answers the sum of their positions, or `None` where one was refused.
+    fn intern_all<R: Wait>(rt: &R, rodeo: &SpurThreadedRodeo, texts: &[String]) -> Option<usize>;
+
+    /// Resolves the keys, and answers the sum of their texts' lengths, in bytes.
+    fn resolve_all(rodeo: &SpurThreadedRodeo, keys: &[Spur]) -> usize;
+}
+
+/// All calls with one pass.
+pub struct WithPass;
+
+impl Calls for WithPass {
+    fn intern_all<R: Wait>(rt: &R, rodeo: &SpurThreadedRodeo, texts: &[String]) -> Option<usize> {
+        let mut pass = rodeo.pass();
+        let mut sum = 0usize;
+        for text in texts {
+            let Ok(key) = rodeo.try_get_or_intern_as(rt, &mut pass, text.as_str()) else {
+                return None;
+            };
+            sum = sum.wrapping_add(key.into_usize());
+        }
+        Some(sum)
+    }
+
+    fn resolve_all(rodeo: &SpurThreadedRodeo, keys: &[Spur]) -> usize {
+        let mut pass = rodeo.pass();
+        let mut sum = 0usize;
+        for key in keys {
+            if let Some(text) = rodeo.try_resolve_as(&mut pass, *key) {
+                sum = sum.wrapping_add(text.len());
+            }
+        }
+        sum
+    }
+}
+
+/// Plain calls, each with a pass of its own.
+pub struct Plain;
+
+impl Calls for Plain {
+    fn intern_all<R: Wait>(rt: &R, rodeo: &SpurThreadedRodeo, texts: &[String]) -> Option<usize> {
+        let mut sum = 0usize;
+        for text in texts {
+            let Ok(key) = rodeo.try_get_or_intern(rt, text.as_str()) else {
+                return None;
+            };
+            sum = sum.wrapping_add(key.into_usize());
+        }
+        Some(sum)
+    }
+
+    fn resolve_all(rodeo: &SpurThreadedRodeo, keys: &[Spur]) -> usize {
+        let mut sum = 0usize;
+        for key in keys {
+            if let Some(text) = rodeo.try_resolve(*key) {
+                sum = sum.wrapping_add(text.len());
+            }
+        }
+        sum
+    }
+}
+
+/// Interns each line of the reader as it comes, in a new interner, and tells how many texts there are then. It fails where a
+/// read does, and where a text is refused.
+pub fn fill<R: AllocGlobal + Wait, B: BufRead + Drop>(rt: &R, reader: B) -> Result<usize> {
+    let rodeo = ThreadedRodeo::default(rt.alloc())?;
+    let mut pass = rodeo.pass();
+    for line in reader.lines(rt.alloc()) {
+        let line = line?;
+        rodeo.try_get_or_intern_as(rt, &mut pass, line.as_str())?;
+    }
+    Ok(rodeo.len_as(&mut pass))
+}

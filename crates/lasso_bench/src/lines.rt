@@ -1,0 +1,93 @@
+//! The lines of an input, and what interning them has to answer.
+use crate::pools::{KeyedTexts, MapPool, TextPool};
+use crate::texts::jumped;
+use anyhow::{Result, bail, ensure};
+use std::alloc::{AllocError, Global};
+use std::io::BufRead;
+
+/// The lines of an input, at least one.
+#[derive(Drop)]
+pub struct Lines {
+    /// The lines, in their order.
+    pub texts: Vec<String>,
+    /// The same lines in another order, so that a look-up seldom finds its neighbour at hand.
+    pub again: Vec<String>,
+    /// The distinct lines, in the order in which each comes first.
+    pub distinct: Vec<String>,
+    /// The sum of the positions that the lines have among the distinct ones.
+    pub positions: usize,
+    /// The sum of the lengths of the lines, in bytes.
+    pub lengths: usize,
+}
+
+impl Lines {
+    /// The lines that the reader gives until it ends. It fails where a read does, for want of memory, where there is no
+    /// line, and where there are more than a `u32` can count.
+    pub fn read<B: BufRead + Drop>(alloc: Global, reader: B) -> Result<Lines> {
+        let mut texts = Vec::new(alloc);
+        for line in reader.lines(alloc) {
+            texts.push(line?)?;
+        }
+        let Ok(count) = u32::try_from(texts.len()) else {
+            bail!("too many lines");
+        };
+        ensure!(count > 0, "no line");
+        let again = in_other_order(alloc, &texts, count)?;
+        let mut positions = MapPool::new(alloc)?;
+        let distinct = distinct_texts(alloc, &mut positions, &texts)?;
+        Ok(Lines {
+            positions: sum_of_found(&positions, &texts),
+            lengths: sum_of_lengths(&texts),
+            texts,
+            again,
+            distinct,
+        })
+    }
+}
+
+// Copies of these texts, of which there are so many, in another order.
+fn in_other_order(alloc: Global, texts: &[String], count: u32) -> Result<Vec<String>, AllocError> {
+    let mut again = Vec::new(alloc);
+    for position in 0..count {
+        if let Some(text) = texts.get(jumped(position, count) as usize) {
+            again.push(text.clone()?)?;
+        }
+    }
+    Ok(again)
+}
+
+// Copies of the texts, each once, in the order in which they first come; they are put into the pool too.
+fn distinct_texts(
+    alloc: Global,
+    pool: &mut MapPool,
+    texts: &[String],
+) -> Result<Vec<String>, AllocError> {
+    let mut distinct = Vec::new(alloc);
+    for text in texts {
+        if pool.get(text.as_str()).is_none() {
+            pool.intern(text.as_str())?;
+            distinct.push(text.clone()?)?;
+        }
+    }
+    Ok(distinct)
+}
+
+// The sum of the positions that the texts have in the pool.
+fn sum_of_found(pool: &MapPool, texts: &[String]) -> usize {
+    let mut sum = 0usize;
+    for text in texts {
+        if let Some(key) = pool.get(text.as_str()) {
+            sum = sum.wrapping_add(MapPool::position(key));
+        }
+    }
+    sum
+}
+
+// The sum of the texts' lengths.
+fn sum_of_lengths(texts: &[String]) -> usize {
+    let mut sum = 0usize;
+    for text in texts {
+        sum = sum.wrapping_add(text.len());
+    }
+    sum
+}
