@@ -47,7 +47,7 @@ impl<K: Key, S: BuildHasher + Drop> ShardTag<K, S> {
         requires hashes { hashes.now ≡ map (text_hash S.build_hasher S.Hasher.write S.Hasher.finish self.now.hasher) (T.list texts.now) }
         requires distinct { IsDistinct (T.list texts.now) }
         requires fits { Fits K.key_at (length (T.list texts.now)) }
-        ensures { IfOk result (λ s. IsShard (text_hash S.build_hasher S.Hasher.write S.Hasher.finish self.now.hasher) self.now.number self.now.log s.known s.index s.count) }
+        ensures shard { IfOk result (λ s. IsShard (text_hash S.build_hasher S.Hasher.write S.Hasher.finish self.now.hasher) self.now.number self.now.log s.known s.index s.count) }
         ensures refused { IfErr result (λ error. error ≡ FailedAllocation) }
     {
         let mut index = Index::new(alloc);
