@@ -20,13 +20,12 @@ mod plain;
 mod tests;
 mod walking;
 
-pub use walking::{Iter, Strings};
-
 use crate::shards::Shards;
 use lasso_log::log::Pass;
 use lasso_parts::keys::Key;
 use std::hash::BuildHasher;
 use std::marker::Model;
+pub use walking::{Iter, Strings};
 
 /// An interner that threads share. A contract sees its book and what it opened with, which its maker fixes; what is
 /// known of its history is in the passes.

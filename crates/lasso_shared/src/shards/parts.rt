@@ -2,8 +2,8 @@
 ghost use Rattle.std.specs.Prelude.{◌≡◌};
 ghost use Rattle.lasso_log.specs.Views.{InternerId};
 
-use lasso_log::log::Log;
 use crate::shards::Shards;
+use lasso_log::log::Log;
 use lasso_parts::keys::Key;
 use std::alloc::Global;
 use std::hash::BuildHasher;

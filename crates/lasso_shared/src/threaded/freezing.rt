@@ -9,9 +9,9 @@ ghost use Rattle.lasso_log.specs.Replies.{Freeze, Listed};
 ghost use Rattle.lasso_log.specs.Calls.{IsCall, IsPlainCall};
 ghost use Rattle.lasso_log.specs.Views.{PassView, InternerId, IsSamePass, seen};
 
-use lasso_log::log::Pass;
 use crate::shards::parts::Parts;
 use crate::threaded::ThreadedRodeo;
+use lasso_log::log::Pass;
 use lasso_parts::index::Texts;
 use lasso_parts::keys::Key;
 use lasso_parts::util::LassoResult;

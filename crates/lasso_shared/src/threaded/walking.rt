@@ -8,9 +8,9 @@ ghost use Rattle.lasso_log.specs.Replies as replies;
 ghost use Rattle.lasso_log.specs.Calls.{IsCall};
 ghost use Rattle.lasso_log.specs.Views.{PassView, InternerId, IsSamePass, seen};
 
+use crate::threaded::ThreadedRodeo;
 use lasso_log::log::Pass;
 use lasso_log::log::seen_texts::SeenTexts;
-use crate::threaded::ThreadedRodeo;
 use lasso_parts::keys::Key;
 use std::hash::BuildHasher;
 use std::iter::FusedIterator;

@@ -27,7 +27,10 @@ fn walks_give_the_texts_in_the_order_of_their_keys(rt: HostRuntime) -> Result<()
     for position in 0..4usize {
         let left = 4 - position;
         assert_eq!(rt; (walk.len(), walk.size_hint()), (left, (left, Some(left))));
-        assert_eq!(rt; (strings.len(), strings.size_hint()), (left, (left, Some(left))));
+        assert_eq!(rt;
+            (strings.len(), strings.size_hint()),
+            (left, (left, Some(left)))
+        );
         let (key, text) = walk.next().ok_or("the walk has ended")?;
         assert_eq!(rt; (key.into_usize(), text), (position, texts[position]));
         assert_eq!(rt; strings.next(), Some(texts[position]));
