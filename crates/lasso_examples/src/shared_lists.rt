@@ -1,5 +1,5 @@
-//! The examples in the documents of filling, freezing and comparing an interner that threads share, in tests.
-use lasso::{Rodeo, SpurRodeo, SpurThreadedRodeo, ThreadedRodeo};
+//! The examples in the documents of filling, freezing, comparing and writing an interner that threads share, in tests.
+use lasso::{Capacity, Key, MemoryLimits, Rodeo, SpurRodeo, SpurThreadedRodeo, ThreadedRodeo};
 use std::test::Fail;
 
 #[test]
@@ -52,5 +52,47 @@ fn shared_compared(rt: HostRuntime) -> Result<(), Fail> {
     let shared: SpurThreadedRodeo = ThreadedRodeo::from_iter(rt.alloc(), &rt, colours)?;
     let rodeo: SpurRodeo = Rodeo::from_iter(rt.alloc(), colours)?;
     assert!(rt; shared.eq_rodeo(&rt, &rodeo));
+    Ok(())
+}
+
+#[test]
+fn shared_written(rt: HostRuntime) -> Result<(), Fail> {
+    let rodeo: SpurThreadedRodeo = ThreadedRodeo::default(rt.alloc())?;
+    let mut pass = rodeo.pass();
+    rodeo.try_get_or_intern_as(&rt, &mut pass, "b")?;
+    rodeo.try_get_or_intern_as(&rt, &mut pass, "a")?;
+    let written = rodeo
+        .serialize_as(rt.alloc(), &mut pass)?
+        .to_string(rt.alloc())?;
+    assert_eq!(rt; written.as_str(), r#"{"a":2,"b":1}"#);
+
+    let rodeo: SpurThreadedRodeo = ThreadedRodeo::default(rt.alloc())?;
+    let written = rodeo.serialize(rt.alloc())?.to_string(rt.alloc())?;
+    assert_eq!(rt; written.as_str(), "{}");
+    rodeo.get_or_intern(&rt, "b")?;
+    rodeo.get_or_intern(&rt, "a")?;
+    let written = rodeo.serialize(rt.alloc())?.to_string(rt.alloc())?;
+    assert_eq!(rt; written.as_str(), r#"{"a":2,"b":1}"#);
+    Ok(())
+}
+
+#[test]
+fn a_shared_interner_of_three_buckets_is_written_and_frozen(rt: HostRuntime) -> Result<(), Fail> {
+    let rodeo: SpurThreadedRodeo = ThreadedRodeo::with_capacity_and_memory_limits(
+        rt.alloc(),
+        Capacity::for_bytes(4),
+        MemoryLimits::new(12),
+    )?;
+    rodeo.extend(&rt, ["abc", "defghijk", "x"])?;
+    rodeo.set_memory_limits(&rt, MemoryLimits::new(14));
+    let last = rodeo.try_get_or_intern(&rt, "yz")?;
+    assert_eq!(rt; last.into_usize(), 3);
+    let written = rodeo.serialize(rt.alloc())?.to_string(rt.alloc())?;
+    assert_eq!(rt; written.as_str(), r#"{"abc":1,"defghijk":2,"x":3,"yz":4}"#);
+    assert_eq!(rt; rodeo.get(&rt, "yz"), Some(last));
+    assert!(rt; rodeo.contains(&rt, "yz") && rodeo.contains_key(last) && !rodeo.is_empty());
+    assert_eq!(rt; rodeo.max_memory_usage(&rt), 14);
+    let reader = rodeo.into_reader(&rt)?;
+    assert_eq!(rt; (reader.len(), reader.get("yz")), (4, Some(last)));
     Ok(())
 }

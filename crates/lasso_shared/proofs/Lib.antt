@@ -11,4 +11,3 @@ pub mod Frozen
 pub mod Filled
 pub mod Listed
 pub mod Walked
-pub mod Built

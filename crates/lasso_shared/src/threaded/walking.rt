@@ -44,7 +44,7 @@ impl<'a, K: Key> Strings<'a, K> {
     fn show_short(&self)
         ensures { length self.now < 2 ^ 64 }
     {
-        let _ = &self.end;
+        let _ = self.end - self.position;
     }
 }
 
