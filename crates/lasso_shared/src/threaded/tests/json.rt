@@ -159,7 +159,7 @@ fn are_found<S: BuildHasher + Drop, R: Wait>(rt: &R, shared: &ThreadedRodeo<Spur
 }
 
 // Whether what is read from the value has each text for both of two threads, and no other.
-fn has_all<S: BuildHasher + Default + Drop, R: Threads + Wait + Sync>(
+fn has_all<S: BuildHasher + Default + Send + Sync + Drop, R: Threads + Wait + Sync>(
     rt: &R,
     alloc: Global,
     value: &Value,
