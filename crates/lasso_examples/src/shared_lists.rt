@@ -1,5 +1,6 @@
-//! The examples in the documents of filling, freezing and comparing an interner that threads share, in tests.
-use lasso::{Rodeo, SpurRodeo, SpurThreadedRodeo, ThreadedRodeo};
+//! The examples in the documents of filling, freezing, comparing and reading an interner that threads share, in tests.
+use lasso::{Key, Rodeo, SpurRodeo, SpurThreadedRodeo, ThreadedRodeo};
+use serde_json::Value;
 use std::test::Fail;
 
 #[test]
@@ -52,5 +53,14 @@ fn shared_compared(rt: HostRuntime) -> Result<(), Fail> {
     let shared: SpurThreadedRodeo = ThreadedRodeo::from_iter(rt.alloc(), &rt, colours)?;
     let rodeo: SpurRodeo = Rodeo::from_iter(rt.alloc(), colours)?;
     assert!(rt; shared.eq_rodeo(&rt, &rodeo));
+    Ok(())
+}
+
+#[test]
+fn shared_read_from_json(rt: HostRuntime) -> Result<(), Fail> {
+    let value = Value::from_str(rt.alloc(), r#"{"a":2,"b":1}"#)?;
+    let rodeo = SpurThreadedRodeo::deserialize(rt.alloc(), &value)?;
+    let second = rodeo.get(&rt, "a").ok_or("not there")?;
+    assert_eq!(rt; second.into_usize(), 1);
     Ok(())
 }
