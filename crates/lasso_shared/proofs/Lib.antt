@@ -12,3 +12,4 @@ pub mod Filled
 pub mod Listed
 pub mod Walked
 pub mod Built
+pub mod ReadList
