@@ -84,9 +84,9 @@ module _ {K : Type 0} (key_at : ℕ → Option K) where
   ]
   answers_back see d (Err error) h texts distinct fits written =
       let back = read_back d texts distinct fits written in elim h [
-    | inl is ↦ (let e = is ∙ back in absurd (cc))
-    | inr none ↦ (let e = none.0 in inr (cc))
-  ]
+        | inl is ↦ (let e = is ∙ back in absurd (cc))
+        | inr none ↦ (let e = none.0 in inr (cc))
+      ]
 
   -- ---- from the list to the interner that opens with it
 

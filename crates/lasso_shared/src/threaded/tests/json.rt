@@ -79,7 +79,10 @@ fn more_members_than_keys(rt: HostRuntime) -> Result<(), Fail> {
     let most = numbered(rt.alloc(), 255)?;
     assert_eq!(rt; fault::<MicroSpur>(rt.alloc(), &most), None);
     let too_many = numbered(rt.alloc(), 256)?;
-    assert_eq!(rt; fault::<MicroSpur>(rt.alloc(), &too_many), Some(JsonError::TooMany(255)));
+    assert_eq!(rt;
+        fault::<MicroSpur>(rt.alloc(), &too_many),
+        Some(JsonError::TooMany(255))
+    );
     Ok(())
 }
 
@@ -131,10 +134,46 @@ fn what_one_thread_wrote(rt: HostRuntime) -> Result<(), Fail> {
 }
 
 const TEXTS: [&str; 40] = [
-    "a0", "p1", "Q2", "\u{e9}3", "04", "z5", "A6", "~7", "b8", "q9", "R10", "\u{f1}11", "112", "y13",
-    "B14", "}15", "c16", "r17", "S18", "\u{1f600}19", "220", "x21", "C22", "|23", "d24", "s25",
-    "T26", "\u{fc}27", "328", "w29", "D30", "{31", "e32", "t33", "U34", "\u{df}35", "436", "v37",
-    "E38", "",
+    "a0",
+    "p1",
+    "Q2",
+    "\u{e9}3",
+    "04",
+    "z5",
+    "A6",
+    "~7",
+    "b8",
+    "q9",
+    "R10",
+    "\u{f1}11",
+    "112",
+    "y13",
+    "B14",
+    "}15",
+    "c16",
+    "r17",
+    "S18",
+    "\u{1f600}19",
+    "220",
+    "x21",
+    "C22",
+    "|23",
+    "d24",
+    "s25",
+    "T26",
+    "\u{fc}27",
+    "328",
+    "w29",
+    "D30",
+    "{31",
+    "e32",
+    "t33",
+    "U34",
+    "\u{df}35",
+    "436",
+    "v37",
+    "E38",
+    "",
 ];
 
 // Whether each text is found at its position, and interned again there.
@@ -165,11 +204,7 @@ fn has_all<S: BuildHasher + Default + Send + Sync + Drop, R: Threads + Wait + Sy
     value: &Value,
 ) -> Result<bool, Fail> {
     let shared: ThreadedRodeo<Spur, S> = ThreadedRodeo::deserialize(alloc, value)?;
-    let (here, there) = join(
-        rt,
-        || are_found(rt, &shared),
-        || are_found(rt, &shared),
-    );
+    let (here, there) = join(rt, || are_found(rt, &shared), || are_found(rt, &shared));
     let none = shared.get(rt, "none");
     Ok(here && there && none.is_none() && shared.len() == 40)
 }
