@@ -13,3 +13,4 @@ pub mod Listed
 pub mod Walked
 pub mod Built
 pub mod ReadList
+pub mod Copied
