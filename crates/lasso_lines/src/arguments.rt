@@ -32,13 +32,11 @@ pub fn arguments(words: &[String]) -> Result<Settings, RunFault>
         [flag, number] if flag.as_str() == "--limit" => limited(number.as_str()),
         [flag, number] if flag.as_str() == "--workers" => worked(usize::MAX, number.as_str()),
         [one, limit, other, workers]
-            if one.as_str() == "--limit" && other.as_str() == "--workers" =>
-        {
+            if one.as_str() == "--limit" && other.as_str() == "--workers" => {
             both(limit.as_str(), workers.as_str())
         }
         [one, workers, other, limit]
-            if one.as_str() == "--workers" && other.as_str() == "--limit" =>
-        {
+            if one.as_str() == "--workers" && other.as_str() == "--limit" => {
             both(limit.as_str(), workers.as_str())
         }
         _ => None,

@@ -59,11 +59,7 @@ pub(crate) fn cut<'a, R: AllocGlobal + Wait>(
 
 // Puts the line of this number behind the others.
 #[inline]
-fn push_line<'a>(
-    lines: &mut Vec<&'a str>,
-    line: &'a [u8],
-    number: u64,
-) -> Result<(), RunFault>
+fn push_line<'a>(lines: &mut Vec<&'a str>, line: &'a [u8], number: u64) -> Result<(), RunFault>
     ensures faults { IfErr result IsLineFault }
 {
     let Ok(text) = from_utf8(line) else {

@@ -54,7 +54,12 @@ fn front_of(text: &str) -> u64 {
 // sorted in place.
 fn sort<R: AllocGlobal + Threads + Sync>(rt: &R, texts: &mut Vec<Fronted<'_>>, threads: usize) {
     let size = texts.len().div_ceil(threads.max(1)).max(1);
-    for_each_chunk_mut(rt, texts, size, &|_, part: &mut [Fronted<'_>]| part.sort_unstable());
+    for_each_chunk_mut(
+        rt,
+        texts,
+        size,
+        &|_, part: &mut [Fronted<'_>]| part.sort_unstable(),
+    );
     if threads > 1 && texts.sort().is_err() {
         texts.sort_unstable();
     }

@@ -35,14 +35,18 @@ pub fn run_words<R: AllocGlobal + Threads + Wait + Sync, I: ByteReader, O: ByteW
     ensures nothing_pending { (settings : ℕ × Option ℕ) → settings_of (map string_bytes words.now) ≡ Some settings → ¬ (result ≡ Err WriteFailed) → O.pending writer.new ≡ Some [] }
 {
     match arguments(words) {
-        Ok(Settings {
-            limit,
-            workers: None,
-        }) => run(rt, reader, writer, MemoryLimits::new(limit)),
-        Ok(Settings {
-            limit,
-            workers: Some(workers),
-        }) => run_workers(
+        Ok(
+            Settings {
+                limit,
+                workers: None,
+            },
+        ) => run(rt, reader, writer, MemoryLimits::new(limit)),
+        Ok(
+            Settings {
+                limit,
+                workers: Some(workers),
+            },
+        ) => run_workers(
             rt,
             reader,
             writer,

@@ -72,8 +72,11 @@ fn intern_lines<R: AllocGlobal + Threads + Wait + Sync, G: Gate>(
     ensures faults { IfErr result IsLineFault }
 {
     let lines = cut(rt, input)?;
-    let made =
-        ThreadedRodeo::with_capacity_and_memory_limits(rt.alloc(), Capacity::default(), limits);
+    let made = ThreadedRodeo::with_capacity_and_memory_limits(
+        rt.alloc(),
+        Capacity::default(),
+        limits,
+    );
     let rodeo = match made {
         Ok(rodeo) => rodeo,
         Err(error) => return Err(RunFault::Refused(0, error)),
@@ -127,7 +130,12 @@ fn intern_part<R: Wait, G: Gate>(
     lowest: &Mutex<Option<Refusal>>,
 ) {
     let mut pass = rodeo.pass();
-    for (at, line) in lines.iter().enumerate().skip(worker).step_by(workers.max(1)) {
+    for (at, line) in lines
+        .iter()
+        .enumerate()
+        .skip(worker)
+        .step_by(workers.max(1))
+    {
         gate.enter(worker);
         if let Err(error) = rodeo.try_get_or_intern_as(rt, &mut pass, line) {
             tell(rt, lowest, (at as u64).saturating_add(1), error);

@@ -48,8 +48,14 @@ fn distinct_lines_in_order(rt: HostRuntime) -> Result<(), Fail> {
         (b"b\na\nb", OUTPUT),
         (b"\n", b"\n"),
         (b"a\r\na\n\n", b"\na\na\r\n"),
-        (b"a\0\na\nabcdefgh\nabcdefgha\nabcdefgg\n", b"a\na\0\nabcdefgg\nabcdefgh\nabcdefgha\n"),
-        ("\u{e9}\nz\n\u{ff}\na".as_bytes(), "a\nz\n\u{e9}\n\u{ff}\n".as_bytes()),
+        (
+            b"a\0\na\nabcdefgh\nabcdefgha\nabcdefgg\n",
+            b"a\na\0\nabcdefgg\nabcdefgh\nabcdefgha\n",
+        ),
+        (
+            "\u{e9}\nz\n\u{ff}\na".as_bytes(),
+            "a\nz\n\u{e9}\n\u{ff}\n".as_bytes(),
+        ),
         (b"g\nf\ne\nd\nc\nb\na\ng\na\n", b"a\nb\nc\nd\ne\nf\ng\n"),
     ];
     for (input, output) in cases {
@@ -63,6 +69,7 @@ fn distinct_lines_in_order(rt: HostRuntime) -> Result<(), Fail> {
 }
 
 // Two workers show that they are there, and look for each other.
+#[derive(Drop)]
 struct Meeting {
     there: [AtomicBool; 2],
     met: [AtomicBool; 2],
@@ -99,6 +106,7 @@ fn workers_meet(rt: HostRuntime) -> Result<(), Fail> {
 }
 
 // Counts how often each of three workers enters.
+#[derive(Drop)]
 struct Turnstile {
     entered: [AtomicUsize; 3],
 }
@@ -114,7 +122,11 @@ impl Gate for Turnstile {
 #[test]
 fn lines_go_to_workers_in_turn(rt: HostRuntime) -> Result<(), Fail> {
     let turnstile = Turnstile {
-        entered: [AtomicUsize::new(0), AtomicUsize::new(0), AtomicUsize::new(0)],
+        entered: [
+            AtomicUsize::new(0),
+            AtomicUsize::new(0),
+            AtomicUsize::new(0),
+        ],
     };
     let mut reader = MemoryReader::new(b"a\nb\na\nb\na");
     let mut writer = MemoryWriter::new(rt.alloc());
@@ -129,7 +141,11 @@ fn lines_go_to_workers_in_turn(rt: HostRuntime) -> Result<(), Fail> {
 #[test]
 fn a_line_that_is_not_text_decides(rt: HostRuntime) -> Result<(), Fail> {
     let turnstile = Turnstile {
-        entered: [AtomicUsize::new(0), AtomicUsize::new(0), AtomicUsize::new(0)],
+        entered: [
+            AtomicUsize::new(0),
+            AtomicUsize::new(0),
+            AtomicUsize::new(0),
+        ],
     };
     let mut reader = MemoryReader::new(b"\x61\x0a\xff\x0a\x62");
     let mut writer = MemoryWriter::new(rt.alloc());
