@@ -21,7 +21,7 @@ pub(crate) fn read_all<R: Wait, I: ByteReader>(
     ensures reads { I.failures reader.new ≡ I.failures reader.old + failed_reads result }
     ensures faults { IfErr result IsInputFault }
 {
-    for _ in rt.forever() {
+    'parts: for _ in rt.forever() {
         let shown = reader.shown();
         hold(input, shown, 0)?;
         let count = shown.len();

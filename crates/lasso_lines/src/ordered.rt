@@ -71,7 +71,7 @@ fn write_texts<O: ByteWriter>(writer: &mut O, texts: &[Fronted<'_>]) -> Result<(
     ensures delivered { OnlyGrows (O.delivered writer.old) (O.delivered writer.new) }
     ensures faults { IfErr result (λ fault. fault ≡ WriteFailed) }
 {
-    for (_, text) in texts {
+    'lines: for (_, text) in texts {
         write_line(writer, b"", text.as_bytes())?;
     }
     Ok(())
