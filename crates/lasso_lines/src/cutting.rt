@@ -1,13 +1,12 @@
 //! A whole input, and its lines.
-ghost use Rattle.std.specs.Prelude.{◌≡◌, ◌+◌, OnOk, IfErr};
-ghost use Rattle.lasso_lines.specs.Stream.{Ended};
+ghost use Rattle.std.specs.Prelude.{◌≡◌, ◌+◌, [], OnOk, IfErr};
+ghost use Rattle.lasso_lines.specs.Stream.{Stays, Ended};
 ghost use Rattle.lasso_lines.specs.Answer.{IsInputFault, IsLineFault, failed_reads};
 
 use crate::fault::RunFault;
 use crate::stream::ByteReader;
 use crate::stretches::{behind, hold, next_feed, next_number};
 use lasso::{LassoError, LassoErrorKind};
-use std::alloc::{AllocError, Global};
 use std::str::from_utf8;
 use std::sync::Wait;
 
@@ -26,14 +25,25 @@ pub(crate) fn read_all<R: Wait, I: ByteReader>(
         hold(input, shown, 0)?;
         let count = shown.len();
         reader.use_up(count);
-        if reader.refill().is_err() {
-            return Err(RunFault::ReadFailed);
-        }
+        refill(reader)?;
         if reader.shown().is_empty() {
             return Ok(());
         }
     }
     unreachable!()
+}
+
+// Asks for more bytes, where none are at hand.
+fn refill<I: ByteReader>(reader: &mut I) -> Result<(), RunFault>
+    ensures reads { I.failures reader.new ≡ I.failures reader.old + failed_reads result }
+    ensures left { Stays (I.left reader.old) (I.left reader.new) }
+    ensures end { OnOk result (I.at_hand reader.new ≡ [] → Ended (I.left reader.old) (I.left reader.new)) }
+    ensures faults { IfErr result IsInputFault }
+{
+    match reader.refill() {
+        Ok(()) => Ok(()),
+        Err(_) => Err(RunFault::ReadFailed),
+    }
 }
 
 // The lines of the input, all of which have to be text. Bytes behind the last line feed are a line too.
