@@ -130,7 +130,7 @@ fn intern_part<R: Wait, G: Gate>(
     lowest: &Mutex<Option<Refusal>>,
 ) {
     let mut pass = rodeo.pass();
-    for (at, line) in lines
+    'lines: for (at, line) in lines
         .iter()
         .enumerate()
         .skip(worker)
