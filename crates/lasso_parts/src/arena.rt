@@ -6,8 +6,6 @@ ghost use Rattle.lasso_parts.specs.declared.util.LassoErrorKind.TheVariants.{Mem
 mod owned;
 mod placing;
 mod storing;
-#[cfg(test)]
-mod tests;
 
 use crate::bucket::region::Region;
 use crate::util::{LassoError, LassoErrorKind, LassoResult};

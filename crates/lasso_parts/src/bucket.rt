@@ -102,6 +102,3 @@ fn crosses_with_its_allocator<A: Allocator + Send + Sync>(
     crosses(right);
     crosses(bucket);
 }
-
-#[cfg(test)]
-mod tests;

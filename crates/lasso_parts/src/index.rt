@@ -5,15 +5,11 @@ ghost use Rattle.lasso_parts.specs.Hashing.{text_hash};
 ghost use Rattle.lasso_parts.specs.Index.{Holds, HoldsNone, IsFiled, IsFiledAnywhere, IsVacancy, StaysFiled, IsIndexOf, IsFewest, used, room, grown_count};
 ghost use Rattle.lasso_parts.specs.Texts.{position_of, Fits};
 
-#[cfg(test)]
-mod hashers;
 mod hashing;
-mod key_slots;
+pub mod key_slots;
 mod lists;
 mod probe;
 mod table;
-#[cfg(test)]
-mod tests;
 mod vacancy;
 
 use crate::keys::Key;

@@ -16,6 +16,3 @@ pub use laws::{
 pub use objects::{read_map, write_map};
 pub use reading::read_array;
 pub use writing::write_array;
-
-#[cfg(test)]
-mod tests;

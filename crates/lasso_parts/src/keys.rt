@@ -46,6 +46,3 @@ pub trait Key: Copy + Eq {
 
     ghost equal: { (a b : Self) → is_value a → is_value b → (IsTrue (Self.eq a b) ↔ (number a ≡ number b)) };
 }
-
-#[cfg(test)]
-mod tests;

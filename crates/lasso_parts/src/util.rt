@@ -315,6 +315,3 @@ impl Default for MemoryLimits {
         MemoryLimits::new(usize::MAX)
     }
 }
-
-#[cfg(test)]
-mod tests;

@@ -1,5 +1,5 @@
 //! Printed errors, and the values of capacities and limits.
-use super::*;
+use lasso_parts::util::{Capacity, LassoError, LassoErrorKind, MemoryLimits};
 use std::cmp::Ordering;
 use std::test::Fail;
 

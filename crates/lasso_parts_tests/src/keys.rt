@@ -1,6 +1,6 @@
 //! Ranges and printed forms of the key types, and a key type of a user's own.
-use super::*;
-use std::cmp::Ordering;
+use lasso_parts::keys::{Key, LargeSpur, MicroSpur, MiniSpur, Spur};
+use std::cmp::{Eq, Ordering, PartialEq};
 use std::marker::Model;
 use std::test::Fail;
 

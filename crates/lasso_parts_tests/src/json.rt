@@ -1,9 +1,9 @@
-//! Rows of reading arrays and keys, and printed faults.
+//! Arrays and keys as JSON, and the printed faults of values that can't be read.
 mod objects;
 
-use super::*;
-use crate::keys::{Key, LargeSpur, MicroSpur, MiniSpur, Spur};
-use crate::util::LassoErrorKind;
+use lasso_parts::json::{JsonError, JsonKey, read_array, write_array};
+use lasso_parts::keys::{Key, LargeSpur, MicroSpur, MiniSpur, Spur};
+use lasso_parts::util::LassoErrorKind;
 use serde_json::{Number, Value};
 use std::alloc::Global;
 use std::test::Fail;

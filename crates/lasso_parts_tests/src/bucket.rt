@@ -1,7 +1,9 @@
 //! A bucket that fills and is cleared, and sizes that no region can have.
-use super::*;
-use crate::util::LassoErrorKind;
+use lasso_parts::bucket::Bucket;
+use lasso_parts::bucket::region::{Region, Right};
+use lasso_parts::util::LassoErrorKind;
 use std::alloc::Global;
+use std::marker::{Send, Sync};
 use std::test::Fail;
 
 #[test]
@@ -33,11 +35,13 @@ fn no_region_is_so_large(rt: HostRuntime) {
     }
 }
 
+fn crosses<T: Send + Sync>() {}
+
 #[test]
 fn crosses_with_its_allocator(rt: HostRuntime) -> Result<(), Fail> {
-    let (region, right) = open(rt.alloc(), 1)?;
-    crosses::<Region>(&region);
-    crosses::<Right<Global>>(&right);
-    close(region, right);
+    let bucket = Bucket::with_capacity(rt.alloc(), 1)?;
+    crosses::<Region>();
+    crosses::<Right<Global>>();
+    drop(bucket);
     Ok(())
 }

@@ -1,7 +1,7 @@
 -- What the bucket holds is known by then, so the texts that are read are known too: `cd` and `yz`.
 use Rattle.std.proofs.Common.{rules, [], ◌∷◌}
 use Rattle.std.proofs.lemmas.Str.{IsUtf8-from_ascii}
-use Rattle.lasso_parts.proofs.bucket.tests.fills_and_is_cleared.Goals as goal
+use Rattle.lasso_parts_tests.proofs.bucket.fills_and_is_cleared.Goals as goal
 
 pub text-requires-clause-is_text : goal.text-requires-clause-is_text
 text-requires-clause-is_text g c = rw (c.push_slice-2.ensures.bytes, c.push_slice.ensures.bytes, c.in_ok-bucket.ensures.empty) (IsUtf8-from_ascii (99 ∷ 100 ∷ []) (search rules))

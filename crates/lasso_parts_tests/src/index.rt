@@ -1,11 +1,13 @@
 //! What no clause says of an index: which texts are hashed again, which are read, and that a constant hasher serves.
 ghost use Rattle.lasso_parts.specs.Index.{IsFiledAnywhere};
 
-use crate::index::hashers::{CountedTexts, CountingState, LengthState, SameState};
-use crate::index::key_slots::KeySlots;
-use crate::index::{Index, hash_text};
-use crate::keys::{Key, Spur};
-use crate::util::{FixedState, LassoErrorKind, LassoResult};
+mod hashers;
+
+use hashers::{CountedTexts, CountingState, LengthState, SameState};
+use lasso_parts::index::key_slots::KeySlots;
+use lasso_parts::index::{Index, hash_text};
+use lasso_parts::keys::{Key, Spur};
+use lasso_parts::util::{FixedState, LassoErrorKind, LassoResult};
 use std::alloc::Global;
 use std::cell::Cell;
 use std::hash::BuildHasher;

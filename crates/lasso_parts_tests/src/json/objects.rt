@@ -1,6 +1,12 @@
-//! Rows of reading and writing objects.
-use super::*;
+//! Objects that are read as lists of texts, and lists that are written as objects.
+use super::told;
+use lasso_parts::json::{read_map, write_map};
+use lasso_parts::keys::{Key, MicroSpur, Spur};
+use serde_json::Value;
+use std::alloc::Global;
+use std::cmp::{Eq, PartialEq};
 use std::marker::Model;
+use std::test::Fail;
 
 // A key type of 8 bits that lacks position 2.
 #[derive(Clone, Copy, PartialEq, Eq)]

@@ -1,8 +1,8 @@
-//! Worked rows of the arena: what it accepts, what it refuses, and the bytes that its regions then take.
+//! What an arena accepts, what it refuses, and the bytes that its regions then take.
 
-use crate::arena::Arena;
-use crate::entries::{Entry, text_of};
-use crate::util::LassoErrorKind;
+use lasso_parts::arena::Arena;
+use lasso_parts::entries::{Entry, text_of};
+use lasso_parts::util::LassoErrorKind;
 use std::alloc::Global;
 use std::process::Abort;
 use std::test::Fail;

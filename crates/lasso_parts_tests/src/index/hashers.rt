@@ -3,7 +3,7 @@
 ghost use Rattle.std.specs.Prelude.{◌≡◌, ◌+◌, ◌*◌, ◌%◌, ◌^◌, ⊤, length, map};
 ghost use Rattle.std.specs.Hash.FoldHasher as folding;
 
-use crate::index::lists::Texts;
+use lasso_parts::index::Texts;
 use std::cell::Cell;
 use std::hash::{BuildHasher, BuildHasherDefault, FoldHasher, Hasher};
 

@@ -1,7 +1,7 @@
 use Rattle.std.proofs.Common.{sym, lit≤}
 use Rattle.lasso_parts.specs.Kept.{kept_made}
-use Rattle.lasso_parts.proofs.index.tests.Shown.{shown_at}
-use Rattle.lasso_parts.proofs.index.tests.Entered.enter_located.Goals as goal
+use Rattle.lasso_parts_tests.proofs.index.Shown.{shown_at}
+use Rattle.lasso_parts_tests.proofs.index.Entered.enter_located.Goals as goal
 
 pub invariant_of-self-in-Err : goal.invariant_of-self-in-Err
 invariant_of-self-in-Err g c =

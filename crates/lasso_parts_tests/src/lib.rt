@@ -1,0 +1,16 @@
+//! Tests of `lasso_parts` by its public calls: keys, errors, capacities and limits, the memory of texts, the index, and
+//! texts and keys as JSON.
+#![tactic(auto)]
+
+#[cfg(test)]
+mod arena;
+#[cfg(test)]
+mod bucket;
+#[cfg(test)]
+mod index;
+#[cfg(test)]
+mod json;
+#[cfg(test)]
+mod keys;
+#[cfg(test)]
+mod util;
