@@ -3,7 +3,7 @@
 -- A slot is empty where its tag is 0. A key that is put with another tag fills its own slot, and leaves each
 -- other one. Where each tag is 0 all slots are empty, whatever the keys are; so a tag that is not 0 tells that
 -- the keys were made, and that there is memory for them.
-use Rattle.std.proofs.Common.{◌≡◌, ◌≢◌, ℕ, zero, suc, ◌<◌, ◌≤◌, ◌⊎◌, List, [], ◌∷◌, Bool, true, false, cond, nat_eq, Option, Some, None, length, slice_get, get_or, set, replicate, refl, sym, ap, ◌∙◌, subst, inl, inr, arith}
+use Rattle.std.proofs.Common.{◌≡◌, ◌≢◌, ℕ, zero, suc, ◌<◌, ◌⊎◌, List, [], ◌∷◌, Bool, true, false, cond, nat_eq, Option, Some, None, length, slice_get, get_or, set, replicate, refl, sym, ap, ◌∙◌, subst, inl, inr, arith}
 use Rattle.std.specs.Option.{option_map}
 use Rattle.std.proofs.lemmas.Bool.{cases_eq, cases_lt}
 use Rattle.std.proofs.lemmas.Bool.Decides.{nat_tests}

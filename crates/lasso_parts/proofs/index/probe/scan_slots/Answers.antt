@@ -1,4 +1,4 @@
-use Rattle.std.proofs.Common.{◌≡◌, ℕ, List, Some, get_or, sym, ap, ◌∙◌, arith}
+use Rattle.std.proofs.Common.{ℕ, List, Some, get_or, sym, ap, ◌∙◌, arith}
 use Rattle.std.proofs.lemmas.Slice.Eq.{bytes_eq-Decides}
 use Rattle.lasso_parts.proofs.IndexSlots.{IsFull-more, Misses-more, misses_here, misses_by_tag}
 use Rattle.lasso_parts.proofs.index.probe.scan_slots.Goals.{then-found-tag+else-is_same, else-found-tag+else-found-eq0}

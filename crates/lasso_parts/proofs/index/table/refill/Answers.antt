@@ -1,9 +1,9 @@
-use Rattle.std.proofs.Common.{◌<◌, Some, length, refl, sym, ap, ◌∙◌, subst, arith}
+use Rattle.std.proofs.Common.{◌<◌, length, refl, sym, ap, ◌∙◌, subst, arith}
 use Rattle.std.specs.Option.{option_map}
 use Rattle.lasso_parts.specs.Index.{Table, IsFiled}
 use Rattle.lasso_parts.specs.IndexTable.{IsEntered}
 use Rattle.lasso_parts.proofs.IndexSlots.{slot_has, slot-nil}
-use Rattle.lasso_parts.proofs.IndexTables.{used-take-le, holds_skip, used_skip, holds_more, used_more, IsRefilled-start, IsRefilled-same, IsRefilled-more, IsRefilled-end}
+use Rattle.lasso_parts.proofs.IndexTables.{used-take-le, holds_skip, used_skip, holds_more, used_more, IsRefilled-start, IsRefilled-same, IsRefilled-more}
 use Rattle.lasso_parts.proofs.index.table.refill.Goals.{in-Some, in_default}
 use Rattle.lasso_parts.proofs.index.table.refill.Goals as goal
 

@@ -1,4 +1,4 @@
-use Rattle.std.proofs.Common.{◌≡◌, ℕ, ◌<◌, refl, sym, ◌∙◌, subst, arith}
+use Rattle.std.proofs.Common.{◌≡◌, ◌<◌, refl, sym, ◌∙◌, subst, arith}
 use Rattle.lasso_parts.specs.Hashing.{text_hash}
 use Rattle.lasso_parts.specs.IndexTable.{IsRefilled}
 use Rattle.lasso_parts.proofs.IndexTables.{below_more, IsRefilled-start, IsRefilled-more}

@@ -1,4 +1,4 @@
-use Rattle.std.proofs.Common.{◌≡◌, ℕ, ◌<◌, length}
+use Rattle.std.proofs.Common.{◌≡◌, ◌<◌, length}
 use Rattle.lasso_parts.specs.Hashing.{text_hash}
 use Rattle.lasso_parts.specs.IndexTable.{IsRefilled}
 use Rattle.lasso_parts.proofs.index.table.refill_in_order.Given as goal

@@ -14,7 +14,7 @@ use types.Run.{of_opd, no_more, and_then, returns, enter}
 use types.ByLocal.{alloc_all, pass_all, free_all, look_at, get, sets}
 use denote.Builtin.{RawPtr}
 use denote.Exit.{yes}
-use denote.RattleType.{RattleType, owns}
+use denote.RattleType.{owns}
 use denote.RawPtr.{Ptr, block_ptr, ptr_val}
 use denote.Signature.{plain, types_at}
 use denote.Steps.{heard, nothing}
