@@ -9,8 +9,6 @@ ghost use Rattle.lasso_log.specs.Chunks.{IsCellAt, ListOnlyGrows, era_named, chu
 pub mod facts;
 pub mod rule;
 pub mod taking;
-#[cfg(test)]
-mod tests;
 
 use crate::chunks::facts::{Lines, found_chunk, found_item};
 use crate::chunks::rule::{HasCells, HasText, InChunks, Listed};

@@ -10,9 +10,6 @@
 ghost use Rattle.std.specs.Prelude.{◌≡◌, ◌⊎◌, true, Some, IfSome};
 ghost use Rattle.lasso_log.specs.Locks.{has_value};
 
-#[cfg(test)]
-mod tests;
-
 use counted_slot::{Claim, Counted, FREE, Fits, MOST_READERS, ONE_READER, PRESENT, TAKEN};
 use std::hint::spin_loop;
 use std::marker::Model;

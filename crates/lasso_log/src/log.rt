@@ -16,8 +16,6 @@ mod reserving;
 pub mod rule;
 pub mod seen_texts;
 pub mod spine;
-#[cfg(test)]
-mod tests;
 pub mod ticket;
 pub mod turns;
 mod walks;

@@ -7,5 +7,3 @@ pub mod holding;
 pub mod new_bucket;
 pub mod piece;
 pub mod rights;
-#[cfg(test)]
-mod tests;

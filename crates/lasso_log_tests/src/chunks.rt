@@ -2,7 +2,7 @@
 
 ghost use Rattle.std.specs.Prelude.{◌<◌};
 
-use crate::chunks::{Chunks, chunk_and_offset};
+use lasso_log::chunks::{Chunks, chunk_and_offset};
 use std::alloc::{AllocError, Global};
 use std::sync::Wait;
 use std::test::*;

@@ -2,8 +2,8 @@
 
 ghost use Rattle.std.specs.Prelude.{◌≡◌, ◌≤◌};
 
-use crate::locks::{TaggedMutex, TaggedRwLock};
 use counted_slot::Fits;
+use lasso_log::locks::{TaggedMutex, TaggedRwLock};
 use std::sync::Wait;
 use std::test::*;
 use std::thread::join;

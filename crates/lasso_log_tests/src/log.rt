@@ -6,7 +6,7 @@ mod copied;
 mod given_back;
 mod opened;
 
-use crate::log::{KeptSlot, Log, Opened, Pass, Spine};
+use lasso_log::log::{KeptSlot, Log, Opened, Pass, Spine};
 use lasso_parts::keys::{Key, Spur};
 use lasso_parts::util::LassoResult;
 use std::alloc::Global;

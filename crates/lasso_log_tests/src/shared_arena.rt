@@ -6,8 +6,8 @@ mod lists;
 mod ranges;
 mod storing;
 
-use crate::shared_arena::era::Era;
-use crate::shared_arena::piece::Piece;
+use lasso_log::shared_arena::era::Era;
+use lasso_log::shared_arena::piece::Piece;
 use std::test::*;
 
 #[test]

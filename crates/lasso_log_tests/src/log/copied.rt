@@ -4,9 +4,9 @@ ghost use Rattle.lasso_log.specs.History.{Lacks};
 ghost use Rattle.lasso_log.specs.SharedBuckets.{names_with_book};
 ghost use Rattle.lasso_log.specs.Views.{InternerId, PassView, SpineView, list_of};
 
-use crate::log::tests::opened::opens;
-use crate::log::{Log, NewLog, Pass, Spine};
-use crate::shared_arena::bucket_list::BucketList;
+use crate::log::opened::opens;
+use lasso_log::log::{Log, NewLog, Pass, Spine};
+use lasso_log::shared_arena::bucket_list::BucketList;
 use lasso_parts::keys::{Key, Spur};
 use lasso_parts::util::{LassoError, LassoErrorKind, LassoResult};
 use std::alloc::Global;

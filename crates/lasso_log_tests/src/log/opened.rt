@@ -2,9 +2,9 @@
 ghost use Rattle.std.specs.Prelude.{◌≡◌, ◌∷◌, [], IfOk, codes};
 ghost use Rattle.lasso_log.specs.Views.{list_of};
 
-use crate::log::tests::given_back::add;
-use crate::log::{Log, NewLog, OpeningTexts};
-use crate::shared_arena::piece::Piece;
+use crate::log::given_back::add;
+use lasso_log::log::{Log, NewLog, OpeningTexts};
+use lasso_log::shared_arena::piece::Piece;
 use lasso_parts::keys::Spur;
 use lasso_parts::util::{LassoError, LassoErrorKind, LassoResult};
 use std::alloc::Global;

@@ -3,9 +3,9 @@ ghost use Rattle.std.specs.Prelude.{◌≡◌, ◌≢◌, length};
 ghost use Rattle.lasso_log.specs.SharedBuckets.{names_with_book};
 ghost use Rattle.lasso_log.specs.Views.{InternerId, PassView, SpineView};
 
-use crate::log::{Log, Pass, Spine};
-use crate::shared_arena::bucket_list::BucketList;
-use crate::shared_arena::tests::storing::{bucket_at, opens, stores};
+use crate::shared_arena::storing::{bucket_at, opens, stores};
+use lasso_log::log::{Log, Pass, Spine};
+use lasso_log::shared_arena::bucket_list::BucketList;
 use lasso_parts::keys::Spur;
 use lasso_parts::util::LassoErrorKind;
 use std::alloc::Global;

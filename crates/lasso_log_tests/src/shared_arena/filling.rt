@@ -7,10 +7,10 @@ ghost use Rattle.lasso_log.specs.Pieces.{PieceView};
 ghost use Rattle.lasso_log.specs.SharedBuckets.{SharedView};
 ghost use Rattle.lasso_log.specs.Views.{InternerId};
 
-use crate::log::{Log, NewLog, Pass};
-use crate::shared_arena::bucket::SharedBucket;
-use crate::shared_arena::piece::Piece;
-use crate::shared_arena::tests::ranges::{copies, opens};
+use crate::shared_arena::ranges::{copies, opens};
+use lasso_log::log::{Log, NewLog, Pass};
+use lasso_log::shared_arena::bucket::SharedBucket;
+use lasso_log::shared_arena::piece::Piece;
 use lasso_parts::keys::Spur;
 use lasso_parts::util::LassoResult;
 use std::alloc::Global;

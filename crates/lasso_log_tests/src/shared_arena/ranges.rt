@@ -1,4 +1,4 @@
-//! Ranges that two threads take of one bucket, and texts that four threads fill side by side.
+//! Ranges that two threads take of one bucket, one thread each.
 ghost use Rattle.std.specs.Prelude.{◌≡◌, ◌≢◌, IfOk, IfSome};
 ghost use Rattle.lasso_log.specs.Chunks.{era_named};
 ghost use Rattle.lasso_log.specs.Eras.{life};
@@ -6,9 +6,9 @@ ghost use Rattle.lasso_log.specs.Pieces.{PieceView};
 ghost use Rattle.lasso_log.specs.SharedBuckets.{SharedView};
 ghost use Rattle.lasso_log.specs.Views.{InternerId, PassView};
 
-use crate::log::{Log, NewLog, OpeningTexts, Pass};
-use crate::shared_arena::bucket::SharedBucket;
-use crate::shared_arena::piece::Piece;
+use lasso_log::log::{Log, NewLog, OpeningTexts, Pass};
+use lasso_log::shared_arena::bucket::SharedBucket;
+use lasso_log::shared_arena::piece::Piece;
 use lasso_parts::keys::Spur;
 use lasso_parts::util::LassoResult;
 use std::alloc::Global;

@@ -6,9 +6,9 @@ ghost use Rattle.lasso_log.specs.Pieces.{PieceView};
 ghost use Rattle.lasso_log.specs.SharedBuckets.{names_with_book};
 ghost use Rattle.lasso_log.specs.Views.{InternerId, PassView, SpineView};
 
-use crate::log::{Log, NewLog, OpeningTexts, Pass, Spine};
-use crate::shared_arena::bucket_list::BucketList;
-use crate::shared_arena::piece::Piece;
+use lasso_log::log::{Log, NewLog, OpeningTexts, Pass, Spine};
+use lasso_log::shared_arena::bucket_list::BucketList;
+use lasso_log::shared_arena::piece::Piece;
 use lasso_parts::keys::Spur;
 use lasso_parts::util::LassoResult;
 use std::alloc::Global;

@@ -1,7 +1,7 @@
 use Rattle.std.proofs.Common.{◌≡◌, ◌<◌, length}
 use Rattle.std.specs.Prelude.{All}
 use Rattle.lasso_log.specs.Views.{list_of}
-use Rattle.lasso_log.proofs.log.tests.append_all.Given as goal
+use Rattle.lasso_log_tests.proofs.log.append_all.Given as goal
 
 -- pass and spine stay those of the log, and each text is shorter than the list is long
 abbrev pub invariant-loop-text : goal.invariant-loop-text

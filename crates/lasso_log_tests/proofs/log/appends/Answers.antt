@@ -6,7 +6,7 @@ use Rattle.std.proofs.lemmas.Option.{get_or_from_slice_get}
 use Rattle.lasso_parts.specs.Texts.{Text, position_of}
 use Rattle.lasso_parts.proofs.IndexLaws.{position_of_none}
 use Rattle.lasso_log.specs.Views.{list_of}
-use Rattle.lasso_log.proofs.log.tests.appends.Goals as goal
+use Rattle.lasso_log_tests.proofs.log.appends.Goals as goal
 
 -- each text is shorter than n
 abbrev AreShorter : ℕ → List Text → Type 0

@@ -1,5 +1,5 @@
 use Rattle.std.proofs.Common.{◌≡◌}
-use Rattle.lasso_log.proofs.log.tests.read_all.Given as goal
+use Rattle.lasso_log_tests.proofs.log.read_all.Given as goal
 
 -- the pass stays one of the log
 abbrev pub invariant-loop-position : goal.invariant-loop-position

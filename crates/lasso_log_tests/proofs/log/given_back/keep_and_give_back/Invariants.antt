@@ -1,6 +1,6 @@
 use Rattle.std.proofs.Common.{◌≡◌}
 use Rattle.lasso_log.specs.Views.{IsSameSpine}
-use Rattle.lasso_log.proofs.log.tests.given_back.keep_and_give_back.Given as goal
+use Rattle.lasso_log_tests.proofs.log.given_back.keep_and_give_back.Given as goal
 
 -- as many slots are kept as before
 abbrev pub invariant-loop : goal.invariant-loop

@@ -1,7 +1,7 @@
 use Rattle.std.proofs.Common.{[], ◌∷◌, refl}
 use Rattle.lasso_parts.proofs.TextLemmas.{distinct_push}
 use Rattle.lasso_log.proofs.Reading.{none_distinct}
-use Rattle.lasso_log.proofs.log.tests.opened.opens.Goals as goal
+use Rattle.lasso_log_tests.proofs.log.opened.opens.Goals as goal
 
 pub open_with-requires-clause-distinct : goal.open_with-requires-clause-distinct
 open_with-requires-clause-distinct c =

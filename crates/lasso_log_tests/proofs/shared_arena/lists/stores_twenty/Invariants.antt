@@ -1,5 +1,5 @@
 use Rattle.std.proofs.Common.{◌≡◌}
-use Rattle.lasso_log.proofs.shared_arena.tests.lists.stores_twenty.Given as goal
+use Rattle.lasso_log_tests.proofs.shared_arena.lists.stores_twenty.Given as goal
 
 -- pass and spine stay those of the log
 abbrev pub invariant-loop : goal.invariant-loop
