@@ -5,9 +5,6 @@ ghost use Rattle.lasso_single.specs.Command.{intern_reply, done_reply, resolves_
 ghost use Rattle.lasso_single.specs.Filling.{extend};
 ghost use Rattle.lasso_single.specs.Interner.{most_copied};
 
-#[cfg(test)]
-mod tests;
-
 use crate::rodeo::Rodeo;
 use lasso_parts::keys::Key;
 use lasso_parts::util::{LassoError, LassoErrorKind, LassoResult, MemoryLimits};

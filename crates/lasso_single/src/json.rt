@@ -1,5 +1,5 @@
 //! The frozen forms as JSON: the array of their texts, in the order of their keys. The form that grows
-//! stands beside its type; the tests here are of all three.
+//! stands beside its type.
 ghost use Rattle.std.specs.Prelude.{◌≡◌, ◌≤◌, ◌<◌, ◌^◌, List, Ok, Err, IfOk, IfErr, length, true, false};
 ghost use Rattle.serde_json.specs.View.{view};
 ghost use Rattle.lasso_parts.specs.Json.{json_array, read_array};
@@ -7,9 +7,6 @@ ghost use Rattle.lasso_parts.specs.Texts.{Text};
 ghost use Rattle.lasso_parts.specs.declared.util.LassoErrorKind.TheVariants.{FailedAllocation};
 ghost use Rattle.lasso_single.specs.Copies.{bytes_of};
 ghost use Rattle.lasso_single.specs.Json.{ReadsInto};
-
-#[cfg(test)]
-mod tests;
 
 use crate::reader::RodeoReader;
 use crate::resolver::RodeoResolver;

@@ -5,9 +5,6 @@ ghost use Rattle.std.specs.Cmp.{partial_equiv_from_equiv};
 ghost use Rattle.std.specs.List.{enumerate_from};
 ghost use Rattle.lasso_single.specs.Equality.{texts_eq, texts_equivalence};
 
-#[cfg(test)]
-mod tests;
-
 use crate::resolver::RodeoResolver;
 use crate::rodeo::Rodeo;
 use lasso_parts::index::Texts;

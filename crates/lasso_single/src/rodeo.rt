@@ -11,8 +11,6 @@ mod freezing;
 mod interning;
 mod json;
 mod makers;
-#[cfg(test)]
-mod tests;
 mod walking;
 
 use crate::text_list::TextList;

@@ -1,6 +1,6 @@
 //! How often an interner hashes a text.
 use crate::fixtures::CountingState;
-use crate::rodeo::Rodeo;
+use lasso_single::rodeo::Rodeo;
 use lasso_parts::keys::Spur;
 use lasso_parts::util::Capacity;
 use std::alloc::Global;

@@ -8,9 +8,9 @@ mod filling;
 mod hashing;
 mod walks;
 
-use super::*;
+use lasso_single::rodeo::Rodeo;
 use crate::fixtures::{Gap, SameState};
-use lasso_parts::keys::{MicroSpur, Spur};
+use lasso_parts::keys::{Key, MicroSpur, Spur};
 use lasso_parts::util::{Capacity, FixedState, LassoErrorKind, LassoResult, MemoryLimits};
 use std::alloc::Global;
 use std::process::Abort;

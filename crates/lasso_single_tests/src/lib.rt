@@ -1,0 +1,15 @@
+//! Tests of the interner for one thread and of its frozen forms, by their public calls alone.
+#![tactic(auto)]
+
+#[cfg(test)]
+mod commands;
+#[cfg(test)]
+mod fixtures;
+#[cfg(test)]
+mod json;
+#[cfg(test)]
+mod reader;
+#[cfg(test)]
+mod resolver;
+#[cfg(test)]
+mod rodeo;
