@@ -5,7 +5,7 @@ use Rattle.std.specs.List.{enumerate_from}
 use Rattle.std.proofs.lemmas.List.Elements.{All-map}
 use Rattle.std.proofs.lemmas.Iterator.Consumers.{YieldsList-from_first, YieldsList-end}
 use Rattle.lasso_parts.specs.Texts.{Text}
-use Rattle.lasso_single.proofs.reader.tests.longest.Goals as goal
+use Rattle.lasso_single_tests.proofs.reader.longest.Goals as goal
 
 texts_of_items : (n : ℕ) (texts : List Text) → map (λ (x : ℕ × Text). x.1) (enumerate_from n texts) ≡ texts
 texts_of_items n [] = refl
