@@ -3,12 +3,13 @@
 use crate::interfaces::{
     freezes, has_one_text, one_text, resolves_one_text, static_texts_under_no_limit,
 };
-use lasso::interface::laws::{reader_knows, resolver_knows};
+use lasso::interface::laws::{interns_as_one, reader_knows, resolver_knows};
 use lasso::interface::{IntoReader, IntoResolver};
 use lasso::{Capacity, LassoResult, MemoryLimits, Spur, SpurThreadedRodeo, ThreadedRodeo};
 use std::alloc::Global;
 use std::sync::Wait;
 use std::test::Fail;
+use std::thread::join;
 
 /// A shared interner with `Hello, world!` alone.
 fn hello(rt: &impl Wait, alloc: Global) -> LassoResult<SpurThreadedRodeo> {
@@ -57,6 +58,20 @@ fn static_texts_through_a_shared_interner(rt: HostRuntime) -> Result<(), Fail> {
     let mut boxed = Box::new(rt.alloc(), limited(&rt, rt.alloc())?)?;
     static_texts_under_no_limit::<Spur, _, _>(&rt, &mut boxed);
     assert_eq!(rt; boxed.current_memory_usage(&rt), 10);
+    Ok(())
+}
+
+#[test]
+fn two_threads_intern_through_references(rt: HostRuntime) -> Result<(), Fail> {
+    let shared: SpurThreadedRodeo = ThreadedRodeo::default(rt.alloc())?;
+    let (here, there) = join(
+        &rt,
+        || interns_as_one::<Spur, _, _>(&rt, &mut &shared, "Hello, world!"),
+        || interns_as_one::<Spur, _, _>(&rt, &mut &shared, "Hello from the thread!"),
+    );
+    assert!(rt; here?);
+    assert!(rt; there?);
+    assert_eq!(rt; shared.len(), 2);
     Ok(())
 }
 
