@@ -72,7 +72,10 @@ pub fn resolves_one_text<K: Key, R: Abort, T: Resolver<K>>(rt: &R, resolver: &T)
 }
 
 /// The rest of a row, after `abc` under a limit of 0 bytes: the limit refuses a copied text alone.
-pub fn static_texts_under_no_limit<K: Key, R: Abort + Wait, I: Interner<K>>(rt: &R, interner: &mut I) {
+pub fn static_texts_under_no_limit<K: Key, R: Abort + Wait, I: Interner<K>>(
+    rt: &R,
+    interner: &mut I,
+) {
     is_answer(rt, interner.get_or_intern(rt, "defg"), Ok(1));
     is_answer(rt, interner.try_get_or_intern(rt, "0123456789"), Err(LIMIT));
     is_answer(rt, interner.get_or_intern(rt, "0123456789"), Err(LIMIT));

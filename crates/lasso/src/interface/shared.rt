@@ -159,10 +159,7 @@ impl<K: Key, S: BuildHasher + Drop> IntoReader<K> for ThreadedRodeo<K, S> {
         ThreadedRodeo::into_reader(self, rt)
     }
 
-    fn into_reader_boxed<R: Wait>(
-        of: Box<Self>,
-        rt: &R,
-    ) -> LassoResult<RodeoReader<K, S, Global>>
+    fn into_reader_boxed<R: Wait>(of: Box<Self>, rt: &R) -> LassoResult<RodeoReader<K, S, Global>>
         ensures call { IsPlainCall K.key_at of.value.opening Freeze (Listed result) }
         ensures opening { IsOpening K.key_at of.value.opening }
         ensures refused { IfErr result (λ error. error ≡ FailedAllocation) }
