@@ -19,6 +19,7 @@ mod lent_mut;
 pub mod meanings;
 pub mod object_laws;
 mod objects;
+mod shared;
 
 use lasso_parts::keys::Key;
 use lasso_parts::util::LassoResult;

@@ -5,8 +5,6 @@
 
 pub mod interface;
 pub mod laws;
-#[cfg(test)]
-mod tests;
 
 pub use interface::{
     Interner, IntoReader, IntoReaderAndResolver, IntoResolver, Reader, Resolver, SpurInterner,

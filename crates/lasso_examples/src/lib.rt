@@ -1,20 +1,30 @@
 //! Examples of the use of `lasso`, as a crate beside it has them: those of the front page, and those in the documents of the calls, where
-//! each stands in a test as it is there; and a key type of one's own.
+//! each stands in a test as it is there; a key type and callers of one's own; and tests of the interfaces.
 #![tactic(auto)]
 
+#[cfg(test)]
+mod answers;
+#[cfg(test)]
+mod calling;
 #[cfg(test)]
 mod front_page;
 #[cfg(test)]
 mod frozen;
 #[cfg(test)]
+mod interfaces;
+#[cfg(test)]
 mod looking_up;
 #[cfg(test)]
 mod making;
+#[cfg(test)]
+mod objects;
 pub mod own_key;
 #[cfg(test)]
 mod parts;
 #[cfg(test)]
 mod shared;
+#[cfg(test)]
+mod shared_interfaces;
 #[cfg(test)]
 mod shared_lists;
 #[cfg(test)]

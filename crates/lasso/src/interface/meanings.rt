@@ -1,9 +1,10 @@
 //! What the meaning of each interner is: a meaning of none would meet every clause of the interfaces.
 //! These functions do nothing; what they say stands in their contracts.
-ghost use Rattle.std.specs.Prelude.{◌≡◌, Some};
+ghost use Rattle.std.specs.Prelude.{◌≡◌, Some, None};
 
 use super::{Resolver, SpurResolver};
 use lasso_parts::keys::{Key, Spur};
+use lasso_shared::threaded::ThreadedRodeo;
 use lasso_single::reader::RodeoReader;
 use lasso_single::resolver::RodeoResolver;
 use lasso_single::rodeo::Rodeo;
@@ -23,6 +24,11 @@ pub fn reader_means_its_texts<K: Key, S: BuildHasher, A: Allocator>(_reader: &Ro
 /// The meaning of a resolver is its list of texts.
 pub fn resolver_means_its_texts<K: Key, A: Allocator>(_resolver: &RodeoResolver<K, A>)
     ensures { ⟦<RodeoResolver<K, A> as Resolver<K>>⟧.meaning _resolver.now ≡ Some _resolver.now }
+{}
+
+/// A `ThreadedRodeo` has no list of its own: other threads may fill it between any two calls.
+pub fn threaded_means_no_list<K: Key, S: BuildHasher + Drop>(_rodeo: &ThreadedRodeo<K, S>)
+    ensures { ⟦<ThreadedRodeo<K, S> as Resolver<K>>⟧.meaning _rodeo.now ≡ None }
 {}
 
 /// The meaning of a shared reference is that of what it lends.

@@ -1,16 +1,13 @@
-//! Tests that cross the crates below: callers with contracts of their own, and the interfaces.
-mod calling;
-mod interfaces;
-mod objects;
-
-use crate::{Capacity, Key, LassoErrorKind, LassoResult, MemoryLimits, Rodeo, SpurRodeo};
+//! What tests of the interfaces share: the interners that they begin with, and whether an intern call answers as it should.
+use lasso::{Capacity, Key, LassoErrorKind, LassoResult, MemoryLimits, Rodeo, SpurRodeo};
 use std::alloc::Global;
 use std::process::Abort;
 
-const LIMIT: LassoErrorKind = LassoErrorKind::MemoryLimitReached;
+/// The refusal by a memory limit.
+pub const LIMIT: LassoErrorKind = LassoErrorKind::MemoryLimitReached;
 
 /// That the answer is the key of the number, or the refusal.
-fn is_answer<K: Key>(
+pub fn is_answer<K: Key>(
     rt: &impl Abort,
     answer: LassoResult<K>,
     wanted: Result<usize, LassoErrorKind>,
@@ -23,14 +20,14 @@ fn is_answer<K: Key>(
 }
 
 /// An interner with `Hello, world!` alone.
-fn hello(alloc: Global) -> LassoResult<SpurRodeo> {
+pub fn hello(alloc: Global) -> LassoResult<SpurRodeo> {
     let mut rodeo: SpurRodeo = Rodeo::new(alloc)?;
     rodeo.try_get_or_intern("Hello, world!")?;
     Ok(rodeo)
 }
 
 /// An interner of 10 bytes with `abc`, and then a limit of 0 bytes.
-fn limited(alloc: Global) -> LassoResult<SpurRodeo> {
+pub fn limited(alloc: Global) -> LassoResult<SpurRodeo> {
     let mut rodeo: SpurRodeo = Rodeo::with_capacity(alloc, Capacity::for_bytes(10))?;
     rodeo.try_get_or_intern("abc")?;
     rodeo.set_memory_limits(MemoryLimits::new(0));
@@ -38,6 +35,6 @@ fn limited(alloc: Global) -> LassoResult<SpurRodeo> {
 }
 
 /// An interner of 4 bytes under a limit of 4 bytes, without a text.
-fn of_four_bytes(alloc: Global) -> LassoResult<SpurRodeo> {
+pub fn of_four_bytes(alloc: Global) -> LassoResult<SpurRodeo> {
     Rodeo::with_capacity_and_memory_limits(alloc, Capacity::for_bytes(4), MemoryLimits::new(4))
 }

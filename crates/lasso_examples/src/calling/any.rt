@@ -1,7 +1,7 @@
 //! Code over any interner: two texts are compared once, when they go in, and from then on by their keys.
 ghost use Rattle.std.specs.Prelude.{◌≡◌, ◌↔◌, IfSome, IfOk, IsTrue};
 
-use crate::{Interner, Key, LassoResult, Rodeo, Spur, SpurRodeo};
+use lasso::{Interner, Key, LassoResult, Rodeo, Spur, SpurRodeo};
 use std::sync::Wait;
 use std::test::Fail;
 

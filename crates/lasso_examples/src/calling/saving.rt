@@ -5,8 +5,8 @@ ghost use Rattle.serde_json.specs.Data.{Data};
 ghost use Rattle.serde_json.specs.Read.{read as read_text};
 ghost use Rattle.lasso_parts.specs.Json.{read_array};
 
-use crate::json::json_reads_back;
-use crate::{FixedState, JsonError, Key, Rodeo, Spur};
+use lasso::json::json_reads_back;
+use lasso::{FixedState, JsonError, Key, Rodeo, Spur};
 use serde_json::Value;
 use std::alloc::Global;
 use std::test::Fail;

@@ -2,7 +2,7 @@
 use Rattle.std.proofs.Common.{◌∙◌, sym, eq-eqb, eqb-true}
 use Rattle.lasso.proofs.Calling.{keys_tell_texts}
 use Rattle.lasso.proofs.Interned.{if_some_map}
-use Rattle.lasso.proofs.tests.calling.any.have_one_key.Goals as goal
+use Rattle.lasso_examples.proofs.calling.any.have_one_key.Goals as goal
 
 pub returns : goal.returns
 returns g c =

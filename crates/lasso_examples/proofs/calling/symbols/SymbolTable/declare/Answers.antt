@@ -1,6 +1,6 @@
 -- What the intern call of the names says: its key resolves to the name, and each name from before stays.
 use Rattle.lasso.proofs.Calling.{answer_resolves, texts_stay}
-use Rattle.lasso.proofs.tests.calling.symbols.SymbolTable.declare.Goals as goal
+use Rattle.lasso_examples.proofs.calling.symbols.SymbolTable.declare.Goals as goal
 
 pub returns-clause-named : goal.returns-clause-named
 returns-clause-named g c =

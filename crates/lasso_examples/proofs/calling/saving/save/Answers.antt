@@ -1,7 +1,7 @@
 -- The text is read as the value that was written, the array of the texts, and that is read as their list.
 use Rattle.lasso_parts.specs.Json.{json_array}
 use Rattle.lasso.proofs.Calling.{array_read_back}
-use Rattle.lasso.proofs.tests.calling.saving.save.Goals as goal
+use Rattle.lasso_examples.proofs.calling.saving.save.Goals as goal
 
 pub returns : goal.returns
 returns g c = (

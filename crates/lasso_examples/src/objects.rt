@@ -1,9 +1,11 @@
 //! Interners and frozen forms whose type is not known where they are used.
-use super::*;
-use crate::interface::object_laws::{
+use crate::answers::{LIMIT, hello, is_answer, limited, of_four_bytes};
+use lasso::interface::object_laws::{
     boxed_object_interns_as_one, boxed_rodeo_object_interns_as_one, object_interns_as_one,
 };
-use crate::interface::{SpurInterner, SpurReader, SpurResolver};
+use lasso::interface::{SpurInterner, SpurReader, SpurResolver};
+use lasso::{Rodeo, SpurRodeo};
+use std::process::Abort;
 use std::test::Fail;
 
 /// An interner with no text takes one, and finds it.

@@ -1,21 +1,23 @@
 //! Each call of the interfaces at each type that has it, and rows of answers through generic code.
-use super::*;
-use crate::interface::holders::{
+use crate::answers::{LIMIT, hello, is_answer, limited, of_four_bytes};
+use lasso::interface::holders::{
     boxed_rodeo_interns_as_one, lent_rodeo_interns_as_one, reader_finds_what_resolves,
     reader_of_boxed_rodeo_knows, reader_of_rodeo_knows, resolver_looks_up_alike,
     resolver_of_boxed_rodeo_knows, resolver_of_rodeo_knows, rodeo_interns_as_one,
 };
-use crate::interface::laws::{finds_what_resolves, interns_as_one, looks_up_alike};
-use crate::interface::{
+use lasso::interface::laws::{finds_what_resolves, interns_as_one, looks_up_alike};
+use lasso::interface::{
     Interner, IntoReader, IntoReaderAndResolver, IntoResolver, Reader, Resolver,
 };
-use crate::{FixedState, Spur};
+use lasso::{FixedState, Key, LassoResult, Rodeo, Spur, SpurRodeo};
+use std::alloc::Global;
+use std::process::Abort;
 use std::sync::Wait;
 use std::test::Fail;
 
 /// `Hello, world!` by each of the four intern calls, and then all that a reader tells of it. There must be
 /// no text before.
-fn one_text<K: Key, R: Abort + Wait, I: Interner<K>>(rt: &R, interner: &mut I) {
+pub fn one_text<K: Key, R: Abort + Wait, I: Interner<K>>(rt: &R, interner: &mut I) {
     assert!(rt; interner.is_empty());
     is_answer(rt, interner.try_get_or_intern(rt, "Hello, world!"), Ok(0));
     is_answer(rt, interner.try_get_or_intern(rt, "Hello, world!"), Ok(0));
@@ -38,7 +40,7 @@ fn one_text<K: Key, R: Abort + Wait, I: Interner<K>>(rt: &R, interner: &mut I) {
 }
 
 /// That `Hello, world!` is the only text.
-fn has_one_text<K: Key, R: Abort + Wait, T: Reader<K>>(rt: &R, reader: &T) {
+pub fn has_one_text<K: Key, R: Abort + Wait, T: Reader<K>>(rt: &R, reader: &T) {
     assert!(rt; reader.contains(rt, "Hello, world!"));
     assert!(rt; !reader.contains(rt, "Hello"));
     assert!(rt; reader.get(rt, "Hello").is_none());
@@ -51,7 +53,7 @@ fn has_one_text<K: Key, R: Abort + Wait, T: Reader<K>>(rt: &R, reader: &T) {
 }
 
 /// That key 0 stands for `Hello, world!`, and key 1 for no text.
-fn resolves_one_text<K: Key, R: Abort, T: Resolver<K>>(rt: &R, resolver: &T) {
+pub fn resolves_one_text<K: Key, R: Abort, T: Resolver<K>>(rt: &R, resolver: &T) {
     assert_eq!(rt; resolver.len(), 1);
     assert!(rt; !resolver.is_empty());
     let (Some(first), Some(second)) = (K::try_from_usize(0), K::try_from_usize(1)) else {
@@ -70,8 +72,11 @@ fn resolves_one_text<K: Key, R: Abort, T: Resolver<K>>(rt: &R, resolver: &T) {
 }
 
 /// The rest of a row, after `abc` under a limit of 0 bytes: the limit refuses a copied text alone.
-fn static_texts_under_no_limit<K: Key, R: Abort + Wait, I: Interner<K>>(rt: &R, interner: &mut I) {
-    is_answer(rt, interner.try_get_or_intern(rt, "defg"), Ok(1));
+pub fn static_texts_under_no_limit<K: Key, R: Abort + Wait, I: Interner<K>>(
+    rt: &R,
+    interner: &mut I,
+) {
+    is_answer(rt, interner.get_or_intern(rt, "defg"), Ok(1));
     is_answer(rt, interner.try_get_or_intern(rt, "0123456789"), Err(LIMIT));
     is_answer(rt, interner.get_or_intern(rt, "0123456789"), Err(LIMIT));
     is_answer(rt, interner.try_get_or_intern(rt, "abc"), Ok(0));
@@ -138,7 +143,7 @@ fn static_texts_take_no_bytes_of_each_interner(rt: HostRuntime) -> Result<(), Fa
 }
 
 /// What each way of freezing gives has `Hello, world!` alone.
-fn freezes<K: Key, R: Abort + Wait, I: IntoReaderAndResolver<K> + Drop>(
+pub fn freezes<K: Key, R: Abort + Wait, I: IntoReaderAndResolver<K> + Drop>(
     rt: &R,
     first: I,
     second: I,

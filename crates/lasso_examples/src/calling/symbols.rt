@@ -3,7 +3,7 @@
 ghost use Rattle.std.specs.Prelude.{◌≡◌, ℕ, ◌<◌, ◌↔◌, length, Some, IfOk, IfErr, IsTrue, slice_get};
 ghost use Rattle.lasso_parts.specs.Texts.{Text};
 
-use crate::{FixedState, Key, LassoResult, Rodeo, Spur};
+use lasso::{FixedState, Key, LassoResult, Rodeo, Spur};
 use std::alloc::Global;
 use std::test::Fail;
 
