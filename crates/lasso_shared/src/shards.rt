@@ -17,7 +17,7 @@ pub mod shard;
 mod store;
 pub mod tag;
 #[cfg(test)]
-mod tests;
+pub(crate) mod tests;
 
 use crate::shards::shard::{Shard, Tally};
 use lasso_log::locks::{TaggedMutex, TaggedRwLock};
