@@ -1,5 +1,6 @@
-//! The examples in the documents of filling, freezing, comparing and writing an interner that threads share, in tests.
+//! The examples in the documents of filling, freezing, comparing, writing and reading an interner that threads share, in tests.
 use lasso::{Capacity, Key, MemoryLimits, Rodeo, SpurRodeo, SpurThreadedRodeo, ThreadedRodeo};
+use serde_json::Value;
 use std::test::Fail;
 
 #[test]
@@ -94,5 +95,14 @@ fn a_shared_interner_of_three_buckets_is_written_and_frozen(rt: HostRuntime) -> 
     assert_eq!(rt; rodeo.max_memory_usage(&rt), 14);
     let reader = rodeo.into_reader(&rt)?;
     assert_eq!(rt; (reader.len(), reader.get("yz")), (4, Some(last)));
+    Ok(())
+}
+
+#[test]
+fn shared_read_from_json(rt: HostRuntime) -> Result<(), Fail> {
+    let value = Value::from_str(rt.alloc(), r#"{"a":2,"b":1}"#)?;
+    let rodeo = SpurThreadedRodeo::deserialize(rt.alloc(), &value)?;
+    let second = rodeo.get(&rt, "a").ok_or("not there")?;
+    assert_eq!(rt; second.into_usize(), 1);
     Ok(())
 }

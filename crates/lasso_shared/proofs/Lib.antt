@@ -11,3 +11,6 @@ pub mod Frozen
 pub mod Filled
 pub mod Listed
 pub mod Walked
+pub mod Built
+pub mod ReadList
+pub mod Copied

@@ -1,6 +1,11 @@
--- A shared interner as JSON: what a call that writes its list replies.
-use Rattle.std.specs.Prelude.{List, Result, Ok, Err}
+-- A shared interner as JSON: what a call that writes its list replies, and how a value is read.
+use Rattle.std.specs.Prelude.{◌⊎◌, ℕ, List, Option, Some, None, true, Result, Ok, Err, IsOk}
+use Rattle.serde_json.specs.Data.{Data, Items}
+use Rattle.serde_json.specs.Find.{as_array}
+use Rattle.lasso_parts.specs.Json.{read_array, TakesText, ReadsOr}
+use Rattle.lasso_parts.specs.JsonObjects.{read_object, TakesPosition}
 use Rattle.lasso_parts.specs.Texts.{Text}
+use Rattle.lasso_parts.specs.declared.json.error.JsonError.{JsonError}
 use Rattle.lasso_parts.specs.declared.util.LassoErrorKind.{LassoErrorKind}
 use Rattle.lasso_parts.specs.declared.util.LassoErrorKind.TheVariants.{FailedAllocation}
 
@@ -8,3 +13,18 @@ use Rattle.lasso_parts.specs.declared.util.LassoErrorKind.TheVariants.{FailedAll
 abbrev pub written_of : {A E : Type 0} → List Text → Result A E → Result (List Text) LassoErrorKind
 written_of texts (Ok value) = Ok texts
 written_of texts (Err error) = Err FailedAllocation
+
+-- the list of an array, or of the object that any other value has to be
+abbrev pub read_by_form : {K : Type 0} → (ℕ → Option K) → Data → Option Items → Result (List Text) JsonError
+read_by_form key_at d None = read_object key_at d
+read_by_form key_at d (Some ds) = read_array key_at true d
+
+-- the list that a value is read as, or what is wrong with it: an array by its items, any other value as an object
+abbrev pub read_list : {K : Type 0} → (ℕ → Option K) → Data → Result (List Text) JsonError
+read_list key_at d = read_by_form key_at d (as_array d)
+
+-- the answer is the list that the value is read as, or what is wrong with it; or memory was wanting, unless the value is neither an
+-- array nor an object, or its first item or member is faulty
+abbrev pub ReadsShared : {K : Type 0} → (ℕ → Option K) → Data → Result (List Text) JsonError → Type 0
+ReadsShared key_at d answer =
+    let read = read_list key_at d in ReadsOr (TakesText key_at d ⊎ TakesPosition key_at d ⊎ IsOk read) read answer

@@ -1,66 +1,24 @@
-//! The locks and the first bucket of an interner that holds nothing.
-ghost use Rattle.std.specs.Prelude.{◌≡◌, ◌<◌, ◌≢◌, [], ℕ, length, Some, IfOk, IfErr, slice_get};
+//! The opening of an interner, with texts or without: its log, its buckets and its locks.
+ghost use Rattle.std.specs.Prelude.{◌≡◌, ◌≢◌, ◌≤◌, ◌-◌, ◌^◌, [], Err, IfOk, IfErr, length, map};
 ghost use Rattle.lasso_parts.specs.declared.util.LassoErrorKind.TheVariants.{FailedAllocation};
-ghost use Rattle.lasso_parts.specs.Hashing.{text_hash};
+ghost use Rattle.lasso_parts.specs.Texts.{IsDistinct, Fits};
+ghost use Rattle.lasso_single.specs.Copies.{bytes_of, clone_size};
 ghost use Rattle.lasso_log.specs.History.{opened};
-ghost use Rattle.lasso_shared.specs.Shards.{IsShard, IsTally};
-ghost use Rattle.lasso_log.specs.Views.{list_of};
+ghost use Rattle.lasso_log.specs.Openings.{OpeningView, opening_with};
 
 use crate::shards::Shards;
-use crate::shards::shard::{Shard, Tally};
-use crate::shards::tag::{SHARDS, ShardTag};
-use lasso_log::locks::{TaggedMutex, TaggedRwLock};
-use lasso_log::log::{Log, NewLog, Opened, OpeningTexts, Spine};
+use crate::shards::building::NewShards;
+use crate::shards::shard::Tally;
+use crate::shards::tag::ShardTag;
+use lasso_log::locks::TaggedMutex;
+use lasso_log::log::{Log, NewLog, Opened, OpeningTexts};
 use lasso_log::shared_arena::bucket_list::BucketList;
-use lasso_parts::index::Index;
 use lasso_parts::keys::Key;
 use lasso_parts::util::LassoResult;
-use std::alloc::{AllocError, Global};
+use lasso_single::room::one_bucket;
+use std::alloc::Global;
 use std::hash::BuildHasher;
 use std::marker::PhantomData;
-
-impl<K: Key, S: BuildHasher + Drop> ShardTag<K, S> {
-    // The shard of this number of an interner that holds nothing.
-    fn shard(&self, alloc: Global) -> Shard<K, S>
-        requires { list_of self.now.log [] ≡ [] }
-        ensures { IsShard (text_hash S.build_hasher S.Hasher.write S.Hasher.finish self.now.hasher) self.now.number self.now.log result.known result.index result.count }
-    {
-        Shard {
-            index: Index::new(alloc),
-            count: 0,
-            known: self.log.known(),
-            of: PhantomData,
-        }
-    }
-
-    // The locks of the shards of an interner that holds nothing.
-    fn shards(&mut self, alloc: Global) -> Result<Vec<TaggedRwLock<Shard<K, S>>>, AllocError>
-        requires { list_of self.old.log [] ≡ [] }
-        ensures same { (self.new.log ≡ self.old.log) × (self.new.hasher ≡ self.old.hasher) }
-        ensures all { IfOk result (λ shards. length shards.items ≡ 16) }
-        ensures tags { IfOk result (λ shards. (i : ℕ) → i < 16 → slice_get shards.items i ≡ Some (record self.old { number = i })) }
-    {
-        let mut shards = Vec::with_capacity(alloc, SHARDS)?;
-        for number in 0..SHARDS {
-            self.number = number;
-            shards.push_reserved(TaggedRwLock::new(self.shard(alloc), self));
-        }
-        Ok(shards)
-    }
-
-    // The spine of an interner that holds nothing, and the numbers of its shards.
-    fn tally(&self, spine: Spine<K>) -> Tally<K, S>
-        requires spine { (spine.of ≡ self.now.log) × (spine.notes ≡ []) }
-        requires none { list_of self.now.log [] ≡ [] }
-        ensures { IsTally (text_hash S.build_hasher S.Hasher.write S.Hasher.finish self.now.hasher) self.now.log result.spine result.counts }
-    {
-        Tally {
-            spine,
-            counts: [0; 16],
-            of: PhantomData,
-        }
-    }
-}
 
 impl<K: Key, S: BuildHasher + Drop> Shards<K, S> {
     /// The log, the first bucket, the locks and the spine of an interner that holds nothing. It is refused for want of memory alone.
@@ -71,15 +29,59 @@ impl<K: Key, S: BuildHasher + Drop> Shards<K, S> {
         ensures refused { IfErr result (λ error. error ≡ FailedAllocation) }
     {
         let texts = OpeningTexts::new(alloc, first.size as usize)?;
-        let NewLog { log, spine, bucket } = Log::open_with(texts, first.limit);
+        Shards::open_with(alloc, hasher, texts, first.limit)
+    }
+
+    /// The same of an interner that opens with the texts of a distinct list that fits the keys, in order, all copied into one bucket of
+    /// just their bytes (4096 where they have none), with no limit below the greatest number. It is refused for want of memory alone,
+    /// also where the texts have more bytes than a `usize` counts.
+    pub fn of_texts(alloc: Global, hasher: S, texts: &[&str]) -> LassoResult<Shards<K, S>>
+        requires distinct { IsDistinct (map (λ t. t.now) texts.now) }
+        requires fits { Fits K.key_at (length (map (λ t. t.now) texts.now)) }
+        ensures opening { let list = map (λ t. t.now) texts.now in IfOk result (λ s. s.log.opening ≡ opened list (clone_size list) (bytes_of list) (2 ^ 64 - 1)) }
+        ensures hasher { IfOk result (λ s. s.hasher ≡ hasher) }
+        ensures refused { IfErr result (λ error. error ≡ FailedAllocation) }
+        ensures overflow { 2 ^ 64 ≤ bytes_of (map (λ t. t.now) texts.now) → result ≡ Err FailedAllocation }
+    {
+        let room = one_bucket(&texts, texts.len())?;
+        let mut opening = OpeningTexts::new(alloc, room.bytes())?;
+        for text in texts {
+            let Some(piece) = opening.copy_in(text) else {
+                unreachable!();
+            };
+            opening.push(alloc, piece)?;
+        }
+        Shards::open_with(alloc, hasher, opening, u64::MAX)
+    }
+
+    // The same of an interner that opens with these texts, their bucket and a limit.
+    fn open_with(
+        alloc: Global,
+        hasher: S,
+        texts: OpeningTexts,
+        limit: u64,
+    ) -> LassoResult<Shards<K, S>>
+        requires distinct { IsDistinct texts.texts }
+        requires fits { Fits K.key_at (length texts.texts) }
+        requires bucket { texts.bucket.size ≢ 0 }
+        ensures opening { IfOk result (λ s. s.log.opening ≡ opening_with texts limit) }
+        ensures hasher { IfOk result (λ s. s.hasher ≡ hasher) }
+        ensures refused { IfErr result (λ error. error ≡ FailedAllocation) }
+    {
+        let NewLog { log, spine, bucket } = Log::open_with(texts, limit);
         let buckets = BucketList::new(alloc, &log, bucket)?;
         let mut tag = ShardTag {
             log,
             hasher,
             number: 0,
         };
-        let shards = tag.shards(alloc)?;
-        let spine = TaggedMutex::new(tag.tally(spine), &tag);
+        let NewShards { locks, counts } = tag.shards(alloc, spine.len() as usize)?;
+        let tally = Tally {
+            spine,
+            counts,
+            of: PhantomData,
+        };
+        let spine = TaggedMutex::new(tally, &tag);
         let ShardTag {
             log,
             hasher,
@@ -88,7 +90,7 @@ impl<K: Key, S: BuildHasher + Drop> Shards<K, S> {
         Ok(Shards {
             log,
             hasher,
-            shards,
+            shards: locks,
             spine,
             buckets,
             alloc,

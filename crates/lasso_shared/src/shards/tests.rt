@@ -3,7 +3,7 @@ ghost use Rattle.std.specs.Prelude.{◌≡◌};
 
 mod armed;
 mod copied;
-mod hashers;
+pub(crate) mod hashers;
 mod writers;
 
 use crate::shards::Shards;

@@ -1,18 +1,22 @@
-//! An interner that threads share as JSON: the object from its texts to their positions plus one.
-ghost use Rattle.std.specs.Prelude.{◌≡◌, ◌<◌, List, IfOk, IfErr, length};
+//! An interner that threads share as JSON: the object from its texts to their positions plus one. It is read from such an object, or from
+//! the array of its texts.
+ghost use Rattle.std.specs.Prelude.{◌≡◌, ◌⊎◌, ◌≤◌, ◌<◌, ◌-◌, ◌^◌, List, Ok, Err, IfOk, IfErr, length, map};
 ghost use Rattle.serde_json.specs.View.{view};
 ghost use Rattle.lasso_parts.specs.declared.util.LassoErrorKind.TheVariants.{FailedAllocation};
-ghost use Rattle.lasso_parts.specs.JsonObjects.{json_object};
-ghost use Rattle.lasso_parts.specs.Texts.{Text};
+ghost use Rattle.lasso_parts.specs.Json.{json_array, shown, ReadsOr, TakesText};
+ghost use Rattle.lasso_parts.specs.JsonObjects.{json_object, TakesPosition};
+ghost use Rattle.lasso_parts.specs.Texts.{Text, IsDistinct, Fits};
+ghost use Rattle.lasso_single.specs.Copies.{bytes_of, clone_size};
 ghost use Rattle.lasso_log.specs.Calls.{IsCall, IsPlainCall};
-ghost use Rattle.lasso_log.specs.History.{IsLegal, IsOpening, totals};
+ghost use Rattle.lasso_log.specs.History.{IsLegal, IsOpening, opened, totals};
 ghost use Rattle.lasso_log.specs.Replies.{Serialize, Listed};
 ghost use Rattle.lasso_log.specs.Views.{PassView, InternerId, IsSamePass, seen};
-ghost use Rattle.lasso_shared.specs.Json.{written_of};
+ghost use Rattle.lasso_shared.specs.Json.{ReadsShared, read_list, written_of};
 
+use crate::shards::Shards;
 use crate::threaded::ThreadedRodeo;
 use lasso_log::log::Pass;
-use lasso_parts::json::{JsonError, write_map};
+use lasso_parts::json::{JsonError, read_array, read_map, write_map};
 use lasso_parts::keys::Key;
 use serde_json::Value;
 use std::alloc::Global;
@@ -63,5 +67,46 @@ impl<K: Key, S: BuildHasher + Drop> ThreadedRodeo<K, S> {
     {
         let mut pass = self.pass();
         self.serialize_as(alloc, &mut pass)
+    }
+}
+
+impl<K: Key, S: BuildHasher + Default + Drop> ThreadedRodeo<K, S> {
+    /// An interner with the texts of an object, each at the position that its number is the one after, or with those of an array, in
+    /// order. All are copied into one bucket of just their bytes (4096 where they have none), and there is no limit below the greatest
+    /// number. The first faulty member or item decides. A member, in the byte order of the texts: it is no whole number from 1 to the
+    /// count of members (`NotAPosition`), or the key type has no key for its position (`TooMany`), or an earlier member has the position
+    /// (`Taken`). An item: it is no text (`NotText`), or an earlier item has its text (`Doubled`), or its position has no key (`TooMany`).
+    /// A value that is neither is `NotAnObject`. It may be refused for want of memory (`Lasso`) unless the value is neither or its first
+    /// member or item is faulty; so it is where the texts have more bytes than a `usize` counts.
+    ///
+    /// ```rust
+    /// let value = Value::from_str(rt.alloc(), r#"{"a":2,"b":1}"#)?;
+    /// let rodeo = SpurThreadedRodeo::deserialize(rt.alloc(), &value)?;
+    /// let second = rodeo.get(&rt, "a").ok_or("not there")?;
+    /// assert_eq!(rt; second.into_usize(), 1);
+    /// ```
+    pub fn deserialize(alloc: Global, value: &Value) -> Result<Self, JsonError>
+        ensures read { ReadsShared K.key_at (view value.now) (shown (λ t. t.opening.texts) result) }
+        ensures opening { IfOk result (λ t. let list = t.opening.texts in t.opening ≡ opened list (clone_size list) (bytes_of list) (2 ^ 64 - 1)) }
+        ensures back { (list : List Text) → IsDistinct list → Fits K.key_at (length list) → (view value.now ≡ json_object list) ⊎ (view value.now ≡ json_array list)
+            → (shown (λ t. t.opening.texts) result ≡ Ok list) ⊎ (result ≡ Err (JsonError.Lasso FailedAllocation)) }
+        ensures overflow { (list : List Text) → read_list K.key_at (view value.now) ≡ Ok list → 2 ^ 64 ≤ bytes_of list → result ≡ Err (JsonError.Lasso FailedAllocation) }
+    {
+        let texts = texts_of::<K>(alloc, value)?;
+        let shards = Shards::of_texts(alloc, S::default(), texts.as_slice())?;
+        Ok(ThreadedRodeo { shards })
+    }
+}
+
+// The list of an array, or of the object that any other value has to be.
+fn texts_of<K: Key>(alloc: Global, value: &Value) -> Result<Vec<&str>, JsonError>
+    ensures read { ReadsOr (TakesText K.key_at (view value.now) ⊎ TakesPosition K.key_at (view value.now)) (read_list K.key_at (view value.now)) (shown (λ texts. map (λ t. t.now) texts.items) result) }
+    ensures distinct { IfOk result (λ texts. IsDistinct (map (λ t. t.now) texts.items)) }
+    ensures fits { IfOk result (λ texts. Fits K.key_at (length (map (λ t. t.now) texts.items))) }
+{
+    if value.is_array() {
+        read_array::<K, Global>(alloc, value, true)
+    } else {
+        read_map::<K, Global>(alloc, value)
     }
 }

@@ -8,6 +8,7 @@ mod crowd;
 mod filling;
 mod freezing;
 mod gaps;
+mod json;
 mod limits;
 mod looking;
 mod passes;

@@ -1,4 +1,10 @@
-use Rattle.std.proofs.Common.{rules, ℕ, refl, ◌∙◌}
+-- The shards are made in the order of their numbers: each lock knows its number, and each shard's texts are counted under it.
+use Rattle.std.proofs.Common.{rules, ◌≡◌, [], ℕ, refl, sym, ap, ◌∙◌, length, arith}
+use Rattle.std.proofs.lemmas.List.{length-set, length_push}
+use Rattle.lasso_parts.specs.Hashing.{text_hash}
+use Rattle.lasso_log.specs.Views.{InternerId, list_of}
+use Rattle.lasso_shared.specs.Shards.{count_in}
+use Rattle.lasso_shared.proofs.Built.{counted_below_more}
 use Rattle.lasso_shared.proofs.Whole.{numbered_push}
 use Rattle.lasso_shared.proofs.shards.tag.ShardTag.shards.Goals as goal
 
@@ -7,4 +13,16 @@ loop-number-preserved g c =
     let i = c.loop-number.invariant in
     let n = c.loop-number.number in
     let was = c.args.self.now in
-    (search rules, search rules, i.2, i.3, search rules, rw c.push_reserved.ensures.items (numbered_push (λ (k : ℕ). record was { number = k }) c.loop-number.shards.items c.new.result n i.4 (c.new.ensures ∙ rw (i.2, i.3) refl) i.5))
+    let hash_of = text_hash g.S.BuildHasher.build_hasher g.S.Hasher.Hasher.write g.S.Hasher.Hasher.finish was.hasher in
+    let own = text_hash g.S.BuildHasher.build_hasher g.S.Hasher.Hasher.write g.S.Hasher.Hasher.finish c.loop-number.self.hasher in
+    let told = c.in_ok-shard.ensures in
+    let count : c.in_ok-shard.shard.count ≡ count_in hash_of n (list_of was.log []) = rw (← i.log, ← i.hasher) (told.shard.counts ∙ ap (λ notes. count_in own n (list_of c.loop-number.self.log notes)) told.known) in record {
+      below = search rules;
+      room = search (rules, i.room);
+      log = i.log;
+      hasher = i.hasher;
+      long = search (rules, i.long);
+      tags = rw c.push_reserved.ensures.items (numbered_push (λ (k : ℕ). record was { number = k }) c.loop-number.locks.items c.new.result n i.long (c.new.ensures ∙ rw (i.log, i.hasher) refl) i.tags);
+      all = length-set c.loop-number.counts n c.in_ok-shard.shard.count ∙ i.all;
+      counted = counted_below_more hash_of (list_of was.log []) n c.in_ok-shard.shard.count c.loop-number.counts (omega (arith, i.all)) count i.counted;
+    }
