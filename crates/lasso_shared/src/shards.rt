@@ -17,8 +17,6 @@ mod put;
 pub mod shard;
 mod store;
 pub mod tag;
-#[cfg(test)]
-pub(crate) mod tests;
 
 use crate::shards::shard::{Shard, Tally};
 use lasso_log::locks::{TaggedMutex, TaggedRwLock};
@@ -45,8 +43,9 @@ pub struct Shards<K: Key, S: BuildHasher + Drop> {
 }
 
 impl<K: Key, S: BuildHasher + Drop> Shards<K, S> {
-    // The lock of the shard of this number.
-    fn lock(&self, number: usize) -> &TaggedRwLock<Shard<K, S>>
+    /// The lock round the shard of this number, below 16. While a caller holds it for writing, calls about the shard's texts wait; while one
+    /// holds it for reading, texts that are there are found beside it.
+    pub fn lock(&self, number: usize) -> &TaggedRwLock<Shard<K, S>>
         requires { number < 16 }
         ensures { (result.now.log ≡ self.now.log) × (result.now.hasher ≡ self.now.hasher) × (result.now.number ≡ number) }
     {

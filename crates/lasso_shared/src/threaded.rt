@@ -16,8 +16,6 @@ mod limits;
 mod looking;
 mod makers;
 mod plain;
-#[cfg(test)]
-mod tests;
 mod walking;
 
 use crate::shards::Shards;

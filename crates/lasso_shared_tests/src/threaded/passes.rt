@@ -2,28 +2,33 @@
 ghost use Rattle.std.specs.Prelude.{◌≡◌, ◌≤◌, ◌<◌, ◌⊎◌, length};
 ghost use Rattle.lasso_log.specs.Views.{list_of};
 
-use crate::threaded::ThreadedRodeo;
-use lasso_log::log::Pass;
+use lasso_log::log::{Opened, Pass};
 use lasso_parts::index::Texts;
 use lasso_parts::keys::{Key, Spur};
 use lasso_parts::util::FixedState;
+use lasso_shared::shards::Shards;
 use std::test::*;
+
+const OPENED: Opened = Opened {
+    size: 4096,
+    limit: u64::MAX,
+};
 
 const TEXTS: [&str; 3] = ["p", "q", "Bär"];
 
 // Whether the pass, once it has met the other, is lent the texts that either had seen, from the first on.
 fn lends_after_meeting(
-    shared: &ThreadedRodeo<Spur, FixedState>,
+    shards: &Shards<Spur, FixedState>,
     pass: &mut Pass<Spur>,
     other: &Pass<Spur>,
     texts: &[&str],
 ) -> bool
-    requires of { (pass.old.of ≡ shared.now) × (other.now.of ≡ shared.now) }
+    requires of { (pass.old.of ≡ shards.now.log) × (other.now.of ≡ shards.now.log) }
     requires seen { (length texts.now ≤ length (list_of pass.old.of pass.old.notes)) ⊎ (length texts.now ≤ length (list_of other.now.of other.now.notes)) }
-    ensures of { pass.new.of ≡ shared.now }
+    ensures of { pass.new.of ≡ shards.now.log }
 {
     pass.meet(other);
-    let seen_texts = shared.shards.log.seen_texts(pass);
+    let seen_texts = shards.log.seen_texts(pass);
     let mut all = true;
     for position in 0..texts.len() {
         if seen_texts.text_at(position) != texts[position] {
@@ -35,40 +40,40 @@ fn lends_after_meeting(
 
 #[test]
 fn a_pass_that_meets_another_has_seen_its_texts(rt: HostRuntime) -> Result<(), Fail> {
-    let shared = ThreadedRodeo::default(rt.alloc())?;
-    let mut ahead = shared.pass();
-    let mut behind = shared.pass();
-    shared.try_get_or_intern_static_as(&rt, &mut behind, "p")?;
-    shared.try_get_or_intern_static_as(&rt, &mut ahead, "q")?;
-    shared.try_get_or_intern_static_as(&rt, &mut ahead, "Bär")?;
-    assert_eq!(rt; shared.shards.log.len(&mut ahead), 3);
-    assert!(rt; lends_after_meeting(&shared, &mut behind, &ahead, &TEXTS));
+    let shards: Shards<Spur, FixedState> = Shards::open(rt.alloc(), FixedState::new(), OPENED)?;
+    let mut ahead = shards.log.pass();
+    let mut behind = shards.log.pass();
+    shards.intern_static(&rt, &mut behind, "p")?;
+    shards.intern_static(&rt, &mut ahead, "q")?;
+    shards.intern_static(&rt, &mut ahead, "Bär")?;
+    assert_eq!(rt; shards.log.len(&mut ahead), 3);
+    assert!(rt; lends_after_meeting(&shards, &mut behind, &ahead, &TEXTS));
     // what it has seen stays, and both go on interning
-    let nothing = shared.pass();
-    assert!(rt; lends_after_meeting(&shared, &mut ahead, &nothing, &TEXTS));
-    let new = shared.try_get_or_intern_static_as(&rt, &mut behind, "r")?;
+    let nothing = shards.log.pass();
+    assert!(rt; lends_after_meeting(&shards, &mut ahead, &nothing, &TEXTS));
+    let new = shards.intern_static(&rt, &mut behind, "r")?;
     assert_eq!(rt; new.into_usize(), 3);
-    let old = shared.try_get_or_intern_static_as(&rt, &mut ahead, "p")?;
+    let old = shards.intern_static(&rt, &mut ahead, "p")?;
     assert_eq!(rt; old.into_usize(), 0);
     Ok(())
 }
 
 // Whether both passes are lent this text at the position. Where one is, the other is.
 fn both_lend(
-    shared: &ThreadedRodeo<Spur, FixedState>,
+    shards: &Shards<Spur, FixedState>,
     one: &Pass<Spur>,
     other: &Pass<Spur>,
     position: usize,
     text: &str,
 ) -> (bool, bool)
-    requires of { (one.now.of ≡ shared.now) × (other.now.of ≡ shared.now) }
+    requires of { (one.now.of ≡ shards.now.log) × (other.now.of ≡ shards.now.log) }
     requires one { position < length (list_of one.now.of one.now.notes) }
     requires other { position < length (list_of other.now.of other.now.notes) }
     ensures same { result.0 ≡ result.1 }
 {
     one.compare(other);
-    let mine = shared.shards.log.seen_texts(one);
-    let theirs = shared.shards.log.seen_texts(other);
+    let mine = shards.log.seen_texts(one);
+    let theirs = shards.log.seen_texts(other);
     let here = mine.text_at(position);
     let there = theirs.text_at(position);
     let first = here == text;
@@ -78,14 +83,14 @@ fn both_lend(
 
 #[test]
 fn passes_have_seen_the_same_text_at_a_position(rt: HostRuntime) -> Result<(), Fail> {
-    let shared = ThreadedRodeo::default(rt.alloc())?;
-    let mut one = shared.pass();
-    let mut other = shared.pass();
-    shared.try_get_or_intern_static_as(&rt, &mut one, "p")?;
-    assert_eq!(rt; shared.shards.log.len(&mut one), 1);
-    shared.try_get_or_intern_static_as(&rt, &mut other, "q")?;
-    assert_eq!(rt; shared.shards.log.len(&mut other), 2);
-    assert_eq!(rt; both_lend(&shared, &one, &other, 0, "p"), (true, true));
-    assert_eq!(rt; both_lend(&shared, &other, &one, 0, "q"), (false, false));
+    let shards: Shards<Spur, FixedState> = Shards::open(rt.alloc(), FixedState::new(), OPENED)?;
+    let mut one = shards.log.pass();
+    let mut other = shards.log.pass();
+    shards.intern_static(&rt, &mut one, "p")?;
+    assert_eq!(rt; shards.log.len(&mut one), 1);
+    shards.intern_static(&rt, &mut other, "q")?;
+    assert_eq!(rt; shards.log.len(&mut other), 2);
+    assert_eq!(rt; both_lend(&shards, &one, &other, 0, "p"), (true, true));
+    assert_eq!(rt; both_lend(&shards, &other, &one, 0, "q"), (false, false));
     Ok(())
 }

@@ -1,7 +1,7 @@
 //! What makers open with, and limits that are set and read.
 
 use super::FIRST;
-use crate::threaded::ThreadedRodeo;
+use lasso_shared::threaded::ThreadedRodeo;
 use lasso_parts::keys::{Key, MicroSpur, Spur};
 use lasso_parts::util::{Capacity, FixedState, LassoResult, MemoryLimits};
 use std::alloc::Global;

@@ -2,11 +2,11 @@
 //! for callers.
 ghost use Rattle.std.specs.Prelude.{◌≡◌, ◌≢◌, ◌↔◌, Some, IsTrue, IfOk, option_map};
 
-use crate::laws::{
+use lasso_shared::laws::{
     answered_keys_resolve, calls_tell_keys, keys_are_equal_where_texts_are, passes_share_keys,
     seen_texts_keep_keys,
 };
-use crate::threaded::ThreadedRodeo;
+use lasso_shared::threaded::ThreadedRodeo;
 use lasso_log::log::Pass;
 use lasso_parts::keys::{Key, Spur};
 use lasso_parts::util::{FixedState, LassoResult};

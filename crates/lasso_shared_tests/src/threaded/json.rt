@@ -1,7 +1,7 @@
 //! Rows of reading an interner that threads share from JSON, and what it is afterwards.
 use super::gaps::WithoutTwo;
-use crate::shards::tests::hashers::{FirstState, SameState};
-use crate::threaded::ThreadedRodeo;
+use crate::shards::hashers::{FirstState, SameState};
+use lasso_shared::threaded::ThreadedRodeo;
 use lasso_parts::json::JsonError;
 use lasso_parts::keys::{Key, MicroSpur, Spur};
 use lasso_parts::util::FixedState;

@@ -14,7 +14,7 @@ mod looking;
 mod passes;
 mod walking;
 
-use super::ThreadedRodeo;
+use lasso_shared::threaded::ThreadedRodeo;
 use lasso_log::log::Pass;
 use lasso_parts::keys::{Key, Spur};
 use lasso_parts::util::{FixedState, LassoErrorKind, LassoResult};
@@ -157,7 +157,7 @@ fn two_threads_append(rt: HostRuntime) -> Result<(), Fail> {
     );
     assert!(rt; a && b);
     let mut pass = shared.pass();
-    assert_eq!(rt; shared.shards.log.len(&mut pass), 200);
+    assert_eq!(rt; shared.len_as(&mut pass), 200);
     // 100 texts of each thread at 200 positions: each stands once, in its thread's order
     assert_eq!(rt; in_order(&shared, &FIRST), 100);
     assert_eq!(rt; in_order(&shared, &SECOND), 100);
@@ -178,7 +178,7 @@ fn takes_all<R: Wait>(
     for position in 0..texts.len() {
         let mut found = number(rt, shared, &mut pass, texts[position]);
         if found == Err(LassoErrorKind::FailedAllocation) {
-            if shared.shards.log.len(&mut pass) != position as u64 {
+            if shared.len_as(&mut pass) != position {
                 return false;
             }
             found = number(rt, shared, &mut pass, texts[position]);
@@ -241,6 +241,6 @@ fn a_text_of_two_threads_has_one_key(rt: HostRuntime) -> Result<(), Fail> {
     assert!(rt; a.is_some());
     assert_eq!(rt; a, b);
     let mut pass = shared.pass();
-    assert_eq!(rt; shared.shards.log.len(&mut pass), 3);
+    assert_eq!(rt; shared.len_as(&mut pass), 3);
     Ok(())
 }

@@ -1,6 +1,6 @@
 //! An interner that threads share, filled from items.
 use super::Two;
-use crate::threaded::ThreadedRodeo;
+use lasso_shared::threaded::ThreadedRodeo;
 use lasso_parts::keys::{Key, Spur};
 use lasso_parts::util::{Capacity, FixedState, LassoErrorKind, LassoResult, MemoryLimits};
 use std::test::*;

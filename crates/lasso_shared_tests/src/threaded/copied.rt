@@ -1,5 +1,5 @@
 //! Copied texts, beside static ones and of two threads.
-use super::ThreadedRodeo;
+use lasso_shared::threaded::ThreadedRodeo;
 use lasso_parts::keys::{Key, MicroSpur, Spur};
 use lasso_parts::util::{Capacity, FixedState, LassoErrorKind, LassoResult, MemoryLimits};
 use std::sync::Wait;

@@ -1,6 +1,6 @@
 //! A key type that lacks number 2 and has number 3.
 use super::copied::number;
-use crate::threaded::ThreadedRodeo;
+use lasso_shared::threaded::ThreadedRodeo;
 use lasso_parts::keys::Key;
 use lasso_parts::util::{Capacity, FixedState, LassoErrorKind, MemoryLimits};
 use std::marker::Model;

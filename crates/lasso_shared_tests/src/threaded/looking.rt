@@ -1,5 +1,5 @@
 //! Readings, with a pass and without one.
-use crate::threaded::ThreadedRodeo;
+use lasso_shared::threaded::ThreadedRodeo;
 use lasso_parts::keys::{Key, Spur};
 use std::process::Abort;
 use std::sync::Wait;

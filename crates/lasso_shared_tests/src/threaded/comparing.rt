@@ -1,5 +1,5 @@
 //! An interner that threads share, compared with each form of a list.
-use crate::threaded::ThreadedRodeo;
+use lasso_shared::threaded::ThreadedRodeo;
 use lasso_parts::keys::Spur;
 use lasso_parts::util::{FixedState, LassoResult};
 use lasso_single::rodeo::Rodeo;

@@ -1,7 +1,7 @@
 //! A hasher that waits for another writer while a table grows.
 ghost use Rattle.std.specs.Prelude.{◌≡◌, ◌+◌, ◌%◌, ◌^◌, length};
 
-use crate::shards::tests::is_seen;
+use crate::shards::is_seen;
 use std::hash::{BuildHasher, Hasher};
 use std::sync::atomic::{AtomicU64, Ordering};
 

@@ -1,7 +1,7 @@
 //! Frozen forms of an interner that threads share.
 use super::copied::number;
 use super::gaps::WithoutTwo;
-use crate::threaded::ThreadedRodeo;
+use lasso_shared::threaded::ThreadedRodeo;
 use lasso_parts::keys::{Key, Spur};
 use lasso_parts::util::{Capacity, FixedState, LassoErrorKind, MemoryLimits};
 use std::test::*;

@@ -1,7 +1,7 @@
 //! Walks over an interner that threads share.
 use super::FIRST;
 use super::copied::number;
-use crate::threaded::{Strings, ThreadedRodeo};
+use lasso_shared::threaded::{Strings, ThreadedRodeo};
 use lasso_parts::keys::{Key, Spur};
 use lasso_parts::util::{Capacity, FixedState, MemoryLimits};
 use std::process::Abort;

@@ -1,5 +1,5 @@
 //! Four threads, each with texts of its own and texts that all of them have.
-use crate::threaded::ThreadedRodeo;
+use lasso_shared::threaded::ThreadedRodeo;
 use lasso_parts::keys::Spur;
 use lasso_parts::util::{FixedState, LassoResult};
 use std::alloc::{AllocError, Global};

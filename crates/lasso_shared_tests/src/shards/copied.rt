@@ -1,8 +1,8 @@
 //! Copied texts: what they take of the buckets, and what refuses them.
 ghost use Rattle.std.specs.Prelude.{◌≢◌};
 
-use super::{TEXTS, kept_slots};
-use crate::shards::Shards;
+use super::TEXTS;
+use lasso_shared::shards::Shards;
 use lasso_log::log::Opened;
 use lasso_parts::keys::{Key, MicroSpur, Spur};
 use lasso_parts::util::{FixedState, LassoErrorKind, LassoResult};
@@ -19,19 +19,14 @@ fn opens<K: Key>(alloc: Global, size: u64, limit: u64) -> LassoResult<Shards<K, 
 
 // How many bytes all buckets take.
 fn usage<K: Key, R: Wait>(rt: &R, shards: &Shards<K, FixedState>) -> u64 {
-    let (guard, tally) = shards.spine.take(rt);
     let mut pass = shards.log.pass();
-    let usage = shards.log.usage(rt, &tally.spine, &mut pass);
-    guard.give(rt, tally);
-    usage
+    shards.usage(rt, &mut pass)
 }
 
 // Replaces the limit.
 fn set_limit<K: Key, R: Wait>(rt: &R, shards: &Shards<K, FixedState>, limit: u64) {
-    let (guard, mut tally) = shards.spine.take(rt);
     let mut pass = shards.log.pass();
-    shards.log.set_limit(rt, &mut tally.spine, &mut pass, limit);
-    guard.give(rt, tally);
+    shards.set_limit(rt, &mut pass, limit);
 }
 
 // The number of an interned text, or why it was refused. It is asked for again where memory was wanting, which kept no slot and took no
@@ -46,7 +41,7 @@ fn number<K: Key, R: Wait>(
     let mut reply = shards.intern_copied(rt, &mut pass, text);
     if let Err(error) = &reply
         && error.kind() == LassoErrorKind::FailedAllocation
-        && kept_slots(rt, shards) == 0
+        && shards.kept_slots(rt) == 0
         && usage(rt, shards) == before
     {
         let mut again = shards.log.pass();
@@ -68,7 +63,7 @@ fn bytes_are_taken_where_a_bucket_has_room(rt: HostRuntime) -> Result<(), Fail> 
     // the first bucket has room for one byte still
     assert_eq!(rt; number(&rt, &shards, "x"), Ok(2));
     assert_eq!(rt; usage(&rt, &shards), 12);
-    assert_eq!(rt; kept_slots(&rt, &shards), 0);
+    assert_eq!(rt; shards.kept_slots(&rt), 0);
     Ok(())
 }
 
@@ -83,13 +78,11 @@ fn the_limit_refuses_what_no_bucket_has_room_for(rt: HostRuntime) -> Result<(), 
         Err(LassoErrorKind::MemoryLimitReached)
     );
     assert_eq!(rt; usage(&rt, &shards), 12);
-    assert_eq!(rt; kept_slots(&rt, &shards), 0);
+    assert_eq!(rt; shards.kept_slots(&rt), 0);
     set_limit(&rt, &shards, 14);
     assert_eq!(rt; usage(&rt, &shards), 12);
     assert_eq!(rt; number(&rt, &shards, "yz"), Ok(3));
     assert_eq!(rt; usage(&rt, &shards), 14);
-    let last = shards.buckets.find(&rt, &shards.log, 2);
-    assert_eq!(rt; last.capacity(), 2);
     Ok(())
 }
 
@@ -115,7 +108,7 @@ fn limit_and_keys_are_used_up_together(rt: HostRuntime) -> Result<(), Fail> {
         Err(LassoErrorKind::KeySpaceExhaustion)
     );
     assert_eq!(rt; usage(&rt, &shards), 765);
-    assert_eq!(rt; kept_slots(&rt, &shards), 0);
+    assert_eq!(rt; shards.kept_slots(&rt), 0);
     Ok(())
 }
 
@@ -138,6 +131,6 @@ fn bytes_are_taken_before_the_key_type_is_asked(rt: HostRuntime) -> Result<(), F
     );
     assert_eq!(rt; number(&rt, &shards, TEXTS[7]), Ok(7));
     assert_eq!(rt; usage(&rt, &shards), 4);
-    assert_eq!(rt; kept_slots(&rt, &shards), 0);
+    assert_eq!(rt; shards.kept_slots(&rt), 0);
     Ok(())
 }

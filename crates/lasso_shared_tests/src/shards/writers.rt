@@ -1,6 +1,6 @@
 //! Writers of two shards that go on beside each other.
-use crate::shards::tests::armed::{ArmedState, Gate};
-use crate::threaded::ThreadedRodeo;
+use crate::shards::armed::{ArmedState, Gate};
+use lasso_shared::threaded::ThreadedRodeo;
 use lasso_parts::keys::Spur;
 use lasso_parts::util::LassoResult;
 use std::alloc::{AllocError, Global};

@@ -1,0 +1,7 @@
+//! Tests of the interner that threads share and of its shards, by their public calls alone.
+#![tactic(auto)]
+
+#[cfg(test)]
+mod shards;
+#[cfg(test)]
+mod threaded;
