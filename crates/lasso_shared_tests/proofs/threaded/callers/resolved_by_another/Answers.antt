@@ -1,6 +1,6 @@
 -- The answered key resolves to its text for the other pass, which has seen the answer since the two met.
 use Rattle.lasso_shared.proofs.CallerLaws.{history_past}
-use Rattle.lasso_shared.proofs.threaded.tests.callers.resolved_by_another.Goals as goal
+use Rattle.lasso_shared_tests.proofs.threaded.callers.resolved_by_another.Goals as goal
 
 pub returns-clause-text : goal.returns-clause-text
 returns-clause-text g c =

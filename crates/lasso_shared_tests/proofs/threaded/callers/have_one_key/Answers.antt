@@ -3,7 +3,7 @@ use Rattle.std.proofs.Common.{◌∙◌, sym, arith}
 use Rattle.std.proofs.lemmas.Bool.Decides.{nat_tests}
 use Rattle.lasso_log.specs.Replies.{Static}
 use Rattle.lasso_log.specs.Views.{seen}
-use Rattle.lasso_shared.proofs.threaded.tests.callers.have_one_key.Goals as goal
+use Rattle.lasso_shared_tests.proofs.threaded.callers.have_one_key.Goals as goal
 
 pub returns-clause-same : goal.returns-clause-same
 returns-clause-same g c =

@@ -4,7 +4,7 @@ use Rattle.std.specs.Result.{result_ok}
 use Rattle.lasso_log.specs.Replies.{Static}
 use Rattle.lasso_log.specs.Views.{seen}
 use Rattle.lasso_shared.proofs.CallerLaws.{history_past}
-use Rattle.lasso_shared.proofs.threaded.tests.callers.interned_by_both.Goals as goal
+use Rattle.lasso_shared_tests.proofs.threaded.callers.interned_by_both.Goals as goal
 
 pub returns-clause-same : goal.returns-clause-same
 returns-clause-same g c =

@@ -3,7 +3,7 @@ use Rattle.std.specs.Prelude.{bytes_eq}
 use Rattle.lasso_parts.specs.Texts.{Text}
 use Rattle.lasso_log.specs.Views.{list_of}
 use Rattle.lasso_shared.proofs.Alike.{lists_alike, read_alike}
-use Rattle.lasso_shared.proofs.threaded.tests.passes.both_lend.Goals as goal
+use Rattle.lasso_shared_tests.proofs.threaded.passes.both_lend.Goals as goal
 
 pub returns : goal.returns
 returns c =

@@ -2,7 +2,7 @@ use Rattle.std.proofs.Common.{◌<◌, ◌≤◌, ◌∙◌, sym, subst, List, l
 use Rattle.lasso_parts.specs.Texts.{Text}
 use Rattle.lasso_log.specs.Views.{list_of}
 use Rattle.lasso_shared.proofs.Alike.{seen_by_either}
-use Rattle.lasso_shared.proofs.threaded.tests.passes.lends_after_meeting.Goals as goal
+use Rattle.lasso_shared_tests.proofs.threaded.passes.lends_after_meeting.Goals as goal
 
 pub text_at-requires : goal.text_at-requires
 text_at-requires c =
