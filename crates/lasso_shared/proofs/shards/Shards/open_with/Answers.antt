@@ -1,9 +1,7 @@
 -- The list at no note is that of the opening, so the spine's length is how many texts there are, and the shards' numbers are those of the
 -- list that the spine has seen.
-use Rattle.std.proofs.Common.{◌≡◌, [], List, length, ap, sym, ◌∙◌, subst}
-use Rattle.lasso_parts.specs.Texts.{Text, IsDistinct, Fits}
-use Rattle.lasso_log.specs.History.{Totals}
-use Rattle.lasso_log.specs.Notes.{state}
+use Rattle.std.proofs.Common.{List, length, ap, sym, ◌∙◌, subst}
+use Rattle.lasso_parts.specs.Texts.{Text}
 use Rattle.lasso_log.specs.Views.{InternerId, list_of}
 use Rattle.lasso_parts.specs.Hashing.{text_hash}
 use Rattle.lasso_shared.specs.Shards.{Counts}

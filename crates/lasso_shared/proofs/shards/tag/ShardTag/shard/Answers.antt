@@ -1,6 +1,6 @@
 -- A new pass has seen the opening alone, so the texts that it shows are the opening's. After each position the index and the number are
 -- the shard's of the texts so far: a text of the shard is entered and counted, another one is passed over.
-use Rattle.std.proofs.Common.{◌≡◌, ◌+◌, ◌∙◌, [], ℕ, List, take, get_or, sym, ap, refl, subst, arith}
+use Rattle.std.proofs.Common.{◌≡◌, ◌+◌, ◌∙◌, [], List, take, get_or, sym, ap, refl, subst, arith}
 use Rattle.lasso_parts.specs.Hashing.{text_hash}
 use Rattle.lasso_parts.specs.Index.{Table, IsFiled}
 use Rattle.lasso_parts.specs.Texts.{Text}

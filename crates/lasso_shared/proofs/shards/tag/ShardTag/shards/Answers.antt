@@ -1,8 +1,8 @@
 -- The shards are made in the order of their numbers: each lock knows its number, and each shard's texts are counted under it.
-use Rattle.std.proofs.Common.{rules, ◌≡◌, [], ℕ, refl, sym, ap, ◌∙◌, length, arith}
-use Rattle.std.proofs.lemmas.List.{length-set, length_push}
+use Rattle.std.proofs.Common.{rules, ◌≡◌, [], ℕ, refl, ap, ◌∙◌, arith}
+use Rattle.std.proofs.lemmas.List.{length-set}
 use Rattle.lasso_parts.specs.Hashing.{text_hash}
-use Rattle.lasso_log.specs.Views.{InternerId, list_of}
+use Rattle.lasso_log.specs.Views.{list_of}
 use Rattle.lasso_shared.specs.Shards.{count_in}
 use Rattle.lasso_shared.proofs.Built.{counted_below_more}
 use Rattle.lasso_shared.proofs.Whole.{numbered_push}
