@@ -6,7 +6,6 @@ ghost use Rattle.lasso_lines.specs.Answer.{IsInputFault, IsLineFault, failed_rea
 use crate::fault::RunFault;
 use crate::stream::ByteReader;
 use crate::stretches::{behind, hold, next_feed, next_number};
-use lasso::{LassoError, LassoErrorKind};
 use std::str::from_utf8;
 use std::sync::Wait;
 
@@ -77,6 +76,6 @@ fn push_line<'a>(lines: &mut Vec<&'a str>, line: &'a [u8], number: u64) -> Resul
     };
     match lines.push(text) {
         Ok(()) => Ok(()),
-        Err(_) => Err(RunFault::Refused(number, LassoError::new(LassoErrorKind::FailedAllocation))),
+        Err(_) => Err(RunFault::no_memory(number)),
     }
 }

@@ -19,7 +19,6 @@ mod tests;
 pub mod workers;
 
 use fault::RunFault;
-use lasso::{LassoError, LassoErrorKind};
 use program::run_words;
 use standard::{StandardReader, StandardWriter};
 use std::alloc::AllocError;
@@ -64,6 +63,7 @@ fn argument_words<R: AllocGlobal + Env>(rt: &R) -> Result<Vec<String>, RunFault>
     all.collect(rt.alloc()).map_err(no_memory)
 }
 
+// Want of memory that is no line's.
 fn no_memory(_: AllocError) -> RunFault {
-    RunFault::Refused(0, LassoError::new(LassoErrorKind::FailedAllocation))
+    RunFault::no_memory(0)
 }

@@ -8,7 +8,7 @@ use crate::answers::write_line;
 use crate::engine::flush_all;
 use crate::fault::RunFault;
 use crate::stream::ByteWriter;
-use lasso::{LassoError, LassoErrorKind, SpurThreadedRodeo};
+use lasso::SpurThreadedRodeo;
 use std::thread::{Threads, for_each_chunk_mut};
 
 // Writes the texts of the interner in the order of their bytes, each with a line feed behind it. So many threads sort them.
@@ -27,7 +27,7 @@ pub(crate) fn write_in_order<R: AllocGlobal + Threads + Sync, O: ByteWriter>(
     let mut texts = Vec::new(rt.alloc());
     for text in rodeo.strings() {
         if texts.push((front_of(text), text)).is_err() {
-            return Err(RunFault::Refused(0, LassoError::new(LassoErrorKind::FailedAllocation)));
+            return Err(RunFault::no_memory(0));
         }
     }
     sort(rt, &mut texts, threads);

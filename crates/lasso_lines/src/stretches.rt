@@ -11,7 +11,6 @@ ghost use Rattle.lasso_parts.specs.declared.util.LassoErrorKind.TheVariants.{Fai
 use crate::answers::{LineRodeo, answer_line};
 use crate::fault::RunFault;
 use crate::stream::ByteWriter;
-use lasso::{LassoError, LassoErrorKind};
 use memchr::memchr_iter;
 use std::str::from_utf8;
 use std::sync::Wait;
@@ -142,7 +141,7 @@ pub(crate) fn hold(begun: &mut Vec<u8>, bytes: &[u8], number: u64) -> Result<(),
     ensures lacks { IfErr result (λ fault. (fault ≡ Refused number FailedAllocation) × (0 < length bytes.now)) }
 {
     if begun.extend_from_slice(bytes).is_err() {
-        return Err(RunFault::Refused(number, LassoError::new(LassoErrorKind::FailedAllocation)));
+        return Err(RunFault::no_memory(number));
     }
     Ok(())
 }

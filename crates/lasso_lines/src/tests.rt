@@ -79,15 +79,20 @@ fn not_text(rt: HostRuntime) -> Result<(), Fail> {
 fn settings_of_words<R: AllocGlobal>(
     rt: &R,
     words: &[&str],
-) -> Result<Option<(usize, Option<usize>)>, Fail> {
+) -> Result<Result<(usize, Option<usize>), RunFault>, Fail> {
+    match arguments(&owned_words(rt, words)?) {
+        Ok(settings) => Ok(Ok((settings.limit, settings.workers))),
+        Err(fault) => Ok(Err(fault)),
+    }
+}
+
+// The words as the program has them.
+fn owned_words<R: AllocGlobal>(rt: &R, words: &[&str]) -> Result<Vec<String>, Fail> {
     let mut owned = Vec::new(rt.alloc());
     for word in words {
         owned.push(String::from_str(rt.alloc(), word)?)?;
     }
-    match arguments(&owned) {
-        Ok(settings) => Ok(Some((settings.limit, settings.workers))),
-        Err(_) => Ok(None),
-    }
+    Ok(owned)
 }
 
 const GREATEST: usize = 18446744073709551615;
@@ -104,7 +109,7 @@ fn good_arguments(rt: HostRuntime) -> Result<(), Fail> {
         (&["--limit", "5", "--workers", "3"], (5, Some(3))),
     ];
     for (words, settings) in cases {
-        assert!(rt; settings_of_words(&rt, words)? == Some(settings));
+        assert!(rt; settings_of_words(&rt, words)? == Ok(settings));
     }
     Ok(())
 }
@@ -127,11 +132,14 @@ fn bad_arguments(rt: HostRuntime) -> Result<(), Fail> {
         &["--limit", "1x"],
         &["x"],
     ];
-    for words in cases {
-        assert!(rt; settings_of_words(&rt, words)? == None);
-    }
     let usage = "usage: lasso_lines [--limit N] [--workers N]";
-    assert_fault(&rt, Err(RunFault::Usage), usage, 3)
+    for words in cases {
+        match settings_of_words(&rt, words)? {
+            Ok(_) => return Err(Fail::from("bad words set something")),
+            Err(fault) => assert_fault(&rt, Err(fault), usage, 3)?,
+        }
+    }
+    Ok(())
 }
 
 #[test]

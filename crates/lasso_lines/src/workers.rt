@@ -14,6 +14,9 @@ use std::sync::{Mutex, Wait};
 use std::thread;
 use std::thread::Threads;
 
+#[cfg(test)]
+mod tests;
+
 /// What each worker passes before it interns a line.
 pub trait Gate: Sync {
     /// Lets the worker of this number go on. Workers are numbered from 0.
