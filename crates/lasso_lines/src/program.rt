@@ -1,6 +1,6 @@
 //! The program between its ends: the words of the command line, a reader and a writer.
-ghost use Rattle.std.specs.Prelude.{◌≡◌, ℕ, ◌+◌, List, [], Option, Some, None, Err, OnOk, map, string_bytes};
-ghost use Rattle.lasso_lines.specs.Stream.{Grows, OnlyGrows, Ended, written};
+ghost use Rattle.std.specs.Prelude.{◌≡◌, ℕ, ◌+◌, List, [], Option, Some, None, Err, OnOk, IfErr, map, string_bytes};
+ghost use Rattle.lasso_lines.specs.Stream.{Grows, OnlyGrows, Stays, Ended, written};
 ghost use Rattle.lasso_lines.specs.Report.{Ends};
 ghost use Rattle.lasso_lines.specs.Answer.{failed_reads, failed_writes};
 ghost use Rattle.lasso_lines.specs.Arguments.{settings_of};
@@ -27,6 +27,8 @@ pub fn run_words<R: AllocGlobal + Threads + Wait + Sync, I: ByteReader, O: ByteW
     ensures report { (limit : ℕ) (input : List ℕ) → settings_of (map string_bytes words.now) ≡ Some (limit, None) → I.left reader.old ≡ Some input →
         Grows (written (O.delivered writer.old) (O.pending writer.old)) (written (O.delivered writer.new) (O.pending writer.new))
         (λ part. Ends input limit part result) }
+    ensures nothing_written { (limit workers : ℕ) → settings_of (map string_bytes words.now) ≡ Some (limit, Some workers) →
+        IfErr result (λ fault. ¬ (fault ≡ WriteFailed) → Stays (written (O.delivered writer.old) (O.pending writer.old)) (written (O.delivered writer.new) (O.pending writer.new))) }
     ensures whole { OnOk result (Ended (I.left reader.old) (I.left reader.new)) }
     ensures reads { I.failures reader.new ≡ I.failures reader.old + failed_reads result }
     ensures writes { O.failures writer.new ≡ O.failures writer.old + failed_writes result }

@@ -1,4 +1,4 @@
-use Rattle.std.proofs.Common.{◌≡◌, [], Some, arith, drop, length}
+use Rattle.std.proofs.Common.{◌≡◌, [], arith, drop, length}
 use Rattle.std.proofs.lemmas.Grind.{common_steps}
 use Rattle.lasso_lines.proofs.cutting.read_all.Goals as goal
 
