@@ -74,11 +74,7 @@ module _ (digits front line : List ℕ) (is : front ≡ digits ++ 32 ∷ []) whe
   whole_answer : front ++ (line ++ 10 ∷ []) ≡ digits ++ (32 ∷ (line ++ 10 ∷ []))
   whole_answer = ap (λ bs. bs ++ (line ++ 10 ∷ [])) is ∙ append_assoc digits (32 ∷ []) (line ++ 10 ∷ [])
 
-  -- the answer is taken at once
-  pub answer_written : (before after : Option (List ℕ)) → Grows before after (λ part. part ≡ front ++ (line ++ 10 ∷ [])) → Grows before after (WritesAll (digits ++ (32 ∷ (line ++ 10 ∷ []))) (Ok tt))
-  answer_written before after grown = grows_as before after (λ part. part ≡ front ++ (line ++ 10 ∷ [])) (WritesAll (digits ++ (32 ∷ (line ++ 10 ∷ []))) (Ok tt)) grown (λ part e. e ∙ whole_answer)
-
-  -- or its parts are written
+  -- the front is written, and the rest of the answer
   pub answer_parts : (before after : Option (List ℕ)) (result : Result (Unit {0}) RunFault) → Grows before after (WritesAll (front ++ (line ++ 10 ∷ [])) result) → Grows before after (WritesAll (digits ++ (32 ∷ (line ++ 10 ∷ []))) result)
   answer_parts before after result grown = subst (λ bs. Grows before after (WritesAll bs result)) whole_answer grown
 

@@ -3,6 +3,7 @@ pub mod Lines
 pub mod Ways
 pub mod Cuts
 pub mod Numbers
+pub mod Settings
 pub mod Buffers
 pub mod Tested
 pub mod Feeds

@@ -5,7 +5,7 @@ use Rattle.lasso_parts.specs.Held.{Held}
 use Rattle.lasso_lines.specs.Stream.{Begins}
 use Rattle.lasso_lines.specs.Report.{after_line, line_report}
 use Rattle.lasso_lines.specs.declared.fault.RunFault.{RunFault}
-use Rattle.lasso_lines.specs.declared.fault.RunFault.TheVariants.{Refused, Usage, ReadFailed, WriteFailed}
+use Rattle.lasso_lines.specs.declared.fault.RunFault.TheVariants.{Refused, NotText, Usage, ReadFailed, WriteFailed}
 
 -- how often the reader failed in the call
 abbrev pub failed_reads : {X : Type 0} → Result X RunFault → ℕ
@@ -46,6 +46,18 @@ abbrev pub IsAnswerFault : RunFault → Type 0
 IsAnswerFault ReadFailed = ⊥
 IsAnswerFault Usage = ⊥
 IsAnswerFault _ = Unit {0}
+
+-- a reader failed, or there was no memory
+abbrev pub IsInputFault : RunFault → Type 0
+IsInputFault (Refused number error) = Unit {0}
+IsInputFault ReadFailed = Unit {0}
+IsInputFault _ = ⊥
+
+-- a line is faulty, or there was no memory
+abbrev pub IsLineFault : RunFault → Type 0
+IsLineFault (Refused number error) = Unit {0}
+IsLineFault (NotText number) = Unit {0}
+IsLineFault _ = ⊥
 
 -- the lines that a rest of bytes without a line feed has
 abbrev pub last_lines : List ℕ → List (List ℕ)

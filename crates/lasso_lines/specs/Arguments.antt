@@ -1,5 +1,10 @@
 -- Which words give which settings.
-use Rattle.std.specs.Prelude.{ℕ, ◌+◌, ◌-◌, ◌*◌, ◌^◌, Bool, true, ◌&&◌, List, [], ◌∷◌, length, nat_le, nat_lt, Option, Some, None, codes, bytes_eq, if◌then◌else◌}
+use Rattle.std.specs.Prelude.{ℕ, option_map, ◌+◌, ◌-◌, ◌*◌, ◌^◌, Bool, true, ◌&&◌, List, [], ◌∷◌, length, nat_le, nat_lt, Option, Some, None, codes, bytes_eq, if◌then◌else◌}
+
+-- what the function makes of a value, where there is one
+abbrev pub and_then : {X Y : Type 0} → Option X → (X → Option Y) → Option Y
+and_then None f = None
+and_then (Some x) f = f x
 
 -- an ASCII digit
 abbrev pub is_digit : ℕ → Bool
@@ -22,10 +27,34 @@ is_number word = nat_le 1 (length word) && (nat_le (length word) 20 && all_digit
 abbrev pub number_of : List ℕ → Option ℕ
 number_of word = if is_number word && nat_lt (value_behind 0 word) (2 ^ 64) then Some (value_behind 0 word) else None
 
--- the limit that the words set: none but the greatest one where there is no word, and that of `--limit N`, which
--- stands at most once; other words set none
-abbrev pub limit_of : List (List ℕ) → Option ℕ
-limit_of [] = Some (2 ^ 64 - 1)
-limit_of (flag ∷ []) = None
-limit_of (flag ∷ number ∷ []) = if bytes_eq flag (codes "--limit") then number_of number else None
-limit_of (flag ∷ number ∷ more ∷ words) = None
+-- a limit and no workers
+abbrev pub limited : List ℕ → Option (ℕ × Option ℕ)
+limited limit = option_map (λ n. (n, None)) (number_of limit)
+
+-- this limit and 1 to 64 workers
+abbrev pub with_workers : ℕ → ℕ → Option (ℕ × Option ℕ)
+with_workers limit n = if nat_le 1 n && nat_le n 64 then Some (limit, Some n) else None
+
+abbrev pub worked : ℕ → List ℕ → Option (ℕ × Option ℕ)
+worked limit workers = and_then (number_of workers) (with_workers limit)
+
+-- a limit and workers
+abbrev pub both : List ℕ → List ℕ → Option (ℕ × Option ℕ)
+both limit workers = and_then (number_of limit) (λ n. worked n workers)
+
+abbrev pub is_limit : List ℕ → Bool
+is_limit word = bytes_eq word (codes "--limit")
+
+abbrev pub is_workers : List ℕ → Bool
+is_workers word = bytes_eq word (codes "--workers")
+
+-- the limit and the number of workers that the words set: the greatest limit and no workers where there is no word; those of
+-- `--limit N` and of `--workers N`, each at most once, in any order; other words set none
+abbrev pub settings_of : List (List ℕ) → Option (ℕ × Option ℕ)
+settings_of [] = Some (2 ^ 64 - 1, None)
+settings_of (flag ∷ []) = None
+settings_of (flag ∷ number ∷ []) = if is_limit flag then limited number else (if is_workers flag then worked (2 ^ 64 - 1) number else None)
+settings_of (one ∷ first ∷ other ∷ []) = None
+settings_of (one ∷ first ∷ other ∷ second ∷ []) =
+    if is_limit one && is_workers other then both first second else (if is_workers one && is_limit other then both second first else None)
+settings_of (one ∷ first ∷ other ∷ second ∷ more ∷ words) = None

@@ -53,7 +53,7 @@ fn text_of(line: &[u8], is_text: bool) -> Result<&str, Utf8Error>
     from_utf8(line)
 }
 
-// Writes the line behind the position, at once where the writer has room.
+// Writes the line behind the position.
 fn write_answer<O: ByteWriter>(writer: &mut O, position: usize, line: &[u8]) -> Result<(), RunFault>
     ensures failures { O.failures writer.new ≡ O.failures writer.old + failed_writes result }
     ensures delivered { OnlyGrows (O.delivered writer.old) (O.delivered writer.new) }
@@ -64,7 +64,22 @@ fn write_answer<O: ByteWriter>(writer: &mut O, position: usize, line: &[u8]) -> 
     // The digits of the greatest position and the space behind them.
     let mut front = [b' '; 21];
     let start = write_digits(position as u64, &mut front, 20);
-    let front = &front[start..];
+    write_line(writer, &front[start..], line)
+}
+
+// Writes the front, the line and a line feed, at once where the writer has room.
+#[inline]
+pub(crate) fn write_line<O: ByteWriter>(
+    writer: &mut O,
+    front: &[u8],
+    line: &[u8],
+) -> Result<(), RunFault>
+    ensures failures { O.failures writer.new ≡ O.failures writer.old + failed_writes result }
+    ensures delivered { OnlyGrows (O.delivered writer.old) (O.delivered writer.new) }
+    ensures bytes { Grows (written (O.delivered writer.old) (O.pending writer.old)) (written (O.delivered writer.new) (O.pending writer.new))
+        (WritesAll (front.now ++ (line.now ++ 10 ∷ [])) result) }
+    ensures faults { IfErr result (λ fault. fault ≡ WriteFailed) }
+{
     if writer.take_line(front, line) {
         return Ok(());
     }

@@ -125,7 +125,7 @@ fn answer_end<O: ByteWriter>(
 }
 
 // Delivers all that is written.
-fn flush_all<O: ByteWriter>(writer: &mut O) -> Result<(), RunFault>
+pub(crate) fn flush_all<O: ByteWriter>(writer: &mut O) -> Result<(), RunFault>
     ensures failures { O.failures writer.new ≡ O.failures writer.old + failed_writes result }
     ensures delivered { OnlyGrows (O.delivered writer.old) (O.delivered writer.new) }
     ensures written { Stays (written (O.delivered writer.old) (O.pending writer.old)) (written (O.delivered writer.new) (O.pending writer.new)) }

@@ -1,8 +1,9 @@
 //! Why a run ends before its report is whole.
 ghost use Rattle.std.specs.Prelude.{◌≡◌, Some};
 ghost use Rattle.lasso_lines.specs.Fault.{status_of, fault_text};
+ghost use Rattle.lasso_parts.specs.declared.util.LassoErrorKind.TheVariants.{FailedAllocation};
 
-use lasso::LassoError;
+use lasso::{LassoError, LassoErrorKind};
 use std::fmt;
 
 /// Why a run ended before its report was whole. Lines are numbered from 1.
@@ -21,6 +22,13 @@ pub enum RunFault {
 }
 
 impl RunFault {
+    /// Want of memory at the line of this number.
+    pub fn no_memory(number: u64) -> Self
+        ensures { result ≡ RunFault.Refused number FailedAllocation }
+    {
+        RunFault::Refused(number, LassoError::new(LassoErrorKind::FailedAllocation))
+    }
+
     /// The status that the program ends with: 1 for a refused line, 2 for a line that is not UTF-8,
     /// 3 for bad arguments, 4 for a failed read or write.
     pub fn status(&self) -> u8

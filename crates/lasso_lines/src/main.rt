@@ -1,21 +1,24 @@
-//! Writes each line of its input behind the position of its text, and then how many texts there are.
+//! Writes each line of its input behind the position of its text, and then how many texts there are; with `--workers N` it has
+//! threads intern the lines, and writes the distinct ones in the order of their bytes.
 #![tactic(auto)]
 
 mod answers;
 pub mod arguments;
+mod cutting;
 pub mod engine;
 pub mod failures;
 pub mod fault;
 pub mod memory;
+mod ordered;
 pub mod program;
 pub mod standard;
 pub mod stream;
 mod stretches;
 #[cfg(test)]
 mod tests;
+pub mod workers;
 
 use fault::RunFault;
-use lasso::{LassoError, LassoErrorKind};
 use program::run_words;
 use standard::{StandardReader, StandardWriter};
 use std::alloc::AllocError;
@@ -23,6 +26,7 @@ use std::io::ErrorKind;
 use std::process::ExitCode;
 use std::rt::Env;
 use std::sync::Wait;
+use std::thread::Threads;
 use std::{env, io};
 
 fn main(rt: HostRuntime) -> ExitCode {
@@ -38,7 +42,7 @@ fn main(rt: HostRuntime) -> ExitCode {
 // Reports the lines of standard input on standard output, as the words behind the program's name say.
 fn report_lines<R>(rt: &R) -> Result<(), RunFault>
 where
-    R: AllocGlobal + Env + Input + Print + Wait,
+    R: AllocGlobal + Env + Input + Print + Threads + Wait + Sync,
 {
     let words = argument_words(rt)?;
     let input = StandardReader::new(rt.alloc(), rt.reader());
@@ -59,6 +63,7 @@ fn argument_words<R: AllocGlobal + Env>(rt: &R) -> Result<Vec<String>, RunFault>
     all.collect(rt.alloc()).map_err(no_memory)
 }
 
+// Want of memory that is no line's.
 fn no_memory(_: AllocError) -> RunFault {
-    RunFault::Refused(0, LassoError::new(LassoErrorKind::FailedAllocation))
+    RunFault::no_memory(0)
 }

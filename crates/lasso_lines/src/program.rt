@@ -1,39 +1,61 @@
 //! The program between its ends: the words of the command line, a reader and a writer.
-ghost use Rattle.std.specs.Prelude.{◌≡◌, ℕ, ◌+◌, List, [], Some, None, Err, OnOk, map, string_bytes};
-ghost use Rattle.lasso_lines.specs.Stream.{Grows, OnlyGrows, Ended, written};
+ghost use Rattle.std.specs.Prelude.{◌≡◌, ℕ, ◌+◌, List, [], Option, Some, None, Err, OnOk, IfErr, map, string_bytes};
+ghost use Rattle.lasso_lines.specs.Stream.{Grows, OnlyGrows, Stays, Ended, written};
 ghost use Rattle.lasso_lines.specs.Report.{Ends};
 ghost use Rattle.lasso_lines.specs.Answer.{failed_reads, failed_writes};
-ghost use Rattle.lasso_lines.specs.Arguments.{limit_of};
+ghost use Rattle.lasso_lines.specs.Arguments.{settings_of};
 ghost use Rattle.lasso_lines.specs.declared.fault.RunFault.TheVariants.{Usage, WriteFailed};
 
-use crate::arguments::arguments;
+use crate::arguments::{Settings, arguments};
 use crate::engine::run;
 use crate::fault::RunFault;
 use crate::stream::{ByteReader, ByteWriter};
+use crate::workers::{OpenGate, run_workers};
 use lasso::MemoryLimits;
 use std::sync::Wait;
+use std::thread::Threads;
 
-/// Reports the lines of the reader as the words say: `run` with the limit that they set. Words that set
-/// none are the fault `Usage`, and nothing is read or written then.
-pub fn run_words<R: AllocGlobal + Wait, I: ByteReader, O: ByteWriter>(
+/// Does what the words say with the lines of the reader: `run` with the limit that they set, or `run_workers` where they set a
+/// number of workers. Words that set none are the fault `Usage`, and nothing is read or written then.
+pub fn run_words<R: AllocGlobal + Threads + Wait + Sync, I: ByteReader, O: ByteWriter>(
     rt: &R,
     words: &[String],
     reader: &mut I,
     writer: &mut O,
 ) -> Result<(), RunFault>
-    ensures usage { limit_of (map string_bytes words.now) ≡ None → (result ≡ Err Usage) × (reader.new ≡ reader.old) × (writer.new ≡ writer.old) }
-    ensures report { (limit : ℕ) (input : List ℕ) → limit_of (map string_bytes words.now) ≡ Some limit → I.left reader.old ≡ Some input →
+    ensures usage { settings_of (map string_bytes words.now) ≡ None → (result ≡ Err Usage) × (reader.new ≡ reader.old) × (writer.new ≡ writer.old) }
+    ensures report { (limit : ℕ) (input : List ℕ) → settings_of (map string_bytes words.now) ≡ Some (limit, None) → I.left reader.old ≡ Some input →
         Grows (written (O.delivered writer.old) (O.pending writer.old)) (written (O.delivered writer.new) (O.pending writer.new))
         (λ part. Ends input limit part result) }
+    ensures nothing_written { (limit workers : ℕ) → settings_of (map string_bytes words.now) ≡ Some (limit, Some workers) →
+        IfErr result (λ fault. ¬ (fault ≡ WriteFailed) → Stays (written (O.delivered writer.old) (O.pending writer.old)) (written (O.delivered writer.new) (O.pending writer.new))) }
     ensures whole { OnOk result (Ended (I.left reader.old) (I.left reader.new)) }
     ensures reads { I.failures reader.new ≡ I.failures reader.old + failed_reads result }
     ensures writes { O.failures writer.new ≡ O.failures writer.old + failed_writes result }
     ensures delivered { OnlyGrows (O.delivered writer.old) (O.delivered writer.new) }
-    ensures no_usage { (limit : ℕ) → limit_of (map string_bytes words.now) ≡ Some limit → ¬ (result ≡ Err Usage) }
-    ensures nothing_pending { (limit : ℕ) → limit_of (map string_bytes words.now) ≡ Some limit → ¬ (result ≡ Err WriteFailed) → O.pending writer.new ≡ Some [] }
+    ensures no_usage { (settings : ℕ × Option ℕ) → settings_of (map string_bytes words.now) ≡ Some settings → ¬ (result ≡ Err Usage) }
+    ensures nothing_pending { (settings : ℕ × Option ℕ) → settings_of (map string_bytes words.now) ≡ Some settings → ¬ (result ≡ Err WriteFailed) → O.pending writer.new ≡ Some [] }
 {
     match arguments(words) {
-        Ok(settings) => run(rt, reader, writer, MemoryLimits::new(settings.limit)),
+        Ok(
+            Settings {
+                limit,
+                workers: None,
+            },
+        ) => run(rt, reader, writer, MemoryLimits::new(limit)),
+        Ok(
+            Settings {
+                limit,
+                workers: Some(workers),
+            },
+        ) => run_workers(
+            rt,
+            reader,
+            writer,
+            MemoryLimits::new(limit),
+            workers,
+            &OpenGate,
+        ),
         Err(fault) => Err(fault),
     }
 }

@@ -11,7 +11,6 @@ ghost use Rattle.lasso_parts.specs.declared.util.LassoErrorKind.TheVariants.{Fai
 use crate::answers::{LineRodeo, answer_line};
 use crate::fault::RunFault;
 use crate::stream::ByteWriter;
-use lasso::{LassoError, LassoErrorKind};
 use memchr::memchr_iter;
 use std::str::from_utf8;
 use std::sync::Wait;
@@ -93,7 +92,7 @@ fn answer_lines<'a, R: Wait, O: ByteWriter>(
 
 // Where the first line feed stands. It is mostly near, and this is the search that looks there first.
 #[inline]
-fn next_feed(bytes: &[u8]) -> Option<usize>
+pub(crate) fn next_feed(bytes: &[u8]) -> Option<usize>
     ensures { IsFirstByte (is_byte 10) bytes.now result }
 {
     memchr_iter(b'\n', bytes).next()
@@ -101,7 +100,7 @@ fn next_feed(bytes: &[u8]) -> Option<usize>
 
 // The bytes behind the one at this position.
 #[inline]
-fn behind(bytes: &[u8], at: usize) -> &[u8]
+pub(crate) fn behind(bytes: &[u8], at: usize) -> &[u8]
     requires { at < length bytes.now }
     ensures value { result.now ≡ drop (at + 1) bytes.now }
     ensures less { length result.now < length bytes.now }
@@ -126,7 +125,7 @@ fn untested_len(bytes: &[u8]) -> usize
 // The number of the line behind the one of this number. No run reaches the greatest number: there it waits
 // forever.
 #[inline]
-fn next_number<R: Wait>(rt: &R, number: u64) -> u64
+pub(crate) fn next_number<R: Wait>(rt: &R, number: u64) -> u64
     ensures { result ≡ number + 1 }
 {
     if let Some(next) = number.checked_add(1) {
@@ -137,12 +136,12 @@ fn next_number<R: Wait>(rt: &R, number: u64) -> u64
 }
 
 // Holds the bytes behind those that are held of the line of this number.
-fn hold(begun: &mut Vec<u8>, bytes: &[u8], number: u64) -> Result<(), RunFault>
+pub(crate) fn hold(begun: &mut Vec<u8>, bytes: &[u8], number: u64) -> Result<(), RunFault>
     ensures held { OnOk result (begun.new.items ≡ begun.old.items ++ bytes.now) }
     ensures lacks { IfErr result (λ fault. (fault ≡ Refused number FailedAllocation) × (0 < length bytes.now)) }
 {
     if begun.extend_from_slice(bytes).is_err() {
-        return Err(RunFault::Refused(number, LassoError::new(LassoErrorKind::FailedAllocation)));
+        return Err(RunFault::no_memory(number));
     }
     Ok(())
 }

@@ -2,6 +2,7 @@
 //! waits for answers, stand in files of their own.
 mod failing;
 mod waiting;
+mod workers;
 
 use crate::arguments::arguments;
 use crate::engine::run;
@@ -74,45 +75,71 @@ fn not_text(rt: HostRuntime) -> Result<(), Fail> {
     assert_fault(&rt, result, "line 2: not UTF-8", 2)
 }
 
-// What the words give, as the limit.
-fn limit_of_words<R: AllocGlobal>(rt: &R, words: &[&str]) -> Result<Option<usize>, Fail> {
+// What the words give, as the limit and the number of workers.
+fn settings_of_words<R: AllocGlobal>(
+    rt: &R,
+    words: &[&str],
+) -> Result<Result<(usize, Option<usize>), RunFault>, Fail> {
+    match arguments(&owned_words(rt, words)?) {
+        Ok(settings) => Ok(Ok((settings.limit, settings.workers))),
+        Err(fault) => Ok(Err(fault)),
+    }
+}
+
+// The words as the program has them.
+fn owned_words<R: AllocGlobal>(rt: &R, words: &[&str]) -> Result<Vec<String>, Fail> {
     let mut owned = Vec::new(rt.alloc());
     for word in words {
         owned.push(String::from_str(rt.alloc(), word)?)?;
     }
-    match arguments(&owned) {
-        Ok(settings) => Ok(Some(settings.limit)),
-        Err(_) => Ok(None),
-    }
+    Ok(owned)
 }
+
+const GREATEST: usize = 18446744073709551615;
 
 #[test]
 fn good_arguments(rt: HostRuntime) -> Result<(), Fail> {
-    assert_eq!(rt; limit_of_words(&rt, &[])?, Some(18446744073709551615));
-    let greatest = limit_of_words(&rt, &["--limit", "18446744073709551615"])?;
-    assert_eq!(rt; greatest, Some(18446744073709551615));
-    let zeros = limit_of_words(&rt, &["--limit", "00000000000000004100"])?;
-    assert_eq!(rt; zeros, Some(4100));
+    let cases: [(&[&str], (usize, Option<usize>)); 7] = [
+        (&[], (GREATEST, None)),
+        (&["--limit", "18446744073709551615"], (GREATEST, None)),
+        (&["--limit", "00000000000000004100"], (4100, None)),
+        (&["--workers", "1"], (GREATEST, Some(1))),
+        (&["--workers", "064"], (GREATEST, Some(64))),
+        (&["--workers", "2", "--limit", "0"], (0, Some(2))),
+        (&["--limit", "5", "--workers", "3"], (5, Some(3))),
+    ];
+    for (words, settings) in cases {
+        assert!(rt; settings_of_words(&rt, words)? == Ok(settings));
+    }
     Ok(())
 }
 
 #[test]
 fn bad_arguments(rt: HostRuntime) -> Result<(), Fail> {
-    assert_eq!(rt; limit_of_words(&rt, &["--workers", "0"])?, None);
-    assert_eq!(rt; limit_of_words(&rt, &["--workers", "2"])?, None);
-    assert_eq!(rt; limit_of_words(&rt, &["--limit"])?, None);
-    assert_eq!(rt;
-        limit_of_words(&rt, &["--limit", "1", "--limit", "1"])?,
-        None
-    );
-    assert_eq!(rt;
-        limit_of_words(&rt, &["--limit", "99999999999999999999"])?,
-        None
-    );
-    assert_eq!(rt; limit_of_words(&rt, &["--limit", "1x"])?, None);
-    assert_eq!(rt; limit_of_words(&rt, &["x"])?, None);
+    let cases: [&[&str]; 14] = [
+        &["--workers", "0"],
+        &["--workers", "65"],
+        &["--workers", "-1"],
+        &["--workers", "18446744073709551617"],
+        &["--workers", "2", "--workers", "2"],
+        &["--workers"],
+        &["--limit", "1", "--workers", "0"],
+        &["--workers", "65", "--limit", "1"],
+        &["--limit", "1", "--workers"],
+        &["--limit"],
+        &["--limit", "1", "--limit", "1"],
+        &["--limit", "99999999999999999999"],
+        &["--limit", "1x"],
+        &["x"],
+    ];
     let usage = "usage: lasso_lines [--limit N] [--workers N]";
-    assert_fault(&rt, Err(RunFault::Usage), usage, 3)
+    for words in cases {
+        match settings_of_words(&rt, words)? {
+            Ok(_) => return Err(Fail::from("bad words set something")),
+            Err(fault) => assert_fault(&rt, Err(fault), usage, 3)?,
+        }
+    }
+    Ok(())
 }
 
 #[test]

@@ -6,18 +6,29 @@ use crate::engine::run;
 use crate::failures::Failures;
 use crate::memory::{MemoryReader, MemoryWriter};
 use crate::stream::{ByteReader, ByteWriter, Failed};
+use std::alloc::Global;
 use std::test::Fail;
 
 // A writer that takes at most three bytes a call, and fails once its calls are used up.
 #[derive(Drop)]
-struct ShortWriter {
-    taken: Vec<u8>,
+pub(super) struct ShortWriter {
+    pub(super) taken: Vec<u8>,
     calls: u64,
-    tries: u64,
+    pub(super) tries: u64,
     failures: Failures,
 }
 
 impl ShortWriter {
+    // It fails once so many calls went well.
+    pub(super) fn new(alloc: Global, calls: u64) -> Self {
+        ShortWriter {
+            taken: Vec::new(alloc),
+            calls,
+            tries: 0,
+            failures: Failures::none(),
+        }
+    }
+
     fn fails(&mut self) -> Failed
         ensures taken { self.new.taken ≡ self.old.taken }
         ensures failures { self.new.failures.count ≡ self.old.failures.count + 1 }
@@ -64,12 +75,7 @@ fn each_write_fails_in_turn(rt: HostRuntime) -> Result<(), Fail> {
     let mut whole = false;
     for calls in 0..100 {
         let mut reader = MemoryReader::new(INPUT);
-        let mut writer = ShortWriter {
-            taken: Vec::new(rt.alloc()),
-            calls,
-            tries: 0,
-            failures: Failures::none(),
-        };
+        let mut writer = ShortWriter::new(rt.alloc(), calls);
         let result = run(&rt, &mut reader, &mut writer, no_limit());
         assert!(rt; OUTPUT.starts_with(&writer.taken));
         if result.is_ok() {
@@ -86,12 +92,25 @@ fn each_write_fails_in_turn(rt: HostRuntime) -> Result<(), Fail> {
 
 // A reader that shows at most three bytes at once, and fails once its calls are used up.
 #[derive(Drop)]
-struct ShortReader<'a> {
+pub(super) struct ShortReader<'a> {
     at_hand: &'a [u8],
     later: &'a [u8],
     calls: u64,
-    tries: u64,
+    pub(super) tries: u64,
     failures: Failures,
+}
+
+impl<'a> ShortReader<'a> {
+    // A reader of this input, which fails once so many calls went well.
+    pub(super) fn new(input: &'a [u8], calls: u64) -> Self {
+        ShortReader {
+            at_hand: b"",
+            later: input,
+            calls,
+            tries: 0,
+            failures: Failures::none(),
+        }
+    }
 }
 
 impl ByteReader for ShortReader<'_> {
@@ -129,13 +148,7 @@ impl ByteReader for ShortReader<'_> {
 fn each_read_fails_in_turn(rt: HostRuntime) -> Result<(), Fail> {
     let mut whole = false;
     for calls in 0..100 {
-        let mut reader = ShortReader {
-            at_hand: b"",
-            later: INPUT,
-            calls,
-            tries: 0,
-            failures: Failures::none(),
-        };
+        let mut reader = ShortReader::new(INPUT, calls);
         let mut writer = MemoryWriter::new(rt.alloc());
         let result = run(&rt, &mut reader, &mut writer, no_limit());
         let text = writer.into_bytes();
@@ -155,13 +168,7 @@ fn each_read_fails_in_turn(rt: HostRuntime) -> Result<(), Fail> {
 // Each stretch ends within a letter of two bytes.
 #[test]
 fn letters_cut_by_stretches(rt: HostRuntime) -> Result<(), Fail> {
-    let mut reader = ShortReader {
-        at_hand: b"",
-        later: "a\né\né\né".as_bytes(),
-        calls: 100,
-        tries: 0,
-        failures: Failures::none(),
-    };
+    let mut reader = ShortReader::new("a\né\né\né".as_bytes(), 100);
     let mut writer = MemoryWriter::new(rt.alloc());
     assert!(rt; run(&rt, &mut reader, &mut writer, no_limit()) == Ok(()));
     let output = "0 a\n1 é\n1 é\n1 é\n2 texts, 4096 bytes\n";

@@ -1,0 +1,81 @@
+//! A whole input, and its lines.
+ghost use Rattle.std.specs.Prelude.{◌≡◌, ◌+◌, [], OnOk, IfErr};
+ghost use Rattle.lasso_lines.specs.Stream.{Stays, Ended};
+ghost use Rattle.lasso_lines.specs.Answer.{IsInputFault, IsLineFault, failed_reads};
+
+use crate::fault::RunFault;
+use crate::stream::ByteReader;
+use crate::stretches::{behind, hold, next_feed, next_number};
+use std::str::from_utf8;
+use std::sync::Wait;
+
+// Reads the input to its end, and puts its bytes behind those that are there.
+pub(crate) fn read_all<R: Wait, I: ByteReader>(
+    rt: &R,
+    reader: &mut I,
+    input: &mut Vec<u8>,
+) -> Result<(), RunFault>
+    ensures whole { OnOk result (Ended (I.left reader.old) (I.left reader.new)) }
+    ensures reads { I.failures reader.new ≡ I.failures reader.old + failed_reads result }
+    ensures faults { IfErr result IsInputFault }
+{
+    'parts: for _ in rt.forever() {
+        let shown = reader.shown();
+        hold(input, shown, 0)?;
+        let count = shown.len();
+        reader.use_up(count);
+        refill(reader)?;
+        if reader.shown().is_empty() {
+            return Ok(());
+        }
+    }
+    unreachable!()
+}
+
+// Asks for more bytes, where none are at hand.
+fn refill<I: ByteReader>(reader: &mut I) -> Result<(), RunFault>
+    ensures reads { I.failures reader.new ≡ I.failures reader.old + failed_reads result }
+    ensures left { Stays (I.left reader.old) (I.left reader.new) }
+    ensures end { OnOk result (I.at_hand reader.new ≡ [] → Ended (I.left reader.old) (I.left reader.new)) }
+    ensures faults { IfErr result IsInputFault }
+{
+    match reader.refill() {
+        Ok(()) => Ok(()),
+        Err(_) => Err(RunFault::ReadFailed),
+    }
+}
+
+// The lines of the input, all of which have to be text. Bytes behind the last line feed are a line too.
+pub(crate) fn cut<'a, R: AllocGlobal + Wait>(
+    rt: &R,
+    input: &'a [u8],
+) -> Result<Vec<&'a str>, RunFault>
+    ensures faults { IfErr result IsLineFault }
+{
+    let mut lines = Vec::new(rt.alloc());
+    let mut number = 1u64;
+    let mut rest = input;
+    while let Some(at) = next_feed(rest) {
+        push_line(&mut lines, &rest[..at], number)?;
+        number = next_number(rt, number);
+        rest = behind(rest, at);
+    }
+    if !rest.is_empty() {
+        push_line(&mut lines, rest, number)?;
+    }
+    Ok(lines)
+}
+
+// Puts the line of this number behind the others.
+#[inline]
+fn push_line<'a>(lines: &mut Vec<&'a str>, line: &'a [u8], number: u64) -> Result<(), RunFault>
+    ensures faults { IfErr result IsLineFault }
+{
+    let Ok(text) = from_utf8(line) else {
+        return Err(RunFault::NotText(number));
+    };
+    match lines.push(text) {
+        Ok(()) => Ok(()),
+        Err(_) => Err(RunFault::no_memory(number)),
+    }
+}

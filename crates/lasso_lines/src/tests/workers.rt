@@ -1,0 +1,274 @@
+//! Runs whose lines several workers intern.
+use super::failing::{ShortReader, ShortWriter};
+use super::{assert_fault, no_limit, owned_words};
+use crate::fault::RunFault;
+use crate::memory::{MemoryReader, MemoryWriter};
+use crate::program::run_words;
+use crate::workers::{Gate, OpenGate, run_workers};
+use lasso::MemoryLimits;
+use std::sync::Wait;
+use std::sync::atomic::{AtomicBool, AtomicUsize, Ordering};
+use std::test::Fail;
+use std::thread::{Threads, yield_now};
+
+const INPUT: &[u8] = b"b\na\nb\n";
+
+const OUTPUT: &[u8] = b"a\nb\n";
+
+const SECOND_REFUSED: &str =
+    "line 2: Lasso encountered an error: The configured memory limit was reached";
+
+// A line of 4097 bytes between others: more than the first bucket has.
+fn with_long_line<R: AllocGlobal>(rt: &R, before: &[u8], behind: &[u8]) -> Result<Vec<u8>, Fail> {
+    let mut input = before.to_vec(rt.alloc())?;
+    let long = vec![in rt.alloc(); b'a'; 4097]?;
+    input.extend_from_slice(&long)?;
+    input.extend_from_slice(behind)?;
+    Ok(input)
+}
+
+// What so many workers write, and how they end.
+fn run_over<R: AllocGlobal + Threads + Wait + Sync>(
+    rt: &R,
+    input: &[u8],
+    limits: MemoryLimits,
+    workers: usize,
+) -> (Vec<u8>, Result<(), RunFault>) {
+    let mut reader = MemoryReader::new(input);
+    let mut writer = MemoryWriter::new(rt.alloc());
+    let ended = run_workers(rt, &mut reader, &mut writer, limits, workers, &OpenGate);
+    (writer.into_bytes(), ended)
+}
+
+#[test]
+fn words_set_workers(rt: HostRuntime) -> Result<(), Fail> {
+    let words = owned_words(&rt, &["--workers", "2"])?;
+    let mut reader = MemoryReader::new(INPUT);
+    let mut writer = MemoryWriter::new(rt.alloc());
+    assert!(rt; run_words(&rt, &words, &mut reader, &mut writer) == Ok(()));
+    assert_eq!(rt; writer.into_bytes().as_slice(), OUTPUT);
+    Ok(())
+}
+
+// The second line has no room in the first bucket, and the limit leaves none for another.
+#[test]
+fn words_set_the_limit_of_workers(rt: HostRuntime) -> Result<(), Fail> {
+    let input = with_long_line(&rt, b"a\n", b"\nb\n")?;
+    let orders: [&[&str]; 2] = [
+        &["--workers", "2", "--limit", "4096"],
+        &["--limit", "4096", "--workers", "2"],
+    ];
+    for order in orders {
+        let words = owned_words(&rt, order)?;
+        let mut reader = MemoryReader::new(&input);
+        let mut writer = MemoryWriter::new(rt.alloc());
+        let ended = run_words(&rt, &words, &mut reader, &mut writer);
+        assert_fault(&rt, ended, SECOND_REFUSED, 1)?;
+        assert!(rt; writer.into_bytes().is_empty());
+    }
+    Ok(())
+}
+
+#[test]
+fn distinct_lines_in_order(rt: HostRuntime) -> Result<(), Fail> {
+    let cases: [(&[u8], &[u8]); 8] = [
+        (INPUT, OUTPUT),
+        (b"", b""),
+        (b"b\na\nb", OUTPUT),
+        (b"\n", b"\n"),
+        (b"a\r\na\n\n", b"\na\na\r\n"),
+        (
+            b"a\0\na\nabcdefgh\nabcdefgha\nabcdefgg\n",
+            b"a\na\0\nabcdefgg\nabcdefgh\nabcdefgha\n",
+        ),
+        (
+            "\u{e9}\nz\n\u{ff}\na".as_bytes(),
+            "a\nz\n\u{e9}\n\u{ff}\n".as_bytes(),
+        ),
+        (b"g\nf\ne\nd\nc\nb\na\ng\na\n", b"a\nb\nc\nd\ne\nf\ng\n"),
+    ];
+    for (input, output) in cases {
+        for workers in [0usize, 1, 2, 3, 64] {
+            let (text, ended) = run_over(&rt, input, no_limit(), workers);
+            assert!(rt; ended == Ok(()));
+            assert_eq!(rt; text.as_slice(), output);
+        }
+    }
+    Ok(())
+}
+
+// Two workers show that they are there, and look for each other.
+#[derive(Drop)]
+struct Meeting {
+    there: [AtomicBool; 2],
+    met: [AtomicBool; 2],
+}
+
+impl Gate for Meeting {
+    fn enter(&self, worker: usize) {
+        let mine = worker % 2;
+        let other = 1 - mine;
+        self.there[mine].store(true, Ordering::SeqCst);
+        for _ in 0..10_000_000u32 {
+            if self.there[other].load(Ordering::SeqCst) {
+                self.met[mine].store(true, Ordering::SeqCst);
+                return;
+            }
+            yield_now();
+        }
+    }
+}
+
+#[test]
+fn workers_meet(rt: HostRuntime) -> Result<(), Fail> {
+    let meeting = Meeting {
+        there: [AtomicBool::new(false), AtomicBool::new(false)],
+        met: [AtomicBool::new(false), AtomicBool::new(false)],
+    };
+    let mut reader = MemoryReader::new(b"a\nb\n");
+    let mut writer = MemoryWriter::new(rt.alloc());
+    let ended = run_workers(&rt, &mut reader, &mut writer, no_limit(), 2, &meeting);
+    assert!(rt; ended == Ok(()));
+    assert!(rt; meeting.met[0].load(Ordering::SeqCst));
+    assert!(rt; meeting.met[1].load(Ordering::SeqCst));
+    Ok(())
+}
+
+// Counts how often each of three workers enters.
+#[derive(Drop)]
+struct Turnstile {
+    entered: [AtomicUsize; 3],
+}
+
+impl Turnstile {
+    fn new() -> Self {
+        Turnstile {
+            entered: [
+                AtomicUsize::new(0),
+                AtomicUsize::new(0),
+                AtomicUsize::new(0),
+            ],
+        }
+    }
+
+    // How often each worker has entered.
+    fn counts(&self) -> [usize; 3] {
+        [
+            self.entered[0].load(Ordering::SeqCst),
+            self.entered[1].load(Ordering::SeqCst),
+            self.entered[2].load(Ordering::SeqCst),
+        ]
+    }
+}
+
+impl Gate for Turnstile {
+    fn enter(&self, worker: usize) {
+        if let Some(entered) = self.entered.get(worker) {
+            entered.fetch_add(1, Ordering::SeqCst);
+        }
+    }
+}
+
+#[test]
+fn lines_go_to_workers_in_turn(rt: HostRuntime) -> Result<(), Fail> {
+    let turnstile = Turnstile::new();
+    let mut reader = MemoryReader::new(b"a\nb\na\nb\na");
+    let mut writer = MemoryWriter::new(rt.alloc());
+    let ended = run_workers(&rt, &mut reader, &mut writer, no_limit(), 3, &turnstile);
+    assert!(rt; ended == Ok(()));
+    assert!(rt; turnstile.counts() == [2, 2, 1]);
+    Ok(())
+}
+
+// The worker of the second line is refused there, and never enters for the fourth; the first one enters for the first and the third.
+#[test]
+fn the_second_line_goes_to_the_second_worker(rt: HostRuntime) -> Result<(), Fail> {
+    let turnstile = Turnstile::new();
+    let input = with_long_line(&rt, b"a\n", b"\nb\nc\n")?;
+    let mut reader = MemoryReader::new(&input);
+    let mut writer = MemoryWriter::new(rt.alloc());
+    let limits = MemoryLimits::new(4096);
+    let ended = run_workers(&rt, &mut reader, &mut writer, limits, 2, &turnstile);
+    assert_fault(&rt, ended, SECOND_REFUSED, 1)?;
+    assert!(rt; turnstile.counts() == [2, 1, 0]);
+    Ok(())
+}
+
+#[test]
+fn a_line_that_is_not_text_decides(rt: HostRuntime) -> Result<(), Fail> {
+    let turnstile = Turnstile::new();
+    for workers in [1usize, 2, 3] {
+        let mut reader = MemoryReader::new(b"\x61\x0a\xff\x0a\x62");
+        let mut writer = MemoryWriter::new(rt.alloc());
+        let ended = run_workers(
+            &rt,
+            &mut reader,
+            &mut writer,
+            no_limit(),
+            workers,
+            &turnstile,
+        );
+        assert_fault(&rt, ended, "line 2: not UTF-8", 2)?;
+        assert!(rt; writer.into_bytes().is_empty());
+        assert!(rt; turnstile.counts() == [0, 0, 0]);
+    }
+    let (text, ended) = run_over(&rt, b"\xff\n\xfe", no_limit(), 2);
+    assert_fault(&rt, ended, "line 1: not UTF-8", 2)?;
+    assert!(rt; text.is_empty());
+    Ok(())
+}
+
+// The first bucket has room for neither of the two long lines, and the limit leaves none.
+#[test]
+fn the_lowest_refused_line_is_told(rt: HostRuntime) -> Result<(), Fail> {
+    let mut input = with_long_line(&rt, b"a\n", b"\n")?;
+    let longer = vec![in rt.alloc(); b'b'; 4098]?;
+    input.extend_from_slice(&longer)?;
+    for workers in [1usize, 2, 3] {
+        let (text, ended) = run_over(&rt, &input, MemoryLimits::new(4096), workers);
+        assert_fault(&rt, ended, SECOND_REFUSED, 1)?;
+        assert!(rt; text.is_empty());
+    }
+    Ok(())
+}
+
+#[test]
+fn each_write_fails_in_turn(rt: HostRuntime) -> Result<(), Fail> {
+    let mut whole = false;
+    for calls in 0..100 {
+        let mut reader = MemoryReader::new(INPUT);
+        let mut writer = ShortWriter::new(rt.alloc(), calls);
+        let ended = run_workers(&rt, &mut reader, &mut writer, no_limit(), 2, &OpenGate);
+        assert!(rt; OUTPUT.starts_with(&writer.taken));
+        if ended.is_ok() {
+            whole = true;
+            assert_eq!(rt; writer.taken.as_slice(), OUTPUT);
+            break;
+        }
+        assert_eq!(rt; writer.tries, 1);
+        assert_fault(&rt, ended, "write failed", 4)?;
+    }
+    assert!(rt; whole);
+    Ok(())
+}
+
+#[test]
+fn each_read_fails_in_turn(rt: HostRuntime) -> Result<(), Fail> {
+    let mut whole = false;
+    for calls in 0..100 {
+        let mut reader = ShortReader::new(INPUT, calls);
+        let mut writer = MemoryWriter::new(rt.alloc());
+        let ended = run_workers(&rt, &mut reader, &mut writer, no_limit(), 2, &OpenGate);
+        let text = writer.into_bytes();
+        if ended.is_ok() {
+            whole = true;
+            assert_eq!(rt; text.as_slice(), OUTPUT);
+            break;
+        }
+        assert!(rt; text.is_empty());
+        assert_eq!(rt; reader.tries, 1);
+        assert_fault(&rt, ended, "read failed", 4)?;
+    }
+    assert!(rt; whole);
+    Ok(())
+}
