@@ -107,6 +107,9 @@ count_in_none p xs t is =
     let none : count_where p (t ∷ []) ≡ 0 = rw is refl in
     omega (arith, sum, none)
 
+pub count_one_none : (p : Text → Bool) (t : Text) → p t ≡ false → count_where p (t ∷ []) ≡ 0
+count_one_none p t is = rw is refl
+
 away : (a i j : ℕ) → nat_eq a j ≡ true → (i ≡ j → ⊥) → nat_eq a i ≡ false
 away a i j is ne = grind (arith, nat_tests, is, ne)
 
@@ -119,7 +122,7 @@ tally_pushed hash_of number texts t counts c low long is more each i below = eli
 
 module _ (hash_of : Text → ℕ) (number : ℕ) where
   -- the index of a shard of a list is that of a longer one that has no more of its texts
-  later : (xs rest : List Text) (index : Table) → IsShardOf hash_of number xs index → count_in hash_of number rest ≡ 0 → IsDistinct (xs ++ rest) → IsShardOf hash_of number (xs ++ rest) index
+  pub later : (xs rest : List Text) (index : Table) → IsShardOf hash_of number xs index → count_in hash_of number rest ≡ 0 → IsDistinct (xs ++ rest) → IsShardOf hash_of number (xs ++ rest) index
   later xs rest index shard none distinct = record {
     filed = IsFiled-append hash_of xs rest index shard.filed;
     holds = λ m. (

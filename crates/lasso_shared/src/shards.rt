@@ -7,6 +7,7 @@ ghost use Rattle.std.specs.Prelude.{◌≡◌, ◌<◌, ℕ, length, Some, slice
 ghost use Rattle.lasso_log.specs.SharedBuckets.{names_with_book};
 ghost use Rattle.lasso_log.specs.Views.{InternerId};
 
+mod building;
 mod intern;
 mod limits;
 mod look;
