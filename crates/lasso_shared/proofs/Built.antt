@@ -1,16 +1,17 @@
 -- Why an index that is filled position by position is a shard's of the whole list: after n positions it is exact for the first n texts. A
 -- text of the shard is entered, one of another shard changes nothing. While it grows it may be asked for any text of the list.
-use Rattle.std.proofs.Common.{◌≡◌, ◌≢◌, ℕ, ◌+◌, ◌<◌, ◌≤◌, ◌⊎◌, inl, inr, ◌↔◌, List, [], ◌∷◌, ◌++◌, true, false, Option, Some, length, map, get_or, slice_get, take, drop, refl, sym, ap, ◌∙◌, subst, arith}
-use Rattle.std.specs.Prelude.{slice_set}
+use Rattle.std.proofs.Common.{◌≡◌, ℕ, ◌+◌, ◌<◌, ◌≤◌, ◌⊎◌, inl, inr, ◌↔◌, List, [], ◌∷◌, ◌++◌, true, false, Some, length, map, get_or, slice_get, take, drop, sym, ap, ◌∙◌, subst, arith}
+use Rattle.std.specs.Prelude.{slice_set, nat_eq}
 use Rattle.std.proofs.lemmas.Bool.{cases_lt}
+use Rattle.std.proofs.lemmas.Bool.Decides.{nat_tests}
 use Rattle.std.proofs.lemmas.List.{take-append-drop, length-take-le, length-map, map-append, get_or-map, get_or-set_same, get_or-set_other}
 use Rattle.std.proofs.lemmas.Option.{slice_get_within, slice_get-get_or}
 use Rattle.lasso_parts.specs.Texts.{Text, IsDistinct}
 use Rattle.lasso_parts.specs.Index.{Table, Holds, StaysFiled, IsFiled}
 use Rattle.lasso_parts.proofs.TextLemmas.{take_more_at, distinct_push}
 use Rattle.lasso_parts.proofs.IndexLaws.{absent_before, IsFiled-append}
-use Rattle.lasso_shared.specs.Shards.{is_in, count_in, IsShardOf}
-use Rattle.lasso_shared.proofs.Whole.{later, pushed, reserved, count_in_one, count_in_none, count_one_none, count_short}
+use Rattle.lasso_shared.specs.Shards.{shard_of, is_in, count_in, IsShardOf}
+use Rattle.lasso_shared.proofs.Whole.{is_home, later, pushed, reserved, count_in_one, count_in_none, count_one_none, count_short}
 
 module _ (hash_of : Text → ℕ) (number : ℕ) (texts : List Text) (distinct : IsDistinct texts) where
   -- the index of the first n texts is filed under the whole list
@@ -22,12 +23,12 @@ module _ (hash_of : Text → ℕ) (number : ℕ) (texts : List Text) (distinct :
   grown n old new shard filed same = reserved hash_of number (take n texts) texts old new (drop n texts, take-append-drop n texts) shard filed same
 
   -- a text of the shard is entered
-  pub entered : (n hash : ℕ) (t : Text) (old new : Table) → slice_get texts n ≡ Some t → is_in hash_of number t ≡ true → hash ≡ hash_of t → IsShardOf hash_of number (take n texts) old → ((m : ℕ) → Holds new.slots m ↔ (Holds old.slots m ⊎ (m ≡ n))) → StaysFiled hash n old new → IsShardOf hash_of number (take (n + 1) texts) new
-  entered n hash t old new at is hashed shard held stays =
+  pub entered : (n place hash : ℕ) (t : Text) (old new : Table) → place ≡ n → slice_get texts n ≡ Some t → is_in hash_of number t ≡ true → hash ≡ hash_of t → IsShardOf hash_of number (take n texts) old → ((m : ℕ) → Holds new.slots m ↔ (Holds old.slots m ⊎ (m ≡ place))) → StaysFiled hash place old new → IsShardOf hash_of number (take (n + 1) texts) new
+  entered n place hash t old new here at is hashed shard held stays =
       let inside = slice_get_within texts n t at in
-      let last : n ≡ length (take n texts) = sym (length-take-le n texts (omega (arith, inside))) in
+      let last : place ≡ length (take n texts) = here ∙ sym (length-take-le n texts (omega (arith, inside))) in
       subst (λ (ts : List Text). IsShardOf hash_of number ts new) (sym (take_more_at texts n t at))
-      (pushed hash_of number (take n texts) t hash n old new shard (absent_before texts n t distinct at) is last hashed held stays)
+      (pushed hash_of number (take n texts) t hash place old new shard (absent_before texts n t distinct at) is last hashed held stays)
 
   -- a text of another shard is passed over
   pub passed : (n : ℕ) (t : Text) (index : Table) → slice_get texts n ≡ Some t → is_in hash_of number t ≡ false → IsShardOf hash_of number (take n texts) index → IsShardOf hash_of number (take (n + 1) texts) index
@@ -51,10 +52,25 @@ module _ (hash_of : Text → ℕ) (number : ℕ) (texts : List Text) (distinct :
       let long = length-take-le n texts inside in
       omega (arith, short, long, counts)
 
+-- a text whose hash is one of the shard's number is of the shard
+pub is_its : (hash_of : Text → ℕ) (number found hash : ℕ) (t : Text) → hash ≡ hash_of t → found ≡ shard_of hash → found ≡ number → is_in hash_of number t ≡ true
+is_its hash_of number found hash t is which same = subst (λ (m : ℕ). is_in hash_of m t ≡ true) (sym which ∙ same) (is_home hash_of hash t is)
+
+differ : (a b : ℕ) → (a ≡ b → ⊥) → nat_eq a b ≡ false
+differ a b other = grind (arith, nat_tests, other)
+
+-- and any other is not
+pub is_others : (hash_of : Text → ℕ) (number found hash : ℕ) (t : Text) → hash ≡ hash_of t → found ≡ shard_of hash → (found ≡ number → ⊥) → is_in hash_of number t ≡ false
+is_others hash_of number found hash t is which other = subst (λ (m : ℕ). nat_eq m number ≡ false) (which ∙ ap shard_of is) (differ found number other)
+
+-- there are as many hashes as texts
+pub as_many : (hash_of : Text → ℕ) (texts : List Text) (hashes : List ℕ) → hashes ≡ map hash_of texts → length hashes ≡ length texts
+as_many hash_of texts hashes is = ap (λ (hs : List ℕ). length hs) is ∙ length-map texts hash_of
+
 -- the text that a hash is of
 pub hashed_at : (hash_of : Text → ℕ) (texts : List Text) (hashes : List ℕ) (n : ℕ) → hashes ≡ map hash_of texts → n < length hashes → (t : Text) × (slice_get texts n ≡ Some t) × (get_or hashes n 0 ≡ hash_of t)
 hashed_at hash_of texts hashes n is inside =
-    let long : length hashes ≡ length texts = ap (λ (hs : List ℕ). length hs) is ∙ length-map texts hash_of in
+    let long = as_many hash_of texts hashes is in
     let below : n < length texts = omega (arith, inside, long) in
     (get_or texts n [], slice_get-get_or texts n [] below, ap (λ (hs : List ℕ). get_or hs n 0) is ∙ get_or-map hash_of texts n [] 0 below)
 

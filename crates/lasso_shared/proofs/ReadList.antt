@@ -3,7 +3,7 @@
 -- Where the value is an array, its reading is that of an array, else that of an object; a list that was had so is distinct and fits the
 -- keys, by the laws of both. The value that is written for such a list, in either form, is read as that list. An answer that is not the
 -- list is then want of memory, since the reading is no fault.
-use Rattle.std.proofs.Common.{◌≡◌, ◌⊎◌, inl, inr, ℕ, List, length, Bool, true, false, Option, Some, None, Result, Ok, Err, IsOk, IfOk, is_some, refl, sym, ap, ◌∙◌}
+use Rattle.std.proofs.Common.{◌≡◌, ◌⊎◌, inl, inr, ℕ, List, length, true, false, Option, Some, None, Result, Ok, Err, IsOk, IfOk, is_some, refl, sym, ap, ◌∙◌}
 use Rattle.serde_json.specs.Data.{Data, Items}
 use Rattle.serde_json.specs.Find.{as_array}
 use Rattle.lasso_parts.specs.Texts.{Text, IsDistinct, Fits}

@@ -1,9 +1,20 @@
 -- Texts that have their bytes in the bucket so far leave room for the next one, since the bucket has the bytes of all.
-use Rattle.std.proofs.Common.{map, rules}
-use Rattle.lasso_shared.proofs.Copied.{next_fits}
+use Rattle.std.proofs.Common.{ap, ◌∙◌}
+use Rattle.lasso_log.specs.LentBuckets.{LentBucket}
+use Rattle.lasso_shared.proofs.Copied.{next_fits, texts_more, bytes_more}
 use Rattle.lasso_shared.proofs.shards.Shards.of_texts.Goals as goal
 
-pub prove-unreachable-requires : goal.prove-unreachable-requires
-prove-unreachable-requires g c =
+pub unreachable-requires : goal.unreachable-requires
+unreachable-requires g c =
     let i = c.loop-text.invariant in
-    next_fits (map (λ t. t.now) c.args.texts.now) c.loop-text.text-index c.loop-text.opening.bucket.used c.loop-text.opening.bucket.size c.loop-text-item.result.now (search rules) i.used i.size c.in_default.ensures.none.1
+    next_fits (λ t. t.now) c.args.texts.now _ c.loop-text.text-index c.loop-text-test.true c.loop-text.opening.bucket.used c.loop-text.opening.bucket.size i.used i.size c.in_default.ensures.none.1
+
+pub loop-text-preserved : goal.loop-text-preserved
+loop-text-preserved g c =
+    let i = c.loop-text.invariant in
+    let copied = c.in-Some.ensures in
+    let put = c.in_ok-push.ensures in record {
+      texts = texts_more (λ t. t.now) c.args.texts.now _ c.loop-text.text-index c.loop-text-test.true c.loop-text.opening.texts c.copy_in.new.self.texts c.push.new.self.texts c.in-Some.piece.text i.texts copied.texts copied.piece.0 put.texts;
+      used = bytes_more (λ t. t.now) c.args.texts.now _ c.loop-text.text-index c.loop-text-test.true c.loop-text.opening.bucket.used c.push.new.self.bucket.used i.used (ap (λ (b : LentBucket). b.used) put.bucket ∙ copied.bucket.2);
+      size = ap (λ (b : LentBucket). b.size) put.bucket ∙ (copied.bucket.1 ∙ i.size);
+    }

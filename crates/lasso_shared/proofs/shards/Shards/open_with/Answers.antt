@@ -1,9 +1,7 @@
 -- The list at no note is that of the opening, so the spine's length is how many texts there are, and the shards' numbers are those of the
 -- list that the spine has seen.
-use Rattle.std.proofs.Common.{◌≡◌, [], List, length, ap, sym, ◌∙◌, subst}
-use Rattle.lasso_parts.specs.Texts.{Text, IsDistinct, Fits}
-use Rattle.lasso_log.specs.History.{Totals}
-use Rattle.lasso_log.specs.Notes.{state}
+use Rattle.std.proofs.Common.{List, length, ap, sym, ◌∙◌, subst}
+use Rattle.lasso_parts.specs.Texts.{Text}
 use Rattle.lasso_log.specs.Views.{InternerId, list_of}
 use Rattle.lasso_parts.specs.Hashing.{text_hash}
 use Rattle.lasso_shared.specs.Shards.{Counts}
@@ -11,22 +9,22 @@ use Rattle.lasso_shared.proofs.shards.Shards.open_with.Goals as goal
 
 pub shards-requires-clause-counted : goal.shards-requires-clause-counted
 shards-requires-clause-counted g c =
-    let made = c.open_with.ensures in
-    c.len.ensures.len ∙ (ap (λ (o : InternerId). length (list_of o c.open_with.result.spine.notes)) made.spine.0 ∙ ap (λ notes. length (list_of c.open_with.result.log notes)) made.spine.1)
+    let made = c.open_with-log.ensures in
+    c.len.ensures.len ∙ (ap (λ (o : InternerId). length (list_of o c.open_with-log.result.spine.notes)) made.spine.0 ∙ ap (λ notes. length (list_of c.open_with-log.result.log notes)) made.spine.1)
 
 pub shards-requires-clause-distinct : goal.shards-requires-clause-distinct
-shards-requires-clause-distinct g c = rw c.open_with.ensures.opening c.requires.distinct
+shards-requires-clause-distinct g c = rw c.open_with-log.ensures.opening c.requires.distinct
 
 pub shards-requires-clause-fits : goal.shards-requires-clause-fits
-shards-requires-clause-fits g c = rw c.open_with.ensures.opening c.requires.fits
+shards-requires-clause-fits g c = rw c.open_with-log.ensures.opening c.requires.fits
 
 pub new-spine-requires : goal.new-spine-requires
 new-spine-requires g c =
-    let made = c.open_with.ensures in
-    let log = c.open_with.result.log in
-    let told = c.in_ok-shards.ensures.counts in
+    let made = c.open_with-log.ensures in
+    let log = c.open_with-log.result.log in
+    let told = c.in_ok-locks.ensures.counts in
     let hash_of = text_hash g.S.BuildHasher.build_hasher g.S.Hasher.Hasher.write g.S.Hasher.Hasher.finish c.args.hasher in record {
       mine = made.spine.0 ∙ sym c.shards.ensures.same.0;
       all = told.0;
-      counts_each = rw (c.shards.ensures.same.0, c.shards.ensures.same.1) (subst (λ (ts : List Text). Counts hash_of ts _) (sym (ap (list_of log) made.spine.1)) told.1);
+      counts_each = rw (c.shards.ensures.same.0, c.shards.ensures.same.1) (subst (λ (ts : List Text). Counts hash_of ts c.in_ok-locks.field-0.counts) (sym (ap (list_of log) made.spine.1)) told.1);
     }

@@ -1,5 +1,3 @@
-use Rattle.std.proofs.Common.{◌≡◌, ◌∙◌, ap, length}
-use Rattle.lasso_log.specs.Views.{list_of}
 use Rattle.lasso_shared.proofs.Called.{serialized}
 use Rattle.lasso_shared.proofs.threaded.ThreadedRodeo.serialize_as.Goals as goal
 

@@ -1,5 +1,5 @@
 -- A new pass has seen the opening alone, so the texts that it shows are the opening's. Each is hashed in its turn.
-use Rattle.std.proofs.Common.{◌≡◌, ◌∷◌, ◌++◌, [], List, ℕ, Some, length, map, slice_get, take, sym, ap, ◌∙◌, subst, arith, rules}
+use Rattle.std.proofs.Common.{◌≡◌, ◌+◌, ◌∷◌, ◌++◌, [], List, ℕ, Some, length, map, slice_get, take, ap, ◌∙◌, subst, arith, rules}
 use Rattle.std.proofs.lemmas.List.{take_all, length_push}
 use Rattle.lasso_parts.specs.Hashing.{text_hash}
 use Rattle.lasso_parts.specs.Texts.{Text}
