@@ -83,8 +83,8 @@ fn parse_texts(alloc: Global, words: &[&str]) -> Result<Option<Vec<String>>, All
     Ok(Some(texts))
 }
 
-// A text in hexadecimal digits, two a byte; `-` is the empty text.
-fn parse_text(alloc: Global, word: &str) -> Result<Option<String>, AllocError> {
+/// A text in hexadecimal digits, two a byte; `-` is the empty text.
+pub fn parse_text(alloc: Global, word: &str) -> Result<Option<String>, AllocError> {
     let mut bytes = Vec::new(alloc);
     if word != "-" {
         let digits = word.as_bytes();

@@ -1,37 +1,43 @@
-//! Replays scripts of commands on interners: it reads them from standard input, and writes one reply a line
-//! to standard output. All scripts are read and checked before the first reply: a bad one gives
-//! `line <k>: <reason>` on standard error, status 3 and no output.
+//! Replays scripts of commands on interners, and reads interners and keys from JSON values: it has both from standard
+//! input, and writes one reply a line to standard output. The whole input is read and checked before the first reply: a
+//! bad line gives `line <k>: <reason>` on standard error, status 3 and no output.
 #![tactic(auto)]
 
+mod faults;
+mod json_lines;
+mod key_types;
 mod keys;
 mod lines;
+mod parts;
+mod read_json;
 mod replay;
 mod replay_shared;
 mod replies;
 mod scripts;
 
-use scripts::{Fault, Script, parse_scripts};
+use faults::Fault;
+use parts::parse_parts;
 use std::alloc::Global;
 use std::io;
 use std::io::{BufReader, BufWriter, Read, Write};
 use std::process::ExitCode;
 
-// The status of a bad script.
-const BAD_SCRIPT: u8 = 3;
+// The status of a bad input.
+const BAD_INPUT: u8 = 3;
 
 fn main(rt: HostRuntime) -> io::Result<ExitCode> {
     let alloc = rt.alloc();
     let mut input = Vec::new(alloc);
     BufReader::new(alloc, rt.reader())?.read_to_end(&mut input)?;
-    match parse_scripts(alloc, input.as_slice())? {
+    match parse_parts(alloc, input.as_slice())? {
         Err(Fault { line, reason }) => {
             eprintln!(rt; "line {line}: {reason}")?;
-            Ok(ExitCode::from(BAD_SCRIPT))
+            Ok(ExitCode::from(BAD_INPUT))
         }
-        Ok(scripts) => {
+        Ok(parts) => {
             let mut out = BufWriter::new(alloc, io::writer(&rt))?;
-            for script in &scripts {
-                script.replay(&rt, alloc, &mut out)?;
+            for part in &parts {
+                part.replay(&rt, alloc, &mut out)?;
             }
             out.flush()?;
             Ok(ExitCode::SUCCESS)

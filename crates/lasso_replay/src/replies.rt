@@ -1,18 +1,21 @@
 //! How replies are written, one a line.
 
-use lasso::{Key, LassoError, LassoErrorKind, LassoResult};
+use lasso::{JsonError, Key, LassoErrorKind, LassoResult, Strings};
 use std::io;
 use std::io::Write;
 
 /// `key N`, or the refusal.
 pub fn write_interned<K: Key, W: Write>(out: &mut W, outcome: LassoResult<K>) -> io::Result<()> {
     match outcome {
-        Ok(key) => {
-            let number = key.into_usize();
-            writeln!(out, "key {number}")
-        }
-        Err(error) => write_refusal(out, &error),
+        Ok(key) => write_key(out, key),
+        Err(error) => write_refusal(out, error.kind()),
     }
+}
+
+/// `key N`.
+pub fn write_key<K: Key, W: Write>(out: &mut W, key: K) -> io::Result<()> {
+    let number = key.into_usize();
+    writeln!(out, "key {number}")
 }
 
 /// `found N`, or `found none`.
@@ -40,13 +43,13 @@ pub fn write_number<W: Write>(out: &mut W, number: usize) -> io::Result<()> {
 pub fn write_outcome<W: Write>(out: &mut W, outcome: LassoResult<()>) -> io::Result<()> {
     match outcome {
         Ok(()) => writeln!(out, "done"),
-        Err(error) => write_refusal(out, &error),
+        Err(error) => write_refusal(out, error.kind()),
     }
 }
 
-// Which refusal it was.
-fn write_refusal<W: Write>(out: &mut W, error: &LassoError) -> io::Result<()> {
-    let kind = match error.kind() {
+/// `refused`, and which refusal it was.
+pub fn write_refusal<W: Write>(out: &mut W, kind: LassoErrorKind) -> io::Result<()> {
+    let kind = match kind {
         LassoErrorKind::MemoryLimitReached => "MemoryLimitReached",
         LassoErrorKind::KeySpaceExhaustion => "KeySpaceExhaustion",
         LassoErrorKind::FailedAllocation => "FailedAllocation",
@@ -54,17 +57,48 @@ fn write_refusal<W: Write>(out: &mut W, error: &LassoError) -> io::Result<()> {
     writeln!(out, "refused {kind}")
 }
 
-/// `text` and the text in hexadecimal digits, two a byte; `-` is the empty text, and `none` where there is none.
+/// `text` and the text as `write_digits` has it; `text none` where there is none.
 pub fn write_text<W: Write>(out: &mut W, text: Option<&str>) -> io::Result<()> {
     let Some(text) = text else {
         return writeln!(out, "text none");
     };
-    if text.is_empty() {
-        return writeln!(out, "text -");
-    }
     write!(out, "text ")?;
+    write_digits(out, text)?;
+    writeln!(out)
+}
+
+/// `list`, and each text behind a space, as `write_digits` has it.
+pub fn write_list<K: Key, W: Write>(out: &mut W, texts: Strings<'_, K>) -> io::Result<()> {
+    write!(out, "list")?;
+    for text in texts {
+        write!(out, " ")?;
+        write_digits(out, text)?;
+    }
+    writeln!(out)
+}
+
+/// `fault` and what is wrong with a JSON value, with the item or member that it is about; want of memory is a refusal.
+pub fn write_fault<W: Write>(out: &mut W, fault: JsonError) -> io::Result<()> {
+    match fault {
+        JsonError::NotAnArray => writeln!(out, "fault NotAnArray"),
+        JsonError::NotText(at) => writeln!(out, "fault NotText {at}"),
+        JsonError::Doubled(at) => writeln!(out, "fault Doubled {at}"),
+        JsonError::TooMany(at) => writeln!(out, "fault TooMany {at}"),
+        JsonError::NotAnObject => writeln!(out, "fault NotAnObject"),
+        JsonError::NotAPosition(at) => writeln!(out, "fault NotAPosition {at}"),
+        JsonError::Taken(at) => writeln!(out, "fault Taken {at}"),
+        JsonError::Lasso(kind) => write_refusal(out, kind),
+        JsonError::NotAKey => writeln!(out, "fault NotAKey"),
+    }
+}
+
+// The text in hexadecimal digits, two a byte; `-` is the empty text.
+fn write_digits<W: Write>(out: &mut W, text: &str) -> io::Result<()> {
+    if text.is_empty() {
+        return write!(out, "-");
+    }
     for byte in text.as_bytes() {
         write!(out, "{byte:02x}")?;
     }
-    writeln!(out)
+    Ok(())
 }

@@ -1,5 +1,7 @@
 //! Scripts: a header, and then one command a line.
 
+use crate::faults::Reason;
+use crate::key_types::{KeyType, parse_key_type};
 use crate::keys::{BelowTwo, WithoutTwo};
 use crate::lines::{Call, ScriptCommand, parse_call, parse_command, parse_limit, parse_number};
 use crate::replay::replay_command;
@@ -9,20 +11,9 @@ use lasso::{
     Spur, ThreadedRodeo,
 };
 use std::alloc::{AllocError, Global};
+use std::io;
 use std::io::Write;
 use std::sync::Wait;
-use std::{fmt, io};
-
-// The key type of a script's interner.
-#[derive(Clone, Copy)]
-pub enum KeyType {
-    Spur,
-    MiniSpur,
-    MicroSpur,
-    LargeSpur,
-    BelowTwo,
-    WithoutTwo,
-}
 
 /// The commands of a script in order, for the interner of its kind.
 #[derive(Drop)]
@@ -41,118 +32,8 @@ pub struct Script {
     commands: Commands,
 }
 
-/// Why a line is bad.
-#[derive(Clone, Copy, Debug, Drop)]
-pub enum Reason {
-    NotUtf8,
-    NoScript,
-    BadHeader,
-    UnknownKind,
-    UnknownKeyType,
-    NoBytes,
-    BadCommand,
-}
-
-impl fmt::Display for Reason {
-    fn fmt<W: fmt::Write>(&self, f: &mut fmt::Formatter<W>) -> fmt::Result {
-        let words = match self {
-            Reason::NotUtf8 => "not UTF-8",
-            Reason::NoScript => "a command before the first script",
-            Reason::BadHeader => "not `script NAME KIND KEY STRINGS BYTES LIMIT`",
-            Reason::UnknownKind => "a kind of interner that is not there",
-            Reason::UnknownKeyType => "a key type that is not there",
-            Reason::NoBytes => "a first capacity of no bytes",
-            Reason::BadCommand => "not a command",
-        };
-        f.write_str(words)
-    }
-}
-
-/// A bad line, counted from 1.
-#[derive(Debug, Drop)]
-pub struct Fault {
-    pub line: usize,
-    pub reason: Reason,
-}
-
-/// The scripts of an input, or its first bad line.
-pub fn parse_scripts(
-    alloc: Global,
-    input: &[u8],
-) -> Result<Result<Vec<Script>, Fault>, AllocError> {
-    let text = match str::from_utf8(input) {
-        Ok(text) => text,
-        Err(error) => {
-            let valid = &input[..error.valid_up_to()];
-            let line = valid
-                .iter()
-                .filter(|byte| **byte == b'\n')
-                .count()
-                .saturating_add(1);
-            return Ok(Err(Fault {
-                line,
-                reason: Reason::NotUtf8,
-            }));
-        }
-    };
-    let mut scripts: Vec<Script> = Vec::new(alloc);
-    let mut number: usize = 0;
-    for line in text.lines() {
-        number = number.saturating_add(1);
-        if let Some(reason) = add_line(alloc, &mut scripts, line)? {
-            return Ok(Err(Fault {
-                line: number,
-                reason,
-            }));
-        }
-    }
-    Ok(Ok(scripts))
-}
-
-// Adds a header or a command, or answers why the line is bad.
-fn add_line(
-    alloc: Global,
-    scripts: &mut Vec<Script>,
-    line: &str,
-) -> Result<Option<Reason>, AllocError> {
-    let words: Vec<&str> = line.split(' ').collect(alloc)?;
-    if let ["script", others @ ..] = words.as_slice() {
-        return match parse_header(alloc, others)? {
-            Ok(script) => {
-                scripts.push(script)?;
-                Ok(None)
-            }
-            Err(reason) => Ok(Some(reason)),
-        };
-    }
-    let Some(script) = scripts.last_mut() else {
-        return Ok(Some(Reason::NoScript));
-    };
-    let known = match &mut script.commands {
-        Commands::OneThread(commands) => match parse_command(alloc, words.as_slice())? {
-            Some(command) => {
-                commands.push(command)?;
-                true
-            }
-            None => false,
-        },
-        Commands::Shared(calls) => match parse_call(alloc, words.as_slice())? {
-            Some(call) => {
-                calls.push(call)?;
-                true
-            }
-            None => false,
-        },
-    };
-    Ok(if known {
-        None
-    } else {
-        Some(Reason::BadCommand)
-    })
-}
-
-// What the words after `script` say, or why they are bad.
-fn parse_header(alloc: Global, words: &[&str]) -> Result<Result<Script, Reason>, AllocError> {
+/// What the words after `script` say, or why they are bad.
+pub fn parse_header(alloc: Global, words: &[&str]) -> Result<Result<Script, Reason>, AllocError> {
     let [name, kind, key_type, strings, bytes, limit] = words else {
         return Ok(Err(Reason::BadHeader));
     };
@@ -183,19 +64,36 @@ fn parse_header(alloc: Global, words: &[&str]) -> Result<Result<Script, Reason>,
     }))
 }
 
-fn parse_key_type(word: &str) -> Option<KeyType> {
-    match word {
-        "spur" => Some(KeyType::Spur),
-        "mini" => Some(KeyType::MiniSpur),
-        "micro" => Some(KeyType::MicroSpur),
-        "large" => Some(KeyType::LargeSpur),
-        "below2" => Some(KeyType::BelowTwo),
-        "hole2" => Some(KeyType::WithoutTwo),
-        _ => None,
-    }
-}
-
 impl Script {
+    /// Adds the command that the words of a line spell, or answers why they are bad.
+    pub fn add_command(
+        &mut self,
+        alloc: Global,
+        words: &[&str],
+    ) -> Result<Option<Reason>, AllocError> {
+        let known = match &mut self.commands {
+            Commands::OneThread(commands) => match parse_command(alloc, words)? {
+                Some(command) => {
+                    commands.push(command)?;
+                    true
+                }
+                None => false,
+            },
+            Commands::Shared(calls) => match parse_call(alloc, words)? {
+                Some(call) => {
+                    calls.push(call)?;
+                    true
+                }
+                None => false,
+            },
+        };
+        Ok(if known {
+            None
+        } else {
+            Some(Reason::BadCommand)
+        })
+    }
+
     /// Makes the script's interner, carries its commands out, and writes their replies. Where memory is
     /// wanting for the interner, that is the error.
     pub fn replay<R: Wait, W: Write>(&self, rt: &R, alloc: Global, out: &mut W) -> io::Result<()> {

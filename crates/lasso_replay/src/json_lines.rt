@@ -1,0 +1,99 @@
+//! Lines with JSON values: what a value is to be read as.
+
+use crate::faults::Reason;
+use crate::key_types::{KeyType, SpurType, parse_key_type, parse_spur_type};
+use crate::lines::parse_text;
+use serde_json::Value;
+use std::alloc::{AllocError, Global};
+
+/// A form of interner that is read from JSON.
+#[derive(Clone, Copy)]
+pub enum Form {
+    Rodeo,
+    Reader,
+    Resolver,
+    Threaded,
+}
+
+/// A value to be read as an interner of one form and key type.
+#[derive(Drop)]
+pub struct InternerLine {
+    pub form: Form,
+    pub key_type: KeyType,
+    pub value: Value,
+}
+
+/// A value to be read as a key.
+#[derive(Drop)]
+pub struct KeyLine {
+    pub key_type: SpurType,
+    pub value: Value,
+}
+
+/// What the words after `json` say, or why they are bad.
+pub fn parse_interner_line(
+    alloc: Global,
+    words: &[&str],
+) -> Result<Result<InternerLine, Reason>, AllocError> {
+    let [form, key_type, value] = words else {
+        return Ok(Err(Reason::BadJsonLine));
+    };
+    let Some(form) = parse_form(form) else {
+        return Ok(Err(Reason::UnknownForm));
+    };
+    let Some(key_type) = parse_key_type(key_type) else {
+        return Ok(Err(Reason::UnknownKeyType));
+    };
+    match parse_value(alloc, value)? {
+        Ok(value) => Ok(Ok(InternerLine {
+            form,
+            key_type,
+            value,
+        })),
+        Err(reason) => Ok(Err(reason)),
+    }
+}
+
+/// What the words after `key` say, or why they are bad.
+pub fn parse_key_line(
+    alloc: Global,
+    words: &[&str],
+) -> Result<Result<KeyLine, Reason>, AllocError> {
+    let [key_type, value] = words else {
+        return Ok(Err(Reason::BadJsonLine));
+    };
+    let Some(key_type) = parse_spur_type(key_type) else {
+        return Ok(Err(Reason::UnknownKeyType));
+    };
+    match parse_value(alloc, value)? {
+        Ok(value) => Ok(Ok(KeyLine { key_type, value })),
+        Err(reason) => Ok(Err(reason)),
+    }
+}
+
+fn parse_form(word: &str) -> Option<Form> {
+    match word {
+        "rodeo" => Some(Form::Rodeo),
+        "reader" => Some(Form::Reader),
+        "resolver" => Some(Form::Resolver),
+        "threaded" => Some(Form::Threaded),
+        _ => None,
+    }
+}
+
+// The value of a JSON text in hexadecimal digits, or why there is none.
+fn parse_value(alloc: Global, word: &str) -> Result<Result<Value, Reason>, AllocError> {
+    let Some(text) = parse_text(alloc, word)? else {
+        return Ok(Err(Reason::NotHexadecimal));
+    };
+    match Value::from_str(alloc, text.as_str()) {
+        Ok(value) => Ok(Ok(value)),
+        Err(error) => {
+            if error.is_memory() {
+                Err(AllocError)
+            } else {
+                Ok(Err(Reason::NotJson))
+            }
+        }
+    }
+}
