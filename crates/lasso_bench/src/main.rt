@@ -2,8 +2,8 @@
 //! threads share, and the shared one: with the word `measure` it prints the nanoseconds of a call of the first, with
 //! `round` those of one round of the interner alone, with `refill` those of an interner that is cleared and filled
 //! again, with `shared` those of a call of the lists that are shared, with `interners` those of one round of the
-//! interner that threads share, over the lines of standard input; with `fill` it interns these lines as they come
-//! and prints how many texts there are, and without words nothing.
+//! interner that threads share, over the lines of standard input; with `walks` those of walks over it and of freezing it; with
+//! `fill` it interns these lines as they come and prints how many texts there are, and without words nothing.
 #![tactic(auto)]
 
 ghost use Rattle.std.specs.Prelude.{◌<◌};
@@ -22,6 +22,7 @@ mod tests;
 mod texts;
 mod threads;
 mod timing;
+mod walks;
 
 use anyhow::{Result, bail};
 use calls::{Plain, WithPass, fill};
@@ -40,6 +41,7 @@ use std::thread::Threads;
 use texts::Sample;
 use threads::{CALLS, THREADS, Walk, best_shared_timings};
 use timing::{Timings, best_timings, round};
+use walks::best_walk_timings;
 
 const TEXTS: u32 = 100_000;
 
@@ -61,8 +63,9 @@ fn main(rt: HostRuntime) -> Result<()> {
         [word] if word.as_str() == "refill" => print_refills(&rt),
         [word] if word.as_str() == "shared" => print_shared(&rt),
         [word] if word.as_str() == "interners" => print_interners(&rt),
+        [word] if word.as_str() == "walks" => print_walks(&rt),
         [word] if word.as_str() == "fill" => print_fill(&rt),
-        _ => bail!("usage: lasso_bench [measure|round|refill|shared|interners|fill]"),
+        _ => bail!("usage: lasso_bench [measure|round|refill|shared|interners|walks|fill]"),
     }
 }
 
@@ -190,6 +193,18 @@ fn print_calls(rt: &impl Print, call: &str, tenths: [u64; 3]) -> Result<()> {
         println!(rt; "{call} {threads} {whole}.{tenth}")?;
     }
     Ok(())
+}
+
+// Times walks over the distinct lines of standard input and freezing them, and prints a line for each.
+fn print_walks<R: AllocGlobal + Clock + Input + Print + Wait>(rt: &R) -> Result<()> {
+    let lines = Lines::read(rt.alloc(), BufReader::new(rt.alloc(), rt.reader())?)?;
+    let timings = best_walk_timings(rt, &lines)?;
+    let count = lines.distinct.len();
+    println!(rt; "{count} texts")?;
+    println!(rt; "{:<18}{:<18}{:>9}", "name", "operation", "ns a text")?;
+    print_line(rt, "ThreadedRodeo", "iter", timings.iter)?;
+    print_line(rt, "ThreadedRodeo", "strings", timings.strings)?;
+    print_line(rt, "ThreadedRodeo", "into_reader", timings.into_reader)
 }
 
 // Interns the lines of standard input in an interner that threads share, and prints how many texts there are.

@@ -11,6 +11,7 @@ use crate::shared::{SharedTexts, Shelf};
 use crate::texts::{Sample, jumped};
 use crate::threads::{Walk, best_shared_timings};
 use crate::timing::best_timings;
+use crate::walks::{best_walk_timings, walk_entries, walk_texts};
 use lasso::{SpurThreadedRodeo, ThreadedRodeo};
 use std::process::Abort;
 use std::sync::Wait;
@@ -177,5 +178,17 @@ fn other_order(rt: HostRuntime) -> Result<(), Fail> {
 fn random_order(rt: HostRuntime) -> Result<(), Fail> {
     let positions = random_positions(rt.alloc(), 1000, 5)?;
     assert_eq!(rt; positions.as_slice(), [807, 424, 937, 236, 125].as_slice());
+    Ok(())
+}
+
+#[test]
+fn walks_answer_right(rt: HostRuntime) -> Result<(), Fail> {
+    let lines = Lines::read(rt.alloc(), &b"b\na\nb\nc\n"[..]).map_err(|_| "no lines")?;
+    assert!(rt; best_walk_timings(&rt, &lines).is_ok());
+    let rodeo: SpurThreadedRodeo = ThreadedRodeo::default(rt.alloc())?;
+    rodeo.extend(&rt, ["b", "a", "c"])?;
+    // positions 0, 1 and 2; the bytes of b, a and c
+    assert_eq!(rt; walk_entries(&rodeo), (3, 98 + 97 + 99));
+    assert_eq!(rt; walk_texts(&rodeo), 98 + 97 + 99);
     Ok(())
 }
