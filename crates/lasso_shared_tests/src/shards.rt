@@ -6,14 +6,14 @@ mod copied;
 pub(crate) mod hashers;
 mod writers;
 
-use lasso_shared::shards::Shards;
-use lasso_shared::shards::tag::number_of;
-use lasso_shared::threaded::ThreadedRodeo;
 use hashers::{FirstState, SameState};
 use lasso_log::log::Opened;
 use lasso_parts::index::hash_text;
 use lasso_parts::keys::{Key, MicroSpur, Spur};
 use lasso_parts::util::{FixedState, LassoErrorKind};
+use lasso_shared::shards::Shards;
+use lasso_shared::shards::tag::number_of;
+use lasso_shared::threaded::ThreadedRodeo;
 use std::hash::BuildHasher;
 use std::process::Abort;
 use std::sync::Wait;

@@ -14,10 +14,10 @@ mod looking;
 mod passes;
 mod walking;
 
-use lasso_shared::threaded::ThreadedRodeo;
 use lasso_log::log::Pass;
 use lasso_parts::keys::{Key, Spur};
 use lasso_parts::util::{FixedState, LassoErrorKind, LassoResult};
+use lasso_shared::threaded::ThreadedRodeo;
 use std::marker::Model;
 use std::process::Abort;
 use std::sync::Wait;

@@ -1,9 +1,9 @@
 //! Runs of commands, worked by hand.
 
-use lasso_single::commands::{Command, Reply, run_commands};
-use lasso_single::rodeo::Rodeo;
 use lasso_parts::keys::{Key, Spur};
 use lasso_parts::util::{Capacity, FixedState, MemoryLimits};
+use lasso_single::commands::{Command, Reply, run_commands};
+use lasso_single::rodeo::Rodeo;
 use std::alloc::Global;
 use std::process::Abort;
 use std::test::Fail;

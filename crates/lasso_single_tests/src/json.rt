@@ -1,15 +1,15 @@
 //! Rows of reading interners from JSON, what they are written as, and the way through JSON's text and back.
 ghost use Rattle.std.specs.Prelude.{◌<◌};
 
+use crate::fixtures::Gap;
 use lasso_parts::json::JsonError;
+use lasso_parts::keys::{Key, MicroSpur, Spur};
+use lasso_parts::util::FixedState;
 use lasso_single::reader::RodeoReader;
 use lasso_single::resolver::RodeoResolver;
 use lasso_single::rodeo::Rodeo;
 use serde_json::Value;
 use std::alloc::Global;
-use crate::fixtures::Gap;
-use lasso_parts::keys::{Key, MicroSpur, Spur};
-use lasso_parts::util::FixedState;
 use std::test::Fail;
 
 type SpurRodeo = Rodeo<Spur, FixedState, Global>;

@@ -1,9 +1,9 @@
 //! Resolvers alone and in two threads.
 
-use lasso_single::resolver::RodeoResolver;
-use lasso_single::rodeo::Rodeo;
 use lasso_parts::keys::{Key, Spur};
 use lasso_parts::util::{FixedState, LassoResult};
+use lasso_single::resolver::RodeoResolver;
+use lasso_single::rodeo::Rodeo;
 use std::alloc::{Allocator, Global};
 use std::test::Fail;
 use std::thread;

@@ -8,10 +8,10 @@ mod filling;
 mod hashing;
 mod walks;
 
-use lasso_single::rodeo::Rodeo;
 use crate::fixtures::{Gap, SameState};
 use lasso_parts::keys::{Key, MicroSpur, Spur};
 use lasso_parts::util::{Capacity, FixedState, LassoErrorKind, LassoResult, MemoryLimits};
+use lasso_single::rodeo::Rodeo;
 use std::alloc::Global;
 use std::process::Abort;
 use std::test::Fail;

@@ -2,10 +2,10 @@
 ghost use Rattle.std.specs.Prelude.{◌≢◌};
 
 use super::TEXTS;
-use lasso_shared::shards::Shards;
 use lasso_log::log::Opened;
 use lasso_parts::keys::{Key, MicroSpur, Spur};
 use lasso_parts::util::{FixedState, LassoErrorKind, LassoResult};
+use lasso_shared::shards::Shards;
 use std::alloc::Global;
 use std::sync::Wait;
 use std::test::*;

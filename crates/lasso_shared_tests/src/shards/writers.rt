@@ -1,8 +1,8 @@
 //! Writers of two shards that go on beside each other.
 use crate::shards::armed::{ArmedState, Gate};
-use lasso_shared::threaded::ThreadedRodeo;
 use lasso_parts::keys::Spur;
 use lasso_parts::util::LassoResult;
+use lasso_shared::threaded::ThreadedRodeo;
 use std::alloc::{AllocError, Global};
 use std::process::Abort;
 use std::sync::Wait;

@@ -2,14 +2,14 @@
 //! for callers.
 ghost use Rattle.std.specs.Prelude.{◌≡◌, ◌≢◌, ◌↔◌, Some, IsTrue, IfOk, option_map};
 
+use lasso_log::log::Pass;
+use lasso_parts::keys::{Key, Spur};
+use lasso_parts::util::{FixedState, LassoResult};
 use lasso_shared::laws::{
     answered_keys_resolve, calls_tell_keys, keys_are_equal_where_texts_are, passes_share_keys,
     seen_texts_keep_keys,
 };
 use lasso_shared::threaded::ThreadedRodeo;
-use lasso_log::log::Pass;
-use lasso_parts::keys::{Key, Spur};
-use lasso_parts::util::{FixedState, LassoResult};
 use std::sync::Wait;
 use std::test::*;
 

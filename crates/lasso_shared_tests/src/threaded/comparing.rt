@@ -1,7 +1,7 @@
 //! An interner that threads share, compared with each form of a list.
-use lasso_shared::threaded::ThreadedRodeo;
 use lasso_parts::keys::Spur;
 use lasso_parts::util::{FixedState, LassoResult};
+use lasso_shared::threaded::ThreadedRodeo;
 use lasso_single::rodeo::Rodeo;
 use std::alloc::Global;
 use std::sync::Wait;

@@ -1,7 +1,7 @@
 //! Copied texts, beside static ones and of two threads.
-use lasso_shared::threaded::ThreadedRodeo;
 use lasso_parts::keys::{Key, MicroSpur, Spur};
 use lasso_parts::util::{Capacity, FixedState, LassoErrorKind, LassoResult, MemoryLimits};
+use lasso_shared::threaded::ThreadedRodeo;
 use std::sync::Wait;
 use std::test::*;
 use std::thread::join;

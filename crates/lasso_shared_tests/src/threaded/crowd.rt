@@ -1,7 +1,7 @@
 //! Four threads, each with texts of its own and texts that all of them have.
-use lasso_shared::threaded::ThreadedRodeo;
 use lasso_parts::keys::Spur;
 use lasso_parts::util::{FixedState, LassoResult};
+use lasso_shared::threaded::ThreadedRodeo;
 use std::alloc::{AllocError, Global};
 use std::process::Abort;
 use std::sync::Wait;

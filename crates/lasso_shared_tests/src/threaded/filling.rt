@@ -1,8 +1,8 @@
 //! An interner that threads share, filled from items.
 use super::Two;
-use lasso_shared::threaded::ThreadedRodeo;
 use lasso_parts::keys::{Key, Spur};
 use lasso_parts::util::{Capacity, FixedState, LassoErrorKind, LassoResult, MemoryLimits};
+use lasso_shared::threaded::ThreadedRodeo;
 use std::test::*;
 use std::thread::join;
 

@@ -1,9 +1,9 @@
 //! Frozen forms of an interner that threads share.
 use super::copied::number;
 use super::gaps::WithoutTwo;
-use lasso_shared::threaded::ThreadedRodeo;
 use lasso_parts::keys::{Key, Spur};
 use lasso_parts::util::{Capacity, FixedState, LassoErrorKind, MemoryLimits};
+use lasso_shared::threaded::ThreadedRodeo;
 use std::test::*;
 use std::thread::join;
 

@@ -1,8 +1,8 @@
 //! A key type that lacks number 2 and has number 3.
 use super::copied::number;
-use lasso_shared::threaded::ThreadedRodeo;
 use lasso_parts::keys::Key;
 use lasso_parts::util::{Capacity, FixedState, LassoErrorKind, MemoryLimits};
+use lasso_shared::threaded::ThreadedRodeo;
 use std::marker::Model;
 use std::test::*;
 

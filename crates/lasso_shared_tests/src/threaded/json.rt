@@ -1,10 +1,10 @@
 //! Rows of reading an interner that threads share from JSON, and what it is afterwards.
 use super::gaps::WithoutTwo;
 use crate::shards::hashers::{FirstState, SameState};
-use lasso_shared::threaded::ThreadedRodeo;
 use lasso_parts::json::JsonError;
 use lasso_parts::keys::{Key, MicroSpur, Spur};
 use lasso_parts::util::FixedState;
+use lasso_shared::threaded::ThreadedRodeo;
 use lasso_single::rodeo::Rodeo;
 use serde_json::{Map, Number, Value};
 use std::alloc::Global;

@@ -1,9 +1,9 @@
 //! What makers open with, and limits that are set and read.
 
 use super::FIRST;
-use lasso_shared::threaded::ThreadedRodeo;
 use lasso_parts::keys::{Key, MicroSpur, Spur};
 use lasso_parts::util::{Capacity, FixedState, LassoResult, MemoryLimits};
+use lasso_shared::threaded::ThreadedRodeo;
 use std::alloc::Global;
 use std::process::Abort;
 use std::sync::Wait;

@@ -1,6 +1,6 @@
 //! Readings, with a pass and without one.
-use lasso_shared::threaded::ThreadedRodeo;
 use lasso_parts::keys::{Key, Spur};
+use lasso_shared::threaded::ThreadedRodeo;
 use std::process::Abort;
 use std::sync::Wait;
 use std::test::*;

@@ -1,9 +1,9 @@
 //! Walks over an interner that threads share.
 use super::FIRST;
 use super::copied::number;
-use lasso_shared::threaded::{Strings, ThreadedRodeo};
 use lasso_parts::keys::{Key, Spur};
 use lasso_parts::util::{Capacity, FixedState, MemoryLimits};
+use lasso_shared::threaded::{Strings, ThreadedRodeo};
 use std::process::Abort;
 use std::sync::Wait;
 use std::test::*;
