@@ -31,16 +31,20 @@ fn one_text_through_a_shared_interner(rt: HostRuntime) -> Result<(), Fail> {
     let mut rodeo: SpurThreadedRodeo = ThreadedRodeo::default(rt.alloc())?;
     one_text::<Spur, _, _>(&rt, &mut rodeo);
     assert_eq!(rt; rodeo.current_memory_usage(&rt), 4096);
+    assert_eq!(rt; rodeo.max_memory_usage(&rt), usize::MAX);
     let shared: SpurThreadedRodeo = ThreadedRodeo::default(rt.alloc())?;
     one_text::<Spur, _, _>(&rt, &mut &shared);
     assert_eq!(rt; shared.current_memory_usage(&rt), 4096);
+    assert_eq!(rt; shared.max_memory_usage(&rt), usize::MAX);
     let mut owned: SpurThreadedRodeo = ThreadedRodeo::default(rt.alloc())?;
     one_text::<Spur, _, _>(&rt, &mut &mut owned);
     assert_eq!(rt; owned.current_memory_usage(&rt), 4096);
+    assert_eq!(rt; owned.max_memory_usage(&rt), usize::MAX);
     let made: SpurThreadedRodeo = ThreadedRodeo::default(rt.alloc())?;
     let mut boxed = Box::new(rt.alloc(), made)?;
     one_text::<Spur, _, _>(&rt, &mut boxed);
     assert_eq!(rt; boxed.current_memory_usage(&rt), 4096);
+    assert_eq!(rt; boxed.max_memory_usage(&rt), usize::MAX);
     Ok(())
 }
 
@@ -49,15 +53,19 @@ fn static_texts_through_a_shared_interner(rt: HostRuntime) -> Result<(), Fail> {
     let mut rodeo = limited(&rt, rt.alloc())?;
     static_texts_under_no_limit::<Spur, _, _>(&rt, &mut rodeo);
     assert_eq!(rt; rodeo.current_memory_usage(&rt), 10);
+    assert_eq!(rt; rodeo.max_memory_usage(&rt), 0);
     let shared = limited(&rt, rt.alloc())?;
     static_texts_under_no_limit::<Spur, _, _>(&rt, &mut &shared);
     assert_eq!(rt; shared.current_memory_usage(&rt), 10);
+    assert_eq!(rt; shared.max_memory_usage(&rt), 0);
     let mut owned = limited(&rt, rt.alloc())?;
     static_texts_under_no_limit::<Spur, _, _>(&rt, &mut &mut owned);
     assert_eq!(rt; owned.current_memory_usage(&rt), 10);
+    assert_eq!(rt; owned.max_memory_usage(&rt), 0);
     let mut boxed = Box::new(rt.alloc(), limited(&rt, rt.alloc())?)?;
     static_texts_under_no_limit::<Spur, _, _>(&rt, &mut boxed);
     assert_eq!(rt; boxed.current_memory_usage(&rt), 10);
+    assert_eq!(rt; boxed.max_memory_usage(&rt), 0);
     Ok(())
 }
 

@@ -185,6 +185,14 @@ fn texts_of_one_shard_and_of_others(rt: HostRuntime) -> Result<(), Fail> {
     Ok(())
 }
 
+// How many slots the spine keeps.
+fn kept_slots<K: Key, R: Wait>(rt: &R, shards: &Shards<K, FixedState>) -> u64 {
+    let (guard, tally) = shards.spine.take(rt);
+    let kept = tally.spine.kept();
+    guard.give(rt, tally);
+    kept
+}
+
 // The number of an interned text, or why it was refused. It is asked for again where memory was wanting, which kept no slot.
 fn number<K: Key, R: Wait>(
     rt: &R,
@@ -195,7 +203,7 @@ fn number<K: Key, R: Wait>(
     let mut reply = shards.intern_static(rt, &mut pass, text);
     if let Err(error) = &reply
         && error.kind() == LassoErrorKind::FailedAllocation
-        && shards.kept_slots(rt) == 0
+        && kept_slots(rt, shards) == 0
     {
         let mut again = shards.log.pass();
         reply = shards.intern_static(rt, &mut again, text);
@@ -216,18 +224,18 @@ fn a_refused_text_gives_its_slot_back(rt: HostRuntime) -> Result<(), Fail> {
     for position in 0..255usize {
         assert_eq!(rt; number(&rt, &shards, TEXTS[position]), Ok(position));
     }
-    assert_eq!(rt; shards.kept_slots(&rt), 0);
+    assert_eq!(rt; kept_slots(&rt, &shards), 0);
     assert_eq!(rt;
         number(&rt, &shards, TEXTS[255]),
         Err(LassoErrorKind::KeySpaceExhaustion)
     );
-    assert_eq!(rt; shards.kept_slots(&rt), 0);
+    assert_eq!(rt; kept_slots(&rt, &shards), 0);
     // no number is left for the empty text either, and the texts that are there keep theirs
     assert_eq!(rt;
         number(&rt, &shards, ""),
         Err(LassoErrorKind::KeySpaceExhaustion)
     );
-    assert_eq!(rt; shards.kept_slots(&rt), 0);
+    assert_eq!(rt; kept_slots(&rt, &shards), 0);
     assert_eq!(rt; number(&rt, &shards, TEXTS[0]), Ok(0));
     Ok(())
 }

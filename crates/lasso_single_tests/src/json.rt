@@ -1,4 +1,4 @@
-//! Rows of reading interners from JSON, what they are written as, and the way through JSON's text and back.
+//! Reading interners from JSON, what they are written as, and the way through JSON's text and back.
 ghost use Rattle.std.specs.Prelude.{◌<◌};
 
 use crate::fixtures::Gap;

@@ -20,6 +20,13 @@ fn positions(reader: &SpurReader) -> (Option<usize>, Option<usize>) {
     )
 }
 
+fn texts(reader: &SpurReader, near: Spur, far: Spur) -> (bool, bool) {
+    (
+        reader.try_resolve(near) == Some("A"),
+        reader.try_resolve(far).is_none(),
+    )
+}
+
 fn is_shared<T: Send + Sync>(_value: &T) {}
 
 // Whatever the keys, the hasher and the allocator are, a reader and its walks cross threads where these do.
@@ -41,6 +48,15 @@ fn two_threads_share_a_reader(rt: HostRuntime) -> Result<(), Fail> {
     assert_eq!(rt; here, (Some(0), None));
     assert_eq!(rt; there, (Some(0), None));
     assert_eq!(rt; positions(&reader), (Some(0), None));
+    let near = Spur::try_from_usize(0).ok_or("no key")?;
+    let far = Spur::try_from_usize(10).ok_or("no key")?;
+    let (here, there) = thread::join(
+        &rt,
+        || texts(&reader, near, far),
+        || texts(&reader, near, far),
+    );
+    assert_eq!(rt; here, (true, true));
+    assert_eq!(rt; there, (true, true));
     Ok(())
 }
 

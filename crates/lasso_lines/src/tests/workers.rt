@@ -69,6 +69,25 @@ fn words_set_the_limit_of_workers(rt: HostRuntime) -> Result<(), Fail> {
     Ok(())
 }
 
+// The limit leaves just the bytes of the second line behind the first bucket, and with one less it leaves too few.
+#[test]
+fn a_limit_leaves_room_for_another_bucket(rt: HostRuntime) -> Result<(), Fail> {
+    let input = with_long_line(&rt, b"b\n", b"\n")?;
+    let output = with_long_line(&rt, b"", b"\nb\n")?;
+    let words = owned_words(&rt, &["--workers", "2", "--limit", "8193"])?;
+    let mut reader = MemoryReader::new(&input);
+    let mut writer = MemoryWriter::new(rt.alloc());
+    assert!(rt; run_words(&rt, &words, &mut reader, &mut writer) == Ok(()));
+    assert!(rt; writer.into_bytes() == output);
+    let words = owned_words(&rt, &["--workers", "2", "--limit", "8192"])?;
+    let mut reader = MemoryReader::new(&input);
+    let mut writer = MemoryWriter::new(rt.alloc());
+    let ended = run_words(&rt, &words, &mut reader, &mut writer);
+    assert_fault(&rt, ended, SECOND_REFUSED, 1)?;
+    assert!(rt; writer.into_bytes().is_empty());
+    Ok(())
+}
+
 #[test]
 fn distinct_lines_in_order(rt: HostRuntime) -> Result<(), Fail> {
     let cases: [(&[u8], &[u8]); 8] = [
@@ -180,6 +199,34 @@ fn lines_go_to_workers_in_turn(rt: HostRuntime) -> Result<(), Fail> {
     Ok(())
 }
 
+// Keeps the greatest number of a worker that entered, plus one.
+#[derive(Drop)]
+struct Highest {
+    count: AtomicUsize,
+}
+
+impl Gate for Highest {
+    fn enter(&self, worker: usize) {
+        self.count.fetch_max(worker + 1, Ordering::SeqCst);
+    }
+}
+
+#[test]
+fn each_of_many_workers_has_a_line(rt: HostRuntime) -> Result<(), Fail> {
+    let input = [b'\n'; 64];
+    for workers in [1usize, 4, 64] {
+        let highest = Highest {
+            count: AtomicUsize::new(0),
+        };
+        let mut reader = MemoryReader::new(&input);
+        let mut writer = MemoryWriter::new(rt.alloc());
+        let ended = run_workers(&rt, &mut reader, &mut writer, no_limit(), workers, &highest);
+        assert!(rt; ended == Ok(()));
+        assert_eq!(rt; highest.count.load(Ordering::SeqCst), workers);
+    }
+    Ok(())
+}
+
 // The worker of the second line is refused there, and never enters for the fourth; the first one enters for the first and the third.
 #[test]
 fn the_second_line_goes_to_the_second_worker(rt: HostRuntime) -> Result<(), Fail> {
@@ -212,9 +259,16 @@ fn a_line_that_is_not_text_decides(rt: HostRuntime) -> Result<(), Fail> {
         assert!(rt; writer.into_bytes().is_empty());
         assert!(rt; turnstile.counts() == [0, 0, 0]);
     }
-    let (text, ended) = run_over(&rt, b"\xff\n\xfe", no_limit(), 2);
-    assert_fault(&rt, ended, "line 1: not UTF-8", 2)?;
-    assert!(rt; text.is_empty());
+    let rows: [(&[u8], &str); 3] = [
+        (b"\xff\n\xfe", "line 1: not UTF-8"),
+        (b"a\n\xff", "line 2: not UTF-8"),
+        (b"a\nb\nc\xc3", "line 3: not UTF-8"),
+    ];
+    for (input, wanted) in rows {
+        let (text, ended) = run_over(&rt, input, no_limit(), 2);
+        assert_fault(&rt, ended, wanted, 2)?;
+        assert!(rt; text.is_empty());
+    }
     Ok(())
 }
 

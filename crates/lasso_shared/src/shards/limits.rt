@@ -1,4 +1,4 @@
-//! Usage, limit and kept slots, by the spine.
+//! Usage and limit, by the spine.
 ghost use Rattle.std.specs.Prelude.{◌≡◌, ◌∷◌, []};
 ghost use Rattle.lasso_log.specs.History.{Limit};
 ghost use Rattle.lasso_log.specs.Notes.{Since, state};
@@ -47,14 +47,5 @@ impl<K: Key, S: BuildHasher + Drop> Shards<K, S> {
         let (guard, mut tally) = self.spine.take(rt);
         self.log.set_limit(rt, &mut tally.spine, pass, limit);
         guard.give(rt, tally);
-    }
-
-    /// How many positions of the list are kept at this moment for texts that are on their way: 0 where no call is under way. It takes no
-    /// memory. It waits for the spine.
-    pub fn kept_slots<R: Wait>(&self, rt: &R) -> u64 {
-        let (guard, tally) = self.spine.take(rt);
-        let kept = tally.spine.kept();
-        guard.give(rt, tally);
-        kept
     }
 }

@@ -29,7 +29,7 @@ impl<K: Key, S: BuildHasher + Drop> Fits for Shard<K, S> {
 /// The spine, and how many texts each shard has in the history that the spine has seen.
 #[derive(Drop)]
 pub struct Tally<K: Key, S: BuildHasher + Drop> {
-    pub(super) spine: Spine<K>,
+    pub spine: Spine<K>,
     pub(super) counts: [u64; 16],
     pub(super) of: PhantomData<S>,
 }

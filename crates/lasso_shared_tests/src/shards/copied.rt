@@ -1,7 +1,7 @@
 //! Copied texts: what they take of the buckets, and what refuses them.
 ghost use Rattle.std.specs.Prelude.{◌≢◌};
 
-use super::TEXTS;
+use super::{TEXTS, kept_slots};
 use lasso_log::log::Opened;
 use lasso_parts::keys::{Key, MicroSpur, Spur};
 use lasso_parts::util::{FixedState, LassoErrorKind, LassoResult};
@@ -41,7 +41,7 @@ fn number<K: Key, R: Wait>(
     let mut reply = shards.intern_copied(rt, &mut pass, text);
     if let Err(error) = &reply
         && error.kind() == LassoErrorKind::FailedAllocation
-        && shards.kept_slots(rt) == 0
+        && kept_slots(rt, shards) == 0
         && usage(rt, shards) == before
     {
         let mut again = shards.log.pass();
@@ -63,7 +63,7 @@ fn bytes_are_taken_where_a_bucket_has_room(rt: HostRuntime) -> Result<(), Fail> 
     // the first bucket has room for one byte still
     assert_eq!(rt; number(&rt, &shards, "x"), Ok(2));
     assert_eq!(rt; usage(&rt, &shards), 12);
-    assert_eq!(rt; shards.kept_slots(&rt), 0);
+    assert_eq!(rt; kept_slots(&rt, &shards), 0);
     Ok(())
 }
 
@@ -78,11 +78,13 @@ fn the_limit_refuses_what_no_bucket_has_room_for(rt: HostRuntime) -> Result<(), 
         Err(LassoErrorKind::MemoryLimitReached)
     );
     assert_eq!(rt; usage(&rt, &shards), 12);
-    assert_eq!(rt; shards.kept_slots(&rt), 0);
+    assert_eq!(rt; kept_slots(&rt, &shards), 0);
     set_limit(&rt, &shards, 14);
     assert_eq!(rt; usage(&rt, &shards), 12);
     assert_eq!(rt; number(&rt, &shards, "yz"), Ok(3));
     assert_eq!(rt; usage(&rt, &shards), 14);
+    let last = shards.buckets.find(&rt, &shards.log, 2);
+    assert_eq!(rt; last.capacity(), 2);
     Ok(())
 }
 
@@ -108,7 +110,7 @@ fn limit_and_keys_are_used_up_together(rt: HostRuntime) -> Result<(), Fail> {
         Err(LassoErrorKind::KeySpaceExhaustion)
     );
     assert_eq!(rt; usage(&rt, &shards), 765);
-    assert_eq!(rt; shards.kept_slots(&rt), 0);
+    assert_eq!(rt; kept_slots(&rt, &shards), 0);
     Ok(())
 }
 
@@ -131,6 +133,6 @@ fn bytes_are_taken_before_the_key_type_is_asked(rt: HostRuntime) -> Result<(), F
     );
     assert_eq!(rt; number(&rt, &shards, TEXTS[7]), Ok(7));
     assert_eq!(rt; usage(&rt, &shards), 4);
-    assert_eq!(rt; shards.kept_slots(&rt), 0);
+    assert_eq!(rt; kept_slots(&rt, &shards), 0);
     Ok(())
 }

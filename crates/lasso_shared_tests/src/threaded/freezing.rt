@@ -70,6 +70,14 @@ fn two_threads_read_a_reader(rt: HostRuntime) -> Result<(), Fail> {
     assert_eq!(rt; key.into_usize(), 0);
     assert!(rt; here == (Some(key), None));
     assert!(rt; there == (Some(key), None));
+    let past = Spur::try_from_usize(10).ok_or("no key")?;
+    let (here, there) = join(
+        &rt,
+        || (reader.try_resolve(key), reader.try_resolve(past)),
+        || (reader.try_resolve(key), reader.try_resolve(past)),
+    );
+    assert!(rt; here == (Some("A"), None));
+    assert!(rt; there == (Some("A"), None));
     Ok(())
 }
 
