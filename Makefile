@@ -20,8 +20,8 @@ $(PROGRAM): $(SOURCES)
 	@rm -f crates/lasso_lines/out.log
 	@touch $(PROGRAM)
 
-# As many checks at a time as there are processors, and 5 GB of free memory for each: the largest seen took 3.7. Left to itself rt reckons
-# with three times as much for the largest crate, and two checks at a time leave cores idle.
+# As many checks at a time as there are processors, and 5 GB of free memory for each: the largest seen took 5.3, most take 1 to 3. Left to itself
+# rt reckons with 8 for the largest crate, and two checks at a time leave cores idle.
 AT_ONCE = $(shell awk -v most=$$(nproc) '/^MemAvailable/ { n = int($$2 / 5000000); print n < 1 ? 1 : n < most ? n : most }' /proc/meminfo)
 
 test:

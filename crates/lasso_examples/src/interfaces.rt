@@ -71,7 +71,7 @@ pub fn resolves_one_text<K: Key, R: Abort, T: Resolver<K>>(rt: &R, resolver: &T)
     assert!(rt; looks_up_alike(resolver, first) && looks_up_alike(resolver, second));
 }
 
-/// The rest of a row, after `abc` under a limit of 0 bytes: the limit refuses a copied text alone.
+/// What an interner with `abc` alone answers under a limit of 0 bytes: the limit refuses a copied text alone.
 pub fn static_texts_under_no_limit<K: Key, R: Abort + Wait, I: Interner<K>>(
     rt: &R,
     interner: &mut I,

@@ -1,6 +1,6 @@
 //! The shards of an interner that opens with texts: which texts are of which shard, and an index of each shard's.
 //!
-//! The texts are hashed once. Then each shard takes those of its number, in the order of their positions: one walk over the hashes for
+//! The texts are hashed once to find their shards. Then each shard takes those of its number, in the order of their positions: one walk over the hashes for
 //! each of the sixteen.
 ghost use Rattle.std.specs.Prelude.{◌≡◌, ◌<◌, [], ℕ, Some, IfOk, IfErr, length, map, slice_get};
 ghost use Rattle.lasso_parts.specs.Hashing.{text_hash};

@@ -1,4 +1,4 @@
-//! Rows of reading an interner that threads share from JSON, and what it is afterwards.
+//! Reading an interner that threads share from JSON, and what it is afterwards.
 use super::gaps::WithoutTwo;
 use crate::shards::hashers::{FirstState, SameState};
 use lasso_parts::json::JsonError;
