@@ -161,13 +161,17 @@ lines_with_workers() {
     lines_in_turn "$LINES_PROGRAM" --workers 2 -- "$@"
 }
 
-# Whether lasso_lines takes a number of workers.
-lines_take_workers() {
-    "$LINES_PROGRAM" --workers 2 < /dev/null > /dev/null 2>&1
+# Whether what a program of so many words wrote before it was refused memory may stand: of workers nothing, else a beginning.
+are_of_lines_before() {
+    if [ "$1" -gt 1 ]; then
+        [ ! -s "$OUT/answers" ]
+    else
+        begins "$OUT/answers" "$OUT/usual"
+    fi
 }
 
-# Runs the words before `--` over the lines behind it. A refusal ends the program at a line, after the answers to lines before it, or
-# makes no difference.
+# Runs the words before `--` over the lines behind it. A refusal ends the program at a line, after the answers to lines before it
+# and with workers after none, or makes no difference.
 lines_in_turn() {
     local number=1 program=()
     while [ "$1" != -- ]; do
@@ -183,7 +187,7 @@ lines_in_turn() {
     while run "$number" "$OUT/input" "${program[@]}" && [ -s "$OUT/told" ]; do
         if [ "$status" -eq 0 ] && cmp -s "$OUT/usual" "$OUT/answers" && [ ! -s "$OUT/error" ]; then
             unneeded=$((unneeded + 1))
-        elif [ "$status" -eq 1 ] && begins "$OUT/answers" "$OUT/usual" && grep -qx "$LINES_ERROR" "$OUT/error"; then
+        elif [ "$status" -eq 1 ] && are_of_lines_before "${#program[@]}" && grep -qx "$LINES_ERROR" "$OUT/error"; then
             ended=$((ended + 1))
         else
             fail "request $number refused"
