@@ -207,7 +207,8 @@ struct Highest {
 
 impl Gate for Highest {
     fn enter(&self, worker: usize) {
-        self.count.fetch_max(worker + 1, Ordering::SeqCst);
+        self.count
+            .fetch_max(worker.saturating_add(1), Ordering::SeqCst);
     }
 }
 
