@@ -197,30 +197,55 @@ fn are_found<S: BuildHasher + Drop, R: Wait>(rt: &R, shared: &ThreadedRodeo<Spur
     true
 }
 
-// Whether what is read from the value has each text for both of two threads, and no other.
-fn has_all<S: BuildHasher + Default + Send + Sync + Drop, R: Threads + Wait + Sync>(
+// Whether there are as many texts as the list has, and another is not among them.
+fn has_no_other<S: BuildHasher + Drop, R: Wait>(rt: &R, shared: &ThreadedRodeo<Spur, S>) -> bool {
+    shared.get(rt, "none").is_none() && shared.len() == 40
+}
+
+// Whether two threads find each text in what is read from the value, and no other, where texts are of several shards.
+fn found_in_several_shards<R: Threads + Wait + Sync>(
     rt: &R,
     alloc: Global,
     value: &Value,
 ) -> Result<bool, Fail> {
-    let shared: ThreadedRodeo<Spur, S> = ThreadedRodeo::deserialize(alloc, value)?;
+    let shared: ThreadedRodeo<Spur, FixedState> = ThreadedRodeo::deserialize(alloc, value)?;
     let (here, there) = join(rt, || are_found(rt, &shared), || are_found(rt, &shared));
-    let none = shared.get(rt, "none");
-    Ok(here && there && none.is_none() && shared.len() == 40)
+    Ok(here && there && has_no_other(rt, &shared))
 }
 
-// Texts of several shards, of one shard, and of shards by their first bytes.
+// Whether two threads find each text in what is read from the value, and no other, where texts are of one shard.
+fn found_in_one_shard<R: Threads + Wait + Sync>(
+    rt: &R,
+    alloc: Global,
+    value: &Value,
+) -> Result<bool, Fail> {
+    let shared: ThreadedRodeo<Spur, SameState> = ThreadedRodeo::deserialize(alloc, value)?;
+    let (here, there) = join(rt, || are_found(rt, &shared), || are_found(rt, &shared));
+    Ok(here && there && has_no_other(rt, &shared))
+}
+
+// Whether two threads find each text in what is read from the value, and no other, where texts are of shards by their first bytes.
+fn found_by_first_bytes<R: Threads + Wait + Sync>(
+    rt: &R,
+    alloc: Global,
+    value: &Value,
+) -> Result<bool, Fail> {
+    let shared: ThreadedRodeo<Spur, FirstState> = ThreadedRodeo::deserialize(alloc, value)?;
+    let (here, there) = join(rt, || are_found(rt, &shared), || are_found(rt, &shared));
+    Ok(here && there && has_no_other(rt, &shared))
+}
+
 #[test]
 fn each_text_is_found_by_each_thread(rt: HostRuntime) -> Result<(), Fail> {
     let rodeo: Rodeo<Spur, FixedState, Global> = Rodeo::from_iter(rt.alloc(), TEXTS)?;
     let array = rodeo.serialize(rt.alloc())?;
-    assert!(rt; has_all::<FixedState, _>(&rt, rt.alloc(), &array)?);
-    assert!(rt; has_all::<SameState, _>(&rt, rt.alloc(), &array)?);
-    assert!(rt; has_all::<FirstState, _>(&rt, rt.alloc(), &array)?);
+    assert!(rt; found_in_several_shards(&rt, rt.alloc(), &array)?);
+    assert!(rt; found_in_one_shard(&rt, rt.alloc(), &array)?);
+    assert!(rt; found_by_first_bytes(&rt, rt.alloc(), &array)?);
     let object = SpurThreadedRodeo::deserialize(rt.alloc(), &array)?.serialize(rt.alloc())?;
     assert!(rt; object.as_object().is_some());
-    assert!(rt; has_all::<FixedState, _>(&rt, rt.alloc(), &object)?);
-    assert!(rt; has_all::<SameState, _>(&rt, rt.alloc(), &object)?);
-    assert!(rt; has_all::<FirstState, _>(&rt, rt.alloc(), &object)?);
+    assert!(rt; found_in_several_shards(&rt, rt.alloc(), &object)?);
+    assert!(rt; found_in_one_shard(&rt, rt.alloc(), &object)?);
+    assert!(rt; found_by_first_bytes(&rt, rt.alloc(), &object)?);
     Ok(())
 }
