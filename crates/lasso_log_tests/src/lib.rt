@@ -4,6 +4,7 @@
 
 #[cfg(test)]
 mod chunks;
+pub mod counts;
 #[cfg(test)]
 mod locks;
 #[cfg(test)]

@@ -2,48 +2,12 @@
 
 ghost use Rattle.std.specs.Prelude.{◌≡◌, ◌≤◌};
 
+use crate::counts::{Count, count_in, count_up};
 use counted_slot::Fits;
 use lasso_log::locks::{TaggedMutex, TaggedRwLock};
 use std::sync::Wait;
 use std::test::*;
 use std::thread::join;
-
-// A number up to the lock's tag.
-#[derive(Drop)]
-struct Count {
-    number: u64,
-}
-
-impl Fits for Count {
-    type Tag = u64;
-
-    ghost use Rattle.std.specs.Prelude.{◌≤◌};
-
-    ghost fits = { λ most count. count.number ≤ most };
-}
-
-// Counts up by one, that many times.
-fn count_up<R: Wait>(rt: &R, lock: &TaggedMutex<Count>, times: u32)
-    requires { lock.now ≡ 5000 }
-{
-    for _ in 0..times {
-        let (taken, mut count) = lock.take(rt);
-        if count.number < 5000 {
-            count.number += 1;
-        }
-        taken.give(rt, count);
-    }
-}
-
-fn count_in<R: Wait>(rt: &R, lock: &TaggedMutex<Count>) -> u64
-    requires { lock.now ≡ 5000 }
-    ensures { result ≤ 5000 }
-{
-    let (taken, count) = lock.take(rt);
-    let number = count.number;
-    taken.give(rt, count);
-    number
-}
 
 #[test]
 fn a_taken_value_is_given_back(rt: HostRuntime) {

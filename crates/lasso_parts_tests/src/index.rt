@@ -1,9 +1,7 @@
 //! What no clause says of an index: which texts are hashed again, which are read, and that a constant hasher serves.
 ghost use Rattle.lasso_parts.specs.Index.{IsFiledAnywhere};
 
-mod hashers;
-
-use hashers::{CountedTexts, CountingState, LengthState, SameState};
+use crate::hashers::{CountedTexts, CountingState, LengthState, SameState};
 use lasso_parts::index::key_slots::KeySlots;
 use lasso_parts::index::{Index, hash_text};
 use lasso_parts::keys::{Key, Spur};

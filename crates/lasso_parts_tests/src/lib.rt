@@ -6,6 +6,7 @@
 mod arena;
 #[cfg(test)]
 mod bucket;
+pub mod hashers;
 #[cfg(test)]
 mod index;
 #[cfg(test)]

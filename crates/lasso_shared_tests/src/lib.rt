@@ -1,6 +1,7 @@
 //! Tests of the interner that threads share and of its shards, by their public calls alone.
 #![tactic(auto)]
 
+pub mod hashers;
 #[cfg(test)]
 mod shards;
 #[cfg(test)]

@@ -3,10 +3,9 @@ ghost use Rattle.std.specs.Prelude.{◌≡◌};
 
 mod armed;
 mod copied;
-pub(crate) mod hashers;
 mod writers;
 
-use hashers::{FirstState, SameState};
+use crate::hashers::{FirstState, SameState};
 use lasso_log::log::Opened;
 use lasso_parts::index::hash_text;
 use lasso_parts::keys::{Key, MicroSpur, Spur};

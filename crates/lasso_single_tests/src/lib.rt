@@ -3,8 +3,7 @@
 
 #[cfg(test)]
 mod commands;
-#[cfg(test)]
-mod fixtures;
+pub mod fixtures;
 #[cfg(test)]
 mod json;
 #[cfg(test)]

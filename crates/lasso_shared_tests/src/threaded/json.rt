@@ -1,6 +1,6 @@
 //! Reading an interner that threads share from JSON, and what it is afterwards.
 use super::gaps::WithoutTwo;
-use crate::shards::hashers::{FirstState, SameState};
+use crate::hashers::{FirstState, SameState};
 use lasso_parts::json::JsonError;
 use lasso_parts::keys::{Key, MicroSpur, Spur};
 use lasso_parts::util::FixedState;

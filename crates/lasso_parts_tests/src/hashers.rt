@@ -7,10 +7,10 @@ use lasso_parts::index::Texts;
 use std::cell::Cell;
 use std::hash::{BuildHasher, BuildHasherDefault, FoldHasher, Hasher};
 
-// Makes hashers that answer 0.
+/// Makes hashers that answer 0.
 pub type SameState = BuildHasherDefault<SameHasher>;
 
-// Answers 0 for each text.
+/// Answers 0 for each text.
 #[derive(Clone, Copy)]
 pub struct SameHasher {
     answer: u64,
@@ -36,7 +36,7 @@ impl Hasher for SameHasher {
     fn write(&mut self, _bytes: &[u8]) {}
 }
 
-// Counts the texts that it is asked to hash.
+/// Counts the texts that it is asked to hash.
 #[derive(Clone, Copy)]
 pub struct CountingState<'a> {
     asked: &'a Cell<u64>,
@@ -59,11 +59,11 @@ impl BuildHasher for CountingState<'_> {
     }
 }
 
-// Makes hashers that answer by a text's length.
+/// Makes hashers that answer by a text's length.
 pub type LengthState = BuildHasherDefault<LengthHasher>;
 
-// Counts the bytes that it is given, from the first bit of a tag on: texts of two lengths below 127 have two tags, and all
-// searches begin at one slot.
+/// Counts the bytes that it is given, from the first bit of a tag on: texts of two lengths below 127 have two tags, and all
+/// searches begin at one slot.
 #[derive(Clone, Copy)]
 pub struct LengthHasher {
     answer: u64,
@@ -92,7 +92,7 @@ impl Hasher for LengthHasher {
     }
 }
 
-// A list of texts that counts how often one is read.
+/// A list of texts that counts how often one is read.
 #[derive(Clone, Copy)]
 pub struct CountedTexts<'a> {
     texts: &'a [&'a str],

@@ -3,10 +3,10 @@ ghost use Rattle.std.specs.Prelude.{⊤};
 
 use std::hash::{BuildHasherDefault, Hasher};
 
-// Makes hashers that answer 0.
+/// Makes hashers that answer 0.
 pub type SameState = BuildHasherDefault<SameHasher>;
 
-// Answers 0 for each text.
+/// Answers 0 for each text.
 #[derive(Clone, Copy)]
 pub struct SameHasher {
     answer: u64,
@@ -32,10 +32,10 @@ impl Hasher for SameHasher {
     fn write(&mut self, _bytes: &[u8]) {}
 }
 
-// Makes hashers that answer a text's first byte times 2^56.
+/// Makes hashers that answer a text's first byte times 2^56.
 pub type FirstState = BuildHasherDefault<FirstHasher>;
 
-// Answers the first byte that it is given, times 2^56.
+/// Answers the first byte that it is given, times 2^56.
 #[derive(Clone, Copy)]
 pub struct FirstHasher {
     begun: bool,

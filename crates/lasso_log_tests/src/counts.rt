@@ -1,0 +1,45 @@
+//! A number behind a lock whose tag it never passes, for tests.
+
+ghost use Rattle.std.specs.Prelude.{◌≡◌, ◌≤◌};
+
+use counted_slot::Fits;
+use lasso_log::locks::TaggedMutex;
+use std::sync::Wait;
+
+/// A number up to the lock's tag.
+#[derive(Drop)]
+pub struct Count {
+    pub number: u64,
+}
+
+impl Fits for Count {
+    type Tag = u64;
+
+    ghost use Rattle.std.specs.Prelude.{◌≤◌};
+
+    ghost fits = { λ most count. count.number ≤ most };
+}
+
+/// Counts up by one, that many times, and no further than 5000.
+pub fn count_up<R: Wait>(rt: &R, lock: &TaggedMutex<Count>, times: u32)
+    requires { lock.now ≡ 5000 }
+{
+    for _ in 0..times {
+        let (taken, mut count) = lock.take(rt);
+        if count.number < 5000 {
+            count.number += 1;
+        }
+        taken.give(rt, count);
+    }
+}
+
+/// The number in the lock.
+pub fn count_in<R: Wait>(rt: &R, lock: &TaggedMutex<Count>) -> u64
+    requires { lock.now ≡ 5000 }
+    ensures { result ≤ 5000 }
+{
+    let (taken, count) = lock.take(rt);
+    let number = count.number;
+    taken.give(rt, count);
+    number
+}
