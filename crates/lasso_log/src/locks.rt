@@ -7,17 +7,28 @@
 //! A holder has the value itself, and gives it back before the next one can have it. What a holder has beside
 //! the value can't be let go but by giving a value back. No lock is poisoned: a panic under one ends the
 //! process, where the runtime is the host's.
+//!
+//! The slot's word says who may come: it has `FREE` or `PRESENT` while the value is there, with the number of its readers, `MARKED` while
+//! a writer waits for those, and `OUT` while a holder has the value. Who finds a lock taken looks a few times more, and then stands in its queue,
+//! whose first looks on and lets other threads run between.
 ghost use Rattle.std.specs.Prelude.{◌≡◌, ◌⊎◌, true, Some, IfSome};
 ghost use Rattle.lasso_log.specs.Locks.{has_value};
 
-use counted_slot::{Claim, Counted, FREE, Fits, MOST_READERS, ONE_READER, PRESENT, TAKEN};
+use counted_slot::{Claim, Counted, FREE, Fits, MARKED, MOST_READERS, ONE_READER, PRESENT, TAKEN};
 use std::hint::spin_loop;
 use std::marker::Model;
-use std::sync::{Mutex, MutexGuard, RwLock, RwLockReadGuard, RwLockWriteGuard, Wait};
+use std::sync::{Mutex, Wait};
+use std::thread::yield_now;
+
+// The word of a slot whose value a holder has: a writer may come to put it back, and nobody else comes by this word.
+const OUT: u64 = 0x1_0000_0000;
+
+// How often a thread looks before it stands in a queue. What a holder does takes about as long, and less than going to sleep.
+const LOOKS: u32 = 100;
 
 /// A value that one thread at a time has. Where the value must be spent the lock must be, by `into_inner`.
 pub struct TaggedMutex<X: Fits> {
-    lock: Mutex<()>,
+    queue: Mutex<()>,
     slot: Counted<Option<X>>,
 }
 
@@ -33,7 +44,6 @@ impl<X: Fits> Model for TaggedMutex<X> {
 /// lock's tag.
 pub struct TaggedMutexGuard<'a, X: Fits> {
     lock: &'a TaggedMutex<X>,
-    guard: MutexGuard<'a, ()>,
 }
 
 impl<'a, X: Fits> Model for TaggedMutexGuard<'a, X> {
@@ -57,7 +67,7 @@ impl<X: Fits> TaggedMutex<X> {
         ensures { result ≡ tag.now }
     {
         TaggedMutex {
-            lock: Mutex::new(()),
+            queue: Mutex::new(()),
             slot: Counted::new(Some(value), tag),
         }
     }
@@ -66,12 +76,18 @@ impl<X: Fits> TaggedMutex<X> {
     pub fn take<R: Wait>(&self, rt: &R) -> (TaggedMutexGuard<'_, X>, X)
         ensures { (result.0 ≡ self.now) × X.fits self.now result.1 }
     {
-        let guard = self.lock.lock(rt);
-        for _ in rt.forever() {
-            if let Some(value) = pull(&self.slot, FREE) {
-                return (TaggedMutexGuard { lock: self, guard }, value);
+        for _ in 0..LOOKS {
+            if let Some(value) = pull(&self.slot) {
+                return (TaggedMutexGuard { lock: self }, value);
             }
             spin_loop();
+        }
+        let _first = self.queue.lock(rt);
+        for _ in rt.forever() {
+            if let Some(value) = pull(&self.slot) {
+                return (TaggedMutexGuard { lock: self }, value);
+            }
+            yield_now();
         }
         unreachable!()
     }
@@ -82,8 +98,8 @@ impl<X: Fits> TaggedMutex<X> {
     pub fn into_inner(self) -> Option<X>
         ensures { IfSome result (λ x. X.fits self x) }
     {
-        let TaggedMutex { lock, slot } = self;
-        drop(lock);
+        let TaggedMutex { queue, slot } = self;
+        drop(queue);
         slot.into_inner()
     }
 }
@@ -93,16 +109,15 @@ impl<'a, X: Fits> TaggedMutexGuard<'a, X> {
     pub fn give<R: Wait>(self, rt: &R, value: X)
         requires { X.fits self value }
     {
-        let TaggedMutexGuard { lock, guard } = self;
+        let TaggedMutexGuard { lock } = self;
         push(&lock.slot, rt, value, FREE);
-        drop(guard);
     }
 }
 
 /// A value that many threads read at once, or one has.
 #[derive(Drop)]
 pub struct TaggedRwLock<X: Fits + Drop> {
-    lock: RwLock<()>,
+    queue: Mutex<()>,
     slot: Counted<Option<X>>,
 }
 
@@ -116,7 +131,6 @@ impl<X: Fits + Drop> Model for TaggedRwLock<X> {
 
 /// A reader's hold of a value. It ends by `leave`.
 pub struct TaggedRwLockReadGuard<'a, X: Fits + Drop> {
-    guard: RwLockReadGuard<'a, ()>,
     claim: Claim<'a, Option<X>>,
     ghost right: { claim.right ≡ 1 },
     ghost there: { has_value claim.value ≡ true },
@@ -136,7 +150,6 @@ impl<'a, X: Fits + Drop> Model for TaggedRwLockReadGuard<'a, X> {
 /// lock's tag.
 pub struct TaggedRwLockWriteGuard<'a, X: Fits + Drop> {
     lock: &'a TaggedRwLock<X>,
-    guard: RwLockWriteGuard<'a, ()>,
 }
 
 impl<'a, X: Fits + Drop> Model for TaggedRwLockWriteGuard<'a, X> {
@@ -154,45 +167,64 @@ impl<X: Fits + Drop> TaggedRwLock<X> {
         ensures { result ≡ tag.now }
     {
         TaggedRwLock {
-            lock: RwLock::new(()),
+            queue: Mutex::new(()),
             slot: Counted::new(Some(value), tag),
         }
     }
 
-    /// Takes the lock to read, beside other readers.
+    /// Takes the lock to read, beside other readers. No reader comes while a writer that stands in the queue waits for those that are there.
     pub fn read<R: Wait>(&self, rt: &R) -> TaggedRwLockReadGuard<'_, X>
         ensures { result.tag ≡ self.now }
     {
-        let guard = self.lock.read(rt);
-        for _ in rt.forever() {
-            if let Some(claim) = enter(&self.slot) {
-                if claim.get().is_some() {
-                    return TaggedRwLockReadGuard { guard, claim };
-                }
-                claim.leave();
-            }
-            // Nobody has read or changed the value yet, or another reader is at this.
-            if let Some(value) = pull(&self.slot, FREE) {
-                push(&self.slot, rt, value, PRESENT);
+        for _ in 0..LOOKS {
+            if let Some(reading) = self.try_read() {
+                return reading;
             }
             spin_loop();
         }
+        let _first = self.queue.lock(rt);
+        for _ in rt.forever() {
+            if let Some(reading) = self.try_read() {
+                return reading;
+            }
+            // Nobody has read or changed the value yet.
+            if let Some(value) = pull(&self.slot) {
+                push(&self.slot, rt, value, PRESENT);
+            }
+            yield_now();
+        }
         unreachable!()
+    }
+
+    // A reader's hold of the value, where readers may come.
+    fn try_read(&self) -> Option<TaggedRwLockReadGuard<'_, X>>
+        ensures { IfSome result (λ r. r.tag ≡ self.now) }
+    {
+        let claim = enter(&self.slot)?;
+        if claim.get().is_some() {
+            return Some(TaggedRwLockReadGuard { claim });
+        }
+        claim.leave();
+        None
     }
 
     /// Takes the lock to change the value, and the value.
     pub fn take<R: Wait>(&self, rt: &R) -> (TaggedRwLockWriteGuard<'_, X>, X)
         ensures { (result.0 ≡ self.now) × X.fits self.now result.1 }
     {
-        let guard = self.lock.write(rt);
-        for _ in rt.forever() {
-            if let Some(value) = pull(&self.slot, PRESENT) {
-                return (TaggedRwLockWriteGuard { lock: self, guard }, value);
-            }
-            if let Some(value) = pull(&self.slot, FREE) {
-                return (TaggedRwLockWriteGuard { lock: self, guard }, value);
+        for _ in 0..LOOKS {
+            if let Some(value) = pull(&self.slot) {
+                return (TaggedRwLockWriteGuard { lock: self }, value);
             }
             spin_loop();
+        }
+        let _first = self.queue.lock(rt);
+        for _ in rt.forever() {
+            if let Some(value) = pull(&self.slot) {
+                return (TaggedRwLockWriteGuard { lock: self }, value);
+            }
+            keep_readers_out(&self.slot);
+            yield_now();
         }
         unreachable!()
     }
@@ -203,9 +235,8 @@ impl<'a, X: Fits + Drop> TaggedRwLockWriteGuard<'a, X> {
     pub fn give<R: Wait>(self, rt: &R, value: X)
         requires { X.fits self value }
     {
-        let TaggedRwLockWriteGuard { lock, guard } = self;
+        let TaggedRwLockWriteGuard { lock } = self;
         push(&lock.slot, rt, value, PRESENT);
-        drop(guard);
     }
 }
 
@@ -222,34 +253,36 @@ impl<'a, X: Fits + Drop> TaggedRwLockReadGuard<'a, X> {
 
     /// Ends the reading.
     pub fn leave(self) {
-        let TaggedRwLockReadGuard { guard, claim } = self;
+        let TaggedRwLockReadGuard { claim } = self;
         let _was = claim.leave();
-        drop(guard);
     }
 }
 
-// Takes the value out, where the slot's word is this one and there is a value.
-fn pull<X: Fits>(slot: &Counted<Option<X>>, word: u64) -> Option<X>
-    requires { (word ≡ 0) ⊎ (word ≡ 1) }
+// Takes the value out, where it is there and nobody reads it.
+fn pull<X: Fits>(slot: &Counted<Option<X>>) -> Option<X>
     ensures { IfSome result (λ x. X.fits slot.now x) }
 {
+    let word = slot.load();
+    if word > MARKED {
+        return None;
+    }
     let (found, claim) = slot.turn(word, TAKEN);
     if found == word {
-        claim.put(None, FREE)
+        claim.put(None, OUT)
     } else {
         claim.done();
         None
     }
 }
 
-// Puts the value into the slot, and leaves it with this word. It waits where the slot has another value.
+// Puts the value back into the slot that it was taken out of, and leaves it with this word. It waits where the slot has a value.
 fn push<X: Fits, R: Wait>(slot: &Counted<Option<X>>, rt: &R, value: X, word: u64)
     requires { ((word ≡ 0) ⊎ (word ≡ 1)) × X.fits slot.now value }
 {
     let mut value = value;
     for _ in rt.forever() {
-        let (found, claim) = slot.turn(FREE, TAKEN);
-        if found == FREE {
+        let (found, claim) = slot.turn(OUT, TAKEN);
+        if found == OUT {
             let Some(other) = claim.put(Some(value), word) else {
                 return;
             };
@@ -260,6 +293,15 @@ fn push<X: Fits, R: Wait>(slot: &Counted<Option<X>>, rt: &R, value: X, word: u64
         spin_loop();
     }
     unreachable!()
+}
+
+// Marks the value that is read, so that no reader comes before a writer.
+fn keep_readers_out<X: Fits>(slot: &Counted<Option<X>>) {
+    let word = slot.load();
+    if word % 4 == PRESENT {
+        let (_found, claim) = slot.turn(word, word + 1);
+        claim.done();
+    }
 }
 
 // Counts one reader more, where readers may come and the count does not end.

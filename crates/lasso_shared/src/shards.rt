@@ -18,7 +18,7 @@ pub mod shard;
 mod store;
 pub mod tag;
 
-use crate::shards::shard::{Shard, Tally};
+use crate::shards::shard::{BoxedTally, Shard};
 use lasso_log::locks::{TaggedMutex, TaggedRwLock};
 use lasso_log::log::Log;
 use lasso_log::shared_arena::bucket_list::BucketList;
@@ -32,7 +32,7 @@ pub struct Shards<K: Key, S: BuildHasher + Drop> {
     pub log: Log<K>,
     pub hasher: S,
     shards: Vec<TaggedRwLock<Shard<K, S>>>,
-    pub spine: TaggedMutex<Tally<K, S>>,
+    pub spine: TaggedMutex<BoxedTally<K, S>>,
     pub buckets: BucketList<K>,
     alloc: Global,
     ghost all: { length shards.items ≡ 16 },

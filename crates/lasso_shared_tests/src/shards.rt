@@ -186,9 +186,9 @@ fn texts_of_one_shard_and_of_others(rt: HostRuntime) -> Result<(), Fail> {
 
 // How many slots the spine keeps.
 fn kept_slots<K: Key, R: Wait>(rt: &R, shards: &Shards<K, FixedState>) -> u64 {
-    let (guard, tally) = shards.spine.take(rt);
-    let kept = tally.spine.kept();
-    guard.give(rt, tally);
+    let (guard, held) = shards.spine.take(rt);
+    let kept = held.tally.spine.kept();
+    guard.give(rt, held);
     kept
 }
 

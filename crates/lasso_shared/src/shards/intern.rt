@@ -42,7 +42,6 @@ impl<K: Key, S: BuildHasher + Drop> Shards<K, S> {
         if let Some(key) = self.find(shard, pass, hash, text) {
             return Ok(key);
         }
-        self.see_whole(rt, shard, pass, number_of(hash));
         match self.make_room(rt, shard, pass, number_of(hash)) {
             Ok(slot) => self.put_last(rt, shard, pass, slot, hash, Piece::lasting(text)),
             Err(error) => Err(error),
@@ -68,7 +67,6 @@ impl<K: Key, S: BuildHasher + Drop> Shards<K, S> {
         if let Some(key) = self.find(shard, pass, hash, text) {
             return Ok(key);
         }
-        self.see_whole(rt, shard, pass, number_of(hash));
         let slot = match self.make_room(rt, shard, pass, number_of(hash)) {
             Ok(slot) => slot,
             Err(error) => return Err(error),

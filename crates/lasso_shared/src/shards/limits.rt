@@ -18,9 +18,9 @@ impl<K: Key, S: BuildHasher + Drop> Shards<K, S> {
         ensures since { Since pass.old.number pass.old.notes pass.new.notes [] }
         ensures reply { result ≡ (state self.now.log.opening pass.new.notes).usage }
     {
-        let (guard, tally) = self.spine.take(rt);
-        let usage = self.log.usage(rt, &tally.spine, pass);
-        guard.give(rt, tally);
+        let (guard, held) = self.spine.take(rt);
+        let usage = self.log.usage(rt, &held.tally.spine, pass);
+        guard.give(rt, held);
         usage
     }
 
@@ -31,9 +31,9 @@ impl<K: Key, S: BuildHasher + Drop> Shards<K, S> {
         ensures since { Since pass.old.number pass.old.notes pass.new.notes [] }
         ensures reply { result ≡ (state self.now.log.opening pass.new.notes).limit }
     {
-        let (guard, tally) = self.spine.take(rt);
-        let limit = self.log.max_usage(rt, &tally.spine, pass);
-        guard.give(rt, tally);
+        let (guard, held) = self.spine.take(rt);
+        let limit = self.log.max_usage(rt, &held.tally.spine, pass);
+        guard.give(rt, held);
         limit
     }
 
@@ -44,8 +44,8 @@ impl<K: Key, S: BuildHasher + Drop> Shards<K, S> {
         ensures same { IsSamePass pass.new pass.old }
         ensures event { Since pass.old.number pass.old.notes pass.new.notes (Limit limit ∷ []) }
     {
-        let (guard, mut tally) = self.spine.take(rt);
-        self.log.set_limit(rt, &mut tally.spine, pass, limit);
-        guard.give(rt, tally);
+        let (guard, mut held) = self.spine.take(rt);
+        self.log.set_limit(rt, &mut held.tally.spine, pass, limit);
+        guard.give(rt, held);
     }
 }

@@ -120,12 +120,12 @@ impl<K: Key, S: BuildHasher + Drop> Shards<K, S> {
         ensures whole { IsWhole (text_hash S.build_hasher S.Hasher.write S.Hasher.finish self.now.hasher) number self.now.log shard.now.known.notes pass.new.notes }
     {
         for _ in rt.forever() {
-            let (guard, tally) = self.spine.take(rt);
-            if self.is_whole(&tally, shard, pass, number) {
-                guard.give(rt, tally);
+            let (guard, held) = self.spine.take(rt);
+            if self.is_whole(&held.tally, shard, pass, number) {
+                guard.give(rt, held);
                 return;
             }
-            guard.give(rt, tally);
+            guard.give(rt, held);
         }
         unreachable!()
     }

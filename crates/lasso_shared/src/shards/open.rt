@@ -8,7 +8,7 @@ ghost use Rattle.lasso_log.specs.Openings.{OpeningView, opening_with};
 
 use crate::shards::Shards;
 use crate::shards::building::NewShards;
-use crate::shards::shard::Tally;
+use crate::shards::shard::BoxedTally;
 use crate::shards::tag::ShardTag;
 use lasso_log::locks::TaggedMutex;
 use lasso_log::log::{Log, NewLog, Opened, OpeningTexts};
@@ -18,7 +18,6 @@ use lasso_parts::util::LassoResult;
 use lasso_single::room::one_bucket;
 use std::alloc::Global;
 use std::hash::BuildHasher;
-use std::marker::PhantomData;
 
 impl<K: Key, S: BuildHasher + Drop> Shards<K, S> {
     /// The log, the first bucket, the locks and the spine of an interner that holds nothing. It is refused for want of memory alone.
@@ -76,11 +75,7 @@ impl<K: Key, S: BuildHasher + Drop> Shards<K, S> {
             number: 0,
         };
         let NewShards { locks, counts } = tag.shards(alloc, spine.len() as usize)?;
-        let tally = Tally {
-            spine,
-            counts,
-            of: PhantomData,
-        };
+        let tally = BoxedTally::new(alloc, spine, counts)?;
         let spine = TaggedMutex::new(tally, &tag);
         let ShardTag {
             log,

@@ -3,7 +3,7 @@
 //! Room is made in the index, and a slot of the log is kept. The key type is asked, the text is appended, and its position is entered
 //! into the index. The spine is let go between these, and the shard is held: so what was looked up stays, what was stored is not
 //! stored again, and a retry looks at numbers alone.
-ghost use Rattle.std.specs.Prelude.{◌≡◌, ◌<◌, ◌-◌, IfOk, IfErr};
+ghost use Rattle.std.specs.Prelude.{◌≡◌, ◌<◌, ◌-◌, [], IfOk, IfErr, OnOk};
 ghost use base.Fml.{Incl};
 ghost use mathlib.Core.List.{IsPrefix};
 ghost use Rattle.lasso_parts.specs.declared.util.LassoErrorKind.TheVariants.{FailedAllocation};
@@ -12,6 +12,7 @@ ghost use Rattle.lasso_parts.specs.Index.{room};
 ghost use Rattle.lasso_log.specs.Chunks.{era_named};
 ghost use Rattle.lasso_log.specs.Eras.{life};
 ghost use Rattle.lasso_log.specs.History.{Lacks};
+ghost use Rattle.lasso_log.specs.Notes.{Since};
 ghost use Rattle.lasso_log.specs.Pieces.{PieceView};
 ghost use Rattle.lasso_shared.specs.Shards.{IsShard, IsTally, IsWhole, PutsLast, shard_of};
 ghost use Rattle.lasso_log.specs.Views.{PassView, InternerId, IsSamePass, list_of};
@@ -27,37 +28,86 @@ use std::hash::BuildHasher;
 use std::sync::Wait;
 
 impl<K: Key, S: BuildHasher + Drop> Shards<K, S> {
-    // Makes room in the shard's index, and keeps a slot. Want of memory keeps none, and the shard has the texts that it had.
-    pub(super) fn make_room<R: Wait>(
-        &self,
-        rt: &R,
-        shard: &mut Shard<K, S>,
-        pass: &Pass<K>,
-        number: usize,
-    ) -> LassoResult<KeptSlot<K>>
+    // Makes room in the shard's index. After want of memory the shard has the texts that it had.
+    fn grow(&self, shard: &mut Shard<K, S>, pass: &Pass<K>, number: usize) -> LassoResult<()>
         requires of { pass.now.of ≡ self.now.log }
         requires held { IsShard (text_hash S.build_hasher S.Hasher.write S.Hasher.finish self.now.hasher) number self.now.log shard.old.known shard.old.index shard.old.count }
         requires begins { IsPrefix shard.old.known.notes pass.now.notes }
         ensures held { IsShard (text_hash S.build_hasher S.Hasher.write S.Hasher.finish self.now.hasher) number self.now.log shard.new.known shard.new.index shard.new.count }
         ensures known { shard.new.known ≡ shard.old.known }
-        ensures room { IfOk result (λ slot. (slot ≡ self.now.log) × (0 < room shard.new.index.slots)) }
+        ensures room { OnOk result (0 < room shard.new.index.slots) }
         ensures refused { IfErr result (λ error. error ≡ FailedAllocation) }
     {
         let seen_texts = self.log.seen_texts(pass);
         shard.index.reserve_one(&seen_texts, &self.hasher)?;
-        let (guard, mut tally) = self.spine.take(rt);
-        let slot = self.log.reserve_next(self.alloc, &mut tally.spine);
-        guard.give(rt, tally);
-        slot
+        Ok(())
+    }
+
+    // Keeps a slot once the shard is whole for what the pass has then seen. Want of memory keeps none.
+    fn keep_slot<R: Wait>(
+        &self,
+        rt: &R,
+        shard: &Shard<K, S>,
+        pass: &mut Pass<K>,
+        number: usize,
+    ) -> LassoResult<KeptSlot<K>>
+        requires of { (pass.old.of ≡ self.now.log) × (number < 16) }
+        requires held { IsShard (text_hash S.build_hasher S.Hasher.write S.Hasher.finish self.now.hasher) number self.now.log shard.now.known shard.now.index shard.now.count }
+        requires begins { IsPrefix shard.now.known.notes pass.old.notes }
+        ensures same { IsSamePass pass.new pass.old }
+        ensures since { Since pass.old.number pass.old.notes pass.new.notes [] }
+        ensures whole { IsWhole (text_hash S.build_hasher S.Hasher.write S.Hasher.finish self.now.hasher) number self.now.log shard.now.known.notes pass.new.notes }
+        ensures slot { IfOk result (λ slot. slot ≡ self.now.log) }
+        ensures refused { IfErr result (λ error. error ≡ FailedAllocation) }
+    {
+        for _ in rt.forever() {
+            let (guard, mut held) = self.spine.take(rt);
+            if self.is_whole(&held.tally, shard, pass, number) {
+                let slot = self.log.reserve_next(self.alloc, &mut held.tally.spine);
+                guard.give(rt, held);
+                return slot;
+            }
+            guard.give(rt, held);
+        }
+        unreachable!()
+    }
+
+    // Makes room in the shard's index, and keeps a slot; the shard is whole for what the pass has then seen. Want of memory keeps no slot, and
+    // the shard has the texts that it had.
+    pub(super) fn make_room<R: Wait>(
+        &self,
+        rt: &R,
+        shard: &mut Shard<K, S>,
+        pass: &mut Pass<K>,
+        number: usize,
+    ) -> LassoResult<KeptSlot<K>>
+        requires of { (pass.old.of ≡ self.now.log) × (number < 16) }
+        requires held { IsShard (text_hash S.build_hasher S.Hasher.write S.Hasher.finish self.now.hasher) number self.now.log shard.old.known shard.old.index shard.old.count }
+        requires begins { IsPrefix shard.old.known.notes pass.old.notes }
+        ensures same { IsSamePass pass.new pass.old }
+        ensures since { Since pass.old.number pass.old.notes pass.new.notes [] }
+        ensures held { IsShard (text_hash S.build_hasher S.Hasher.write S.Hasher.finish self.now.hasher) number self.now.log shard.new.known shard.new.index shard.new.count }
+        ensures known { shard.new.known ≡ shard.old.known }
+        ensures whole { IsWhole (text_hash S.build_hasher S.Hasher.write S.Hasher.finish self.now.hasher) number self.now.log shard.old.known.notes pass.new.notes }
+        ensures room { IfOk result (λ slot. (slot ≡ self.now.log) × (0 < room shard.new.index.slots)) }
+        ensures refused { IfErr result (λ error. error ≡ FailedAllocation) }
+    {
+        match self.grow(shard, pass, number) {
+            Ok(()) => self.keep_slot(rt, shard, pass, number),
+            Err(error) => {
+                self.see_whole(rt, shard, pass, number);
+                Err(error)
+            }
+        }
     }
 
     // Gives a slot back.
     pub(super) fn give_back<R: Wait>(&self, rt: &R, slot: KeptSlot<K>)
         requires { slot ≡ self.now.log }
     {
-        let (guard, mut tally) = self.spine.take(rt);
-        tally.spine.give_back(slot);
-        guard.give(rt, tally);
+        let (guard, mut held) = self.spine.take(rt);
+        held.tally.spine.give_back(slot);
+        guard.give(rt, held);
     }
 
     // Puts the text last, where the shard is whole for what the pass has seen, and the spine has seen that list. Where the key
@@ -123,13 +173,13 @@ impl<K: Key, S: BuildHasher + Drop> Shards<K, S> {
         ensures held { IsShard (text_hash S.build_hasher S.Hasher.write S.Hasher.finish self.now.hasher) (shard_of hash) self.now.log shard.new.known shard.new.index shard.new.count }
     {
         for _ in rt.forever() {
-            let (guard, mut tally) = self.spine.take(rt);
-            if self.is_whole(&tally, shard, pass, number_of(hash)) {
-                let reply = self.append_at(rt, &mut tally, shard, pass, slot, hash, text);
-                guard.give(rt, tally);
+            let (guard, mut held) = self.spine.take(rt);
+            if self.is_whole(&held.tally, shard, pass, number_of(hash)) {
+                let reply = self.append_at(rt, &mut held.tally, shard, pass, slot, hash, text);
+                guard.give(rt, held);
                 return reply;
             }
-            guard.give(rt, tally);
+            guard.give(rt, held);
         }
         unreachable!()
     }

@@ -1,9 +1,13 @@
 //! What lies under the locks: a shard, and the spine with the shards' numbers.
+ghost use Rattle.std.specs.Prelude.{◌≡◌, IfOk, IfErr};
+ghost use Rattle.lasso_parts.specs.declared.util.LassoErrorKind.TheVariants.{FailedAllocation};
+
 use crate::shards::tag::ShardTag;
 use counted_slot::Fits;
 use lasso_log::log::{Known, Spine};
 use lasso_parts::index::Index;
 use lasso_parts::keys::Key;
+use lasso_parts::util::LassoResult;
 use std::alloc::Global;
 use std::hash::BuildHasher;
 use std::marker::PhantomData;
@@ -34,11 +38,35 @@ pub struct Tally<K: Key, S: BuildHasher + Drop> {
     pub(super) of: PhantomData<S>,
 }
 
-impl<K: Key, S: BuildHasher + Drop> Fits for Tally<K, S> {
+/// What the spine's lock keeps. It is a box, so that who takes the lock moves a pointer and not the numbers.
+#[derive(Drop)]
+pub struct BoxedTally<K: Key, S: BuildHasher + Drop> {
+    pub tally: Box<Tally<K, S>>,
+}
+
+impl<K: Key, S: BuildHasher + Drop> BoxedTally<K, S> {
+    // A tally with these numbers. It is refused for want of memory alone.
+    pub(super) fn new(alloc: Global, spine: Spine<K>, counts: [u64; 16]) -> LassoResult<Self>
+        ensures spine { IfOk result (λ b. b.tally.value.spine ≡ spine) }
+        ensures counts { IfOk result (λ b. b.tally.value.counts ≡ counts) }
+        ensures refused { IfErr result (λ error. error ≡ FailedAllocation) }
+    {
+        let tally = Tally {
+            spine,
+            counts,
+            of: PhantomData,
+        };
+        Ok(BoxedTally {
+            tally: Box::new(alloc, tally)?,
+        })
+    }
+}
+
+impl<K: Key, S: BuildHasher + Drop> Fits for BoxedTally<K, S> {
     type Tag = ShardTag<K, S>;
 
     ghost use Rattle.lasso_parts.specs.Hashing.{text_hash};
     ghost use Rattle.lasso_shared.specs.Shards.{IsTally};
 
-    ghost fits = { λ tag t. IsTally (text_hash S.build_hasher S.Hasher.write S.Hasher.finish tag.hasher) tag.log t.spine t.counts };
+    ghost fits = { λ tag b. IsTally (text_hash S.build_hasher S.Hasher.write S.Hasher.finish tag.hasher) tag.log b.tally.value.spine b.tally.value.counts };
 }

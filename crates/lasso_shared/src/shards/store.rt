@@ -82,13 +82,14 @@ impl<K: Key, S: BuildHasher + Drop> Shards<K, S> {
             return Ok(range);
         }
         for _ in rt.forever() {
-            let (guard, mut tally) = self.spine.take(rt);
-            if self.is_whole(&tally, shard, pass, number_of(hash)) {
-                let range = self.reserve_or_charge(rt, &mut tally, pass, bytes);
-                guard.give(rt, tally);
+            let (guard, mut held) = self.spine.take(rt);
+            let tally: &mut Tally<K, S> = &mut held.tally;
+            if self.is_whole(tally, shard, pass, number_of(hash)) {
+                let range = self.reserve_or_charge(rt, tally, pass, bytes);
+                guard.give(rt, held);
                 return range;
             }
-            guard.give(rt, tally);
+            guard.give(rt, held);
         }
         unreachable!()
     }

@@ -16,29 +16,29 @@ use Rattle.lasso_shared.proofs.shards.Shards.intern_copied_held.Goals as goal
 
 pub returns-in-Err-clause-call : goal.returns-in-Err-clause-call
 returns-in-Err-clause-call g c =
-    let since = since_both c.args.pass.now.number c.find.new.pass.number c.args.pass.now.notes c.find.new.pass.notes c.see_whole.new.pass.notes c.find.ensures.same.0 c.find.ensures.since c.see_whole.ensures.since in
+    let since = since_both c.args.pass.now.number c.find.new.pass.number c.args.pass.now.notes c.find.new.pass.notes c.make_room.new.pass.notes c.find.ensures.same.0 c.find.ensures.since c.make_room.ensures.since in
     let hash_of = text_hash g.S.BuildHasher.build_hasher g.S.Hasher.Hasher.write g.S.Hasher.Hasher.finish c.args.self.now.hasher in
     let t = c.args.text.now in
     let log = c.args.self.now.log in
     let is : is_in hash_of c.number_of.result t ≡ true = rw c.number_of.ensures.0 (is_home hash_of c.args.hash t c.requires.hashed) in
-    let lacks : Lacks (list_of log c.see_whole.new.pass.notes) t =
-    exact_lacks hash_of c.number_of.result log c.args.shard.now.known.notes c.see_whole.new.pass.notes c.see_whole.ensures.whole t is c.requires.held.exact.distinct c.in_default.ensures.missing in
-    rw c.in-Err.ensures.refused (called_wanting g.K.Key.key_at log c.args.pass.now.number Copied c.args.pass.now.notes c.see_whole.new.pass.notes t since lacks)
+    let lacks : Lacks (list_of log c.make_room.new.pass.notes) t =
+    exact_lacks hash_of c.number_of.result log c.args.shard.now.known.notes c.make_room.new.pass.notes c.make_room.ensures.whole t is c.requires.held.exact.distinct c.in_default.ensures.missing in
+    rw c.in-Err.ensures.refused (called_wanting g.K.Key.key_at log c.args.pass.now.number Copied c.args.pass.now.notes c.make_room.new.pass.notes t since lacks)
 
 pub returns-in-Ok-store-clause-call : goal.returns-in-Ok-store-clause-call
 returns-in-Ok-store-clause-call g c =
-    let since = since_both c.args.pass.now.number c.find.new.pass.number c.args.pass.now.notes c.find.new.pass.notes c.see_whole.new.pass.notes c.find.ensures.same.0 c.find.ensures.since c.see_whole.ensures.since in
+    let since = since_both c.args.pass.now.number c.find.new.pass.number c.args.pass.now.notes c.find.new.pass.notes c.make_room.new.pass.notes c.find.ensures.same.0 c.find.ensures.since c.make_room.ensures.since in
     let p = c.args.pass.now.number in
     let log = c.args.self.now.log in
     let t = c.args.text.now in
     let before = c.args.pass.now.notes in
-    let mid = c.see_whole.new.pass.notes in
+    let mid = c.make_room.new.pass.notes in
     let filled = c.store.new.pass.notes in
     let after = c.put_last.new.pass.notes in
     let r = c.put_last.result in
     let piece = c.in-Ok-store.piece in
     let stored = c.in-Ok-store.ensures.event in
-    let same : c.see_whole.new.pass.number ≡ p = c.see_whole.ensures.same.0 ∙ c.find.ensures.same.0 in
+    let same : c.make_room.new.pass.number ≡ p = c.make_room.ensures.same.0 ∙ c.find.ensures.same.0 in
     let event : Since p before filled stored.0 = since_trans p before mid filled stored.0 since (subst (λ (n : ℕ). Since n mid filled stored.0) same stored.2) in
     let put : PutsLast g.K.Key.key_at log p filled after t r =
     subst (λ (x : Text). PutsLast g.K.Key.key_at log p filled after x r) c.in-Ok-store.ensures.piece.0 (subst (λ (n : ℕ). PutsLast g.K.Key.key_at log n filled after piece.text r) (c.store.ensures.same.0 ∙ same) c.put_last.ensures.put) in
@@ -46,12 +46,12 @@ returns-in-Ok-store-clause-call g c =
 
 pub returns-in-Err-store-clause-call : goal.returns-in-Err-store-clause-call
 returns-in-Err-store-clause-call g c =
-    let since = since_both c.args.pass.now.number c.find.new.pass.number c.args.pass.now.notes c.find.new.pass.notes c.see_whole.new.pass.notes c.find.ensures.same.0 c.find.ensures.since c.see_whole.ensures.since in
+    let since = since_both c.args.pass.now.number c.find.new.pass.number c.args.pass.now.notes c.find.new.pass.notes c.make_room.new.pass.notes c.find.ensures.same.0 c.find.ensures.since c.make_room.ensures.since in
     let p = c.args.pass.now.number in
     let o = c.args.self.now.log.opening in
     let q = Intern Copied c.args.text.now in
     let r = Interned (Err c.in-Err-store.error) in
     let after = seen c.store.new.pass in
-    let same : c.see_whole.new.pass.number ≡ p = c.see_whole.ensures.same.0 ∙ c.find.ensures.same.0 in
-    let call : IsCall g.K.Key.key_at o (seen c.see_whole.new.pass) after p q r = subst (λ (n : ℕ). IsCall g.K.Key.key_at o (seen c.see_whole.new.pass) after n q r) same c.in-Err-store.ensures.refused in
-    called_later g.K.Key.key_at o p c.args.pass.now.notes c.see_whole.new.pass.notes after q r since call
+    let same : c.make_room.new.pass.number ≡ p = c.make_room.ensures.same.0 ∙ c.find.ensures.same.0 in
+    let call : IsCall g.K.Key.key_at o (seen c.make_room.new.pass) after p q r = subst (λ (n : ℕ). IsCall g.K.Key.key_at o (seen c.make_room.new.pass) after n q r) same c.in-Err-store.ensures.refused in
+    called_later g.K.Key.key_at o p c.args.pass.now.notes c.make_room.new.pass.notes after q r since call

@@ -23,8 +23,9 @@ new-spine-requires g c =
     let made = c.open_with-log.ensures in
     let log = c.open_with-log.result.log in
     let told = c.in_ok-locks.ensures.counts in
+    let tally = c.in_ok-tally.ensures in
     let hash_of = text_hash g.S.BuildHasher.build_hasher g.S.Hasher.Hasher.write g.S.Hasher.Hasher.finish c.args.hasher in record {
-      mine = made.spine.0 ∙ sym c.shards.ensures.same.0;
-      all = told.0;
-      counts_each = rw (c.shards.ensures.same.0, c.shards.ensures.same.1) (subst (λ (ts : List Text). Counts hash_of ts c.in_ok-locks.field-0.counts) (sym (ap (list_of log) made.spine.1)) told.1);
+      mine = rw tally.spine (made.spine.0 ∙ sym c.shards.ensures.same.0);
+      all = rw tally.counts told.0;
+      counts_each = rw (tally.spine, tally.counts, c.shards.ensures.same.0, c.shards.ensures.same.1) (subst (λ (ts : List Text). Counts hash_of ts c.in_ok-locks.field-0.counts) (sym (ap (list_of log) made.spine.1)) told.1);
     }

@@ -5,7 +5,7 @@ use Rattle.lasso_parts.specs.Index.{IsFiled}
 use Rattle.lasso_log.specs.Views.{list_of}
 use Rattle.lasso_log.proofs.Lengths.{texts_past}
 use Rattle.lasso_shared.proofs.Whole.{filed_later, reserved}
-use Rattle.lasso_shared.proofs.shards.Shards.make_room.Goals as goal
+use Rattle.lasso_shared.proofs.shards.Shards.grow.Goals as goal
 
 pub reserve_one-requires : goal.reserve_one-requires
 reserve_one-requires g c =
