@@ -197,3 +197,31 @@ lines_in_turn() {
     [ "$number" -gt 1 ] && [ "$status" -eq 0 ] && cmp -s "$OUT/usual" "$OUT/answers" || fail "a run with no request of number $number"
     refused=$((refused + number - 1))
 }
+
+# Runs a script of lasso_refused with each request refused in turn. The program says itself at which call memory was wanting and that all
+# stands then; or it ends before the script begins, or a request makes no difference. At some call memory has to be wanting.
+calls() {
+    local number=1 name=$1 stood=0
+    scripts=$((scripts + 1))
+    echo "$name" > "$OUT/input"
+    run 0 /dev/null "$REFUSED_PROGRAM" "$name"
+    [ "$status" -eq 0 ] && [ "$(cat "$OUT/answers")" = "$name: as worked" ] && [ ! -s "$OUT/told" ] || fail "a run without a refusal"
+    while run "$number" /dev/null "$REFUSED_PROGRAM" "$name" && [ -s "$OUT/told" ]; do
+        if [ "$status" -eq 1 ] && [ ! -s "$OUT/answers" ] && [ "$(cat "$OUT/error")" = "$REPLAY_ERROR" ]; then
+            ended=$((ended + 1))
+        elif [ "$status" -ne 0 ] || [ -s "$OUT/error" ]; then
+            fail "request $number refused"
+        elif [ "$(cat "$OUT/answers")" = "$name: as worked" ]; then
+            unneeded=$((unneeded + 1))
+        elif grep -qx "$name refused at .*: stands" "$OUT/answers"; then
+            stood=$((stood + 1))
+            cat "$OUT/answers" >> "$OUT/calls"
+        else
+            fail "request $number refused"
+        fi
+        number=$((number + 1))
+    done
+    [ "$stood" -gt 0 ] && [ "$status" -eq 0 ] && [ "$(cat "$OUT/answers")" = "$name: as worked" ] || fail "a run with no request of number $number"
+    replied=$((replied + stood))
+    refused=$((refused + number - 1))
+}

@@ -1,0 +1,76 @@
+//! A script that makes an interner that threads share in each way.
+
+use crate::refusals::{Call, Fault, Refused, twice};
+use crate::stories::{Interner, State, Story, Way};
+use lasso::{Capacity, FixedState, LassoResult, MemoryLimits, Spur, ThreadedRodeo};
+use std::alloc::Global;
+use std::sync::Wait;
+
+// The makers, by what they are given.
+#[derive(Clone, Copy)]
+enum Maker {
+    Default,
+    New,
+    Capacity,
+    Limits,
+    CapacityAndLimits,
+    Hasher,
+    CapacityAndHasher,
+    All,
+}
+
+// Each maker, its name, and the bytes of the first bucket.
+const MAKERS: [(Maker, &str, usize); 8] = [
+    (Maker::Default, "default", 4096),
+    (Maker::New, "new", 4096),
+    (Maker::Capacity, "with_capacity", 4),
+    (Maker::Limits, "with_memory_limits", 4096),
+    (
+        Maker::CapacityAndLimits,
+        "with_capacity_and_memory_limits",
+        4,
+    ),
+    (Maker::Hasher, "with_hasher", 4096),
+    (Maker::CapacityAndHasher, "with_capacity_and_hasher", 4),
+    (Maker::All, "with_capacity_memory_limits_and_hasher", 4),
+];
+
+/// An interner by each maker, in which a text is then interned.
+pub fn makers<R: AllocGlobal + Wait>(rt: &R, refused: &mut Refused) -> Result<(), Fault> {
+    for (maker, name, usage) in MAKERS {
+        let interner = twice!(refused, Call::of(name), make(rt.alloc(), maker), true);
+        let after = State { texts: 1, usage };
+        let story = Story {
+            bytes: usage,
+            limit: usize::MAX,
+            way: Way::Copied,
+            list: &["a"],
+            steps: &[("a", Ok(0), after)],
+        };
+        let start = State { texts: 0, usage };
+        story.intern_steps(rt, refused, &interner, start)?;
+    }
+    Ok(())
+}
+
+fn make(alloc: Global, maker: Maker) -> LassoResult<Interner<Spur>> {
+    let capacity = Capacity::for_bytes(4);
+    let limits = MemoryLimits::new(4);
+    let hasher = FixedState::new();
+    match maker {
+        Maker::Default => ThreadedRodeo::default(alloc),
+        Maker::New => ThreadedRodeo::new(alloc),
+        Maker::Capacity => ThreadedRodeo::with_capacity(alloc, capacity),
+        Maker::Limits => ThreadedRodeo::with_memory_limits(alloc, limits),
+        Maker::CapacityAndLimits => {
+            ThreadedRodeo::with_capacity_and_memory_limits(alloc, capacity, limits)
+        }
+        Maker::Hasher => ThreadedRodeo::with_hasher(alloc, hasher),
+        Maker::CapacityAndHasher => {
+            ThreadedRodeo::with_capacity_and_hasher(alloc, capacity, hasher)
+        }
+        Maker::All => ThreadedRodeo::with_capacity_memory_limits_and_hasher(
+            alloc, capacity, limits, hasher,
+        ),
+    }
+}
