@@ -33,11 +33,11 @@ type Metered<'a, K> = Rodeo<K, FixedState, &'a Memory>;
 const MOST: u64 = 1000;
 
 // Runs the script with its first request refused, then with its second, until a run meets no refusal.
-fn each_refused<R: AllocGlobal + Abort>(
+fn each_refused<R: AllocGlobal + Abort, F: Fn(&R, &Memory) -> Result<(), Fail> + Drop>(
     rt: &R,
-    script: fn(&R, &Memory) -> Result<(), Fail>,
+    script: F,
 ) -> Result<(), Fail>
-    requires { IsAlwaysCallable script }
+    requires { F.IsAlwaysCallable script }
 {
     for refused in 1..MOST {
         let memory = Refusing::new(rt.alloc(), refused);
