@@ -143,7 +143,13 @@ fn past_the_keys<R: AllocGlobal + Abort>(rt: &R, memory: &Memory) -> Result<(), 
     let Some(mut rodeo) = interner::<Gap<2>>(rt, memory, 4, 4) else {
         return Ok(());
     };
-    let rows = [("p", Ok(0)), ("q", Ok(1)), ("r", Err(KEYS)), ("r", Err(KEYS)), ("q", Ok(1))];
+    let rows = [
+        ("p", Ok(0)),
+        ("q", Ok(1)),
+        ("r", Err(KEYS)),
+        ("r", Err(KEYS)),
+        ("q", Ok(1)),
+    ];
     for (text, wanted) in rows {
         gives(rt, &mut rodeo, text, wanted);
     }

@@ -17,13 +17,17 @@ fn refuses(requests: &Requests, size: usize) -> bool {
     if number == requests.refused {
         return true;
     }
-    requests.bytes_out.set(requests.bytes_out.get().wrapping_add(size));
+    requests
+        .bytes_out
+        .set(requests.bytes_out.get().wrapping_add(size));
     false
 }
 
 // Notes that so many bytes came back.
 fn takes_back(requests: &Requests, size: usize) {
-    requests.bytes_out.set(requests.bytes_out.get().wrapping_sub(size));
+    requests
+        .bytes_out
+        .set(requests.bytes_out.get().wrapping_sub(size));
 }
 
 /// Memory of another allocator, of which one request is refused. A `&` to it is an allocator too, that of the

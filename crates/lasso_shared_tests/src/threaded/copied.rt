@@ -74,13 +74,12 @@ fn uses_keys_up<S: BuildHasher + Default + Drop, R: AllocGlobal + Wait + Abort>(
     rt: &R,
 ) -> Result<(), Fail> {
     let (room, limits) = (Capacity::for_bytes(655), MemoryLimits::new(655));
-    let shared: ThreadedRodeo<MicroSpur, S> =
-        ThreadedRodeo::with_capacity_memory_limits_and_hasher(
-            rt.alloc(),
-            room,
-            limits,
-            S::default(),
-        )?;
+    let shared: ThreadedRodeo<MicroSpur, S> = ThreadedRodeo::with_capacity_memory_limits_and_hasher(
+        rt.alloc(),
+        room,
+        limits,
+        S::default(),
+    )?;
     for position in 0..255usize {
         let text = format!(in rt.alloc(); "{position}")?;
         assert_eq!(rt; number(rt, &shared, text.as_str()), Ok(position));

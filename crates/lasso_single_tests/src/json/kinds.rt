@@ -63,7 +63,11 @@ fn wrong_with<R: AllocGlobal + Abort>(rt: &R, json: &str) -> Result<Option<JsonE
 fn each_kind_in_each_place(rt: HostRuntime) -> Result<(), Fail> {
     for (kind, text, alone) in KINDS {
         assert_eq!(rt; wrong_with(&rt, kind)?, alone, "{kind}");
-        for (before, behind, at) in [("[", "]", 0), (r#"["z","#, "]", 1), ("[", r#","z",null]"#, 0)] {
+        for (before, behind, at) in [
+            ("[", "]", 0),
+            (r#"["z","#, "]", 1),
+            ("[", r#","z",null]"#, 0),
+        ] {
             let json = format!(in rt.alloc(); "{before}{kind}{behind}")?;
             let wanted = match text {
                 None => Some(JsonError::NotText(at)),
@@ -115,6 +119,12 @@ fn texts_of_a_million_bytes(rt: HostRuntime) -> Result<(), Fail> {
     let lengths = resolver.strings().map(|text| text.len());
     assert_eq!(rt; lengths.max(), Some(1_000_000));
     assert_eq!(rt; resolver.len(), 2);
-    assert_eq!(rt; fault(SpurRodeo::deserialize(rt.alloc(), &Value::String("a".repeat(rt.alloc(), 1_000_000)?))), NO_ARRAY);
+    assert_eq!(rt;
+        fault(SpurRodeo::deserialize(
+            rt.alloc(),
+            &Value::String("a".repeat(rt.alloc(), 1_000_000)?)
+        )),
+        NO_ARRAY
+    );
     Ok(())
 }

@@ -9,7 +9,10 @@ fn extended_to_the_limit<R: AllocGlobal + Abort>(rt: &R, memory: &Memory) -> Res
     let mut refusal = rodeo.extend(items).err().ok_or("not refused")?;
     if refusal.kind() != LIMIT {
         is_refused(rt, memory, refusal.kind());
-        let before = ["ab", "cd"].as_slice().get(..rodeo.len()).ok_or("too many")?;
+        let before = ["ab", "cd"]
+            .as_slice()
+            .get(..rodeo.len())
+            .ok_or("too many")?;
         holds(rt, &rodeo, before, 4);
         refusal = rodeo.extend(items).err().ok_or("not refused")?;
     }

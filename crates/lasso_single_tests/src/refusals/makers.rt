@@ -3,7 +3,11 @@ use super::*;
 
 // The maker of this number.
 fn by_maker<'a>(memory: &'a Memory, maker: usize) -> LassoResult<Metered<'a, Spur>> {
-    let (room, limits, hasher) = (Capacity::new(3, 10), MemoryLimits::new(20), FixedState::new());
+    let (room, limits, hasher) = (
+        Capacity::new(3, 10),
+        MemoryLimits::new(20),
+        FixedState::new(),
+    );
     match maker {
         0 => Rodeo::default(memory),
         1 => Rodeo::new(memory),
@@ -42,7 +46,10 @@ fn copies(rt: &impl Abort, memory: &Memory, maker: usize, usage: usize) -> Resul
 }
 
 fn each_maker<R: AllocGlobal + Abort>(rt: &R, memory: &Memory) -> Result<(), Fail> {
-    for (maker, usage) in [4096usize, 4096, 10, 4096, 10, 4096, 10, 10].into_iter().enumerate() {
+    for (maker, usage) in [4096usize, 4096, 10, 4096, 10, 4096, 10, 10]
+        .into_iter()
+        .enumerate()
+    {
         copies(rt, memory, maker, usage)?;
         assert_eq!(rt; memory.bytes_out(), 0, "{maker}");
     }

@@ -24,7 +24,9 @@ fn a_key_outlives_its_text(rt: HostRuntime) -> Result<(), Fail> {
 }
 
 // The numbers below 255 in decimal take 655 bytes: 10 of one digit, 90 of two and 155 of three.
-fn uses_keys_up<S: BuildHasher + Default + Drop, R: AllocGlobal + Abort>(rt: &R) -> Result<(), Fail> {
+fn uses_keys_up<S: BuildHasher + Default + Drop, R: AllocGlobal + Abort>(
+    rt: &R,
+) -> Result<(), Fail> {
     let (room, limits) = (Capacity::for_bytes(655), MemoryLimits::new(655));
     let mut rodeo: Rodeo<MicroSpur, S, Global> = Rodeo::with_capacity_memory_limits_and_hasher(
         rt.alloc(),

@@ -2,7 +2,7 @@
 use super::fault;
 use lasso_parts::json::JsonError;
 use lasso_parts::keys::Spur;
-use serde_json::{Number, Map, Value};
+use serde_json::{Map, Number, Value};
 use std::alloc::Global;
 use std::test::*;
 
@@ -72,7 +72,11 @@ fn each_kind_in_each_place(rt: HostRuntime) -> Result<(), Fail> {
         assert_eq!(rt; wrong_with(alloc, json.as_str())?, second, "{json}");
         let is_text = kind.starts_with('"');
         let json = format!(in alloc; "[\"z\",{kind}]")?;
-        let wanted = if is_text { None } else { Some(JsonError::NotText(1)) };
+        let wanted = if is_text {
+            None
+        } else {
+            Some(JsonError::NotText(1))
+        };
         assert_eq!(rt; wrong_with(alloc, json.as_str())?, wanted, "{json}");
     }
     Ok(())
@@ -82,7 +86,16 @@ fn each_kind_in_each_place(rt: HostRuntime) -> Result<(), Fail> {
 #[test]
 fn each_kind_of_name(rt: HostRuntime) -> Result<(), Fail> {
     let alloc = rt.alloc();
-    for name in ["", "1", "null", "[]", r"\u0000", r"a\u0000b", r#"\"\\\/\n"#, r"\u00e9\ud83d\ude00"] {
+    for name in [
+        "",
+        "1",
+        "null",
+        "[]",
+        r"\u0000",
+        r"a\u0000b",
+        r#"\"\\\/\n"#,
+        r"\u00e9\ud83d\ude00",
+    ] {
         let json = format!(in alloc; "{{\"{name}\":1}}")?;
         assert_eq!(rt; wrong_with(alloc, json.as_str())?, None, "{json}");
         let json = format!(in alloc; "{{\"{name}\":\"1\"}}")?;
