@@ -1,8 +1,6 @@
-//! Runs of commands. Room for replies and copies of texts in them is asked of the global allocator, which none of these runs
-//! refuses; `rt try --test --fail-alloc N` does.
+//! A run of commands. Where memory is refused to one of them (`rt try --test --fail-alloc N`) that one is answered so, and the run goes on.
 use super::*;
 use lasso_single::commands::{Command, Reply, run_commands};
-use std::alloc::Allocator;
 
 // Each reply in a word.
 fn words(alloc: Global, replies: &[Reply<Spur>]) -> Result<String, Fail> {
@@ -23,19 +21,24 @@ fn words(alloc: Global, replies: &[Reply<Spur>]) -> Result<String, Fail> {
     Ok(all)
 }
 
-// The replies where no command meets a refusal, and where the first, the second or the fourth does.
-const WAYS: [&str; 4] = [
+// The replies where no command meets a refusal, and where the first, the second, the fourth or the fifth does.
+const WAYS: [&str; 5] = [
     "key 0/MemoryLimitReached/done/key 0/text e/1/4/",
     "FailedAllocation/key 0/done/key 0/text e/1/4/",
     "key 0/FailedAllocation/done/key 0/text e/1/4/",
     "key 0/MemoryLimitReached/done/FailedAllocation/no text/0/4/",
+    "key 0/MemoryLimitReached/done/key 0/FailedAllocation/1/4/",
 ];
 
 // Both texts do not fit below the limit, and after the clear the second one does.
-fn replies<A: Allocator + Clone>(
-    alloc: Global,
-    rodeo: &mut Rodeo<Spur, FixedState, A>,
-) -> Result<String, Fail> {
+#[test]
+fn a_refused_command_does_not_end_the_run(rt: HostRuntime) -> Result<(), Fail> {
+    let (room, limits) = (Capacity::new(0, 4), MemoryLimits::new(4));
+    let mut rodeo: Rodeo<Spur, FixedState, Global> = Rodeo::with_capacity_and_memory_limits(
+        rt.alloc(),
+        room,
+        limits,
+    )?;
     let first = Spur::try_from_usize(0).ok_or("no key")?;
     let commands = [
         Command::Intern("abcd"),
@@ -46,26 +49,21 @@ fn replies<A: Allocator + Clone>(
         Command::Len,
         Command::Usage,
     ];
-    let replies = run_commands(alloc, rodeo, commands.as_slice())?;
-    words(alloc, replies.as_slice())
-}
-
-fn run_to_the_limit<R: AllocGlobal + Abort>(rt: &R, memory: &Memory) -> Result<(), Fail> {
-    let Some(mut rodeo) = interner::<Spur>(rt, memory, 4, 4) else {
-        return Ok(());
-    };
-    let found = replies(rt.alloc(), &mut rodeo)?;
-    let found = found.as_str();
-    let mut is_worked = false;
-    for way in WAYS {
-        is_worked |= found == way;
+    match run_commands(rt.alloc(), &mut rodeo, commands.as_slice()) {
+        Ok(replies) => {
+            let found = words(rt.alloc(), replies.as_slice())?;
+            let found = found.as_str();
+            let mut is_worked = false;
+            for way in WAYS {
+                is_worked |= found == way;
+            }
+            assert!(rt; is_worked, "{found}");
+        }
+        Err(refusal) => {
+            assert_eq!(rt; refusal.kind(), MEMORY);
+            assert_eq!(rt; rodeo.len(), 0);
+            assert_eq!(rt; rodeo.current_memory_usage(), 4);
+        }
     }
-    assert!(rt; is_worked, "{found}");
-    assert!(rt; found == WAYS[0] || memory.has_refused(), "{found}");
     Ok(())
-}
-
-#[test]
-fn a_refused_command_does_not_end_the_run(rt: HostRuntime) -> Result<(), Fail> {
-    each_refused(&rt, run_to_the_limit)
 }
