@@ -1,4 +1,5 @@
 //! Arrays and keys as JSON, and the printed faults of values that can't be read.
+mod kinds;
 mod objects;
 
 use lasso_parts::json::{JsonError, JsonKey, read_array, write_array};

@@ -1,6 +1,8 @@
 //! Reading interners from JSON, what they are written as, and the way through JSON's text and back.
 ghost use Rattle.std.specs.Prelude.{◌<◌};
 
+mod kinds;
+
 use crate::fixtures::Gap;
 use lasso_parts::json::JsonError;
 use lasso_parts::keys::{Key, MicroSpur, Spur};

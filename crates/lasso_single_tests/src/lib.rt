@@ -9,6 +9,9 @@ mod json;
 #[cfg(test)]
 mod reader;
 #[cfg(test)]
+mod refusals;
+pub mod refusing;
+#[cfg(test)]
 mod resolver;
 #[cfg(test)]
 mod rodeo;

@@ -13,6 +13,7 @@ use lasso_parts::keys::{Key, MicroSpur, Spur};
 use lasso_parts::util::{Capacity, FixedState, LassoErrorKind, LassoResult, MemoryLimits};
 use lasso_single::rodeo::Rodeo;
 use std::alloc::Global;
+use std::hash::BuildHasher;
 use std::process::Abort;
 use std::test::Fail;
 
@@ -33,9 +34,9 @@ fn interner<K: Key>(
     Rodeo::with_capacity_and_memory_limits(alloc, capacity, MemoryLimits::new(limit))
 }
 
-fn gives<K: Key>(
+fn gives<K: Key, S: BuildHasher>(
     rt: &impl Abort,
-    rodeo: &mut Rodeo<K, FixedState, Global>,
+    rodeo: &mut Rodeo<K, S, Global>,
     rows: &[(&str, Answer)],
     usage: usize,
 ) {

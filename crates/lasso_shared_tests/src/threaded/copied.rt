@@ -1,15 +1,18 @@
 //! Copied texts, beside static ones and of two threads.
+use crate::hashers::SameState;
 use lasso_parts::keys::{Key, MicroSpur, Spur};
 use lasso_parts::util::{Capacity, FixedState, LassoErrorKind, LassoResult, MemoryLimits};
 use lasso_shared::threaded::ThreadedRodeo;
+use std::hash::BuildHasher;
+use std::process::Abort;
 use std::sync::Wait;
 use std::test::*;
 use std::thread::join;
 
 /// The number of a copied text, or why it was refused. It is asked for again where memory was wanting.
-pub fn number<K: Key, R: Wait>(
+pub fn number<K: Key, S: BuildHasher + Drop, R: Wait>(
     rt: &R,
-    shared: &ThreadedRodeo<K, FixedState>,
+    shared: &ThreadedRodeo<K, S>,
     text: &str,
 ) -> Result<usize, LassoErrorKind> {
     let mut reply = shared.try_get_or_intern(rt, text);
@@ -66,35 +69,45 @@ fn a_raised_limit_lets_a_text_in(rt: HostRuntime) -> Result<(), Fail> {
     Ok(())
 }
 
-#[test]
-fn the_limit_answers_before_the_key_type(rt: HostRuntime) -> Result<(), Fail> {
-    let shared: ThreadedRodeo<MicroSpur, FixedState> =
-        ThreadedRodeo::with_capacity_and_memory_limits(
-            rt.alloc(),
-            Capacity::for_bytes(655),
-            MemoryLimits::new(655),
-        )?;
+// 10 numbers of one digit, 90 of two and 155 of three fill the bucket.
+fn uses_keys_up<S: BuildHasher + Default + Drop, R: AllocGlobal + Wait + Abort>(
+    rt: &R,
+) -> Result<(), Fail> {
+    let (room, limits) = (Capacity::for_bytes(655), MemoryLimits::new(655));
+    let shared: ThreadedRodeo<MicroSpur, S> = ThreadedRodeo::with_capacity_memory_limits_and_hasher(
+        rt.alloc(),
+        room,
+        limits,
+        S::default(),
+    )?;
     for position in 0..255usize {
         let text = format!(in rt.alloc(); "{position}")?;
-        assert_eq!(rt; number(&rt, &shared, text.as_str()), Ok(position));
+        assert_eq!(rt; number(rt, &shared, text.as_str()), Ok(position));
     }
-    // 10 numbers of one digit, 90 of two and 155 of three fill the bucket
     assert_eq!(rt;
-        number(&rt, &shared, "x"),
+        number(rt, &shared, "x"),
         Err(LassoErrorKind::MemoryLimitReached)
     );
-    assert_eq!(rt; number(&rt, &shared, "0"), Ok(0));
+    assert_eq!(rt; number(rt, &shared, "0"), Ok(0));
     assert_eq!(rt;
-        number(&rt, &shared, ""),
+        number(rt, &shared, ""),
         Err(LassoErrorKind::KeySpaceExhaustion)
     );
-    match shared.try_get_or_intern_static(&rt, "x") {
-        Ok(_) => assert!(rt; false),
-        Err(error) => assert!(rt; error.kind() == LassoErrorKind::KeySpaceExhaustion),
+    for text in ["x", ""] {
+        match shared.try_get_or_intern_static(rt, text) {
+            Ok(_) => assert!(rt; false),
+            Err(error) => assert!(rt; error.kind() == LassoErrorKind::KeySpaceExhaustion),
+        }
     }
     assert_eq!(rt; shared.len(), 255);
-    assert_eq!(rt; shared.current_memory_usage(&rt), 655);
+    assert_eq!(rt; shared.current_memory_usage(rt), 655);
     Ok(())
+}
+
+#[test]
+fn the_limit_answers_before_the_key_type(rt: HostRuntime) -> Result<(), Fail> {
+    uses_keys_up::<FixedState, HostRuntime>(&rt)?;
+    uses_keys_up::<SameState, HostRuntime>(&rt)
 }
 
 #[test]

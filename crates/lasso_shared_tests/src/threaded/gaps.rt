@@ -1,4 +1,4 @@
-//! A key type that lacks number 2 and has number 3.
+//! Key types that lack one number and have the next.
 use super::copied::number;
 use lasso_parts::keys::Key;
 use lasso_parts::util::{Capacity, FixedState, LassoErrorKind, MemoryLimits};
@@ -6,44 +6,44 @@ use lasso_shared::threaded::ThreadedRodeo;
 use std::marker::Model;
 use std::test::*;
 
-// A key type of 8 bits that lacks position 2.
+/// A key type of 8 bits without one number.
 #[derive(Clone, Copy, PartialEq, Eq)]
-pub struct WithoutTwo {
+pub struct Gap<const MISSING: u8> {
     position: u8,
 }
 
-impl Model for WithoutTwo {
+impl<const MISSING: u8> Model for Gap<MISSING> {
     ghost use Rattle.std.specs.Prelude.{ℕ, ◌≢◌};
 
     ghost Value = { ℕ };
 
     ghost view = { λ k. k.position };
 
-    ghost invariant = { λ k. k.position ≢ 2 };
+    ghost invariant = { λ k. k.position ≢ MISSING };
 
     ghost inverse = { λ n. record { position = n } };
 }
 
-impl Key for WithoutTwo {
+impl<const MISSING: u8> Key for Gap<MISSING> {
     ghost use Rattle.std.specs.Prelude.{◌<◌, ◌≢◌, ◌^◌, nat_lt, nat_eq, if◌then◌else◌, Some, None};
     ghost use Rattle.std.proofs.Common.{arith};
     ghost use Rattle.std.proofs.lemmas.Bool.Decides.{nat_tests};
 
-    ghost is_value = { λ k. (k ≢ 2) × (k < 2 ^ 8) };
+    ghost is_value = { λ k. (k ≢ MISSING) × (k < 2 ^ 8) };
 
     ghost number = { λ k. k };
 
-    ghost key_at = { λ n. if nat_eq n 2 then None else if nat_lt n 256 then Some n else None };
+    ghost key_at = { λ n. if nat_eq n MISSING then None else if nat_lt n 256 then Some n else None };
 
     fn into_usize(self) -> usize {
         self.position as usize
     }
 
     fn try_from_usize(position: usize) -> Option<Self> {
-        if position == 2 || position > 255 {
+        if position == usize::from(MISSING) || position > 255 {
             return None;
         }
-        Some(WithoutTwo {
+        Some(Gap {
             position: position as u8,
         })
     }
@@ -58,6 +58,12 @@ impl Key for WithoutTwo {
 
     ghost equal = { λ a b is_value is_value'. Prim.grind (arith, nat_tests) };
 }
+
+/// Lacks number 2.
+pub type WithoutTwo = Gap<2>;
+
+/// Lacks number 0.
+pub type WithoutZero = Gap<0>;
 
 #[test]
 fn no_text_passes_over_a_number_without_a_key(rt: HostRuntime) -> Result<(), Fail> {
@@ -86,5 +92,24 @@ fn no_text_passes_over_a_number_without_a_key(rt: HostRuntime) -> Result<(), Fai
     assert_eq!(rt; number(&rt, &shared, "q"), Ok(1));
     assert_eq!(rt; shared.len(), 2);
     assert_eq!(rt; shared.current_memory_usage(&rt), 4);
+    Ok(())
+}
+
+// Two of the four bytes are taken by each text that finds no key for it.
+#[test]
+fn no_text_has_a_key(rt: HostRuntime) -> Result<(), Fail> {
+    let (room, limits) = (Capacity::for_bytes(4), MemoryLimits::new(4));
+    let shared: ThreadedRodeo<WithoutZero, FixedState> =
+        ThreadedRodeo::with_capacity_and_memory_limits(rt.alloc(), room, limits)?;
+    let answers = [
+        LassoErrorKind::KeySpaceExhaustion,
+        LassoErrorKind::KeySpaceExhaustion,
+        LassoErrorKind::MemoryLimitReached,
+    ];
+    for wanted in answers {
+        assert_eq!(rt; number(&rt, &shared, "pp"), Err(wanted));
+        assert_eq!(rt; shared.current_memory_usage(&rt), 4);
+        assert_eq!(rt; shared.len(), 0);
+    }
     Ok(())
 }

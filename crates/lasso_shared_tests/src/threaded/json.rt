@@ -1,5 +1,7 @@
 //! Reading an interner that threads share from JSON, and what it is afterwards.
-use super::gaps::WithoutTwo;
+mod kinds;
+
+use super::gaps::{WithoutTwo, WithoutZero};
 use crate::hashers::{FirstState, SameState};
 use lasso_parts::json::JsonError;
 use lasso_parts::keys::{Key, MicroSpur, Spur};
@@ -58,6 +60,11 @@ fn a_position_without_a_key(rt: HostRuntime) -> Result<(), Fail> {
         let value = Value::from_str(rt.alloc(), text)?;
         let wanted = Some(JsonError::TooMany(2));
         assert_eq!(rt; fault::<WithoutTwo>(rt.alloc(), &value), wanted, "{text}");
+    }
+    for text in [r#"{"pp":1}"#, r#"["pp"]"#] {
+        let value = Value::from_str(rt.alloc(), text)?;
+        let wanted = Some(JsonError::TooMany(0));
+        assert_eq!(rt; fault::<WithoutZero>(rt.alloc(), &value), wanted, "{text}");
     }
     let two = Value::from_str(rt.alloc(), r#"{"a":2,"b":1}"#)?;
     assert_eq!(rt; fault::<WithoutTwo>(rt.alloc(), &two), None);

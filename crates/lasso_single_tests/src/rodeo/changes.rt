@@ -2,6 +2,7 @@
 
 use super::*;
 use lasso_parts::keys::MicroSpur;
+use std::hash::BuildHasher;
 
 #[test]
 fn a_key_outlives_its_text(rt: HostRuntime) -> Result<(), Fail> {
@@ -22,23 +23,35 @@ fn a_key_outlives_its_text(rt: HostRuntime) -> Result<(), Fail> {
     Ok(())
 }
 
-#[test]
-fn keys_used_up_refuse_new_texts_alone(rt: HostRuntime) -> Result<(), Fail> {
-    let mut rodeo = interner::<MicroSpur>(rt.alloc(), 655, 655)?;
+// The numbers below 255 in decimal take 655 bytes: 10 of one digit, 90 of two and 155 of three.
+fn uses_keys_up<S: BuildHasher + Default + Drop, R: AllocGlobal + Abort>(
+    rt: &R,
+) -> Result<(), Fail> {
+    let (room, limits) = (Capacity::for_bytes(655), MemoryLimits::new(655));
+    let mut rodeo: Rodeo<MicroSpur, S, Global> = Rodeo::with_capacity_memory_limits_and_hasher(
+        rt.alloc(),
+        room,
+        limits,
+        S::default(),
+    )?;
     for number in 0..255usize {
         let text = format!(in rt.alloc(); "{number}")?;
         let key = rodeo.try_get_or_intern(text.as_str())?;
         assert_eq!(rt; key.into_usize(), number);
     }
-    gives(
-        &rt,
-        &mut rodeo,
-        &[("x", Err(KEYS)), ("0", Ok(0)), ("", Err(KEYS))],
-        655,
-    );
-    let refusal = rodeo.get_or_intern_static("x").err().ok_or("not refused")?;
-    assert!(rt; refusal.kind() == KEYS);
+    let rows = [("x", Err(KEYS)), ("0", Ok(0)), ("", Err(KEYS))];
+    gives(rt, &mut rodeo, &rows, 655);
+    for text in ["x", ""] {
+        let refusal = rodeo.get_or_intern_static(text).err().ok_or("not refused")?;
+        assert!(rt; refusal.kind() == KEYS);
+    }
     Ok(())
+}
+
+#[test]
+fn keys_used_up_refuse_new_texts_alone(rt: HostRuntime) -> Result<(), Fail> {
+    uses_keys_up::<FixedState, HostRuntime>(&rt)?;
+    uses_keys_up::<SameState, HostRuntime>(&rt)
 }
 
 #[test]

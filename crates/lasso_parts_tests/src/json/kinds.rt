@@ -1,0 +1,89 @@
+//! Values of each kind as keys of each width.
+use lasso_parts::json::{JsonError, JsonKey};
+use lasso_parts::keys::{Key, LargeSpur, MicroSpur, MiniSpur, Spur};
+use serde_json::Value;
+use std::process::Abort;
+use std::test::Fail;
+
+// The greatest number of each width, and the first past it: the position of a key of 8, of 16, of 32 and of 64 bits.
+const NUMBERS: [(&str, [Option<usize>; 4]); 10] = [
+    ("0", [None, None, None, None]),
+    ("1", [Some(0), Some(0), Some(0), Some(0)]),
+    ("255", [Some(254), Some(254), Some(254), Some(254)]),
+    ("256", [None, Some(255), Some(255), Some(255)]),
+    ("65535", [None, Some(65534), Some(65534), Some(65534)]),
+    ("65536", [None, None, Some(65535), Some(65535)]),
+    (
+        "4294967295",
+        [None, None, Some(4294967294), Some(4294967294)],
+    ),
+    ("4294967296", [None, None, None, Some(4294967295)]),
+    (
+        "18446744073709551615",
+        [None, None, None, Some(18446744073709551614)],
+    ),
+    ("18446744073709551616", [None, None, None, None]),
+];
+
+const OTHERS: [&str; 28] = [
+    "null",
+    "true",
+    "false",
+    "-1",
+    "-255",
+    "-9223372036854775808",
+    "-9223372036854775809",
+    "-18446744073709551615",
+    "1.0",
+    "255.0",
+    "0.5",
+    "-0.0",
+    "1e0",
+    "1e300",
+    r#""""#,
+    r#""1""#,
+    r#""a""#,
+    r#""\u0000""#,
+    r#""\u0001""#,
+    r#""a\u0000b""#,
+    r#""\"\\\n""#,
+    "[]",
+    "[1]",
+    "[[1]]",
+    r#"["1"]"#,
+    "{}",
+    r#"{"1":1}"#,
+    r#"{"a":{"b":[1]}}"#,
+];
+
+// The value is the key at this position, or none of this width.
+fn reads<K: JsonKey>(rt: &impl Abort, value: &Value, wanted: Option<usize>, json: &str) {
+    match K::key_from_json(value) {
+        Ok(key) => assert_eq!(rt; Some(key.into_usize()), wanted, "{json}"),
+        Err(fault) => {
+            assert_eq!(rt; fault, JsonError::NotAKey, "{json}");
+            assert_eq!(rt; wanted, None, "{json}");
+        }
+    }
+}
+
+fn reads_as(rt: &impl Abort, value: &Value, wanted: [Option<usize>; 4], json: &str) {
+    let [micro, mini, spur, large] = wanted;
+    reads::<MicroSpur>(rt, value, micro, json);
+    reads::<MiniSpur>(rt, value, mini, json);
+    reads::<Spur>(rt, value, spur, json);
+    reads::<LargeSpur>(rt, value, large, json);
+}
+
+#[test]
+fn keys_of_each_kind(rt: HostRuntime) -> Result<(), Fail> {
+    for (json, wanted) in NUMBERS {
+        reads_as(&rt, &Value::from_str(rt.alloc(), json)?, wanted, json);
+    }
+    for json in OTHERS {
+        reads_as(&rt, &Value::from_str(rt.alloc(), json)?, [None; 4], json);
+    }
+    let long = Value::String("1".repeat(rt.alloc(), 1_000_000)?);
+    reads_as(&rt, &long, [None; 4], "a text of a million bytes");
+    Ok(())
+}

@@ -1,0 +1,117 @@
+//! A value of each kind in each place: alone, as an item, as the number of a text, and as its name.
+use super::fault;
+use lasso_parts::json::JsonError;
+use lasso_parts::keys::Spur;
+use serde_json::{Map, Number, Value};
+use std::alloc::Global;
+use std::test::*;
+
+type Wrong = Option<JsonError>;
+
+const NO_OBJECT: Wrong = Some(JsonError::NotAnObject);
+
+const NO_TEXT: Wrong = Some(JsonError::NotText(0));
+
+const NO_POSITION: Wrong = Some(JsonError::NotAPosition(0));
+
+const FIRST: Wrong = Some(JsonError::NotAPosition(0));
+
+const SECOND: Wrong = Some(JsonError::NotAPosition(1));
+
+// A value, and what is wrong with it alone, as the number of the only text, and as that of a text behind one of number 1.
+const KINDS: [(&str, Wrong, Wrong, Wrong); 33] = [
+    ("null", NO_OBJECT, FIRST, SECOND),
+    ("true", NO_OBJECT, FIRST, SECOND),
+    ("false", NO_OBJECT, FIRST, SECOND),
+    ("0", NO_OBJECT, FIRST, SECOND),
+    ("1", NO_OBJECT, None, Some(JsonError::Taken(1))),
+    ("2", NO_OBJECT, FIRST, None),
+    ("3", NO_OBJECT, FIRST, SECOND),
+    ("-1", NO_OBJECT, FIRST, SECOND),
+    ("4294967296", NO_OBJECT, FIRST, SECOND),
+    ("18446744073709551615", NO_OBJECT, FIRST, SECOND),
+    ("18446744073709551616", NO_OBJECT, FIRST, SECOND),
+    ("18446744073709551617", NO_OBJECT, FIRST, SECOND),
+    ("-9223372036854775808", NO_OBJECT, FIRST, SECOND),
+    ("-18446744073709551615", NO_OBJECT, FIRST, SECOND),
+    ("1.0", NO_OBJECT, FIRST, SECOND),
+    ("2.0", NO_OBJECT, FIRST, SECOND),
+    ("1.5", NO_OBJECT, FIRST, SECOND),
+    ("2e0", NO_OBJECT, FIRST, SECOND),
+    ("1e300", NO_OBJECT, FIRST, SECOND),
+    (r#""""#, NO_OBJECT, FIRST, SECOND),
+    (r#""1""#, NO_OBJECT, FIRST, SECOND),
+    (r#""2""#, NO_OBJECT, FIRST, SECOND),
+    (r#""\u0001""#, NO_OBJECT, FIRST, SECOND),
+    (r#""a\u0000\n\"""#, NO_OBJECT, FIRST, SECOND),
+    ("[]", None, FIRST, SECOND),
+    ("[1]", NO_TEXT, FIRST, SECOND),
+    ("[2]", NO_TEXT, FIRST, SECOND),
+    ("[[]]", NO_TEXT, FIRST, SECOND),
+    (r#"["a"]"#, None, FIRST, SECOND),
+    (r#"["a","a"]"#, Some(JsonError::Doubled(1)), FIRST, SECOND),
+    ("{}", None, FIRST, SECOND),
+    (r#"{"a":1}"#, None, FIRST, SECOND),
+    (r#"{"a":{"a":1}}"#, NO_POSITION, FIRST, SECOND),
+];
+
+// What is wrong with the JSON.
+fn wrong_with(alloc: Global, json: &str) -> Result<Wrong, Fail> {
+    let value = Value::from_str(alloc, json)?;
+    Ok(fault::<Spur>(alloc, &value))
+}
+
+#[test]
+fn each_kind_in_each_place(rt: HostRuntime) -> Result<(), Fail> {
+    let alloc = rt.alloc();
+    for (kind, alone, first, second) in KINDS {
+        assert_eq!(rt; wrong_with(alloc, kind)?, alone, "{kind}");
+        let json = format!(in alloc; "{{\"k\":{kind}}}")?;
+        assert_eq!(rt; wrong_with(alloc, json.as_str())?, first, "{json}");
+        let json = format!(in alloc; "{{\"k\":{kind},\"a\":1}}")?;
+        assert_eq!(rt; wrong_with(alloc, json.as_str())?, second, "{json}");
+        let is_text = kind.starts_with('"');
+        let json = format!(in alloc; "[\"z\",{kind}]")?;
+        let wanted = if is_text {
+            None
+        } else {
+            Some(JsonError::NotText(1))
+        };
+        assert_eq!(rt; wrong_with(alloc, json.as_str())?, wanted, "{json}");
+    }
+    Ok(())
+}
+
+// Each name is one text, with a number of a kind that is right and of one that is not.
+#[test]
+fn each_kind_of_name(rt: HostRuntime) -> Result<(), Fail> {
+    let alloc = rt.alloc();
+    for name in [
+        "",
+        "1",
+        "null",
+        "[]",
+        r"\u0000",
+        r"a\u0000b",
+        r#"\"\\\/\n"#,
+        r"\u00e9\ud83d\ude00",
+    ] {
+        let json = format!(in alloc; "{{\"{name}\":1}}")?;
+        assert_eq!(rt; wrong_with(alloc, json.as_str())?, None, "{json}");
+        let json = format!(in alloc; "{{\"{name}\":\"1\"}}")?;
+        assert_eq!(rt; wrong_with(alloc, json.as_str())?, NO_POSITION, "{json}");
+    }
+    Ok(())
+}
+
+#[test]
+fn a_name_of_a_million_bytes(rt: HostRuntime) -> Result<(), Fail> {
+    for (number, wanted) in [(0u64, NO_POSITION), (1, None), (2, NO_POSITION)] {
+        let mut members: Map<String, Value> = Map::new(rt.alloc());
+        let name = "a".repeat(rt.alloc(), 1_000_000)?;
+        members.insert(name, Value::Number(Number::from(number)))?;
+        let value = Value::Object(members);
+        assert_eq!(rt; fault::<Spur>(rt.alloc(), &value), wanted, "{number}");
+    }
+    Ok(())
+}

@@ -1,0 +1,165 @@
+//! Scripts that are run with each of their requests for memory refused in turn. A refused call changes nothing but what it
+//! says, the same call later goes on as if it was the first, and after each run all memory has come back.
+ghost use Rattle.std.specs.Prelude.{◌<◌};
+
+mod copies;
+mod filling;
+mod makers;
+mod runs;
+mod values;
+
+use crate::fixtures::Gap;
+use crate::refusing::Refusing;
+use lasso_parts::keys::{Key, Spur};
+use lasso_parts::util::{Capacity, FixedState, LassoErrorKind, LassoResult, MemoryLimits};
+use lasso_single::rodeo::Rodeo;
+use std::alloc::Global;
+use std::process::Abort;
+use std::test::Fail;
+
+const LIMIT: LassoErrorKind = LassoErrorKind::MemoryLimitReached;
+
+const KEYS: LassoErrorKind = LassoErrorKind::KeySpaceExhaustion;
+
+const MEMORY: LassoErrorKind = LassoErrorKind::FailedAllocation;
+
+type Answer = Result<usize, LassoErrorKind>;
+
+type Memory = Refusing<Global>;
+
+type Metered<'a, K> = Rodeo<K, FixedState, &'a Memory>;
+
+// More requests than any of the scripts makes.
+const MOST: u64 = 1000;
+
+// Runs the script with its first request refused, then with its second, until a run meets no refusal.
+fn each_refused<R: AllocGlobal + Abort, F: Fn(&R, &Memory) -> Result<(), Fail> + Drop>(
+    rt: &R,
+    script: F,
+) -> Result<(), Fail>
+    requires { F.IsAlwaysCallable script }
+{
+    for refused in 1..MOST {
+        let memory = Refusing::new(rt.alloc(), refused);
+        script(rt, &memory)?;
+        assert_eq!(rt; memory.bytes_out(), 0, "{refused}");
+        if !memory.has_refused() {
+            assert!(rt; refused > 1, "no request at all");
+            return Ok(());
+        }
+    }
+    assert!(rt; false, "each run met a refusal");
+    Ok(())
+}
+
+// What was made, or none where the memory for it was refused.
+fn made<T>(rt: &impl Abort, memory: &Memory, outcome: LassoResult<T>) -> Option<T> {
+    match outcome {
+        Ok(made) => Some(made),
+        Err(refusal) => {
+            is_refused(rt, memory, refusal.kind());
+            None
+        }
+    }
+}
+
+fn is_refused(rt: &impl Abort, memory: &Memory, kind: LassoErrorKind) {
+    assert!(rt; memory.has_refused());
+    assert_eq!(rt; kind, MEMORY);
+}
+
+// An interner without room for any text in its list and index, so that its texts ask for it.
+fn interner<'a, K: Key>(
+    rt: &impl Abort,
+    memory: &'a Memory,
+    bytes: usize,
+    limit: usize,
+) -> Option<Metered<'a, K>>
+    requires { 0 < bytes }
+{
+    let capacity = Capacity::new(0, bytes);
+    let limits = MemoryLimits::new(limit);
+    made(
+        rt,
+        memory,
+        Rodeo::with_capacity_and_memory_limits(memory, capacity, limits),
+    )
+}
+
+fn told<K: Key>(outcome: LassoResult<K>) -> Answer {
+    match outcome {
+        Ok(key) => Ok(key.into_usize()),
+        Err(refusal) => Err(refusal.kind()),
+    }
+}
+
+// Interns the text, twice where the first call is refused for want of memory and changes nothing.
+fn gives<K: Key>(rt: &impl Abort, rodeo: &mut Metered<'_, K>, text: &str, wanted: Answer) {
+    let (len, usage) = (rodeo.len(), rodeo.current_memory_usage());
+    let mut answer = told(rodeo.try_get_or_intern(text));
+    if answer == Err(MEMORY) {
+        assert_eq!(rt; rodeo.len(), len, "{text}");
+        assert_eq!(rt; rodeo.current_memory_usage(), usage, "{text}");
+        assert!(rt; !rodeo.contains(text), "{text}");
+        answer = told(rodeo.try_get_or_intern(text));
+    }
+    assert_eq!(rt; answer, wanted, "{text}");
+}
+
+// Exactly these texts are there, in this order, and the buckets take so many bytes.
+fn holds<K: Key>(rt: &impl Abort, rodeo: &Metered<'_, K>, texts: &[&str], usage: usize) {
+    assert_eq!(rt; rodeo.len(), texts.len());
+    let mut walk = rodeo.strings();
+    for text in texts {
+        assert_eq!(rt; walk.next(), Some(*text));
+        assert!(rt; rodeo.contains(*text));
+    }
+    assert_eq!(rt; rodeo.current_memory_usage(), usage);
+}
+
+fn hello_twice<R: AllocGlobal + Abort>(rt: &R, memory: &Memory) -> Result<(), Fail> {
+    let Some(mut rodeo) = made(rt, memory, Rodeo::default(memory)) else {
+        return Ok(());
+    };
+    gives(rt, &mut rodeo, "Hello, world!", Ok(0));
+    gives(rt, &mut rodeo, "Hello, world!", Ok(0));
+    holds(rt, &rodeo, &["Hello, world!"], 4096);
+    Ok(())
+}
+
+// The long text has a bucket of its own of 9 bytes, and one of twice 4 comes for the last.
+fn past_the_first_bucket<R: AllocGlobal + Abort>(rt: &R, memory: &Memory) -> Result<(), Fail> {
+    let Some(mut rodeo) = interner::<Spur>(rt, memory, 4, usize::MAX) else {
+        return Ok(());
+    };
+    for (text, number) in [("qqqqqqqqq", 0usize), ("wxyz", 1), ("n", 2)] {
+        gives(rt, &mut rodeo, text, Ok(number));
+    }
+    holds(rt, &rodeo, &["qqqqqqqqq", "wxyz", "n"], 21);
+    Ok(())
+}
+
+fn past_the_keys<R: AllocGlobal + Abort>(rt: &R, memory: &Memory) -> Result<(), Fail> {
+    let Some(mut rodeo) = interner::<Gap<2>>(rt, memory, 4, 4) else {
+        return Ok(());
+    };
+    let rows = [
+        ("p", Ok(0)),
+        ("q", Ok(1)),
+        ("r", Err(KEYS)),
+        ("r", Err(KEYS)),
+        ("q", Ok(1)),
+    ];
+    for (text, wanted) in rows {
+        gives(rt, &mut rodeo, text, wanted);
+    }
+    holds(rt, &rodeo, &["p", "q"], 4);
+    Ok(())
+}
+
+#[test]
+fn interned_texts(rt: HostRuntime) -> Result<(), Fail> {
+    each_refused(&rt, hello_twice)?;
+    each_refused(&rt, past_the_first_bucket)?;
+    each_refused(&rt, past_the_keys)
+}

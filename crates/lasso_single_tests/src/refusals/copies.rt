@@ -1,0 +1,87 @@
+//! Clones, and copies over another interner.
+use super::*;
+
+// The static text goes into the clone's one bucket of 7 bytes, which is past the limit of 5 that the source has.
+fn cloned<R: AllocGlobal + Abort>(rt: &R, memory: &Memory) -> Result<(), Fail> {
+    let Some(mut rodeo) = interner::<Spur>(rt, memory, 10, 5) else {
+        return Ok(());
+    };
+    gives(rt, &mut rodeo, "abc", Ok(0));
+    if let Err(refusal) = rodeo.try_get_or_intern_static("gdfg") {
+        is_refused(rt, memory, refusal.kind());
+        holds(rt, &rodeo, &["abc"], 10);
+        assert_eq!(rt; rodeo.try_get_or_intern_static("gdfg")?.into_usize(), 1);
+    }
+    let mut copy = match rodeo.try_clone() {
+        Ok(copy) => copy,
+        Err(refusal) => {
+            is_refused(rt, memory, refusal.kind());
+            holds(rt, &rodeo, &["abc", "gdfg"], 10);
+            rodeo.try_clone()?
+        }
+    };
+    gives(rt, &mut copy, "x", Err(LIMIT));
+    holds(rt, &copy, &["abc", "gdfg"], 7);
+    gives(rt, &mut rodeo, "x", Ok(2));
+    holds(rt, &rodeo, &["abc", "gdfg", "x"], 10);
+    Ok(())
+}
+
+// A source of two texts in one bucket of 8 bytes.
+fn two<'a>(rt: &impl Abort, memory: &'a Memory) -> Option<Metered<'a, Spur>> {
+    let mut source = interner::<Spur>(rt, memory, 8, usize::MAX)?;
+    gives(rt, &mut source, "abc", Ok(0));
+    gives(rt, &mut source, "defg", Ok(1));
+    Some(source)
+}
+
+// Whatever refuses the copy, it leaves no text, and the bucket of 4 bytes that it began with.
+fn copied_past_the_limit<R: AllocGlobal + Abort>(rt: &R, memory: &Memory) -> Result<(), Fail> {
+    let Some(source) = two(rt, memory) else {
+        return Ok(());
+    };
+    let Some(mut target) = interner::<Spur>(rt, memory, 4, 4) else {
+        return Ok(());
+    };
+    gives(rt, &mut target, "old", Ok(0));
+    let refusal = target.try_clone_from(&source).err().ok_or("not refused")?;
+    if refusal.kind() != LIMIT {
+        is_refused(rt, memory, refusal.kind());
+    }
+    holds(rt, &target, &[], 4);
+    gives(rt, &mut target, "wxyz", Ok(0));
+    holds(rt, &target, &["wxyz"], 4);
+    holds(rt, &source, &["abc", "defg"], 8);
+    Ok(())
+}
+
+// "abc" goes into the first bucket, and "defg" asks for one of twice 4 bytes, in which "wxyz" has room too.
+fn copied_into_a_new_bucket<R: AllocGlobal + Abort>(rt: &R, memory: &Memory) -> Result<(), Fail> {
+    let Some(source) = two(rt, memory) else {
+        return Ok(());
+    };
+    let Some(mut target) = interner::<Spur>(rt, memory, 4, usize::MAX) else {
+        return Ok(());
+    };
+    if let Err(refusal) = target.try_clone_from(&source) {
+        is_refused(rt, memory, refusal.kind());
+        holds(rt, &target, &[], 4);
+        target.try_clone_from(&source)?;
+    }
+    holds(rt, &target, &["abc", "defg"], 12);
+    if let Err(refusal) = target.extend(["wxyz", "abc"]) {
+        is_refused(rt, memory, refusal.kind());
+        holds(rt, &target, &["abc", "defg"], 12);
+        target.extend(["wxyz", "abc"])?;
+    }
+    holds(rt, &target, &["abc", "defg", "wxyz"], 12);
+    holds(rt, &source, &["abc", "defg"], 8);
+    Ok(())
+}
+
+#[test]
+fn copied_interners(rt: HostRuntime) -> Result<(), Fail> {
+    each_refused(&rt, cloned)?;
+    each_refused(&rt, copied_past_the_limit)?;
+    each_refused(&rt, copied_into_a_new_bucket)
+}
