@@ -58,6 +58,17 @@ fn wrong_with<R: AllocGlobal + Abort>(rt: &R, json: &str) -> Result<Option<JsonE
     Ok(wrong)
 }
 
+// The same with the JSON of a value between these.
+fn wrong_between<R: AllocGlobal + Abort>(
+    rt: &R,
+    before: &str,
+    kind: &str,
+    behind: &str,
+) -> Result<Option<JsonError>, Fail> {
+    let json = format!(in rt.alloc(); "{before}{kind}{behind}")?;
+    wrong_with(rt, json.as_str())
+}
+
 // The numbers of the places are those of the items that are no texts.
 #[test]
 fn each_kind_in_each_place(rt: HostRuntime) -> Result<(), Fail> {
@@ -68,16 +79,22 @@ fn each_kind_in_each_place(rt: HostRuntime) -> Result<(), Fail> {
             (r#"["z","#, "]", 1),
             ("[", r#","z",null]"#, 0),
         ] {
-            let json = format!(in rt.alloc(); "{before}{kind}{behind}")?;
             let wanted = match text {
                 None => Some(JsonError::NotText(at)),
                 Some(_) if behind == "]" => None,
                 Some(_) => Some(JsonError::NotText(2)),
             };
-            assert_eq!(rt; wrong_with(&rt, json.as_str())?, wanted, "{json}");
+            assert_eq!(rt;
+                wrong_between(&rt, before, kind, behind)?,
+                wanted,
+                "{before}{kind}{behind}"
+            );
         }
-        let member = format!(in rt.alloc(); "{{\"a\":{kind}}}")?;
-        assert_eq!(rt; wrong_with(&rt, member.as_str())?, NO_ARRAY, "{member}");
+        assert_eq!(rt;
+            wrong_between(&rt, r#"{"a":"#, kind, "}")?,
+            NO_ARRAY,
+            "{kind}"
+        );
     }
     Ok(())
 }

@@ -61,23 +61,42 @@ fn wrong_with(alloc: Global, json: &str) -> Result<Wrong, Fail> {
     Ok(fault::<Spur>(alloc, &value))
 }
 
+// The same with the JSON of a value, or a name, between these.
+fn wrong_between(
+    alloc: Global,
+    before: &str,
+    kind: &str,
+    behind: &str,
+) -> Result<Wrong, Fail> {
+    let json = format!(in alloc; "{before}{kind}{behind}")?;
+    wrong_with(alloc, json.as_str())
+}
+
 #[test]
 fn each_kind_in_each_place(rt: HostRuntime) -> Result<(), Fail> {
     let alloc = rt.alloc();
     for (kind, alone, first, second) in KINDS {
         assert_eq!(rt; wrong_with(alloc, kind)?, alone, "{kind}");
-        let json = format!(in alloc; "{{\"k\":{kind}}}")?;
-        assert_eq!(rt; wrong_with(alloc, json.as_str())?, first, "{json}");
-        let json = format!(in alloc; "{{\"k\":{kind},\"a\":1}}")?;
-        assert_eq!(rt; wrong_with(alloc, json.as_str())?, second, "{json}");
-        let is_text = kind.starts_with('"');
-        let json = format!(in alloc; "[\"z\",{kind}]")?;
-        let wanted = if is_text {
+        assert_eq!(rt;
+            wrong_between(alloc, r#"{"k":"#, kind, "}")?,
+            first,
+            "{kind}"
+        );
+        assert_eq!(rt;
+            wrong_between(alloc, r#"{"k":"#, kind, r#","a":1}"#)?,
+            second,
+            "{kind}"
+        );
+        let wanted = if kind.starts_with('"') {
             None
         } else {
             Some(JsonError::NotText(1))
         };
-        assert_eq!(rt; wrong_with(alloc, json.as_str())?, wanted, "{json}");
+        assert_eq!(rt;
+            wrong_between(alloc, r#"["z","#, kind, "]")?,
+            wanted,
+            "{kind}"
+        );
     }
     Ok(())
 }
@@ -96,10 +115,16 @@ fn each_kind_of_name(rt: HostRuntime) -> Result<(), Fail> {
         r#"\"\\\/\n"#,
         r"\u00e9\ud83d\ude00",
     ] {
-        let json = format!(in alloc; "{{\"{name}\":1}}")?;
-        assert_eq!(rt; wrong_with(alloc, json.as_str())?, None, "{json}");
-        let json = format!(in alloc; "{{\"{name}\":\"1\"}}")?;
-        assert_eq!(rt; wrong_with(alloc, json.as_str())?, NO_POSITION, "{json}");
+        assert_eq!(rt;
+            wrong_between(alloc, r#"{""#, name, r#"":1}"#)?,
+            None,
+            "{name}"
+        );
+        assert_eq!(rt;
+            wrong_between(alloc, r#"{""#, name, r#"":"1"}"#)?,
+            NO_POSITION,
+            "{name}"
+        );
     }
     Ok(())
 }
