@@ -109,6 +109,7 @@ fn a_failed_read_is_not_tried_again(rt: HostRuntime) -> Result<(), Fail> {
         if result.is_ok() {
             whole = true;
             assert_eq!(rt; written.taken.as_slice(), OUTPUT);
+            assert_eq!(rt; reader.inner.failed, 0);
             break;
         }
         assert!(rt; result == Err(RunFault::ReadFailed));
@@ -142,6 +143,7 @@ fn a_failed_write_is_not_tried_again(rt: HostRuntime) -> Result<(), Fail> {
                 whole = true;
                 assert_eq!(rt; written.taken.as_slice(), OUTPUT);
                 assert_eq!(rt; written.flushed, written.taken.len());
+                assert_eq!(rt; written.failed, 0);
                 break;
             }
             assert!(rt; result == Err(RunFault::WriteFailed));

@@ -298,6 +298,7 @@ fn each_write_fails_in_turn(rt: HostRuntime) -> Result<(), Fail> {
         if ended.is_ok() {
             whole = true;
             assert_eq!(rt; writer.taken.as_slice(), OUTPUT);
+            assert_eq!(rt; writer.tries, 0);
             break;
         }
         assert_eq!(rt; writer.tries, 1);
@@ -318,6 +319,7 @@ fn each_read_fails_in_turn(rt: HostRuntime) -> Result<(), Fail> {
         if ended.is_ok() {
             whole = true;
             assert_eq!(rt; text.as_slice(), OUTPUT);
+            assert_eq!(rt; reader.tries, 0);
             break;
         }
         assert!(rt; text.is_empty());
