@@ -11,6 +11,7 @@ ghost use Rattle.std.specs.Prelude.{◌<◌};
 mod calls;
 mod copying;
 mod frozen;
+mod history;
 mod interners;
 mod lines;
 mod pools;

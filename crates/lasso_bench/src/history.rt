@@ -1,0 +1,96 @@
+//! Rounds of random calls that threads make of one interner, and whether one list explains all answers.
+mod answers;
+mod checker;
+mod draws;
+mod frozen;
+mod texts;
+
+use answers::{Answer, Limits, answers};
+use anyhow::{Result, ensure};
+use checker::check;
+use frozen::Frozen;
+use lasso::{Capacity, FixedState, Key, MemoryLimits, MicroSpur, Spur, ThreadedRodeo};
+use std::sync::Wait;
+use std::thread::{Threads, map_indices};
+use texts::Texts;
+
+// How many threads make calls at once.
+const THREADS: usize = 4;
+
+// The bytes of the first bucket.
+const FIRST: usize = 16;
+
+/// A round: four threads make so many random calls each, and each answer is checked. Rounds of even seeds have keys enough; of the odd ones
+/// keys run out. How many texts there are in the end. It fails with a message where an answer is wrong, and for want of memory.
+pub fn history_round<R: AllocGlobal + Threads + Wait + Sync>(
+    rt: &R,
+    seed: u64,
+    calls: u32,
+) -> Result<usize> {
+    if seed % 2 == 0 {
+        round::<Spur, R>(rt, &Texts::new(rt.alloc(), 4000)?, seed, calls)
+    } else {
+        round::<MicroSpur, R>(rt, &Texts::new(rt.alloc(), 400)?, seed, calls)
+    }
+}
+
+// A round with keys of this type.
+fn round<K: Key + Send + Sync, R: AllocGlobal + Threads + Wait + Sync>(
+    rt: &R,
+    texts: &Texts,
+    seed: u64,
+    calls: u32,
+) -> Result<usize> {
+    let limits = Limits {
+        least: 1000,
+        count: texts.count().saturating_mul(8),
+    };
+    let rodeo: ThreadedRodeo<K, FixedState> = ThreadedRodeo::with_capacity_and_memory_limits(
+        rt.alloc(),
+        Capacity::for_bytes(FIRST),
+        MemoryLimits::new(limits.least),
+    )?;
+    let found = map_indices(
+        rt,
+        rt.alloc(),
+        THREADS,
+        &|thread| {
+            let own = seed.wrapping_mul(THREADS as u64).wrapping_add(thread as u64);
+            answers(rt, &rodeo, texts, limits, own, calls)
+        },
+    )?;
+    let mut frozen = Frozen::new(rt.alloc(), texts, limits.least, FIRST)?;
+    frozen.usage = rodeo.current_memory_usage(rt);
+    let len = rodeo.len();
+    let reader = rodeo.into_reader(rt)?;
+    for text in reader.strings() {
+        frozen.push(texts, text)?;
+    }
+    ensure!(frozen.len() == len, "{len} texts were counted in the end");
+    check_all::<K>(&mut frozen, texts, &found)?;
+    Ok(len)
+}
+
+// Checks the answers of all threads.
+fn check_all<K: Key>(
+    frozen: &mut Frozen,
+    texts: &Texts,
+    found: &[Result<Vec<Answer>, std::alloc::AllocError>],
+) -> Result<()> {
+    for answers in found {
+        let Ok(answers) = answers else {
+            anyhow::bail!("no memory for the answers");
+        };
+        frozen.note_limits(answers.as_slice());
+    }
+    ensure!(
+        frozen.usage <= frozen.greatest,
+        "the usage rose past each limit"
+    );
+    for answers in found {
+        if let Ok(answers) = answers {
+            check::<K>(frozen, texts, FIRST, answers.as_slice())?;
+        }
+    }
+    Ok(())
+}
