@@ -3,22 +3,46 @@ mod answers;
 mod checker;
 mod draws;
 mod frozen;
+#[cfg(test)]
+mod tests;
 mod texts;
 
 use answers::{Answer, Limits, answers};
-use anyhow::{Result, ensure};
+use anyhow::{Result, bail, ensure};
 use checker::check;
 use frozen::Frozen;
 use lasso::{Capacity, FixedState, Key, MemoryLimits, MicroSpur, Spur, ThreadedRodeo};
+use std::alloc::AllocError;
+use std::rt::Clock;
 use std::sync::Wait;
 use std::thread::{Threads, map_indices};
+use std::time::Instant;
 use texts::Texts;
 
-// How many threads make calls at once.
-const THREADS: usize = 4;
+/// How many threads make calls at once.
+pub const THREADS: usize = 4;
 
 // The bytes of the first bucket.
 const FIRST: usize = 16;
+
+/// Makes rounds of so many calls a thread, each with another seed from 0 on, until so many seconds are over, and gives how many rounds it
+/// were. It fails where a round does, and where the clock does.
+pub fn rounds_in<R: AllocGlobal + Clock + Print + Threads + Wait + Sync>(
+    rt: &R,
+    seconds: u64,
+    calls: u32,
+) -> Result<u64> {
+    let start = Instant::now(rt)?;
+    for seed in 0..u64::MAX {
+        if start.elapsed(rt)?.as_secs() >= seconds {
+            return Ok(seed);
+        }
+        if let Err(error) = history_round(rt, seed, calls) {
+            bail!("round {seed}: {error}");
+        }
+    }
+    Ok(u64::MAX)
+}
 
 /// A round: four threads make so many random calls each, and each answer is checked. Rounds of even seeds have keys enough; of the odd ones
 /// keys run out. How many texts there are in the end. It fails with a message where an answer is wrong, and for want of memory.
@@ -75,11 +99,11 @@ fn round<K: Key + Send + Sync, R: AllocGlobal + Threads + Wait + Sync>(
 fn check_all<K: Key>(
     frozen: &mut Frozen,
     texts: &Texts,
-    found: &[Result<Vec<Answer>, std::alloc::AllocError>],
+    found: &[Result<Vec<Answer>, AllocError>],
 ) -> Result<()> {
     for answers in found {
         let Ok(answers) = answers else {
-            anyhow::bail!("no memory for the answers");
+            bail!("no memory for the answers");
         };
         frozen.note_limits(answers.as_slice());
     }

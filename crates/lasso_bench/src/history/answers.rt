@@ -68,13 +68,13 @@ pub fn answers<K: Key, R: AllocGlobal + Wait>(
     let mut draws = Draws::new(seed);
     let mut answers = Vec::new(rt.alloc());
     for _ in 0..calls {
-        answers.push(answer(rt, rodeo, &mut pass, texts, limits, &mut draws))?;
+        answers.push(random_answer(rt, rodeo, &mut pass, texts, limits, &mut draws))?;
     }
     Ok(answers)
 }
 
 // Makes one random call.
-fn answer<K: Key, R: Wait>(
+fn random_answer<K: Key, R: Wait>(
     rt: &R,
     rodeo: &ThreadedRodeo<K, FixedState>,
     pass: &mut Pass<K>,
