@@ -2,9 +2,11 @@
 ghost use Rattle.std.specs.Prelude.{◌≡◌};
 
 mod callers;
+mod collisions;
 mod comparing;
 mod copied;
 mod crowd;
+mod falling;
 mod filling;
 mod freezing;
 mod gaps;
