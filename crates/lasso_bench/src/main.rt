@@ -3,7 +3,8 @@
 //! `round` those of one round of the interner alone, with `refill` those of an interner that is cleared and filled
 //! again, with `shared` those of a call of the lists that are shared, with `interners` those of one round of the
 //! interner that threads share, over the lines of standard input; with `walks` those of walks over it and of freezing it; with
-//! `fill` it interns these lines as they come and prints how many texts there are, and without words nothing.
+//! `fill` it interns these lines as they come and prints how many texts there are; with `soak` and a number of seconds it has threads make
+//! random calls for so long and checks what they answer; and without words nothing.
 #![tactic(auto)]
 
 ghost use Rattle.std.specs.Prelude.{◌<◌};
@@ -11,6 +12,7 @@ ghost use Rattle.std.specs.Prelude.{◌<◌};
 mod calls;
 mod copying;
 mod frozen;
+mod history;
 mod interners;
 mod lines;
 mod pools;
@@ -28,6 +30,7 @@ use anyhow::{Result, bail};
 use calls::{Plain, WithPass, fill};
 use copying::{COPIES, best_copy_timings};
 use frozen::{FrozenSample, best_frozen_timings};
+use history::{THREADS as SOAKERS, rounds_in};
 use interners::{time_filled, time_filling};
 use lines::Lines;
 use pools::{MapPool, RodeoPool, SetPool};
@@ -52,6 +55,9 @@ const REFILLED_TEXTS: u32 = 10_000;
 
 const REFILLS: u32 = 1000;
 
+// How many calls a thread makes in a round of random calls.
+const SOAK_CALLS: u32 = 10_000;
+
 fn main(rt: HostRuntime) -> Result<()> {
     let mut words = env::args(&rt)?;
     let _program = words.next();
@@ -65,7 +71,10 @@ fn main(rt: HostRuntime) -> Result<()> {
         [word] if word.as_str() == "interners" => print_interners(&rt),
         [word] if word.as_str() == "walks" => print_walks(&rt),
         [word] if word.as_str() == "fill" => print_fill(&rt),
-        _ => bail!("usage: lasso_bench [measure|round|refill|shared|interners|walks|fill]"),
+        [word, seconds] if word.as_str() == "soak" => print_soak(&rt, seconds.as_str()),
+        _ => bail!(
+            "usage: lasso_bench [measure|round|refill|shared|interners|walks|fill|soak SECONDS]"
+        ),
     }
 }
 
@@ -211,6 +220,22 @@ fn print_walks<R: AllocGlobal + Clock + Input + Print + Wait>(rt: &R) -> Result<
 fn print_fill<R: AllocGlobal + Input + Print + Wait>(rt: &R) -> Result<()> {
     let count = fill(rt, BufReader::new(rt.alloc(), rt.reader())?)?;
     println!(rt; "{count}")?;
+    Ok(())
+}
+
+// Has threads make random calls until so many seconds are over, and prints how many rounds and calls it were.
+fn print_soak<R: AllocGlobal + Clock + Print + Threads + Wait + Sync>(
+    rt: &R,
+    seconds: &str,
+) -> Result<()> {
+    let Ok(seconds) = seconds.parse::<u64>() else {
+        bail!("soak: not a number of seconds: {seconds}");
+    };
+    let rounds = rounds_in(rt, seconds, SOAK_CALLS)?;
+    let calls = rounds
+        .saturating_mul(SOAKERS as u64)
+        .saturating_mul(u64::from(SOAK_CALLS));
+    println!(rt; "{rounds} rounds, {calls} calls")?;
     Ok(())
 }
 

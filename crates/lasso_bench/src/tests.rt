@@ -2,6 +2,7 @@
 use crate::calls::{Calls, Plain, WithPass, fill};
 use crate::copying::best_copy_timings;
 use crate::frozen::{FrozenSample, FrozenTexts, best_frozen_timings, keys_at, resolve_all};
+use crate::history::history_round;
 use crate::interners::{time_filled, time_filling};
 use crate::lines::Lines;
 use crate::pools::{KeyedTexts, MapPool, RodeoPool, SetPool, TextPool};
@@ -190,5 +191,19 @@ fn walks_answer_right(rt: HostRuntime) -> Result<(), Fail> {
     // positions 0, 1 and 2; the bytes of b, a and c
     assert_eq!(rt; walk_entries(&rodeo), (3, 98 + 97 + 99));
     assert_eq!(rt; walk_texts(&rodeo), 98 + 97 + 99);
+    Ok(())
+}
+
+#[test]
+fn history_is_one(rt: HostRuntime) -> Result<(), Fail> {
+    for seed in [0u64, 1] {
+        match history_round(&rt, seed, 10_000) {
+            Ok(len) => assert!(rt; len > 200),
+            Err(error) => {
+                println!(rt; "{error}")?;
+                return Err("an answer has no place".into());
+            }
+        }
+    }
     Ok(())
 }

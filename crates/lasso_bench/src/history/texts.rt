@@ -1,0 +1,76 @@
+//! The texts of a history, each with its number at its head.
+use std::alloc::{AllocError, Global};
+
+// How many texts are also there as static ones.
+const FIXED: usize = 32;
+
+const STATIC: [&str; FIXED] = [
+    "", "1", "2", "3", "4", "5", "6", "7", "8", "9", "10", "11", "12", "13", "14", "15", "16",
+    "17", "18", "19", "20", "21", "22", "23", "24", "25", "26", "27", "28", "29", "30", "31",
+];
+
+const TAILS: [&str; 4] = ["", ".", "......", "................................"];
+
+/// Distinct texts. The first is empty.
+#[derive(Drop)]
+pub struct Texts {
+    texts: Vec<String>,
+}
+
+impl Texts {
+    /// So many texts. It is refused for want of memory alone.
+    pub fn new(alloc: Global, count: usize) -> Result<Self, AllocError> {
+        let mut texts = Vec::new(alloc);
+        for number in 0..count {
+            let text = match STATIC.get(number) {
+                Some(text) => String::from_str(alloc, text)?,
+                None => {
+                    let tail = TAILS[number % 4];
+                    format!(in alloc; "{number}{tail}")?
+                }
+            };
+            texts.push(text)?;
+        }
+        Ok(Texts { texts })
+    }
+
+    /// How many texts there are.
+    pub fn count(&self) -> usize {
+        self.texts.len()
+    }
+
+    /// The text with the number; empty, where there is none.
+    pub fn text(&self, number: usize) -> &str {
+        match self.texts.get(number) {
+            Some(text) => text.as_str(),
+            None => "",
+        }
+    }
+
+    /// The number of the text, or `None` where it is not one of these.
+    pub fn number_of(&self, text: &str) -> Option<usize> {
+        let mut number = 0usize;
+        for byte in text.bytes() {
+            if byte.is_ascii_digit() {
+                number = number
+                    .wrapping_mul(10)
+                    .wrapping_add(usize::from(byte.wrapping_sub(b'0')));
+            }
+        }
+        if number < self.texts.len() && self.text(number) == text {
+            Some(number)
+        } else {
+            None
+        }
+    }
+}
+
+/// How many texts can be interned as static ones: those with the first numbers.
+pub const fn fixed_count() -> usize {
+    FIXED
+}
+
+/// The static text with the number, where there is one.
+pub fn fixed_text(number: usize) -> Option<&'static str> {
+    STATIC.get(number).copied()
+}
