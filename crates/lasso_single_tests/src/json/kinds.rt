@@ -69,27 +69,32 @@ fn wrong_between<R: AllocGlobal + Abort>(
     wrong_with(rt, json.as_str())
 }
 
-// The numbers of the places are those of the items that are no texts.
+// What is wrong with an array where the item at the position is this text, if it is one, and nothing before it is wrong but this behind it.
+fn wrong_item(text: Option<&str>, at: usize, behind: Option<JsonError>) -> Option<JsonError> {
+    match text {
+        None => Some(JsonError::NotText(at)),
+        Some(_) => behind,
+    }
+}
+
 #[test]
 fn each_kind_in_each_place(rt: HostRuntime) -> Result<(), Fail> {
     for (kind, text, alone) in KINDS {
         assert_eq!(rt; wrong_with(&rt, kind)?, alone, "{kind}");
-        for (before, behind, at) in [
-            ("[", "]", 0),
-            (r#"["z","#, "]", 1),
-            ("[", r#","z",null]"#, 0),
-        ] {
-            let wanted = match text {
-                None => Some(JsonError::NotText(at)),
-                Some(_) if behind == "]" => None,
-                Some(_) => Some(JsonError::NotText(2)),
-            };
-            assert_eq!(rt;
-                wrong_between(&rt, before, kind, behind)?,
-                wanted,
-                "{before}{kind}{behind}"
-            );
-        }
+        let first = wrong_item(text, 0, None);
+        assert_eq!(rt; wrong_between(&rt, "[", kind, "]")?, first, "{kind}");
+        let second = wrong_item(text, 1, None);
+        assert_eq!(rt;
+            wrong_between(&rt, r#"["z","#, kind, "]")?,
+            second,
+            "{kind}"
+        );
+        let before_a_fault = wrong_item(text, 0, Some(JsonError::NotText(2)));
+        assert_eq!(rt;
+            wrong_between(&rt, "[", kind, r#","z",null]"#)?,
+            before_a_fault,
+            "{kind}"
+        );
         assert_eq!(rt;
             wrong_between(&rt, r#"{"a":"#, kind, "}")?,
             NO_ARRAY,
