@@ -2,5 +2,5 @@ use Rattle.std.proofs.Common.{◌≡◌}
 use Rattle.lasso_shared_tests.proofs.threaded.collisions.interns_in_turn.Given as goal
 
 -- the pass stays one of the interner
-abbrev pub invariant-loop-mine-theirs : goal.invariant-loop-mine-theirs
-invariant-loop-mine-theirs g l = (l.pass.of ≡ l.one) × (l.other_pass.of ≡ l.other)
+abbrev pub invariant-loop-mine : goal.invariant-loop-mine
+invariant-loop-mine g l = (l.pass.of ≡ l.one) × (l.other_pass.of ≡ l.other)
