@@ -47,18 +47,21 @@ const PLACES: [(&str, &str, &str); 6] = [
     ("X", "0 X\n1 texts, # bytes\n", "X\n"),
     ("X\n", "0 X\n1 texts, # bytes\n", "X\n"),
     ("X\nb\nX\n", "0 X\n1 b\n0 X\n2 texts, # bytes\n", "X\nb\n"),
-    ("b\nX\nA\n", "0 b\n1 X\n2 A\n3 texts, # bytes\n", "A\nX\nb\n"),
-    ("b\nA\nX\n", "0 b\n1 A\n2 X\n3 texts, # bytes\n", "A\nX\nb\n"),
+    (
+        "b\nX\nA\n",
+        "0 b\n1 X\n2 A\n3 texts, # bytes\n",
+        "A\nX\nb\n",
+    ),
+    (
+        "b\nA\nX\n",
+        "0 b\n1 A\n2 X\n3 texts, # bytes\n",
+        "A\nX\nb\n",
+    ),
     ("b\nA\nX", "0 b\n1 A\n2 X\n3 texts, # bytes\n", "A\nX\nb\n"),
 ];
 
 // The place with its long line and its bytes filled in.
-fn fill_in<R: AllocGlobal>(
-    rt: &R,
-    place: &str,
-    line: &[u8],
-    bytes: &str,
-) -> Result<Vec<u8>, Fail> {
+fn fill_in<R: AllocGlobal>(rt: &R, place: &str, line: &[u8], bytes: &str) -> Result<Vec<u8>, Fail> {
     let mut filled = Vec::new(rt.alloc());
     for byte in place.as_bytes() {
         match byte {

@@ -45,7 +45,11 @@ fn few_texts(rt: HostRuntime) -> Result<(), Fail> {
         &|thread| numbers_of_few(&rt, &shared, thread.wrapping_mul(2)),
     )?;
     assert_eq!(rt; found.len(), 8);
-    let first = found.first().copied().flatten().ok_or("a text was refused")?;
+    let first = found
+        .first()
+        .copied()
+        .flatten()
+        .ok_or("a text was refused")?;
     assert!(rt; found.iter().all(|numbers| *numbers == Some(first)));
     for number in 0..16usize {
         assert!(rt; first.contains(&number), "no text has {number}");
@@ -88,11 +92,7 @@ fn interns_in_turn<R: Wait>(
 }
 
 // Whether the interner has the texts and no others.
-fn has_just<R: Wait>(
-    rt: &R,
-    shared: &ThreadedRodeo<Spur, FixedState>,
-    texts: &[String],
-) -> bool {
+fn has_just<R: Wait>(rt: &R, shared: &ThreadedRodeo<Spur, FixedState>, texts: &[String]) -> bool {
     let mut all = shared.len() == texts.len();
     for text in texts.iter() {
         if !shared.contains(rt, text.as_str()) {

@@ -60,7 +60,11 @@ fn usage_after_fall<R: Wait>(
 }
 
 // Whether the reader has just the first texts, so many of them, in order.
-fn has_first(reader: &RodeoReader<Spur, FixedState, Global>, texts: &[String], count: usize) -> bool {
+fn has_first(
+    reader: &RodeoReader<Spur, FixedState, Global>,
+    texts: &[String],
+    count: usize,
+) -> bool {
     let mut walk = reader.strings();
     for text in texts.iter().take(count) {
         if walk.next() != Some(text.as_str()) {
@@ -76,8 +80,10 @@ fn falls_after<R: AllocGlobal + Threads + Wait + Sync>(
     texts: &[String],
     awaited: usize,
 ) -> LassoResult<bool> {
-    let shared: ThreadedRodeo<Spur, FixedState> =
-        ThreadedRodeo::with_capacity(rt.alloc(), Capacity::for_bytes(16))?;
+    let shared: ThreadedRodeo<Spur, FixedState> = ThreadedRodeo::with_capacity(
+        rt.alloc(),
+        Capacity::for_bytes(16),
+    )?;
     let (taken, usage) = join(
         rt,
         || keys_before_refusals(rt, &shared, texts),

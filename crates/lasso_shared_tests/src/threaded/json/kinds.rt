@@ -62,12 +62,7 @@ fn wrong_with(alloc: Global, json: &str) -> Result<Wrong, Fail> {
 }
 
 // The same with the JSON of a value, or a name, between these.
-fn wrong_between(
-    alloc: Global,
-    before: &str,
-    kind: &str,
-    behind: &str,
-) -> Result<Wrong, Fail> {
+fn wrong_between(alloc: Global, before: &str, kind: &str, behind: &str) -> Result<Wrong, Fail> {
     let json = format!(in alloc; "{before}{kind}{behind}")?;
     wrong_with(alloc, json.as_str())
 }
