@@ -4,7 +4,8 @@
 //! again, with `shared` those of a call of the lists that are shared, with `interners` those of one round of the
 //! interner that threads share, over the lines of standard input; with `walks` those of walks over it and of freezing it; with
 //! `fill` it interns these lines as they come and prints how many texts there are; with `soak` and a number of seconds it has threads make
-//! random calls for so long and checks what they answer; and without words nothing.
+//! random calls for so long and checks what they answer; with `small` it does all of this over a few texts and prints what the calls
+//! answered; and without words nothing.
 #![tactic(auto)]
 
 ghost use Rattle.std.specs.Prelude.{◌<◌};
@@ -19,8 +20,7 @@ mod pools;
 mod positions;
 mod refill;
 mod shared;
-#[cfg(test)]
-mod tests;
+mod small;
 mod texts;
 mod threads;
 mod timing;
@@ -36,6 +36,7 @@ use lines::Lines;
 use pools::{MapPool, RodeoPool, SetPool};
 use refill::best_refill_timings;
 use shared::Shelf;
+use small::print_small;
 use std::env;
 use std::io::BufReader;
 use std::rt::Clock;
@@ -71,9 +72,10 @@ fn main(rt: HostRuntime) -> Result<()> {
         [word] if word.as_str() == "interners" => print_interners(&rt),
         [word] if word.as_str() == "walks" => print_walks(&rt),
         [word] if word.as_str() == "fill" => print_fill(&rt),
+        [word] if word.as_str() == "small" => print_small(&rt),
         [word, seconds] if word.as_str() == "soak" => print_soak(&rt, seconds.as_str()),
         _ => bail!(
-            "usage: lasso_bench [measure|round|refill|shared|interners|walks|fill|soak SECONDS]"
+            "usage: lasso_bench [measure|round|refill|shared|interners|walks|fill|small|soak SECONDS]"
         ),
     }
 }

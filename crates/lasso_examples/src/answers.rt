@@ -13,7 +13,7 @@ pub fn is_answer<K: Key>(
     wanted: Result<usize, LassoErrorKind>,
 ) {
     match (answer, wanted) {
-        (Ok(key), Ok(number)) => assert_eq!(rt; key.into_usize(), number),
+        (Ok(key), Ok(number)) => assert!(rt; key.into_usize() == number),
         (Err(error), Err(kind)) => assert!(rt; error.kind() == kind),
         _ => assert!(rt; false),
     }

@@ -44,29 +44,26 @@ pub fn has_one_text<K: Key, R: Abort + Wait, T: Reader<K>>(rt: &R, reader: &T) {
     assert!(rt; reader.contains(rt, "Hello, world!"));
     assert!(rt; !reader.contains(rt, "Hello"));
     assert!(rt; reader.get(rt, "Hello").is_none());
-    assert_eq!(rt;
-        reader.get(rt, "Hello, world!").map(|key| key.into_usize()),
-        Some(0)
-    );
+    assert!(rt; reader.get(rt, "Hello, world!").map(|key| key.into_usize()) == Some(0));
     assert!(rt; finds_what_resolves(rt, reader, "Hello, world!"));
     resolves_one_text(rt, reader);
 }
 
 /// That key 0 stands for `Hello, world!`, and key 1 for no text.
 pub fn resolves_one_text<K: Key, R: Abort, T: Resolver<K>>(rt: &R, resolver: &T) {
-    assert_eq!(rt; resolver.len(), 1);
+    assert!(rt; resolver.len() == 1);
     assert!(rt; !resolver.is_empty());
     let (Some(first), Some(second)) = (K::try_from_usize(0), K::try_from_usize(1)) else {
         assert!(rt; false);
         return;
     };
-    assert_eq!(rt; resolver.try_resolve(first), Some("Hello, world!"));
-    assert_eq!(rt; resolver.resolve(first), Some("Hello, world!"));
-    assert_eq!(rt; resolver.resolve_unchecked(first), Some("Hello, world!"));
+    assert!(rt; resolver.try_resolve(first) == Some("Hello, world!"));
+    assert!(rt; resolver.resolve(first) == Some("Hello, world!"));
+    assert!(rt; resolver.resolve_unchecked(first) == Some("Hello, world!"));
     assert!(rt; resolver.contains_key(first));
-    assert_eq!(rt; resolver.try_resolve(second), None);
-    assert_eq!(rt; resolver.resolve(second), None);
-    assert_eq!(rt; resolver.resolve_unchecked(second), None);
+    assert!(rt; resolver.try_resolve(second) == None);
+    assert!(rt; resolver.resolve(second) == None);
+    assert!(rt; resolver.resolve_unchecked(second) == None);
     assert!(rt; !resolver.contains_key(second));
     assert!(rt; looks_up_alike(resolver, first) && looks_up_alike(resolver, second));
 }
@@ -86,7 +83,7 @@ pub fn static_texts_under_no_limit<K: Key, R: Abort + Wait, I: Interner<K>>(
         Ok(2),
     );
     is_answer(rt, interner.get_or_intern_static(rt, "9876543210"), Ok(3));
-    assert_eq!(rt; interner.len(), 4);
+    assert!(rt; interner.len() == 4);
 }
 
 #[test]
@@ -101,7 +98,7 @@ fn one_text_through_each_interner(rt: HostRuntime) -> Result<(), Fail> {
         Rodeo::<Spur, FixedState, Global>::new(rt.alloc())?,
     )?;
     one_text::<Spur, _, _>(&rt, &mut boxed);
-    assert_eq!(rt; boxed.len(), 1);
+    assert!(rt; boxed.len() == 1);
     Ok(())
 }
 
@@ -109,13 +106,13 @@ fn one_text_through_each_interner(rt: HostRuntime) -> Result<(), Fail> {
 fn static_texts_through_each_interner(rt: HostRuntime) -> Result<(), Fail> {
     let mut rodeo = limited(rt.alloc())?;
     static_texts_under_no_limit::<Spur, _, _>(&rt, &mut rodeo);
-    assert_eq!(rt; rodeo.current_memory_usage(), 10);
+    assert!(rt; rodeo.current_memory_usage() == 10);
     let mut other = limited(rt.alloc())?;
     static_texts_under_no_limit::<Spur, _, _>(&rt, &mut &mut other);
-    assert_eq!(rt; other.current_memory_usage(), 10);
+    assert!(rt; other.current_memory_usage() == 10);
     let mut boxed = Box::new(rt.alloc(), limited(rt.alloc())?)?;
     static_texts_under_no_limit::<Spur, _, _>(&rt, &mut boxed);
-    assert_eq!(rt; boxed.current_memory_usage(), 10);
+    assert!(rt; boxed.current_memory_usage() == 10);
     Ok(())
 }
 
@@ -132,13 +129,13 @@ fn static_texts_take_no_bytes<K: Key, R: Abort + Wait, I: Interner<K>>(rt: &R, i
 fn static_texts_take_no_bytes_of_each_interner(rt: HostRuntime) -> Result<(), Fail> {
     let mut rodeo = of_four_bytes(rt.alloc())?;
     static_texts_take_no_bytes::<Spur, _, _>(&rt, &mut rodeo);
-    assert_eq!(rt; rodeo.current_memory_usage(), 4);
+    assert!(rt; rodeo.current_memory_usage() == 4);
     let mut other = of_four_bytes(rt.alloc())?;
     static_texts_take_no_bytes::<Spur, _, _>(&rt, &mut &mut other);
-    assert_eq!(rt; other.current_memory_usage(), 4);
+    assert!(rt; other.current_memory_usage() == 4);
     let mut boxed = Box::new(rt.alloc(), of_four_bytes(rt.alloc())?)?;
     static_texts_take_no_bytes::<Spur, _, _>(&rt, &mut boxed);
-    assert_eq!(rt; boxed.current_memory_usage(), 4);
+    assert!(rt; boxed.current_memory_usage() == 4);
     Ok(())
 }
 
@@ -198,11 +195,11 @@ fn a_boxed_interner_of_one_text(rt: HostRuntime) -> Result<(), Fail> {
     let mut rodeo: SpurRodeo = Rodeo::new(alloc)?;
     rodeo.try_get_or_intern("A")?;
     let reader = IntoReader::into_reader_boxed(Box::new(alloc, rodeo)?, &rt)?;
-    assert_eq!(rt; reader.try_resolve(first), Some("A"));
+    assert!(rt; reader.try_resolve(first) == Some("A"));
     let mut other: SpurRodeo = Rodeo::new(alloc)?;
     other.try_get_or_intern("A")?;
     let resolver = IntoResolver::into_resolver_boxed(Box::new(alloc, other)?, &rt)?;
-    assert_eq!(rt; resolver.try_resolve(first), Some("A"));
+    assert!(rt; resolver.try_resolve(first) == Some("A"));
     Ok(())
 }
 
@@ -218,7 +215,7 @@ fn laws_at_each_holder(rt: HostRuntime) -> Result<(), Fail> {
     assert!(rt; through_what_is_lent(&rt, &mut rodeo)?);
     let mut boxed = Box::new(alloc, rodeo)?;
     assert!(rt; boxed_rodeo_interns_as_one(&rt, &mut boxed, "c")?);
-    assert_eq!(rt; boxed.len(), 3);
+    assert!(rt; boxed.len() == 3);
     assert!(rt; reader_of_boxed_rodeo_knows(&rt, boxed, "d")?);
     assert!(rt; reader_of_rodeo_knows(&rt, hello(alloc)?, "a")?);
     assert!(rt; resolver_of_rodeo_knows(&rt, hello(alloc)?, "a")?);

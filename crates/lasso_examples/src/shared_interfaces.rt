@@ -30,21 +30,21 @@ fn limited(rt: &impl Wait, alloc: Global) -> LassoResult<SpurThreadedRodeo> {
 fn one_text_through_a_shared_interner(rt: HostRuntime) -> Result<(), Fail> {
     let mut rodeo: SpurThreadedRodeo = ThreadedRodeo::default(rt.alloc())?;
     one_text::<Spur, _, _>(&rt, &mut rodeo);
-    assert_eq!(rt; rodeo.current_memory_usage(&rt), 4096);
-    assert_eq!(rt; rodeo.max_memory_usage(&rt), usize::MAX);
+    assert!(rt; rodeo.current_memory_usage(&rt) == 4096);
+    assert!(rt; rodeo.max_memory_usage(&rt) == usize::MAX);
     let shared: SpurThreadedRodeo = ThreadedRodeo::default(rt.alloc())?;
     one_text::<Spur, _, _>(&rt, &mut &shared);
-    assert_eq!(rt; shared.current_memory_usage(&rt), 4096);
-    assert_eq!(rt; shared.max_memory_usage(&rt), usize::MAX);
+    assert!(rt; shared.current_memory_usage(&rt) == 4096);
+    assert!(rt; shared.max_memory_usage(&rt) == usize::MAX);
     let mut owned: SpurThreadedRodeo = ThreadedRodeo::default(rt.alloc())?;
     one_text::<Spur, _, _>(&rt, &mut &mut owned);
-    assert_eq!(rt; owned.current_memory_usage(&rt), 4096);
-    assert_eq!(rt; owned.max_memory_usage(&rt), usize::MAX);
+    assert!(rt; owned.current_memory_usage(&rt) == 4096);
+    assert!(rt; owned.max_memory_usage(&rt) == usize::MAX);
     let made: SpurThreadedRodeo = ThreadedRodeo::default(rt.alloc())?;
     let mut boxed = Box::new(rt.alloc(), made)?;
     one_text::<Spur, _, _>(&rt, &mut boxed);
-    assert_eq!(rt; boxed.current_memory_usage(&rt), 4096);
-    assert_eq!(rt; boxed.max_memory_usage(&rt), usize::MAX);
+    assert!(rt; boxed.current_memory_usage(&rt) == 4096);
+    assert!(rt; boxed.max_memory_usage(&rt) == usize::MAX);
     Ok(())
 }
 
@@ -52,20 +52,20 @@ fn one_text_through_a_shared_interner(rt: HostRuntime) -> Result<(), Fail> {
 fn static_texts_through_a_shared_interner(rt: HostRuntime) -> Result<(), Fail> {
     let mut rodeo = limited(&rt, rt.alloc())?;
     static_texts_under_no_limit::<Spur, _, _>(&rt, &mut rodeo);
-    assert_eq!(rt; rodeo.current_memory_usage(&rt), 10);
-    assert_eq!(rt; rodeo.max_memory_usage(&rt), 0);
+    assert!(rt; rodeo.current_memory_usage(&rt) == 10);
+    assert!(rt; rodeo.max_memory_usage(&rt) == 0);
     let shared = limited(&rt, rt.alloc())?;
     static_texts_under_no_limit::<Spur, _, _>(&rt, &mut &shared);
-    assert_eq!(rt; shared.current_memory_usage(&rt), 10);
-    assert_eq!(rt; shared.max_memory_usage(&rt), 0);
+    assert!(rt; shared.current_memory_usage(&rt) == 10);
+    assert!(rt; shared.max_memory_usage(&rt) == 0);
     let mut owned = limited(&rt, rt.alloc())?;
     static_texts_under_no_limit::<Spur, _, _>(&rt, &mut &mut owned);
-    assert_eq!(rt; owned.current_memory_usage(&rt), 10);
-    assert_eq!(rt; owned.max_memory_usage(&rt), 0);
+    assert!(rt; owned.current_memory_usage(&rt) == 10);
+    assert!(rt; owned.max_memory_usage(&rt) == 0);
     let mut boxed = Box::new(rt.alloc(), limited(&rt, rt.alloc())?)?;
     static_texts_under_no_limit::<Spur, _, _>(&rt, &mut boxed);
-    assert_eq!(rt; boxed.current_memory_usage(&rt), 10);
-    assert_eq!(rt; boxed.max_memory_usage(&rt), 0);
+    assert!(rt; boxed.current_memory_usage(&rt) == 10);
+    assert!(rt; boxed.max_memory_usage(&rt) == 0);
     Ok(())
 }
 
@@ -79,7 +79,7 @@ fn two_threads_intern_through_references(rt: HostRuntime) -> Result<(), Fail> {
     );
     assert!(rt; here?);
     assert!(rt; there?);
-    assert_eq!(rt; shared.len(), 2);
+    assert!(rt; shared.len() == 2);
     Ok(())
 }
 

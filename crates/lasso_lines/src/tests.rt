@@ -34,8 +34,8 @@ fn assert_fault<R: AllocGlobal + Abort>(
         return Err(Fail::from("there is no fault"));
     };
     let told = fault.to_string(rt.alloc())?;
-    assert_eq!(rt; told.as_str(), words);
-    assert_eq!(rt; fault.status(), status);
+    assert!(rt; told.as_str() == words);
+    assert!(rt; fault.status() == status);
     Ok(())
 }
 
@@ -43,7 +43,7 @@ fn assert_fault<R: AllocGlobal + Abort>(
 fn lines_and_counts(rt: HostRuntime) -> Result<(), Fail> {
     let (text, result) = report_of(&rt, INPUT, no_limit());
     assert!(rt; result == Ok(()));
-    assert_eq!(rt; text.as_slice(), OUTPUT);
+    assert!(rt; text.as_slice() == OUTPUT);
     Ok(())
 }
 
@@ -51,7 +51,7 @@ fn lines_and_counts(rt: HostRuntime) -> Result<(), Fail> {
 fn no_lines(rt: HostRuntime) -> Result<(), Fail> {
     let (text, result) = report_of(&rt, b"", no_limit());
     assert!(rt; result == Ok(()));
-    assert_eq!(rt; text.as_slice(), b"0 texts, 4096 bytes\n".as_slice());
+    assert!(rt; text.as_slice() == b"0 texts, 4096 bytes\n".as_slice());
     Ok(())
 }
 
@@ -64,7 +64,7 @@ fn past_the_limit(rt: HostRuntime) -> Result<(), Fail> {
     output.extend_from_slice(&line)?;
     output.push(b'\n')?;
     let (text, result) = report_of(&rt, &input, MemoryLimits::new(4100));
-    assert_eq!(rt; text.as_slice(), output.as_slice());
+    assert!(rt; text.as_slice() == output.as_slice());
     let words = "line 2: Lasso encountered an error: The configured memory limit was reached";
     assert_fault(&rt, result, words, 1)
 }
@@ -72,7 +72,7 @@ fn past_the_limit(rt: HostRuntime) -> Result<(), Fail> {
 #[test]
 fn not_text(rt: HostRuntime) -> Result<(), Fail> {
     let (text, result) = report_of(&rt, b"\x61\x0a\xff\x0a", no_limit());
-    assert_eq!(rt; text.as_slice(), b"0 a\n".as_slice());
+    assert!(rt; text.as_slice() == b"0 a\n".as_slice());
     assert_fault(&rt, result, "line 2: not UTF-8", 2)
 }
 
@@ -151,7 +151,7 @@ fn words_set_the_limit(rt: HostRuntime) -> Result<(), Fail> {
     let mut reader = MemoryReader::new(INPUT);
     let mut writer = MemoryWriter::new(rt.alloc());
     assert!(rt; run_words(&rt, &words, &mut reader, &mut writer) == Ok(()));
-    assert_eq!(rt; writer.into_bytes().as_slice(), OUTPUT);
+    assert!(rt; writer.into_bytes().as_slice() == OUTPUT);
     words.push("more".to_string(rt.alloc())?)?;
     let mut unread = MemoryReader::new(INPUT);
     let mut unwritten = MemoryWriter::new(rt.alloc());
@@ -171,6 +171,6 @@ fn a_line_longer_than_the_buffers(rt: HostRuntime) -> Result<(), Fail> {
     let written = Vec::new(rt.alloc());
     let mut writer = StandardWriter::new(rt.alloc(), written)?;
     assert!(rt; run(&rt, &mut reader, &mut writer, no_limit()) == Ok(()));
-    assert_eq!(rt; writer.into_inner().as_slice(), output.as_slice());
+    assert!(rt; writer.into_inner().as_slice() == output.as_slice());
     Ok(())
 }

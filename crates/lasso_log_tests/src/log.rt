@@ -157,17 +157,14 @@ fn slots_kept_ahead_have_their_chunks(rt: HostRuntime) -> Result<(), Fail> {
         limit: 10_000,
     };
     let (log, mut spine) = Log::open(rt.alloc(), opened)?;
-    assert_eq!(rt;
-        append_all(&rt, rt.alloc(), &log, &mut spine, &TEXTS[..31]),
-        31
-    );
-    assert_eq!(rt; spine.kept(), 0);
+    assert!(rt; append_all(&rt, rt.alloc(), &log, &mut spine, &TEXTS[..31]) == 31);
+    assert!(rt; spine.kept() == 0);
     // the slots of positions 31, 32 and 33, of which the first alone is in the first chunk
     let (kept, appended) = append_ahead(&rt, rt.alloc(), &log, &mut spine, [TEXTS[31], TEXTS[32]])?;
-    assert_eq!(rt; (kept, appended), (3, 2));
-    assert_eq!(rt; spine.kept(), 0);
-    assert_eq!(rt; read_all(&log, &TEXTS), 33);
+    assert!(rt; (kept, appended) == (3, 2));
+    assert!(rt; spine.kept() == 0);
+    assert!(rt; read_all(&log, &TEXTS) == 33);
     let mut pass = log.pass();
-    assert_eq!(rt; log.read(33, &mut pass), None);
+    assert!(rt; log.read(33, &mut pass) == None);
     Ok(())
 }

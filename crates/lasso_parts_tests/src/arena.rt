@@ -25,20 +25,19 @@ fn run_row(rt: &impl Abort, arena: &mut Arena<Global>, row: &[(Call, usize)]) {
         match *call {
             Stores(text) => {
                 assert!(rt; arena.admits(text.len()), "at {text}");
-                assert_eq!(rt; store(rt, arena, text), None, "at {text}");
+                assert!(rt; store(rt, arena, text) == None, "at {text}");
             }
             Refuses(text) => {
                 assert!(rt; !arena.admits(text.len()), "at {text}");
-                assert_eq!(rt;
-                    store(rt, arena, text),
-                    Some(LassoErrorKind::MemoryLimitReached),
+                assert!(rt;
+                    store(rt, arena, text) == Some(LassoErrorKind::MemoryLimitReached),
                     "at {text}"
                 );
             }
             SetsLimit(limit) => arena.set_limit(limit),
             Clears => arena.clear(),
         }
-        assert_eq!(rt; arena.memory_usage(), *usage, "at {call:?}");
+        assert!(rt; arena.memory_usage() == *usage, "at {call:?}");
     }
 }
 
@@ -67,7 +66,7 @@ fn a_full_region_is_followed_by_twice_the_bytes(rt: HostRuntime) -> Result<(), F
             (Stores("x"), 28),
         ],
     );
-    assert_eq!(rt; arena.max_memory_usage(), 100);
+    assert!(rt; arena.max_memory_usage() == 100);
     Ok(())
 }
 
@@ -189,8 +188,8 @@ fn ten_texts_that_double(rt: HostRuntime) -> Result<(), Fail> {
     ];
     for (len, usage) in row {
         let text = "a".repeat(rt.alloc(), len)?;
-        assert_eq!(rt; store(&rt, &mut arena, text.as_str()), None, "at {len}");
-        assert_eq!(rt; arena.memory_usage(), usage, "at {len}");
+        assert!(rt; store(&rt, &mut arena, text.as_str()) == None, "at {len}");
+        assert!(rt; arena.memory_usage() == usage, "at {len}");
     }
     Ok(())
 }
@@ -199,6 +198,6 @@ fn ten_texts_that_double(rt: HostRuntime) -> Result<(), Fail> {
 fn no_memory_has_the_greatest_number_of_bytes(rt: HostRuntime) {
     match Arena::new(rt.alloc(), usize::MAX, usize::MAX) {
         Ok(_arena) => panic!(rt; "there is no such region"),
-        Err(error) => assert_eq!(rt; error.kind(), LassoErrorKind::FailedAllocation),
+        Err(error) => assert!(rt; error.kind() == LassoErrorKind::FailedAllocation),
     }
 }

@@ -104,9 +104,9 @@ fn constant_hash(rt: HostRuntime) -> Result<(), Fail> {
         words.enter(n)?;
     }
     for n in 0..WORDS.len() {
-        assert_eq!(rt; words.find(WORDS[n]), Some(n));
+        assert!(rt; words.find(WORDS[n]) == Some(n));
     }
-    assert_eq!(rt; words.find("bbba"), None);
+    assert!(rt; words.find("bbba") == None);
     Ok(())
 }
 
@@ -135,17 +135,17 @@ fn each_call(rt: HostRuntime) -> Result<(), Fail> {
     let index = Index::with_capacity(rt.alloc(), 7)?;
     let mut words = Entered::new(index, FixedState::new(), WORDS.as_slice());
     words.enter(3)?;
-    assert_eq!(rt; words.find("aa"), Some(3));
-    assert_eq!(rt; words.find_hashed("aa"), Some(3));
-    assert_eq!(rt; words.find("ab"), None);
+    assert!(rt; words.find("aa") == Some(3));
+    assert!(rt; words.find_hashed("aa") == Some(3));
+    assert!(rt; words.find("ab") == None);
     words.clear();
-    assert_eq!(rt; words.find("aa"), None);
+    assert!(rt; words.find("aa") == None);
     words.enter(4)?;
-    assert_eq!(rt; words.find("ab"), Some(4));
-    assert_eq!(rt; words.find("aa"), None);
+    assert!(rt; words.find("ab") == Some(4));
+    assert!(rt; words.find("aa") == None);
     let huge: LassoResult<Index<Spur, Global>> = Index::with_capacity(rt.alloc(), usize::MAX);
     let refused = huge.err().ok_or("taken")?;
-    assert_eq!(rt; refused.kind(), LassoErrorKind::FailedAllocation);
+    assert!(rt; refused.kind() == LassoErrorKind::FailedAllocation);
     Ok(())
 }
 
@@ -153,7 +153,7 @@ fn each_call(rt: HostRuntime) -> Result<(), Fail> {
 fn tagged_slots(rt: HostRuntime) -> Result<(), Fail> {
     let key = Spur::try_from_usize(7).ok_or("no key")?;
     let mut slots = KeySlots::empty(rt.alloc(), 130)?;
-    assert_eq!(rt; slots.len(), 130);
+    assert!(rt; slots.len() == 130);
     for _ in 0..2u8 {
         for j in 0..130usize {
             assert!(rt; slots.len() == 130);
@@ -165,7 +165,7 @@ fn tagged_slots(rt: HostRuntime) -> Result<(), Fail> {
         slots.put(129, 128, key);
         for j in 0..130usize {
             assert!(rt; slots.len() == 130);
-            assert_eq!(rt; slots.get(j).is_some(), j == 64 || j == 129);
+            assert!(rt; slots.get(j).is_some() == (j == 64 || j == 129));
         }
         slots.clear();
         assert!(rt; slots.len() == 130);
@@ -181,14 +181,14 @@ fn other_tags_are_passed_over(rt: HostRuntime) -> Result<(), Fail> {
         words.enter(n)?;
     }
     let read = Cell::new(0u64);
-    assert_eq!(rt; words.find_counted(&read, "xxx"), Some(2));
-    assert_eq!(rt; read.get(), 1);
-    assert_eq!(rt; words.find_counted(&read, "yy"), Some(3));
-    assert_eq!(rt; read.get(), 2);
-    assert_eq!(rt; words.find_counted(&read, "zz"), None);
-    assert_eq!(rt; read.get(), 2);
-    assert_eq!(rt; words.find_counted(&read, "zzzz"), None);
-    assert_eq!(rt; read.get(), 0);
+    assert!(rt; words.find_counted(&read, "xxx") == Some(2));
+    assert!(rt; read.get() == 1);
+    assert!(rt; words.find_counted(&read, "yy") == Some(3));
+    assert!(rt; read.get() == 2);
+    assert!(rt; words.find_counted(&read, "zz") == None);
+    assert!(rt; read.get() == 2);
+    assert!(rt; words.find_counted(&read, "zzzz") == None);
+    assert!(rt; read.get() == 0);
     Ok(())
 }
 
@@ -197,12 +197,12 @@ fn entered_where_the_search_ended(rt: HostRuntime) -> Result<(), Fail> {
     let mut words = Entered::new(Index::new(rt.alloc()), FixedState::new(), WORDS.as_slice());
     for n in 0..WORDS.len() {
         words.enter_located(n)?;
-        assert_eq!(rt; words.find(WORDS[n]), Some(n));
+        assert!(rt; words.find(WORDS[n]) == Some(n));
     }
     for n in 0..WORDS.len() {
         words.enter_located(n)?;
-        assert_eq!(rt; words.find(WORDS[n]), Some(n));
+        assert!(rt; words.find(WORDS[n]) == Some(n));
     }
-    assert_eq!(rt; words.find("bbba"), None);
+    assert!(rt; words.find("bbba") == None);
     Ok(())
 }

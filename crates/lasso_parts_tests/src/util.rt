@@ -21,21 +21,12 @@ fn errors_print_their_kind(rt: HostRuntime) -> Result<(), Fail> {
     ];
     for (kind, text) in rows {
         let error = LassoError::new(kind);
-        assert_eq!(rt; error.to_string(rt.alloc())?.as_str(), text);
+        assert!(rt; error.to_string(rt.alloc())?.as_str() == text);
         assert!(rt; error.kind() == kind);
         assert!(rt; error == error.clone()?);
-        assert_eq!(rt;
-            kind.is_memory_limit(),
-            kind == LassoErrorKind::MemoryLimitReached
-        );
-        assert_eq!(rt;
-            kind.is_keyspace_exhaustion(),
-            kind == LassoErrorKind::KeySpaceExhaustion
-        );
-        assert_eq!(rt;
-            kind.is_failed_alloc(),
-            kind == LassoErrorKind::FailedAllocation
-        );
+        assert!(rt; kind.is_memory_limit() == (kind == LassoErrorKind::MemoryLimitReached));
+        assert!(rt; kind.is_keyspace_exhaustion() == (kind == LassoErrorKind::KeySpaceExhaustion));
+        assert!(rt; kind.is_failed_alloc() == (kind == LassoErrorKind::FailedAllocation));
     }
     Ok(())
 }
@@ -50,22 +41,13 @@ fn capacities_and_limits(rt: HostRuntime) {
         (Capacity::new(3, 9), 3, 9),
     ];
     for (capacity, strings, bytes) in rows {
-        assert_eq!(rt; capacity.strings(), strings);
-        assert_eq!(rt; capacity.bytes(), bytes);
+        assert!(rt; capacity.strings() == strings);
+        assert!(rt; capacity.bytes() == bytes);
     }
-    assert_eq!(rt;
-        Capacity::new(1, 9).cmp(&Capacity::new(2, 1)),
-        Ordering::Less
-    );
-    assert_eq!(rt;
-        Capacity::new(1, 9).cmp(&Capacity::new(1, 1)),
-        Ordering::Greater
-    );
-    assert_eq!(rt; MemoryLimits::default().max_memory_usage(), usize::MAX);
-    assert_eq!(rt; MemoryLimits::new(12).max_memory_usage(), 12);
-    assert_eq!(rt; MemoryLimits::for_memory_usage(13).max_memory_usage(), 13);
-    assert_eq!(rt;
-        MemoryLimits::new(12).cmp(&MemoryLimits::new(13)),
-        Ordering::Less
-    );
+    assert!(rt; Capacity::new(1, 9).cmp(&Capacity::new(2, 1)) == Ordering::Less);
+    assert!(rt; Capacity::new(1, 9).cmp(&Capacity::new(1, 1)) == Ordering::Greater);
+    assert!(rt; MemoryLimits::default().max_memory_usage() == usize::MAX);
+    assert!(rt; MemoryLimits::new(12).max_memory_usage() == 12);
+    assert!(rt; MemoryLimits::for_memory_usage(13).max_memory_usage() == 13);
+    assert!(rt; MemoryLimits::new(12).cmp(&MemoryLimits::new(13)) == Ordering::Less);
 }

@@ -67,7 +67,7 @@ pub fn commands<R: AllocGlobal>(rt: &R, refused: &mut Refused) -> Result<(), Fau
     let mut rodeo: Interner = twice!(
         refused,
         Call::of("with_capacity_and_memory_limits"),
-        Rodeo::with_capacity_and_memory_limits(alloc, Capacity::new(1, 4), MemoryLimits::new(4)),
+        Rodeo::with_capacity_and_memory_limits(alloc, Capacity::new(0, 4), MemoryLimits::new(4)),
         true
     );
     let call = Call::of("run_commands");

@@ -83,8 +83,8 @@ fn intern_and_set<S: BuildHasher + Drop, R: Wait>(
 #[test]
 fn shards_apart(rt: HostRuntime) -> Result<(), Fail> {
     let hasher = FirstState::new();
-    assert_eq!(rt; number_of(hash_text(&hasher, "0")), 3);
-    assert_eq!(rt; number_of(hash_text(&hasher, "a")), 6);
+    assert!(rt; number_of(hash_text(&hasher, "0")) == 3);
+    assert!(rt; number_of(hash_text(&hasher, "a")) == 6);
     let shards = Shards::open(rt.alloc(), hasher, OPENED)?;
     let flag = AtomicU64::new(0);
     let (guard, shard) = shards.lock(3).take(&rt);
@@ -159,13 +159,13 @@ fn constant_hash(rt: HostRuntime) -> Result<(), Fail> {
         SameState::new(),
     )?;
     assert!(rt; in_order(&rt, &shared, &TEXTS));
-    assert_eq!(rt; shared.get(&rt, "300"), None);
-    assert_eq!(rt; shared.len(), 300);
+    assert!(rt; shared.get(&rt, "300") == None);
+    assert!(rt; shared.len() == 300);
     let reader = shared.into_reader(&rt)?;
-    assert_eq!(rt; reader.len(), 300);
+    assert!(rt; reader.len() == 300);
     for position in 0..TEXTS.len() {
         let found = reader.get(TEXTS[position]).ok_or("not there")?;
-        assert_eq!(rt; found.into_usize(), position);
+        assert!(rt; found.into_usize() == position);
     }
     assert!(rt; reader.get("300").is_none());
     Ok(())
@@ -179,8 +179,8 @@ fn texts_of_one_shard_and_of_others(rt: HostRuntime) -> Result<(), Fail> {
     )?;
     assert!(rt; in_order(&rt, &shared, &TEXTS));
     assert!(rt; in_order(&rt, &shared, &TEXTS));
-    assert_eq!(rt; shared.get(&rt, "a"), None);
-    assert_eq!(rt; shared.len(), 300);
+    assert!(rt; shared.get(&rt, "a") == None);
+    assert!(rt; shared.len() == 300);
     Ok(())
 }
 
@@ -221,20 +221,14 @@ fn a_refused_text_gives_its_slot_back(rt: HostRuntime) -> Result<(), Fail> {
         OPENED,
     )?;
     for position in 0..255usize {
-        assert_eq!(rt; number(&rt, &shards, TEXTS[position]), Ok(position));
+        assert!(rt; number(&rt, &shards, TEXTS[position]) == Ok(position));
     }
-    assert_eq!(rt; kept_slots(&rt, &shards), 0);
-    assert_eq!(rt;
-        number(&rt, &shards, TEXTS[255]),
-        Err(LassoErrorKind::KeySpaceExhaustion)
-    );
-    assert_eq!(rt; kept_slots(&rt, &shards), 0);
+    assert!(rt; kept_slots(&rt, &shards) == 0);
+    assert!(rt; number(&rt, &shards, TEXTS[255]) == Err(LassoErrorKind::KeySpaceExhaustion));
+    assert!(rt; kept_slots(&rt, &shards) == 0);
     // no number is left for the empty text either, and the texts that are there keep theirs
-    assert_eq!(rt;
-        number(&rt, &shards, ""),
-        Err(LassoErrorKind::KeySpaceExhaustion)
-    );
-    assert_eq!(rt; kept_slots(&rt, &shards), 0);
-    assert_eq!(rt; number(&rt, &shards, TEXTS[0]), Ok(0));
+    assert!(rt; number(&rt, &shards, "") == Err(LassoErrorKind::KeySpaceExhaustion));
+    assert!(rt; kept_slots(&rt, &shards) == 0);
+    assert!(rt; number(&rt, &shards, TEXTS[0]) == Ok(0));
     Ok(())
 }

@@ -159,13 +159,13 @@ fn two_threads_append(rt: HostRuntime) -> Result<(), Fail> {
     );
     assert!(rt; a && b);
     let mut pass = shared.pass();
-    assert_eq!(rt; shared.len_as(&mut pass), 200);
+    assert!(rt; shared.len_as(&mut pass) == 200);
     // 100 texts of each thread at 200 positions: each stands once, in its thread's order
-    assert_eq!(rt; in_order(&shared, &FIRST), 100);
-    assert_eq!(rt; in_order(&shared, &SECOND), 100);
+    assert!(rt; in_order(&shared, &FIRST) == 100);
+    assert!(rt; in_order(&shared, &SECOND) == 100);
     let mut past = shared.pass();
     let key = Spur::try_from_usize(200).ok_or("no key")?;
-    assert_eq!(rt; shared.try_resolve_as(&mut past, key), None);
+    assert!(rt; shared.try_resolve_as(&mut past, key) == None);
     Ok(())
 }
 
@@ -196,7 +196,7 @@ fn takes_all<R: Wait>(
 fn a_text_that_was_refused_once_is_taken_later(rt: HostRuntime) -> Result<(), Fail> {
     let shared = ThreadedRodeo::default(rt.alloc())?;
     assert!(rt; takes_all(&rt, &shared, &FIRST));
-    assert_eq!(rt; in_order(&shared, &FIRST), 100);
+    assert!(rt; in_order(&shared, &FIRST) == 100);
     Ok(())
 }
 
@@ -207,13 +207,10 @@ fn keys_used_up_refuse_new_texts_alone(rt: HostRuntime) -> Result<(), Fail> {
         FixedState::new(),
     )?;
     let mut pass = shared.pass();
-    assert_eq!(rt; number(&rt, &shared, &mut pass, "p"), Ok(0));
-    assert_eq!(rt; number(&rt, &shared, &mut pass, "q"), Ok(1));
-    assert_eq!(rt;
-        number(&rt, &shared, &mut pass, "r"),
-        Err(LassoErrorKind::KeySpaceExhaustion)
-    );
-    assert_eq!(rt; number(&rt, &shared, &mut pass, "p"), Ok(0));
+    assert!(rt; number(&rt, &shared, &mut pass, "p") == Ok(0));
+    assert!(rt; number(&rt, &shared, &mut pass, "q") == Ok(1));
+    assert!(rt; number(&rt, &shared, &mut pass, "r") == Err(LassoErrorKind::KeySpaceExhaustion));
+    assert!(rt; number(&rt, &shared, &mut pass, "p") == Ok(0));
     Ok(())
 }
 
@@ -241,8 +238,8 @@ fn a_text_of_two_threads_has_one_key(rt: HostRuntime) -> Result<(), Fail> {
     );
     let (a, b) = (a?, b?);
     assert!(rt; a.is_some());
-    assert_eq!(rt; a, b);
+    assert!(rt; a == b);
     let mut pass = shared.pass();
-    assert_eq!(rt; shared.len_as(&mut pass), 3);
+    assert!(rt; shared.len_as(&mut pass) == 3);
     Ok(())
 }

@@ -71,7 +71,7 @@ fn a_refusal_does_not_end_the_run(rt: HostRuntime) -> Result<(), Fail> {
         Command::Usage,
     ];
     let replies = run_commands(rt.alloc(), &mut rodeo, commands.as_slice())?;
-    assert_eq!(rt; replies.len(), 7);
+    assert!(rt; replies.len() == 7);
     assert!(rt; is_key(&replies[0], 0));
     assert!(rt; is_limit(&replies[1]));
     assert!(rt; matches!(&replies[2], Reply::Done));
@@ -154,13 +154,13 @@ fn answers_as_worked(rt: &impl Abort, replies: &[Reply<Spur>]) {
 }
 
 fn holds_as_worked(rt: &impl Abort, rodeo: &Small) {
-    assert_eq!(rt; rodeo.len(), 4);
+    assert!(rt; rodeo.len() == 4);
     let mut texts = rodeo.strings();
     for text in ["one", "two", "three", "four"] {
-        assert_eq!(rt; texts.next(), Some(text));
+        assert!(rt; texts.next() == Some(text));
     }
-    assert_eq!(rt; rodeo.current_memory_usage(), 12);
-    assert_eq!(rt; rodeo.max_memory_usage(), 20);
+    assert!(rt; rodeo.current_memory_usage() == 12);
+    assert!(rt; rodeo.max_memory_usage() == 20);
 }
 
 // "abc" fills what a limit of 4 bytes has room for but 1. So the copy stops at its second text and leaves none, the
@@ -185,7 +185,7 @@ fn each_command_past_the_limit(rt: HostRuntime) -> Result<(), Fail> {
         Command::Get("a"),
     ];
     let replies = run_commands(rt.alloc(), &mut rodeo, commands.as_slice())?;
-    assert_eq!(rt; replies.len(), 7);
+    assert!(rt; replies.len() == 7);
     assert!(rt; is_key(&replies[0], 0));
     assert!(rt; is_limit(&replies[1]));
     assert!(rt; is_number(&replies[2], 0));

@@ -43,9 +43,9 @@ fn faulty_arrays_of_distinct_texts(rt: HostRuntime) -> Result<(), Fail> {
     for (text, wanted) in rows {
         let value = Value::from_str(rt.alloc(), text)?;
         let as_rodeo = fault(SpurRodeo::deserialize(rt.alloc(), &value));
-        assert_eq!(rt; as_rodeo, Some(wanted), "{text}");
+        assert!(rt; as_rodeo == Some(wanted), "{text}");
         let as_reader = fault(SpurReader::deserialize(rt.alloc(), &value));
-        assert_eq!(rt; as_reader, Some(wanted), "{text}");
+        assert!(rt; as_reader == Some(wanted), "{text}");
     }
     Ok(())
 }
@@ -54,15 +54,15 @@ fn faulty_arrays_of_distinct_texts(rt: HostRuntime) -> Result<(), Fail> {
 fn a_resolver_may_hold_equal_texts(rt: HostRuntime) -> Result<(), Fail> {
     let value = Value::from_str(rt.alloc(), r#"["a", "b", "a"]"#)?;
     let resolver = SpurResolver::deserialize(rt.alloc(), &value)?;
-    assert_eq!(rt; resolver.len(), 3);
+    assert!(rt; resolver.len() == 3);
     for (position, text) in [(0usize, "a"), (1, "b"), (2, "a")] {
         let key = Spur::try_from_usize(position).ok_or("no key")?;
-        assert_eq!(rt; resolver.try_resolve(key), Some(text));
+        assert!(rt; resolver.try_resolve(key) == Some(text));
     }
     for text in [r#"["a", {}]"#, r#"["a", 1]"#] {
         let faulty = Value::from_str(rt.alloc(), text)?;
         let answer = fault(SpurResolver::deserialize(rt.alloc(), &faulty));
-        assert_eq!(rt; answer, Some(JsonError::NotText(1)), "{text}");
+        assert!(rt; answer == Some(JsonError::NotText(1)), "{text}");
     }
     Ok(())
 }
@@ -71,14 +71,14 @@ fn a_resolver_may_hold_equal_texts(rt: HostRuntime) -> Result<(), Fail> {
 fn what_was_read_has_one_bucket(rt: HostRuntime) -> Result<(), Fail> {
     let none = Value::from_str(rt.alloc(), "[]")?;
     let empty = SpurRodeo::deserialize(rt.alloc(), &none)?;
-    assert_eq!(rt; empty.len(), 0);
-    assert_eq!(rt; empty.current_memory_usage(), 4096);
-    assert_eq!(rt; empty.max_memory_usage(), usize::MAX);
+    assert!(rt; empty.len() == 0);
+    assert!(rt; empty.current_memory_usage() == 4096);
+    assert!(rt; empty.max_memory_usage() == usize::MAX);
     let value = Value::from_str(rt.alloc(), r#"["ab", "c"]"#)?;
     let mut rodeo = SpurRodeo::deserialize(rt.alloc(), &value)?;
-    assert_eq!(rt; rodeo.current_memory_usage(), 3);
-    assert_eq!(rt; rodeo.try_get_or_intern("d")?.into_usize(), 2);
-    assert_eq!(rt; rodeo.current_memory_usage(), 9);
+    assert!(rt; rodeo.current_memory_usage() == 3);
+    assert!(rt; rodeo.try_get_or_intern("d")?.into_usize() == 2);
+    assert!(rt; rodeo.current_memory_usage() == 9);
     Ok(())
 }
 
@@ -86,13 +86,13 @@ fn what_was_read_has_one_bucket(rt: HostRuntime) -> Result<(), Fail> {
 fn each_form_writes_its_texts(rt: HostRuntime) -> Result<(), Fail> {
     let rodeo = SpurRodeo::from_iter(rt.alloc(), ["b", "a"])?;
     let written = rodeo.serialize(rt.alloc())?.to_string(rt.alloc())?;
-    assert_eq!(rt; written.as_str(), r#"["b","a"]"#);
+    assert!(rt; written.as_str() == r#"["b","a"]"#);
     let reader = rodeo.into_reader();
     let written = reader.serialize(rt.alloc())?.to_string(rt.alloc())?;
-    assert_eq!(rt; written.as_str(), r#"["b","a"]"#);
+    assert!(rt; written.as_str() == r#"["b","a"]"#);
     let resolver = reader.into_resolver();
     let written = resolver.serialize(rt.alloc())?.to_string(rt.alloc())?;
-    assert_eq!(rt; written.as_str(), r#"["b","a"]"#);
+    assert!(rt; written.as_str() == r#"["b","a"]"#);
     Ok(())
 }
 
@@ -112,19 +112,19 @@ fn numbered(alloc: Global, count: usize, different: usize) -> Result<Value, Fail
 fn a_position_without_a_key(rt: HostRuntime) -> Result<(), Fail> {
     let distinct = numbered(rt.alloc(), 256, 256)?;
     let answer = fault(Rodeo::<MicroSpur, FixedState, Global>::deserialize(rt.alloc(), &distinct));
-    assert_eq!(rt; answer, Some(JsonError::TooMany(255)));
+    assert!(rt; answer == Some(JsonError::TooMany(255)));
     let last_as_first = numbered(rt.alloc(), 256, 255)?;
     let answer = fault(Rodeo::<MicroSpur, FixedState, Global>::deserialize(
         rt.alloc(),
         &last_as_first,
     ));
-    assert_eq!(rt; answer, Some(JsonError::Doubled(255)));
+    assert!(rt; answer == Some(JsonError::Doubled(255)));
     let equal = numbered(rt.alloc(), 256, 1)?;
     let answer = fault(RodeoResolver::<MicroSpur, Global>::deserialize(rt.alloc(), &equal));
-    assert_eq!(rt; answer, Some(JsonError::TooMany(255)));
+    assert!(rt; answer == Some(JsonError::TooMany(255)));
     let one = Value::from_str(rt.alloc(), r#"["pp"]"#)?;
     let answer = fault(Rodeo::<Gap<0>, FixedState, Global>::deserialize(rt.alloc(), &one));
-    assert_eq!(rt; answer, Some(JsonError::TooMany(0)));
+    assert!(rt; answer == Some(JsonError::TooMany(0)));
     Ok(())
 }
 
@@ -133,9 +133,9 @@ fn a_position_without_a_key(rt: HostRuntime) -> Result<(), Fail> {
 fn a_double_behind_many_texts(rt: HostRuntime) -> Result<(), Fail> {
     let last_as_first = numbered(rt.alloc(), 200_000, 199_999)?;
     let answer = fault(SpurRodeo::deserialize(rt.alloc(), &last_as_first));
-    assert_eq!(rt; answer, Some(JsonError::Doubled(199_999)));
+    assert!(rt; answer == Some(JsonError::Doubled(199_999)));
     let resolver = SpurResolver::deserialize(rt.alloc(), &last_as_first)?;
-    assert_eq!(rt; resolver.len(), 200_000);
+    assert!(rt; resolver.len() == 200_000);
     Ok(())
 }
 
@@ -156,14 +156,14 @@ fn through_text_and_back(rt: HostRuntime) -> Result<(), Fail> {
     let again = SpurRodeo::deserialize(rt.alloc(), &value)?;
     let reader = SpurReader::deserialize(rt.alloc(), &value)?;
     let resolver = SpurResolver::deserialize(rt.alloc(), &value)?;
-    assert_eq!(rt; again.len(), 6);
+    assert!(rt; again.len() == 6);
     assert!(rt; reader.eq_rodeo(&rodeo));
     assert!(rt; resolver.eq_rodeo(&rodeo));
     for (position, text) in STRANGE.iter().enumerate() {
         let key = Spur::try_from_usize(position).ok_or("no key")?;
-        assert_eq!(rt; again.try_resolve(key), Some(*text));
+        assert!(rt; again.try_resolve(key) == Some(*text));
         let found = again.get(text).ok_or("not there")?;
-        assert_eq!(rt; found.into_usize(), position);
+        assert!(rt; found.into_usize() == position);
     }
     Ok(())
 }

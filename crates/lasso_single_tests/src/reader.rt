@@ -45,9 +45,9 @@ fn two_threads_share_a_reader(rt: HostRuntime) -> Result<(), Fail> {
     let reader = rodeo.into_reader();
     crosses(&reader);
     let (here, there) = thread::join(&rt, || positions(&reader), || positions(&reader));
-    assert_eq!(rt; here, (Some(0), None));
-    assert_eq!(rt; there, (Some(0), None));
-    assert_eq!(rt; positions(&reader), (Some(0), None));
+    assert!(rt; here == (Some(0), None));
+    assert!(rt; there == (Some(0), None));
+    assert!(rt; positions(&reader) == (Some(0), None));
     let near = Spur::try_from_usize(0).ok_or("no key")?;
     let far = Spur::try_from_usize(10).ok_or("no key")?;
     let (here, there) = thread::join(
@@ -55,8 +55,8 @@ fn two_threads_share_a_reader(rt: HostRuntime) -> Result<(), Fail> {
         || texts(&reader, near, far),
         || texts(&reader, near, far),
     );
-    assert_eq!(rt; here, (true, true));
-    assert_eq!(rt; there, (true, true));
+    assert!(rt; here == (true, true));
+    assert!(rt; there == (true, true));
     Ok(())
 }
 
@@ -68,22 +68,22 @@ fn a_reader_shows_the_list_that_was_frozen(rt: HostRuntime) -> Result<(), Fail> 
     let reader = rodeo.into_reader();
     assert!(rt; reader.eq_rodeo(&other));
     assert!(rt; other.eq_reader(&reader));
-    assert_eq!(rt; reader.len(), 2);
+    assert!(rt; reader.len() == 2);
     assert!(rt; !reader.is_empty());
     assert!(rt; reader.contains("B"));
     assert!(rt; !reader.contains("C"));
     let second = reader.get("B").ok_or("not there")?;
     assert!(rt; reader.contains_key(second));
-    assert_eq!(rt; reader.resolve(second), "B");
-    assert_eq!(rt; reader.resolve_unchecked(second), "B");
+    assert!(rt; reader.resolve(second) == "B");
+    assert!(rt; reader.resolve_unchecked(second) == "B");
     let third = Spur::try_from_usize(2).ok_or("no key")?;
     assert!(rt; !reader.contains_key(third));
-    assert_eq!(rt; reader.try_resolve(third), None);
+    assert!(rt; reader.try_resolve(third) == None);
     for (key, text) in &reader {
-        assert_eq!(rt; reader.try_resolve(key), Some(text));
+        assert!(rt; reader.try_resolve(key) == Some(text));
     }
-    assert_eq!(rt; reader.iter().nth(1), Some((second, "B")));
-    assert_eq!(rt; reader.strings().next_back(), Some("B"));
+    assert!(rt; reader.iter().nth(1) == Some((second, "B")));
+    assert!(rt; reader.strings().next_back() == Some("B"));
     let twin = other.into_reader();
     assert!(rt; reader == twin);
     let resolver = twin.into_resolver();
@@ -107,7 +107,7 @@ fn longest<K: Key, S: BuildHasher, A: Allocator>(reader: &RodeoReader<K, S, A>) 
 fn a_loop_sees_each_text(rt: HostRuntime) -> Result<(), Fail> {
     let mut rodeo = Rodeo::default(rt.alloc())?;
     rodeo.extend(["ab", "cdef", "g"])?;
-    assert_eq!(rt; longest(&rodeo.into_reader()), 4);
+    assert!(rt; longest(&rodeo.into_reader()) == 4);
     Ok(())
 }
 
@@ -143,7 +143,7 @@ fn a_reader_of_texts_of_one_hash(rt: HostRuntime) -> Result<(), Fail> {
     for number in 0..300usize {
         let text = number.to_string(rt.alloc())?;
         let key = reader.get(text.as_str()).ok_or("not there")?;
-        assert_eq!(rt; key.into_usize(), number);
+        assert!(rt; key.into_usize() == number);
     }
     assert!(rt; reader.get("300").is_none());
     Ok(())
@@ -160,10 +160,10 @@ fn keys_with_a_gap_freeze_to_two_texts(rt: HostRuntime) -> Result<(), Fail> {
     let refusal = rodeo.try_get_or_intern("r").err().ok_or("not refused")?;
     assert!(rt; refusal.kind() == LassoErrorKind::KeySpaceExhaustion);
     let reader = rodeo.into_reader();
-    assert_eq!(rt; reader.len(), 2);
+    assert!(rt; reader.len() == 2);
     let second = Gap::try_from_usize(1).ok_or("no key")?;
-    assert_eq!(rt; reader.try_resolve(second), Some("q"));
+    assert!(rt; reader.try_resolve(second) == Some("q"));
     assert!(rt; reader.get("r").is_none());
-    assert_eq!(rt; reader.into_resolver().len(), 2);
+    assert!(rt; reader.into_resolver().len() == 2);
     Ok(())
 }

@@ -42,7 +42,7 @@ fn each_refused<R: AllocGlobal + Abort, F: Fn(&R, &Memory) -> Result<(), Fail> +
     for refused in 1..MOST {
         let memory = Refusing::new(rt.alloc(), refused);
         script(rt, &memory)?;
-        assert_eq!(rt; memory.bytes_out(), 0, "{refused}");
+        assert!(rt; memory.bytes_out() == 0, "{refused}");
         if !memory.has_refused() {
             assert!(rt; refused > 1, "no request at all");
             return Ok(());
@@ -65,7 +65,7 @@ fn made<T>(rt: &impl Abort, memory: &Memory, outcome: LassoResult<T>) -> Option<
 
 fn is_refused(rt: &impl Abort, memory: &Memory, kind: LassoErrorKind) {
     assert!(rt; memory.has_refused());
-    assert_eq!(rt; kind, MEMORY);
+    assert!(rt; kind == MEMORY);
 }
 
 // An interner without room for any text in its list and index, so that its texts ask for it.
@@ -98,23 +98,23 @@ fn gives<K: Key>(rt: &impl Abort, rodeo: &mut Metered<'_, K>, text: &str, wanted
     let (len, usage) = (rodeo.len(), rodeo.current_memory_usage());
     let mut answer = told(rodeo.try_get_or_intern(text));
     if answer == Err(MEMORY) {
-        assert_eq!(rt; rodeo.len(), len, "{text}");
-        assert_eq!(rt; rodeo.current_memory_usage(), usage, "{text}");
+        assert!(rt; rodeo.len() == len, "{text}");
+        assert!(rt; rodeo.current_memory_usage() == usage, "{text}");
         assert!(rt; !rodeo.contains(text), "{text}");
         answer = told(rodeo.try_get_or_intern(text));
     }
-    assert_eq!(rt; answer, wanted, "{text}");
+    assert!(rt; answer == wanted, "{text}");
 }
 
 // Exactly these texts are there, in this order, and the buckets take so many bytes.
 fn holds<K: Key>(rt: &impl Abort, rodeo: &Metered<'_, K>, texts: &[&str], usage: usize) {
-    assert_eq!(rt; rodeo.len(), texts.len());
+    assert!(rt; rodeo.len() == texts.len());
     let mut walk = rodeo.strings();
     for text in texts {
-        assert_eq!(rt; walk.next(), Some(*text));
+        assert!(rt; walk.next() == Some(*text));
         assert!(rt; rodeo.contains(*text));
     }
-    assert_eq!(rt; rodeo.current_memory_usage(), usage);
+    assert!(rt; rodeo.current_memory_usage() == usage);
 }
 
 fn hello_twice<R: AllocGlobal + Abort>(rt: &R, memory: &Memory) -> Result<(), Fail> {

@@ -28,17 +28,17 @@ fn two_threads_share_a_resolver(rt: HostRuntime) -> Result<(), Fail> {
     let near = rodeo.try_get_or_intern("A")?;
     let far = Spur::try_from_usize(10).ok_or("no key")?;
     let resolver = rodeo.into_resolver();
-    assert_eq!(rt; near.into_usize(), 0);
+    assert!(rt; near.into_usize() == 0);
     crosses(&resolver);
     let (here, there) = thread::join(
         &rt,
         || texts(&resolver, near, far),
         || texts(&resolver, near, far),
     );
-    assert_eq!(rt; here, (true, true));
-    assert_eq!(rt; there, (true, true));
-    assert_eq!(rt; resolver.try_resolve(near), Some("A"));
-    assert_eq!(rt; resolver.try_resolve(far), None);
+    assert!(rt; here == (true, true));
+    assert!(rt; there == (true, true));
+    assert!(rt; resolver.try_resolve(near) == Some("A"));
+    assert!(rt; resolver.try_resolve(far) == None);
     Ok(())
 }
 
@@ -53,22 +53,22 @@ fn a_resolver_of_items(rt: HostRuntime) -> Result<(), Fail> {
     let mut walk = resolver.iter();
     for (number, text) in ["a", "b", "c", "d", "e"].iter().enumerate() {
         let key = Spur::try_from_usize(number).ok_or("no key")?;
-        assert_eq!(rt; walk.next(), Some((key, *text)));
-        assert_eq!(rt; resolver.try_resolve(key), Some(*text));
+        assert!(rt; walk.next() == Some((key, *text)));
+        assert!(rt; resolver.try_resolve(key) == Some(*text));
     }
-    assert_eq!(rt; walk.next(), None);
-    assert_eq!(rt; resolver.len(), 5);
+    assert!(rt; walk.next() == None);
+    assert!(rt; resolver.len() == 5);
     assert!(rt; !resolver.is_empty());
-    assert_eq!(rt; resolver.strings().next(), Some("a"));
+    assert!(rt; resolver.strings().next() == Some("a"));
     let first = Spur::default();
     if resolver.contains_key(first) {
-        assert_eq!(rt; resolver.resolve(first), "a");
-        assert_eq!(rt; resolver.resolve_unchecked(first), "a");
+        assert!(rt; resolver.resolve(first) == "a");
+        assert!(rt; resolver.resolve_unchecked(first) == "a");
     } else {
         assert!(rt; false, "the first key stands for no text");
     }
     for (key, text) in &resolver {
-        assert_eq!(rt; resolver.try_resolve(key), Some(text));
+        assert!(rt; resolver.try_resolve(key) == Some(text));
     }
     assert!(rt; resolver.eq_rodeo(&other));
     assert!(rt; other.eq_resolver(&resolver));

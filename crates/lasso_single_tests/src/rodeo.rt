@@ -42,12 +42,12 @@ fn gives<K: Key, S: BuildHasher>(
 ) {
     for (text, wanted) in rows {
         match (rodeo.try_get_or_intern(text), wanted) {
-            (Ok(key), Ok(number)) => assert_eq!(rt; key.into_usize(), *number, "{text}"),
+            (Ok(key), Ok(number)) => assert!(rt; key.into_usize() == *number, "{text}"),
             (Err(error), Err(kind)) => assert!(rt; error.kind() == *kind, "{text}"),
             _ => assert!(rt; false, "{text}"),
         }
     }
-    assert_eq!(rt; rodeo.current_memory_usage(), usage);
+    assert!(rt; rodeo.current_memory_usage() == usage);
 }
 
 #[test]
@@ -60,14 +60,14 @@ fn an_interned_text_resolves(rt: HostRuntime) -> Result<(), Fail> {
         4096,
     );
     let key = rodeo.get("Hello, world!").ok_or("not there")?;
-    assert_eq!(rt; rodeo.try_resolve(key), Some("Hello, world!"));
+    assert!(rt; rodeo.try_resolve(key) == Some("Hello, world!"));
     assert!(rt; rodeo.contains_key(key));
-    assert_eq!(rt; rodeo.resolve(key), "Hello, world!");
-    assert_eq!(rt; rodeo.len(), 1);
+    assert!(rt; rodeo.resolve(key) == "Hello, world!");
+    assert!(rt; rodeo.len() == 1);
     assert!(rt; rodeo.get("Hello").is_none());
     let next = Spur::try_from_usize(1).ok_or("no key")?;
     assert!(rt; !rodeo.contains_key(next));
-    assert_eq!(rt; rodeo.try_resolve(next), None);
+    assert!(rt; rodeo.try_resolve(next) == None);
     Ok(())
 }
 
@@ -163,15 +163,15 @@ fn texts_of_one_hash(rt: HostRuntime) -> Result<(), Fail> {
     for number in 0..300usize {
         let text = number.to_string(rt.alloc())?;
         let key = rodeo.try_get_or_intern(text.as_str())?;
-        assert_eq!(rt; key.into_usize(), number);
+        assert!(rt; key.into_usize() == number);
     }
     for number in 0..300usize {
         let text = number.to_string(rt.alloc())?;
         let key = rodeo.get(text.as_str()).ok_or("not there")?;
-        assert_eq!(rt; key.into_usize(), number);
+        assert!(rt; key.into_usize() == number);
     }
     assert!(rt; rodeo.get("300").is_none());
-    assert_eq!(rt; rodeo.len(), 300);
+    assert!(rt; rodeo.len() == 300);
     Ok(())
 }
 
@@ -201,7 +201,7 @@ fn makers_of_default_size(rt: HostRuntime) -> Result<(), Fail> {
         Capacity::for_bytes(7),
         FixedState::new(),
     )?;
-    assert_eq!(rt; sized.current_memory_usage(), 7);
+    assert!(rt; sized.current_memory_usage() == 7);
     Ok(())
 }
 
@@ -210,6 +210,6 @@ fn no_text_has_a_key(rt: HostRuntime) -> Result<(), Fail> {
     let mut rodeo = interner::<Gap<0>>(rt.alloc(), 4, 4)?;
     let rows = [("pp", Err(KEYS)), ("pp", Err(KEYS)), ("pp", Err(KEYS))];
     gives(&rt, &mut rodeo, &rows, 4);
-    assert_eq!(rt; rodeo.len(), 0);
+    assert!(rt; rodeo.len() == 0);
     Ok(())
 }

@@ -105,15 +105,15 @@ fn a_failed_read_is_not_tried_again(rt: HostRuntime) -> Result<(), Fail> {
         let result = run(&rt, &mut reader, &mut writer, MemoryLimits::default());
         let written = writer.into_inner();
         assert!(rt; OUTPUT.starts_with(&written.taken));
-        assert_eq!(rt; written.flushed, written.taken.len());
+        assert!(rt; written.flushed == written.taken.len());
         if result.is_ok() {
             whole = true;
-            assert_eq!(rt; written.taken.as_slice(), OUTPUT);
-            assert_eq!(rt; reader.inner.failed, 0);
+            assert!(rt; written.taken.as_slice() == OUTPUT);
+            assert!(rt; reader.inner.failed == 0);
             break;
         }
         assert!(rt; result == Err(RunFault::ReadFailed));
-        assert_eq!(rt; reader.inner.failed, 1);
+        assert!(rt; reader.inner.failed == 1);
     }
     assert!(rt; whole);
     Ok(())
@@ -141,13 +141,13 @@ fn a_failed_write_is_not_tried_again(rt: HostRuntime) -> Result<(), Fail> {
             assert!(rt; OUTPUT.starts_with(&written.taken));
             if result.is_ok() {
                 whole = true;
-                assert_eq!(rt; written.taken.as_slice(), OUTPUT);
-                assert_eq!(rt; written.flushed, written.taken.len());
-                assert_eq!(rt; written.failed, 0);
+                assert!(rt; written.taken.as_slice() == OUTPUT);
+                assert!(rt; written.flushed == written.taken.len());
+                assert!(rt; written.failed == 0);
                 break;
             }
             assert!(rt; result == Err(RunFault::WriteFailed));
-            assert_eq!(rt; written.failed, 1);
+            assert!(rt; written.failed == 1);
         }
         assert!(rt; whole);
     }
@@ -161,8 +161,8 @@ fn bytes_wait_for_a_flush(rt: HostRuntime) -> Result<(), Fail> {
     assert!(rt; writer.outgoing.inner.taken.is_empty());
     assert!(rt; writer.flush() == Ok(()));
     let written = writer.into_inner();
-    assert_eq!(rt; written.taken.as_slice(), b"abcdefgh".as_slice());
-    assert_eq!(rt; written.flushed, 8);
+    assert!(rt; written.taken.as_slice() == b"abcdefgh".as_slice());
+    assert!(rt; written.flushed == 8);
     Ok(())
 }
 
@@ -176,13 +176,13 @@ fn bytes_at_hand_are_shown_until_used_up(rt: HostRuntime) -> Result<(), Fail> {
     let mut reader = StandardReader::new(rt.alloc(), source)?;
     assert!(rt; reader.shown().is_empty());
     assert!(rt; reader.refill() == Ok(()));
-    assert_eq!(rt; reader.shown(), b"abc".as_slice());
+    assert!(rt; reader.shown() == b"abc".as_slice());
     reader.use_up(2);
     assert!(rt; reader.refill() == Ok(()));
-    assert_eq!(rt; reader.shown(), b"c".as_slice());
-    assert_eq!(rt; reader.inner.calls, 1);
+    assert!(rt; reader.shown() == b"c".as_slice());
+    assert!(rt; reader.inner.calls == 1);
     reader.use_up(1);
     assert!(rt; reader.refill() == Ok(()));
-    assert_eq!(rt; reader.shown(), b"d".as_slice());
+    assert!(rt; reader.shown() == b"d".as_slice());
     Ok(())
 }

@@ -80,11 +80,11 @@ fn each_write_fails_in_turn(rt: HostRuntime) -> Result<(), Fail> {
         assert!(rt; OUTPUT.starts_with(&writer.taken));
         if result.is_ok() {
             whole = true;
-            assert_eq!(rt; writer.taken.as_slice(), OUTPUT);
-            assert_eq!(rt; writer.tries, 0);
+            assert!(rt; writer.taken.as_slice() == OUTPUT);
+            assert!(rt; writer.tries == 0);
             break;
         }
-        assert_eq!(rt; writer.tries, 1);
+        assert!(rt; writer.tries == 1);
         assert_fault(&rt, result, "write failed", 4)?;
     }
     assert!(rt; whole);
@@ -169,15 +169,15 @@ fn each_read_fails_in_turn(rt: HostRuntime) -> Result<(), Fail> {
         let mut reader = ShortReader::new(INPUT, calls);
         let mut writer = MemoryWriter::new(rt.alloc());
         let result = run(&rt, &mut reader, &mut writer, no_limit());
-        assert_eq!(rt; writer.into_bytes().as_slice(), answers);
-        assert_eq!(rt; reader.tries, 1);
+        assert!(rt; writer.into_bytes().as_slice() == answers);
+        assert!(rt; reader.tries == 1);
         assert_fault(&rt, result, "read failed", 4)?;
     }
     let mut reader = ShortReader::new(INPUT, 3);
     let mut writer = MemoryWriter::new(rt.alloc());
     assert!(rt; run(&rt, &mut reader, &mut writer, no_limit()) == Ok(()));
-    assert_eq!(rt; writer.into_bytes().as_slice(), OUTPUT);
-    assert_eq!(rt; reader.tries, 0);
+    assert!(rt; writer.into_bytes().as_slice() == OUTPUT);
+    assert!(rt; reader.tries == 0);
     Ok(())
 }
 
@@ -188,7 +188,7 @@ fn letters_cut_by_stretches(rt: HostRuntime) -> Result<(), Fail> {
     let mut writer = MemoryWriter::new(rt.alloc());
     assert!(rt; run(&rt, &mut reader, &mut writer, no_limit()) == Ok(()));
     let output = "0 a\n1 é\n1 é\n1 é\n2 texts, 4096 bytes\n";
-    assert_eq!(rt; writer.into_bytes().as_slice(), output.as_bytes());
+    assert!(rt; writer.into_bytes().as_slice() == output.as_bytes());
     Ok(())
 }
 
@@ -200,7 +200,7 @@ fn a_faulty_line_leaves_what_is_shown(rt: HostRuntime) -> Result<(), Fail> {
     let mut writer = MemoryWriter::new(rt.alloc());
     let result = run(&rt, &mut reader, &mut writer, no_limit());
     assert_fault(&rt, result, "line 2: not UTF-8", 2)?;
-    assert_eq!(rt; reader.shown(), input);
-    assert_eq!(rt; writer.into_bytes().as_slice(), b"0 a\n".as_slice());
+    assert!(rt; reader.shown() == input);
+    assert!(rt; writer.into_bytes().as_slice() == b"0 a\n".as_slice());
     Ok(())
 }

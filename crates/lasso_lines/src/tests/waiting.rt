@@ -120,7 +120,7 @@ fn each_answer_is_seen_before_the_next_line(rt: HostRuntime) -> Result<(), Fail>
     };
     assert!(rt; run(&rt, &mut reader, &mut writer, no_limit()) == Ok(()));
     assert!(rt; reader.answered);
-    assert_eq!(rt; reader.looks, 4);
+    assert!(rt; reader.looks == 4);
     assert!(rt; reader.sees(OUTPUT));
     Ok(())
 }
@@ -144,7 +144,7 @@ fn no_line_is_read_behind_a_fault(rt: HostRuntime) -> Result<(), Fail> {
     let result = run(&rt, &mut reader, &mut writer, no_limit());
     assert_fault(&rt, result, "line 2: not UTF-8", 2)?;
     assert!(rt; reader.answered);
-    assert_eq!(rt; reader.looks, 2);
+    assert!(rt; reader.looks == 2);
     assert!(rt; reader.sees(b"0 a\n"));
     Ok(())
 }

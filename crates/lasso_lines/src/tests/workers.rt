@@ -46,7 +46,7 @@ fn words_set_workers(rt: HostRuntime) -> Result<(), Fail> {
     let mut reader = MemoryReader::new(INPUT);
     let mut writer = MemoryWriter::new(rt.alloc());
     assert!(rt; run_words(&rt, &words, &mut reader, &mut writer) == Ok(()));
-    assert_eq!(rt; writer.into_bytes().as_slice(), OUTPUT);
+    assert!(rt; writer.into_bytes().as_slice() == OUTPUT);
     Ok(())
 }
 
@@ -110,7 +110,7 @@ fn distinct_lines_in_order(rt: HostRuntime) -> Result<(), Fail> {
         for workers in [0usize, 1, 2, 3, 64] {
             let (text, ended) = run_over(&rt, input, no_limit(), workers);
             assert!(rt; ended == Ok(()));
-            assert_eq!(rt; text.as_slice(), output);
+            assert!(rt; text.as_slice() == output);
         }
     }
     Ok(())
@@ -223,7 +223,7 @@ fn each_of_many_workers_has_a_line(rt: HostRuntime) -> Result<(), Fail> {
         let mut writer = MemoryWriter::new(rt.alloc());
         let ended = run_workers(&rt, &mut reader, &mut writer, no_limit(), workers, &highest);
         assert!(rt; ended == Ok(()));
-        assert_eq!(rt; highest.count.load(Ordering::SeqCst), workers);
+        assert!(rt; highest.count.load(Ordering::SeqCst) == workers);
     }
     Ok(())
 }
@@ -297,11 +297,11 @@ fn each_write_fails_in_turn(rt: HostRuntime) -> Result<(), Fail> {
         assert!(rt; OUTPUT.starts_with(&writer.taken));
         if ended.is_ok() {
             whole = true;
-            assert_eq!(rt; writer.taken.as_slice(), OUTPUT);
-            assert_eq!(rt; writer.tries, 0);
+            assert!(rt; writer.taken.as_slice() == OUTPUT);
+            assert!(rt; writer.tries == 0);
             break;
         }
-        assert_eq!(rt; writer.tries, 1);
+        assert!(rt; writer.tries == 1);
         assert_fault(&rt, ended, "write failed", 4)?;
     }
     assert!(rt; whole);
@@ -318,12 +318,12 @@ fn each_read_fails_in_turn(rt: HostRuntime) -> Result<(), Fail> {
         let text = writer.into_bytes();
         if ended.is_ok() {
             whole = true;
-            assert_eq!(rt; text.as_slice(), OUTPUT);
-            assert_eq!(rt; reader.tries, 0);
+            assert!(rt; text.as_slice() == OUTPUT);
+            assert!(rt; reader.tries == 0);
             break;
         }
         assert!(rt; text.is_empty());
-        assert_eq!(rt; reader.tries, 1);
+        assert!(rt; reader.tries == 1);
         assert_fault(&rt, ended, "read failed", 4)?;
     }
     assert!(rt; whole);

@@ -55,16 +55,16 @@ fn copied_texts_are_put_last_and_read_back(rt: HostRuntime) -> Result<(), Fail> 
     let list = BucketList::new(alloc, &log, bucket)?;
     let mut pass = log.pass();
     add_copied(&rt, alloc, &log, &list, &mut spine, &mut pass, "defghi")?;
-    assert_eq!(rt; list.len(), 1);
+    assert!(rt; list.len() == 1);
     add_copied(&rt, alloc, &log, &list, &mut spine, &mut pass, "jk")?;
-    assert_eq!(rt; list.len(), 2);
-    assert_eq!(rt; log.len(&mut pass), 4);
-    assert_eq!(rt; log.read(0, &mut pass), Some("bc"));
-    assert_eq!(rt; log.read(1, &mut pass), Some(""));
-    assert_eq!(rt; log.read(2, &mut pass), Some("defghi"));
-    assert_eq!(rt; log.read(3, &mut pass), Some("jk"));
-    assert_eq!(rt; log.read(4, &mut pass), None);
+    assert!(rt; list.len() == 2);
+    assert!(rt; log.len(&mut pass) == 4);
+    assert!(rt; log.read(0, &mut pass) == Some("bc"));
+    assert!(rt; log.read(1, &mut pass) == Some(""));
+    assert!(rt; log.read(2, &mut pass) == Some("defghi"));
+    assert!(rt; log.read(3, &mut pass) == Some("jk"));
+    assert!(rt; log.read(4, &mut pass) == None);
     // twice the first bucket's size
-    assert_eq!(rt; log.usage(&rt, &spine, &mut pass), 24);
+    assert!(rt; log.usage(&rt, &spine, &mut pass) == 24);
     Ok(())
 }

@@ -63,10 +63,10 @@ fn slots_that_were_given_back_are_kept_again(rt: HostRuntime) -> Result<(), Fail
     add(&rt, rt.alloc(), &log, &mut spine, &mut pass, "p")?;
     keep_and_give_back(rt.alloc(), &log, &mut spine, 1)?;
     add(&rt, rt.alloc(), &log, &mut spine, &mut pass, "q")?;
-    assert_eq!(rt; spine.len(), 2);
-    assert_eq!(rt; spine.kept(), 0);
-    assert_eq!(rt; log.read(0, &mut pass), Some("p"));
-    assert_eq!(rt; log.read(1, &mut pass), Some("q"));
-    assert_eq!(rt; log.read(2, &mut pass), None);
+    assert!(rt; spine.len() == 2);
+    assert!(rt; spine.kept() == 0);
+    assert!(rt; log.read(0, &mut pass) == Some("p"));
+    assert!(rt; log.read(1, &mut pass) == Some("q"));
+    assert!(rt; log.read(2, &mut pass) == None);
     Ok(())
 }

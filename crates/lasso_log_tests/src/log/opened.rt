@@ -33,18 +33,18 @@ fn the_texts_of_an_opening_have_the_first_positions(rt: HostRuntime) -> Result<(
         bucket,
     } = opens(rt.alloc())?;
     let mut pass = log.pass();
-    assert_eq!(rt; spine.len(), 2);
-    assert_eq!(rt; log.len(&mut pass), 2);
-    assert_eq!(rt; log.read(0, &mut pass), Some("bc"));
-    assert_eq!(rt; log.read(1, &mut pass), Some(""));
-    assert_eq!(rt; log.read(2, &mut pass), None);
-    assert_eq!(rt; (bucket.capacity(), bucket.len(&log, &mut pass)), (8, 2));
+    assert!(rt; spine.len() == 2);
+    assert!(rt; log.len(&mut pass) == 2);
+    assert!(rt; log.read(0, &mut pass) == Some("bc"));
+    assert!(rt; log.read(1, &mut pass) == Some(""));
+    assert!(rt; log.read(2, &mut pass) == None);
+    assert!(rt; (bucket.capacity(), bucket.len(&log, &mut pass)) == (8, 2));
     add(&rt, rt.alloc(), &log, &mut spine, &mut pass, "a")?;
-    assert_eq!(rt; spine.len(), 3);
-    assert_eq!(rt; log.len(&mut pass), 3);
-    assert_eq!(rt; log.read(0, &mut pass), Some("bc"));
-    assert_eq!(rt; log.read(2, &mut pass), Some("a"));
-    assert_eq!(rt; log.read(3, &mut pass), None);
+    assert!(rt; spine.len() == 3);
+    assert!(rt; log.len(&mut pass) == 3);
+    assert!(rt; log.read(0, &mut pass) == Some("bc"));
+    assert!(rt; log.read(2, &mut pass) == Some("a"));
+    assert!(rt; log.read(3, &mut pass) == None);
     Ok(())
 }
 

@@ -17,12 +17,12 @@ fn a_long_text_gets_a_bucket_of_its_size(rt: HostRuntime) -> Result<(), Fail> {
     let alloc = rt.alloc();
     let (log, mut spine, list) = opens(alloc, 4, u64::MAX)?;
     let mut pass = log.pass();
-    assert_eq!(rt; log.usage(&rt, &spine, &mut pass), 4);
+    assert!(rt; log.usage(&rt, &spine, &mut pass) == 4);
     stores(&rt, alloc, &log, &list, &mut spine, &mut pass, "123456789")?;
-    assert_eq!(rt; log.usage(&rt, &spine, &mut pass), 13);
-    assert_eq!(rt; list.len(), 2);
-    assert_eq!(rt; bucket_at(&rt, &log, &list, &mut pass, 0), (4, 0));
-    assert_eq!(rt; bucket_at(&rt, &log, &list, &mut pass, 1), (9, 9));
+    assert!(rt; log.usage(&rt, &spine, &mut pass) == 13);
+    assert!(rt; list.len() == 2);
+    assert!(rt; bucket_at(&rt, &log, &list, &mut pass, 0) == (4, 0));
+    assert!(rt; bucket_at(&rt, &log, &list, &mut pass, 1) == (9, 9));
     Ok(())
 }
 
@@ -51,27 +51,15 @@ fn buckets_are_doubled_and_then_what_the_limit_leaves(rt: HostRuntime) -> Result
     let alloc = rt.alloc();
     let (log, mut spine, list) = opens(alloc, 4, 12)?;
     let mut pass = log.pass();
-    assert_eq!(rt;
-        usage_with(&rt, alloc, &log, &list, &mut spine, &mut pass, "abc"),
-        Some(4)
-    );
-    assert_eq!(rt;
-        usage_with(&rt, alloc, &log, &list, &mut spine, &mut pass, "defghijk"),
-        Some(12)
-    );
+    assert!(rt; usage_with(&rt, alloc, &log, &list, &mut spine, &mut pass, "abc") == Some(4));
+    assert!(rt; usage_with(&rt, alloc, &log, &list, &mut spine, &mut pass, "defghijk") == Some(12));
     // the first bucket has room for one byte still
-    assert_eq!(rt;
-        usage_with(&rt, alloc, &log, &list, &mut spine, &mut pass, "x"),
-        Some(12)
-    );
+    assert!(rt; usage_with(&rt, alloc, &log, &list, &mut spine, &mut pass, "x") == Some(12));
     log.set_limit(&rt, &mut spine, &mut pass, 14);
-    assert_eq!(rt;
-        usage_with(&rt, alloc, &log, &list, &mut spine, &mut pass, "yz"),
-        Some(14)
-    );
-    assert_eq!(rt; list.len(), 3);
-    assert_eq!(rt; bucket_at(&rt, &log, &list, &mut pass, 0), (4, 4));
-    assert_eq!(rt; bucket_at(&rt, &log, &list, &mut pass, 2), (2, 2));
+    assert!(rt; usage_with(&rt, alloc, &log, &list, &mut spine, &mut pass, "yz") == Some(14));
+    assert!(rt; list.len() == 3);
+    assert!(rt; bucket_at(&rt, &log, &list, &mut pass, 0) == (4, 4));
+    assert!(rt; bucket_at(&rt, &log, &list, &mut pass, 2) == (2, 2));
     Ok(())
 }
 
@@ -82,12 +70,12 @@ fn a_charge_that_the_limit_refuses_leaves_no_event(rt: HostRuntime) -> Result<()
     let mut pass = log.pass();
     let refused = stores(&rt, alloc, &log, &list, &mut spine, &mut pass, "123456789");
     assert!(rt; refused.is_err_and(|e| e.kind() == LassoErrorKind::MemoryLimitReached));
-    assert_eq!(rt; log.usage(&rt, &spine, &mut pass), 4);
-    assert_eq!(rt; list.len(), 1);
-    assert_eq!(rt; bucket_at(&rt, &log, &list, &mut pass, 0), (4, 0));
+    assert!(rt; log.usage(&rt, &spine, &mut pass) == 4);
+    assert!(rt; list.len() == 1);
+    assert!(rt; bucket_at(&rt, &log, &list, &mut pass, 0) == (4, 0));
     // what fits is taken as before
     stores(&rt, alloc, &log, &list, &mut spine, &mut pass, "abcd")?;
-    assert_eq!(rt; bucket_at(&rt, &log, &list, &mut pass, 0), (4, 4));
+    assert!(rt; bucket_at(&rt, &log, &list, &mut pass, 0) == (4, 4));
     Ok(())
 }
 
@@ -133,8 +121,8 @@ fn a_charge_that_was_refused_once_is_made_later(rt: HostRuntime) -> Result<(), F
             "0123456789abcdef"
         )
     );
-    assert_eq!(rt; log.usage(&rt, &spine, &mut pass), 28);
-    assert_eq!(rt; bucket_at(&rt, &log, &list, &mut pass, 1), (8, 8));
-    assert_eq!(rt; bucket_at(&rt, &log, &list, &mut pass, 2), (16, 16));
+    assert!(rt; log.usage(&rt, &spine, &mut pass) == 28);
+    assert!(rt; bucket_at(&rt, &log, &list, &mut pass, 1) == (8, 8));
+    assert!(rt; bucket_at(&rt, &log, &list, &mut pass, 2) == (16, 16));
     Ok(())
 }

@@ -78,8 +78,8 @@ fn taken<R: Wait>(rt: &R, log: &Log<Spur>, list: &BucketList<Spur>) -> u64
 #[test]
 fn a_new_list_has_the_first_bucket(rt: HostRuntime) -> Result<(), Fail> {
     let (_log, _spine, list) = opens(rt.alloc(), 8, u64::MAX)?;
-    assert_eq!(rt; list.len(), 1);
-    assert_eq!(rt; walk(&list), (1, 8));
+    assert!(rt; list.len() == 1);
+    assert!(rt; walk(&list) == (1, 8));
     Ok(())
 }
 
@@ -88,7 +88,7 @@ fn a_walk_finds_each_bucket(rt: HostRuntime) -> Result<(), Fail> {
     let alloc = rt.alloc();
     let (log, mut spine, list) = opens(alloc, 4, u64::MAX)?;
     let mut pass = log.pass();
-    assert_eq!(rt; walk(&list), (1, 4));
+    assert!(rt; walk(&list) == (1, 4));
     stores(&rt, alloc, &log, &list, &mut spine, &mut pass, "defghijk")?;
     stores(
         &rt,
@@ -100,8 +100,8 @@ fn a_walk_finds_each_bucket(rt: HostRuntime) -> Result<(), Fail> {
         "0123456789abcdef0",
     )?;
     // 8 is twice the first bucket, and 17 more than twice that
-    assert_eq!(rt; walk(&list), (3, 29));
-    assert_eq!(rt; (list.len(), spine.buckets()), (3, 3));
+    assert!(rt; walk(&list) == (3, 29));
+    assert!(rt; (list.len(), spine.buckets()) == (3, 3));
     Ok(())
 }
 
@@ -115,8 +115,8 @@ fn bytes_are_taken_in_an_earlier_bucket(rt: HostRuntime) -> Result<(), Fail> {
     assert!(rt; !fits(&rt, &log, &list, &spine, &mut pass, "xy"));
     assert!(rt; fits(&rt, &log, &list, &spine, &mut pass, "x"));
     assert!(rt; !fits(&rt, &log, &list, &spine, &mut pass, "y"));
-    assert_eq!(rt; bucket_at(&rt, &log, &list, &mut pass, 0), (4, 4));
-    assert_eq!(rt; bucket_at(&rt, &log, &list, &mut pass, 1), (8, 8));
+    assert!(rt; bucket_at(&rt, &log, &list, &mut pass, 0) == (4, 4));
+    assert!(rt; bucket_at(&rt, &log, &list, &mut pass, 1) == (8, 8));
     Ok(())
 }
 
@@ -126,10 +126,10 @@ fn bytes_are_taken_without_the_spine(rt: HostRuntime) -> Result<(), Fail> {
     let mut pass = log.pass();
     assert!(rt; fits_anywhere(&rt, &log, &list, &mut pass, "abcde"));
     assert!(rt; !fits_anywhere(&rt, &log, &list, &mut pass, "1234"));
-    assert_eq!(rt; bucket_at(&rt, &log, &list, &mut pass, 0), (8, 5));
+    assert!(rt; bucket_at(&rt, &log, &list, &mut pass, 0) == (8, 5));
     assert!(rt; fits_anywhere(&rt, &log, &list, &mut pass, "123"));
     assert!(rt; !fits_anywhere(&rt, &log, &list, &mut pass, "x"));
-    assert_eq!(rt; bucket_at(&rt, &log, &list, &mut pass, 0), (8, 8));
+    assert!(rt; bucket_at(&rt, &log, &list, &mut pass, 0) == (8, 8));
     Ok(())
 }
 
@@ -187,6 +187,6 @@ fn a_thread_walks_while_another_adds_buckets(rt: HostRuntime) -> Result<(), Fail
         || walks_twenty(&rt, &log, &list),
     );
     stored?;
-    assert_eq!(rt; taken(&rt, &log, &list), copied.saturating_add(80));
+    assert!(rt; taken(&rt, &log, &list) == copied.saturating_add(80));
     Ok(())
 }

@@ -59,10 +59,10 @@ const OTHERS: [&str; 28] = [
 // The value is the key at this position, or none of this width.
 fn reads<K: JsonKey>(rt: &impl Abort, value: &Value, wanted: Option<usize>, json: &str) {
     match K::key_from_json(value) {
-        Ok(key) => assert_eq!(rt; Some(key.into_usize()), wanted, "{json}"),
+        Ok(key) => assert!(rt; Some(key.into_usize()) == wanted, "{json}"),
         Err(fault) => {
-            assert_eq!(rt; fault, JsonError::NotAKey, "{json}");
-            assert_eq!(rt; wanted, None, "{json}");
+            assert!(rt; fault == JsonError::NotAKey, "{json}");
+            assert!(rt; wanted == None, "{json}");
         }
     }
 }

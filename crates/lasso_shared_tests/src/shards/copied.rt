@@ -56,35 +56,32 @@ fn number<K: Key, R: Wait>(
 #[test]
 fn bytes_are_taken_where_a_bucket_has_room(rt: HostRuntime) -> Result<(), Fail> {
     let shards: Shards<Spur, FixedState> = opens(rt.alloc(), 4, u64::MAX)?;
-    assert_eq!(rt; number(&rt, &shards, "abc"), Ok(0));
-    assert_eq!(rt; usage(&rt, &shards), 4);
-    assert_eq!(rt; number(&rt, &shards, "defghijk"), Ok(1));
-    assert_eq!(rt; usage(&rt, &shards), 12);
+    assert!(rt; number(&rt, &shards, "abc") == Ok(0));
+    assert!(rt; usage(&rt, &shards) == 4);
+    assert!(rt; number(&rt, &shards, "defghijk") == Ok(1));
+    assert!(rt; usage(&rt, &shards) == 12);
     // the first bucket has room for one byte still
-    assert_eq!(rt; number(&rt, &shards, "x"), Ok(2));
-    assert_eq!(rt; usage(&rt, &shards), 12);
-    assert_eq!(rt; kept_slots(&rt, &shards), 0);
+    assert!(rt; number(&rt, &shards, "x") == Ok(2));
+    assert!(rt; usage(&rt, &shards) == 12);
+    assert!(rt; kept_slots(&rt, &shards) == 0);
     Ok(())
 }
 
 #[test]
 fn the_limit_refuses_what_no_bucket_has_room_for(rt: HostRuntime) -> Result<(), Fail> {
     let shards: Shards<Spur, FixedState> = opens(rt.alloc(), 4, 12)?;
-    assert_eq!(rt; number(&rt, &shards, "abc"), Ok(0));
-    assert_eq!(rt; number(&rt, &shards, "defghijk"), Ok(1));
-    assert_eq!(rt; number(&rt, &shards, "x"), Ok(2));
-    assert_eq!(rt;
-        number(&rt, &shards, "yz"),
-        Err(LassoErrorKind::MemoryLimitReached)
-    );
-    assert_eq!(rt; usage(&rt, &shards), 12);
-    assert_eq!(rt; kept_slots(&rt, &shards), 0);
+    assert!(rt; number(&rt, &shards, "abc") == Ok(0));
+    assert!(rt; number(&rt, &shards, "defghijk") == Ok(1));
+    assert!(rt; number(&rt, &shards, "x") == Ok(2));
+    assert!(rt; number(&rt, &shards, "yz") == Err(LassoErrorKind::MemoryLimitReached));
+    assert!(rt; usage(&rt, &shards) == 12);
+    assert!(rt; kept_slots(&rt, &shards) == 0);
     set_limit(&rt, &shards, 14);
-    assert_eq!(rt; usage(&rt, &shards), 12);
-    assert_eq!(rt; number(&rt, &shards, "yz"), Ok(3));
-    assert_eq!(rt; usage(&rt, &shards), 14);
+    assert!(rt; usage(&rt, &shards) == 12);
+    assert!(rt; number(&rt, &shards, "yz") == Ok(3));
+    assert!(rt; usage(&rt, &shards) == 14);
     let last = shards.buckets.find(&rt, &shards.log, 2);
-    assert_eq!(rt; last.capacity(), 2);
+    assert!(rt; last.capacity() == 2);
     Ok(())
 }
 
@@ -93,24 +90,15 @@ fn limit_and_keys_are_used_up_together(rt: HostRuntime) -> Result<(), Fail> {
     let shards: Shards<MicroSpur, FixedState> = opens(rt.alloc(), 765, 765)?;
     // 255 texts of three bytes
     for position in 0..255usize {
-        assert_eq!(rt; number(&rt, &shards, TEXTS[position]), Ok(position));
+        assert!(rt; number(&rt, &shards, TEXTS[position]) == Ok(position));
     }
-    assert_eq!(rt;
-        number(&rt, &shards, "x"),
-        Err(LassoErrorKind::MemoryLimitReached)
-    );
-    assert_eq!(rt; number(&rt, &shards, TEXTS[0]), Ok(0));
+    assert!(rt; number(&rt, &shards, "x") == Err(LassoErrorKind::MemoryLimitReached));
+    assert!(rt; number(&rt, &shards, TEXTS[0]) == Ok(0));
     // no byte of a static text is stored, nor of the empty one
-    assert_eq!(rt;
-        super::number(&rt, &shards, "x"),
-        Err(LassoErrorKind::KeySpaceExhaustion)
-    );
-    assert_eq!(rt;
-        number(&rt, &shards, ""),
-        Err(LassoErrorKind::KeySpaceExhaustion)
-    );
-    assert_eq!(rt; usage(&rt, &shards), 765);
-    assert_eq!(rt; kept_slots(&rt, &shards), 0);
+    assert!(rt; super::number(&rt, &shards, "x") == Err(LassoErrorKind::KeySpaceExhaustion));
+    assert!(rt; number(&rt, &shards, "") == Err(LassoErrorKind::KeySpaceExhaustion));
+    assert!(rt; usage(&rt, &shards) == 765);
+    assert!(rt; kept_slots(&rt, &shards) == 0);
     Ok(())
 }
 
@@ -118,21 +106,15 @@ fn limit_and_keys_are_used_up_together(rt: HostRuntime) -> Result<(), Fail> {
 fn bytes_are_taken_before_the_key_type_is_asked(rt: HostRuntime) -> Result<(), Fail> {
     let shards: Shards<MicroSpur, FixedState> = opens(rt.alloc(), 4, 4)?;
     for position in 0..255usize {
-        assert_eq!(rt; super::number(&rt, &shards, TEXTS[position]), Ok(position));
+        assert!(rt; super::number(&rt, &shards, TEXTS[position]) == Ok(position));
     }
     // each refusal by the key type takes a byte of four
     for _ in 0..4u32 {
-        assert_eq!(rt;
-            number(&rt, &shards, "r"),
-            Err(LassoErrorKind::KeySpaceExhaustion)
-        );
+        assert!(rt; number(&rt, &shards, "r") == Err(LassoErrorKind::KeySpaceExhaustion));
     }
-    assert_eq!(rt;
-        number(&rt, &shards, "r"),
-        Err(LassoErrorKind::MemoryLimitReached)
-    );
-    assert_eq!(rt; number(&rt, &shards, TEXTS[7]), Ok(7));
-    assert_eq!(rt; usage(&rt, &shards), 4);
-    assert_eq!(rt; kept_slots(&rt, &shards), 0);
+    assert!(rt; number(&rt, &shards, "r") == Err(LassoErrorKind::MemoryLimitReached));
+    assert!(rt; number(&rt, &shards, TEXTS[7]) == Ok(7));
+    assert!(rt; usage(&rt, &shards) == 4);
+    assert!(rt; kept_slots(&rt, &shards) == 0);
     Ok(())
 }

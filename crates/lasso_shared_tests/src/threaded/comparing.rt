@@ -35,12 +35,12 @@ fn four_forms_of_one_list(rt: HostRuntime) -> Result<(), Fail> {
     )?;
     // a list that only begins another is not equal to it
     let shorter = compared(&rt, rt.alloc(), &shared, ["a", "b", "c"])?;
-    assert_eq!(rt; shorter, (false, false, false, false));
+    assert!(rt; shorter == (false, false, false, false));
     shared.extend(&rt, ["b", "c"])?;
     let same = compared(&rt, rt.alloc(), &shared, ["a", "b", "c"])?;
-    assert_eq!(rt; same, (true, true, true, true));
+    assert!(rt; same == (true, true, true, true));
     let other_order = compared(&rt, rt.alloc(), &shared, ["a", "c", "b"])?;
-    assert_eq!(rt; other_order, (false, false, false, false));
+    assert!(rt; other_order == (false, false, false, false));
     Ok(())
 }
 

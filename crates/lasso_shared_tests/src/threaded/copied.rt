@@ -33,13 +33,13 @@ fn usage_grows_by_whole_buckets(rt: HostRuntime) -> Result<(), Fail> {
         rt.alloc(),
         Capacity::for_bytes(4),
     )?;
-    assert_eq!(rt; number(&rt, &shared, "abc"), Ok(0));
-    assert_eq!(rt; shared.current_memory_usage(&rt), 4);
-    assert_eq!(rt; number(&rt, &shared, "defghijk"), Ok(1));
-    assert_eq!(rt; shared.current_memory_usage(&rt), 12);
+    assert!(rt; number(&rt, &shared, "abc") == Ok(0));
+    assert!(rt; shared.current_memory_usage(&rt) == 4);
+    assert!(rt; number(&rt, &shared, "defghijk") == Ok(1));
+    assert!(rt; shared.current_memory_usage(&rt) == 12);
     // the first bucket has a byte left
-    assert_eq!(rt; number(&rt, &shared, "x"), Ok(2));
-    assert_eq!(rt; shared.current_memory_usage(&rt), 12);
+    assert!(rt; number(&rt, &shared, "x") == Ok(2));
+    assert!(rt; shared.current_memory_usage(&rt) == 12);
     Ok(())
 }
 
@@ -50,22 +50,19 @@ fn a_raised_limit_lets_a_text_in(rt: HostRuntime) -> Result<(), Fail> {
         Capacity::for_bytes(4),
         MemoryLimits::new(12),
     )?;
-    assert_eq!(rt; number(&rt, &shared, "abc"), Ok(0));
-    assert_eq!(rt; shared.current_memory_usage(&rt), 4);
-    assert_eq!(rt; number(&rt, &shared, "defghijk"), Ok(1));
-    assert_eq!(rt; number(&rt, &shared, "x"), Ok(2));
-    assert_eq!(rt; shared.current_memory_usage(&rt), 12);
-    assert_eq!(rt;
-        number(&rt, &shared, "yz"),
-        Err(LassoErrorKind::MemoryLimitReached)
-    );
-    assert_eq!(rt; shared.current_memory_usage(&rt), 12);
+    assert!(rt; number(&rt, &shared, "abc") == Ok(0));
+    assert!(rt; shared.current_memory_usage(&rt) == 4);
+    assert!(rt; number(&rt, &shared, "defghijk") == Ok(1));
+    assert!(rt; number(&rt, &shared, "x") == Ok(2));
+    assert!(rt; shared.current_memory_usage(&rt) == 12);
+    assert!(rt; number(&rt, &shared, "yz") == Err(LassoErrorKind::MemoryLimitReached));
+    assert!(rt; shared.current_memory_usage(&rt) == 12);
     shared.set_memory_limits(&rt, MemoryLimits::new(14));
-    assert_eq!(rt; shared.current_memory_usage(&rt), 12);
-    assert_eq!(rt; number(&rt, &shared, "yz"), Ok(3));
-    assert_eq!(rt; shared.current_memory_usage(&rt), 14);
-    assert_eq!(rt; shared.max_memory_usage(&rt), 14);
-    assert_eq!(rt; shared.len(), 4);
+    assert!(rt; shared.current_memory_usage(&rt) == 12);
+    assert!(rt; number(&rt, &shared, "yz") == Ok(3));
+    assert!(rt; shared.current_memory_usage(&rt) == 14);
+    assert!(rt; shared.max_memory_usage(&rt) == 14);
+    assert!(rt; shared.len() == 4);
     Ok(())
 }
 
@@ -82,25 +79,19 @@ fn uses_keys_up<S: BuildHasher + Default + Drop, R: AllocGlobal + Wait + Abort>(
     )?;
     for position in 0..255usize {
         let text = format!(in rt.alloc(); "{position}")?;
-        assert_eq!(rt; number(rt, &shared, text.as_str()), Ok(position));
+        assert!(rt; number(rt, &shared, text.as_str()) == Ok(position));
     }
-    assert_eq!(rt;
-        number(rt, &shared, "x"),
-        Err(LassoErrorKind::MemoryLimitReached)
-    );
-    assert_eq!(rt; number(rt, &shared, "0"), Ok(0));
-    assert_eq!(rt;
-        number(rt, &shared, ""),
-        Err(LassoErrorKind::KeySpaceExhaustion)
-    );
+    assert!(rt; number(rt, &shared, "x") == Err(LassoErrorKind::MemoryLimitReached));
+    assert!(rt; number(rt, &shared, "0") == Ok(0));
+    assert!(rt; number(rt, &shared, "") == Err(LassoErrorKind::KeySpaceExhaustion));
     for text in ["x", ""] {
         match shared.try_get_or_intern_static(rt, text) {
             Ok(_) => assert!(rt; false),
             Err(error) => assert!(rt; error.kind() == LassoErrorKind::KeySpaceExhaustion),
         }
     }
-    assert_eq!(rt; shared.len(), 255);
-    assert_eq!(rt; shared.current_memory_usage(rt), 655);
+    assert!(rt; shared.len() == 255);
+    assert!(rt; shared.current_memory_usage(rt) == 655);
     Ok(())
 }
 
@@ -114,18 +105,15 @@ fn the_limit_answers_before_the_key_type(rt: HostRuntime) -> Result<(), Fail> {
 fn a_copied_and_a_static_text_have_one_key(rt: HostRuntime) -> Result<(), Fail> {
     let shared = ThreadedRodeo::default(rt.alloc())?;
     let first = shared.try_get_or_intern(&rt, "p")?;
-    assert_eq!(rt; shared.try_get_or_intern_static(&rt, "p")?, first);
+    assert!(rt; shared.try_get_or_intern_static(&rt, "p")? == first);
     let second = shared.get_or_intern_static(&rt, "q")?;
-    assert_eq!(rt; shared.get_or_intern(&rt, "q")?, second);
+    assert!(rt; shared.get_or_intern(&rt, "q")? == second);
     let empty = shared.get_or_intern(&rt, "")?;
-    assert_eq!(rt; shared.get_or_intern_static(&rt, "")?, empty);
-    assert_eq!(rt; shared.len(), 3);
-    assert_eq!(rt;
-        (first.into_usize(), second.into_usize(), empty.into_usize()),
-        (0, 1, 2)
-    );
-    assert_eq!(rt; shared.resolve(first), Some("p"));
-    assert_eq!(rt; shared.resolve(empty), Some(""));
+    assert!(rt; shared.get_or_intern_static(&rt, "")? == empty);
+    assert!(rt; shared.len() == 3);
+    assert!(rt; (first.into_usize(), second.into_usize(), empty.into_usize()) == (0, 1, 2));
+    assert!(rt; shared.resolve(first) == Some("p"));
+    assert!(rt; shared.resolve(empty) == Some(""));
     Ok(())
 }
 
@@ -136,10 +124,10 @@ fn a_copy_stays_where_its_source_changes(rt: HostRuntime) -> Result<(), Fail> {
     let text = str::from_utf8(&bytes).ok().ok_or("no text")?;
     let key = shared.try_get_or_intern(&rt, text)?;
     bytes[0] = 122;
-    assert_eq!(rt; shared.resolve(key), Some("ab"));
+    assert!(rt; shared.resolve(key) == Some("ab"));
     let changed = str::from_utf8(&bytes).ok().ok_or("no text")?;
-    assert_eq!(rt; shared.get(&rt, changed), None);
-    assert_eq!(rt; shared.get(&rt, "ab"), Some(key));
+    assert!(rt; shared.get(&rt, changed) == None);
+    assert!(rt; shared.get(&rt, "ab") == Some(key));
     Ok(())
 }
 
@@ -167,8 +155,8 @@ fn a_copied_text_of_two_threads_has_one_key(rt: HostRuntime) -> Result<(), Fail>
     );
     let (a, b) = (a?, b?);
     assert!(rt; a.is_some());
-    assert_eq!(rt; a, b);
-    assert_eq!(rt; shared.len(), 3);
+    assert!(rt; a == b);
+    assert!(rt; shared.len() == 3);
     Ok(())
 }
 
@@ -180,7 +168,7 @@ fn a_text_of_each_thread_resolves(rt: HostRuntime) -> Result<(), Fail> {
         || shared.get_or_intern(&rt, "Hello, world!"),
         || shared.get_or_intern(&rt, "Hello from the thread!"),
     );
-    assert_eq!(rt; shared.resolve(here?), Some("Hello, world!"));
-    assert_eq!(rt; shared.resolve(there?), Some("Hello from the thread!"));
+    assert!(rt; shared.resolve(here?) == Some("Hello, world!"));
+    assert!(rt; shared.resolve(there?) == Some("Hello from the thread!"));
     Ok(())
 }

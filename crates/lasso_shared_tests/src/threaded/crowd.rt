@@ -88,7 +88,7 @@ fn four_threads_share_half_of_their_texts(rt: HostRuntime) -> Result<(), Fail> {
     );
     assert!(rt; one? && two? && three? && four?);
     // five lists of 10000 texts, each text once
-    assert_eq!(rt; shared.len(), 50_000);
+    assert!(rt; shared.len() == 50_000);
     assert!(rt; are_there(&rt, &shared, &a) && are_there(&rt, &shared, &b));
     assert!(rt; are_there(&rt, &shared, &c) && are_there(&rt, &shared, &d));
     assert!(rt; are_there(&rt, &shared, &common));
@@ -97,7 +97,7 @@ fn four_threads_share_half_of_their_texts(rt: HostRuntime) -> Result<(), Fail> {
     for texts in [&a, &b, &c, &d, &common] {
         bytes = bytes.saturating_add(bytes_of(texts));
     }
-    assert_eq!(rt; bytes, 244_450);
+    assert!(rt; bytes == 244_450);
     assert!(rt; shared.current_memory_usage(&rt) <= 4096 + 4 * 244_450);
     Ok(())
 }

@@ -13,14 +13,14 @@ fn items_are_interned_in_order(rt: HostRuntime) -> Result<(), Fail> {
         &rt,
         ["a", "b"],
     )?;
-    assert_eq!(rt; shared.len(), 2);
-    assert_eq!(rt; shared.current_memory_usage(&rt), 4096);
-    assert_eq!(rt; shared.max_memory_usage(&rt), usize::MAX);
+    assert!(rt; shared.len() == 2);
+    assert!(rt; shared.current_memory_usage(&rt) == 4096);
+    assert!(rt; shared.max_memory_usage(&rt) == usize::MAX);
     shared.extend(&rt, ["b", "c"])?;
-    assert_eq!(rt; shared.len(), 3);
+    assert!(rt; shared.len() == 3);
     let c = shared.get(&rt, "c").ok_or("not there")?;
-    assert_eq!(rt; c.into_usize(), 2);
-    assert_eq!(rt; shared.resolve(c), Some("c"));
+    assert!(rt; c.into_usize() == 2);
+    assert!(rt; shared.resolve(c) == Some("c"));
     Ok(())
 }
 
@@ -36,12 +36,12 @@ fn a_refused_item_ends_the_filling(rt: HostRuntime) -> Result<(), Fail> {
         Err(error) => assert!(rt; error.kind() == LassoErrorKind::MemoryLimitReached),
     }
     // the empty text takes no bytes, and was not taken
-    assert_eq!(rt; shared.len(), 2);
+    assert!(rt; shared.len() == 2);
     assert!(rt; shared.contains(&rt, "cd"));
     assert!(rt; !shared.contains(&rt, ""));
-    assert_eq!(rt; shared.current_memory_usage(&rt), 4);
+    assert!(rt; shared.current_memory_usage(&rt) == 4);
     shared.extend(&rt, ["cd", ""])?;
-    assert_eq!(rt; shared.len(), 3);
+    assert!(rt; shared.len() == 3);
     Ok(())
 }
 
@@ -52,7 +52,7 @@ fn items_fill_a_new_interner(rt: HostRuntime) -> Result<(), Fail> {
         &rt,
         ["p", "q", "p"],
     )?;
-    assert_eq!(rt; whole.len(), 2);
+    assert!(rt; whole.len() == 2);
     Ok(())
 }
 
@@ -81,7 +81,7 @@ fn two_threads_fill_one_interner(rt: HostRuntime) -> Result<(), Fail> {
     );
     first?;
     second?;
-    assert_eq!(rt; shared.len(), 4);
+    assert!(rt; shared.len() == 4);
     for text in ["x", "a", "b", "y"] {
         assert!(rt; shared.contains(&rt, text));
     }

@@ -14,16 +14,16 @@ fn a_reader_of_texts_in_three_buckets(rt: HostRuntime) -> Result<(), Fail> {
         Capacity::for_bytes(4),
         MemoryLimits::new(12),
     )?;
-    assert_eq!(rt; number(&rt, &shared, "abc"), Ok(0));
-    assert_eq!(rt; number(&rt, &shared, "defghijk"), Ok(1));
-    assert_eq!(rt; number(&rt, &shared, "x"), Ok(2));
+    assert!(rt; number(&rt, &shared, "abc") == Ok(0));
+    assert!(rt; number(&rt, &shared, "defghijk") == Ok(1));
+    assert!(rt; number(&rt, &shared, "x") == Ok(2));
     shared.set_memory_limits(&rt, MemoryLimits::new(14));
-    assert_eq!(rt; number(&rt, &shared, "yz"), Ok(3));
+    assert!(rt; number(&rt, &shared, "yz") == Ok(3));
     let reader = shared.into_reader(&rt)?;
-    assert_eq!(rt; reader.len(), 4);
+    assert!(rt; reader.len() == 4);
     let last = reader.get("yz").ok_or("not there")?;
-    assert_eq!(rt; last.into_usize(), 3);
-    assert_eq!(rt; reader.try_resolve(last), Some("yz"));
+    assert!(rt; last.into_usize() == 3);
+    assert!(rt; reader.try_resolve(last) == Some("yz"));
     assert!(rt; !reader.contains("abcd"));
     Ok(())
 }
@@ -36,21 +36,15 @@ fn refused_texts_are_not_in_a_frozen_form(rt: HostRuntime) -> Result<(), Fail> {
             Capacity::for_bytes(4),
             MemoryLimits::new(4),
         )?;
-    assert_eq!(rt; number(&rt, &shared, "p"), Ok(0));
-    assert_eq!(rt; number(&rt, &shared, "q"), Ok(1));
+    assert!(rt; number(&rt, &shared, "p") == Ok(0));
+    assert!(rt; number(&rt, &shared, "q") == Ok(1));
     for _ in 0..2usize {
-        assert_eq!(rt;
-            number(&rt, &shared, "r"),
-            Err(LassoErrorKind::KeySpaceExhaustion)
-        );
+        assert!(rt; number(&rt, &shared, "r") == Err(LassoErrorKind::KeySpaceExhaustion));
     }
-    assert_eq!(rt;
-        number(&rt, &shared, "r"),
-        Err(LassoErrorKind::MemoryLimitReached)
-    );
-    assert_eq!(rt; number(&rt, &shared, "q"), Ok(1));
+    assert!(rt; number(&rt, &shared, "r") == Err(LassoErrorKind::MemoryLimitReached));
+    assert!(rt; number(&rt, &shared, "q") == Ok(1));
     let reader = shared.into_reader(&rt)?;
-    assert_eq!(rt; reader.len(), 2);
+    assert!(rt; reader.len() == 2);
     assert!(rt; reader.contains("p"));
     assert!(rt; reader.contains("q"));
     assert!(rt; !reader.contains("r"));
@@ -67,7 +61,7 @@ fn two_threads_read_a_reader(rt: HostRuntime) -> Result<(), Fail> {
         || (reader.get("A"), reader.get("F")),
         || (reader.get("A"), reader.get("F")),
     );
-    assert_eq!(rt; key.into_usize(), 0);
+    assert!(rt; key.into_usize() == 0);
     assert!(rt; here == (Some(key), None));
     assert!(rt; there == (Some(key), None));
     let past = Spur::try_from_usize(10).ok_or("no key")?;
@@ -110,10 +104,10 @@ fn static_texts_and_texts_of_other_passes_are_frozen(rt: HostRuntime) -> Result<
     );
     let (red, empty) = (first?, second?);
     let reader = shared.into_reader_as(&rt, &mut pass)?;
-    assert_eq!(rt; reader.len(), 3);
-    assert_eq!(rt; reader.get("red"), Some(red));
-    assert_eq!(rt; reader.try_resolve(empty), Some(""));
-    assert_eq!(rt; reader.try_resolve(Spur::default()), Some("a static text"));
+    assert!(rt; reader.len() == 3);
+    assert!(rt; reader.get("red") == Some(red));
+    assert!(rt; reader.try_resolve(empty) == Some(""));
+    assert!(rt; reader.try_resolve(Spur::default()) == Some("a static text"));
     Ok(())
 }
 
@@ -124,6 +118,6 @@ fn an_interner_without_texts_is_frozen(rt: HostRuntime) -> Result<(), Fail> {
     assert!(rt; reader.is_empty());
     assert!(rt; reader.get("").is_none());
     let other = ThreadedRodeo::default(rt.alloc())?;
-    assert_eq!(rt; other.into_resolver(&rt)?.len(), 0);
+    assert!(rt; other.into_resolver(&rt)?.len() == 0);
     Ok(())
 }

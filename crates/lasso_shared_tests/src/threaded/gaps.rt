@@ -74,24 +74,15 @@ fn no_text_passes_over_a_number_without_a_key(rt: HostRuntime) -> Result<(), Fai
             MemoryLimits::new(4),
         )?;
     assert!(rt; WithoutTwo::try_from_usize(3).is_some());
-    assert_eq!(rt; number(&rt, &shared, "p"), Ok(0));
-    assert_eq!(rt; number(&rt, &shared, "q"), Ok(1));
+    assert!(rt; number(&rt, &shared, "p") == Ok(0));
+    assert!(rt; number(&rt, &shared, "q") == Ok(1));
     // each of these takes one of the two bytes that are left
-    assert_eq!(rt;
-        number(&rt, &shared, "r"),
-        Err(LassoErrorKind::KeySpaceExhaustion)
-    );
-    assert_eq!(rt;
-        number(&rt, &shared, "r"),
-        Err(LassoErrorKind::KeySpaceExhaustion)
-    );
-    assert_eq!(rt;
-        number(&rt, &shared, "r"),
-        Err(LassoErrorKind::MemoryLimitReached)
-    );
-    assert_eq!(rt; number(&rt, &shared, "q"), Ok(1));
-    assert_eq!(rt; shared.len(), 2);
-    assert_eq!(rt; shared.current_memory_usage(&rt), 4);
+    assert!(rt; number(&rt, &shared, "r") == Err(LassoErrorKind::KeySpaceExhaustion));
+    assert!(rt; number(&rt, &shared, "r") == Err(LassoErrorKind::KeySpaceExhaustion));
+    assert!(rt; number(&rt, &shared, "r") == Err(LassoErrorKind::MemoryLimitReached));
+    assert!(rt; number(&rt, &shared, "q") == Ok(1));
+    assert!(rt; shared.len() == 2);
+    assert!(rt; shared.current_memory_usage(&rt) == 4);
     Ok(())
 }
 
@@ -107,9 +98,9 @@ fn no_text_has_a_key(rt: HostRuntime) -> Result<(), Fail> {
         LassoErrorKind::MemoryLimitReached,
     ];
     for wanted in answers {
-        assert_eq!(rt; number(&rt, &shared, "pp"), Err(wanted));
-        assert_eq!(rt; shared.current_memory_usage(&rt), 4);
-        assert_eq!(rt; shared.len(), 0);
+        assert!(rt; number(&rt, &shared, "pp") == Err(wanted));
+        assert!(rt; shared.current_memory_usage(&rt) == 4);
+        assert!(rt; shared.len() == 0);
     }
     Ok(())
 }

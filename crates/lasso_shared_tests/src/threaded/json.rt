@@ -49,7 +49,7 @@ fn faulty_values(rt: HostRuntime) -> Result<(), Fail> {
     ];
     for (text, wanted) in rows {
         let value = Value::from_str(rt.alloc(), text)?;
-        assert_eq!(rt; fault::<Spur>(rt.alloc(), &value), Some(wanted), "{text}");
+        assert!(rt; fault::<Spur>(rt.alloc(), &value) == Some(wanted), "{text}");
     }
     Ok(())
 }
@@ -59,15 +59,18 @@ fn a_position_without_a_key(rt: HostRuntime) -> Result<(), Fail> {
     for text in [r#"{"a":2,"b":1,"c":3}"#, r#"["a","b","c"]"#] {
         let value = Value::from_str(rt.alloc(), text)?;
         let wanted = Some(JsonError::TooMany(2));
-        assert_eq!(rt; fault::<WithoutTwo>(rt.alloc(), &value), wanted, "{text}");
+        assert!(rt; fault::<WithoutTwo>(rt.alloc(), &value) == wanted, "{text}");
     }
     for text in [r#"{"pp":1}"#, r#"["pp"]"#] {
         let value = Value::from_str(rt.alloc(), text)?;
         let wanted = Some(JsonError::TooMany(0));
-        assert_eq!(rt; fault::<WithoutZero>(rt.alloc(), &value), wanted, "{text}");
+        assert!(rt;
+            fault::<WithoutZero>(rt.alloc(), &value) == wanted,
+            "{text}"
+        );
     }
     let two = Value::from_str(rt.alloc(), r#"{"a":2,"b":1}"#)?;
-    assert_eq!(rt; fault::<WithoutTwo>(rt.alloc(), &two), None);
+    assert!(rt; fault::<WithoutTwo>(rt.alloc(), &two) == None);
     Ok(())
 }
 
@@ -84,12 +87,9 @@ fn numbered(alloc: Global, count: usize) -> Result<Value, Fail> {
 #[test]
 fn more_members_than_keys(rt: HostRuntime) -> Result<(), Fail> {
     let most = numbered(rt.alloc(), 255)?;
-    assert_eq!(rt; fault::<MicroSpur>(rt.alloc(), &most), None);
+    assert!(rt; fault::<MicroSpur>(rt.alloc(), &most) == None);
     let too_many = numbered(rt.alloc(), 256)?;
-    assert_eq!(rt;
-        fault::<MicroSpur>(rt.alloc(), &too_many),
-        Some(JsonError::TooMany(255))
-    );
+    assert!(rt; fault::<MicroSpur>(rt.alloc(), &too_many) == Some(JsonError::TooMany(255)));
     Ok(())
 }
 
@@ -108,9 +108,9 @@ fn a_new_text_goes_last(rt: HostRuntime) -> Result<(), Fail> {
     // the bucket of two bytes is full, and one of four comes
     for text in [r#"{"a":2,"b":1}"#, r#"["b","a"]"#] {
         let (number, usage, written) = with_c(&rt, rt.alloc(), text)?;
-        assert_eq!(rt; number, 2, "{text}");
-        assert_eq!(rt; usage, 6, "{text}");
-        assert_eq!(rt; written.as_str(), r#"{"a":2,"b":1,"c":3}"#, "{text}");
+        assert!(rt; number == 2, "{text}");
+        assert!(rt; usage == 6, "{text}");
+        assert!(rt; written.as_str() == r#"{"a":2,"b":1,"c":3}"#, "{text}");
     }
     Ok(())
 }
@@ -120,10 +120,10 @@ fn no_bytes_make_a_bucket_of_4096(rt: HostRuntime) -> Result<(), Fail> {
     for (text, len) in [("[]", 0), ("{}", 0), (r#"{"":1}"#, 1), (r#"[""]"#, 1)] {
         let value = Value::from_str(rt.alloc(), text)?;
         let rodeo = SpurThreadedRodeo::deserialize(rt.alloc(), &value)?;
-        assert_eq!(rt; rodeo.len(), len, "{text}");
-        assert_eq!(rt; rodeo.contains(&rt, ""), len == 1, "{text}");
-        assert_eq!(rt; rodeo.current_memory_usage(&rt), 4096, "{text}");
-        assert_eq!(rt; rodeo.max_memory_usage(&rt), usize::MAX, "{text}");
+        assert!(rt; rodeo.len() == len, "{text}");
+        assert!(rt; rodeo.contains(&rt, "") == (len == 1), "{text}");
+        assert!(rt; rodeo.current_memory_usage(&rt) == 4096, "{text}");
+        assert!(rt; rodeo.max_memory_usage(&rt) == usize::MAX, "{text}");
     }
     Ok(())
 }
@@ -135,8 +135,8 @@ fn what_one_thread_wrote(rt: HostRuntime) -> Result<(), Fail> {
     let shared = SpurThreadedRodeo::deserialize(rt.alloc(), &value)?;
     assert!(rt; shared.eq_rodeo(&rt, &rodeo));
     let reader = shared.into_reader(&rt)?;
-    assert_eq!(rt; reader.get("x"), Spur::try_from_usize(0));
-    assert_eq!(rt; reader.get("y"), Spur::try_from_usize(1));
+    assert!(rt; reader.get("x") == Spur::try_from_usize(0));
+    assert!(rt; reader.get("y") == Spur::try_from_usize(1));
     Ok(())
 }
 

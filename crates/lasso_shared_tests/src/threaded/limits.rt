@@ -83,9 +83,9 @@ fn filled<R: Wait>(
 #[test]
 fn capacity_is_room_for_texts(rt: HostRuntime) -> Result<(), Fail> {
     let made = ThreadedRodeo::with_capacity(rt.alloc(), Capacity::for_strings(70));
-    assert_eq!(rt; filled(&rt, made, &FIRST)?, (4096, 128));
+    assert!(rt; filled(&rt, made, &FIRST)? == (4096, 128));
     let made = ThreadedRodeo::with_capacity(rt.alloc(), Capacity::minimal());
-    assert_eq!(rt; filled(&rt, made, &["p"])?, (1, 32));
+    assert!(rt; filled(&rt, made, &["p"])? == (1, 32));
     Ok(())
 }
 
@@ -93,7 +93,7 @@ fn capacity_is_room_for_texts(rt: HostRuntime) -> Result<(), Fail> {
 fn no_limit_refuses_a_static_text(rt: HostRuntime) -> Result<(), Fail> {
     let (room, limits) = (Capacity::for_bytes(10), MemoryLimits::new(5));
     let made = ThreadedRodeo::with_capacity_and_memory_limits(rt.alloc(), room, limits);
-    assert_eq!(rt; filled(&rt, made, &["0123456789ab"])?, (10, 64));
+    assert!(rt; filled(&rt, made, &["0123456789ab"])? == (10, 64));
     Ok(())
 }
 
@@ -123,19 +123,19 @@ fn a_limit_is_what_was_set_last(rt: HostRuntime) -> Result<(), Fail> {
     let mut pass = shared.pass();
     let mut other = shared.pass();
     shared.set_memory_limits_as(&rt, &mut pass, MemoryLimits::new(14));
-    assert_eq!(rt; shared.max_memory_usage_as(&rt, &mut other), 14);
-    assert_eq!(rt; shared.current_memory_usage_as(&rt, &mut other), 4);
+    assert!(rt; shared.max_memory_usage_as(&rt, &mut other) == 14);
+    assert!(rt; shared.current_memory_usage_as(&rt, &mut other) == 4);
     shared.set_memory_limits(&rt, MemoryLimits::new(0));
-    assert_eq!(rt; shared.max_memory_usage_as(&rt, &mut pass), 0);
-    assert_eq!(rt; shared.current_memory_usage_as(&rt, &mut pass), 4);
+    assert!(rt; shared.max_memory_usage_as(&rt, &mut pass) == 0);
+    assert!(rt; shared.current_memory_usage_as(&rt, &mut pass) == 4);
     // no limit refuses a static text
     let key = shared.try_get_or_intern_static_as(&rt, &mut pass, "0123456789")?;
     shared.set_memory_limits_as(&rt, &mut other, MemoryLimits::default());
     shared.set_memory_limits_as(&rt, &mut other, MemoryLimits::default());
-    assert_eq!(rt; shared.max_memory_usage(&rt), usize::MAX);
-    assert_eq!(rt; shared.current_memory_usage(&rt), 4);
-    assert_eq!(rt; shared.try_resolve_as(&mut other, key), Some("0123456789"));
-    assert_eq!(rt; shared.len(), 1);
+    assert!(rt; shared.max_memory_usage(&rt) == usize::MAX);
+    assert!(rt; shared.current_memory_usage(&rt) == 4);
+    assert!(rt; shared.try_resolve_as(&mut other, key) == Some("0123456789"));
+    assert!(rt; shared.len() == 1);
     Ok(())
 }
 
@@ -163,6 +163,6 @@ fn two_threads_set_limits(rt: HostRuntime) -> Result<(), Fail> {
     let last = shared.max_memory_usage(&rt);
     assert!(rt; last == 1000 || last == 2000);
     assert!(rt; a == last || b == last);
-    assert_eq!(rt; shared.current_memory_usage(&rt), 4096);
+    assert!(rt; shared.current_memory_usage(&rt) == 4096);
     Ok(())
 }

@@ -12,20 +12,20 @@ fn plain_readings_of_two_texts(rt: HostRuntime) -> Result<(), Fail> {
     assert!(rt; shared.is_empty());
     let hello = shared.get_or_intern_static(&rt, "Hello, world!")?;
     let empty = shared.try_get_or_intern_static(&rt, "")?;
-    assert_eq!(rt; (hello.into_usize(), empty.into_usize()), (0, 1));
-    assert_eq!(rt; shared.get_or_intern_static(&rt, "Hello, world!")?, hello);
-    assert_eq!(rt; shared.get(&rt, ""), Some(empty));
-    assert_eq!(rt; shared.get(&rt, "Hello"), None);
+    assert!(rt; (hello.into_usize(), empty.into_usize()) == (0, 1));
+    assert!(rt; shared.get_or_intern_static(&rt, "Hello, world!")? == hello);
+    assert!(rt; shared.get(&rt, "") == Some(empty));
+    assert!(rt; shared.get(&rt, "Hello") == None);
     assert!(rt; shared.contains(&rt, "Hello, world!"));
     assert!(rt; !shared.contains(&rt, "Hello"));
-    assert_eq!(rt; shared.resolve(hello), Some("Hello, world!"));
-    assert_eq!(rt; shared.try_resolve(empty), Some(""));
-    assert_eq!(rt; shared.len(), 2);
+    assert!(rt; shared.resolve(hello) == Some("Hello, world!"));
+    assert!(rt; shared.try_resolve(empty) == Some(""));
+    assert!(rt; shared.len() == 2);
     assert!(rt; !shared.is_empty());
     let past = Spur::try_from_usize(2).ok_or("no key")?;
     assert!(rt; shared.contains_key(empty));
     assert!(rt; !shared.contains_key(past));
-    assert_eq!(rt; shared.try_resolve(past), None);
+    assert!(rt; shared.try_resolve(past) == None);
     Ok(())
 }
 
@@ -33,16 +33,16 @@ fn plain_readings_of_two_texts(rt: HostRuntime) -> Result<(), Fail> {
 fn a_pass_reads_what_another_interned(rt: HostRuntime) -> Result<(), Fail> {
     let shared = ThreadedRodeo::default(rt.alloc())?;
     let mut pass = shared.pass();
-    assert_eq!(rt; shared.get_as(&rt, &mut pass, "p"), None);
-    assert_eq!(rt; shared.len_as(&mut pass), 0);
+    assert!(rt; shared.get_as(&rt, &mut pass, "p") == None);
+    assert!(rt; shared.len_as(&mut pass) == 0);
     let key = shared.try_get_or_intern_static(&rt, "p")?;
-    assert_eq!(rt; shared.get_as(&rt, &mut pass, "p"), Some(key));
-    assert_eq!(rt; shared.get_as(&rt, &mut pass, "q"), None);
+    assert!(rt; shared.get_as(&rt, &mut pass, "p") == Some(key));
+    assert!(rt; shared.get_as(&rt, &mut pass, "q") == None);
     assert!(rt; shared.contains_key_as(&mut pass, key));
-    assert_eq!(rt; shared.len_as(&mut pass), 1);
+    assert!(rt; shared.len_as(&mut pass) == 1);
     let past = Spur::try_from_usize(1).ok_or("no key")?;
     assert!(rt; !shared.contains_key_as(&mut pass, past));
-    assert_eq!(rt; shared.try_resolve_as(&mut pass, past), None);
+    assert!(rt; shared.try_resolve_as(&mut pass, past) == None);
     Ok(())
 }
 
@@ -56,8 +56,8 @@ fn a_key_of_another_thread_resolves(rt: HostRuntime) -> Result<(), Fail> {
         || shared.get(&rt, "Hello, world!"),
     );
     let thread = thread?;
-    assert_eq!(rt; found, Some(world));
-    assert_eq!(rt; shared.resolve(world), Some("Hello, world!"));
-    assert_eq!(rt; shared.resolve(thread), Some("Hello from the thread!"));
+    assert!(rt; found == Some(world));
+    assert!(rt; shared.resolve(world) == Some("Hello, world!"));
+    assert!(rt; shared.resolve(thread) == Some("Hello from the thread!"));
     Ok(())
 }

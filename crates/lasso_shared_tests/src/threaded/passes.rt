@@ -46,15 +46,15 @@ fn a_pass_that_meets_another_has_seen_its_texts(rt: HostRuntime) -> Result<(), F
     shards.intern_static(&rt, &mut behind, "p")?;
     shards.intern_static(&rt, &mut ahead, "q")?;
     shards.intern_static(&rt, &mut ahead, "Bär")?;
-    assert_eq!(rt; shards.log.len(&mut ahead), 3);
+    assert!(rt; shards.log.len(&mut ahead) == 3);
     assert!(rt; lends_after_meeting(&shards, &mut behind, &ahead, &TEXTS));
     // what it has seen stays, and both go on interning
     let nothing = shards.log.pass();
     assert!(rt; lends_after_meeting(&shards, &mut ahead, &nothing, &TEXTS));
     let new = shards.intern_static(&rt, &mut behind, "r")?;
-    assert_eq!(rt; new.into_usize(), 3);
+    assert!(rt; new.into_usize() == 3);
     let old = shards.intern_static(&rt, &mut ahead, "p")?;
-    assert_eq!(rt; old.into_usize(), 0);
+    assert!(rt; old.into_usize() == 0);
     Ok(())
 }
 
@@ -87,10 +87,10 @@ fn passes_have_seen_the_same_text_at_a_position(rt: HostRuntime) -> Result<(), F
     let mut one = shards.log.pass();
     let mut other = shards.log.pass();
     shards.intern_static(&rt, &mut one, "p")?;
-    assert_eq!(rt; shards.log.len(&mut one), 1);
+    assert!(rt; shards.log.len(&mut one) == 1);
     shards.intern_static(&rt, &mut other, "q")?;
-    assert_eq!(rt; shards.log.len(&mut other), 2);
-    assert_eq!(rt; both_lend(&shards, &one, &other, 0, "p"), (true, true));
-    assert_eq!(rt; both_lend(&shards, &other, &one, 0, "q"), (false, false));
+    assert!(rt; shards.log.len(&mut other) == 2);
+    assert!(rt; both_lend(&shards, &one, &other, 0, "p") == (true, true));
+    assert!(rt; both_lend(&shards, &other, &one, 0, "q") == (false, false));
     Ok(())
 }

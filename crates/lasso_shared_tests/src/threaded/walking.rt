@@ -16,31 +16,28 @@ fn walks_give_the_texts_in_the_order_of_their_keys(rt: HostRuntime) -> Result<()
         Capacity::for_bytes(4),
         MemoryLimits::new(12),
     )?;
-    assert_eq!(rt; number(&rt, &shared, "abc"), Ok(0));
-    assert_eq!(rt; number(&rt, &shared, "defghijk"), Ok(1));
-    assert_eq!(rt; number(&rt, &shared, "x"), Ok(2));
+    assert!(rt; number(&rt, &shared, "abc") == Ok(0));
+    assert!(rt; number(&rt, &shared, "defghijk") == Ok(1));
+    assert!(rt; number(&rt, &shared, "x") == Ok(2));
     shared.set_memory_limits(&rt, MemoryLimits::new(14));
-    assert_eq!(rt; number(&rt, &shared, "yz"), Ok(3));
+    assert!(rt; number(&rt, &shared, "yz") == Ok(3));
     let texts = ["abc", "defghijk", "x", "yz"];
     let mut walk = shared.iter();
     let mut strings = shared.strings();
     for position in 0..4usize {
         let left = 4 - position;
-        assert_eq!(rt; (walk.len(), walk.size_hint()), (left, (left, Some(left))));
-        assert_eq!(rt;
-            (strings.len(), strings.size_hint()),
-            (left, (left, Some(left)))
-        );
+        assert!(rt; (walk.len(), walk.size_hint()) == (left, (left, Some(left))));
+        assert!(rt; (strings.len(), strings.size_hint()) == (left, (left, Some(left))));
         match walk.next() {
             Some((key, text)) => {
-                assert_eq!(rt; (key.into_usize(), text), (position, texts[position]));
+                assert!(rt; (key.into_usize(), text) == (position, texts[position]));
             }
             None => assert!(rt; false),
         }
-        assert_eq!(rt; strings.next(), Some(texts[position]));
+        assert!(rt; strings.next() == Some(texts[position]));
     }
-    assert_eq!(rt; walk.next(), None);
-    assert_eq!(rt; strings.next(), None);
+    assert!(rt; walk.next() == None);
+    assert!(rt; strings.next() == None);
     Ok(())
 }
 
@@ -52,24 +49,24 @@ fn a_walk_has_the_texts_of_its_making(rt: HostRuntime) -> Result<(), Fail> {
     let mut pass = shared.pass();
     let mut walk = shared.iter_as(&mut pass);
     let mut strings = shared.strings_as(&mut pass);
-    assert_eq!(rt; walk.next(), Some((first, "p")));
-    assert_eq!(rt; strings.next(), Some("p"));
+    assert!(rt; walk.next() == Some((first, "p")));
+    assert!(rt; strings.next() == Some("p"));
     let later = shared.try_get_or_intern_static_as(&rt, &mut pass, "r")?;
-    assert_eq!(rt; (walk.len(), strings.len()), (1, 1));
-    assert_eq!(rt; walk.next(), Some((second, "q")));
-    assert_eq!(rt; strings.next(), Some("q"));
+    assert!(rt; (walk.len(), strings.len()) == (1, 1));
+    assert!(rt; walk.next() == Some((second, "q")));
+    assert!(rt; strings.next() == Some("q"));
     for _ in 0..3usize {
-        assert_eq!(rt; walk.next(), None);
-        assert_eq!(rt; strings.next(), None);
-        assert_eq!(rt; (walk.len(), walk.size_hint()), (0, (0, Some(0))));
-        assert_eq!(rt; (strings.len(), strings.size_hint()), (0, (0, Some(0))));
+        assert!(rt; walk.next() == None);
+        assert!(rt; strings.next() == None);
+        assert!(rt; (walk.len(), walk.size_hint()) == (0, (0, Some(0))));
+        assert!(rt; (strings.len(), strings.size_hint()) == (0, (0, Some(0))));
     }
     // walks that are made now have the later text too
     let mut walk = shared.iter_as(&mut pass);
-    assert_eq!(rt; walk.nth(2), Some((later, "r")));
+    assert!(rt; walk.nth(2) == Some((later, "r")));
     let mut strings = shared.strings_as(&mut pass);
-    assert_eq!(rt; strings.nth(2), Some("r"));
-    assert_eq!(rt; (shared.iter().len(), shared.strings().len()), (3, 3));
+    assert!(rt; strings.nth(2) == Some("r"));
+    assert!(rt; (shared.iter().len(), shared.strings().len()) == (3, 3));
     Ok(())
 }
 
@@ -78,12 +75,12 @@ fn walks_of_an_empty_interner_are_at_their_end(rt: HostRuntime) -> Result<(), Fa
     let shared = ThreadedRodeo::default(rt.alloc())?;
     let mut walk = shared.iter();
     let mut strings = shared.strings();
-    assert_eq!(rt; (walk.len(), walk.size_hint()), (0, (0, Some(0))));
-    assert_eq!(rt; (strings.len(), strings.size_hint()), (0, (0, Some(0))));
+    assert!(rt; (walk.len(), walk.size_hint()) == (0, (0, Some(0))));
+    assert!(rt; (strings.len(), strings.size_hint()) == (0, (0, Some(0))));
     shared.try_get_or_intern_static(&rt, "p")?;
-    assert_eq!(rt; walk.next(), None);
-    assert_eq!(rt; strings.next(), None);
-    assert_eq!(rt; (walk.len(), strings.len()), (0, 0));
+    assert!(rt; walk.next() == None);
+    assert!(rt; strings.next() == None);
+    assert!(rt; (walk.len(), strings.len()) == (0, 0));
     Ok(())
 }
 
@@ -133,8 +130,8 @@ fn a_walk_beside_a_writer_gives_a_beginning_of_the_list(rt: HostRuntime) -> Resu
         || walks(&shared, &FIRST, 1000),
     );
     assert!(rt; all);
-    assert_eq!(rt; walked, 1000);
+    assert!(rt; walked == 1000);
     assert!(rt; begins(shared.strings(), &FIRST));
-    assert_eq!(rt; shared.strings().len(), 100);
+    assert!(rt; shared.strings().len() == 100);
     Ok(())
 }

@@ -52,9 +52,9 @@ fn wrong_with<R: AllocGlobal + Abort>(rt: &R, json: &str) -> Result<Option<JsonE
     let value = Value::from_str(rt.alloc(), json)?;
     let wrong = fault(SpurRodeo::deserialize(rt.alloc(), &value));
     let as_reader = fault(SpurReader::deserialize(rt.alloc(), &value));
-    assert_eq!(rt; as_reader, wrong, "{json}");
+    assert!(rt; as_reader == wrong, "{json}");
     let as_resolver = fault(SpurResolver::deserialize(rt.alloc(), &value));
-    assert_eq!(rt; as_resolver, wrong, "{json}");
+    assert!(rt; as_resolver == wrong, "{json}");
     Ok(wrong)
 }
 
@@ -80,24 +80,21 @@ fn wrong_item(text: Option<&str>, at: usize, behind: Option<JsonError>) -> Optio
 #[test]
 fn each_kind_in_each_place(rt: HostRuntime) -> Result<(), Fail> {
     for (kind, text, alone) in KINDS {
-        assert_eq!(rt; wrong_with(&rt, kind)?, alone, "{kind}");
+        assert!(rt; wrong_with(&rt, kind)? == alone, "{kind}");
         let first = wrong_item(text, 0, None);
-        assert_eq!(rt; wrong_between(&rt, "[", kind, "]")?, first, "{kind}");
+        assert!(rt; wrong_between(&rt, "[", kind, "]")? == first, "{kind}");
         let second = wrong_item(text, 1, None);
-        assert_eq!(rt;
-            wrong_between(&rt, r#"["z","#, kind, "]")?,
-            second,
+        assert!(rt;
+            wrong_between(&rt, r#"["z","#, kind, "]")? == second,
             "{kind}"
         );
         let before_a_fault = wrong_item(text, 0, Some(JsonError::NotText(2)));
-        assert_eq!(rt;
-            wrong_between(&rt, "[", kind, r#","z",null]"#)?,
-            before_a_fault,
+        assert!(rt;
+            wrong_between(&rt, "[", kind, r#","z",null]"#)? == before_a_fault,
             "{kind}"
         );
-        assert_eq!(rt;
-            wrong_between(&rt, r#"{"a":"#, kind, "}")?,
-            NO_ARRAY,
+        assert!(rt;
+            wrong_between(&rt, r#"{"a":"#, kind, "}")? == NO_ARRAY,
             "{kind}"
         );
     }
@@ -113,7 +110,7 @@ fn each_kind_of_text_is_read(rt: HostRuntime) -> Result<(), Fail> {
             let rodeo = SpurRodeo::deserialize(rt.alloc(), &value)?;
             assert!(rt; rodeo.contains(text), "{kind}");
             let resolver = SpurResolver::deserialize(rt.alloc(), &value)?;
-            assert_eq!(rt; resolver.strings().next(), Some(text), "{kind}");
+            assert!(rt; resolver.strings().next() == Some(text), "{kind}");
         }
     }
     Ok(())
@@ -132,21 +129,20 @@ fn long_texts(alloc: Global, count: usize) -> Result<Value, Fail> {
 fn texts_of_a_million_bytes(rt: HostRuntime) -> Result<(), Fail> {
     let one = long_texts(rt.alloc(), 1)?;
     let rodeo = SpurRodeo::deserialize(rt.alloc(), &one)?;
-    assert_eq!(rt; rodeo.current_memory_usage(), 1_000_000);
+    assert!(rt; rodeo.current_memory_usage() == 1_000_000);
     let two = long_texts(rt.alloc(), 2)?;
     let doubled = Some(JsonError::Doubled(1));
-    assert_eq!(rt; fault(SpurRodeo::deserialize(rt.alloc(), &two)), doubled);
-    assert_eq!(rt; fault(SpurReader::deserialize(rt.alloc(), &two)), doubled);
+    assert!(rt; fault(SpurRodeo::deserialize(rt.alloc(), &two)) == doubled);
+    assert!(rt; fault(SpurReader::deserialize(rt.alloc(), &two)) == doubled);
     let resolver = SpurResolver::deserialize(rt.alloc(), &two)?;
     let lengths = resolver.strings().map(|text| text.len());
-    assert_eq!(rt; lengths.max(), Some(1_000_000));
-    assert_eq!(rt; resolver.len(), 2);
-    assert_eq!(rt;
+    assert!(rt; lengths.max() == Some(1_000_000));
+    assert!(rt; resolver.len() == 2);
+    assert!(rt;
         fault(SpurRodeo::deserialize(
             rt.alloc(),
             &Value::String("a".repeat(rt.alloc(), 1_000_000)?)
-        )),
-        NO_ARRAY
+        )) == NO_ARRAY
     );
     Ok(())
 }

@@ -23,7 +23,7 @@ fn by_maker<'a>(memory: &'a Memory, maker: usize) -> LassoResult<Metered<'a, Spu
 // What the maker of this number made takes so many bytes, and a clone of its one text one.
 fn copies(rt: &impl Abort, memory: &Memory, maker: usize, usage: usize) -> Result<(), Fail> {
     let Some(mut rodeo) = made(rt, memory, by_maker(memory, maker)) else {
-        assert_eq!(rt; memory.bytes_out(), 0);
+        assert!(rt; memory.bytes_out() == 0);
         return Ok(());
     };
     holds(rt, &rodeo, &[], usage);
@@ -51,7 +51,7 @@ fn each_maker<R: AllocGlobal + Abort>(rt: &R, memory: &Memory) -> Result<(), Fai
         .enumerate()
     {
         copies(rt, memory, maker, usage)?;
-        assert_eq!(rt; memory.bytes_out(), 0, "{maker}");
+        assert!(rt; memory.bytes_out() == 0, "{maker}");
     }
     Ok(())
 }

@@ -34,12 +34,12 @@ fn each_form<R: AllocGlobal + Abort>(rt: &R, memory: &Memory) -> Result<(), Fail
         let value = Value::from_str(rt.alloc(), text)?;
         for (form, wanted) in wanted.into_iter().enumerate() {
             let mut found = fault(memory, &value, form);
-            assert_eq!(rt; memory.bytes_out(), 0, "{text}");
+            assert!(rt; memory.bytes_out() == 0, "{text}");
             if found == WANTING {
                 assert!(rt; memory.has_refused(), "{text}");
                 found = fault(memory, &value, form);
             }
-            assert_eq!(rt; found, wanted, "{text}");
+            assert!(rt; found == wanted, "{text}");
         }
     }
     Ok(())
@@ -56,12 +56,12 @@ fn what_is_written_changes_nothing(rt: HostRuntime) -> Result<(), Fail> {
     let memory = Refusing::new(rt.alloc(), 0);
     let rodeo = Metered::<Spur>::from_iter(&memory, ["b", "a"])?;
     match rodeo.serialize(rt.alloc()) {
-        Ok(value) => assert_eq!(rt; value.to_string(rt.alloc())?.as_str(), r#"["b","a"]"#),
-        Err(fault) => assert_eq!(rt; Some(fault), WANTING),
+        Ok(value) => assert!(rt; value.to_string(rt.alloc())?.as_str() == r#"["b","a"]"#),
+        Err(fault) => assert!(rt; Some(fault) == WANTING),
     }
     holds(&rt, &rodeo, &["b", "a"], 4096);
     let first = rodeo.get("b").ok_or("not there")?;
-    assert_eq!(rt; first.key_to_json(rt.alloc())?.as_u64(), Some(1));
-    assert_eq!(rt; rodeo.try_resolve(first), Some("b"));
+    assert!(rt; first.key_to_json(rt.alloc())?.as_u64() == Some(1));
+    assert!(rt; rodeo.try_resolve(first) == Some("b"));
     Ok(())
 }

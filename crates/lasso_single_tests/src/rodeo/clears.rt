@@ -19,7 +19,7 @@ fn runs(rt: &impl Abort, rodeo: &mut Rodeo<Spur, FixedState, Global>, row: &[Ste
             Clears(usage) => {
                 rodeo.clear();
                 assert!(rt; rodeo.is_empty());
-                assert_eq!(rt; rodeo.current_memory_usage(), *usage);
+                assert!(rt; rodeo.current_memory_usage() == *usage);
             }
         }
     }
@@ -35,10 +35,10 @@ fn a_clear_gives_back_the_remnant(rt: HostRuntime) -> Result<(), Fail> {
         Clears(10),
     ];
     runs(&rt, &mut rodeo, &row);
-    assert_eq!(rt; rodeo.try_resolve(second), None);
+    assert!(rt; rodeo.try_resolve(second) == None);
     let row = [Gives("hello", Ok(0), 10), Gives("x", Ok(1), 10)];
     runs(&rt, &mut rodeo, &row);
-    assert_eq!(rt; rodeo.try_resolve(second), Some("x"));
+    assert!(rt; rodeo.try_resolve(second) == Some("x"));
     assert!(rt; rodeo.contains("hello"));
     assert!(rt; !rodeo.contains("abc"));
     assert!(rt; rodeo.capacity() > 0);
@@ -120,7 +120,7 @@ fn copies_fill_the_kept_buckets(rt: HostRuntime) -> Result<(), Fail> {
     for _turn in 0..3usize {
         target.clone_from(&source)?;
         assert!(rt; target == source);
-        assert_eq!(rt; target.current_memory_usage(), 12);
+        assert!(rt; target.current_memory_usage() == 12);
     }
     Ok(())
 }

@@ -8,8 +8,8 @@ fn a_clone_copies_static_texts(rt: HostRuntime) -> Result<(), Fail> {
     gives(&rt, &mut rodeo, &[("abc", Ok(0))], 10);
     rodeo.try_get_or_intern_static("gdfg")?;
     let mut copy = rodeo.try_clone()?;
-    assert_eq!(rt; copy.current_memory_usage(), 7);
-    assert_eq!(rt; copy.max_memory_usage(), 7);
+    assert!(rt; copy.current_memory_usage() == 7);
+    assert!(rt; copy.max_memory_usage() == 7);
     gives(&rt, &mut copy, &[("x", Err(LIMIT)), ("gdfg", Ok(1))], 7);
     gives(&rt, &mut rodeo, &[("x", Ok(2))], 10);
     Ok(())
@@ -19,8 +19,8 @@ fn a_clone_copies_static_texts(rt: HostRuntime) -> Result<(), Fail> {
 fn a_clone_of_no_text(rt: HostRuntime) -> Result<(), Fail> {
     let rodeo = interner::<Spur>(rt.alloc(), 10, 100)?;
     let copy = rodeo.clone()?;
-    assert_eq!(rt; copy.current_memory_usage(), 4096);
-    assert_eq!(rt; copy.max_memory_usage(), 4096);
+    assert!(rt; copy.current_memory_usage() == 4096);
+    assert!(rt; copy.max_memory_usage() == 4096);
     Ok(())
 }
 
@@ -31,7 +31,7 @@ fn a_copy_past_the_limit_leaves_nothing(rt: HostRuntime) -> Result<(), Fail> {
     let mut target = interner::<Spur>(rt.alloc(), 4, 4)?;
     let refusal = target.try_clone_from(&source).err().ok_or("not refused")?;
     assert!(rt; refusal.kind() == LIMIT);
-    assert_eq!(rt; target.len(), 0);
+    assert!(rt; target.len() == 0);
     gives(&rt, &mut target, &[("wxyz", Ok(0))], 4);
     Ok(())
 }
@@ -60,7 +60,7 @@ fn items_before_a_refused_one_stay(rt: HostRuntime) -> Result<(), Fail> {
         .err()
         .ok_or("not refused")?;
     assert!(rt; refusal.kind() == LIMIT);
-    assert_eq!(rt; rodeo.len(), 2);
+    assert!(rt; rodeo.len() == 2);
     gives(&rt, &mut rodeo, &[("ab", Ok(0)), ("cd", Ok(1))], 4);
     Ok(())
 }
@@ -72,7 +72,7 @@ fn an_interner_of_items(rt: HostRuntime) -> Result<(), Fail> {
     for text in &texts {
         assert!(rt; rodeo.contains(*text));
     }
-    assert_eq!(rt; rodeo.len(), 4);
+    assert!(rt; rodeo.len() == 4);
     Ok(())
 }
 
@@ -91,9 +91,9 @@ fn a_copy_without_memory_leaves_nothing(rt: HostRuntime) -> Result<(), Fail> {
         Ok(()) => assert!(rt; target == source),
         Err(refusal) => {
             assert!(rt; refusal.kind().is_failed_alloc());
-            assert_eq!(rt; target.len(), 0);
+            assert!(rt; target.len() == 0);
             assert!(rt; !target.contains("there"));
-            assert_eq!(rt; target.try_get_or_intern("next")?.into_usize(), 0);
+            assert!(rt; target.try_get_or_intern("next")?.into_usize() == 0);
         }
     }
     Ok(())

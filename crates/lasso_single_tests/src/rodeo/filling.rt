@@ -24,7 +24,7 @@ fn a_hint_past_all_memory(rt: HostRuntime) -> Result<(), Fail> {
         .err()
         .ok_or("not refused")?;
     assert!(rt; refusal.kind() == LIMIT);
-    assert_eq!(rt; rodeo.len(), 0);
+    assert!(rt; rodeo.len() == 0);
     let refusal = Rodeo::<Gap<0>, FixedState, Global>::from_iter(
         rt.alloc(),
         repeat_n("pp", usize::MAX),
@@ -40,8 +40,8 @@ fn items_behind_a_refused_one_are_not_taken(rt: HostRuntime) -> Result<(), Fail>
     let mut items = ["ab", "cde", "f", "g"].into_iter();
     let refusal = rodeo.extend(items.by_ref()).err().ok_or("not refused")?;
     assert!(rt; refusal.kind() == LIMIT);
-    assert_eq!(rt; rodeo.len(), 1);
-    assert_eq!(rt; items.next(), Some("f"));
+    assert!(rt; rodeo.len() == 1);
+    assert!(rt; items.next() == Some("f"));
     Ok(())
 }
 
@@ -50,6 +50,6 @@ fn texts_of_a_lent_array(rt: HostRuntime) -> Result<(), Fail> {
     let mut rodeo = interner::<Spur>(rt.alloc(), 4, 4)?;
     let texts = ["ab", "c", "ab"];
     rodeo.extend(texts.iter().copied())?;
-    assert_eq!(rt; rodeo.len(), 2);
+    assert!(rt; rodeo.len() == 2);
     Ok(())
 }

@@ -1,0 +1,64 @@
+//! The codes of all lines of standard input by 1, 2 and 4 threads over one interner of two maps of `dashmap`, as `lasso_bench columns` has
+//! them by a `ThreadedRodeo`. Prints the nanoseconds of a text in one round.
+#[cfg(feature = "maps")]
+mod arena;
+#[cfg(feature = "maps")]
+mod maps;
+
+use std::hint::black_box;
+use std::io::{self, Read};
+use std::thread;
+use std::time::Instant;
+
+const THREADS: [usize; 3] = [1, 2, 4];
+
+/// An interner that threads share.
+pub trait Interner: Sync {
+    fn new() -> Self;
+
+    /// The key of the text, which joins the others if it is not there.
+    fn intern(&self, text: &str) -> u32;
+
+    /// The length of the key's text, or `None` where the key stands for no text.
+    fn length(&self, key: u32) -> Option<usize>;
+
+    /// How many texts there are.
+    fn count(&self) -> usize;
+}
+
+// The codes of the texts, each part of them by a thread.
+#[inline(never)]
+fn encode<I: Interner>(interner: &I, texts: &[&str], threads: usize) -> Vec<u32> {
+    let mut codes = vec![0; texts.len()];
+    let length = texts.len().div_ceil(threads).max(1);
+    thread::scope(|scope| {
+        for (texts, codes) in texts.chunks(length).zip(codes.chunks_mut(length)) {
+            scope.spawn(move || {
+                for (text, code) in texts.iter().zip(codes) {
+                    *code = interner.intern(text);
+                }
+            });
+        }
+    });
+    codes
+}
+
+fn round<I: Interner>(bytes: &[u8]) {
+    let lines: Vec<&str> = std::str::from_utf8(bytes).unwrap().lines().collect();
+    for threads in THREADS {
+        let interner = I::new();
+        let start = Instant::now();
+        let codes = encode(black_box(&interner), black_box(&lines), threads);
+        println!("encode_shared {threads} {:.1}", start.elapsed().as_secs_f64() * 1e9 / lines.len() as f64);
+        assert!(codes.iter().zip(&lines).all(|(code, line)| interner.length(*code) == Some(line.len())));
+        assert!(interner.count() <= codes.len());
+    }
+}
+
+fn main() -> io::Result<()> {
+    let mut bytes = Vec::new();
+    io::stdin().lock().read_to_end(&mut bytes)?;
+    #[cfg(feature = "maps")]
+    round::<maps::Maps>(&bytes);
+    Ok(())
+}

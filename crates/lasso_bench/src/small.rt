@@ -1,0 +1,185 @@
+//! Everything that is timed, once over a few texts: what the calls answer is printed, so that a stored run can be compared with it. Each
+//! timing fails by itself where an answer is wrong.
+use crate::calls::{Calls, Plain, WithPass, fill};
+use crate::copying::best_copy_timings;
+use crate::frozen::{FrozenSample, FrozenTexts, best_frozen_timings, keys_at, resolve_all};
+use crate::history::{history_round, print_places};
+use crate::interners::{time_filled, time_filling};
+use crate::lines::Lines;
+use crate::pools::{KeyedTexts, MapPool, RodeoPool, SetPool, TextPool};
+use crate::positions::random_positions;
+use crate::refill::best_refill_timings;
+use crate::shared::{SharedTexts, Shelf};
+use crate::texts::{Sample, jumped};
+use crate::threads::{Walk, best_shared_timings};
+use crate::timing::best_timings;
+use crate::walks::{best_walk_timings, walk_entries, walk_texts};
+use anyhow::{Context, Result, ensure};
+use lasso::{SpurThreadedRodeo, ThreadedRodeo};
+use std::rt::Clock;
+use std::sync::Wait;
+use std::thread::Threads;
+
+// How many texts there are where more than a few are wanted.
+const COUNT: u32 = 1000;
+
+// How many calls a thread makes in a round of random calls.
+const CALLS: u32 = 10_000;
+
+const LINES: &str = "b\nab\nb\n\nabc\nab\nb";
+
+/// Runs each of the timings over a few texts, and prints what their calls answer, but no time. It fails where an answer is wrong.
+pub fn print_small<R: AllocGlobal + Clock + Print + Threads + Wait + Sync>(rt: &R) -> Result<()> {
+    print_orders(rt)?;
+    print_pools(rt)?;
+    print_rounds(rt)?;
+    print_frozen(rt)?;
+    print_lines(rt)?;
+    print_lists(rt)?;
+    print_interners(rt)?;
+    print_walks(rt)?;
+    print_places(rt)?;
+    print_histories(rt)
+}
+
+// Prints positions in the orders in which texts are asked for.
+fn print_orders<R: AllocGlobal + Print>(rt: &R) -> Result<()> {
+    println!(rt; "jumped: {} {}", jumped(1, 100_000), jumped(13, 100_000))?;
+    let positions = random_positions(rt.alloc(), COUNT, 5)?;
+    println!(rt; "random: {:?}", positions.as_slice())?;
+    Ok(())
+}
+
+// Times each pool, and prints the positions of a few texts in each.
+fn print_pools<R: AllocGlobal + Clock + Print>(rt: &R) -> Result<()> {
+    let sample = Sample::new(rt.alloc(), COUNT)?;
+    best_timings::<RodeoPool, _>(rt, &sample)?;
+    best_timings::<MapPool, _>(rt, &sample)?;
+    best_timings::<SetPool, _>(rt, &sample)?;
+    print_pool::<RodeoPool, R>(rt, "Rodeo")?;
+    print_pool::<MapPool, R>(rt, "HashMap and Vec")?;
+    print_pool::<SetPool, R>(rt, "IndexSet")
+}
+
+// Prints what a new pool answers of a few texts.
+fn print_pool<P: TextPool, R: AllocGlobal + Print>(rt: &R, name: &str) -> Result<()> {
+    let mut pool = P::new(rt.alloc())?;
+    let first = P::position(pool.intern("b")?);
+    let key = pool.intern("a")?;
+    let second = P::position(key);
+    let again = P::position(pool.intern("b")?);
+    println!(rt;
+        "{name}: {first} {second} {again}, text {:?}",
+        pool.resolve(key)
+    )?;
+    let found = pool.get("a").map(|key| P::position(key));
+    let missing = pool.get("c").map(|key| P::position(key));
+    println!(rt; "{name}: found {found:?}, missing {missing:?}")?;
+    Ok(())
+}
+
+// Prints the memory that an interner takes which is cleared and filled again.
+fn print_rounds<R: AllocGlobal + Clock + Print>(rt: &R) -> Result<()> {
+    let sample = Sample::new(rt.alloc(), COUNT)?;
+    let timings = best_refill_timings(rt, &sample.texts, 5)?;
+    println!(rt; "refilled: {:?} bytes", timings.usages)?;
+    Ok(())
+}
+
+// Times frozen interners, and prints what those of two texts answer.
+fn print_frozen<R: AllocGlobal + Clock + Print>(rt: &R) -> Result<()> {
+    let sample = FrozenSample::new(rt.alloc(), COUNT)?;
+    best_frozen_timings(rt, &sample)?;
+    let mut pool = RodeoPool::new(rt.alloc())?;
+    pool.intern("a")?;
+    pool.intern("ab")?;
+    let reader = pool.into_rodeo().into_reader();
+    print_resolved(rt, "RodeoReader", &reader)?;
+    print_resolved(rt, "RodeoResolver", &reader.into_resolver())
+}
+
+// Prints how many of these positions have texts, and the sum of the texts' last bytes.
+fn print_resolved<T: FrozenTexts, R: AllocGlobal + Print>(
+    rt: &R,
+    name: &str,
+    texts: &T,
+) -> Result<()> {
+    let keys = keys_at(rt.alloc(), texts, &[1, 2, 0, 1])?;
+    let sum = resolve_all(texts, &keys);
+    println!(rt; "{name}: {} keys, last bytes {sum}", keys.len())?;
+    Ok(())
+}
+
+// Prints what is known of a few lines.
+fn print_lines<R: AllocGlobal + Print>(rt: &R) -> Result<()> {
+    let lines = Lines::read(rt.alloc(), LINES.as_bytes())?;
+    println!(rt; "distinct: {:?}", lines.distinct)?;
+    println!(rt; "again: {:?}", lines.again)?;
+    println!(rt; "positions {}, lengths {}", lines.positions, lines.lengths)?;
+    let none = Lines::read(rt.alloc(), "".as_bytes()).is_err();
+    println!(rt; "no line is an error: {none}")?;
+    Ok(())
+}
+
+// Times the lists that threads share and a shared bucket, and prints what the lists answer of a few positions.
+fn print_lists<R: AllocGlobal + Clock + Print + Threads + Wait + Sync>(rt: &R) -> Result<()> {
+    let shelf = Shelf::new(rt, COUNT)?;
+    let read = [7, 999, 10, 1000];
+    println!(rt;
+        "Log: read {}, counted {}",
+        shelf.log.read_all(&read),
+        shelf.log.count_all(3)
+    )?;
+    let read = shelf.vector.read_all(&read);
+    println!(rt;
+        "boxcar::Vec: read {read}, counted {}",
+        shelf.vector.count_all(3)
+    )?;
+    let walk = Walk::new(rt.alloc(), COUNT, 5000)?;
+    best_shared_timings(rt, &shelf.log, &walk)?;
+    best_shared_timings(rt, &shelf.vector, &walk)?;
+    best_copy_timings(rt)?;
+    Ok(())
+}
+
+// Times shared interners over a few lines, and prints what their calls answer.
+fn print_interners<R: AllocGlobal + Clock + Print + Threads + Wait + Sync>(rt: &R) -> Result<()> {
+    let lines = Lines::read(rt.alloc(), LINES.as_bytes())?;
+    time_filling(rt, &lines)?;
+    time_filled::<WithPass, _>(rt, &lines)?;
+    time_filled::<Plain, _>(rt, &lines)?;
+    println!(rt; "filled: {} texts", fill(rt, LINES.as_bytes())?)?;
+    print_calls::<WithPass, R>(rt, "with a pass")?;
+    print_calls::<Plain, R>(rt, "plain")
+}
+
+// Prints the sum of the positions that three lines are interned at, and of the lengths that a key is resolved to.
+fn print_calls<C: Calls, R: AllocGlobal + Print + Wait>(rt: &R, name: &str) -> Result<()> {
+    let rodeo: SpurThreadedRodeo = ThreadedRodeo::default(rt.alloc())?;
+    let lines = Lines::read(rt.alloc(), &b"b\nabc\nb\n"[..])?;
+    let positions = C::intern_all(rt, &rodeo, &lines.texts);
+    let key = rodeo.get(rt, "abc").context("abc is missing")?;
+    let lengths = C::resolve_all(&rodeo, &[key, key]);
+    println!(rt; "{name}: positions {positions:?}, lengths {lengths}")?;
+    Ok(())
+}
+
+// Times walks, and prints what they give of three texts.
+fn print_walks<R: AllocGlobal + Clock + Print + Wait>(rt: &R) -> Result<()> {
+    let lines = Lines::read(rt.alloc(), &b"b\na\nb\nc\n"[..])?;
+    best_walk_timings(rt, &lines)?;
+    let rodeo: SpurThreadedRodeo = ThreadedRodeo::default(rt.alloc())?;
+    rodeo.extend(rt, ["b", "a", "c"])?;
+    println!(rt; "walks: {:?}, {}", walk_entries(&rodeo), walk_texts(&rodeo))?;
+    Ok(())
+}
+
+// Makes two rounds of random calls, one of them with few keys.
+fn print_histories<R: AllocGlobal + Print + Threads + Wait + Sync>(rt: &R) -> Result<()> {
+    for seed in [0u64, 1] {
+        let len = history_round(rt, seed, CALLS)?;
+        ensure!(len > 200, "round {seed} has {len} texts alone");
+        println!(rt; "round {seed}: one list explains all answers")?;
+    }
+    Ok(())
+}
