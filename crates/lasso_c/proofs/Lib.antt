@@ -1,0 +1,4 @@
+pub mod Layouts
+pub mod Writing
+pub mod Interning
+pub mod Measuring

@@ -1,0 +1,4 @@
+pub mod Layout
+pub mod Status
+pub mod Decoding
+pub mod Encoding
