@@ -16,6 +16,8 @@ mod decoding;
 mod encoding;
 mod layout;
 pub mod refusal;
+#[cfg(test)]
+mod tests;
 
 use refusal::LassoReport;
 use std::alloc::Global;
