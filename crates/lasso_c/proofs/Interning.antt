@@ -2,7 +2,7 @@
 --
 -- A text that stands in the dictionary keeps its position whatever is put last. So its code is its position in the
 -- dictionary of all the texts as soon as it is interned, and what is left of the layout says the rest.
-use Rattle.std.proofs.Common.{ℕ, zero, suc, ◌≡◌, ◌+◌, ◌-◌, ◌<◌, ◌≤◌, Bool, true, false, not, List, [], ◌∷◌, ◌++◌, length, get_or, drop, map, is_some, if◌then◌else◌, Option, Some, None, refl, ap, sym, subst, ◌∙◌, arith, length-append, append_assoc, append-nil}
+use Rattle.std.proofs.Common.{ℕ, ◌≡◌, ◌+◌, ◌-◌, ◌<◌, ◌≤◌, Bool, true, false, not, List, [], ◌∷◌, ◌++◌, length, get_or, drop, is_some, if◌then◌else◌, Option, Some, None, refl, ap, sym, subst, ◌∙◌, arith, length-append, append_assoc}
 use Rattle.std.specs.List.{slice_range, concat}
 use Rattle.std.specs.Option.{unwrap_or}
 use Rattle.std.specs.Str.{bytes_eq}
@@ -45,7 +45,8 @@ placed_by (Some n) texts text key at is = at ∙ key_of_place n key is
 pub placed : (texts : List Text) (text : Text) (key : ℕ) → kept_at 4294967295 (interned_position texts text) ≡ Some key → position_of (with_new texts text) text ≡ Some (key - 1)
 placed texts text key is = placed_by (position_of texts text) texts text key refl is
 
-new_bytes : (there : Bool) (texts : List Text) (text : Text) → length (concat (if there then texts else texts ++ text ∷ [])) ≤ length (concat texts) + length text
+-- a text adds at most its bytes to those of the list
+pub new_bytes : (there : Bool) (texts : List Text) (text : Text) → length (concat (if there then texts else texts ++ text ∷ [])) ≤ length (concat texts) + length text
 new_bytes true texts text = omega arith
 new_bytes false texts text = omega (arith, ap length (concat-append texts (text ∷ [])), length-append (concat texts) (text ++ []), length-append text [])
 

@@ -2,7 +2,7 @@
 --
 -- The faults are asked for from the first offset on, and the texts are cut off in the same order. So what is known of a
 -- text behind the first ones is found by stepping over these.
-use Rattle.std.proofs.Common.{ℕ, zero, suc, ◌≡◌, ◌+◌, ◌<◌, ◌≤◌, Bool, true, false, List, [], ◌∷◌, length, get_or, slice_get, nat_lt, Option, Some, None, refl, ap, sym, ◌∙◌, ◌-◌, add-one, arith}
+use Rattle.std.proofs.Common.{ℕ, zero, suc, ◌≡◌, ◌+◌, ◌<◌, ◌≤◌, true, false, List, [], ◌∷◌, length, get_or, slice_get, Option, Some, None, refl, ap, ◌-◌, add-one, arith}
 use Rattle.std.specs.List.{slice_range}
 use Rattle.std.specs.Option.{option_or}
 use Rattle.std.specs.Str.{IsUtf8, is_utf8}
@@ -13,7 +13,7 @@ use Rattle.std.proofs.lemmas.Option.{slice_get_past}
 use Rattle.lasso_parts.specs.Texts.{Text}
 use Rattle.lasso_c.specs.Layout.{reach, texts_from, texts_of, start_fault, text_fault, texts_fault, layout_fault}
 use Rattle.lasso_c.specs.declared.refusal.Refusal.{Refusal}
-use Rattle.lasso_c.specs.declared.refusal.Refusal.TheVariants.{OffsetsFall, OffsetPastBytes, NotUtf8}
+use Rattle.lasso_c.specs.declared.refusal.Refusal.TheVariants.{NotUtf8}
 
 -- nothing is wrong with a text between two rising offsets that reach no further than the bytes
 pub good_text : (bytes : List ℕ) (at from to : ℕ) → from ≤ to → to ≤ reach bytes → IsUtf8 (slice_range bytes from to) → text_fault bytes at from to ≡ None
@@ -22,11 +22,13 @@ good_text bytes at from to rises within utf8 = let is = is_utf8-from_IsUtf8 (sli
 pub not_text : (bytes : List ℕ) (at from to : ℕ) → from ≤ to → to ≤ reach bytes → ¬ (IsUtf8 (slice_range bytes from to)) → text_fault bytes at from to ≡ Some (NotUtf8 at)
 not_text bytes at from to rises within not_utf8 = let is_not : is_utf8 (slice_range bytes from to) ≡ false = false_from_ne_true _ (λ e. not_utf8 (IsUtf8-from_is_utf8 (slice_range bytes from to) e)) in grind (arith, nat_tests)
 
--- the offsets round a text with which nothing is wrong
-text_offsets : (bytes : List ℕ) (at from to : ℕ) → text_fault bytes at from to ≡ None → (from ≤ to) × (to ≤ reach bytes)
-text_offsets bytes at from to good = (grind (arith, nat_tests), grind (arith, nat_tests))
+-- the offsets round a text with which nothing is wrong, and that it is a text
+pub text_known : (bytes : List ℕ) (at from to : ℕ) → text_fault bytes at from to ≡ None → (from ≤ to) × (to ≤ reach bytes) × IsUtf8 (slice_range bytes from to)
+text_known bytes at from to good =
+    let is : is_utf8 (slice_range bytes from to) ≡ true = grind (arith, nat_tests) in
+    (grind (arith, nat_tests), grind (arith, nat_tests), IsUtf8-from_is_utf8 (slice_range bytes from to) is)
 
-or_none : (one other : Option Refusal) → option_or one other ≡ None → (one ≡ None) × (other ≡ None)
+pub or_none : (one other : Option Refusal) → option_or one other ≡ None → (one ≡ None) × (other ≡ None)
 or_none None other e = (refl, e)
 or_none (Some refusal) other e = let no : Some refusal ≡ None = e in absurd cc
 
@@ -40,7 +42,7 @@ lies_from : (bytes : List ℕ) (at from : ℕ) (offsets : List ℕ) (k : ℕ) �
 lies_from bytes at from [] k good small = absurd (omega arith)
 lies_from bytes at from (to ∷ offsets) zero good small =
     let both = or_none (text_fault bytes at from to) (texts_fault bytes (at + 1) to offsets) good in
-    let known = text_offsets bytes at from to both.0 in
+    let known = text_known bytes at from to both.0 in
     record { rises = known.0; within = known.1; is = refl }
 lies_from bytes at from (to ∷ offsets) (suc k) good small =
     let both = or_none (text_fault bytes at from to) (texts_fault bytes (at + 1) to offsets) good in

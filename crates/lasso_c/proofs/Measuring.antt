@@ -2,7 +2,7 @@
 --
 -- Each code is asked in turn, and the sizes go on with its text. Where none is refused, each names a text, and the sizes are
 -- those of all these texts.
-use Rattle.std.proofs.Common.{ℕ, zero, suc, ◌≡◌, ◌+◌, ◌<◌, ◌≤◌, List, [], ◌∷◌, ◌++◌, length, map, get_or, IsOkAnd, slice_get, drop, nat_lt, if◌then◌else◌, Option, Some, None, Result, Ok, Err, refl, ap, sym, subst, ◌∙◌, lit≤, arith, length-append}
+use Rattle.std.proofs.Common.{ℕ, zero, suc, ◌≡◌, ◌+◌, ◌<◌, ◌≤◌, List, [], ◌∷◌, length, get_or, IsOkAnd, slice_get, drop, Option, Some, None, Result, Ok, Err, refl, ap, ◌∙◌, lit≤, arith, length-append}
 use Rattle.std.specs.List.{concat}
 use Rattle.std.specs.Option.{option_map}
 use Rattle.std.proofs.lemmas.Bool.Decides.{nat_tests}
@@ -13,7 +13,7 @@ use Rattle.lasso_c.specs.Layout.{greatest_offset}
 use Rattle.lasso_c.specs.Decoding.{nothing, texts_named, with_next, and_then, measured}
 use Rattle.lasso_c.specs.declared.refusal.Sizes.{Sizes}
 use Rattle.lasso_c.specs.declared.refusal.Refusal.{Refusal}
-use Rattle.lasso_c.specs.declared.refusal.Refusal.TheVariants.{NoSuchCode, TooManyBytes}
+use Rattle.lasso_c.specs.declared.refusal.Refusal.TheVariants.{NoSuchCode}
 
 -- the sizes with one text more, which is there
 pub record Next (sizes : Sizes) (found : Option Text) (text : Text) (more : Sizes) : Type 0 where

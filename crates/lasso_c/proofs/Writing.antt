@@ -2,7 +2,7 @@
 --
 -- What is still to be written over a buffer as it is gives what was to be written over it at first: so each text that is
 -- written is taken off the front of those that are left, and nothing is said of what was written before.
-use Rattle.std.proofs.Common.{ℕ, zero, suc, ◌≡◌, ◌+◌, ◌<◌, ◌≤◌, List, [], ◌∷◌, ◌++◌, length, slice_get, take, drop, set, Some, refl, ap, sym, subst, ◌∙◌, add-one, add-zero, zero-add, arith, append-nil, length-append, length-drop}
+use Rattle.std.proofs.Common.{ℕ, ◌≡◌, ◌+◌, ◌<◌, ◌≤◌, List, [], ◌∷◌, ◌++◌, length, slice_get, take, drop, set, Some, refl, ap, sym, subst, ◌∙◌, add-one, add-zero, zero-add, arith, length-append, length-drop}
 use Rattle.std.specs.List.{concat}
 use Rattle.std.proofs.Math.Seq.{paste}
 use Rattle.std.proofs.lemmas.List.{set_split, take-append-drop, length-set, length-take-le, drop_more, drop_all}

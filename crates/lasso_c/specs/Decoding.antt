@@ -1,6 +1,6 @@
 -- What decoding answers and writes.
 use Rattle.std.specs.Prelude.{ℕ, ◌+◌, List, [], ◌∷◌, length, map, slice_get, nat_lt, if◌then◌else◌, Option, Some, None, Result, Ok, Err}
-use Rattle.std.specs.List.{slice_index_or, concat}
+use Rattle.std.specs.List.{slice_index_or}
 use Rattle.lasso_parts.specs.Texts.{Text}
 use Rattle.lasso_c.specs.Layout.{greatest_offset, texts_of, layout_fault}
 use Rattle.lasso_c.specs.declared.refusal.Sizes.{Sizes}

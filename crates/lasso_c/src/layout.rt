@@ -30,12 +30,7 @@ pub(crate) fn first_start(bytes: &[u8], offset: u32) -> Result<usize, Refusal>
 }
 
 // The text of this number, between two offsets.
-pub(crate) fn text_between(
-    bytes: &[u8],
-    at: usize,
-    from: usize,
-    to: usize,
-) -> Result<&str, Refusal>
+pub(crate) fn text_between(bytes: &[u8], at: usize, from: usize, to: usize) -> Result<&str, Refusal>
     ensures { MatchResult result (λ text. (text.now ≡ slice_range bytes.now from to) × (from ≤ to) × (to ≤ reach bytes.now) × (text_fault bytes.now at from to ≡ None))
         (λ refusal. text_fault bytes.now at from to ≡ Some refusal) }
 {

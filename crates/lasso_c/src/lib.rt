@@ -14,6 +14,7 @@ ghost use Rattle.lasso_c.specs.declared.refusal.Refusal.TheVariants.{NoMemory};
 
 mod decoding;
 mod encoding;
+pub mod laws;
 mod layout;
 pub mod refusal;
 #[cfg(test)]

@@ -1,4 +1,4 @@
-use Rattle.std.proofs.Common.{◌≡◌, length, get_or, slice_get, set, Some, List, ℕ, refl, arith, ap, sym, ◌∙◌, []}
+use Rattle.std.proofs.Common.{◌≡◌, length, get_or, slice_get, set, Some, refl, arith, ap, sym, ◌∙◌, []}
 use Rattle.std.proofs.lemmas.List.{length-map}
 use Rattle.std.specs.Option.{option_copied}
 use Rattle.std.proofs.lemmas.Grind.{common_steps}
