@@ -14,11 +14,13 @@
  * - Arrays that are written overlap no other array of the call.
  * - A call that refuses, whose status is not LASSO_DONE, writes nothing but *report. One that is done writes what is said
  *   below to the front of each output, and leaves the rest of it as it was.
- * - Calls may run in several threads at once, each on memory of its own.
+ * - Calls may run in several threads at once, each on memory of its own, but not in a signal handler, nor in the forked
+ *   child of a process with threads.
  *
- * The calls take memory from malloc and realloc, and give it back by free before they return.
+ * lasso_encode takes memory from malloc and realloc, which are one allocator with free, and gives it back before it returns.
+ * The others take none.
  *
- * These promises are proved, but for those that bind the caller and for what is said of threads and of memory.
+ * What a call writes and answers is proved. What the caller owes is not, nor what is said here of threads and of memory.
  */
 #ifndef LASSO_H
 #define LASSO_H
@@ -82,8 +84,8 @@ uint32_t lasso_encode(const uint8_t *bytes, size_t bytes_length,
                       struct lasso_report *report);
 
 /*
- * Decodes: writes the layout of the texts that the codes name, in their order. What it takes no memory for, it never wants.
- * Decoding what lasso_encode wrote gives the texts that it was given.
+ * Decodes: writes the layout of the texts that the codes name, in their order. Decoding what lasso_encode wrote
+ * gives the texts that it was given.
  *
  * dictionary_bytes, dictionary_offsets         read: the layout of the dictionary, in which texts may stand twice
  * codes                                        read: positions in the dictionary, from 0
