@@ -65,12 +65,16 @@ struct lasso_report {
  * Encodes texts: writes a code for each, and a dictionary, which is the layout of the distinct texts in the order in which
  * they first stand. A code is the position of its text in the dictionary, from 0. Equal texts have equal codes.
  *
- * bytes, offsets                               read: the layout of the texts
- * codes                                        written: one code for each text, in their order
- * dictionary_bytes, dictionary_offsets         written: the layout of the dictionary; its first offset is 0
- * report                                       written
+ * bytes               the caller's, read: the texts' bytes. bytes_length counts bytes.
+ * offsets             the caller's, read: places in bytes, counted in bytes. offsets_length counts offsets, one more than texts.
+ * codes               the caller's, written: a code for each text, in their order. codes_length counts codes, one for each text.
+ * dictionary_bytes    the caller's, written: the distinct texts' bytes. dictionary_bytes_length counts bytes, as many as those.
+ * dictionary_offsets  the caller's, written: places in dictionary_bytes, counted in bytes, of which the first is 0.
+ *                     dictionary_offsets_length counts offsets, one more than distinct texts.
+ * report              the caller's, written: one struct.
  *
- * As many codes as texts, as many bytes as the texts have and as many offsets as they have (but one at least) always serve.
+ * Lengths of what is written may be greater. As many dictionary bytes as bytes and as many dictionary offsets as offsets, but
+ * one at least, always serve.
  *
  * The first of these that is so is the status: LASSO_OFFSETS_FALL, LASSO_OFFSET_PAST_BYTES or LASSO_NOT_UTF8 of the first
  * wrong text (where one text is wrong in several ways, the first of them), LASSO_CODES_TOO_SHORT, LASSO_OFFSETS_TOO_SHORT,
@@ -87,13 +91,17 @@ uint32_t lasso_encode(const uint8_t *bytes, size_t bytes_length,
  * Decodes: writes the layout of the texts that the codes name, in their order. Decoding what lasso_encode wrote
  * gives the texts that it was given.
  *
- * dictionary_bytes, dictionary_offsets         read: the layout of the dictionary, in which texts may stand twice
- * codes                                        read: positions in the dictionary, from 0
- * bytes, offsets                               written: the layout of the texts; its first offset is 0
- * report                                       written
+ * dictionary_bytes    the caller's, read: the dictionary's bytes. dictionary_bytes_length counts bytes.
+ * dictionary_offsets  the caller's, read: places in dictionary_bytes, counted in bytes. dictionary_offsets_length counts
+ *                     offsets, one more than the dictionary's texts, of which some may be equal.
+ * codes               the caller's, read: positions in the dictionary, from 0. codes_length counts codes.
+ * bytes               the caller's, written: the named texts' bytes. bytes_length counts bytes, as many as those.
+ * offsets             the caller's, written: places in bytes, counted in bytes, of which the first is 0. offsets_length counts
+ *                     offsets, one more than codes.
+ * report              the caller's, written: one struct.
  *
- * A call with bytes_length 0 and as many offsets as there are codes and one more tells how many bytes it needs:
- * LASSO_BYTES_TOO_SHORT, and report->bytes.
+ * Lengths of what is written may be greater. A call with bytes_length 0 and an offset for each code and one more tells how many
+ * bytes it needs: LASSO_BYTES_TOO_SHORT and report->bytes, or LASSO_DONE where that is none.
  *
  * The first of these that is so is the status: what is wrong with the dictionary, as in lasso_encode, LASSO_NO_SUCH_CODE or
  * LASSO_TOO_MANY_BYTES of the first wrong code, LASSO_OFFSETS_TOO_SHORT, LASSO_BYTES_TOO_SHORT; else LASSO_DONE.
@@ -109,7 +117,8 @@ uint32_t lasso_decode(const uint8_t *dictionary_bytes, size_t dictionary_bytes_l
  * Writes what a status means, in ASCII and with no end mark, as far as there is room. It returns how many bytes the whole
  * text has. It serves any number: that of no status is "not a status".
  *
- * text                                         written: at most text_length bytes
+ * status              a status, or any other number.
+ * text                the caller's, written: as much of the meaning as fits. text_length counts bytes.
  */
 size_t lasso_status_text(uint32_t status, uint8_t *text, size_t text_length);
 
