@@ -14,6 +14,7 @@ struct Report {
 }
 
 // A slice crosses as a pointer and a length, as `lasso.h` declares it.
+#[rustfmt::skip]
 extern "C" {
     fn lasso_encode(
         bytes: *const u8, bytes_length: usize, offsets: *const i32, offsets_length: usize,
@@ -41,14 +42,22 @@ struct Layout {
 
 impl Layout {
     fn with_room(bytes: usize, offsets: usize) -> Self {
-        Layout { bytes: vec![0; bytes], offsets: vec![0; offsets] }
+        Layout {
+            bytes: vec![0; bytes],
+            offsets: vec![0; offsets],
+        }
     }
 
     /// The lines of some bytes, without their line feeds.
     fn of_lines(bytes: &[u8]) -> Result<Self, Box<dyn Error>> {
-        let mut lines = Layout { bytes: Vec::new(), offsets: vec![0] };
+        let mut lines = Layout {
+            bytes: Vec::new(),
+            offsets: vec![0],
+        };
         for line in bytes.split_inclusive(|byte| *byte == b'\n') {
-            lines.bytes.extend_from_slice(line.strip_suffix(b"\n").unwrap_or(line));
+            lines
+                .bytes
+                .extend_from_slice(line.strip_suffix(b"\n").unwrap_or(line));
             lines.offsets.push(i32::try_from(lines.bytes.len())?);
         }
         Ok(lines)
@@ -70,6 +79,7 @@ impl Layout {
         let mut codes = vec![0; self.len()];
         let mut report = Report::default();
         // SAFETY: each pointer and length are those of one slice, and no slice that is written overlaps another.
+        #[rustfmt::skip]
         let status = unsafe {
             lasso_encode(
                 self.bytes.as_ptr(), self.bytes.len(), self.offsets.as_ptr(), self.offsets.len(),
@@ -90,6 +100,7 @@ impl Layout {
         let mut texts = Layout::with_room(bytes, codes.len() + 1);
         let mut report = Report::default();
         // SAFETY: as in `encode`.
+        #[rustfmt::skip]
         let status = unsafe {
             lasso_decode(
                 self.bytes.as_ptr(), self.bytes.len(), self.offsets.as_ptr(), self.offsets.len(),
