@@ -1,0 +1,5 @@
+pub mod Layouts
+pub mod Writing
+pub mod Interning
+pub mod Measuring
+pub mod RoundTrip

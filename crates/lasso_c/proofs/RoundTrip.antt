@@ -1,0 +1,224 @@
+-- Decoding undoes encoding.
+--
+-- Texts that lie one behind the other in a buffer are cut out of it again at their offsets, whatever lies in front of the
+-- first: so a text is moved from the back to the front, one after another. Each text of a layout stands in its dictionary,
+-- at the place that its code tells, and the dictionary has no more bytes than the layout.
+use Rattle.std.proofs.Common.{ℕ, ◌≡◌, ◌+◌, ◌-◌, ◌<◌, ◌≤◌, Bool, true, false, List, [], ◌∷◌, ◌++◌, length, take, drop, slice_get, is_some, if◌then◌else◌, Option, Some, None, Ok, refl, ap, sym, subst, ◌∙◌, lit≤, zero-add, arith, length-append, append_assoc}
+use Rattle.std.specs.List.{slice_range, concat}
+use Rattle.std.specs.Option.{option_or, unwrap_or}
+use Rattle.std.specs.Str.{IsUtf8, bytes_eq}
+use Rattle.std.proofs.lemmas.Bool.Decides.{nat_tests}
+use Rattle.std.proofs.lemmas.List.{drop_at, take_at}
+use Rattle.std.proofs.lemmas.List.Edits.{length-between}
+use Rattle.std.proofs.lemmas.Map.Keys.{IsDistinct-from_apart}
+use Rattle.std.proofs.lemmas.Option.{get_or_from_slice_get}
+use Rattle.lasso_parts.specs.Texts.{Text, position_of, IsDistinct}
+use Rattle.lasso_parts.proofs.TextLemmas.{distinct_push, position_here, position_last}
+use Rattle.lasso_c.specs.Layout.{greatest_offset, reach, texts_from, texts_of, start_fault, text_fault, texts_fault, layout_fault, offsets_from}
+use Rattle.lasso_c.specs.Encoding.{with_new, with_all_new, dictionary_of, codes_of, sizes_of}
+use Rattle.lasso_c.specs.Decoding.{texts_named, with_next, and_then, measured, fitting, unless_faulty, nothing}
+use Rattle.lasso_c.specs.Laws.{DecodesBack, DecodingUndoesEncoding}
+use Rattle.lasso_c.specs.declared.refusal.Sizes.{Sizes}
+use Rattle.lasso_c.specs.declared.refusal.Refusal.{Refusal}
+use Rattle.lasso_c.proofs.Layouts.{good_text, text_known, or_none}
+use Rattle.lasso_c.proofs.Interning.{position_stays, new_bytes}
+
+-- something holds of each text
+abbrev Each : (Text → Type 0) → List Text → Type 0
+Each P [] = Unit {0}
+Each P (text ∷ texts) = P text × Each P texts
+
+-- the first text, up to the next offset
+cut_first : (bytes : List ℕ) (from end : ℕ) (texts : List Text) → texts_from bytes from (offsets_from end texts) ≡ slice_range bytes from end ∷ texts_of bytes (offsets_from end texts)
+cut_first bytes from end [] = refl
+cut_first bytes from end (text ∷ texts) = refl
+
+slice_here : (front text back : List ℕ) (at : ℕ) → at ≡ length front → slice_range (front ++ (text ++ back)) at (at + length text) ≡ text
+slice_here front text back at e =
+    let n : (at + length text) - at ≡ length text = omega arith in
+    ap (λ k. take k (drop at (front ++ (text ++ back)))) n ∙ ap (λ xs. take (length text) xs) (drop_at front (text ++ back) at (sym e)) ∙ take_at text back (length text) refl
+
+behind : (front text : List ℕ) (at : ℕ) → at ≡ length front → at + length text ≡ length (front ++ text)
+behind front text at e = omega (arith, length-append front text)
+
+-- texts are cut out again where they lie
+texts_back : (front : List ℕ) (texts : List Text) (at : ℕ) → at ≡ length front → texts_of (front ++ concat texts) (offsets_from at texts) ≡ texts
+texts_back front [] at e = refl
+texts_back front (text ∷ texts) at e =
+    let end = at + length text in
+    let others : texts_of (front ++ (text ++ concat texts)) (offsets_from end texts) ≡ texts = ap (λ bytes. texts_of bytes (offsets_from end texts)) (sym (append_assoc front text (concat texts))) ∙ texts_back (front ++ text) texts end (behind front text at e) in
+    cut_first (front ++ (text ++ concat texts)) at end texts ∙ ap (λ (t : Text). t ∷ texts_of (front ++ (text ++ concat texts)) (offsets_from end texts)) (slice_here front text (concat texts) at e) ∙ ap (λ ts. text ∷ ts) others
+
+-- the faults from the first of some offsets on
+faults_at : List ℕ → ℕ → List ℕ → Option Refusal
+faults_at bytes k [] = None
+faults_at bytes k (from ∷ offsets) = texts_fault bytes k from offsets
+
+fault_first : (bytes : List ℕ) (k from end : ℕ) (texts : List Text) → texts_fault bytes k from (offsets_from end texts) ≡ option_or (text_fault bytes k from end) (faults_at bytes (k + 1) (offsets_from end texts))
+unfolding faults_at
+fault_first bytes k from end [] = refl
+fault_first bytes k from end (text ∷ texts) = refl
+
+start_then : (bytes : List ℕ) (at : ℕ) (texts : List Text) → start_fault bytes at ≡ None → layout_fault bytes (offsets_from at texts) ≡ faults_at bytes 0 (offsets_from at texts)
+unfolding faults_at
+start_then bytes at [] good = ap (λ o. option_or o None) good
+start_then bytes at (text ∷ texts) good = ap (λ o. option_or o (texts_fault bytes 0 at (offsets_from (at + length text) texts))) good
+
+-- nothing is wrong with texts where they lie
+no_faults : (front : List ℕ) (texts : List Text) (at k : ℕ) → at ≡ length front → Each IsUtf8 texts → length (front ++ concat texts) ≤ greatest_offset → faults_at (front ++ concat texts) k (offsets_from at texts) ≡ None
+unfolding faults_at
+no_faults front [] at k e utf8 small = refl
+no_faults front (text ∷ texts) at k e utf8 small =
+    let end = at + length text in
+    let bytes = front ++ (text ++ concat texts) in
+    let here = slice_here front text (concat texts) at e in
+    let whole = length-append front (text ++ concat texts) in
+    let two = length-append text (concat texts) in
+    let good : text_fault bytes k at end ≡ None = good_text bytes k at end (omega arith) (omega arith) (subst IsUtf8 (sym here) utf8.0) in
+    let same = append_assoc front text (concat texts) in
+    let others : faults_at bytes (k + 1) (offsets_from end texts) ≡ None = ap (λ b. faults_at b (k + 1) (offsets_from end texts)) (sym same) ∙ no_faults (front ++ text) texts end (k + 1) (behind front text at e) utf8.1 (omega (arith, ap length same)) in
+    fault_first bytes k at end texts ∙ ap (λ o. option_or o (faults_at bytes (k + 1) (offsets_from end texts))) good ∙ others
+
+-- the texts of a layout with which nothing is wrong are UTF-8
+utf8_from : (bytes : List ℕ) (k from : ℕ) (offsets : List ℕ) → texts_fault bytes k from offsets ≡ None → Each IsUtf8 (texts_from bytes from offsets)
+utf8_from bytes k from [] good = tt
+utf8_from bytes k from (to ∷ offsets) good =
+    let both = or_none (text_fault bytes k from to) (texts_fault bytes (k + 1) to offsets) good in
+    ((text_known bytes k from to both.0).2, utf8_from bytes (k + 1) to offsets both.1)
+
+-- they have no more bytes than lie behind their first offset
+bytes_from : (bytes : List ℕ) (k from : ℕ) (offsets : List ℕ) → from ≤ reach bytes → texts_fault bytes k from offsets ≡ None → from + length (concat (texts_from bytes from offsets)) ≤ reach bytes
+bytes_from bytes k from [] within good = omega arith
+bytes_from bytes k from (to ∷ offsets) within good =
+    let both = or_none (text_fault bytes k from to) (texts_fault bytes (k + 1) to offsets) good in
+    let known = text_known bytes k from to both.0 in
+    let rest = bytes_from bytes (k + 1) to offsets known.1 both.1 in
+    let long = length-between bytes from to (omega (arith, known.1)) in
+    omega (arith, known.0, rest, long, length-append (slice_range bytes from to) (concat (texts_from bytes to offsets)))
+
+start_known : (bytes : List ℕ) (from : ℕ) → start_fault bytes from ≡ None → from ≤ reach bytes
+start_known bytes from good = grind (arith, nat_tests)
+
+-- both, of a whole layout
+pub record GoodTexts (texts : List Text) : Type 0 where
+  pub utf8 : Each IsUtf8 texts
+  pub small : length (concat texts) ≤ greatest_offset
+
+good_texts : (bytes offsets : List ℕ) → layout_fault bytes offsets ≡ None → GoodTexts (texts_of bytes offsets)
+good_texts bytes [] good = record { utf8 = tt; small = lit≤ tt }
+good_texts bytes (from ∷ offsets) good =
+    let both = or_none (start_fault bytes from) (texts_fault bytes 0 from offsets) good in
+    record { utf8 = utf8_from bytes 0 from offsets both.1; small = let all = bytes_from bytes 0 from offsets (start_known bytes from both.0) both.1 in omega arith }
+
+-- where a text stands in a dictionary
+abbrev Stands : List Text → Text → Type 0
+Stands dictionary text = (n : ℕ) × (position_of dictionary text ≡ Some n)
+
+new_stands : (found : Option ℕ) (texts : List Text) (text : Text) → position_of texts text ≡ found → Stands (if is_some found then texts else texts ++ text ∷ []) text
+new_stands None texts text none = (length texts, position_last texts text none)
+new_stands (Some n) texts text at = (n, at)
+
+-- each text that is interned stands in the dictionary
+all_stand : (texts more : List Text) → Each (Stands (with_all_new texts more)) more
+all_stand texts [] = tt
+all_stand texts (text ∷ more) =
+    let here = new_stands (position_of texts text) texts text refl in
+    ((here.0, position_stays (with_new texts text) more text here.0 here.1), all_stand (with_new texts text) more)
+
+all_push : (P : Text → Type 0) (texts : List Text) (text : Text) → Each P texts → P text → Each P (texts ++ text ∷ [])
+all_push P [] text all p = (p, tt)
+all_push P (t ∷ texts) text all p = (all.0, all_push P texts text all.1 p)
+
+all_new_by : (P : Text → Type 0) (there : Bool) (texts : List Text) (text : Text) → Each P texts → P text → Each P (if there then texts else texts ++ text ∷ [])
+all_new_by P true texts text all p = all
+all_new_by P false texts text all p = all_push P texts text all p
+
+-- what holds of all texts holds of those of their dictionary
+all_new : (P : Text → Type 0) (texts more : List Text) → Each P texts → Each P more → Each P (with_all_new texts more)
+all_new P texts [] all others = all
+all_new P texts (text ∷ more) all others = all_new P (with_new texts text) more (all_new_by P (is_some (position_of texts text)) texts text all others.0) others.1
+
+-- the dictionary has no more bytes than the texts
+all_bytes : (texts more : List Text) → length (concat (with_all_new texts more)) ≤ length (concat texts) + length (concat more)
+all_bytes texts [] = omega arith
+all_bytes texts (text ∷ more) = omega (arith, all_bytes (with_new texts text) more, new_bytes (is_some (position_of texts text)) texts text, length-append text (concat more))
+
+distinct_by : (found : Option ℕ) (texts : List Text) (text : Text) → position_of texts text ≡ found → IsDistinct texts → IsDistinct (if is_some found then texts else texts ++ text ∷ [])
+distinct_by None texts text none distinct = distinct_push texts text distinct none
+distinct_by (Some n) texts text at distinct = distinct
+
+none_distinct : IsDistinct []
+none_distinct = IsDistinct-from_apart bytes_eq [] (λ i j d below inside. absurd (omega arith))
+
+-- no text stands twice in the dictionary
+all_distinct : (texts more : List Text) → IsDistinct texts → IsDistinct (with_all_new texts more)
+all_distinct texts [] distinct = distinct
+all_distinct texts (text ∷ more) distinct = all_distinct (with_new texts text) more (distinct_by (position_of texts text) texts text refl distinct)
+
+-- the text at the place of a code
+at_code : (dictionary : List Text) (text : Text) → Stands dictionary text → slice_get dictionary (unwrap_or (position_of dictionary text) 0) ≡ Some text
+at_code dictionary text stands = ap (λ o. slice_get dictionary (unwrap_or o 0)) stands.1 ∙ position_here dictionary text stands.0 stands.1
+
+named_back : (dictionary texts : List Text) → Each (Stands dictionary) texts → texts_named dictionary (codes_of dictionary texts) ≡ texts
+named_back dictionary [] all = refl
+named_back dictionary (text ∷ texts) all =
+    let here = get_or_from_slice_get dictionary (unwrap_or (position_of dictionary text) 0) text [] (at_code dictionary text all.0) in
+    ap (λ (t : Text). t ∷ texts_named dictionary (codes_of dictionary texts)) here ∙ ap (λ ts. text ∷ ts) (named_back dictionary texts all.1)
+
+abbrev sized : ℕ → ℕ → Sizes
+sized texts bytes = record { texts = texts; bytes = bytes }
+
+next_fits : (n b : ℕ) (text : Text) → b + length text ≤ greatest_offset → with_next (sized n b) (Some text) ≡ Ok (sized (n + 1) (b + length text))
+next_fits n b text small = grind (arith, nat_tests)
+
+measured_back : (dictionary texts : List Text) (n b : ℕ) → Each (Stands dictionary) texts → b + length (concat texts) ≤ greatest_offset → measured dictionary (sized n b) (codes_of dictionary texts) ≡ Ok (sized (n + length texts) (b + length (concat texts)))
+measured_back dictionary [] n b all small =
+    let n' : n ≡ n + 0 = omega arith in
+    let b' : b ≡ b + 0 = omega arith in
+    ap (λ k. Ok (sized k b)) n' ∙ ap (λ k. Ok (sized (n + 0) k)) b'
+measured_back dictionary (text ∷ texts) n b all small =
+    let two = length-append text (concat texts) in
+    let next = ap (λ o. with_next (sized n b) o) (at_code dictionary text all.0) ∙ next_fits n b text (omega arith) in
+    let rest = measured_back dictionary texts (n + 1) (b + length text) all.1 (omega arith) in
+    let n' : (n + 1) + length texts ≡ n + length (text ∷ texts) = omega arith in
+    let b' : (b + length text) + length (concat texts) ≡ b + length (text ++ concat texts) = omega arith in
+    ap (λ r. and_then r (λ more. measured dictionary more (codes_of dictionary texts))) next ∙ rest
+    ∙ ap (λ k. Ok (sized k ((b + length text) + length (concat texts)))) n' ∙ ap (λ k. Ok (sized (n + length (text ∷ texts)) k)) b'
+
+fits : (sizes : Sizes) (offsets bytes : ℕ) → sizes.texts < offsets → sizes.bytes ≤ bytes → fitting sizes offsets bytes ≡ Ok sizes
+fits sizes offsets bytes below within = grind (arith, nat_tests)
+
+module _ (texts : List Text) (good : GoodTexts texts) where
+  dictionary : List Text
+  dictionary = dictionary_of texts
+
+  written_good : layout_fault (concat dictionary) (offsets_from 0 dictionary) ≡ None
+  unfolding dictionary
+  written_good =
+      let small : length (concat dictionary) ≤ greatest_offset = omega (arith, all_bytes [] texts, good.small) in
+      start_then (concat dictionary) 0 dictionary (grind (arith, nat_tests)) ∙ no_faults [] dictionary 0 0 refl (all_new IsUtf8 [] texts tt good.utf8) small
+
+  stands_again : texts_of (concat dictionary) (offsets_from 0 dictionary) ≡ dictionary
+  stands_again = texts_back [] dictionary 0 refl
+
+  measured_whole : measured dictionary nothing (codes_of dictionary texts) ≡ Ok (sizes_of texts)
+  unfolding dictionary
+  measured_whole =
+      measured_back dictionary texts 0 0 (all_stand [] texts) (omega (arith, good.small)) ∙ ap (λ k. Ok (sized k (0 + length (concat texts)))) (zero-add (length texts)) ∙ ap (λ k. Ok (sized (length texts) k)) (zero-add (length (concat texts)))
+
+  decodes_back : DecodesBack dictionary texts (codes_of dictionary texts)
+  unfolding dictionary
+  decodes_back = record {
+    distinct = all_distinct [] texts none_distinct;
+    stands = stands_again;
+    named = named_back dictionary texts (all_stand [] texts);
+    done = λ offsets bytes below within.
+        ap (λ fault. unless_faulty fault (and_then (measured (texts_of (concat dictionary) (offsets_from 0 dictionary)) nothing (codes_of dictionary texts)) (λ sizes. fitting sizes offsets bytes))) written_good
+        ∙ ap (λ ts. and_then (measured ts nothing (codes_of dictionary texts)) (λ sizes. fitting sizes offsets bytes)) stands_again
+        ∙ ap (λ r. and_then r (λ sizes. fitting sizes offsets bytes)) measured_whole
+        ∙ fits (sizes_of texts) offsets bytes below within;
+  }
+
+pub undoes : DecodingUndoesEncoding
+unfolding dictionary
+undoes bytes offsets good = decodes_back (texts_of bytes offsets) (good_texts bytes offsets good)

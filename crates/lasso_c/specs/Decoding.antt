@@ -1,0 +1,48 @@
+-- What decoding answers and writes.
+use Rattle.std.specs.Prelude.{ℕ, ◌+◌, List, [], ◌∷◌, length, map, slice_get, nat_lt, if◌then◌else◌, Option, Some, None, Result, Ok, Err}
+use Rattle.std.specs.List.{slice_index_or}
+use Rattle.lasso_parts.specs.Texts.{Text}
+use Rattle.lasso_c.specs.Layout.{greatest_offset, texts_of, layout_fault}
+use Rattle.lasso_c.specs.declared.refusal.Sizes.{Sizes}
+use Rattle.lasso_c.specs.declared.refusal.Refusal.{Refusal}
+use Rattle.lasso_c.specs.declared.refusal.Refusal.TheVariants.{NoSuchCode, TooManyBytes, OffsetsTooShort, BytesTooShort}
+
+-- the texts that the codes name, where each names one
+abbrev pub texts_named : List Text → List ℕ → List Text
+texts_named dictionary codes = map (λ code. slice_index_or dictionary code []) codes
+
+-- what goes on from the sizes of some texts to those with the next code's text, or why that is refused
+abbrev pub with_next : Sizes → Option Text → Result Sizes Refusal
+with_next sizes None = Err (NoSuchCode sizes.texts)
+with_next sizes (Some text) =
+    if nat_lt greatest_offset (sizes.bytes + length text) then Err (TooManyBytes sizes.texts)
+    else Ok (record { texts = sizes.texts + 1; bytes = sizes.bytes + length text })
+
+abbrev pub and_then : {X Y E : Type 0} → Result X E → (X → Result Y E) → Result Y E
+and_then (Ok x) next = next x
+and_then (Err e) next = Err e
+
+-- the sizes of some texts and then those of the codes, or why the first wrong code is refused
+abbrev pub measured : List Text → Sizes → List ℕ → Result Sizes Refusal
+measured dictionary sizes [] = Ok sizes
+measured dictionary sizes (code ∷ codes) = and_then (with_next sizes (slice_get dictionary code)) (λ more. measured dictionary more codes)
+
+-- sizes that fit into so many offsets and bytes, or which of them is too short
+abbrev pub fitting : Sizes → ℕ → ℕ → Result Sizes Refusal
+fitting sizes offsets bytes =
+    if nat_lt sizes.texts offsets then (if nat_lt bytes sizes.bytes then Err (BytesTooShort sizes) else Ok sizes)
+    else Err (OffsetsTooShort sizes)
+
+abbrev pub nothing : Sizes
+nothing = record { texts = 0; bytes = 0 }
+
+-- a refusal for what is wrong with a layout, or else what follows
+abbrev pub unless_faulty : Option Refusal → Result Sizes Refusal → Result Sizes Refusal
+unless_faulty None result = result
+unless_faulty (Some refusal) result = Err refusal
+
+-- how decoding the codes by the dictionary of that layout ends, where there is room for so many offsets and bytes
+abbrev pub decoded : List ℕ → List ℕ → List ℕ → ℕ → ℕ → Result Sizes Refusal
+decoded dictionary_bytes dictionary_offsets codes offsets bytes =
+    unless_faulty (layout_fault dictionary_bytes dictionary_offsets)
+    (and_then (measured (texts_of dictionary_bytes dictionary_offsets) nothing codes) (λ sizes. fitting sizes offsets bytes))

@@ -1,0 +1,5 @@
+pub mod Layout
+pub mod Status
+pub mod Decoding
+pub mod Encoding
+pub mod Laws

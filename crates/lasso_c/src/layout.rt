@@ -1,0 +1,96 @@
+//! Texts in one buffer of bytes, beside a buffer of offsets: where they lie, what is wrong with them, and how one more is written.
+ghost use Rattle.std.specs.Prelude.{◌≡◌, ◌+◌, ◌<◌, ◌≤◌, None, Some, MatchResult, length, slice_get, slice_set};
+ghost use Rattle.std.specs.List.{slice_range};
+ghost use Rattle.std.specs.Option.{option_copied};
+ghost use Rattle.std.specs.Result.{result_err};
+ghost use Rattle.lasso_c.specs.Layout.{greatest_offset, reach, texts_of, start_fault, text_fault, layout_fault, over_from};
+
+use crate::refusal::Refusal;
+use std::str::from_utf8;
+
+// The greatest offset. Offsets are signed numbers of 32 bits, so a negative one is read as a number above it.
+pub(crate) const GREATEST_OFFSET: usize = 2_147_483_647;
+
+// How far offsets may reach into the bytes.
+fn reach(bytes: &[u8]) -> usize
+    ensures { result ≡ reach bytes.now }
+{
+    bytes.len().min(GREATEST_OFFSET)
+}
+
+// Where the first text begins, where its offset is good.
+pub(crate) fn first_start(bytes: &[u8], offset: u32) -> Result<usize, Refusal>
+    ensures { MatchResult result (λ from. (from ≡ offset) × (start_fault bytes.now offset ≡ None)) (λ refusal. start_fault bytes.now offset ≡ Some refusal) }
+{
+    let from = offset as usize;
+    if from > reach(bytes) {
+        return Err(Refusal::OffsetPastBytes(0));
+    }
+    Ok(from)
+}
+
+// The text of this number, between two offsets.
+pub(crate) fn text_between(bytes: &[u8], at: usize, from: usize, to: usize) -> Result<&str, Refusal>
+    ensures { MatchResult result (λ text. (text.now ≡ slice_range bytes.now from to) × (from ≤ to) × (to ≤ reach bytes.now) × (text_fault bytes.now at from to ≡ None))
+        (λ refusal. text_fault bytes.now at from to ≡ Some refusal) }
+{
+    if to < from {
+        return Err(Refusal::OffsetsFall(at));
+    }
+    if to > reach(bytes) {
+        return Err(Refusal::OffsetPastBytes(at));
+    }
+    match from_utf8(&bytes[from..to]) {
+        Ok(text) => Ok(text),
+        Err(_) => Err(Refusal::NotUtf8(at)),
+    }
+}
+
+// Finds what is first wrong with the layout.
+pub(crate) fn check_layout(bytes: &[u8], offsets: &[u32]) -> Result<(), Refusal>
+    ensures { result_err result ≡ layout_fault bytes.now offsets.now }
+{
+    let Some((first, rest)) = offsets.split_first() else {
+        return Ok(());
+    };
+    let mut from = first_start(bytes, *first)?;
+    for (at, to) in rest.iter().enumerate() {
+        let to = *to as usize;
+        text_between(bytes, at, from, to)?;
+        from = to;
+    }
+    Ok(())
+}
+
+// The bytes of the text of this number, where there is one. Nothing may be wrong with the layout.
+pub(crate) fn text_at<'a>(bytes: &'a [u8], offsets: &[u32], number: u32) -> Option<&'a [u8]>
+    requires { layout_fault bytes.now offsets.now ≡ None }
+    ensures { option_copied result ≡ slice_get (texts_of bytes.now offsets.now) number }
+{
+    let number = number as usize;
+    if number + 1 >= offsets.len() {
+        return None;
+    }
+    Some(&bytes[offsets[number] as usize..offsets[number + 1] as usize])
+}
+
+// Writes where the text of this number begins, and its bytes. It returns where they end.
+pub(crate) fn put_text(
+    text: &[u8],
+    at: usize,
+    start: usize,
+    offsets: &mut [u32],
+    bytes: &mut [u8],
+) -> usize
+    requires offsets { at < length offsets.old }
+    requires bytes { start + length text.now ≤ length bytes.old }
+    requires small { start ≤ greatest_offset }
+    ensures end { result ≡ start + length text.now }
+    ensures offsets { offsets.new ≡ slice_set offsets.old at start }
+    ensures bytes { bytes.new ≡ over_from start text.now bytes.old }
+{
+    let end = start + text.len();
+    offsets[at] = start as u32;
+    bytes[start..end].copy_from_slice(text);
+    end
+}

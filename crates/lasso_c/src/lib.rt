@@ -1,0 +1,95 @@
+//! Interning for C, and for the languages that call C. `include/lasso.h` says what a caller owes and gets.
+//!
+//! Texts cross in the layout of Arrow's arrays of strings: one buffer of bytes, beside a buffer of offsets, of which there
+//! is one more than there are texts. No call keeps a pointer, and each writes into its caller's memory alone.
+#![tactic(auto)]
+
+ghost use Rattle.std.specs.Prelude.{◌≡◌, ◌⊎◌, Err, length, take};
+ghost use Rattle.std.specs.List.{concat};
+ghost use Rattle.lasso_c.specs.Layout.{texts_of, offsets_from, over};
+ghost use Rattle.lasso_c.specs.Encoding.{dictionary_of, codes_of, encoded};
+ghost use Rattle.lasso_c.specs.Decoding.{texts_named, decoded};
+ghost use Rattle.lasso_c.specs.Status.{Tells, status_text};
+ghost use Rattle.lasso_c.specs.declared.refusal.Refusal.TheVariants.{NoMemory};
+
+mod decoding;
+mod encoding;
+pub mod laws;
+mod layout;
+pub mod refusal;
+#[cfg(test)]
+mod tests;
+
+use refusal::LassoReport;
+use std::alloc::Global;
+
+/// Writes a code for each text of a layout, and a dictionary in the same layout: each distinct text once, in the order in
+/// which they first stand there. A code is the position of its text in the dictionary. It returns a status, and where that
+/// is not 0 it writes nothing but the report.
+#[unsafe(no_mangle)]
+pub extern "C" fn lasso_encode(
+    alloc: Global,
+    bytes: &[u8],
+    offsets: &[u32],
+    codes: &mut [u32],
+    dictionary_bytes: &mut [u8],
+    dictionary_offsets: &mut [u32],
+    report: &mut LassoReport,
+) -> u32
+    ensures outcome { Tells (encoded bytes.now offsets.now (length codes.old) (length dictionary_offsets.old) (length dictionary_bytes.old)) result report.new
+        ⊎ Tells (Err NoMemory) result report.new }
+
+    ensures codes { result ≡ 0 → (let texts = texts_of bytes.now offsets.now in
+        codes.new ≡ over (codes_of (dictionary_of texts) texts) codes.old) }
+    ensures dictionary_bytes { result ≡ 0 → dictionary_bytes.new ≡ over (concat (dictionary_of (texts_of bytes.now offsets.now))) dictionary_bytes.old }
+    ensures dictionary_offsets { result ≡ 0 → dictionary_offsets.new ≡ over (offsets_from 0 (dictionary_of (texts_of bytes.now offsets.now))) dictionary_offsets.old }
+
+    ensures codes_kept { ¬ (result ≡ 0) → codes.new ≡ codes.old }
+    ensures dictionary_bytes_kept { ¬ (result ≡ 0) → dictionary_bytes.new ≡ dictionary_bytes.old }
+    ensures dictionary_offsets_kept { ¬ (result ≡ 0) → dictionary_offsets.new ≡ dictionary_offsets.old }
+{
+    let outcome = encoding::encode(
+        alloc,
+        bytes,
+        offsets,
+        codes,
+        dictionary_bytes,
+        dictionary_offsets,
+    );
+    refusal::tell(&outcome, report)
+}
+
+/// Writes the texts that codes name, in the layout of the dictionary. It returns a status, and where that is not 0 it writes
+/// nothing but the report.
+#[unsafe(no_mangle)]
+pub extern "C" fn lasso_decode(
+    dictionary_bytes: &[u8],
+    dictionary_offsets: &[u32],
+    codes: &[u32],
+    bytes: &mut [u8],
+    offsets: &mut [u32],
+    report: &mut LassoReport,
+) -> u32
+    ensures outcome { Tells (decoded dictionary_bytes.now dictionary_offsets.now codes.now (length offsets.old) (length bytes.old)) result report.new }
+
+    ensures bytes { result ≡ 0 → bytes.new ≡ over (concat (texts_named (texts_of dictionary_bytes.now dictionary_offsets.now) codes.now)) bytes.old }
+    ensures offsets { result ≡ 0 → offsets.new ≡ over (offsets_from 0 (texts_named (texts_of dictionary_bytes.now dictionary_offsets.now) codes.now)) offsets.old }
+
+    ensures bytes_kept { ¬ (result ≡ 0) → bytes.new ≡ bytes.old }
+    ensures offsets_kept { ¬ (result ≡ 0) → offsets.new ≡ offsets.old }
+{
+    let outcome = decoding::decode(dictionary_bytes, dictionary_offsets, codes, bytes, offsets);
+    refusal::tell(&outcome, report)
+}
+
+/// Writes what a status means, as far as there is room. It returns how many bytes the whole text has.
+#[unsafe(no_mangle)]
+pub extern "C" fn lasso_status_text(status: u32, text: &mut [u8]) -> usize
+    ensures len { result ≡ length (status_text status) }
+    ensures text { text.new ≡ over (take (length text.old) (status_text status)) text.old }
+{
+    let whole = refusal::text_of(status).as_bytes();
+    let room = whole.len().min(text.len());
+    text[..room].copy_from_slice(&whole[..room]);
+    whole.len()
+}
