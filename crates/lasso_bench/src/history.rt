@@ -1,6 +1,4 @@
 //! Rounds of random calls that threads make of one interner, and whether one list explains all answers.
-ghost use Rattle.std.specs.Prelude.{◌≡◌};
-
 mod answers;
 mod checker;
 mod draws;
@@ -12,13 +10,12 @@ use answers::{Answer, Limits, answers};
 use anyhow::{Result, bail, ensure};
 use checker::check;
 use frozen::Frozen;
-use lasso::log::Pass;
 use lasso::{Capacity, FixedState, Key, MemoryLimits, MicroSpur, Spur, ThreadedRodeo};
 pub use places::print_places;
 use std::alloc::AllocError;
 use std::rt::Clock;
 use std::sync::Wait;
-use std::thread::{Threads, join};
+use std::thread::{Threads, map_indices};
 use std::time::Instant;
 use texts::Texts;
 
@@ -78,98 +75,35 @@ fn round<K: Key + Send + Sync, R: AllocGlobal + Threads + Wait + Sync>(
         Capacity::for_bytes(FIRST),
         MemoryLimits::new(limit),
     )?;
-    let work = Work {
-        texts,
-        limits,
-        seed,
-        calls,
-    };
-    let (mut first, second) = join(
+    let found = map_indices(
         rt,
-        || by_two(rt, &rodeo, work, 0),
-        || by_two(rt, &rodeo, work, 2),
-    );
-    let pass = &mut first.pass;
-    pass.meet(&second.pass);
+        rt.alloc(),
+        THREADS,
+        &|thread| {
+            let own = seed
+                .wrapping_mul(THREADS as u64)
+                .wrapping_add(thread as u64);
+            answers(rt, &rodeo, texts, limits, own, calls)
+        },
+    )?;
     let mut frozen = Frozen::new(rt.alloc(), texts, limit, FIRST)?;
-    frozen.usage = rodeo.current_memory_usage_as(rt, pass);
-    let len = rodeo.len_as(pass);
-    let reader = rodeo.into_reader_as(rt, pass)?;
+    frozen.usage = rodeo.current_memory_usage(rt);
+    let len = rodeo.len();
+    let reader = rodeo.into_reader(rt)?;
     for text in reader.strings() {
         frozen.push(texts, text)?;
     }
     ensure!(frozen.len() == len, "{len} texts were counted in the end");
-    let [one, two] = first.found;
-    let [three, four] = second.found;
-    check_all::<K>(&mut frozen, texts, &[one, two, three, four])?;
+    check_all::<K>(&mut frozen, texts, &found)?;
     Ok(len)
 }
 
-// What the threads of a round do.
-#[derive(Clone, Copy)]
-struct Work<'a> {
-    texts: &'a Texts,
-    limits: Limits,
-    seed: u64,
-    calls: u32,
-}
-
-// The answers of a thread.
-type Found = Result<Vec<Answer>, AllocError>;
-
-// What two threads found, and a pass that has seen what both had.
-#[derive(Drop)]
-struct Told<K: Key> {
-    found: [Found; 2],
-    pass: Pass<K>,
-}
-
-// Makes random calls of the interner by a pass, as the thread of this number.
-fn by_one<K: Key, R: AllocGlobal + Wait>(
-    rt: &R,
-    rodeo: &ThreadedRodeo<K, FixedState>,
-    work: Work<'_>,
-    thread: u64,
-) -> (Found, Pass<K>)
-    ensures { result.1.of ≡ rodeo.now }
-{
-    let mut pass = rodeo.pass();
-    let seed = work.seed.wrapping_mul(THREADS as u64).wrapping_add(thread);
-    let found = answers(
-        rt,
-        rodeo,
-        &mut pass,
-        work.texts,
-        work.limits,
-        seed,
-        work.calls,
-    );
-    (found, pass)
-}
-
-// Has a thread of this number, and one of the next, make random calls of the interner. Their passes meet in the end.
-fn by_two<K: Key + Send + Sync, R: AllocGlobal + Threads + Wait + Sync>(
-    rt: &R,
-    rodeo: &ThreadedRodeo<K, FixedState>,
-    work: Work<'_>,
-    thread: u64,
-) -> Told<K>
-    ensures { result.pass.of ≡ rodeo.now }
-{
-    let ((one, mut pass), (two, other)) = join(
-        rt,
-        || by_one(rt, rodeo, work, thread),
-        || by_one(rt, rodeo, work, thread.wrapping_add(1)),
-    );
-    pass.meet(&other);
-    Told {
-        found: [one, two],
-        pass,
-    }
-}
-
 // Checks the answers of all threads.
-fn check_all<K: Key>(frozen: &mut Frozen, texts: &Texts, found: &[Found]) -> Result<()> {
+fn check_all<K: Key>(
+    frozen: &mut Frozen,
+    texts: &Texts,
+    found: &[Result<Vec<Answer>, AllocError>],
+) -> Result<()> {
     for answers in found {
         let Ok(answers) = answers else {
             bail!("no memory for the answers");

@@ -72,23 +72,20 @@ pub fn sum_with(sum: u64, text: &str) -> u64 {
     sum
 }
 
-/// So many random calls with the pass, and what each answered. It is refused for want of memory alone.
+/// So many random calls with a pass, and what each answered. It is refused for want of memory alone.
 pub fn answers<K: Key, R: AllocGlobal + Wait>(
     rt: &R,
     rodeo: &ThreadedRodeo<K, FixedState>,
-    pass: &mut Pass<K>,
     texts: &Texts,
     limits: Limits,
     seed: u64,
     calls: u32,
-) -> Result<Vec<Answer>, AllocError>
-    requires { pass.old.of ≡ rodeo.now }
-    ensures { pass.new.of ≡ pass.old.of }
-{
+) -> Result<Vec<Answer>, AllocError> {
+    let mut pass = rodeo.pass();
     let mut draws = Draws::new(seed);
     let mut answers = Vec::new(rt.alloc());
     for _ in 0..calls {
-        answers.push(random_answer(rt, rodeo, pass, texts, limits, &mut draws))?;
+        answers.push(random_answer(rt, rodeo, &mut pass, texts, limits, &mut draws))?;
     }
     Ok(answers)
 }
