@@ -1,0 +1,72 @@
+-- Codes of texts in a list that grows.
+--
+-- A text that is found at a position is found there still when another goes last. So codes stay those of their texts,
+-- and one text's code more goes behind them. And where a text is found there it stands: codes stand for their texts.
+use Rattle.std.proofs.Common.{ℕ, ◌≡◌, ◌+◌, ◌-◌, List, [], ◌∷◌, ◌++◌, map, length, Bool, true, false, cond, Option, Some, is_some, refl, sym, ap, subst, ◌∙◌, arith, append_assoc}
+use Rattle.std.specs.Prelude.{slice_get}
+use Rattle.std.proofs.lemmas.Bool.Decides.{nat_tests}
+use Rattle.std.proofs.lemmas.List.{map_push, length-map, length_push, length-append}
+use Rattle.std.proofs.lemmas.List.Folds.{position_or_len_push}
+use Rattle.std.proofs.lemmas.Option.{slice_get_within}
+use Rattle.lasso_parts.proofs.IndexLaws.{slice_get-append_left}
+use Rattle.lasso_parts.proofs.TextLemmas.{position_here}
+use Rattle.lasso_parts.specs.Texts.{Text, position_of}
+use Rattle.std.specs.Str.{bytes_eq}
+use Rattle.lasso_columns.specs.Codes.{AreCodes, AddsCodes, StandFor}
+
+-- a text that is found stays where it is found
+pub position_stays : (list : List Text) (last text : Text) (n : ℕ) → position_of list text ≡ Some n → position_of (list ++ last ∷ []) text ≡ Some n
+position_stays list last text n e = grind (arith, nat_tests, position_or_len_push (λ t. bytes_eq t text) list last, length_push list last)
+
+-- ---- lists whose elements are all there
+
+-- what is there for each element is there where more is there
+map_some_more : {X Y : Type 0} (f g : X → Option Y) → ((x : X) (y : Y) → f x ≡ Some y → g x ≡ Some y) → (xs : List X) (ys : List Y) → map f xs ≡ map Some ys → map g xs ≡ map Some ys
+map_some_more f g more [] ys e = e
+map_some_more f g more (x ∷ xs) [] e = cc
+map_some_more f g more (x ∷ xs) (y ∷ ys) e =
+    let here : g x ≡ Some y = more x y (cc) in
+    let others : map g xs ≡ map Some ys = map_some_more f g more xs ys (cc) in
+    cc
+
+-- and back, where each element is found from what is there
+map_some_back : {X Y : Type 0} (f : X → Option Y) (g : Y → Option X) → ((x : X) (y : Y) → f x ≡ Some y → g y ≡ Some x) → (xs : List X) (ys : List Y) → map f xs ≡ map Some ys → map g ys ≡ map Some xs
+map_some_back f g back [] [] e = refl
+map_some_back f g back [] (y ∷ ys) e = cc
+map_some_back f g back (x ∷ xs) [] e = cc
+map_some_back f g back (x ∷ xs) (y ∷ ys) e =
+    let here : g y ≡ Some x = back x y (cc) in
+    let others : map g ys ≡ map Some xs = map_some_back f g back xs ys (cc) in
+    cc
+
+pub map_some_push : {X Y : Type 0} (f : X → Option Y) (xs : List X) (ys : List Y) (x : X) (y : Y) → map f xs ≡ map Some ys → f x ≡ Some y → map f (xs ++ x ∷ []) ≡ map Some (ys ++ y ∷ [])
+map_some_push f xs ys x y e here = rw (map_push f xs x, map_push Some ys y) cc
+
+pub map_some_length : {X Y : Type 0} (f : X → Option Y) (xs : List X) (ys : List Y) → map f xs ≡ map Some ys → length xs ≡ length ys
+map_some_length f xs ys e = sym (length-map xs f) ∙ ap length e ∙ length-map ys Some
+
+-- ---- codes
+
+-- codes stay those of their texts when another text goes last, or none
+pub codes_stay : (list : List Text) (last : Text) (there : Bool) (texts : List Text) (codes : List ℕ) → AreCodes list texts codes → AreCodes (cond there list (list ++ last ∷ [])) texts codes
+codes_stay list last true texts codes are = are
+codes_stay list last false texts codes are = map_some_more (position_of list) (position_of (list ++ last ∷ [])) (λ t n e. position_stays list last t n e) texts codes are
+
+-- one code more
+pub adds_push : (list texts : List Text) (text : Text) (code : ℕ) (before codes after : List ℕ) → AddsCodes list texts before codes → position_of list text ≡ Some code → after ≡ codes ++ code ∷ [] → AddsCodes list (texts ++ text ∷ []) before after
+adds_push list texts text code before codes after added here is =
+    (added.0 ++ code ∷ [], is ∙ ap (λ cs. cs ++ code ∷ []) added.1 ∙ append_assoc before added.0 (code ∷ []), map_some_push (position_of list) texts added.0 text code added.2 here)
+
+-- how many were added
+pub adds_length : (list texts : List Text) (before after : List ℕ) → AddsCodes list texts before after → length after ≡ length before + length texts
+adds_length list texts before after added =
+    omega (arith, ap length added.1, length-append before added.0, map_some_length (position_of list) texts added.0 added.2)
+
+-- codes stand for their texts
+pub codes_stand : (list texts : List Text) (codes : List ℕ) → AreCodes list texts codes → StandFor list codes texts
+codes_stand list texts codes are = map_some_back (position_of list) (slice_get list) (λ t n e. position_here list t n e) texts codes are
+
+-- and still do when texts go behind the list
+pub stand_longer : (list more texts : List Text) (codes : List ℕ) → StandFor list codes texts → StandFor (list ++ more) codes texts
+stand_longer list more texts codes stand =
+    map_some_more (slice_get list) (slice_get (list ++ more)) (λ n t e. slice_get-append_left list more n (slice_get_within list n t e) ∙ e) codes texts stand

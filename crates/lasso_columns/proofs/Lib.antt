@@ -1,0 +1,5 @@
+pub mod Feeds
+pub mod FirstLines
+pub mod Coded
+pub mod Calling
+pub mod Encoded

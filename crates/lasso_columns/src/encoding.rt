@@ -1,0 +1,54 @@
+//! Texts to codes.
+ghost use Rattle.std.specs.Prelude.{◌≡◌, ℕ, ◌+◌, ◌∷◌, ◌++◌, [], Some, Ok, OnOk, IfErr, MatchResult, length, map, vec_len};
+ghost use Rattle.lasso_parts.specs.Texts.{position_of};
+ghost use Rattle.lasso_single.specs.Filling.{extend};
+ghost use Rattle.lasso_single.specs.Intern.{InternsIn};
+ghost use Rattle.lasso_columns.specs.Codes.{AddsCodes};
+ghost use Rattle.lasso_columns.specs.Encoding.{spur_at, encoded, IsRefused, IsNextRefused};
+
+use lasso_parts::keys::Spur;
+use lasso_parts::util::LassoResult;
+use lasso_single::rodeo::Rodeo;
+use std::alloc::Allocator;
+use std::hash::BuildHasher;
+
+/// Interns the texts in order, and puts their codes behind those that are there: the positions that they then have
+/// in the interner's list, and keep.
+///
+/// The first text that is refused ends it, for want of keys, for the memory limit, or for want of memory for the text or for its
+/// code. The texts before it are interned and have their codes, and no text after it is taken; so the number of codes tells
+/// which text it is.
+pub fn encode<S: BuildHasher, A: Allocator + Clone>(
+    rodeo: &mut Rodeo<Spur, S, A>,
+    texts: &[&str],
+    codes: &mut Vec<u32>,
+) -> LassoResult<()>
+    ensures list { extend spur_at rodeo.old (encoded codes.old.items codes.new.items (map (λ t. t.now) texts.now)) (Ok tt) rodeo.new }
+    ensures codes { AddsCodes rodeo.new.texts (encoded codes.old.items codes.new.items (map (λ t. t.now) texts.now)) codes.old.items codes.new.items }
+    ensures whole { OnOk result (vec_len codes.new ≡ vec_len codes.old + length texts.now) }
+    ensures refused { IfErr result (IsNextRefused rodeo.new codes.old.items codes.new.items (map (λ t. t.now) texts.now)) }
+{
+    // Where there is no memory for the codes of all texts, each asks for its own.
+    let _ = codes.reserve(texts.len());
+    for text in texts {
+        encode_text(rodeo, text, codes)?;
+    }
+    Ok(())
+}
+
+// Interns the text and puts its code behind the others. There is room for the code before the text is interned.
+pub(crate) fn encode_text<S: BuildHasher, A: Allocator + Clone>(
+    rodeo: &mut Rodeo<Spur, S, A>,
+    text: &str,
+    codes: &mut Vec<u32>,
+) -> LassoResult<()>
+    ensures { MatchResult result
+        (λ _. ((key : ℕ) × InternsIn {K = ℕ} spur_at rodeo.old text.now (Ok key) rodeo.new)
+            × ((code : ℕ) × (position_of rodeo.new.texts text.now ≡ Some code) × (codes.new.items ≡ codes.old.items ++ code ∷ [])))
+        (λ error. (rodeo.new ≡ rodeo.old) × (codes.new.items ≡ codes.old.items) × IsRefused rodeo.old text.now error) }
+{
+    codes.reserve(1)?;
+    let key = rodeo.try_get_or_intern(text)?;
+    codes.push(key.into_inner() - 1)?;
+    Ok(())
+}
