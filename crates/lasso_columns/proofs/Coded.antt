@@ -2,7 +2,7 @@
 --
 -- A text that is found at a position is found there still when another goes last. So codes stay those of their texts,
 -- and one text's code more goes behind them. And where a text is found there it stands: codes stand for their texts.
-use Rattle.std.proofs.Common.{ℕ, ◌≡◌, ◌+◌, ◌-◌, List, [], ◌∷◌, ◌++◌, map, length, Bool, true, false, cond, Option, Some, is_some, refl, sym, ap, subst, ◌∙◌, arith, append_assoc}
+use Rattle.std.proofs.Common.{ℕ, zero, suc, None, ◌↔◌, ◌≡◌, ◌+◌, ◌-◌, List, [], ◌∷◌, ◌++◌, map, length, Bool, true, false, cond, Option, Some, is_some, refl, sym, ap, subst, ◌∙◌, arith, append_assoc}
 use Rattle.std.specs.Prelude.{slice_get}
 use Rattle.std.proofs.lemmas.Bool.Decides.{nat_tests}
 use Rattle.std.proofs.lemmas.List.{map_push, length-map, length_push, length-append}
@@ -12,7 +12,7 @@ use Rattle.lasso_parts.proofs.IndexLaws.{slice_get-append_left}
 use Rattle.lasso_parts.proofs.TextLemmas.{position_here}
 use Rattle.lasso_parts.specs.Texts.{Text, position_of}
 use Rattle.std.specs.Str.{bytes_eq}
-use Rattle.lasso_columns.specs.Codes.{AreCodes, AddsCodes, StandFor}
+use Rattle.lasso_columns.specs.Codes.{AreCodes, AddsCodes, StandFor, DecodingGivesTexts, RewritingKeepsTexts}
 
 -- a text that is found stays where it is found
 pub position_stays : (list : List Text) (last text : Text) (n : ℕ) → position_of list text ≡ Some n → position_of (list ++ last ∷ []) text ≡ Some n
@@ -70,3 +70,36 @@ codes_stand list texts codes are = map_some_back (position_of list) (slice_get l
 pub stand_longer : (list more texts : List Text) (codes : List ℕ) → StandFor list codes texts → StandFor (list ++ more) codes texts
 stand_longer list more texts codes stand =
     map_some_more (slice_get list) (slice_get (list ++ more)) (λ n t e. slice_get-append_left list more n (slice_get_within list n t e) ∙ e) codes texts stand
+
+-- ---- the laws
+
+map_some_same : {Y : Type 0} (xs ys : List Y) → map {B = Option Y} Some xs ≡ map Some ys → xs ≡ ys
+map_some_same [] [] e = refl
+map_some_same [] (y ∷ ys) e = cc
+map_some_same (x ∷ xs) [] e = cc
+map_some_same (x ∷ xs) (y ∷ ys) e =
+    let others : xs ≡ ys = map_some_same xs ys (cc) in
+    cc
+
+pub decoding_gives_texts_lem : DecodingGivesTexts
+decoding_gives_texts_lem list more texts decoded codes are =
+    let stand = stand_longer list more texts codes (codes_stand list texts codes are) in
+    (λ decodes. map_some_same decoded texts (sym decodes ∙ stand), λ same. subst (λ ts. StandFor (list ++ more) codes ts) (sym same) stand)
+
+map_some_at : {X Y : Type 0} (f : X → Option Y) (xs : List X) (ys : List Y) (n : ℕ) (x : X) (y : Y) → map f xs ≡ map Some ys → slice_get xs n ≡ Some x → slice_get ys n ≡ Some y → f x ≡ Some y
+map_some_at f [] ys n x y e here there = cc
+map_some_at f (x' ∷ xs) [] n x y e here there = cc
+map_some_at f (x' ∷ xs) (y' ∷ ys) zero x y e here there = cc
+map_some_at f (x' ∷ xs) (y' ∷ ys) (suc n) x y e here there = map_some_at f xs ys n x y (cc) here there
+
+pub rewriting_keeps_texts_lem : RewritingKeepsTexts
+rewriting_keeps_texts_lem from into [] [] merged [] are merges is = refl
+rewriting_keeps_texts_lem from into [] [] merged (r ∷ rewritten) are merges is = cc
+rewriting_keeps_texts_lem from into [] (c ∷ codes) merged rewritten are merges is = cc
+rewriting_keeps_texts_lem from into (t ∷ texts) [] merged rewritten are merges is = cc
+rewriting_keeps_texts_lem from into (t ∷ texts) (c ∷ codes) merged [] are merges is = cc
+rewriting_keeps_texts_lem from into (t ∷ texts) (c ∷ codes) merged (r ∷ rewritten) are merges is =
+    let stands : slice_get from c ≡ Some t = position_here from t c (cc) in
+    let here : position_of into t ≡ Some r = map_some_at (position_of into) from merged c t r merges stands (cc) in
+    let others : map (position_of into) texts ≡ map Some rewritten = rewriting_keeps_texts_lem from into texts codes merged rewritten (cc) merges (cc) in
+    cc

@@ -3,3 +3,4 @@ pub mod FirstLines
 pub mod Coded
 pub mod Calling
 pub mod Encoded
+pub mod EncodedLines

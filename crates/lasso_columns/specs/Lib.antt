@@ -1,3 +1,4 @@
 pub mod Lines
 pub mod Codes
 pub mod Encoding
+pub mod Faults

@@ -1,7 +1,14 @@
 //! Columns of texts as columns of codes.
 #![tactic(auto)]
 
+mod decoding;
 mod encoding;
+mod faults;
+pub mod laws;
 pub mod lines;
+mod merging;
 
-pub use encoding::encode;
+pub use decoding::decode;
+pub use encoding::{encode, encode_lines};
+pub use faults::{DecodeError, LineError};
+pub use merging::merge;
