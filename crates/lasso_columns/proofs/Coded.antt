@@ -5,7 +5,7 @@
 use Rattle.std.proofs.Common.{ℕ, zero, suc, None, ◌↔◌, ◌≡◌, ◌+◌, ◌-◌, List, [], ◌∷◌, ◌++◌, map, length, Bool, true, false, cond, Option, Some, is_some, refl, sym, ap, subst, ◌∙◌, arith, append_assoc}
 use Rattle.std.specs.Prelude.{slice_get}
 use Rattle.std.proofs.lemmas.Bool.Decides.{nat_tests}
-use Rattle.std.proofs.lemmas.List.{map_push, length-map, length_push, length-append}
+use Rattle.std.proofs.lemmas.List.{append-nil, map_push, length-map, length_push, length-append}
 use Rattle.std.proofs.lemmas.List.Folds.{position_or_len_push}
 use Rattle.std.proofs.lemmas.Option.{slice_get_within}
 use Rattle.lasso_parts.proofs.IndexLaws.{slice_get-append_left}
@@ -42,6 +42,14 @@ map_some_back f g back (x ∷ xs) (y ∷ ys) e =
 pub map_some_push : {X Y : Type 0} (f : X → Option Y) (xs : List X) (ys : List Y) (x : X) (y : Y) → map f xs ≡ map Some ys → f x ≡ Some y → map f (xs ++ x ∷ []) ≡ map Some (ys ++ y ∷ [])
 map_some_push f xs ys x y e here = rw (map_push f xs x, map_push Some ys y) cc
 
+pub map_some_both : {X Y : Type 0} (f : X → Option Y) (xs xs' : List X) (ys ys' : List Y) → map f xs ≡ map Some ys → map f xs' ≡ map Some ys' → map f (xs ++ xs') ≡ map Some (ys ++ ys')
+map_some_both f [] xs' [] ys' e e' = e'
+map_some_both f [] xs' (y ∷ ys) ys' e e' = cc
+map_some_both f (x ∷ xs) xs' [] ys' e e' = cc
+map_some_both f (x ∷ xs) xs' (y ∷ ys) ys' e e' =
+    let others : map f (xs ++ xs') ≡ map Some (ys ++ ys') = map_some_both f xs xs' ys ys' (cc) e' in
+    cc
+
 pub map_some_length : {X Y : Type 0} (f : X → Option Y) (xs : List X) (ys : List Y) → map f xs ≡ map Some ys → length xs ≡ length ys
 map_some_length f xs ys e = sym (length-map xs f) ∙ ap length e ∙ length-map ys Some
 
@@ -51,6 +59,12 @@ map_some_length f xs ys e = sym (length-map xs f) ∙ ap length e ∙ length-map
 pub codes_stay : (list : List Text) (last : Text) (there : Bool) (texts : List Text) (codes : List ℕ) → AreCodes list texts codes → AreCodes (cond there list (list ++ last ∷ [])) texts codes
 codes_stay list last true texts codes are = are
 codes_stay list last false texts codes are = map_some_more (position_of list) (position_of (list ++ last ∷ [])) (λ t n e. position_stays list last t n e) texts codes are
+
+-- or any number of texts
+pub codes_longer : (list more texts : List Text) (codes : List ℕ) → AreCodes list texts codes → AreCodes (list ++ more) texts codes
+codes_longer list [] texts codes are = subst (λ (ts : List Text). AreCodes ts texts codes) (sym (append-nil list)) are
+codes_longer list (last ∷ more) texts codes are =
+    subst (λ (ts : List Text). AreCodes ts texts codes) (append_assoc list (last ∷ []) more) (codes_longer (list ++ last ∷ []) more texts codes (codes_stay list last false texts codes are))
 
 -- one code more
 pub adds_push : (list texts : List Text) (text : Text) (code : ℕ) (before codes after : List ℕ) → AddsCodes list texts before codes → position_of list text ≡ Some code → after ≡ codes ++ code ∷ [] → AddsCodes list (texts ++ text ∷ []) before after

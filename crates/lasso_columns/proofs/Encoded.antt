@@ -14,12 +14,14 @@ use Rattle.lasso_single.specs.Filling.{extend}
 use Rattle.lasso_single.specs.Intern.{InternsIn, interned_position}
 use Rattle.lasso_single.specs.Interner.{InternerView}
 use Rattle.lasso_single.proofs.Filled.{accepted, extend_push}
-use Rattle.lasso_columns.proofs.Calling.{list_interned, position_with_last}
+use Rattle.lasso.proofs.Calling.{list_interned}
+use Rattle.lasso.proofs.Interned.{position_with_last}
 use Rattle.lasso_columns.proofs.Coded.{codes_stay, adds_push, adds_length}
 use Rattle.lasso_columns.specs.Codes.{AddsCodes}
 use Rattle.lasso_columns.specs.Encoding.{spur_at, encoded, IsRefused, IsNextRefused}
 
-place_of : (place k : ℕ) → spur_at place ≡ Some k → place ≡ k - 1
+-- the position of a key
+pub place_of : (place k : ℕ) → spur_at place ≡ Some k → place ≡ k - 1
 place_of place k e = let sum = (cond_some _ _ _ e).1 in omega arith
 
 -- where an interned text is found

@@ -2,3 +2,4 @@ pub mod Lines
 pub mod Codes
 pub mod Encoding
 pub mod Faults
+pub mod Sharing

@@ -4,9 +4,8 @@ ghost use Rattle.lasso_columns.specs.Codes.{AddsTexts};
 ghost use Rattle.lasso_columns.specs.Faults.{IsFaultAt};
 
 use crate::faults::DecodeError;
-use lasso_parts::index::Texts;
-use lasso_parts::keys::Spur;
-use lasso_single::reader::RodeoReader;
+use lasso::index::Texts;
+use lasso::{RodeoReader, Spur};
 use std::alloc::Allocator;
 use std::hash::BuildHasher;
 

@@ -10,9 +10,7 @@ ghost use Rattle.lasso_columns.specs.Lines.{lines_of};
 
 use crate::faults::LineError;
 use crate::lines::first_line;
-use lasso_parts::keys::Spur;
-use lasso_parts::util::LassoResult;
-use lasso_single::rodeo::Rodeo;
+use lasso::{LassoResult, Rodeo, Spur};
 use std::alloc::Allocator;
 use std::hash::BuildHasher;
 use std::str::from_utf8;

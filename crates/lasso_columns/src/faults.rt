@@ -2,7 +2,7 @@
 ghost use Rattle.std.specs.Prelude.{Some};
 ghost use Rattle.lasso_columns.specs.Faults.{line_error_text, decode_error_text};
 
-use lasso_parts::util::LassoError;
+use lasso::LassoError;
 use std::error::Error;
 use std::fmt;
 

@@ -5,11 +5,8 @@ ghost use Rattle.lasso_columns.specs.Codes.{AreCodes, StandFor};
 ghost use Rattle.lasso_columns.specs.Encoding.{spur_at, IsRefused};
 
 use crate::encoding::encode_text;
-use lasso_parts::index::Texts;
-use lasso_parts::keys::Spur;
-use lasso_parts::util::LassoResult;
-use lasso_single::reader::RodeoReader;
-use lasso_single::rodeo::Rodeo;
+use lasso::index::Texts;
+use lasso::{LassoResult, Rodeo, RodeoReader, Spur};
 use std::alloc::{Allocator, Global};
 use std::hash::BuildHasher;
 

@@ -1,0 +1,12 @@
+use Rattle.std.proofs.Common.{◌≡◌, ◌*◌, map, take}
+use mathlib.Core.List.{IsPrefix}
+use Rattle.lasso_log.specs.Views.{list_of, IsSamePass}
+use Rattle.lasso_columns.specs.Codes.{AreCodes}
+use Rattle.lasso_columns.proofs.sharing.encode_shared_as.Given as goal
+
+-- the texts of the parts before have their codes in what the pass has seen
+abbrev pub invariant-loop-part : goal.invariant-loop-part
+invariant-loop-part g l = record {
+  same : IsSamePass l.pass l.fn.pass;
+  codes : AreCodes (list_of l.rodeo l.pass.notes) (take (l.part * l.size) (map (λ t. t.now) l.texts)) l.added.items;
+}
