@@ -1,10 +1,10 @@
 //! Texts to codes by many threads.
 ghost use Rattle.std.specs.Prelude.{◌≡◌, Ok, OnOk, OnErr, IfOk, map};
 ghost use Rattle.lasso_log.specs.History.{IsLegal, IsOpening};
-ghost use Rattle.lasso_log.specs.Views.{KnownView, PassView, InternerId, IsSamePass, list_of, seen};
-ghost use Rattle.lasso_columns.specs.Codes.{AddsCodes, AreCodes};
+ghost use Rattle.lasso_log.specs.Views.{PassView, InternerId, IsSamePass, list_of, seen};
+ghost use Rattle.lasso_columns.specs.Codes.{AddsCodes};
 ghost use Rattle.lasso_columns.specs.Encoding.{spur_at};
-ghost use Rattle.lasso_columns.specs.Sharing.{AddsSharedCodes};
+ghost use Rattle.lasso_columns.specs.Sharing.{AddsSharedCodes, IsPartOf};
 
 use lasso::log::{Known, Pass};
 use lasso::{LassoError, LassoResult, Spur, SpurThreadedRodeo};
@@ -50,7 +50,9 @@ pub fn encode_shared_as<R: AllocGlobal + Threads + Wait + Sync>(
 {
     pass.show_legal();
     let size = texts.len().div_ceil(workers.max(1)).max(1);
-    let work = |_: usize, part: &[&str]| encode_part(rt, rodeo, part);
+    let work = move |_: usize, part: &[&str]| -> LassoResult<Part>
+        ensures { IfOk result (λ done. IsPartOf rodeo.entry.now (map (λ t. t.now) part.entry.now) done.1 done.0.items) }
+    { encode_part(rt, rodeo, part) };
     let parts = map_chunks(rt, rt.alloc(), texts, size, &work)?;
     let mut added = Vec::new(rt.alloc());
     for part in 0..parts.len() {
@@ -75,7 +77,7 @@ fn encode_part<R: AllocGlobal + Wait>(
     rodeo: &SpurThreadedRodeo,
     texts: &[&str],
 ) -> LassoResult<Part>
-    ensures { IfOk result (λ part. (part.1.of ≡ rodeo.now) × AreCodes (list_of rodeo.now part.1.notes) (map (λ t. t.now) texts.now) part.0.items) }
+    ensures { IfOk result (λ part. IsPartOf rodeo.now (map (λ t. t.now) texts.now) part.1 part.0.items) }
 {
     let mut pass = rodeo.pass();
     let mut codes = Vec::new(rt.alloc());
