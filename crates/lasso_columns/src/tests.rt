@@ -71,8 +71,9 @@ fn lines_are_cut_and_encoded(rt: HostRuntime) -> Result<(), Fail> {
     encode_lines(&mut rodeo, b"be\n", &mut codes)?;
     encode_lines(&mut rodeo, b"", &mut codes)?;
     assert_eq!(rt; codes.as_slice(), [0, 1, 2, 3, 1, 1].as_slice());
+    let reader = rodeo.into_reader();
     let mut texts = Vec::new(rt.alloc());
-    decode(&rodeo.into_reader(), &codes, &mut texts)?;
+    decode(&reader, &codes, &mut texts)?;
     assert_eq!(rt; texts.as_slice(), ["to", "be", "", "to\r", "be", "be"].as_slice());
     Ok(())
 }
