@@ -2,7 +2,7 @@
 --
 -- A text that is found at a position is found there still when another goes last. So codes stay those of their texts,
 -- and one text's code more goes behind them. And where a text is found there it stands: codes stand for their texts.
-use Rattle.std.proofs.Common.{ℕ, zero, suc, None, ◌↔◌, ◌≡◌, ◌+◌, ◌-◌, List, [], ◌∷◌, ◌++◌, map, length, Bool, true, false, cond, Option, Some, is_some, refl, sym, ap, subst, ◌∙◌, arith, append_assoc}
+use Rattle.std.proofs.Common.{ℕ, zero, suc, ◌≡◌, ◌+◌, List, [], ◌∷◌, ◌++◌, map, length, Bool, true, false, cond, Option, Some, refl, sym, ap, subst, ◌∙◌, arith, append_assoc}
 use Rattle.std.specs.Prelude.{slice_get}
 use Rattle.std.proofs.lemmas.Bool.Decides.{nat_tests}
 use Rattle.std.proofs.lemmas.List.{append-nil, map_push, length-map, length_push, length-append}
@@ -12,7 +12,7 @@ use Rattle.lasso_parts.proofs.IndexLaws.{slice_get-append_left}
 use Rattle.lasso_parts.proofs.TextLemmas.{position_here}
 use Rattle.lasso_parts.specs.Texts.{Text, position_of}
 use Rattle.std.specs.Str.{bytes_eq}
-use Rattle.lasso_columns.specs.Codes.{AreCodes, AddsCodes, StandFor, DecodingGivesTexts, RewritingKeepsTexts}
+use Rattle.lasso_columns.specs.Codes.{AreCodes, AddsCodes, StandFor, DecodingGivesTexts, CodesTellTexts, RewritingKeepsTexts}
 
 -- a text that is found stays where it is found
 pub position_stays : (list : List Text) (last text : Text) (n : ℕ) → position_of list text ≡ Some n → position_of (list ++ last ∷ []) text ≡ Some n
@@ -105,6 +105,16 @@ map_some_at f [] ys n x y e here there = cc
 map_some_at f (x' ∷ xs) [] n x y e here there = cc
 map_some_at f (x' ∷ xs) (y' ∷ ys) zero x y e here there = cc
 map_some_at f (x' ∷ xs) (y' ∷ ys) (suc n) x y e here there = map_some_at f xs ys n x y (cc) here there
+
+pub codes_tell_texts_lem : CodesTellTexts
+codes_tell_texts_lem list texts codes i j code other text that are text_at code_at that_at other_at =
+    let here : position_of list text ≡ Some code = map_some_at (position_of list) texts codes i text code are text_at code_at in
+    let there : position_of list that ≡ Some other = map_some_at (position_of list) texts codes j that other are that_at other_at in
+    let stands : slice_get list code ≡ Some text = position_here list text code here in
+    let stands' : slice_get list other ≡ Some that = position_here list that other there in (
+      (λ same. let one : slice_get list other ≡ Some text = subst (λ n. slice_get list n ≡ Some text) same stands in cc),
+      (λ same. let one : position_of list that ≡ Some code = subst (λ (t : Text). position_of list t ≡ Some code) same here in cc),
+    )
 
 pub rewriting_keeps_texts_lem : RewritingKeepsTexts
 rewriting_keeps_texts_lem from into [] [] merged [] are merges is = refl

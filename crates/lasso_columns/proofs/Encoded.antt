@@ -3,13 +3,12 @@
 -- A text that was interned has its key's position in the list that is left. The texts from before keep theirs, so their codes stay, and
 -- one code more goes behind them. As many codes were added as texts were encoded: so their number tells which these are.
 use denote.Ref.{Bor}
-use Rattle.std.proofs.Common.{ℕ, suc, map, drop, get_or, ◌≡◌, ◌+◌, ◌-◌, ◌<◌, ◌≤◌, List, [], ◌∷◌, ◌++◌, length, take, Option, Some, None, Result, Ok, Err, IsSomeAnd, is_some, refl, sym, ap, subst, ◌∙◌, arith, length-append}
+use Rattle.std.proofs.Common.{ℕ, suc, map, drop, get_or, ◌≡◌, ◌+◌, ◌-◌, ◌<◌, List, [], ◌∷◌, ◌++◌, length, take, Some, Ok, IsSomeAnd, is_some, refl, sym, ap, subst, ◌∙◌, arith, length-append}
 use Rattle.std.specs.Prelude.{slice_get}
 use Rattle.std.proofs.lemmas.Option.{cond_some}
 use Rattle.std.proofs.Math.Seq.{drop-cons, take-append_seam}
 use Rattle.std.proofs.lemmas.List.{append-nil, take_more, take-append-drop, get_or-map, length-map}
 use Rattle.lasso_parts.specs.Texts.{Text, position_of}
-use Rattle.lasso_parts.specs.declared.util.LassoError.{LassoError}
 use Rattle.lasso_single.specs.Filling.{extend}
 use Rattle.lasso_single.specs.Intern.{InternsIn, interned_position}
 use Rattle.lasso_single.specs.Interner.{InternerView}
@@ -18,7 +17,7 @@ use Rattle.lasso.proofs.Calling.{list_interned}
 use Rattle.lasso.proofs.Interned.{position_with_last}
 use Rattle.lasso_columns.proofs.Coded.{codes_stay, adds_push, adds_length}
 use Rattle.lasso_columns.specs.Codes.{AddsCodes}
-use Rattle.lasso_columns.specs.Encoding.{spur_at, encoded, IsRefused, IsNextRefused}
+use Rattle.lasso_columns.specs.Encoding.{spur_at, encoded}
 
 -- the position of a key
 pub place_of : (place k : ℕ) → spur_at place ≡ Some k → place ≡ k - 1

@@ -2,7 +2,7 @@
 --
 -- Bytes without a line feed begin the first line. A line feed behind them ends it; where nothing is behind them
 -- they are the last line. Where the search finds a line feed, the bytes are a line, the feed, and what is behind it.
-use Rattle.std.proofs.Common.{ℕ, suc, zero, ◌≡◌, ◌+◌, ◌-◌, ◌<◌, ◌≤◌, ◌==◌, true, false, cond, List, [], ◌∷◌, ◌++◌, length, take, drop, Option, Some, None, ap, sym, subst, ◌∙◌, refl, arith, add-one, length-drop}
+use Rattle.std.proofs.Common.{ℕ, suc, zero, ◌≡◌, ◌+◌, ◌-◌, ◌<◌, ◌≤◌, ◌==◌, true, false, cond, List, [], ◌∷◌, ◌++◌, length, take, drop, Some, None, ap, sym, subst, ◌∙◌, refl, arith, add-one, length-drop}
 use Rattle.std.specs.List.{onto_first, slice_index}
 use Rattle.std.proofs.lemmas.Bool.{false_from_ne_true}
 use Rattle.std.proofs.lemmas.Bool.Decides.{nat_tests}

@@ -3,7 +3,7 @@
 -- A key that a pass was answered is the text's key in the list that it has then seen, so its code is the text's position there. Lists that
 -- passes see only grow. So codes stay, also in what a pass has seen that learned what another had: the codes of all workers
 -- are those of one list.
-use Rattle.std.proofs.Common.{ℕ, zero, suc, one-mul, Bor, Result, Err, IfOk, ◌≡◌, ◌+◌, ◌-◌, ◌*◌, ◌<◌, ◌≤◌, List, [], ◌∷◌, ◌++◌, length, take, drop, map, min, ◌/◌, ◌%◌, Option, Some, None, Ok, refl, sym, ap, subst, ◌∙◌, arith, append_assoc}
+use Rattle.std.proofs.Common.{ℕ, zero, suc, one-mul, Bor, Result, Err, IfOk, ◌≡◌, ◌+◌, ◌-◌, ◌*◌, ◌<◌, ◌≤◌, List, [], ◌∷◌, ◌++◌, length, take, drop, map, min, ◌/◌, ◌%◌, Option, Some, None, Ok, sym, ap, subst, ◌∙◌, arith}
 use Rattle.std.specs.Prelude.{option_and_then}
 use Rattle.std.proofs.Math.Nat.{mul-le-mul_right}
 use Rattle.std.proofs.Math.Seq.{take-add}
@@ -14,7 +14,7 @@ use Rattle.lasso_log.specs.History.{History, Totals, totals}
 use Rattle.lasso_log.specs.Replies.{Copied, Intern, Interned}
 use Rattle.lasso_log.specs.Calls.{IsCall}
 use Rattle.lasso_log.specs.Notes.{NoteView}
-use Rattle.lasso_log.specs.Views.{InternerId, PassView, seen, list_of}
+use Rattle.lasso_log.specs.Views.{InternerId, list_of}
 use Rattle.lasso_log.proofs.Legal.{totals_append, list_grows}
 use Rattle.lasso_log.proofs.Lengths.{texts_past}
 use Rattle.lasso_shared.proofs.CallerLaws.{tells_keys}
@@ -61,7 +61,7 @@ pub part_texts : (texts : List (Bor Text)) (part : List (Bor Text)) (n size : �
 part_texts texts part n size is =
     let all = map (λ (t : Bor Text). t.now) texts in
     let here : map (λ (t : Bor Text). t.now) part ≡ take size (drop (n * size) all) =
-        ap (map (λ (t : Bor Text). t.now)) is ∙ sym (take-map (λ (t : Bor Text). t.now) size (drop (n * size) texts)) ∙ ap (take size) (sym (drop-map (λ (t : Bor Text). t.now) (n * size) texts)) in
+    ap (map (λ (t : Bor Text). t.now)) is ∙ sym (take-map (λ (t : Bor Text). t.now) size (drop (n * size) texts)) ∙ ap (take size) (sym (drop-map (λ (t : Bor Text). t.now) (n * size) texts)) in
     ap (λ (ts : List Text). take (n * size) all ++ ts) here ∙ sym (parts_more all n size)
 
 last_part : (r size : ℕ) → r < size → r ≤ min 1 r * size

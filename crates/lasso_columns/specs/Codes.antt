@@ -26,6 +26,14 @@ DecodingGivesTexts =
     (list more texts decoded : List Text) (codes : List ℕ)
     → AreCodes list texts codes → StandFor (list ++ more) codes decoded ↔ (decoded ≡ texts)
 
+-- codes of one list are equal exactly where their texts are
+abbrev pub CodesTellTexts : Type 0
+CodesTellTexts =
+    (list texts : List Text) (codes : List ℕ) (i j code other : ℕ) (text that : Text)
+    → AreCodes list texts codes
+    → slice_get texts i ≡ Some text → slice_get codes i ≡ Some code
+    → slice_get texts j ≡ Some that → slice_get codes j ≡ Some other → (code ≡ other) ↔ (text ≡ that)
+
 -- codes of one list are rewritten by the codes that its texts have in another: they are the codes of the same texts there
 abbrev pub RewritingKeepsTexts : Type 0
 RewritingKeepsTexts =

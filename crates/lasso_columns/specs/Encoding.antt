@@ -1,6 +1,5 @@
 -- What encoding texts answers and leaves.
-use Rattle.std.specs.Prelude.{ℕ, ◌≡◌, ◌+◌, ◌-◌, ◌⊎◌, List, length, take, Option, Result, Err, IsSomeAnd, slice_get}
-use Rattle.std.specs.Str.{IsUtf8}
+use Rattle.std.specs.Prelude.{ℕ, ◌≡◌, ◌-◌, ◌⊎◌, List, length, take, Option, Err, IsSomeAnd, slice_get}
 use Rattle.lasso_parts.specs.Kept.{kept_at}
 use Rattle.lasso_parts.specs.Held.{Held}
 use Rattle.lasso_parts.specs.Texts.{Text}

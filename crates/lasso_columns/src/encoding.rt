@@ -74,7 +74,7 @@ fn encode_line<S: BuildHasher, A: Allocator + Clone>(
 ) -> Result<(), LineError>
     ensures { MatchResult result
         (λ _. IsUtf8 line.now × ((key : ℕ) × InternsIn {K = ℕ} spur_at rodeo.old line.now (Ok key) rodeo.new)
-            × ((code : ℕ) × (position_of rodeo.new.texts line.now ≡ Some code) × (codes.new.items ≡ codes.old.items ++ code ∷ [])))
+        × ((code : ℕ) × (position_of rodeo.new.texts line.now ≡ Some code) × (codes.new.items ≡ codes.old.items ++ code ∷ [])))
         (λ error. (rodeo.new ≡ rodeo.old) × (codes.new.items ≡ codes.old.items) × IsFaultOf rodeo.old line.now number error) }
 {
     let Ok(text) = from_utf8(line) else {
@@ -94,7 +94,7 @@ pub(crate) fn encode_text<S: BuildHasher, A: Allocator + Clone>(
 ) -> LassoResult<()>
     ensures { MatchResult result
         (λ _. ((key : ℕ) × InternsIn {K = ℕ} spur_at rodeo.old text.now (Ok key) rodeo.new)
-            × ((code : ℕ) × (position_of rodeo.new.texts text.now ≡ Some code) × (codes.new.items ≡ codes.old.items ++ code ∷ [])))
+        × ((code : ℕ) × (position_of rodeo.new.texts text.now ≡ Some code) × (codes.new.items ≡ codes.old.items ++ code ∷ [])))
         (λ error. (rodeo.new ≡ rodeo.old) × (codes.new.items ≡ codes.old.items) × IsRefused rodeo.old text.now error) }
 {
     codes.reserve(1)?;

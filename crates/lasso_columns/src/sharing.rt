@@ -1,6 +1,7 @@
 //! Texts to codes by many threads.
-ghost use Rattle.std.specs.Prelude.{◌≡◌, Ok, OnOk, OnErr, IfOk, map};
-ghost use Rattle.lasso_log.specs.History.{IsLegal, IsOpening};
+ghost use Rattle.std.specs.Prelude.{◌≡◌, [], OnOk, OnErr, IfOk, map};
+ghost use Rattle.lasso_log.specs.History.{IsLegal};
+ghost use Rattle.lasso_log.specs.Notes.{Since};
 ghost use Rattle.lasso_log.specs.Views.{PassView, InternerId, IsSamePass, list_of, seen};
 ghost use Rattle.lasso_columns.specs.Codes.{AddsCodes};
 ghost use Rattle.lasso_columns.specs.Encoding.{spur_at};
@@ -32,8 +33,8 @@ pub fn encode_shared<R: AllocGlobal + Threads + Wait + Sync>(
     encode_shared_as(rt, rodeo, &mut pass, texts, codes, workers)
 }
 
-/// The same with a pass, which has then seen what the workers did: the codes are the positions of the texts in the list that
-/// it has seen.
+/// The same with a pass, which has then seen what the workers did, also where a text was refused: the codes are the positions of
+/// the texts in the list that it has seen. The call adds no event to the pass itself.
 pub fn encode_shared_as<R: AllocGlobal + Threads + Wait + Sync>(
     rt: &R,
     rodeo: &SpurThreadedRodeo,
@@ -44,6 +45,7 @@ pub fn encode_shared_as<R: AllocGlobal + Threads + Wait + Sync>(
 ) -> LassoResult<()>
     requires { pass.old.of ≡ rodeo.now }
     ensures same { IsSamePass pass.new pass.old }
+    ensures since { Since pass.old.number pass.old.notes pass.new.notes [] }
     ensures codes { OnOk result (AddsCodes (list_of rodeo.now pass.new.notes) (map (λ t. t.now) texts.now) codes.old.items codes.new.items) }
     ensures refused { OnErr result (codes.new.items ≡ codes.old.items) }
     ensures legal { IsLegal spur_at rodeo.now.opening (seen pass.new) }

@@ -18,7 +18,10 @@ fn texts_are_encoded_and_decoded(rt: HostRuntime) -> Result<(), Fail> {
     let reader = rodeo.into_reader();
     let mut texts = Vec::new(rt.alloc());
     decode(&reader, &codes, &mut texts)?;
-    assert_eq!(rt; texts.as_slice(), ["red", "green", "red", "", "", "blue"].as_slice());
+    assert_eq!(rt;
+        texts.as_slice(),
+        ["red", "green", "red", "", "", "blue"].as_slice()
+    );
     Ok(())
 }
 
@@ -31,7 +34,13 @@ fn a_code_without_a_text_is_told(rt: HostRuntime) -> Result<(), Fail> {
     let fault = decode(&reader, &[1, 0, 2, 1], &mut texts).err();
     assert!(rt; fault == Some(DecodeError::NoText { place: 2, code: 2 }));
     assert_eq!(rt; texts.as_slice(), ["green", "red"].as_slice());
-    let printed = format!(in rt.alloc(); "{}", DecodeError::NoText { place: 0, code: 4294967295 })?;
+    let printed = format!(in rt.alloc();
+        "{}",
+        DecodeError::NoText {
+            place: 0,
+            code: 4294967295
+        }
+    )?;
     assert_eq!(rt; printed.as_str(), "Code 4294967295 at place 0 has no text");
     Ok(())
 }
@@ -40,11 +49,7 @@ fn a_code_without_a_text_is_told(rt: HostRuntime) -> Result<(), Fail> {
 fn limited(rt: &HostRuntime) -> Result<SpurRodeo, Fail> {
     let capacity = Capacity::for_bytes(10);
     let limits = MemoryLimits::new(10);
-    Ok(Rodeo::with_capacity_and_memory_limits(
-        rt.alloc(),
-        capacity,
-        limits,
-    )?)
+    Ok(Rodeo::with_capacity_and_memory_limits(rt.alloc(), capacity, limits)?)
 }
 
 #[test]
@@ -74,7 +79,10 @@ fn lines_are_cut_and_encoded(rt: HostRuntime) -> Result<(), Fail> {
     let reader = rodeo.into_reader();
     let mut texts = Vec::new(rt.alloc());
     decode(&reader, &codes, &mut texts)?;
-    assert_eq!(rt; texts.as_slice(), ["to", "be", "", "to\r", "be", "be"].as_slice());
+    assert_eq!(rt;
+        texts.as_slice(),
+        ["to", "be", "", "to\r", "be", "be"].as_slice()
+    );
     Ok(())
 }
 
@@ -88,7 +96,10 @@ fn a_faulty_line_is_told_by_its_number(rt: HostRuntime) -> Result<(), Fail> {
     let fault = encode_lines(&mut rodeo, b"other\nthird", &mut codes).err();
     let fault = fault.ok_or("no fault")?;
     let printed = format!(in rt.alloc(); "{fault}")?;
-    assert_eq!(rt; printed.as_str(), "line 2: Lasso encountered an error: The configured memory limit was reached");
+    assert_eq!(rt;
+        printed.as_str(),
+        "line 2: Lasso encountered an error: The configured memory limit was reached"
+    );
     assert_eq!(rt; codes.as_slice(), [0, 1, 1].as_slice());
     assert_eq!(rt; rodeo.len(), 2);
     Ok(())

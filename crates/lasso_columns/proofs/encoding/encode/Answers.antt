@@ -1,10 +1,9 @@
-use Rattle.std.proofs.Common.{◌≡◌, ◌+◌, ◌<◌, ◌≤◌, ◌++◌, ◌∷◌, [], List, Bor, length, map, take, drop, suc, get_or, refl, sym, subst, arith, ◌∙◌}
-use Rattle.std.proofs.Math.ListN.{drop_of_length-le}
-use Rattle.std.proofs.lemmas.List.{length-map, take-append-drop}
+use Rattle.std.proofs.Common.{List, map, take, sym, subst}
+use Rattle.std.proofs.lemmas.List.{take-append-drop}
 use Rattle.std.proofs.lemmas.Result.{err_from_is_err_and}
 use Rattle.lasso_parts.specs.Texts.{Text}
 use Rattle.lasso_columns.specs.Encoding.{IsRefused}
-use Rattle.lasso_columns.proofs.Encoded.{Encoded, encoded_push, encoded_still, told_list, told_codes, told_whole, next_at, texts_more, texts_split}
+use Rattle.lasso_columns.proofs.Encoded.{Encoded, encoded_push, encoded_still, told_list, told_codes, next_at, texts_more, texts_split}
 use Rattle.lasso_columns.proofs.encoding.encode.Given.{Over}
 use Rattle.lasso_columns.proofs.encoding.encode.Goals as goal
 

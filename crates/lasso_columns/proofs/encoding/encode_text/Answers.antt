@@ -1,4 +1,4 @@
-use Rattle.std.proofs.Common.{◌≡◌, ◌-◌, ◌∷◌, ◌++◌, [], Some, ap, sym, ◌∙◌}
+use Rattle.std.proofs.Common.{◌-◌, ◌∷◌, ◌++◌, [], Some, ap, sym, ◌∙◌}
 use Rattle.lasso_columns.proofs.Encoded.{interned_at}
 use Rattle.lasso_columns.proofs.encoding.encode_text.Goals as goal
 

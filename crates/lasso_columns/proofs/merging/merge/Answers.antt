@@ -1,4 +1,4 @@
-use Rattle.std.proofs.Common.{ℕ, ◌≡◌, ◌≤◌, [], List, length, take, sym, subst, arith}
+use Rattle.std.proofs.Common.{ℕ, ◌≤◌, [], List, length, sym, subst, arith}
 use Rattle.std.proofs.lemmas.List.{take_all}
 use Rattle.lasso_parts.proofs.TextLemmas.{take_more_at}
 use Rattle.lasso_parts.specs.Texts.{Text}

@@ -1,8 +1,10 @@
-use Rattle.std.proofs.Common.{ℕ, ◌≡◌, ◌+◌, ◌*◌, ◌<◌, ◌≤◌, ◌++◌, List, Bor, map, take, length, ap, sym, subst, ◌∙◌, arith}
+use Rattle.std.proofs.Common.{ℕ, ◌+◌, ◌*◌, ◌<◌, ◌≤◌, ◌++◌, [], List, Bor, map, take, length, ap, sym, subst, ◌∙◌, arith}
 use Rattle.std.proofs.lemmas.List.{take_all, length-map}
 use Rattle.lasso_parts.specs.Texts.{Text}
-use Rattle.lasso_log.specs.History.{Totals, IsLegal}
+use Rattle.lasso_log.specs.History.{IsLegal}
+use Rattle.lasso_log.specs.Notes.{Since}
 use Rattle.lasso_log.specs.Views.{InternerId, list_of, seen}
+use Rattle.lasso_log.proofs.Tickets.{since_trans}
 use Rattle.lasso_columns.specs.Codes.{AreCodes}
 use Rattle.lasso_columns.specs.Encoding.{spur_at}
 use Rattle.lasso_columns.specs.Sharing.{IsPartOf}
@@ -25,6 +27,7 @@ loop-part-preserved g c =
       codes =
           subst (λ (cs : List ℕ). AreCodes (list_of of after) (take ((c.loop-part.part + 1) * c.max-size.result) (map (λ (t : Bor Text). t.now) c.args.texts.now)) cs) (sym put)
           (subst (λ (ts : List Text). AreCodes (list_of of after) ts (c.loop-part.added.items ++ c.in-Ok.part_codes.items)) (part_texts c.args.texts.now each.argument.now c.loop-part.part c.max-size.result each.argument_is.value) joined);
+      since = since_trans c.args.pass.now.number c.args.pass.now.notes c.loop-part.pass.notes after [] c.loop-part.invariant.since (subst (λ (p : ℕ). Since p c.loop-part.pass.notes after []) c.loop-part.invariant.same.0 known.since);
       legal = subst (λ (i : InternerId). IsLegal spur_at i.opening (seen c.recall.new.self)) mine known.legal;
     }
 
@@ -37,3 +40,8 @@ returns-clause-codes g c =
     let long : length all ≤ c.loop-part.part * c.max-size.result = omega (arith, reach, length-map c.args.texts.now (λ (t : Bor Text). t.now)) in
     let put = c.in_ok-extend_from_slice.ensures.items ∙ ap (λ cs. c.args.codes.now.items ++ cs) c.deref-2.ensures.value in
     (c.loop-part.added.items, put, subst (λ (ts : List Text). AreCodes list ts c.loop-part.added.items) (take_all (c.loop-part.part * c.max-size.result) all long) c.loop-part.invariant.codes)
+
+pub returns-in_err-extend_from_slice-in-Ok-clause-since : goal.returns-in_err-extend_from_slice-in-Ok-clause-since
+returns-in_err-extend_from_slice-in-Ok-clause-since g c =
+    let known = c.recall.ensures in
+    since_trans c.args.pass.now.number c.args.pass.now.notes c.loop-part.pass.notes c.recall.new.self.notes [] c.loop-part.invariant.since (subst (λ (p : ℕ). Since p c.loop-part.pass.notes c.recall.new.self.notes []) c.loop-part.invariant.same.0 known.since)
