@@ -33,8 +33,9 @@ pub fn encode_shared<R: AllocGlobal + Threads + Wait + Sync>(
     encode_shared_as(rt, rodeo, &mut pass, texts, codes, workers)
 }
 
-/// The same with a pass, which has then seen what the workers did, also where a text was refused: the codes are the positions of
-/// the texts in the list that it has seen. The call adds no event to the pass itself.
+/// The same with a pass, which has then seen what the workers did: the codes are the positions of the texts in the list that it
+/// has seen. The call adds no event to the pass itself. After a refusal the pass has seen what the workers before the refused one
+/// did, or no more than before.
 pub fn encode_shared_as<R: AllocGlobal + Threads + Wait + Sync>(
     rt: &R,
     rodeo: &SpurThreadedRodeo,
