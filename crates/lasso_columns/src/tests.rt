@@ -3,9 +3,10 @@ use crate::{
     DecodeError, LineError, decode, encode, encode_lines, encode_shared, encode_shared_as, merge,
 };
 use lasso::{
-    Capacity, Key, LassoErrorKind, MemoryLimits, Rodeo, Spur, SpurRodeo, SpurThreadedRodeo,
+    Capacity, Key, LassoResult, MemoryLimits, Rodeo, Spur, SpurRodeo, SpurThreadedRodeo,
     ThreadedRodeo,
 };
+use std::fmt::Debug;
 use std::test::Fail;
 
 #[test]
@@ -45,6 +46,23 @@ fn a_code_without_a_text_is_told(rt: HostRuntime) -> Result<(), Fail> {
     Ok(())
 }
 
+// Another end of a test than the one that it looks for, as want of memory is.
+fn unwanted<E: Debug + Drop>(ended: Result<(), E>) -> Fail {
+    match ended {
+        Ok(()) => Fail::from("not refused"),
+        Err(error) => Fail::from(error),
+    }
+}
+
+// The limit refuses the call.
+fn limit_refuses<T: Drop>(ended: LassoResult<T>) -> Result<(), Fail> {
+    match ended {
+        Err(error) if error.kind().is_memory_limit() => Ok(()),
+        Err(error) => Err(Fail::from(error)),
+        Ok(_) => Err(Fail::from("not refused")),
+    }
+}
+
 // The first bucket has 10 bytes, which two texts of five fill, and the limit leaves no second one.
 fn limited(rt: &HostRuntime) -> Result<SpurRodeo, Fail> {
     let capacity = Capacity::for_bytes(10);
@@ -57,9 +75,7 @@ fn a_refusal_in_mid_column_keeps_what_came_before(rt: HostRuntime) -> Result<(),
     let mut rodeo = limited(&rt)?;
     let mut codes = Vec::new(rt.alloc());
     let texts = ["first", "other", "first", "third", "first"];
-    let refused = encode(&mut rodeo, &texts, &mut codes).err();
-    let kind = refused.ok_or("not refused")?.kind();
-    assert!(rt; kind == LassoErrorKind::MemoryLimitReached);
+    limit_refuses(encode(&mut rodeo, &texts, &mut codes))?;
     assert_eq!(rt; codes.as_slice(), [0, 1, 0].as_slice());
     assert_eq!(rt; rodeo.len(), 2);
     encode(&mut rodeo, &texts[4..], &mut codes)?;
@@ -90,16 +106,18 @@ fn lines_are_cut_and_encoded(rt: HostRuntime) -> Result<(), Fail> {
 fn a_faulty_line_is_told_by_its_number(rt: HostRuntime) -> Result<(), Fail> {
     let mut rodeo = limited(&rt)?;
     let mut codes = Vec::new(rt.alloc());
-    let fault = encode_lines(&mut rodeo, b"first\nother\n\xff\nfirst\n", &mut codes).err();
-    assert!(rt; fault == Some(LineError::NotText(3)));
+    match encode_lines(&mut rodeo, b"first\nother\n\xff\nfirst\n", &mut codes) {
+        Err(LineError::NotText(line)) => assert_eq!(rt; line, 3),
+        other => return Err(unwanted(other)),
+    }
     assert_eq!(rt; codes.as_slice(), [0, 1].as_slice());
-    let fault = encode_lines(&mut rodeo, b"other\nthird", &mut codes).err();
-    let fault = fault.ok_or("no fault")?;
-    let printed = format!(in rt.alloc(); "{fault}")?;
-    assert_eq!(rt;
-        printed.as_str(),
-        "line 2: Lasso encountered an error: The configured memory limit was reached"
-    );
+    match encode_lines(&mut rodeo, b"other\nthird", &mut codes) {
+        Err(LineError::Refused(line, error)) => {
+            assert_eq!(rt; line, 2);
+            limit_refuses::<()>(Err(error))?;
+        }
+        other => return Err(unwanted(other)),
+    }
     assert_eq!(rt; codes.as_slice(), [0, 1, 1].as_slice());
     assert_eq!(rt; rodeo.len(), 2);
     Ok(())
@@ -117,9 +135,7 @@ fn two_dictionaries_are_merged(rt: HostRuntime) -> Result<(), Fail> {
     let mut into = limited(&rt)?;
     let mut from: SpurRodeo = Rodeo::new(rt.alloc())?;
     from.extend(["first", "other", "third"])?;
-    let refused = merge(rt.alloc(), &mut into, &from.into_reader()).err();
-    let kind = refused.ok_or("not refused")?.kind();
-    assert!(rt; kind == LassoErrorKind::MemoryLimitReached);
+    limit_refuses(merge(rt.alloc(), &mut into, &from.into_reader()))?;
     assert_eq!(rt; into.len(), 2);
     Ok(())
 }
@@ -153,9 +169,7 @@ fn a_refused_worker_adds_no_code(rt: HostRuntime) -> Result<(), Fail> {
     let mut pass = rodeo.pass();
     let mut codes = Vec::new(rt.alloc());
     let texts = ["first", "other", "third", "first"];
-    let refused = encode_shared_as(&rt, &rodeo, &mut pass, &texts, &mut codes, 2).err();
-    let kind = refused.ok_or("not refused")?.kind();
-    assert!(rt; kind == LassoErrorKind::MemoryLimitReached);
+    limit_refuses(encode_shared_as(&rt, &rodeo, &mut pass, &texts, &mut codes, 2))?;
     assert!(rt; codes.is_empty());
     assert_eq!(rt; rodeo.len(), 2);
     encode_shared_as(&rt, &rodeo, &mut pass, &[], &mut codes, 3)?;
