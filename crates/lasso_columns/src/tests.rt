@@ -3,7 +3,7 @@ use crate::{
     DecodeError, LineError, decode, encode, encode_lines, encode_shared, encode_shared_as, merge,
 };
 use lasso::{
-    Capacity, Key, LassoResult, MemoryLimits, Rodeo, Spur, SpurRodeo, SpurThreadedRodeo,
+    Capacity, Key, LassoError, MemoryLimits, Rodeo, Spur, SpurRodeo, SpurThreadedRodeo,
     ThreadedRodeo,
 };
 use std::fmt::Debug;
@@ -54,13 +54,13 @@ fn unwanted<E: Debug + Drop>(ended: Result<(), E>) -> Fail {
     }
 }
 
-// The limit refuses the call.
-fn limit_refuses<T: Drop>(ended: LassoResult<T>) -> Result<(), Fail> {
-    match ended {
-        Err(error) if error.kind().is_memory_limit() => Ok(()),
-        Err(error) => Err(Fail::from(error)),
-        Ok(_) => Err(Fail::from("not refused")),
+// The refusal is the limit's.
+fn limit_refuses(refusal: Option<LassoError>) -> Result<(), Fail> {
+    let error = refusal.ok_or("not refused")?;
+    if error.kind().is_memory_limit() {
+        return Ok(());
     }
+    Err(Fail::from(error))
 }
 
 // The first bucket has 10 bytes, which two texts of five fill, and the limit leaves no second one.
@@ -75,7 +75,7 @@ fn a_refusal_in_mid_column_keeps_what_came_before(rt: HostRuntime) -> Result<(),
     let mut rodeo = limited(&rt)?;
     let mut codes = Vec::new(rt.alloc());
     let texts = ["first", "other", "first", "third", "first"];
-    limit_refuses(encode(&mut rodeo, &texts, &mut codes))?;
+    limit_refuses(encode(&mut rodeo, &texts, &mut codes).err())?;
     assert_eq!(rt; codes.as_slice(), [0, 1, 0].as_slice());
     assert_eq!(rt; rodeo.len(), 2);
     encode(&mut rodeo, &texts[4..], &mut codes)?;
@@ -114,7 +114,7 @@ fn a_faulty_line_is_told_by_its_number(rt: HostRuntime) -> Result<(), Fail> {
     match encode_lines(&mut rodeo, b"other\nthird", &mut codes) {
         Err(LineError::Refused(line, error)) => {
             assert_eq!(rt; line, 2);
-            limit_refuses::<()>(Err(error))?;
+            limit_refuses(Some(error))?;
         }
         other => return Err(unwanted(other)),
     }
@@ -135,7 +135,7 @@ fn two_dictionaries_are_merged(rt: HostRuntime) -> Result<(), Fail> {
     let mut into = limited(&rt)?;
     let mut from: SpurRodeo = Rodeo::new(rt.alloc())?;
     from.extend(["first", "other", "third"])?;
-    limit_refuses(merge(rt.alloc(), &mut into, &from.into_reader()))?;
+    limit_refuses(merge(rt.alloc(), &mut into, &from.into_reader()).err())?;
     assert_eq!(rt; into.len(), 2);
     Ok(())
 }
@@ -169,7 +169,8 @@ fn a_refused_worker_adds_no_code(rt: HostRuntime) -> Result<(), Fail> {
     let mut pass = rodeo.pass();
     let mut codes = Vec::new(rt.alloc());
     let texts = ["first", "other", "third", "first"];
-    limit_refuses(encode_shared_as(&rt, &rodeo, &mut pass, &texts, &mut codes, 2))?;
+    let ended = encode_shared_as(&rt, &rodeo, &mut pass, &texts, &mut codes, 2);
+    limit_refuses(ended.err())?;
     assert!(rt; codes.is_empty());
     assert_eq!(rt; rodeo.len(), 2);
     encode_shared_as(&rt, &rodeo, &mut pass, &[], &mut codes, 3)?;
