@@ -1,0 +1,6 @@
+pub mod Feeds
+pub mod FirstLines
+pub mod Coded
+pub mod Encoded
+pub mod EncodedLines
+pub mod Shared

@@ -1,0 +1,20 @@
+use Rattle.std.proofs.Common.{ℕ, ◌+◌, ◌-◌, ◌∷◌, ◌++◌, [], List, Bor, map, take, ap, sym, subst, ◌∙◌}
+use Rattle.lasso_parts.specs.Texts.{Text}
+use Rattle.lasso_log.specs.Views.{list_of, seen}
+use Rattle.lasso_columns.specs.Codes.{AreCodes}
+use Rattle.lasso_columns.proofs.Encoded.{texts_more}
+use Rattle.lasso_columns.proofs.Shared.{shared_push}
+use Rattle.lasso_columns.proofs.sharing.encode_part.Goals as goal
+
+pub loop-text-preserved : goal.loop-text-preserved
+loop-text-preserved g c =
+    let told = c.in_ok-key.ensures in
+    let list = list_of c.args.rodeo.now c.try_get_or_intern_as.new.pass.notes in
+    let more = shared_push c.args.rodeo.now.opening (seen c.loop-text.pass) (seen c.try_get_or_intern_as.new.pass) c.loop-text.pass.number _ _ c.loop-text.codes.items c.in_ok-key.key c.loop-text.invariant.codes told.call in
+    let put = c.in_ok-push.ensures.items ∙ ap (λ k. c.loop-text.codes.items ++ (k - 1) ∷ []) c.into_inner.ensures.kept in
+    record {
+      of = told.same.1 ∙ c.loop-text.invariant.of;
+      codes =
+          subst (λ (cs : List ℕ). AreCodes list (take (c.loop-text.text-index + 1) (map (λ (t : Bor Text). t.now) c.args.texts.now)) cs) (sym put)
+          (subst (λ (ts : List Text). AreCodes list ts (c.loop-text.codes.items ++ (c.in_ok-key.key - 1) ∷ [])) (sym (texts_more c.args.texts.now c.loop-text.text-index _ c.loop-text-test.true)) more);
+    }

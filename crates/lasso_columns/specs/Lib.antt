@@ -1,0 +1,5 @@
+pub mod Lines
+pub mod Codes
+pub mod Encoding
+pub mod Faults
+pub mod Sharing
