@@ -2,7 +2,7 @@
 //! threads share, and the shared one: with the word `measure` it prints the nanoseconds of a call of the first, with
 //! `round` those of one round of the interner alone, with `refill` those of an interner that is cleared and filled
 //! again, with `shared` those of a call of the lists that are shared, with `interners` those of one round of the
-//! interner that threads share, over the lines of standard input; with `walks` those of walks over it and of freezing it; with
+//! interner that threads share, over the lines of standard input; with `walks` those of walks over it and of freezing it; with `columns` those of encoding and decoding them; with
 //! `fill` it interns these lines as they come and prints how many texts there are; with `soak` and a number of seconds it has threads make
 //! random calls for so long and checks what they answer; with `small` it does all of this over a few texts and prints what the calls
 //! answered; and without words nothing.
@@ -11,6 +11,7 @@
 ghost use Rattle.std.specs.Prelude.{◌<◌};
 
 mod calls;
+mod columns;
 mod copying;
 mod frozen;
 mod history;
@@ -28,6 +29,7 @@ mod walks;
 
 use anyhow::{Result, bail};
 use calls::{Plain, WithPass, fill};
+use columns::time_columns;
 use copying::{COPIES, best_copy_timings};
 use frozen::{FrozenSample, best_frozen_timings};
 use history::{THREADS as SOAKERS, rounds_in};
@@ -38,7 +40,7 @@ use refill::best_refill_timings;
 use shared::Shelf;
 use small::print_small;
 use std::env;
-use std::io::BufReader;
+use std::io::{BufReader, Read};
 use std::rt::Clock;
 use std::sync::Wait;
 use std::thread::Threads;
@@ -71,11 +73,12 @@ fn main(rt: HostRuntime) -> Result<()> {
         [word] if word.as_str() == "shared" => print_shared(&rt),
         [word] if word.as_str() == "interners" => print_interners(&rt),
         [word] if word.as_str() == "walks" => print_walks(&rt),
+        [word] if word.as_str() == "columns" => print_codes(&rt),
         [word] if word.as_str() == "fill" => print_fill(&rt),
         [word] if word.as_str() == "small" => print_small(&rt),
         [word, seconds] if word.as_str() == "soak" => print_soak(&rt, seconds.as_str()),
         _ => bail!(
-            "usage: lasso_bench [measure|round|refill|shared|interners|walks|fill|small|soak SECONDS]"
+            "usage: lasso_bench [measure|round|refill|shared|interners|walks|columns|fill|small|soak SECONDS]"
         ),
     }
 }
@@ -216,6 +219,28 @@ fn print_walks<R: AllocGlobal + Clock + Input + Print + Wait>(rt: &R) -> Result<
     print_line(rt, "ThreadedRodeo", "iter", timings.iter)?;
     print_line(rt, "ThreadedRodeo", "strings", timings.strings)?;
     print_line(rt, "ThreadedRodeo", "into_reader", timings.into_reader)
+}
+
+// Times one round of encoding the lines of standard input as a column of codes, of decoding it and of merging dictionaries, and prints a line
+// for each call: the call, with the number of threads where there are several, and the time.
+fn print_codes<R: AllocGlobal + Clock + Input + Print + Threads + Wait + Sync>(
+    rt: &R,
+) -> Result<()> {
+    let mut bytes = Vec::new(rt.alloc());
+    rt.reader().read_to_end(&mut bytes)?;
+    let timings = time_columns(rt, &bytes)?;
+    let calls = [
+        ("encode", timings.encode),
+        ("encode_lines", timings.encode_lines),
+        ("decode", timings.decode),
+        ("merge", timings.merge),
+    ];
+    for (call, tenths) in calls {
+        let whole = tenths / 10;
+        let tenth = tenths % 10;
+        println!(rt; "{call} {whole}.{tenth}")?;
+    }
+    print_calls(rt, "encode_shared", timings.encode_shared)
 }
 
 // Interns the lines of standard input in an interner that threads share, and prints how many texts there are.

@@ -1,0 +1,56 @@
+# The table of columns of texts, beside the same in Rust and in Python's pandas. A part of bench/run, which names the folders and makes the inputs.
+
+COLUMNS_OURS=$PWD/crates/lasso_bench/out/lasso_bench
+COLUMNS=$OUT/best/release/columns
+COLUMNS_SHARED=$OUT/interners/release/columns
+COLUMN_NAMES="zipf distinct few ten"
+COLUMN_ROUNDS=5
+
+# Installs pandas of the system's Python where it is missing, and an input of 10,000,000 lines: `zipf` ten times.
+prepare_columns() {
+    /usr/bin/python3 -c 'import pandas' 2> "$OUT/pandas.log" ||
+        { apt-get update && apt-get install -y python3-pandas; } > "$OUT/apt.log" 2>&1 || true
+    [ -s "$OUT/inputs/ten" ] || for _ in 1 2 3 4 5 6 7 8 9 10; do cat "$OUT/inputs/zipf"; done > "$OUT/inputs/ten"
+}
+
+# Rounds over an input, each program in turn: lines of a program's name, a call, and nanoseconds a text.
+rounds_of_columns() {
+    local round hash
+    for ((round = 0; round < COLUMN_ROUNDS; round++)); do
+        "$COLUMNS_OURS" columns < "$1" | sed 's/^encode_shared /encode_shared_/; s/^/ours /'
+        for hash in $HASHES; do
+            "$COLUMNS" "$hash" < "$1" | sed 's/^/rust /'
+        done
+        [ ! -x "$COLUMNS_SHARED" ] || "$COLUMNS_SHARED" < "$1" | sed 's/^encode_shared /encode_shared_/; s/^/rust /'
+        /usr/bin/python3 bench/columns.py < "$1" | sed 's/^/pandas /' || true
+    done
+}
+
+# Of such lines the least of each: ours, Rust's best and pandas, with the ratios of ours to both.
+table_of_columns() {
+    awk -v input="$1" '
+        { key = $1 " " $2; if (!(key in least) || $3 < least[key]) least[key] = $3 }
+        function beside(ours, key) {
+            if (key in least) printf "%10.1f%7.2f", least[key], ours / least[key]
+            else printf "%10s%7s", "-", "-"
+        }
+        END {
+            calls = split("encode encode_lines decode merge encode_shared_1 encode_shared_2 encode_shared_4", call)
+            for (c = 1; c <= calls; c++) {
+                ours = least["ours " call[c]]
+                printf "%-10s%-18s%10.1f", input, call[c], ours
+                beside(ours, "rust " call[c])
+                beside(ours, "pandas " (call[c] ~ /^encode/ ? "encode" : call[c]))
+                print ""
+            }
+        }'
+}
+
+measure_columns() {
+    local name
+    prepare_columns
+    printf '%-10s%-18s%10s%10s%7s%10s%7s\n' input call ours rust ratio pandas ratio
+    for name in $COLUMN_NAMES; do
+        rounds_of_columns "$OUT/inputs/$name" | table_of_columns "$name"
+    done
+}
