@@ -4,7 +4,7 @@ COLUMNS_OURS=$PWD/crates/lasso_bench/out/lasso_bench
 COLUMNS=$OUT/best/release/columns
 COLUMNS_SHARED=$OUT/interners/release/columns
 COLUMN_NAMES="zipf distinct few ten"
-COLUMN_ROUNDS=5
+COLUMN_ROUNDS=3
 
 # Installs pandas of the system's Python where it is missing, and an input of 10,000,000 lines: `zipf` ten times.
 prepare_columns() {
