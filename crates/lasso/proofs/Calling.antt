@@ -1,7 +1,7 @@
 -- What callers of an interner cite of the text that they interned, and of those from before.
 --
 -- Interning a text leaves the list as it is, or puts the text last. So each text from before keeps its position, and
--- the text itself stands at the place of the key that was answered. Two keys of one list with the same number then
+-- the text itself stands at the position of the key that was answered. Two keys of one list with the same number then
 -- resolve to the same text, and the same text was given one key.
 use Rattle.std.proofs.Common.{ℕ, ◌≡◌, ◌↔◌, ◌≤◌, ◌++◌, ◌∷◌, [], suc, List, length, map, Bool, true, false, Option, Some, None, Result, Ok, Err, IfSome, IfOk, is_some, cond, max, refl, sym, ap, subst, ◌∙◌, arith}
 use Rattle.std.specs.Prelude.{slice_get}

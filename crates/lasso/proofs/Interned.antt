@@ -1,7 +1,7 @@
 -- What code over the interfaces knows of a text that it interned.
 --
--- Once a text is in the list, it stands at its place there: where it was found, or else last. So its key is that
--- of its place, the key resolves to it, and a second call finds it again and changes nothing.
+-- Once a text is in the list, it stands at its position there: where it was found, or else last. So its key is that
+-- of its position, the key resolves to it, and a second call finds it again and changes nothing.
 use Rattle.std.proofs.Common.{ℕ, ◌≡◌, List, length, Option, Some, None, Ok, Err, IfSome, refl, ap, subst}
 use Rattle.std.specs.Prelude.{slice_get, option_and_then}
 use Rattle.lasso_parts.proofs.TextLemmas.{position_here, position_last}
@@ -10,7 +10,7 @@ use Rattle.lasso_parts.specs.declared.util.LassoError.{LassoError}
 use Rattle.lasso_single.specs.Intern.{interned_position}
 use Rattle.lasso.specs.Interning.{with_last, InternsAmong}
 
--- a text that was interned stands at its place
+-- a text that was interned stands at its position
 pub position_with_last : (texts : List Text) (text : Text) (o : Option ℕ) → position_of texts text ≡ o → position_of (with_last texts text) text ≡ Some (interned_position texts text)
 position_with_last texts text None e = rw (e) (position_last texts text e)
 position_with_last texts text (Some i) e = rw (e) e

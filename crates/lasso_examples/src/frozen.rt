@@ -7,8 +7,8 @@ fn frozen_to_a_reader(rt: HostRuntime) -> Result<(), Fail> {
     let mut rodeo = Rodeo::default(rt.alloc())?;
     let hello = rodeo.try_get_or_intern("Hello, world!")?;
     let reader = rodeo.into_reader();
-    assert_eq!(rt; reader.get("Hello, world!"), Some(hello));
-    assert_eq!(rt; reader.try_resolve(hello), Some("Hello, world!"));
+    assert!(rt; reader.get("Hello, world!") == Some(hello));
+    assert!(rt; reader.try_resolve(hello) == Some("Hello, world!"));
     Ok(())
 }
 
@@ -17,13 +17,13 @@ fn frozen_to_a_resolver(rt: HostRuntime) -> Result<(), Fail> {
     let mut rodeo = Rodeo::default(rt.alloc())?;
     let hello = rodeo.try_get_or_intern("Hello, world!")?;
     let resolver = rodeo.into_resolver();
-    assert_eq!(rt; resolver.try_resolve(hello), Some("Hello, world!"));
-    assert_eq!(rt; resolver.len(), 1);
+    assert!(rt; resolver.try_resolve(hello) == Some("Hello, world!"));
+    assert!(rt; resolver.len() == 1);
 
     let reader = SpurRodeo::from_iter(rt.alloc(), ["red", "green"])?.into_reader();
     let red = reader.get("red").ok_or("not there")?;
     let resolver = reader.into_resolver();
-    assert_eq!(rt; resolver.try_resolve(red), Some("red"));
+    assert!(rt; resolver.try_resolve(red) == Some("red"));
     Ok(())
 }
 
@@ -48,7 +48,7 @@ fn compared_with_a_resolver(rt: HostRuntime) -> Result<(), Fail> {
 fn keys_of_a_readers_texts(rt: HostRuntime) -> Result<(), Fail> {
     let reader = SpurRodeo::from_iter(rt.alloc(), ["red", "green"])?.into_reader();
     let green = reader.get("green").ok_or("not there")?;
-    assert_eq!(rt; green.into_usize(), 1);
+    assert!(rt; green.into_usize() == 1);
     assert!(rt; reader.get("blue").is_none());
 
     let reader = SpurRodeo::from_iter(rt.alloc(), ["red", "green"])?.into_reader();
@@ -71,9 +71,9 @@ fn keys_that_a_reader_has(rt: HostRuntime) -> Result<(), Fail> {
 fn texts_of_a_readers_keys(rt: HostRuntime) -> Result<(), Fail> {
     let reader = SpurRodeo::from_iter(rt.alloc(), ["red", "green"])?.into_reader();
     let red = reader.get("red").ok_or("not there")?;
-    assert_eq!(rt; reader.try_resolve(red), Some("red"));
+    assert!(rt; reader.try_resolve(red) == Some("red"));
     let past = Spur::try_from_usize(2).ok_or("no key")?;
-    assert_eq!(rt; reader.try_resolve(past), None);
+    assert!(rt; reader.try_resolve(past) == None);
     Ok(())
 }
 
@@ -82,19 +82,19 @@ fn texts_of_keys_that_a_reader_has(rt: HostRuntime) -> Result<(), Fail> {
     let reader = SpurRodeo::from_iter(rt.alloc(), ["red", "green"])?.into_reader();
     let red = reader.get("red").ok_or("not there")?;
     assert!(rt; reader.contains_key(red));
-    assert_eq!(rt; reader.resolve(red), "red");
+    assert!(rt; reader.resolve(red) == "red");
 
     let reader = SpurRodeo::from_iter(rt.alloc(), ["red", "green"])?.into_reader();
     let red = reader.get("red").ok_or("not there")?;
     assert!(rt; reader.contains_key(red));
-    assert_eq!(rt; reader.resolve_unchecked(red), "red");
+    assert!(rt; reader.resolve_unchecked(red) == "red");
     Ok(())
 }
 
 #[test]
 fn how_many_texts_a_reader_has(rt: HostRuntime) -> Result<(), Fail> {
     let reader = SpurRodeo::from_iter(rt.alloc(), ["red", "green"])?.into_reader();
-    assert_eq!(rt; reader.len(), 2);
+    assert!(rt; reader.len() == 2);
 
     let reader = SpurRodeo::default(rt.alloc())?.into_reader();
     assert!(rt; reader.is_empty());
@@ -117,9 +117,9 @@ fn texts_of_a_resolvers_keys(rt: HostRuntime) -> Result<(), Fail> {
     let mut rodeo = Rodeo::default(rt.alloc())?;
     let red = rodeo.try_get_or_intern("red")?;
     let resolver = rodeo.into_resolver();
-    assert_eq!(rt; resolver.try_resolve(red), Some("red"));
+    assert!(rt; resolver.try_resolve(red) == Some("red"));
     let next = Spur::try_from_usize(1).ok_or("no key")?;
-    assert_eq!(rt; resolver.try_resolve(next), None);
+    assert!(rt; resolver.try_resolve(next) == None);
     Ok(())
 }
 
@@ -129,20 +129,20 @@ fn texts_of_keys_that_a_resolver_has(rt: HostRuntime) -> Result<(), Fail> {
     let red = rodeo.try_get_or_intern("red")?;
     let resolver = rodeo.into_resolver();
     assert!(rt; resolver.contains_key(red));
-    assert_eq!(rt; resolver.resolve(red), "red");
+    assert!(rt; resolver.resolve(red) == "red");
 
     let mut rodeo = Rodeo::default(rt.alloc())?;
     let red = rodeo.try_get_or_intern("red")?;
     let resolver = rodeo.into_resolver();
     assert!(rt; resolver.contains_key(red));
-    assert_eq!(rt; resolver.resolve_unchecked(red), "red");
+    assert!(rt; resolver.resolve_unchecked(red) == "red");
     Ok(())
 }
 
 #[test]
 fn how_many_texts_a_resolver_has(rt: HostRuntime) -> Result<(), Fail> {
     let resolver = SpurRodeo::from_iter(rt.alloc(), ["red", "green"])?.into_resolver();
-    assert_eq!(rt; resolver.len(), 2);
+    assert!(rt; resolver.len() == 2);
 
     let resolver = SpurRodeo::default(rt.alloc())?.into_resolver();
     assert!(rt; resolver.is_empty());

@@ -28,4 +28,6 @@ mod shared_interfaces;
 #[cfg(test)]
 mod shared_lists;
 #[cfg(test)]
+mod shared_plain;
+#[cfg(test)]
 mod walks;

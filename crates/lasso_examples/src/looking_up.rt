@@ -6,7 +6,7 @@ use std::test::Fail;
 fn interned(rt: HostRuntime) -> Result<(), Fail> {
     let mut rodeo = Rodeo::default(rt.alloc())?;
     let hello = rodeo.try_get_or_intern("Hello, world!")?;
-    assert_eq!(rt; hello.into_usize(), 0);
+    assert!(rt; hello.into_usize() == 0);
     let again = rodeo.try_get_or_intern("Hello, world!")?;
     assert!(rt; again == hello);
 
@@ -25,8 +25,8 @@ fn static_texts(rt: HostRuntime) -> Result<(), Fail> {
     let mut rodeo: SpurRodeo = Rodeo::with_capacity(rt.alloc(), Capacity::for_bytes(4))?;
     rodeo.set_memory_limits(MemoryLimits::new(0));
     let lasting = rodeo.try_get_or_intern_static("a static text")?;
-    assert_eq!(rt; rodeo.try_resolve(lasting), Some("a static text"));
-    assert_eq!(rt; rodeo.current_memory_usage(), 4);
+    assert!(rt; rodeo.try_resolve(lasting) == Some("a static text"));
+    assert!(rt; rodeo.current_memory_usage() == 4);
 
     let mut rodeo = Rodeo::default(rt.alloc())?;
     let hello = rodeo.get_or_intern_static("Hello, world!")?;
@@ -39,7 +39,7 @@ fn static_texts(rt: HostRuntime) -> Result<(), Fail> {
 fn keys_of_texts(rt: HostRuntime) -> Result<(), Fail> {
     let mut rodeo = Rodeo::default(rt.alloc())?;
     let hello = rodeo.try_get_or_intern("Hello, world!")?;
-    assert_eq!(rt; rodeo.get("Hello, world!"), Some(hello));
+    assert!(rt; rodeo.get("Hello, world!") == Some(hello));
     assert!(rt; rodeo.get("Hello").is_none());
 
     let mut rodeo = Rodeo::default(rt.alloc())?;
@@ -63,9 +63,9 @@ fn keys_that_are_there(rt: HostRuntime) -> Result<(), Fail> {
 fn texts_of_keys(rt: HostRuntime) -> Result<(), Fail> {
     let mut rodeo = Rodeo::default(rt.alloc())?;
     let hello = rodeo.try_get_or_intern("Hello, world!")?;
-    assert_eq!(rt; rodeo.try_resolve(hello), Some("Hello, world!"));
+    assert!(rt; rodeo.try_resolve(hello) == Some("Hello, world!"));
     let next = Spur::try_from_usize(1).ok_or("no key")?;
-    assert_eq!(rt; rodeo.try_resolve(next), None);
+    assert!(rt; rodeo.try_resolve(next) == None);
     Ok(())
 }
 
@@ -74,12 +74,12 @@ fn texts_of_keys_that_are_there(rt: HostRuntime) -> Result<(), Fail> {
     let mut rodeo = Rodeo::default(rt.alloc())?;
     let hello = rodeo.try_get_or_intern("Hello, world!")?;
     assert!(rt; rodeo.contains_key(hello));
-    assert_eq!(rt; rodeo.resolve(hello), "Hello, world!");
+    assert!(rt; rodeo.resolve(hello) == "Hello, world!");
 
     let mut rodeo = Rodeo::default(rt.alloc())?;
     let hello = rodeo.try_get_or_intern("Hello, world!")?;
     assert!(rt; rodeo.contains_key(hello));
-    assert_eq!(rt; rodeo.resolve_unchecked(hello), "Hello, world!");
+    assert!(rt; rodeo.resolve_unchecked(hello) == "Hello, world!");
     Ok(())
 }
 
@@ -87,7 +87,7 @@ fn texts_of_keys_that_are_there(rt: HostRuntime) -> Result<(), Fail> {
 fn how_many_texts(rt: HostRuntime) -> Result<(), Fail> {
     let mut rodeo = Rodeo::default(rt.alloc())?;
     rodeo.extend(["red", "green", "red"])?;
-    assert_eq!(rt; rodeo.len(), 2);
+    assert!(rt; rodeo.len() == 2);
 
     let mut rodeo = Rodeo::default(rt.alloc())?;
     assert!(rt; rodeo.is_empty());
@@ -101,7 +101,7 @@ fn a_run_of_commands(rt: HostRuntime) -> Result<(), Fail> {
     let mut rodeo: SpurRodeo = Rodeo::new(rt.alloc())?;
     let commands = [Command::Intern("red"), Command::Clear];
     let replies = run_commands(rt.alloc(), &mut rodeo, commands.as_slice())?;
-    assert_eq!(rt; replies.len(), 2);
+    assert!(rt; replies.len() == 2);
     assert!(rt; matches!(&replies[0], Reply::Key(_)));
     assert!(rt; matches!(&replies[1], Reply::Done));
     Ok(())

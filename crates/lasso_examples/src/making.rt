@@ -6,10 +6,10 @@ use std::test::Fail;
 fn made_by_default(rt: HostRuntime) -> Result<(), Fail> {
     let rodeo = Rodeo::default(rt.alloc())?;
     assert!(rt; rodeo.is_empty());
-    assert_eq!(rt; rodeo.current_memory_usage(), 4096);
+    assert!(rt; rodeo.current_memory_usage() == 4096);
 
     let rodeo = Rodeo::default(rt.alloc())?;
-    assert_eq!(rt; rodeo.max_memory_usage(), usize::MAX);
+    assert!(rt; rodeo.max_memory_usage() == usize::MAX);
     Ok(())
 }
 
@@ -17,7 +17,7 @@ fn made_by_default(rt: HostRuntime) -> Result<(), Fail> {
 fn made_for_a_key_type(rt: HostRuntime) -> Result<(), Fail> {
     let mut rodeo: Rodeo<MicroSpur, _, _> = Rodeo::new(rt.alloc())?;
     let first = rodeo.try_get_or_intern("Hello, world!")?;
-    assert_eq!(rt; first.into_usize(), 0);
+    assert!(rt; first.into_usize() == 0);
     Ok(())
 }
 
@@ -25,7 +25,7 @@ fn made_for_a_key_type(rt: HostRuntime) -> Result<(), Fail> {
 fn made_with_a_capacity(rt: HostRuntime) -> Result<(), Fail> {
     let capacity = Capacity::new(1000, 65536);
     let rodeo: SpurRodeo = Rodeo::with_capacity(rt.alloc(), capacity)?;
-    assert_eq!(rt; rodeo.current_memory_usage(), 65536);
+    assert!(rt; rodeo.current_memory_usage() == 65536);
     Ok(())
 }
 
@@ -33,8 +33,8 @@ fn made_with_a_capacity(rt: HostRuntime) -> Result<(), Fail> {
 fn made_with_limits(rt: HostRuntime) -> Result<(), Fail> {
     let limits = MemoryLimits::new(10000);
     let rodeo: SpurRodeo = Rodeo::with_memory_limits(rt.alloc(), limits)?;
-    assert_eq!(rt; rodeo.max_memory_usage(), 10000);
-    assert_eq!(rt; rodeo.current_memory_usage(), 4096);
+    assert!(rt; rodeo.max_memory_usage() == 10000);
+    assert!(rt; rodeo.current_memory_usage() == 4096);
 
     let capacity = Capacity::for_bytes(4);
     let limits = MemoryLimits::new(4);
@@ -49,12 +49,12 @@ fn made_with_limits(rt: HostRuntime) -> Result<(), Fail> {
 fn made_with_a_hasher(rt: HostRuntime) -> Result<(), Fail> {
     let rodeo: SpurRodeo = Rodeo::with_hasher(rt.alloc(), FixedState::new())?;
     assert!(rt; rodeo.is_empty());
-    assert_eq!(rt; rodeo.current_memory_usage(), 4096);
+    assert!(rt; rodeo.current_memory_usage() == 4096);
 
     let capacity = Capacity::for_bytes(7);
     let hasher = FixedState::new();
     let rodeo = SpurRodeo::with_capacity_and_hasher(rt.alloc(), capacity, hasher)?;
-    assert_eq!(rt; rodeo.current_memory_usage(), 7);
+    assert!(rt; rodeo.current_memory_usage() == 7);
     Ok(())
 }
 
@@ -64,8 +64,8 @@ fn made_with_all_of_them(rt: HostRuntime) -> Result<(), Fail> {
     let (room, limits) = (Capacity::for_bytes(10), MemoryLimits::new(15));
     let hasher = FixedState::new();
     let rodeo = SpurRodeo::with_capacity_memory_limits_and_hasher(alloc, room, limits, hasher)?;
-    assert_eq!(rt; rodeo.current_memory_usage(), 10);
-    assert_eq!(rt; rodeo.max_memory_usage(), 15);
+    assert!(rt; rodeo.current_memory_usage() == 10);
+    assert!(rt; rodeo.max_memory_usage() == 15);
     Ok(())
 }
 
@@ -73,7 +73,7 @@ fn made_with_all_of_them(rt: HostRuntime) -> Result<(), Fail> {
 fn filled_from_items(rt: HostRuntime) -> Result<(), Fail> {
     let colours = ["red", "green", "red", "blue"];
     let rodeo: SpurRodeo = Rodeo::from_iter(rt.alloc(), colours)?;
-    assert_eq!(rt; rodeo.len(), 3);
+    assert!(rt; rodeo.len() == 3);
     assert!(rt; rodeo.contains("blue"));
 
     let colours = ["red", "green", "red", "blue"];
@@ -86,7 +86,7 @@ fn filled_from_items(rt: HostRuntime) -> Result<(), Fail> {
 fn filled_with_more(rt: HostRuntime) -> Result<(), Fail> {
     let mut rodeo = Rodeo::default(rt.alloc())?;
     rodeo.extend(["red", "green", "red"])?;
-    assert_eq!(rt; rodeo.len(), 2);
+    assert!(rt; rodeo.len() == 2);
     assert!(rt; rodeo.contains("green"));
     assert!(rt; !rodeo.contains("blue"));
     Ok(())
@@ -97,9 +97,9 @@ fn filled_with_more(rt: HostRuntime) -> Result<(), Fail> {
 fn usage(rt: HostRuntime) -> Result<(), Fail> {
     let mut rodeo: SpurRodeo = Rodeo::with_capacity(rt.alloc(), Capacity::for_bytes(10))?;
     rodeo.try_get_or_intern("0123456789")?;
-    assert_eq!(rt; rodeo.current_memory_usage(), 10);
+    assert!(rt; rodeo.current_memory_usage() == 10);
     rodeo.try_get_or_intern("more")?;
-    assert_eq!(rt; rodeo.current_memory_usage(), 30);
+    assert!(rt; rodeo.current_memory_usage() == 30);
     Ok(())
 }
 
@@ -120,7 +120,7 @@ fn cleared(rt: HostRuntime) -> Result<(), Fail> {
     let last = rodeo.try_get_or_intern("last")?;
     rodeo.clear();
     assert!(rt; rodeo.is_empty());
-    assert_eq!(rt; rodeo.try_resolve(last), None);
+    assert!(rt; rodeo.try_resolve(last) == None);
     Ok(())
 }
 
@@ -131,8 +131,8 @@ fn copied(rt: HostRuntime) -> Result<(), Fail> {
     let hello = rodeo.try_get_or_intern("Hello, world!")?;
     let copy = rodeo.try_clone()?;
     assert!(rt; copy == rodeo);
-    assert_eq!(rt; copy.try_resolve(hello), Some("Hello, world!"));
-    assert_eq!(rt; copy.current_memory_usage(), 13);
+    assert!(rt; copy.try_resolve(hello) == Some("Hello, world!"));
+    assert!(rt; copy.current_memory_usage() == 13);
     Ok(())
 }
 
@@ -143,7 +143,7 @@ fn cloned(rt: HostRuntime) -> Result<(), Fail> {
     let mut other = rodeo.clone()?;
     other.try_get_or_intern("Goodbye!")?;
     assert!(rt; other != rodeo);
-    assert_eq!(rt; other.try_resolve(hello), Some("Hello, world!"));
+    assert!(rt; other.try_resolve(hello) == Some("Hello, world!"));
     Ok(())
 }
 

@@ -17,11 +17,11 @@ fn takes_one_text(rt: &impl Abort, interner: &mut dyn SpurInterner) -> Result<()
         interner.try_get_or_intern_static("Hello, world!"),
         Ok(0),
     );
-    assert_eq!(rt; interner.len(), 1);
+    assert!(rt; interner.len() == 1);
     assert!(rt; interner.contains("Hello, world!"));
     assert!(rt; !interner.contains("Hello"));
     let first = interner.get("Hello, world!").ok_or("not there")?;
-    assert_eq!(rt; interner.try_resolve(first), Some("Hello, world!"));
+    assert!(rt; interner.try_resolve(first) == Some("Hello, world!"));
     assert!(rt; interner.contains_key(first));
     Ok(())
 }
@@ -32,9 +32,9 @@ fn takes_a_static_text(rt: &impl Abort, interner: &mut dyn SpurInterner) -> Resu
     is_answer(rt, interner.try_get_or_intern("0123456789"), Err(LIMIT));
     is_answer(rt, interner.try_get_or_intern("abc"), Ok(0));
     is_answer(rt, interner.try_get_or_intern_static("0123456789"), Ok(2));
-    assert_eq!(rt; interner.len(), 3);
+    assert!(rt; interner.len() == 3);
     let last = interner.get("0123456789").ok_or("not there")?;
-    assert_eq!(rt; interner.try_resolve(last), Some("0123456789"));
+    assert!(rt; interner.try_resolve(last) == Some("0123456789"));
     Ok(())
 }
 
@@ -64,7 +64,7 @@ fn static_texts_through_an_interner(rt: HostRuntime) -> Result<(), Fail> {
 fn static_texts_take_no_bytes(rt: HostRuntime) -> Result<(), Fail> {
     let mut rodeo = of_four_bytes(rt.alloc())?;
     takes_static_texts_first(&rt, &mut rodeo);
-    assert_eq!(rt; rodeo.current_memory_usage(), 4);
+    assert!(rt; rodeo.current_memory_usage() == 4);
     Ok(())
 }
 
@@ -98,12 +98,12 @@ fn frozen_forms(rt: HostRuntime) -> Result<(), Fail> {
     assert!(rt; reader.contains("Hello, world!"));
     assert!(rt; reader.get("Goodbye!").is_none());
     let first = reader.get("Hello, world!").ok_or("not there")?;
-    assert_eq!(rt; reader.try_resolve(first), Some("Hello, world!"));
-    assert_eq!(rt; reader.len(), 1);
+    assert!(rt; reader.try_resolve(first) == Some("Hello, world!"));
+    assert!(rt; reader.len() == 1);
     let frozen = hello(rt.alloc())?.into_resolver();
     let resolver: &dyn SpurResolver = &frozen;
-    assert_eq!(rt; resolver.try_resolve(first), Some("Hello, world!"));
+    assert!(rt; resolver.try_resolve(first) == Some("Hello, world!"));
     assert!(rt; resolver.contains_key(first));
-    assert_eq!(rt; resolver.len(), 1);
+    assert!(rt; resolver.len() == 1);
     Ok(())
 }

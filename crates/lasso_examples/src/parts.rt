@@ -10,14 +10,14 @@ use std::test::Fail;
 #[test]
 fn positions_of_keys(rt: HostRuntime) -> Result<(), Fail> {
     let third = Spur::try_from_usize(2).ok_or("no key")?;
-    assert_eq!(rt; third.into_usize(), 2);
+    assert!(rt; third.into_usize() == 2);
 
     let last = MicroSpur::try_from_usize(254).ok_or("no key")?;
-    assert_eq!(rt; last.into_usize(), 254);
+    assert!(rt; last.into_usize() == 254);
     assert!(rt; MicroSpur::try_from_usize(255).is_none());
 
     let third = Spur::try_from_usize(2).ok_or("no key")?;
-    assert_eq!(rt; third.into_inner(), 3);
+    assert!(rt; third.into_inner() == 3);
     Ok(())
 }
 
@@ -26,13 +26,13 @@ fn keys_as_json(rt: HostRuntime) -> Result<(), Fail> {
     let first = Spur::try_from_usize(0).ok_or("no key")?;
     let value = first.key_to_json(rt.alloc())?;
     let kept = value.as_u64().ok_or("no number")?;
-    assert_eq!(rt; kept, 1);
+    assert!(rt; kept == 1);
 
     let first = Spur::try_from_usize(0).ok_or("no key")?;
     let value = first.key_to_json(rt.alloc())?;
-    assert_eq!(rt; Spur::key_from_json(&value), Ok(first));
+    assert!(rt; Spur::key_from_json(&value) == Ok(first));
     let zero = Value::from_str(rt.alloc(), "0")?;
-    assert_eq!(rt; Spur::key_from_json(&zero), Err(JsonError::NotAKey));
+    assert!(rt; Spur::key_from_json(&zero) == Err(JsonError::NotAKey));
     Ok(())
 }
 
@@ -40,12 +40,12 @@ fn keys_as_json(rt: HostRuntime) -> Result<(), Fail> {
 fn lists_as_json(rt: HostRuntime) -> Result<(), Fail> {
     let rodeo = SpurRodeo::from_iter(rt.alloc(), ["b", "a"])?;
     let written = rodeo.serialize(rt.alloc())?.to_string(rt.alloc())?;
-    assert_eq!(rt; written.as_str(), r#"["b","a"]"#);
+    assert!(rt; written.as_str() == r#"["b","a"]"#);
 
     let value = Value::from_str(rt.alloc(), r#"["b", "a"]"#)?;
     let rodeo = SpurRodeo::deserialize(rt.alloc(), &value)?;
     let first = rodeo.get("b").ok_or("not there")?;
-    assert_eq!(rt; first.into_usize(), 0);
+    assert!(rt; first.into_usize() == 0);
     Ok(())
 }
 
@@ -53,7 +53,7 @@ fn lists_as_json(rt: HostRuntime) -> Result<(), Fail> {
 fn damaged_lists(rt: HostRuntime) -> Result<(), Fail> {
     let damaged = Value::from_str(rt.alloc(), r#"["b", "a", "b"]"#)?;
     let fault = SpurRodeo::deserialize(rt.alloc(), &damaged).err();
-    assert_eq!(rt; fault, Some(JsonError::Doubled(2)));
+    assert!(rt; fault == Some(JsonError::Doubled(2)));
     Ok(())
 }
 
@@ -79,36 +79,36 @@ fn kinds_of_errors(rt: HostRuntime) -> Result<(), Fail> {
 #[test]
 fn capacities(rt: HostRuntime) -> Result<(), Fail> {
     let capacity = Capacity::default();
-    assert_eq!(rt; capacity.strings(), 50);
-    assert_eq!(rt; capacity.bytes(), 4096);
+    assert!(rt; capacity.strings() == 50);
+    assert!(rt; capacity.bytes() == 4096);
 
     let capacity = Capacity::new(3, 9);
-    assert_eq!(rt; capacity.strings(), 3);
-    assert_eq!(rt; capacity.bytes(), 9);
+    assert!(rt; capacity.strings() == 3);
+    assert!(rt; capacity.bytes() == 9);
 
     let capacity = Capacity::for_strings(10);
-    assert_eq!(rt; capacity.strings(), 10);
-    assert_eq!(rt; capacity.bytes(), 4096);
+    assert!(rt; capacity.strings() == 10);
+    assert!(rt; capacity.bytes() == 4096);
 
     let capacity = Capacity::for_bytes(7);
-    assert_eq!(rt; capacity.strings(), 50);
-    assert_eq!(rt; capacity.bytes(), 7);
+    assert!(rt; capacity.strings() == 50);
+    assert!(rt; capacity.bytes() == 7);
 
     let capacity = Capacity::minimal();
-    assert_eq!(rt; capacity.strings(), 0);
-    assert_eq!(rt; capacity.bytes(), 1);
+    assert!(rt; capacity.strings() == 0);
+    assert!(rt; capacity.bytes() == 1);
     Ok(())
 }
 
 #[test]
 fn limits(rt: HostRuntime) -> Result<(), Fail> {
     let limits = MemoryLimits::default();
-    assert_eq!(rt; limits.max_memory_usage(), usize::MAX);
+    assert!(rt; limits.max_memory_usage() == usize::MAX);
 
     let limits = MemoryLimits::new(12);
-    assert_eq!(rt; limits.max_memory_usage(), 12);
+    assert!(rt; limits.max_memory_usage() == 12);
 
     let limits = MemoryLimits::for_memory_usage(13);
-    assert_eq!(rt; limits.max_memory_usage(), 13);
+    assert!(rt; limits.max_memory_usage() == 13);
     Ok(())
 }

@@ -7,7 +7,7 @@ fn shared_by_default(rt: HostRuntime) -> Result<(), Fail> {
     let rodeo: SpurThreadedRodeo = ThreadedRodeo::default(rt.alloc())?;
     let mut pass = rodeo.pass();
     let key = rodeo.try_get_or_intern_static_as(&rt, &mut pass, "Hello, world!")?;
-    assert_eq!(rt; rodeo.try_resolve_as(&mut pass, key), Some("Hello, world!"));
+    assert!(rt; rodeo.try_resolve_as(&mut pass, key) == Some("Hello, world!"));
     Ok(())
 }
 
@@ -16,7 +16,7 @@ fn shared_with_a_hasher(rt: HostRuntime) -> Result<(), Fail> {
     let hasher = FixedState::new();
     let rodeo: SpurThreadedRodeo = ThreadedRodeo::with_hasher(rt.alloc(), hasher)?;
     let mut pass = rodeo.pass();
-    assert_eq!(rt; rodeo.try_resolve_as(&mut pass, Spur::default()), None);
+    assert!(rt; rodeo.try_resolve_as(&mut pass, Spur::default()) == None);
     Ok(())
 }
 
@@ -25,7 +25,7 @@ fn shared_copied_with_a_pass(rt: HostRuntime) -> Result<(), Fail> {
     let rodeo: SpurThreadedRodeo = ThreadedRodeo::default(rt.alloc())?;
     let mut pass = rodeo.pass();
     let key = rodeo.try_get_or_intern_as(&rt, &mut pass, "Hello, world!")?;
-    assert_eq!(rt; rodeo.try_resolve_as(&mut pass, key), Some("Hello, world!"));
+    assert!(rt; rodeo.try_resolve_as(&mut pass, key) == Some("Hello, world!"));
     Ok(())
 }
 
@@ -33,7 +33,7 @@ fn shared_copied_with_a_pass(rt: HostRuntime) -> Result<(), Fail> {
 fn shared_copied(rt: HostRuntime) -> Result<(), Fail> {
     let rodeo: SpurThreadedRodeo = ThreadedRodeo::default(rt.alloc())?;
     let key = rodeo.try_get_or_intern(&rt, "Hello, world!")?;
-    assert_eq!(rt; rodeo.try_get_or_intern_static(&rt, "Hello, world!")?, key);
+    assert!(rt; rodeo.try_get_or_intern_static(&rt, "Hello, world!")? == key);
     Ok(())
 }
 
@@ -42,9 +42,9 @@ fn shared_with_a_pass(rt: HostRuntime) -> Result<(), Fail> {
     let rodeo: SpurThreadedRodeo = ThreadedRodeo::default(rt.alloc())?;
     let mut pass = rodeo.pass();
     let key = rodeo.try_get_or_intern_as(&rt, &mut pass, "Hello, world!")?;
-    assert_eq!(rt; rodeo.get_as(&rt, &mut pass, "Hello, world!"), Some(key));
+    assert!(rt; rodeo.get_as(&rt, &mut pass, "Hello, world!") == Some(key));
     assert!(rt; rodeo.contains_key_as(&mut pass, key));
-    assert_eq!(rt; rodeo.len_as(&mut pass), 1);
+    assert!(rt; rodeo.len_as(&mut pass) == 1);
     Ok(())
 }
 
@@ -52,10 +52,10 @@ fn shared_with_a_pass(rt: HostRuntime) -> Result<(), Fail> {
 fn shared_looked_up(rt: HostRuntime) -> Result<(), Fail> {
     let rodeo: SpurThreadedRodeo = ThreadedRodeo::default(rt.alloc())?;
     let key = rodeo.get_or_intern(&rt, "Hello, world!")?;
-    assert_eq!(rt; rodeo.get(&rt, "Hello, world!"), Some(key));
+    assert!(rt; rodeo.get(&rt, "Hello, world!") == Some(key));
     assert!(rt; rodeo.contains(&rt, "Hello, world!") && rodeo.contains_key(key));
-    assert_eq!(rt; rodeo.resolve(key), Some("Hello, world!"));
-    assert_eq!(rt; rodeo.len(), 1);
+    assert!(rt; rodeo.resolve(key) == Some("Hello, world!"));
+    assert!(rt; rodeo.len() == 1);
     Ok(())
 }
 
@@ -65,8 +65,8 @@ fn shared_with_limits(rt: HostRuntime) -> Result<(), Fail> {
     let limits = MemoryLimits::new(10000);
     let made = ThreadedRodeo::with_capacity_and_memory_limits(rt.alloc(), capacity, limits);
     let rodeo: SpurThreadedRodeo = made?;
-    assert_eq!(rt; rodeo.current_memory_usage(&rt), 100);
-    assert_eq!(rt; rodeo.max_memory_usage(&rt), 10000);
+    assert!(rt; rodeo.current_memory_usage(&rt) == 100);
+    assert!(rt; rodeo.max_memory_usage(&rt) == 10000);
     Ok(())
 }
 
@@ -75,8 +75,8 @@ fn shared_with_a_new_limit(rt: HostRuntime) -> Result<(), Fail> {
     let rodeo: SpurThreadedRodeo = ThreadedRodeo::default(rt.alloc())?;
     let mut pass = rodeo.pass();
     rodeo.set_memory_limits_as(&rt, &mut pass, MemoryLimits::new(10));
-    assert_eq!(rt; rodeo.max_memory_usage_as(&rt, &mut pass), 10);
-    assert_eq!(rt; rodeo.current_memory_usage_as(&rt, &mut pass), 4096);
+    assert!(rt; rodeo.max_memory_usage_as(&rt, &mut pass) == 10);
+    assert!(rt; rodeo.current_memory_usage_as(&rt, &mut pass) == 4096);
     Ok(())
 }
 
@@ -86,8 +86,8 @@ fn shared_walk(rt: HostRuntime) -> Result<(), Fail> {
     let red = rodeo.try_get_or_intern(&rt, "red")?;
     let mut walk = rodeo.iter();
     rodeo.try_get_or_intern(&rt, "green")?;
-    assert_eq!(rt; walk.len(), 1);
-    assert_eq!(rt; walk.next(), Some((red, "red")));
-    assert_eq!(rt; walk.next(), None);
+    assert!(rt; walk.len() == 1);
+    assert!(rt; walk.next() == Some((red, "red")));
+    assert!(rt; walk.next() == None);
     Ok(())
 }

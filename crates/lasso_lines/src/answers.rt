@@ -32,7 +32,7 @@ pub(crate) fn answer_line<O: ByteWriter>(
         (λ part. AnswersLine (holding rodeo.old.texts rodeo.old.account) number line.now result (holding rodeo.new.texts rodeo.new.account) part) }
     ensures faults { IfErr result IsAnswerFault }
 {
-    let Ok(text) = text_of(line, is_text) else {
+    let Ok(text) = line_text(line, is_text) else {
         return Err(RunFault::NotText(number));
     };
     match rodeo.try_get_or_intern(text) {
@@ -43,7 +43,7 @@ pub(crate) fn answer_line<O: ByteWriter>(
 
 // The line as a text, where it is one. It is tested where `is_text` does not say that it is one.
 #[inline]
-fn text_of(line: &[u8], is_text: bool) -> Result<&str, Utf8Error>
+fn line_text(line: &[u8], is_text: bool) -> Result<&str, Utf8Error>
     requires { IsTrue is_text → IsUtf8 line.now }
     ensures cases { MatchResult result (λ text. (text.now ≡ line.now) × IsUtf8 line.now) (λ _. ¬ (IsUtf8 line.now)) }
 {

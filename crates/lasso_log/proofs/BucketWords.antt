@@ -14,7 +14,7 @@ use Rattle.logbook.specs.Pages.{Cell}
 use Rattle.lasso_log.specs.Buckets.{CountedBucket, with_taken, changed_at}
 use Rattle.lasso_log.specs.History.{Event, Reserve, Charge, Append, Limit, Totals, totals, counted}
 use Rattle.lasso_log.specs.Notes.{NoteView, history, state, bumped, worded, words_after, words_of, first_words, IsWordWith, lent_by, lent_after, bucket_in, lent_shown}
-use Rattle.lasso_log.specs.LentBuckets.{LentBucket, TakesBytes, more_taken}
+use Rattle.lasso_log.specs.LentBuckets.{LentBucket, TakesBytesAt, more_taken}
 use Rattle.lasso_log.specs.Events.{bucket_at}
 use Rattle.lasso_log.specs.SharedBuckets.{Stands, StandsIn, IsBucketAt, HasTaken, LacksRoom}
 use Rattle.lasso_log.specs.Book.{KeepsRule, May, Lets, Moving, MovesBy, shown_of}
@@ -187,12 +187,12 @@ module _ {Key : Type 0} (keys : ℕ → Option Key) (f : NoteView) (v : List Not
       let here = at_old log begins word in let x : LentBucket = bucket_at numbers size (base + old) in let o : Totals = f.opening in
       let texts : (state o (log ++ e ∷ [])).texts ≡ (state o log).texts = ap (λ (s : Totals). s.texts) (one_more o log e) ∙ ap (λ (d : Event). (counted (state o log) d).texts) is in
       let done : lent_after f.lent (log ++ e ∷ []) ≡ changed_at position (more_taken n) (lent_after f.lent log) = lent_more f.lent log e ∙ ap (λ (d : Event). lent_by (lent_after f.lent log) d e.lent) is in
-      let takes : TakesBytes lent_shown position x n (shown_of (f ∷ log)) (shown_of (f ∷ (log ++ e ∷ []))) = record { bucket = here.lent; fits = fits; done = done } in
+      let takes : TakesBytesAt lent_shown position x n (shown_of (f ∷ log)) (shown_of (f ∷ (log ++ e ∷ []))) = record { bucket = here.lent; fits = fits; done = done } in
       let owned : bucket_in e.lent ≡ x = ap bucket_in own in
       inr (
         0,
         refl,
         refl,
         subst (λ (d : Event). MovesBy d e (shown_of (f ∷ log)) (shown_of (f ∷ (log ++ e ∷ [])))) (sym is)
-            (texts, subst (λ (y : LentBucket). TakesBytes lent_shown position y n (shown_of (f ∷ log)) (shown_of (f ∷ (log ++ e ∷ [])))) (sym owned) takes),
+            (texts, subst (λ (y : LentBucket). TakesBytesAt lent_shown position y n (shown_of (f ∷ log)) (shown_of (f ∷ (log ++ e ∷ [])))) (sym owned) takes),
       )

@@ -23,8 +23,8 @@ use Rattle.logbook.specs.Kept.{Rules, rules, offer_owns}
 use Rattle.boxcar.specs.Slot.{written, Named}
 use Rattle.lasso_parts.specs.Texts.{Text}
 use Rattle.lasso_log.specs.Buckets.{changed_at}
-use Rattle.lasso_log.specs.Chunks.{era_named, chunk_named, offset_of, name_at, IsCellAt, held, holds_text, in_chunk, filled, lined, ListOnlyGrows, PutsLast}
-use Rattle.lasso_log.specs.LentBuckets.{LentBucket, more_taken, next_bytes, untaken, all_untaken, TakesBytes, AddsBucket}
+use Rattle.lasso_log.specs.Chunks.{era_named, chunk_named, offset_of, name_at, IsCellAt, held, holds_text, in_chunk, filled, lined, ListOnlyGrows, PutsLastAt}
+use Rattle.lasso_log.specs.LentBuckets.{LentBucket, more_taken, next_bytes, untaken, all_untaken, TakesBytesAt, AddsBucket}
 use Rattle.lasso_log.proofs.LentRights.{untaken_keyless, goes_out, comes_in}
 use Rattle.lasso_log.proofs.Opened.{Cells, Sees, At, looks}
 
@@ -38,7 +38,7 @@ module _ (V R : RattleType) (cells : V.Denot → List Named) (meaning : R.Denot 
   pub kept_keyless : (names : List ℕ) (texts : List Text) (buckets : List LentBucket) → Keyless (fsep (lined V R cells meaning lasts names 0 texts) (all_untaken buckets))
   kept_keyless names texts buckets = (lined_keyless names 0 texts, untaken_keyless buckets)
 
--- what stands at a place stays there in a longer list
+-- what stands at a position stays there in a longer list
 pub stands_still : (xs ys : List Text) (n : ℕ) → IsPrefix xs ys → n < length xs → slice_index_or ys n [] ≡ slice_index_or xs n []
 stands_still [] ys n p l = absurd (omega arith)
 stands_still (x ∷ xs) [] n p l = absurd (cc (p.1))
@@ -123,13 +123,13 @@ module _ {M : Type 1} {𝓤 : Ura M} (𝓛 : Logic 𝓤) (V R : RattleType) (cel
 
     -- an update that puts last what the two facts are of
     pub offered : (moves : List E → List E → ℕ → Type 0) (names : List ℕ) (place chunk cell : ℕ) (text : Text) (v : V.Denot) (x : R.Denot)
-        → ((before after : List E) (answer : ℕ) → moves before after answer → PutsLast listed place text before after × (buckets after ≡ buckets before)) → IsCellAt names place chunk (cells v) cell → meaning x ≡ text → lasts x (era_named names)
+        → ((before after : List E) (answer : ℕ) → moves before after answer → PutsLastAt listed place text before after × (buckets after ≡ buckets before)) → IsCellAt names place chunk (cells v) cell → meaning x ≡ text → lasts x (era_named names)
         → ⟦ written V chunk v ⟧ ∗ ⟦ written R cell x ⟧ ⊢ ⟦ offer_owns (keeps names) moves (λ (_ : ℕ). ftrue) None ⟧
     offered moves names place chunk cell text v x puts at is long = let F : Fml = Filled names place text in
         let Goes : List E × List E × ℕ → Pr = λ t. ⟦ keeps names t.0 ⟧ -∗ upd 𝓤 (⟦ keeps names t.1 ⟧ ∗ ⟦ ftrue ⟧) in
         via 𝓤 _ (fills_place names place chunk cell v x text at is long)
         (all_i 𝓤 (λ (t : List E × List E × ℕ). all 𝓤 (λ (_ : moves t.0 t.1 t.2). Goes t)) (λ t. all_i 𝓤 (λ (_ : moves t.0 t.1 t.2). Goes t) (λ m.
-        let moved = puts t.0 t.1 t.2 m in let put : PutsLast listed place text t.0 t.1 = moved.0 in let last : place ≡ 0 + length (listed t.0) = omega (arith, put.1) in
+        let moved = puts t.0 t.1 t.2 m in let put : PutsLastAt listed place text t.0 t.1 = moved.0 in let last : place ≡ 0 + length (listed t.0) = omega (arith, put.1) in
         qed 𝓛 (‵ F ∷ []) ∵ assume ! (‵ (keeps names t.0)) $ suffices ! _ (upd_i 𝓤 (⟦ keeps names t.1 ⟧ ∗ ⟦ ftrue ⟧)) $ fsplit ! $ move ! (2 ∷ []) $
         rewrite ! 0 (λ (k : ℕ). ‵ (Filled names k text)) last refl $ move ! (1 ∷ 0 ∷ []) $
         use2 𝓛 (‵ (Lined names 0 (listed t.0 ++ text ∷ []))) (grown names 0 (listed t.0) text) $
@@ -137,7 +137,7 @@ module _ {M : Type 1} {𝓤 : Ura M} (𝓛 : Logic 𝓤) (V R : RattleType) (cel
 
     -- an update that takes bytes needs nothing, leaves the texts as they are, and has the right to the bytes
     pub offered_bytes : (moves : List E → List E → ℕ → Type 0) (names : List ℕ) (position : ℕ) (b : LentBucket) (n : ℕ)
-        → ((before after : List E) (answer : ℕ) → moves before after answer → (listed after ≡ listed before) × TakesBytes buckets position b n before after)
+        → ((before after : List E) (answer : ℕ) → moves before after answer → (listed after ≡ listed before) × TakesBytesAt buckets position b n before after)
         → emp 𝓤 ⊢ ⟦ offer_owns (keeps names) moves (λ (_ : ℕ). next_bytes b n) None ⟧
     offered_bytes moves names position b n takes =
         let Goes : List E × List E × ℕ → Pr = λ t. ⟦ keeps names t.0 ⟧ -∗ upd 𝓤 (⟦ keeps names t.1 ⟧ ∗ ⟦ next_bytes b n ⟧) in

@@ -5,8 +5,8 @@ use Rattle.logbook.specs.Pages.{Cell, cell, Step, View, Book, Named, may_write, 
 use Rattle.logbook.specs.declared.tokens.Pen.{Pen}
 use Rattle.lasso_log.specs.History.{Event, Reserve, Charge, Append, Limit, Totals, counted, IsOpening, IsLegal, MayFollow}
 use Rattle.lasso_log.specs.Notes.{NoteView, history, state, Chained, words_of, worded, bumped, shown, texts_in, lent_in, texts_shown, lent_shown, bucket_in, Since, IsWordWith, IsOpened, opening_of, notes_of, ticket_of}
-use Rattle.lasso_log.specs.Chunks.{PutsLast}
-use Rattle.lasso_log.specs.LentBuckets.{TakesBytes, AddsBucket}
+use Rattle.lasso_log.specs.Chunks.{PutsLastAt}
+use Rattle.lasso_log.specs.LentBuckets.{TakesBytesAt, AddsBucket}
 
 -- the cell is at home: the book holds its value
 abbrev pub IsHome : List Cell → ℕ → Type 0
@@ -129,9 +129,9 @@ Reads keys o notes position key n = IsWordWith notes position key n × ((cells :
 
 -- how an event moves what the book's keepers see, where `e` is its note
 abbrev pub MovesBy : Event → NoteView → List NoteView → List NoteView → Type 0
-MovesBy (Reserve bucket n) e before after = (texts_shown after ≡ texts_shown before) × TakesBytes lent_shown bucket (bucket_in e.lent) n before after
+MovesBy (Reserve bucket n) e before after = (texts_shown after ≡ texts_shown before) × TakesBytesAt lent_shown bucket (bucket_in e.lent) n before after
 MovesBy (Charge size n) e before after = (texts_shown after ≡ texts_shown before) × AddsBucket lent_shown (bucket_in e.lent) before after
-MovesBy (Append text) e before after = PutsLast texts_shown e.position text before after × (lent_shown after ≡ lent_shown before)
+MovesBy (Append text) e before after = PutsLastAt texts_shown e.position text before after × (lent_shown after ≡ lent_shown before)
 MovesBy (Limit limit) e before after = (texts_shown after ≡ texts_shown before) × (lent_shown after ≡ lent_shown before)
 
 -- how the update of a note moves it

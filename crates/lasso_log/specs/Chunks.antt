@@ -84,5 +84,5 @@ abbrev pub ListOnlyGrows : {E : Type 0} → (List E → List E) → (List E → 
 ListOnlyGrows {E} shows texts = (before after : List E) → IsPrefix before after → IsPrefix (texts (shows before)) (texts (shows after))
 
 -- an update puts its text last, at its position
-abbrev pub PutsLast : {E : Type 0} → (List E → List Text) → ℕ → Text → List E → List E → Type 0
-PutsLast texts position text before after = (texts after ≡ texts before ++ text ∷ []) × (length (texts before) ≡ position)
+abbrev pub PutsLastAt : {E : Type 0} → (List E → List Text) → ℕ → Text → List E → List E → Type 0
+PutsLastAt texts position text before after = (texts after ≡ texts before ++ text ∷ []) × (length (texts before) ≡ position)

@@ -12,11 +12,11 @@ event_of (Append text) = Event.Append text.now
 event_of (Limit limit) = Event.Limit limit
 
 -- how many bytes an event takes
-abbrev pub bytes_of : Event → ℕ
-bytes_of (Event.Reserve bucket n) = n
-bytes_of (Event.Charge size n) = n
-bytes_of (Event.Append text) = 0
-bytes_of (Event.Limit limit) = 0
+abbrev pub event_bytes : Event → ℕ
+event_bytes (Event.Reserve bucket n) = n
+event_bytes (Event.Charge size n) = n
+event_bytes (Event.Append text) = 0
+event_bytes (Event.Limit limit) = 0
 
 -- the note of an event that takes no bytes
 abbrev pub note_of : (by : ℕ) (event : Event) (position ticket next : ℕ) → NoteView

@@ -35,7 +35,7 @@ all_untaken [] = ftrue
 all_untaken (b ∷ bs) = fsep (untaken b) (all_untaken bs)
 
 -- n bytes are taken in the bucket b at this position
-pub record TakesBytes {E : Type 0} (buckets : List E → List LentBucket) (position : ℕ) (b : LentBucket) (n : ℕ) (before after : List E) : Type 0 where
+pub record TakesBytesAt {E : Type 0} (buckets : List E → List LentBucket) (position : ℕ) (b : LentBucket) (n : ℕ) (before after : List E) : Type 0 where
   pub bucket : slice_get (buckets before) position ≡ Some b
   pub fits : b.used + n ≤ b.size
   pub done : buckets after ≡ changed_at position (more_taken n) (buckets before)

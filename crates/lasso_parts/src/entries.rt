@@ -14,7 +14,7 @@ use std::mem::size_of;
 use std::str::from_utf8_unchecked;
 
 /// An entry of a list of texts, of 16 bytes: where its text lies and how many bytes it has. Contracts see
-/// the place and the source: the span that an arena copied the text to, or the text that the program keeps
+/// the address and the source: the span that an arena copied the text to, or the text that the program keeps
 /// for as long as it runs.
 #[derive(Drop)]
 pub struct Entry {

@@ -53,8 +53,8 @@ impl<'a, K: Key> Strings<'a, K> {
     /// ```rust
     /// let rodeo: SpurRodeo = Rodeo::from_iter(rt.alloc(), ["red", "green", "blue"])?;
     /// let mut ahead = rodeo.strings();
-    /// assert_eq!(rt; ahead.nth(1), Some("green"));
-    /// assert_eq!(rt; ahead.next(), Some("blue"));
+    /// assert!(rt; ahead.nth(1) == Some("green"));
+    /// assert!(rt; ahead.next() == Some("blue"));
     /// ```
     pub fn nth(&mut self, n: usize) -> Option<&'a str>
         ensures rest { self.new ≡ drop (n + 1) self.old }
@@ -78,8 +78,8 @@ impl<'a, K: Key> Strings<'a, K> {
     /// ```rust
     /// let rodeo: SpurRodeo = Rodeo::from_iter(rt.alloc(), ["red", "green", "blue"])?;
     /// let mut behind = rodeo.strings();
-    /// assert_eq!(rt; behind.nth_back(1), Some("green"));
-    /// assert_eq!(rt; behind.next_back(), Some("red"));
+    /// assert!(rt; behind.nth_back(1) == Some("green"));
+    /// assert!(rt; behind.next_back() == Some("red"));
     /// ```
     pub fn nth_back(&mut self, n: usize) -> Option<&'a str>
         ensures rest { self.new ≡ take (length self.old - (n + 1)) self.old }
@@ -166,7 +166,7 @@ impl<'a, K: Key> Clone for Strings<'a, K> {
 /// ```rust
 /// let rodeo: SpurRodeo = Rodeo::from_iter(rt.alloc(), ["red", "green", "blue"])?;
 /// for (key, text) in &rodeo {
-///     assert_eq!(rt; rodeo.try_resolve(key), Some(text));
+///     assert!(rt; rodeo.try_resolve(key) == Some(text));
 /// }
 /// ```
 #[derive(Drop)]
@@ -209,8 +209,8 @@ impl<'a, K: Key> Iter<'a, K> {
     /// let rodeo: SpurRodeo = Rodeo::from_iter(rt.alloc(), ["red", "green", "blue"])?;
     /// let green = rodeo.get("green").ok_or("not there")?;
     /// let mut ahead = rodeo.iter();
-    /// assert_eq!(rt; ahead.nth(1), Some((green, "green")));
-    /// assert_eq!(rt; ahead.nth(1), None);
+    /// assert!(rt; ahead.nth(1) == Some((green, "green")));
+    /// assert!(rt; ahead.nth(1) == None);
     /// ```
     pub fn nth(&mut self, n: usize) -> Option<(K, &'a str)>
         ensures rest { self.new ≡ drop (n + 1) self.old }

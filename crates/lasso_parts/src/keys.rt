@@ -21,7 +21,7 @@ pub trait Key: Copy + Eq {
     ///
     /// ```rust
     /// let third = Spur::try_from_usize(2).ok_or("no key")?;
-    /// assert_eq!(rt; third.into_usize(), 2);
+    /// assert!(rt; third.into_usize() == 2);
     /// ```
     fn into_usize(self) -> usize
         ensures { result ≡ number self };
@@ -30,7 +30,7 @@ pub trait Key: Copy + Eq {
     ///
     /// ```rust
     /// let last = MicroSpur::try_from_usize(254).ok_or("no key")?;
-    /// assert_eq!(rt; last.into_usize(), 254);
+    /// assert!(rt; last.into_usize() == 254);
     /// assert!(rt; MicroSpur::try_from_usize(255).is_none());
     /// ```
     fn try_from_usize(position: usize) -> Option<Self>

@@ -149,8 +149,8 @@ impl<T: Drop> From<AllocFailed<T>> for LassoError {
 ///
 /// ```rust
 /// let capacity = Capacity::default();
-/// assert_eq!(rt; capacity.strings(), 50);
-/// assert_eq!(rt; capacity.bytes(), 4096);
+/// assert!(rt; capacity.strings() == 50);
+/// assert!(rt; capacity.bytes() == 4096);
 /// ```
 #[derive(Clone, Copy, Debug, PartialEq, Eq, PartialOrd, Ord, Hash)]
 pub struct Capacity {
@@ -176,8 +176,8 @@ impl Capacity {
     ///
     /// ```rust
     /// let capacity = Capacity::new(3, 9);
-    /// assert_eq!(rt; capacity.strings(), 3);
-    /// assert_eq!(rt; capacity.bytes(), 9);
+    /// assert!(rt; capacity.strings() == 3);
+    /// assert!(rt; capacity.bytes() == 9);
     /// ```
     pub fn new(strings: usize, bytes: usize) -> Self
         requires { 0 < bytes }
@@ -191,8 +191,8 @@ impl Capacity {
     ///
     /// ```rust
     /// let capacity = Capacity::for_strings(10);
-    /// assert_eq!(rt; capacity.strings(), 10);
-    /// assert_eq!(rt; capacity.bytes(), 4096);
+    /// assert!(rt; capacity.strings() == 10);
+    /// assert!(rt; capacity.bytes() == 4096);
     /// ```
     pub fn for_strings(strings: usize) -> Self
         ensures strings { result.strings ≡ strings }
@@ -205,8 +205,8 @@ impl Capacity {
     ///
     /// ```rust
     /// let capacity = Capacity::for_bytes(7);
-    /// assert_eq!(rt; capacity.strings(), 50);
-    /// assert_eq!(rt; capacity.bytes(), 7);
+    /// assert!(rt; capacity.strings() == 50);
+    /// assert!(rt; capacity.bytes() == 7);
     /// ```
     pub fn for_bytes(bytes: usize) -> Self
         requires { 0 < bytes }
@@ -220,8 +220,8 @@ impl Capacity {
     ///
     /// ```rust
     /// let capacity = Capacity::minimal();
-    /// assert_eq!(rt; capacity.strings(), 0);
-    /// assert_eq!(rt; capacity.bytes(), 1);
+    /// assert!(rt; capacity.strings() == 0);
+    /// assert!(rt; capacity.bytes() == 1);
     /// ```
     pub fn minimal() -> Self
         ensures strings { result.strings ≡ 0 }
@@ -258,7 +258,7 @@ impl Default for Capacity {
 ///
 /// ```rust
 /// let limits = MemoryLimits::default();
-/// assert_eq!(rt; limits.max_memory_usage(), usize::MAX);
+/// assert!(rt; limits.max_memory_usage() == usize::MAX);
 /// ```
 #[derive(Clone, Copy, Debug, PartialEq, Eq, PartialOrd, Ord, Hash)]
 pub struct MemoryLimits {
@@ -280,7 +280,7 @@ impl MemoryLimits {
     ///
     /// ```rust
     /// let limits = MemoryLimits::new(12);
-    /// assert_eq!(rt; limits.max_memory_usage(), 12);
+    /// assert!(rt; limits.max_memory_usage() == 12);
     /// ```
     pub fn new(max_memory_usage: usize) -> Self
         ensures { result ≡ max_memory_usage }
@@ -292,7 +292,7 @@ impl MemoryLimits {
     ///
     /// ```rust
     /// let limits = MemoryLimits::for_memory_usage(13);
-    /// assert_eq!(rt; limits.max_memory_usage(), 13);
+    /// assert!(rt; limits.max_memory_usage() == 13);
     /// ```
     pub fn for_memory_usage(max_memory_usage: usize) -> Self
         ensures { result ≡ max_memory_usage }

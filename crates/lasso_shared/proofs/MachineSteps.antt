@@ -18,7 +18,7 @@ use Rattle.lasso_log.specs.Buckets.{CountedBucket, with_taken, changed_at, doubl
 use Rattle.lasso_log.specs.History.{Totals, totals, IsLegal}
 use Rattle.lasso_log.specs.Replies.{Keeping, Question, Intern, Get, Contains, ContainsKey, Resolve, Len, IsEmpty, Usage, MaxUsage, Iterate, Strings, Serialize, Freeze, Interned, MayReply}
 use Rattle.lasso_shared.specs.Machine.{RangedBucket, Phase, Missing, Stored, Appended, Call, State, Step, Take, Reserve, Charge, Append, Release, Refuse, Read, SetLimit, IsInFlight, IsFree, IsReady, MayRefuse, MayRead, MayStep, new_call, taken, after, events, replied, found_reply, with_key, entries_from, read, reply, sums, reserved, charged}
-use Rattle.lasso_shared.specs.Runs.{IsFilled, StandsBy, IsGood, IsStart, IsRun, run, run_history, OwesReply, IsSound, HoldsInRun}
+use Rattle.lasso_shared.specs.Runs.{IsFilled, StandsBy, IsGood, IsStart, IsRun, run, run_history, OwesReply, IsSoundStep, HoldsInRun}
 use Rattle.lasso_log.proofs.Legal.{totals_append, legal_append, bucket_fits}
 use Rattle.lasso_shared.proofs.Ranges.{map_changed, reserved_filled, charged_filled}
 use Rattle.lasso_shared.proofs.MachineGood.{HasAppendedNone, found_free, lacks_own, good_begun, good_stored, good_appended, good_refused, good_released, good_limited}
@@ -203,7 +203,7 @@ module _ {K : Type 0} (key_at : ℕ → Option K) (shard : Text → ℕ) (s : St
   given (Append c) may owed = absurd owed
   given (SetLimit number limit) may owed = absurd owed
 
-  pub sound : (step : Step) → MayStep key_at shard s step → IsSound key_at shard s step
+  pub sound : (step : Step) → MayStep key_at shard s step → IsSoundStep key_at shard s step
   sound step may = record {
     grows = grows step;
     limited = limited step may;

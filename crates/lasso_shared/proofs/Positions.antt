@@ -1,6 +1,6 @@
 -- Positions of texts in a list, and in the list with one text more.
 --
--- A text's position is the first place whose item is equal to it. A text that goes last changes the position of no other.
+-- A text's position is the first one whose item is equal to it. A text that goes last changes the position of no other.
 use Rattle.std.proofs.Common.{◌≡◌, ◌≢◌, ◌⊎◌, ℕ, List, [], ◌∷◌, ◌++◌, Some, slice_get, arith}
 use Rattle.std.specs.Str.{bytes_eq}
 use Rattle.std.proofs.lemmas.Grind.{common_steps}

@@ -13,7 +13,7 @@ use Rattle.lasso_parts.proofs.IndexLaws.{IsFiled-append, slice_get-append_left, 
 use Rattle.lasso_log.specs.History.{Lacks, Totals, IsOpening, IsLegal}
 use Rattle.lasso_log.specs.Notes.{NoteView, history, state, Since}
 use Rattle.lasso_log.specs.Views.{InternerId, list_of}
-use Rattle.lasso_shared.specs.Shards.{shard_of, is_in, count_where, count_in, IsShardOf, IsWhole, Counts}
+use Rattle.lasso_shared.specs.Shards.{shard_of, is_in, count_where, count_in, IsShardOf, IsWholeShard, Counts}
 use Rattle.lasso_log.proofs.Legal.{list_kept}
 use Rattle.lasso_log.proofs.Reading.{none_distinct}
 use Rattle.lasso_log.proofs.Tickets.{since_trans}
@@ -184,7 +184,7 @@ module _ (hash_of : Text → ℕ) (number : ℕ) where
       subst (λ (ts : List Text). IsFiled hash_of ts index) p.1 (IsFiled-append hash_of (list_of of known) p.0 index shard.filed)
 
   -- ---- a history that has no more texts of the shard than the shard's own
-  module _ (of : InternerId) (known notes : List NoteView) (whole : IsWhole hash_of number of known notes) where
+  module _ (of : InternerId) (known notes : List NoteView) (whole : IsWholeShard hash_of number of known notes) where
     grows : IsPrefix (list_of of known) (list_of of notes)
     grows = texts_past of.opening known notes whole.begins
 

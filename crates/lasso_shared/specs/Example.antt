@@ -12,8 +12,8 @@ abbrev pub three_keys : ℕ → Option ℕ
 three_keys n = if nat_lt n 3 then Some n else None
 
 -- sixteen shards, by the first byte
-abbrev pub shard_of : Text → ℕ
-shard_of text = slice_index text 0 % 16
+abbrev pub first_byte_shard : Text → ℕ
+first_byte_shard text = slice_index text 0 % 16
 
 -- no texts, one bucket of 2 bytes, and a limit of 6
 abbrev pub empty : State
@@ -34,7 +34,7 @@ call number keeping text phase =
       number = number;
       keeping = keeping;
       text = text;
-      shard = shard_of text;
+      shard = first_byte_shard text;
       phase = phase;
     }
 
@@ -94,12 +94,12 @@ steps = two_calls (one_refused (keys_used_up readings))
 
 -- the run and what it gives
 pub record IsWorked : Type 0 where
-  pub starts : IsStart three_keys shard_of empty
-  pub runs : IsRun three_keys shard_of empty steps
-  pub texts : (run shard_of empty steps).texts ≡ bc ∷ a ∷ ddd ∷ []
-  pub doubling : (run shard_of empty steps).doubling ≡ 4
+  pub starts : IsStart three_keys first_byte_shard empty
+  pub runs : IsRun three_keys first_byte_shard empty steps
+  pub texts : (run first_byte_shard empty steps).texts ≡ bc ∷ a ∷ ddd ∷ []
+  pub doubling : (run first_byte_shard empty steps).doubling ≡ 4
   pub events : run_history steps ≡ (7, Event.Reserve 0 1) ∷ (8, Event.Charge 4 2) ∷ (8, Event.Append bc) ∷ (7, Event.Append a) ∷ (9, Event.Limit 100) ∷ (9, Event.Append ddd) ∷ []
-  pub replies : replies three_keys shard_of empty steps
+  pub replies : replies three_keys first_byte_shard empty steps
       ≡ (Intern Copied bc, Interned (Ok 0))
       ∷ (Intern Copied a, Interned (Ok 1))
       ∷ (Intern Copied a, Interned (Ok 1))

@@ -13,15 +13,15 @@ InternsEach {K} key_at opening before after pass (text ∷ texts) =
     (k : K) × (mid : History) × IsCall key_at opening before mid pass (Intern Copied text) (Interned (Ok k)) × InternsEach key_at opening mid after pass texts
 
 -- so were all texts but the last, whose call was refused
-abbrev pub EndsRefused : {K : Type 0} → (ℕ → Option K) → Totals → (before after : History) → (pass : ℕ) → List Text → LassoErrorKind → Type 0
-EndsRefused {K} key_at opening before after pass texts error =
+abbrev pub FillingEndsRefused : {K : Type 0} → (ℕ → Option K) → Totals → (before after : History) → (pass : ℕ) → List Text → LassoErrorKind → Type 0
+FillingEndsRefused {K} key_at opening before after pass texts error =
     (interned : List Text) × (last : Text) × (mid : History) × (texts ≡ interned ++ last ∷ []) × InternsEach key_at opening before mid pass interned
     × IsCall {K = K} key_at opening mid after pass (Intern Copied last) (Interned (Err error))
 
 -- all texts were interned; or the last of them was refused, which is the answer
 abbrev pub Fills : {K : Type 0} → (ℕ → Option K) → Totals → (before after : History) → (pass : ℕ) → List Text → Result (Unit {0}) LassoErrorKind → Type 0
 Fills key_at opening before after pass texts (Ok done) = InternsEach key_at opening before after pass texts
-Fills key_at opening before after pass texts (Err error) = EndsRefused key_at opening before after pass texts error
+Fills key_at opening before after pass texts (Err error) = FillingEndsRefused key_at opening before after pass texts error
 
 -- by calls of a pass that had seen nothing, which has then seen a legal history
 pub record IsPlainFilling {K : Type 0} (key_at : ℕ → Option K) (opening : Totals) (texts : List Text) (reply : Result (Unit {0}) LassoErrorKind) : Type 0 where

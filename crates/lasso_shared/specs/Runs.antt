@@ -83,7 +83,7 @@ OwesReply shard s (Read question) = Unit {0}
 OwesReply shard s step = ⊥
 
 -- what one step does
-pub record IsSound {K : Type 0} (key_at : ℕ → Option K) (shard : Text → ℕ) (s : State) (step : Step) : Type 0 where
+pub record IsSoundStep {K : Type 0} (key_at : ℕ → Option K) (shard : Text → ℕ) (s : State) (step : Step) : Type 0 where
   pub grows : IsPrefix s.texts (after shard s step).texts
   pub limited : s.usage < (after shard s step).usage → (after shard s step).usage ≤ (after shard s step).limit
   -- a reply is explained by what the state holds, which a step that replies leaves as it is
@@ -95,7 +95,7 @@ pub record IsSound {K : Type 0} (key_at : ℕ → Option K) (shard : Text → �
 pub record HoldsInRun {K : Type 0} (key_at : ℕ → Option K) (shard : Text → ℕ) (start : State) (steps : List Step) : Type 0 where
   pub good : IsGood key_at shard (run shard start steps)
   pub grows : IsPrefix start.texts (run shard start steps).texts
-  pub sound : (step : Step) → MayStep key_at shard (run shard start steps) step → IsSound key_at shard (run shard start steps) step
+  pub sound : (step : Step) → MayStep key_at shard (run shard start steps) step → IsSoundStep key_at shard (run shard start steps) step
   pub legal : IsLegal key_at (sums start) (run_history steps)
   pub adds_up : totals (sums start) (run_history steps) ≡ sums (run shard start steps)
 

@@ -28,13 +28,13 @@ abbrev pub count_in : (Text → ℕ) → ℕ → List Text → ℕ
 count_in hash_of number texts = count_where (is_in hash_of number) texts
 
 -- a text of the shard stands at this position
-abbrev pub StandsIn : (Text → ℕ) → ℕ → List Text → ℕ → Type 0
-StandsIn hash_of number texts m = (t : Text) × (slice_get texts m ≡ Some t) × (is_in hash_of number t ≡ true)
+abbrev pub IsOfShard : (Text → ℕ) → ℕ → List Text → ℕ → Type 0
+IsOfShard hash_of number texts m = (t : Text) × (slice_get texts m ≡ Some t) × (is_in hash_of number t ≡ true)
 
 -- the index of a shard of a list: exactly the positions of the shard's texts are held
 pub record IsShardOf (hash_of : Text → ℕ) (number : ℕ) (texts : List Text) (table : Table) : Type 0 where
   pub filed : IsFiled hash_of texts table
-  pub holds : (m : ℕ) → Holds table.slots m ↔ StandsIn hash_of number texts m
+  pub holds : (m : ℕ) → Holds table.slots m ↔ IsOfShard hash_of number texts m
   pub distinct : IsDistinct texts
 
 -- What a shard's lock keeps: its index maps exactly the shard's texts of a history that it has seen to their positions,
@@ -55,7 +55,7 @@ pub record IsTally (hash_of : Text → ℕ) (of : InternerId) (spine : SpineView
   pub counts_each : Counts hash_of (list_of of spine.notes) counts
 
 -- the notes begin with what the shard has seen, and have no more texts of the shard
-pub record IsWhole (hash_of : Text → ℕ) (number : ℕ) (of : InternerId) (known notes : List NoteView) : Type 0 where
+pub record IsWholeShard (hash_of : Text → ℕ) (number : ℕ) (of : InternerId) (known notes : List NoteView) : Type 0 where
   pub begins : IsPrefix known notes
   pub counts : count_in hash_of number (list_of of known) ≡ count_in hash_of number (list_of of notes)
 

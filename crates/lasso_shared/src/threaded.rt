@@ -32,7 +32,7 @@ pub use walking::{Iter, Strings};
 /// let rodeo: SpurThreadedRodeo = ThreadedRodeo::default(rt.alloc())?;
 /// let mut pass = rodeo.pass();
 /// let key = rodeo.try_get_or_intern_static_as(&rt, &mut pass, "Hello, world!")?;
-/// assert_eq!(rt; rodeo.try_resolve_as(&mut pass, key), Some("Hello, world!"));
+/// assert!(rt; rodeo.try_resolve_as(&mut pass, key) == Some("Hello, world!"));
 /// ```
 pub struct ThreadedRodeo<K: Key, S: BuildHasher + Drop> {
     shards: Shards<K, S>,

@@ -71,7 +71,7 @@ pub enum Reply<K> {
 /// let mut rodeo: SpurRodeo = Rodeo::new(rt.alloc())?;
 /// let commands = [Command::Intern("red"), Command::Clear];
 /// let replies = run_commands(rt.alloc(), &mut rodeo, commands.as_slice())?;
-/// assert_eq!(rt; replies.len(), 2);
+/// assert!(rt; replies.len() == 2);
 /// assert!(rt; matches!(&replies[0], Reply::Key(_)));
 /// assert!(rt; matches!(&replies[1], Reply::Done));
 /// ```

@@ -66,7 +66,7 @@ impl<K: Key, S: BuildHasher, A: Allocator> RodeoReader<K, S, A> {
     /// ```rust
     /// let reader = SpurRodeo::from_iter(rt.alloc(), ["red", "green"])?.into_reader();
     /// let green = reader.get("green").ok_or("not there")?;
-    /// assert_eq!(rt; green.into_usize(), 1);
+    /// assert!(rt; green.into_usize() == 1);
     /// assert!(rt; reader.get("blue").is_none());
     /// ```
     pub fn get(&self, text: &str) -> Option<K>
@@ -109,9 +109,9 @@ impl<K: Key, S: BuildHasher, A: Allocator> RodeoReader<K, S, A> {
     /// ```rust
     /// let reader = SpurRodeo::from_iter(rt.alloc(), ["red", "green"])?.into_reader();
     /// let red = reader.get("red").ok_or("not there")?;
-    /// assert_eq!(rt; reader.try_resolve(red), Some("red"));
+    /// assert!(rt; reader.try_resolve(red) == Some("red"));
     /// let past = Spur::try_from_usize(2).ok_or("no key")?;
-    /// assert_eq!(rt; reader.try_resolve(past), None);
+    /// assert!(rt; reader.try_resolve(past) == None);
     /// ```
     pub fn try_resolve(&self, key: K) -> Option<&str>
         ensures { option_map (λ t. t.now) result ≡ slice_get self.now (K.number key) }
@@ -125,7 +125,7 @@ impl<K: Key, S: BuildHasher, A: Allocator> RodeoReader<K, S, A> {
     /// let reader = SpurRodeo::from_iter(rt.alloc(), ["red", "green"])?.into_reader();
     /// let red = reader.get("red").ok_or("not there")?;
     /// assert!(rt; reader.contains_key(red));
-    /// assert_eq!(rt; reader.resolve(red), "red");
+    /// assert!(rt; reader.resolve(red) == "red");
     /// ```
     pub fn resolve(&self, key: K) -> &str
         requires { K.number key < length self.now }
@@ -140,7 +140,7 @@ impl<K: Key, S: BuildHasher, A: Allocator> RodeoReader<K, S, A> {
     /// let reader = SpurRodeo::from_iter(rt.alloc(), ["red", "green"])?.into_reader();
     /// let red = reader.get("red").ok_or("not there")?;
     /// assert!(rt; reader.contains_key(red));
-    /// assert_eq!(rt; reader.resolve_unchecked(red), "red");
+    /// assert!(rt; reader.resolve_unchecked(red) == "red");
     /// ```
     pub fn resolve_unchecked(&self, key: K) -> &str
         requires { K.number key < length self.now }
@@ -153,7 +153,7 @@ impl<K: Key, S: BuildHasher, A: Allocator> RodeoReader<K, S, A> {
     ///
     /// ```rust
     /// let reader = SpurRodeo::from_iter(rt.alloc(), ["red", "green"])?.into_reader();
-    /// assert_eq!(rt; reader.len(), 2);
+    /// assert!(rt; reader.len() == 2);
     /// ```
     pub fn len(&self) -> usize
         ensures value { result ≡ length self.now }
@@ -196,7 +196,7 @@ impl<K: Key, S: BuildHasher, A: Allocator> RodeoReader<K, S, A> {
     /// let reader = SpurRodeo::from_iter(rt.alloc(), ["red", "green"])?.into_reader();
     /// let red = reader.get("red").ok_or("not there")?;
     /// let resolver = reader.into_resolver();
-    /// assert_eq!(rt; resolver.try_resolve(red), Some("red"));
+    /// assert!(rt; resolver.try_resolve(red) == Some("red"));
     /// ```
     pub fn into_resolver(self) -> RodeoResolver<K, A>
     where

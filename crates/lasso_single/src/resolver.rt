@@ -91,9 +91,9 @@ impl<K: Key, A: Allocator> RodeoResolver<K, A> {
     /// let mut rodeo = Rodeo::default(rt.alloc())?;
     /// let red = rodeo.try_get_or_intern("red")?;
     /// let resolver = rodeo.into_resolver();
-    /// assert_eq!(rt; resolver.try_resolve(red), Some("red"));
+    /// assert!(rt; resolver.try_resolve(red) == Some("red"));
     /// let next = Spur::try_from_usize(1).ok_or("no key")?;
-    /// assert_eq!(rt; resolver.try_resolve(next), None);
+    /// assert!(rt; resolver.try_resolve(next) == None);
     /// ```
     pub fn try_resolve(&self, key: K) -> Option<&str>
         ensures { option_map (λ t. t.now) result ≡ slice_get self.now (K.number key) }
@@ -108,7 +108,7 @@ impl<K: Key, A: Allocator> RodeoResolver<K, A> {
     /// let red = rodeo.try_get_or_intern("red")?;
     /// let resolver = rodeo.into_resolver();
     /// assert!(rt; resolver.contains_key(red));
-    /// assert_eq!(rt; resolver.resolve(red), "red");
+    /// assert!(rt; resolver.resolve(red) == "red");
     /// ```
     pub fn resolve(&self, key: K) -> &str
         requires { K.number key < length self.now }
@@ -124,7 +124,7 @@ impl<K: Key, A: Allocator> RodeoResolver<K, A> {
     /// let red = rodeo.try_get_or_intern("red")?;
     /// let resolver = rodeo.into_resolver();
     /// assert!(rt; resolver.contains_key(red));
-    /// assert_eq!(rt; resolver.resolve_unchecked(red), "red");
+    /// assert!(rt; resolver.resolve_unchecked(red) == "red");
     /// ```
     pub fn resolve_unchecked(&self, key: K) -> &str
         requires { K.number key < length self.now }
@@ -137,7 +137,7 @@ impl<K: Key, A: Allocator> RodeoResolver<K, A> {
     ///
     /// ```rust
     /// let resolver = SpurRodeo::from_iter(rt.alloc(), ["red", "green"])?.into_resolver();
-    /// assert_eq!(rt; resolver.len(), 2);
+    /// assert!(rt; resolver.len() == 2);
     /// ```
     pub fn len(&self) -> usize
         ensures value { result ≡ length self.now }

@@ -61,7 +61,7 @@ impl<K: Key, S: BuildHasher, A: Allocator> Rodeo<K, S, A> {
     /// ```rust
     /// let mut rodeo = Rodeo::default(rt.alloc())?;
     /// let hello = rodeo.try_get_or_intern("Hello, world!")?;
-    /// assert_eq!(rt; rodeo.get("Hello, world!"), Some(hello));
+    /// assert!(rt; rodeo.get("Hello, world!") == Some(hello));
     /// assert!(rt; rodeo.get("Hello").is_none());
     /// ```
     #[tactic(auto, using(lasso_parts::proofs::TextLemmas::key_of_present))]
@@ -107,9 +107,9 @@ impl<K: Key, S: BuildHasher, A: Allocator> Rodeo<K, S, A> {
     /// ```rust
     /// let mut rodeo = Rodeo::default(rt.alloc())?;
     /// let hello = rodeo.try_get_or_intern("Hello, world!")?;
-    /// assert_eq!(rt; rodeo.try_resolve(hello), Some("Hello, world!"));
+    /// assert!(rt; rodeo.try_resolve(hello) == Some("Hello, world!"));
     /// let next = Spur::try_from_usize(1).ok_or("no key")?;
-    /// assert_eq!(rt; rodeo.try_resolve(next), None);
+    /// assert!(rt; rodeo.try_resolve(next) == None);
     /// ```
     pub fn try_resolve(&self, key: K) -> Option<&str>
         ensures { option_map (λ t. t.now) result ≡ slice_get self.now.texts (K.number key) }
@@ -123,7 +123,7 @@ impl<K: Key, S: BuildHasher, A: Allocator> Rodeo<K, S, A> {
     /// let mut rodeo = Rodeo::default(rt.alloc())?;
     /// let hello = rodeo.try_get_or_intern("Hello, world!")?;
     /// assert!(rt; rodeo.contains_key(hello));
-    /// assert_eq!(rt; rodeo.resolve(hello), "Hello, world!");
+    /// assert!(rt; rodeo.resolve(hello) == "Hello, world!");
     /// ```
     pub fn resolve(&self, key: K) -> &str
         requires { K.number key < length self.now.texts }
@@ -138,7 +138,7 @@ impl<K: Key, S: BuildHasher, A: Allocator> Rodeo<K, S, A> {
     /// let mut rodeo = Rodeo::default(rt.alloc())?;
     /// let hello = rodeo.try_get_or_intern("Hello, world!")?;
     /// assert!(rt; rodeo.contains_key(hello));
-    /// assert_eq!(rt; rodeo.resolve_unchecked(hello), "Hello, world!");
+    /// assert!(rt; rodeo.resolve_unchecked(hello) == "Hello, world!");
     /// ```
     pub fn resolve_unchecked(&self, key: K) -> &str
         requires { K.number key < length self.now.texts }
@@ -152,7 +152,7 @@ impl<K: Key, S: BuildHasher, A: Allocator> Rodeo<K, S, A> {
     /// ```rust
     /// let mut rodeo = Rodeo::default(rt.alloc())?;
     /// rodeo.extend(["red", "green", "red"])?;
-    /// assert_eq!(rt; rodeo.len(), 2);
+    /// assert!(rt; rodeo.len() == 2);
     /// ```
     pub fn len(&self) -> usize
         ensures value { result ≡ length self.now.texts }
@@ -193,7 +193,7 @@ impl<K: Key, S: BuildHasher, A: Allocator> Rodeo<K, S, A> {
     ///
     /// ```rust
     /// let rodeo = Rodeo::default(rt.alloc())?;
-    /// assert_eq!(rt; rodeo.max_memory_usage(), usize::MAX);
+    /// assert!(rt; rodeo.max_memory_usage() == usize::MAX);
     /// ```
     pub fn max_memory_usage(&self) -> usize
         ensures { result ≡ self.now.account.limit }
@@ -209,9 +209,9 @@ impl<K: Key, S: BuildHasher, A: Allocator> Rodeo<K, S, A> {
     /// ```rust
     /// let mut rodeo: SpurRodeo = Rodeo::with_capacity(rt.alloc(), Capacity::for_bytes(10))?;
     /// rodeo.try_get_or_intern("0123456789")?;
-    /// assert_eq!(rt; rodeo.current_memory_usage(), 10);
+    /// assert!(rt; rodeo.current_memory_usage() == 10);
     /// rodeo.try_get_or_intern("more")?;
-    /// assert_eq!(rt; rodeo.current_memory_usage(), 30);
+    /// assert!(rt; rodeo.current_memory_usage() == 30);
     /// ```
     pub fn current_memory_usage(&self) -> usize
         ensures usage { result ≡ self.now.account.usage }

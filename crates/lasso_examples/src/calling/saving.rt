@@ -59,11 +59,11 @@ fn loaded_keys_stand_for_the_same_texts(rt: HostRuntime) -> Result<(), Fail> {
     let quoted = rodeo.try_get_or_intern("a \"quoted\" text\n")?;
     let empty = rodeo.try_get_or_intern("")?;
     let saved = save(&rodeo, rt.alloc())?;
-    assert_eq!(rt; saved.as_str(), r#"["a \"quoted\" text\n",""]"#);
+    assert!(rt; saved.as_str() == r#"["a \"quoted\" text\n","")"#);
     let loaded = reload(&rodeo, rt.alloc()).ok().ok_or("not loaded")?;
-    assert_eq!(rt; loaded.len(), 2);
-    assert_eq!(rt; loaded.try_resolve(quoted), Some("a \"quoted\" text\n"));
-    assert_eq!(rt; loaded.try_resolve(empty), Some(""));
+    assert!(rt; loaded.len() == 2);
+    assert!(rt; loaded.try_resolve(quoted) == Some("a \"quoted\" text\n"));
+    assert!(rt; loaded.try_resolve(empty) == Some(""));
     let refused = load::<Spur>(rt.alloc(), r#"["one", "one"]"#).err();
     assert!(rt; matches!(refused, Some(LoadError::List(JsonError::Doubled(1)))));
     let refused = load::<Spur>(rt.alloc(), "[").err();

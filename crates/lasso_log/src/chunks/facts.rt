@@ -7,7 +7,7 @@ ghost use Rattle.std.specs.Prelude.{◌≡◌, ◌-◌, ◌<◌, ℕ, List, [], 
 ghost use base.Fml.{fsep};
 ghost use Rattle.lasso_parts.specs.Texts.{Text};
 ghost use Rattle.logbook.specs.Pages.{Calm};
-ghost use Rattle.lasso_log.specs.Chunks.{lined, IsCellAt, PutsLast, ListOnlyGrows, era_named, chunk_named, offset_of, name_at};
+ghost use Rattle.lasso_log.specs.Chunks.{lined, IsCellAt, PutsLastAt, ListOnlyGrows, era_named, chunk_named, offset_of, name_at};
 ghost use Rattle.lasso_log.specs.LentBuckets.{LentBucket, IsRightTo, all_untaken};
 
 use crate::chunks::rule::{HasCells, HasText, InChunks, Listed, NoGain};
@@ -91,7 +91,7 @@ pub fn hand_in<E, B: Listed<E>, T: HasText, V: HasCells, X, M: Plain<X, E, u64>>
     requires cell { IsCellAt seen.now.names (B.appended_at (M.ask about.now)) chunk.now.of (V.cells chunk.now.value) item.now.of }
     requires text { T.meaning item.now.value ≡ B.text (M.ask about.now) }
     requires lasts { T.lasts item.now.value (era_named seen.now.names) }
-    requires moves { (before after : List E) → B.moves (M.ask about.now) before after → PutsLast B.texts (B.appended_at (M.ask about.now)) (B.text (M.ask about.now)) before after × (B.buckets after ≡ B.buckets before) }
+    requires moves { (before after : List E) → B.moves (M.ask about.now) before after → PutsLastAt B.texts (B.appended_at (M.ask about.now)) (B.text (M.ask about.now)) before after × (B.buckets after ≡ B.buckets before) }
     ensures { (result.names ≡ seen.now.names) × (result.ask ≡ M.ask about.now) × (result.about ≡ []) × (result.state ≡ None) }
 {
     let _ = seen;

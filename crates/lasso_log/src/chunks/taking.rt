@@ -1,7 +1,7 @@
 //! How a book gives out the right to bytes, and takes in the right to those of a new bucket. None of it has bytes. Used by the
 //! log's steps.
 ghost use Rattle.std.specs.Prelude.{◌≡◌, ◌-◌, List, [], ◌∷◌, None};
-ghost use Rattle.lasso_log.specs.LentBuckets.{TakesBytes, AddsBucket, IsRightTo};
+ghost use Rattle.lasso_log.specs.LentBuckets.{TakesBytesAt, AddsBucket, IsRightTo};
 
 use crate::chunks::rule::{BytesTaken, HasCells, HasText, InChunks, Listed};
 use crate::shared_arena::rights::Free;
@@ -15,7 +15,7 @@ pub fn take_bytes<E, B: Listed<E>, T: HasText, V: HasCells, X, M: Plain<X, E, u6
     about: &X,
     bucket: u64,
 ) -> Offer<E, u64, InChunks<B, T, V>, BytesTaken<B>>
-    requires moves { (before after : List E) → B.moves (M.ask about.now) before after → (B.texts after ≡ B.texts before) × TakesBytes B.buckets bucket (B.bucket (M.ask about.now)) (B.bytes (M.ask about.now)) before after }
+    requires moves { (before after : List E) → B.moves (M.ask about.now) before after → (B.texts after ≡ B.texts before) × TakesBytesAt B.buckets bucket (B.bucket (M.ask about.now)) (B.bytes (M.ask about.now)) before after }
     ensures { (result.names ≡ seen.now.names) × (result.ask ≡ M.ask about.now) × (result.about ≡ M.ask about.now ∷ []) × (result.state ≡ None) }
 {
     let _ = seen;

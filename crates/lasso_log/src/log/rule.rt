@@ -31,7 +31,7 @@ pub type LogRule<K> = InChunks<Shared<K>, StoredText, Chunk<StoredText>>;
 impl<K: Key> Listed<Note> for Shared<K> {
     ghost use Rattle.lasso_log.specs.Notes.{texts_shown, lent_shown, bucket_in, appended_text};
     ghost use Rattle.lasso_log.specs.Book.{LogKeepsRule, Moved, shown_of};
-    ghost use Rattle.lasso_log.specs.Events.{bytes_of};
+    ghost use Rattle.lasso_log.specs.Events.{event_bytes};
 
     ghost holds = { λ cells log. LogKeepsRule K.key_at cells log };
 
@@ -49,7 +49,7 @@ impl<K: Key> Listed<Note> for Shared<K> {
 
     ghost bucket = { λ e. bucket_in e.lent };
 
-    ghost bytes = { λ e. bytes_of e.event };
+    ghost bytes = { λ e. event_bytes e.event };
 }
 
 /// A step that looks.

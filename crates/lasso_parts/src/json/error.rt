@@ -14,7 +14,7 @@ use std::fmt;
 /// ```rust
 /// let damaged = Value::from_str(rt.alloc(), r#"["b", "a", "b"]"#)?;
 /// let fault = SpurRodeo::deserialize(rt.alloc(), &damaged).err();
-/// assert_eq!(rt; fault, Some(JsonError::Doubled(2)));
+/// assert!(rt; fault == Some(JsonError::Doubled(2)));
 /// ```
 #[derive(Clone, Copy, Debug, PartialEq, Eq, Hash)]
 pub enum JsonError {

@@ -23,7 +23,7 @@ pub trait JsonKey: Key {
     /// let first = Spur::try_from_usize(0).ok_or("no key")?;
     /// let value = first.key_to_json(rt.alloc())?;
     /// let kept = value.as_u64().ok_or("no number")?;
-    /// assert_eq!(rt; kept, 1);
+    /// assert!(rt; kept == 1);
     /// ```
     final fn key_to_json(self, _alloc: Global) -> Result<Value, JsonError>
         ensures { IsOkAnd result (λ v. view v ≡ number (unsigned (Self.number self + 1))) }
@@ -38,9 +38,9 @@ pub trait JsonKey: Key {
     /// ```rust
     /// let first = Spur::try_from_usize(0).ok_or("no key")?;
     /// let value = first.key_to_json(rt.alloc())?;
-    /// assert_eq!(rt; Spur::key_from_json(&value), Ok(first));
+    /// assert!(rt; Spur::key_from_json(&value) == Ok(first));
     /// let zero = Value::from_str(rt.alloc(), "0")?;
-    /// assert_eq!(rt; Spur::key_from_json(&zero), Err(JsonError::NotAKey));
+    /// assert!(rt; Spur::key_from_json(&zero) == Err(JsonError::NotAKey));
     /// ```
     final fn key_from_json(value: &Value) -> Result<Self, JsonError>
         ensures read { result ≡ key_kept Self.key_at (whole_number (view value.now)) }

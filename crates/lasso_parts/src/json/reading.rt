@@ -35,7 +35,7 @@ pub fn read_array<K: Key, A: Allocator + Clone>(
         return Ok(texts);
     };
     // a fault of the first item is told before memory is asked for
-    let _text = text_of(first, 0)?;
+    let _text = item_str(first, 0)?;
     let _key = key_for::<K>(0)?;
     let index: Index<K, A> = Index::new(texts.allocator().clone()?);
     read_items(texts, index, &FixedState::new(), items.as_slice(), distinct)
@@ -56,7 +56,7 @@ fn read_items<'a, K: Key, S: BuildHasher, A: Allocator + Clone>(
     let mut texts = texts;
     let mut index = index;
     for item in items {
-        let text = text_of(item, texts.len())?;
+        let text = item_str(item, texts.len())?;
         enter_text(&mut index, texts.as_slice(), hasher, text, distinct)?;
         texts.push(text)?;
     }
@@ -64,7 +64,7 @@ fn read_items<'a, K: Key, S: BuildHasher, A: Allocator + Clone>(
 }
 
 // The item's text.
-fn text_of(item: &Value, at: usize) -> Result<&str, JsonError>
+fn item_str(item: &Value, at: usize) -> Result<&str, JsonError>
     ensures { shown (λ t. t.now) result ≡ item_text at (as_str (view item.now)) }
 {
     match item.as_str() {

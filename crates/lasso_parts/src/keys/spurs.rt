@@ -31,7 +31,7 @@ impl Spur {
     ///
     /// ```rust
     /// let third = Spur::try_from_usize(2).ok_or("no key")?;
-    /// assert_eq!(rt; third.into_inner(), 3);
+    /// assert!(rt; third.into_inner() == 3);
     /// ```
     pub fn into_inner(self) -> u32
         ensures kept { result ≡ self }

@@ -8,7 +8,7 @@ ghost use Rattle.lasso_log.specs.Notes.{Since};
 ghost use Rattle.lasso_log.specs.Replies.{Get, Found};
 ghost use Rattle.lasso_log.specs.Calls.{IsCall};
 ghost use Rattle.lasso_log.specs.Views.{PassView, InternerId, IsSamePass, list_of, seen};
-ghost use Rattle.lasso_shared.specs.Shards.{IsShard, IsTally, IsWhole, shard_of};
+ghost use Rattle.lasso_shared.specs.Shards.{IsShard, IsTally, IsWholeShard, shard_of};
 
 use crate::shards::Shards;
 use crate::shards::shard::{Shard, Tally};
@@ -93,7 +93,7 @@ impl<K: Key, S: BuildHasher + Drop> Shards<K, S> {
         ensures same { IsSamePass pass.new pass.old }
         ensures since { Since pass.old.number pass.old.notes pass.new.notes [] }
         ensures begins { IsPrefix shard.now.known.notes pass.new.notes }
-        ensures whole { result ≡ true → IsWhole (text_hash S.build_hasher S.Hasher.write S.Hasher.finish self.now.hasher) number self.now.log shard.now.known.notes pass.new.notes }
+        ensures whole { result ≡ true → IsWholeShard (text_hash S.build_hasher S.Hasher.write S.Hasher.finish self.now.hasher) number self.now.log shard.now.known.notes pass.new.notes }
         ensures list { result ≡ true → list_of self.now.log pass.new.notes ≡ list_of self.now.log tally.now.spine.notes }
     {
         if self.log.len(pass) != tally.spine.len() {
@@ -117,7 +117,7 @@ impl<K: Key, S: BuildHasher + Drop> Shards<K, S> {
         requires begins { IsPrefix shard.now.known.notes pass.old.notes }
         ensures same { IsSamePass pass.new pass.old }
         ensures since { Since pass.old.number pass.old.notes pass.new.notes [] }
-        ensures whole { IsWhole (text_hash S.build_hasher S.Hasher.write S.Hasher.finish self.now.hasher) number self.now.log shard.now.known.notes pass.new.notes }
+        ensures whole { IsWholeShard (text_hash S.build_hasher S.Hasher.write S.Hasher.finish self.now.hasher) number self.now.log shard.now.known.notes pass.new.notes }
     {
         for _ in rt.forever() {
             let (guard, held) = self.spine.take(rt);

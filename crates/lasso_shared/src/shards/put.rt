@@ -14,7 +14,7 @@ ghost use Rattle.lasso_log.specs.Eras.{life};
 ghost use Rattle.lasso_log.specs.History.{Lacks};
 ghost use Rattle.lasso_log.specs.Notes.{Since};
 ghost use Rattle.lasso_log.specs.Pieces.{PieceView};
-ghost use Rattle.lasso_shared.specs.Shards.{IsShard, IsTally, IsWhole, PutsLast, shard_of};
+ghost use Rattle.lasso_shared.specs.Shards.{IsShard, IsTally, IsWholeShard, PutsLast, shard_of};
 ghost use Rattle.lasso_log.specs.Views.{PassView, InternerId, IsSamePass, list_of};
 
 use crate::shards::Shards;
@@ -56,7 +56,7 @@ impl<K: Key, S: BuildHasher + Drop> Shards<K, S> {
         requires begins { IsPrefix shard.now.known.notes pass.old.notes }
         ensures same { IsSamePass pass.new pass.old }
         ensures since { Since pass.old.number pass.old.notes pass.new.notes [] }
-        ensures whole { IsWhole (text_hash S.build_hasher S.Hasher.write S.Hasher.finish self.now.hasher) number self.now.log shard.now.known.notes pass.new.notes }
+        ensures whole { IsWholeShard (text_hash S.build_hasher S.Hasher.write S.Hasher.finish self.now.hasher) number self.now.log shard.now.known.notes pass.new.notes }
         ensures slot { IfOk result (λ slot. slot ≡ self.now.log) }
         ensures refused { IfErr result (λ error. error ≡ FailedAllocation) }
     {
@@ -88,7 +88,7 @@ impl<K: Key, S: BuildHasher + Drop> Shards<K, S> {
         ensures since { Since pass.old.number pass.old.notes pass.new.notes [] }
         ensures held { IsShard (text_hash S.build_hasher S.Hasher.write S.Hasher.finish self.now.hasher) number self.now.log shard.new.known shard.new.index shard.new.count }
         ensures known { shard.new.known ≡ shard.old.known }
-        ensures whole { IsWhole (text_hash S.build_hasher S.Hasher.write S.Hasher.finish self.now.hasher) number self.now.log shard.old.known.notes pass.new.notes }
+        ensures whole { IsWholeShard (text_hash S.build_hasher S.Hasher.write S.Hasher.finish self.now.hasher) number self.now.log shard.old.known.notes pass.new.notes }
         ensures room { IfOk result (λ slot. (slot ≡ self.now.log) × (0 < room shard.new.index.slots)) }
         ensures refused { IfErr result (λ error. error ≡ FailedAllocation) }
     {
@@ -127,7 +127,7 @@ impl<K: Key, S: BuildHasher + Drop> Shards<K, S> {
         requires hashed { hash ≡ text_hash S.build_hasher S.Hasher.write S.Hasher.finish self.now.hasher text.text }
         requires held { IsShard (text_hash S.build_hasher S.Hasher.write S.Hasher.finish self.now.hasher) (shard_of hash) self.now.log shard.old.known shard.old.index shard.old.count }
         requires tally { IsTally (text_hash S.build_hasher S.Hasher.write S.Hasher.finish self.now.hasher) self.now.log tally.old.spine tally.old.counts }
-        requires whole { IsWhole (text_hash S.build_hasher S.Hasher.write S.Hasher.finish self.now.hasher) (shard_of hash) self.now.log shard.old.known.notes pass.old.notes }
+        requires whole { IsWholeShard (text_hash S.build_hasher S.Hasher.write S.Hasher.finish self.now.hasher) (shard_of hash) self.now.log shard.old.known.notes pass.old.notes }
         requires list { list_of self.now.log pass.old.notes ≡ list_of self.now.log tally.old.spine.notes }
         requires lacks { Lacks (list_of self.now.log shard.old.known.notes) text.text }
         requires room { 0 < room shard.old.index.slots }

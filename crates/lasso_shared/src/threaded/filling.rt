@@ -22,7 +22,7 @@ impl<K: Key, S: BuildHasher + Drop> ThreadedRodeo<K, S> {
     /// ```rust
     /// let rodeo: SpurThreadedRodeo = ThreadedRodeo::default(rt.alloc())?;
     /// rodeo.extend(&rt, ["red", "green", "red"])?;
-    /// assert_eq!(rt; rodeo.len(), 2);
+    /// assert!(rt; rodeo.len() == 2);
     /// assert!(rt; rodeo.contains(&rt, "green"));
     /// ```
     pub fn extend<R: Wait, T: AsStr + Drop, I: IntoIterator<Item = T>>(
@@ -52,7 +52,7 @@ impl<K: Key, S: BuildHasher + Default + Drop> ThreadedRodeo<K, S> {
     /// ```rust
     /// let colours = ["red", "green", "red", "blue"];
     /// let rodeo: SpurThreadedRodeo = ThreadedRodeo::from_iter(rt.alloc(), &rt, colours)?;
-    /// assert_eq!(rt; rodeo.len(), 3);
+    /// assert!(rt; rodeo.len() == 3);
     /// assert!(rt; rodeo.contains(&rt, "blue"));
     /// ```
     pub fn from_iter<R: Wait, T: AsStr + Drop, I: IntoIterator<Item = T> + Drop>(

@@ -34,7 +34,7 @@ impl<K: Key, S: BuildHasher + Drop> ThreadedRodeo<K, S> {
     /// let mut pass = rodeo.pass();
     /// let key = rodeo.try_get_or_intern_as(&rt, &mut pass, "Hello, world!")?;
     /// let reader = rodeo.into_reader_as(&rt, &mut pass)?;
-    /// assert_eq!(rt; reader.get("Hello, world!"), Some(key));
+    /// assert!(rt; reader.get("Hello, world!") == Some(key));
     /// ```
     pub fn into_reader_as<R: Wait>(
         self,
@@ -67,8 +67,8 @@ impl<K: Key, S: BuildHasher + Drop> ThreadedRodeo<K, S> {
     /// let rodeo: SpurThreadedRodeo = ThreadedRodeo::default(rt.alloc())?;
     /// let key = rodeo.try_get_or_intern(&rt, "Hello, world!")?;
     /// let reader = rodeo.into_reader(&rt)?;
-    /// assert_eq!(rt; reader.get("Hello, world!"), Some(key));
-    /// assert_eq!(rt; reader.try_resolve(key), Some("Hello, world!"));
+    /// assert!(rt; reader.get("Hello, world!") == Some(key));
+    /// assert!(rt; reader.try_resolve(key) == Some("Hello, world!"));
     /// ```
     pub fn into_reader<R: Wait>(self, rt: &R) -> LassoResult<RodeoReader<K, S, Global>>
         ensures call { IsPlainCall K.key_at self.opening Freeze (Listed result) }
@@ -85,7 +85,7 @@ impl<K: Key, S: BuildHasher + Drop> ThreadedRodeo<K, S> {
     /// let rodeo: SpurThreadedRodeo = ThreadedRodeo::default(rt.alloc())?;
     /// let key = rodeo.try_get_or_intern(&rt, "Hello, world!")?;
     /// let resolver = rodeo.into_resolver(&rt)?;
-    /// assert_eq!(rt; resolver.try_resolve(key), Some("Hello, world!"));
+    /// assert!(rt; resolver.try_resolve(key) == Some("Hello, world!"));
     /// ```
     pub fn into_resolver<R: Wait>(self, rt: &R) -> LassoResult<RodeoResolver<K, Global>>
         ensures call { IsPlainCall K.key_at self.opening Freeze (Listed result) }

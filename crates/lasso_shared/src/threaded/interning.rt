@@ -22,7 +22,7 @@ impl<K: Key, S: BuildHasher + Drop> ThreadedRodeo<K, S> {
     /// let rodeo: SpurThreadedRodeo = ThreadedRodeo::default(rt.alloc())?;
     /// let mut pass = rodeo.pass();
     /// let key = rodeo.try_get_or_intern_as(&rt, &mut pass, "Hello, world!")?;
-    /// assert_eq!(rt; rodeo.try_resolve_as(&mut pass, key), Some("Hello, world!"));
+    /// assert!(rt; rodeo.try_resolve_as(&mut pass, key) == Some("Hello, world!"));
     /// ```
     pub fn try_get_or_intern_as<R: Wait>(
         &self,

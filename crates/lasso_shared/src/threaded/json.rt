@@ -32,7 +32,7 @@ impl<K: Key, S: BuildHasher + Drop> ThreadedRodeo<K, S> {
     /// rodeo.try_get_or_intern_as(&rt, &mut pass, "b")?;
     /// rodeo.try_get_or_intern_as(&rt, &mut pass, "a")?;
     /// let written = rodeo.serialize_as(rt.alloc(), &mut pass)?.to_string(rt.alloc())?;
-    /// assert_eq!(rt; written.as_str(), r#"{"a":2,"b":1}"#);
+    /// assert!(rt; written.as_str() == r#"{"a":2,"b":1}"#);
     /// ```
     pub fn serialize_as(&self, alloc: Global, pass: &mut Pass<K>) -> Result<Value, JsonError>
         requires { pass.old.of ≡ self.now }
@@ -57,7 +57,7 @@ impl<K: Key, S: BuildHasher + Drop> ThreadedRodeo<K, S> {
     /// rodeo.get_or_intern(&rt, "b")?;
     /// rodeo.get_or_intern(&rt, "a")?;
     /// let written = rodeo.serialize(rt.alloc())?.to_string(rt.alloc())?;
-    /// assert_eq!(rt; written.as_str(), r#"{"a":2,"b":1}"#);
+    /// assert!(rt; written.as_str() == r#"{"a":2,"b":1}"#);
     /// ```
     pub fn serialize(&self, alloc: Global) -> Result<Value, JsonError>
         ensures call { (texts : List Text) × IsPlainCall K.key_at self.now.opening Serialize (Listed (written_of texts result))
@@ -83,7 +83,7 @@ impl<K: Key, S: BuildHasher + Default + Drop> ThreadedRodeo<K, S> {
     /// let value = Value::from_str(rt.alloc(), r#"{"a":2,"b":1}"#)?;
     /// let rodeo = SpurThreadedRodeo::deserialize(rt.alloc(), &value)?;
     /// let second = rodeo.get(&rt, "a").ok_or("not there")?;
-    /// assert_eq!(rt; second.into_usize(), 1);
+    /// assert!(rt; second.into_usize() == 1);
     /// ```
     pub fn deserialize(alloc: Global, value: &Value) -> Result<Self, JsonError>
         ensures read { ReadsShared K.key_at (view value.now) (shown (λ t. t.opening.texts) result) }

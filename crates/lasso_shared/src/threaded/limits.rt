@@ -48,8 +48,8 @@ impl<K: Key, S: BuildHasher + Drop> ThreadedRodeo<K, S> {
     /// let rodeo: SpurThreadedRodeo = ThreadedRodeo::default(rt.alloc())?;
     /// let mut pass = rodeo.pass();
     /// rodeo.set_memory_limits_as(&rt, &mut pass, MemoryLimits::new(10));
-    /// assert_eq!(rt; rodeo.max_memory_usage_as(&rt, &mut pass), 10);
-    /// assert_eq!(rt; rodeo.current_memory_usage_as(&rt, &mut pass), 4096);
+    /// assert!(rt; rodeo.max_memory_usage_as(&rt, &mut pass) == 10);
+    /// assert!(rt; rodeo.current_memory_usage_as(&rt, &mut pass) == 4096);
     /// ```
     pub fn set_memory_limits_as<R: Wait>(&self, rt: &R, pass: &mut Pass<K>, limits: MemoryLimits)
         requires { pass.old.of ≡ self.now }

@@ -25,6 +25,12 @@ impl ThreadedRodeo<Spur, FixedState> {
 
 impl<K: Key> ThreadedRodeo<K, FixedState> {
     /// An interner of default capacity and limit. It is refused for want of memory alone.
+    ///
+    /// ```rust
+    /// let rodeo: ThreadedRodeo<MicroSpur, FixedState> = ThreadedRodeo::new(rt.alloc())?;
+    /// let key = rodeo.try_get_or_intern(&rt, "Hello, world!")?;
+    /// assert!(rt; key.into_usize() == 0);
+    /// ```
     pub fn new(alloc: Global) -> LassoResult<Self>
         ensures opening { IfOk result (λ t. t.opening ≡ opened [] 4096 0 (2 ^ 64 - 1)) }
         ensures refused { IfErr result (λ error. error ≡ FailedAllocation) }
@@ -34,6 +40,13 @@ impl<K: Key> ThreadedRodeo<K, FixedState> {
 
     /// An interner of default limit, whose first bucket has the bytes of `capacity`. Its texts are a hint: the log has cells for
     /// them, and the shards' indexes grow. It is refused for want of memory alone.
+    ///
+    /// ```rust
+    /// let capacity = Capacity::new(1000, 65536);
+    /// let rodeo: SpurThreadedRodeo = ThreadedRodeo::with_capacity(rt.alloc(), capacity)?;
+    /// assert!(rt; rodeo.current_memory_usage(&rt) == 65536);
+    /// assert!(rt; rodeo.capacity() >= 1000);
+    /// ```
     pub fn with_capacity(alloc: Global, capacity: Capacity) -> LassoResult<Self>
         ensures opening { IfOk result (λ t. t.opening ≡ opened [] capacity.bytes 0 (2 ^ 64 - 1)) }
         ensures refused { IfErr result (λ error. error ≡ FailedAllocation) }
@@ -43,6 +56,13 @@ impl<K: Key> ThreadedRodeo<K, FixedState> {
 
     /// An interner of default capacity, whose buckets take at most `limits` in bytes. The limit may lie below the 4096 bytes of the
     /// first bucket. It is refused for want of memory alone.
+    ///
+    /// ```rust
+    /// let limits = MemoryLimits::new(10000);
+    /// let rodeo: SpurThreadedRodeo = ThreadedRodeo::with_memory_limits(rt.alloc(), limits)?;
+    /// assert!(rt; rodeo.max_memory_usage(&rt) == 10000);
+    /// assert!(rt; rodeo.current_memory_usage(&rt) == 4096);
+    /// ```
     pub fn with_memory_limits(alloc: Global, limits: MemoryLimits) -> LassoResult<Self>
         ensures opening { IfOk result (λ t. t.opening ≡ opened [] 4096 0 limits) }
         ensures refused { IfErr result (λ error. error ≡ FailedAllocation) }
@@ -59,8 +79,8 @@ impl<K: Key> ThreadedRodeo<K, FixedState> {
     /// let limits = MemoryLimits::new(10000);
     /// let made = ThreadedRodeo::with_capacity_and_memory_limits(rt.alloc(), capacity, limits);
     /// let rodeo: SpurThreadedRodeo = made?;
-    /// assert_eq!(rt; rodeo.current_memory_usage(&rt), 100);
-    /// assert_eq!(rt; rodeo.max_memory_usage(&rt), 10000);
+    /// assert!(rt; rodeo.current_memory_usage(&rt) == 100);
+    /// assert!(rt; rodeo.max_memory_usage(&rt) == 10000);
     /// ```
     pub fn with_capacity_and_memory_limits(
         alloc: Global,
@@ -82,7 +102,7 @@ impl<K: Key, S: BuildHasher + Drop> ThreadedRodeo<K, S> {
     /// let hasher = FixedState::new();
     /// let rodeo: SpurThreadedRodeo = ThreadedRodeo::with_hasher(rt.alloc(), hasher)?;
     /// let mut pass = rodeo.pass();
-    /// assert_eq!(rt; rodeo.try_resolve_as(&mut pass, Spur::default()), None);
+    /// assert!(rt; rodeo.try_resolve_as(&mut pass, Spur::default()) == None);
     /// ```
     pub fn with_hasher(alloc: Global, hasher: S) -> LassoResult<Self>
         ensures opening { IfOk result (λ t. t.opening ≡ opened [] 4096 0 (2 ^ 64 - 1)) }
@@ -93,6 +113,14 @@ impl<K: Key, S: BuildHasher + Drop> ThreadedRodeo<K, S> {
 
     /// An interner of default limit, whose indexes ask the hasher, and whose first bucket has the bytes of `capacity`. The texts of
     /// `capacity` are a hint, as `with_capacity` has it. It is refused for want of memory alone.
+    ///
+    /// ```rust
+    /// let capacity = Capacity::for_bytes(7);
+    /// let hasher = FixedState::new();
+    /// let made = ThreadedRodeo::with_capacity_and_hasher(rt.alloc(), capacity, hasher);
+    /// let rodeo: SpurThreadedRodeo = made?;
+    /// assert!(rt; rodeo.current_memory_usage(&rt) == 7);
+    /// ```
     pub fn with_capacity_and_hasher(
         alloc: Global,
         capacity: Capacity,
@@ -108,6 +136,17 @@ impl<K: Key, S: BuildHasher + Drop> ThreadedRodeo<K, S> {
     /// An interner whose first bucket has the bytes of `capacity`, whose buckets take at most `limits` in bytes, and whose indexes
     /// ask the hasher. The limit may lie below the first bucket's bytes. The texts of `capacity` are a hint, as `with_capacity` has
     /// it. It is refused for want of memory alone.
+    ///
+    /// ```rust
+    /// let rodeo: SpurThreadedRodeo = ThreadedRodeo::with_capacity_memory_limits_and_hasher(
+    ///     rt.alloc(),
+    ///     Capacity::for_bytes(10),
+    ///     MemoryLimits::new(15),
+    ///     FixedState::new(),
+    /// )?;
+    /// assert!(rt; rodeo.current_memory_usage(&rt) == 10);
+    /// assert!(rt; rodeo.max_memory_usage(&rt) == 15);
+    /// ```
     pub fn with_capacity_memory_limits_and_hasher(
         alloc: Global,
         capacity: Capacity,

@@ -22,7 +22,7 @@ impl<K: Key, S: BuildHasher + Drop> ThreadedRodeo<K, S> {
     /// ```rust
     /// let rodeo: SpurThreadedRodeo = ThreadedRodeo::default(rt.alloc())?;
     /// let key = rodeo.try_get_or_intern(&rt, "Hello, world!")?;
-    /// assert_eq!(rt; rodeo.try_get_or_intern_static(&rt, "Hello, world!")?, key);
+    /// assert!(rt; rodeo.try_get_or_intern_static(&rt, "Hello, world!")? == key);
     /// ```
     pub fn try_get_or_intern<R: Wait>(&self, rt: &R, text: &str) -> LassoResult<K>
         ensures call { IsPlainCall K.key_at self.now.opening (Intern Copied text.now) (Interned result) }
@@ -33,6 +33,12 @@ impl<K: Key, S: BuildHasher + Drop> ThreadedRodeo<K, S> {
     }
 
     /// The same call as `try_get_or_intern`.
+    ///
+    /// ```rust
+    /// let rodeo: SpurThreadedRodeo = ThreadedRodeo::default(rt.alloc())?;
+    /// let key = rodeo.get_or_intern(&rt, "Hello, world!")?;
+    /// assert!(rt; rodeo.try_get_or_intern(&rt, "Hello, world!")? == key);
+    /// ```
     pub fn get_or_intern<R: Wait>(&self, rt: &R, text: &str) -> LassoResult<K>
         ensures call { IsPlainCall K.key_at self.now.opening (Intern Copied text.now) (Interned result) }
         ensures opening { IsOpening K.key_at self.now.opening }
@@ -43,6 +49,16 @@ impl<K: Key, S: BuildHasher + Drop> ThreadedRodeo<K, S> {
     /// The key of the text, which goes last in the list if it is not there. The text is kept as it is, with no copy, so
     /// the memory limit never refuses it. A new one may be refused for want of memory, else where the key type has no key
     /// for its position; no event is added then. It waits for those who write in the text's shard, and for the spine.
+    ///
+    /// ```rust
+    /// let capacity = Capacity::for_bytes(4);
+    /// let limits = MemoryLimits::new(4);
+    /// let made = ThreadedRodeo::with_capacity_and_memory_limits(rt.alloc(), capacity, limits);
+    /// let rodeo: SpurThreadedRodeo = made?;
+    /// let lasting = rodeo.try_get_or_intern_static(&rt, "a static text")?;
+    /// assert!(rt; rodeo.try_resolve(lasting) == Some("a static text"));
+    /// assert!(rt; rodeo.current_memory_usage(&rt) == 4);
+    /// ```
     pub fn try_get_or_intern_static<R: Wait>(&self, rt: &R, text: &'static str) -> LassoResult<K>
         ensures call { IsPlainCall K.key_at self.now.opening (Intern Static text.now) (Interned result) }
         ensures opening { IsOpening K.key_at self.now.opening }
@@ -52,6 +68,12 @@ impl<K: Key, S: BuildHasher + Drop> ThreadedRodeo<K, S> {
     }
 
     /// The same call as `try_get_or_intern_static`.
+    ///
+    /// ```rust
+    /// let rodeo: SpurThreadedRodeo = ThreadedRodeo::default(rt.alloc())?;
+    /// let key = rodeo.get_or_intern_static(&rt, "Hello, world!")?;
+    /// assert!(rt; rodeo.get_or_intern(&rt, "Hello, world!")? == key);
+    /// ```
     pub fn get_or_intern_static<R: Wait>(&self, rt: &R, text: &'static str) -> LassoResult<K>
         ensures call { IsPlainCall K.key_at self.now.opening (Intern Static text.now) (Interned result) }
         ensures opening { IsOpening K.key_at self.now.opening }
@@ -65,10 +87,10 @@ impl<K: Key, S: BuildHasher + Drop> ThreadedRodeo<K, S> {
     /// ```rust
     /// let rodeo: SpurThreadedRodeo = ThreadedRodeo::default(rt.alloc())?;
     /// let key = rodeo.get_or_intern(&rt, "Hello, world!")?;
-    /// assert_eq!(rt; rodeo.get(&rt, "Hello, world!"), Some(key));
+    /// assert!(rt; rodeo.get(&rt, "Hello, world!") == Some(key));
     /// assert!(rt; rodeo.contains(&rt, "Hello, world!") && rodeo.contains_key(key));
-    /// assert_eq!(rt; rodeo.resolve(key), Some("Hello, world!"));
-    /// assert_eq!(rt; rodeo.len(), 1);
+    /// assert!(rt; rodeo.resolve(key) == Some("Hello, world!"));
+    /// assert!(rt; rodeo.len() == 1);
     /// ```
     pub fn get<R: Wait>(&self, rt: &R, text: &str) -> Option<K>
         ensures call { IsPlainCall K.key_at self.now.opening (Get text.now) (Found result) }
@@ -79,6 +101,13 @@ impl<K: Key, S: BuildHasher + Drop> ThreadedRodeo<K, S> {
     }
 
     /// Whether the text is in the list. It takes no memory, and waits as `get` does.
+    ///
+    /// ```rust
+    /// let rodeo: SpurThreadedRodeo = ThreadedRodeo::default(rt.alloc())?;
+    /// rodeo.try_get_or_intern(&rt, "green")?;
+    /// assert!(rt; rodeo.contains(&rt, "green"));
+    /// assert!(rt; !rodeo.contains(&rt, "blue"));
+    /// ```
     pub fn contains<R: Wait>(&self, rt: &R, text: &str) -> bool
         ensures call { IsPlainCall K.key_at self.now.opening (Contains text.now) (Flag result) }
         ensures opening { IsOpening K.key_at self.now.opening }
@@ -87,6 +116,14 @@ impl<K: Key, S: BuildHasher + Drop> ThreadedRodeo<K, S> {
     }
 
     /// Whether the key stands for a text. It takes no memory and does not wait.
+    ///
+    /// ```rust
+    /// let rodeo: SpurThreadedRodeo = ThreadedRodeo::default(rt.alloc())?;
+    /// let key = rodeo.try_get_or_intern(&rt, "Hello, world!")?;
+    /// assert!(rt; rodeo.contains_key(key));
+    /// let next = Spur::try_from_usize(1).ok_or("no key")?;
+    /// assert!(rt; !rodeo.contains_key(next));
+    /// ```
     pub fn contains_key(&self, key: K) -> bool
         ensures call { IsPlainCall K.key_at self.now.opening (ContainsKey (K.number key)) (Flag result) }
         ensures opening { IsOpening K.key_at self.now.opening }
@@ -97,6 +134,14 @@ impl<K: Key, S: BuildHasher + Drop> ThreadedRodeo<K, S> {
 
     /// The key's text, or `None` where the key stands for no text yet. It is lent as long as the interner. It takes no
     /// memory and does not wait.
+    ///
+    /// ```rust
+    /// let rodeo: SpurThreadedRodeo = ThreadedRodeo::default(rt.alloc())?;
+    /// let key = rodeo.try_get_or_intern(&rt, "Hello, world!")?;
+    /// assert!(rt; rodeo.try_resolve(key) == Some("Hello, world!"));
+    /// let next = Spur::try_from_usize(1).ok_or("no key")?;
+    /// assert!(rt; rodeo.try_resolve(next) == None);
+    /// ```
     pub fn try_resolve(&self, key: K) -> Option<&str>
         ensures call { IsPlainCall K.key_at self.now.opening (Resolve (K.number key)) (Resolved (option_map (λ t. t.now) result)) }
         ensures opening { IsOpening K.key_at self.now.opening }
@@ -106,6 +151,12 @@ impl<K: Key, S: BuildHasher + Drop> ThreadedRodeo<K, S> {
     }
 
     /// The same call as `try_resolve`.
+    ///
+    /// ```rust
+    /// let rodeo: SpurThreadedRodeo = ThreadedRodeo::default(rt.alloc())?;
+    /// let key = rodeo.try_get_or_intern(&rt, "Hello, world!")?;
+    /// assert!(rt; rodeo.resolve(key) == rodeo.try_resolve(key));
+    /// ```
     pub fn resolve(&self, key: K) -> Option<&str>
         ensures call { IsPlainCall K.key_at self.now.opening (Resolve (K.number key)) (Resolved (option_map (λ t. t.now) result)) }
         ensures opening { IsOpening K.key_at self.now.opening }
@@ -114,6 +165,14 @@ impl<K: Key, S: BuildHasher + Drop> ThreadedRodeo<K, S> {
     }
 
     /// How many texts there are. It takes no memory and does not wait.
+    ///
+    /// ```rust
+    /// let rodeo: SpurThreadedRodeo = ThreadedRodeo::default(rt.alloc())?;
+    /// for text in ["red", "green", "red"] {
+    ///     rodeo.try_get_or_intern(&rt, text)?;
+    /// }
+    /// assert!(rt; rodeo.len() == 2);
+    /// ```
     pub fn len(&self) -> usize
         ensures call { IsPlainCall K.key_at self.now.opening Len (Number result) }
         ensures opening { IsOpening K.key_at self.now.opening }
@@ -123,6 +182,13 @@ impl<K: Key, S: BuildHasher + Drop> ThreadedRodeo<K, S> {
     }
 
     /// Whether there is no text. It takes no memory and does not wait.
+    ///
+    /// ```rust
+    /// let rodeo: SpurThreadedRodeo = ThreadedRodeo::default(rt.alloc())?;
+    /// assert!(rt; rodeo.is_empty());
+    /// rodeo.try_get_or_intern(&rt, "")?;
+    /// assert!(rt; !rodeo.is_empty());
+    /// ```
     pub fn is_empty(&self) -> bool
         ensures call { IsPlainCall K.key_at self.now.opening IsEmpty (Flag result) }
         ensures opening { IsOpening K.key_at self.now.opening }
@@ -132,6 +198,11 @@ impl<K: Key, S: BuildHasher + Drop> ThreadedRodeo<K, S> {
 
     /// For how many texts the log has cells: at least as many as there are. Other memory may be wanting for them yet. It takes no
     /// memory and does not wait.
+    ///
+    /// ```rust
+    /// let rodeo: SpurThreadedRodeo = ThreadedRodeo::default(rt.alloc())?;
+    /// assert!(rt; rodeo.capacity() >= 50);
+    /// ```
     pub fn capacity(&self) -> usize
         ensures enough { (n : ℕ) × IsPlainCall K.key_at self.now.opening Len (Number n) × (n ≤ result) }
         ensures opening { IsOpening K.key_at self.now.opening }
@@ -149,9 +220,9 @@ impl<K: Key, S: BuildHasher + Drop> ThreadedRodeo<K, S> {
     /// let red = rodeo.try_get_or_intern(&rt, "red")?;
     /// let mut walk = rodeo.iter();
     /// rodeo.try_get_or_intern(&rt, "green")?;
-    /// assert_eq!(rt; walk.len(), 1);
-    /// assert_eq!(rt; walk.next(), Some((red, "red")));
-    /// assert_eq!(rt; walk.next(), None);
+    /// assert!(rt; walk.len() == 1);
+    /// assert!(rt; walk.next() == Some((red, "red")));
+    /// assert!(rt; walk.next() == None);
     /// ```
     pub fn iter(&self) -> Iter<'_, K>
         ensures call { IsPlainCall K.key_at self.now.opening replies.Iterate (replies.Pairs result) }
@@ -162,6 +233,16 @@ impl<K: Key, S: BuildHasher + Drop> ThreadedRodeo<K, S> {
     }
 
     /// A walk over the texts, in the order of their keys: over those that there are at one step. It takes no memory and does not wait.
+    ///
+    /// ```rust
+    /// let rodeo: SpurThreadedRodeo = ThreadedRodeo::default(rt.alloc())?;
+    /// rodeo.try_get_or_intern(&rt, "red")?;
+    /// rodeo.try_get_or_intern(&rt, "green")?;
+    /// let mut strings = rodeo.strings();
+    /// assert!(rt; strings.next() == Some("red"));
+    /// assert!(rt; strings.next() == Some("green"));
+    /// assert!(rt; strings.next() == None);
+    /// ```
     pub fn strings(&self) -> Strings<'_, K>
         ensures call { IsPlainCall K.key_at self.now.opening replies.Strings (replies.Listed (Ok result)) }
         ensures opening { IsOpening K.key_at self.now.opening }
@@ -171,6 +252,12 @@ impl<K: Key, S: BuildHasher + Drop> ThreadedRodeo<K, S> {
     }
 
     /// The bytes that all buckets take, also those that no text has taken. It takes no memory. It waits for the spine.
+    ///
+    /// ```rust
+    /// let rodeo: SpurThreadedRodeo = ThreadedRodeo::default(rt.alloc())?;
+    /// rodeo.try_get_or_intern(&rt, "Hello, world!")?;
+    /// assert!(rt; rodeo.current_memory_usage(&rt) == 4096);
+    /// ```
     pub fn current_memory_usage<R: Wait>(&self, rt: &R) -> usize
         ensures call { IsPlainCall K.key_at self.now.opening Usage (Number result) }
         ensures opening { IsOpening K.key_at self.now.opening }
@@ -181,6 +268,11 @@ impl<K: Key, S: BuildHasher + Drop> ThreadedRodeo<K, S> {
 
     /// The most bytes that all buckets may take: what the interner was made with, or what was set last. It takes no memory. It
     /// waits for the spine.
+    ///
+    /// ```rust
+    /// let rodeo: SpurThreadedRodeo = ThreadedRodeo::default(rt.alloc())?;
+    /// assert!(rt; rodeo.max_memory_usage(&rt) == usize::MAX);
+    /// ```
     pub fn max_memory_usage<R: Wait>(&self, rt: &R) -> usize
         ensures call { IsPlainCall K.key_at self.now.opening MaxUsage (Number result) }
         ensures opening { IsOpening K.key_at self.now.opening }
@@ -192,6 +284,14 @@ impl<K: Key, S: BuildHasher + Drop> ThreadedRodeo<K, S> {
     /// Sets the most bytes that all buckets may take. It may lie below what they take already: they stay, and copied texts that
     /// need another bucket are then refused. The texts stay. It takes no memory and is never refused. It waits for the spine, and
     /// does not return where limits and buckets came 2^64 - 1 times before.
+    ///
+    /// ```rust
+    /// let rodeo: SpurThreadedRodeo = ThreadedRodeo::default(rt.alloc())?;
+    /// rodeo.set_memory_limits(&rt, MemoryLimits::new(0));
+    /// rodeo.try_get_or_intern(&rt, "Hello, world!")?;
+    /// assert!(rt; rodeo.max_memory_usage(&rt) == 0);
+    /// assert!(rt; rodeo.current_memory_usage(&rt) == 4096);
+    /// ```
     pub fn set_memory_limits<R: Wait>(&self, rt: &R, limits: MemoryLimits)
         ensures call { IsPlainCall K.key_at self.now.opening (SetLimit limits) Done }
         ensures opening { IsOpening K.key_at self.now.opening }

@@ -41,7 +41,7 @@ impl<K: Key, S: BuildHasher, A: Allocator> Rodeo<K, S, A> {
     /// let last = rodeo.try_get_or_intern("last")?;
     /// rodeo.clear();
     /// assert!(rt; rodeo.is_empty());
-    /// assert_eq!(rt; rodeo.try_resolve(last), None);
+    /// assert!(rt; rodeo.try_resolve(last) == None);
     /// ```
     pub fn clear(&mut self)
         ensures texts { self.new.texts ≡ [] }

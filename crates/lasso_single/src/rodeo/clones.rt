@@ -24,8 +24,8 @@ impl<K: Key, S: BuildHasher + Clone, A: Allocator + Clone> Rodeo<K, S, A> {
     /// let hello = rodeo.try_get_or_intern("Hello, world!")?;
     /// let copy = rodeo.try_clone()?;
     /// assert!(rt; copy == rodeo);
-    /// assert_eq!(rt; copy.try_resolve(hello), Some("Hello, world!"));
-    /// assert_eq!(rt; copy.current_memory_usage(), 13);
+    /// assert!(rt; copy.try_resolve(hello) == Some("Hello, world!"));
+    /// assert!(rt; copy.current_memory_usage() == 13);
     /// ```
     pub fn try_clone(&self) -> LassoResult<Self>
         ensures texts { IfOk result (λ r. r.texts ≡ self.now.texts) }
@@ -58,7 +58,7 @@ impl<K: Key, S: BuildHasher + Clone, A: Allocator + Clone> Rodeo<K, S, A> {
     /// let mut other = rodeo.clone()?;
     /// other.try_get_or_intern("Goodbye!")?;
     /// assert!(rt; other != rodeo);
-    /// assert_eq!(rt; other.try_resolve(hello), Some("Hello, world!"));
+    /// assert!(rt; other.try_resolve(hello) == Some("Hello, world!"));
     /// ```
     pub fn clone(&self) -> LassoResult<Self>
         ensures texts { IfOk result (λ r. r.texts ≡ self.now.texts) }

@@ -20,7 +20,7 @@ impl<K: Key, S: BuildHasher, A: Allocator + Clone> Rodeo<K, S, A> {
     /// ```rust
     /// let mut rodeo = Rodeo::default(rt.alloc())?;
     /// rodeo.extend(["red", "green", "red"])?;
-    /// assert_eq!(rt; rodeo.len(), 2);
+    /// assert!(rt; rodeo.len() == 2);
     /// assert!(rt; rodeo.contains("green"));
     /// assert!(rt; !rodeo.contains("blue"));
     /// ```
@@ -50,7 +50,7 @@ impl<K: Key, S: BuildHasher + Default + Drop, A: Allocator + Clone> Rodeo<K, S, 
     /// ```rust
     /// let colours = ["red", "green", "red", "blue"];
     /// let rodeo: SpurRodeo = Rodeo::from_iter(rt.alloc(), colours)?;
-    /// assert_eq!(rt; rodeo.len(), 3);
+    /// assert!(rt; rodeo.len() == 3);
     /// assert!(rt; rodeo.contains("blue"));
     /// ```
     pub fn from_iter<T: AsStr + Drop, I: IntoIterator<Item = T> + Drop>(

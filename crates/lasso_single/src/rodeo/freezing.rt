@@ -16,8 +16,8 @@ impl<K: Key, S: BuildHasher, A: Allocator> Rodeo<K, S, A> {
     /// let mut rodeo = Rodeo::default(rt.alloc())?;
     /// let hello = rodeo.try_get_or_intern("Hello, world!")?;
     /// let reader = rodeo.into_reader();
-    /// assert_eq!(rt; reader.get("Hello, world!"), Some(hello));
-    /// assert_eq!(rt; reader.try_resolve(hello), Some("Hello, world!"));
+    /// assert!(rt; reader.get("Hello, world!") == Some(hello));
+    /// assert!(rt; reader.try_resolve(hello) == Some("Hello, world!"));
     /// ```
     pub fn into_reader(self) -> RodeoReader<K, S, A>
         ensures { result ≡ self.texts }
@@ -32,8 +32,8 @@ impl<K: Key, S: BuildHasher, A: Allocator> Rodeo<K, S, A> {
     /// let mut rodeo = Rodeo::default(rt.alloc())?;
     /// let hello = rodeo.try_get_or_intern("Hello, world!")?;
     /// let resolver = rodeo.into_resolver();
-    /// assert_eq!(rt; resolver.try_resolve(hello), Some("Hello, world!"));
-    /// assert_eq!(rt; resolver.len(), 1);
+    /// assert!(rt; resolver.try_resolve(hello) == Some("Hello, world!"));
+    /// assert!(rt; resolver.len() == 1);
     /// ```
     pub fn into_resolver(self) -> RodeoResolver<K, A>
     where

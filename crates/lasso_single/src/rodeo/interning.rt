@@ -16,7 +16,7 @@ impl<K: Key, S: BuildHasher, A: Allocator + Clone> Rodeo<K, S, A> {
     /// ```rust
     /// let mut rodeo = Rodeo::default(rt.alloc())?;
     /// let hello = rodeo.try_get_or_intern("Hello, world!")?;
-    /// assert_eq!(rt; hello.into_usize(), 0);
+    /// assert!(rt; hello.into_usize() == 0);
     /// let again = rodeo.try_get_or_intern("Hello, world!")?;
     /// assert!(rt; again == hello);
     /// ```
@@ -68,8 +68,8 @@ impl<K: Key, S: BuildHasher, A: Allocator + Clone> Rodeo<K, S, A> {
     /// let mut rodeo: SpurRodeo = Rodeo::with_capacity(rt.alloc(), Capacity::for_bytes(4))?;
     /// rodeo.set_memory_limits(MemoryLimits::new(0));
     /// let lasting = rodeo.try_get_or_intern_static("a static text")?;
-    /// assert_eq!(rt; rodeo.try_resolve(lasting), Some("a static text"));
-    /// assert_eq!(rt; rodeo.current_memory_usage(), 4);
+    /// assert!(rt; rodeo.try_resolve(lasting) == Some("a static text"));
+    /// assert!(rt; rodeo.current_memory_usage() == 4);
     /// ```
     pub fn try_get_or_intern_static(&mut self, text: &'static str) -> LassoResult<K>
         ensures { InternsStaticIn K.key_at self.old text.now result self.new }

@@ -22,7 +22,7 @@ impl<K: Key, S: BuildHasher, A: Allocator> Rodeo<K, S, A> {
     /// ```rust
     /// let rodeo = SpurRodeo::from_iter(rt.alloc(), ["b", "a"])?;
     /// let written = rodeo.serialize(rt.alloc())?.to_string(rt.alloc())?;
-    /// assert_eq!(rt; written.as_str(), r#"["b","a"]"#);
+    /// assert!(rt; written.as_str() == r#"["b","a"]"#);
     /// ```
     pub fn serialize(&self, alloc: Global) -> Result<Value, JsonError>
         ensures written { IfOk result (λ value. view value ≡ json_array self.now.texts) }
@@ -44,7 +44,7 @@ impl<K: Key, S: BuildHasher + Default + Drop, A: Allocator + Clone> Rodeo<K, S, 
     /// let value = Value::from_str(rt.alloc(), r#"["b", "a"]"#)?;
     /// let rodeo = SpurRodeo::deserialize(rt.alloc(), &value)?;
     /// let first = rodeo.get("b").ok_or("not there")?;
-    /// assert_eq!(rt; first.into_usize(), 0);
+    /// assert!(rt; first.into_usize() == 0);
     /// ```
     pub fn deserialize(alloc: A, value: &Value) -> Result<Self, JsonError>
         ensures read { ReadsInto K.key_at true (view value.now) (shown (λ r. r.texts) result) }

@@ -19,7 +19,7 @@ impl<A: Allocator + Clone> Rodeo<Spur, FixedState, A> {
     /// ```rust
     /// let rodeo = Rodeo::default(rt.alloc())?;
     /// assert!(rt; rodeo.is_empty());
-    /// assert_eq!(rt; rodeo.current_memory_usage(), 4096);
+    /// assert!(rt; rodeo.current_memory_usage() == 4096);
     /// ```
     pub fn default(alloc: A) -> LassoResult<Self>
         ensures texts { IfOk result (λ r. r.texts ≡ []) }
@@ -37,7 +37,7 @@ impl<K: Key, A: Allocator + Clone> Rodeo<K, FixedState, A> {
     /// ```rust
     /// let mut rodeo: Rodeo<MicroSpur, _, _> = Rodeo::new(rt.alloc())?;
     /// let first = rodeo.try_get_or_intern("Hello, world!")?;
-    /// assert_eq!(rt; first.into_usize(), 0);
+    /// assert!(rt; first.into_usize() == 0);
     /// ```
     pub fn new(alloc: A) -> LassoResult<Self>
         ensures texts { IfOk result (λ r. r.texts ≡ []) }
@@ -53,7 +53,7 @@ impl<K: Key, A: Allocator + Clone> Rodeo<K, FixedState, A> {
     /// ```rust
     /// let capacity = Capacity::new(1000, 65536);
     /// let rodeo: SpurRodeo = Rodeo::with_capacity(rt.alloc(), capacity)?;
-    /// assert_eq!(rt; rodeo.current_memory_usage(), 65536);
+    /// assert!(rt; rodeo.current_memory_usage() == 65536);
     /// ```
     pub fn with_capacity(alloc: A, capacity: Capacity) -> LassoResult<Self>
         ensures texts { IfOk result (λ r. r.texts ≡ []) }
@@ -70,8 +70,8 @@ impl<K: Key, A: Allocator + Clone> Rodeo<K, FixedState, A> {
     /// ```rust
     /// let limits = MemoryLimits::new(10000);
     /// let rodeo: SpurRodeo = Rodeo::with_memory_limits(rt.alloc(), limits)?;
-    /// assert_eq!(rt; rodeo.max_memory_usage(), 10000);
-    /// assert_eq!(rt; rodeo.current_memory_usage(), 4096);
+    /// assert!(rt; rodeo.max_memory_usage() == 10000);
+    /// assert!(rt; rodeo.current_memory_usage() == 4096);
     /// ```
     pub fn with_memory_limits(alloc: A, limits: MemoryLimits) -> LassoResult<Self>
         ensures texts { IfOk result (λ r. r.texts ≡ []) }
@@ -115,7 +115,7 @@ impl<K: Key, S: BuildHasher + Drop, A: Allocator + Clone> Rodeo<K, S, A> {
     /// ```rust
     /// let rodeo: SpurRodeo = Rodeo::with_hasher(rt.alloc(), FixedState::new())?;
     /// assert!(rt; rodeo.is_empty());
-    /// assert_eq!(rt; rodeo.current_memory_usage(), 4096);
+    /// assert!(rt; rodeo.current_memory_usage() == 4096);
     /// ```
     pub fn with_hasher(alloc: A, hasher: S) -> LassoResult<Self>
         ensures texts { IfOk result (λ r. r.texts ≡ []) }
@@ -133,7 +133,7 @@ impl<K: Key, S: BuildHasher + Drop, A: Allocator + Clone> Rodeo<K, S, A> {
     /// let capacity = Capacity::for_bytes(7);
     /// let hasher = FixedState::new();
     /// let rodeo = SpurRodeo::with_capacity_and_hasher(rt.alloc(), capacity, hasher)?;
-    /// assert_eq!(rt; rodeo.current_memory_usage(), 7);
+    /// assert!(rt; rodeo.current_memory_usage() == 7);
     /// ```
     pub fn with_capacity_and_hasher(alloc: A, capacity: Capacity, hasher: S) -> LassoResult<Self>
         ensures texts { IfOk result (λ r. r.texts ≡ []) }
@@ -154,8 +154,8 @@ impl<K: Key, S: BuildHasher + Drop, A: Allocator + Clone> Rodeo<K, S, A> {
     /// let (room, limits) = (Capacity::for_bytes(10), MemoryLimits::new(15));
     /// let hasher = FixedState::new();
     /// let rodeo = SpurRodeo::with_capacity_memory_limits_and_hasher(alloc, room, limits, hasher)?;
-    /// assert_eq!(rt; rodeo.current_memory_usage(), 10);
-    /// assert_eq!(rt; rodeo.max_memory_usage(), 15);
+    /// assert!(rt; rodeo.current_memory_usage() == 10);
+    /// assert!(rt; rodeo.max_memory_usage() == 15);
     /// ```
     pub fn with_capacity_memory_limits_and_hasher(
         alloc: A,

@@ -19,8 +19,8 @@ impl<K: Key, S: BuildHasher, A: Allocator> Rodeo<K, S, A> {
     /// let rodeo: SpurRodeo = Rodeo::from_iter(rt.alloc(), ["red", "green", "blue"])?;
     /// let red = rodeo.get("red").ok_or("not there")?;
     /// let mut walk = rodeo.iter();
-    /// assert_eq!(rt; walk.next(), Some((red, "red")));
-    /// assert_eq!(rt; walk.len(), 2);
+    /// assert!(rt; walk.next() == Some((red, "red")));
+    /// assert!(rt; walk.len() == 2);
     /// ```
     pub fn iter(&self) -> Iter<'_, K>
         ensures { result ≡ enumerate_from 0 self.now.texts }
@@ -33,9 +33,9 @@ impl<K: Key, S: BuildHasher, A: Allocator> Rodeo<K, S, A> {
     /// ```rust
     /// let rodeo: SpurRodeo = Rodeo::from_iter(rt.alloc(), ["red", "green", "blue"])?;
     /// let mut strings = rodeo.strings();
-    /// assert_eq!(rt; strings.next_back(), Some("blue"));
-    /// assert_eq!(rt; strings.next(), Some("red"));
-    /// assert_eq!(rt; strings.len(), 1);
+    /// assert!(rt; strings.next_back() == Some("blue"));
+    /// assert!(rt; strings.next() == Some("red"));
+    /// assert!(rt; strings.len() == 1);
     /// ```
     pub fn strings(&self) -> Strings<'_, K>
         ensures { result ≡ self.now.texts }

@@ -8,10 +8,10 @@ use Rattle.std.specs.Str.{bytes_eq}
 use Rattle.lasso_log.specs.Buckets.{CountedBucket}
 use Rattle.lasso_shared.specs.Machine.{Step}
 use Rattle.lasso_shared.specs.Runs.{IsStart, IsRun, IsFilled, run}
-use Rattle.lasso_shared.specs.Example.{three_keys, shard_of, empty, two_calls, one_refused, keys_used_up, readings, steps}
+use Rattle.lasso_shared.specs.Example.{three_keys, first_byte_shard, empty, two_calls, one_refused, keys_used_up, readings, steps}
 use Rattle.lasso_shared.proofs.machine.some_run.Goals as goal
 
-starts : IsStart three_keys shard_of empty
+starts : IsStart three_keys first_byte_shard empty
 starts = record {
   opening = record {
     distinct = IsDistinct-from_apart bytes_eq [] (λ i j d below inside. absurd (omega arith));
@@ -31,7 +31,7 @@ none_left : (n : ℕ) → All (λ (b : CountedBucket). b.size < b.used + n) []
 none_left n = All-nil (λ (b : CountedBucket). b.size < b.used + n)
 
 -- each part of the run, before steps that may be taken after it
-two_calls_run : (more : List Step) → IsRun three_keys shard_of (run shard_of empty (two_calls [])) more → IsRun three_keys shard_of empty (two_calls more)
+two_calls_run : (more : List Step) → IsRun three_keys first_byte_shard (run first_byte_shard empty (two_calls [])) more → IsRun three_keys first_byte_shard empty (two_calls more)
 two_calls_run more rest = (
   (refl, λ c h x. none-some c h),
   (
@@ -58,7 +58,7 @@ two_calls_run more rest = (
   ),
 )
 
-one_refused_run : (more : List Step) → IsRun three_keys shard_of (run shard_of empty (two_calls (one_refused []))) more → IsRun three_keys shard_of (run shard_of empty (two_calls [])) (one_refused more)
+one_refused_run : (more : List Step) → IsRun three_keys first_byte_shard (run first_byte_shard empty (two_calls (one_refused []))) more → IsRun three_keys first_byte_shard (run first_byte_shard empty (two_calls [])) (one_refused more)
 one_refused_run more rest = (
   (refl, λ c h x. grind (arith, nat_tests)),
   (
@@ -76,7 +76,7 @@ one_refused_run more rest = (
   ),
 )
 
-keys_used_up_run : (more : List Step) → IsRun three_keys shard_of (run shard_of empty (two_calls (one_refused (keys_used_up [])))) more → IsRun three_keys shard_of (run shard_of empty (two_calls (one_refused []))) (keys_used_up more)
+keys_used_up_run : (more : List Step) → IsRun three_keys first_byte_shard (run first_byte_shard empty (two_calls (one_refused (keys_used_up [])))) more → IsRun three_keys first_byte_shard (run first_byte_shard empty (two_calls (one_refused []))) (keys_used_up more)
 keys_used_up_run more rest = (
   tt,
   (
@@ -103,7 +103,7 @@ keys_used_up_run more rest = (
   ),
 )
 
-runs : IsRun three_keys shard_of empty steps
+runs : IsRun three_keys first_byte_shard empty steps
 runs = two_calls_run (one_refused (keys_used_up readings)) (one_refused_run (keys_used_up readings) (keys_used_up_run readings (tt, (tt, (tt, tt)))))
 
 pub returns : goal.returns

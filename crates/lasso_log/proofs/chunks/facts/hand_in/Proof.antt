@@ -10,7 +10,7 @@ use Rattle.logbook.specs.contracts.tokens.Seen as Seen
 use Rattle.logbook.specs.contracts.tokens.Offer as Offer
 use Rattle.boxcar.specs.contracts.slot.Written as Written
 use Rattle.std.proofs.Common.{List}
-use Rattle.lasso_log.specs.Chunks.{IsCellAt, PutsLast, era_named}
+use Rattle.lasso_log.specs.Chunks.{IsCellAt, PutsLastAt, era_named}
 use Rattle.lasso_log.specs.contracts.chunks.rule.InChunks as InChunks
 use Rattle.lasso_log.specs.contracts.chunks.rule.NoGain as NoGain
 use Rattle.lasso_log.specs.contracts.chunks.rule.InChunksRuleU64.TheImpl as law
@@ -35,7 +35,7 @@ hand_in_spec 𝓤 𝓛 𝓜 𝓡 wired E B T V X N _ _ _ _ _ _ gb db gt dt gv dv
     let me = a.0.now in let z = a.1.0.now in let w = a.1.1.0.now in let ask : E'.Denot = gn.ask a.1.1.1.0.now in
     let p : Val = vptr a.0.ref_ptr.0 a.0.ref_ptr.1 in let p' : Val = vptr a.1.0.ref_ptr.0 a.1.0.ref_ptr.1 in let p'' : Val = vptr a.1.1.0.ref_ptr.0 a.1.1.0.ref_ptr.1 in let p''' : Val = vptr a.1.1.1.0.ref_ptr.0 a.1.1.1.0.ref_ptr.1 in
     let y : (walk_of 𝓛 En hs c).Ghost = ((κs, qs, bounds, a, (p ∷ [], (p' ∷ [], (p'' ∷ [], (p''' ∷ [], tt))))), gh) in let Post : Val → SProp 𝓤 = (walk_of 𝓛 En hs c).post y in
-    let Puts : Type 0 = (before after : List E'.Denot) → gb.moves ask before after → PutsLast gb.texts (gb.appended_at ask) (gb.text ask) before after × (gb.buckets after ≡ gb.buckets before) in
+    let Puts : Type 0 = (before after : List E'.Denot) → gb.moves ask before after → PutsLastAt gb.texts (gb.appended_at ask) (gb.text ask) before after × (gb.buckets after ≡ gb.buckets before) in
     qed 𝓛 ((raw (alive 𝓛 En.signature κs qs) ⊛ ‵ (owns (types_at En.signature.params κs) a y.0.4)) ∷ raw (fact 𝓤 _) ∷ raw (fact 𝓤 _) ∷ raw (fact 𝓤 _) ∷ raw (fact 𝓤 _) ∷ raw (fact 𝓤 _) ∷ raw (fact 𝓤 _)
     ∷ raw (fact 𝓤 (IsCellAt me.names (gb.appended_at ask) z.of (gv.cells z.value) w.of)) ∷ raw (fact 𝓤 (gt.meaning w.value ≡ gb.text ask)) ∷ raw (fact 𝓤 (gt.lasts w.value (era_named me.names))) ∷ raw (fact 𝓤 Puts) ∷ []) ∵
     keep ! (7 ∷ 8 ∷ 9 ∷ 10 ∷ 0 ∷ []) $ heard ! _ (λ at. heard ! _ (λ means. heard ! _ (λ long. heard ! Puts (λ puts. split ! $

@@ -3,7 +3,7 @@ use Rattle.lasso_log.proofs.WalkWords.{◌≡◌, ℕ, List, [], ◌∷◌, refl
 use Rattle.std.specs.declared.option.Option.TheVariants.{None}
 use Rattle.logbook.specs.Kept.{offer_owns}
 use Rattle.logbook.specs.contracts.tokens.Seen as Seen
-use Rattle.lasso_log.specs.LentBuckets.{TakesBytes}
+use Rattle.lasso_log.specs.LentBuckets.{TakesBytesAt}
 use Rattle.lasso_log.specs.contracts.chunks.rule.InChunks as InChunks
 use Rattle.lasso_log.specs.contracts.chunks.rule.BytesTaken as BytesTaken
 use Rattle.lasso_log.specs.contracts.chunks.rule.InChunksRuleU64.TheImpl as law
@@ -27,7 +27,7 @@ take_bytes_spec 𝓤 𝓛 𝓜 𝓡 wired E B T V X N _ _ _ _ _ _ gb db gt dt gv
     (λ κs. (shr_vals, (shr_vals, (uint_vals w64, tt)))) (λ κs. (shr_Tells (named 0) κs.0 S, (shr_Tells (named 1) κs.1.0 X', (uint_Tells w64, tt)))) (λ κs qs bounds a gh are.
     let me = a.0.now in let ask : E'.Denot = gn.ask a.1.0.now in let n : ℕ = a.1.1.0 in let p : Val = vptr a.0.ref_ptr.0 a.0.ref_ptr.1 in let p' : Val = vptr a.1.0.ref_ptr.0 a.1.0.ref_ptr.1 in
     let y : (walk_of 𝓛 En hs c).Ghost = ((κs, qs, bounds, a, (p ∷ [], (p' ∷ [], (vint w64 n ∷ [], tt)))), gh) in let Post : Val → SProp 𝓤 = (walk_of 𝓛 En hs c).post y in
-    let Takes : Type 0 = (before after : List E'.Denot) → gb.moves ask before after → (gb.texts after ≡ gb.texts before) × TakesBytes gb.buckets n (gb.bucket ask) (gb.bytes ask) before after in
+    let Takes : Type 0 = (before after : List E'.Denot) → gb.moves ask before after → (gb.texts after ≡ gb.texts before) × TakesBytesAt gb.buckets n (gb.bucket ask) (gb.bytes ask) before after in
     qed 𝓛 ((raw (alive 𝓛 En.signature κs qs) ⊛ ‵ (owns (types_at En.signature.params κs) a y.0.4)) ∷ raw (fact 𝓤 _) ∷ raw (fact 𝓤 _) ∷ raw (fact 𝓤 _) ∷ raw (fact 𝓤 _) ∷ raw (fact 𝓤 _) ∷ raw (fact 𝓤 _) ∷ raw (fact 𝓤 Takes) ∷ []) ∵
     keep ! (7 ∷ 0 ∷ []) $ heard ! Takes (λ takes. split ! $ keep ! (0 ∷ []) $
     use0 𝓛 (‵ (offer_owns (G.keeps me.names) (G.moves ask) (K.after me.names (ask ∷ [])) None)) (offered_bytes 𝓛 V' T' gv.cells gt.meaning gt.lasts gb.texts gb.buckets (G.moves ask) me.names n (gb.bucket ask) (gb.bytes ask) (λ before after answer moved. takes before after moved)) $

@@ -4,7 +4,7 @@ use Rattle.lasso_log.specs.History.{Event, Reserve, Totals}
 use Rattle.lasso_log.specs.Notes.{NoteView, Since, first_note, notes_of, opening_of, ticket_of, bucket_in, state}
 use Rattle.lasso_log.specs.Book.{Moving, May, Lets, IsIn}
 use Rattle.lasso_log.specs.Chunks.{first_number}
-use Rattle.lasso_log.specs.Events.{bytes_of}
+use Rattle.lasso_log.specs.Events.{event_bytes}
 use Rattle.lasso_log.specs.LentBuckets.{IsRightTo}
 use Rattle.lasso_log.specs.SharedBuckets.{SharedView, HasTaken}
 use Rattle.lasso_log.proofs.BucketWords.{moving_reserve, may_reserve, lets_reserve, taken_more}
@@ -60,9 +60,9 @@ invariant_of-pass-2 g c =
 pub returns-clause-right : goal.returns-clause-right
 returns-clause-right g c =
     let offer = c.take_bytes-offer.ensures in let e = c.take_bytes-offer.result.ask in let r = c.right_taken-right.result in
-    let right : IsRightTo r (bucket_in e.lent) (bytes_of e.event) = c.right_taken-right.ensures e (c.into_gain.ensures.1 ∙ (c.compare_exchange-found.ensures.4 ∙ (offer.2 ∙ ap (λ (x : NoteView). x ∷ []) (sym offer.1)))) in
+    let right : IsRightTo r (bucket_in e.lent) (event_bytes e.event) = c.right_taken-right.ensures e (c.into_gain.ensures.1 ∙ (c.compare_exchange-found.ensures.4 ∙ (offer.2 ∙ ap (λ (x : NoteView). x ∷ []) (sym offer.1)))) in
     subst (λ (s : SharedView). IsRightTo r record { site = s.site; size = s.size; used = s.base + c.args.expected } c.args.bytes) c.bucket.view_is
-    (subst (λ (w : NoteView). IsRightTo r (bucket_in w.lent) (bytes_of w.event)) offer.1 right)
+    (subst (λ (w : NoteView). IsRightTo r (bucket_in w.lent) (event_bytes w.event)) offer.1 right)
 
 pub returns-clause-event : goal.returns-clause-event
 returns-clause-event g c =
