@@ -59,7 +59,7 @@ fn loaded_keys_stand_for_the_same_texts(rt: HostRuntime) -> Result<(), Fail> {
     let quoted = rodeo.try_get_or_intern("a \"quoted\" text\n")?;
     let empty = rodeo.try_get_or_intern("")?;
     let saved = save(&rodeo, rt.alloc())?;
-    assert!(rt; saved.as_str() == r#"["a \"quoted\" text\n","")"#);
+    assert!(rt; saved.as_str() == r#"["a \"quoted\" text\n",""]"#);
     let loaded = reload(&rodeo, rt.alloc()).ok().ok_or("not loaded")?;
     assert!(rt; loaded.len() == 2);
     assert!(rt; loaded.try_resolve(quoted) == Some("a \"quoted\" text\n"));
