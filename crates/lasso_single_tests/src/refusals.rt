@@ -139,6 +139,7 @@ fn past_the_first_bucket<R: AllocGlobal + Abort>(rt: &R, memory: &Memory) -> Res
     Ok(())
 }
 
+// A text without a key takes no bytes, so that none of its refusals is the limit's.
 fn past_the_keys<R: AllocGlobal + Abort>(rt: &R, memory: &Memory) -> Result<(), Fail> {
     let Some(mut rodeo) = interner::<Gap<2>>(rt, memory, 4, 4) else {
         return Ok(());
@@ -148,12 +149,16 @@ fn past_the_keys<R: AllocGlobal + Abort>(rt: &R, memory: &Memory) -> Result<(), 
         ("q", Ok(1)),
         ("r", Err(KEYS)),
         ("r", Err(KEYS)),
+        ("r", Err(KEYS)),
         ("q", Ok(1)),
     ];
     for (text, wanted) in rows {
         gives(rt, &mut rodeo, text, wanted);
     }
     holds(rt, &rodeo, &["p", "q"], 4);
+    let reader = rodeo.into_reader();
+    assert!(rt; reader.len() == 2);
+    assert!(rt; reader.into_resolver().len() == 2);
     Ok(())
 }
 

@@ -79,6 +79,39 @@ fn copied_into_a_new_bucket<R: AllocGlobal + Abort>(rt: &R, memory: &Memory) -> 
     Ok(())
 }
 
+// Behind "abc" in the first bucket the nine bytes have a bucket of their own, and "defgh" is in one of twice 4 bytes; the limit of
+// these 21 bytes leaves no room for "ijkl". The doubled bucket is kept, and the one of exact size given back. Memory is asked for
+// before the doubled bucket is there, so that the first bucket alone is left where it is refused.
+fn copied_past_the_first_bucket<R: AllocGlobal + Abort>(
+    rt: &R,
+    memory: &Memory,
+) -> Result<(), Fail> {
+    let texts = ["abc", "qqqqqqqqq", "defgh", "ijkl"];
+    let Some(source) = made(rt, memory, Metered::<Spur>::from_iter(memory, texts)) else {
+        return Ok(());
+    };
+    let Some(mut target) = interner::<Spur>(rt, memory, 4, 21) else {
+        return Ok(());
+    };
+    let mut refusal = target.try_clone_from(&source).err().ok_or("not refused")?;
+    if refusal.kind() != LIMIT {
+        is_refused(rt, memory, refusal.kind());
+        holds(rt, &target, &[], 4);
+        refusal = target.try_clone_from(&source).err().ok_or("not refused")?;
+    }
+    assert!(rt; refusal.kind() == LIMIT);
+    holds(rt, &target, &[], 12);
+    gives(rt, &mut target, "wxyz", Ok(0));
+    gives(rt, &mut target, "ijklmnop", Ok(1));
+    holds(rt, &target, &["wxyz", "ijklmnop"], 12);
+    Ok(())
+}
+
+#[test]
+fn a_copy_refused_past_the_first_bucket(rt: HostRuntime) -> Result<(), Fail> {
+    each_refused(&rt, copied_past_the_first_bucket)
+}
+
 #[test]
 fn copied_interners(rt: HostRuntime) -> Result<(), Fail> {
     each_refused(&rt, cloned)?;

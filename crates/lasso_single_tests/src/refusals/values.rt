@@ -9,38 +9,75 @@ type Reader<'a> = RodeoReader<Spur, FixedState, &'a Memory>;
 
 type Resolver<'a> = RodeoResolver<Spur, &'a Memory>;
 
-const WANTING: Option<JsonError> = Some(JsonError::Lasso(LassoErrorKind::FailedAllocation));
+const WANTING: JsonError = JsonError::Lasso(LassoErrorKind::FailedAllocation);
 
-// What is wrong with the value for the form of this number, or none.
-fn fault(memory: &Memory, value: &Value, form: usize) -> Option<JsonError> {
+// How many texts the form of this number reads, or what is wrong with the value.
+fn read(memory: &Memory, value: &Value, form: usize) -> Result<usize, JsonError> {
     match form {
-        0 => Metered::<Spur>::deserialize(memory, value).err(),
-        1 => Reader::deserialize(memory, value).err(),
-        _ => Resolver::deserialize(memory, value).err(),
+        0 => Ok(Metered::<Spur>::deserialize(memory, value)?.len()),
+        1 => Ok(Reader::deserialize(memory, value)?.len()),
+        _ => Ok(Resolver::deserialize(memory, value)?.len()),
     }
 }
 
 // Where memory is wanting nothing is made, and the same call again answers as the first would have.
 fn each_form<R: AllocGlobal + Abort>(rt: &R, memory: &Memory) -> Result<(), Fail> {
-    let doubled = Some(JsonError::Doubled(2));
-    let no_text = Some(JsonError::NotText(1));
+    let doubled = Err(JsonError::Doubled(2));
+    let no_text = Err(JsonError::NotText(1));
     let rows = [
-        (r#"["a","b","a"]"#, [doubled, doubled, None]),
+        (r#"["a","b","a"]"#, [doubled, doubled, Ok(3)]),
         (r#"["a",1]"#, [no_text, no_text, no_text]),
-        ("[]", [None, None, None]),
-        (r#"["a","bc"]"#, [None, None, None]),
+        ("[]", [Ok(0), Ok(0), Ok(0)]),
+        (r#"["a","bc"]"#, [Ok(2), Ok(2), Ok(2)]),
     ];
     for (text, wanted) in rows {
         let value = Value::from_str(rt.alloc(), text)?;
         for (form, wanted) in wanted.into_iter().enumerate() {
-            let mut found = fault(memory, &value, form);
+            let mut found = read(memory, &value, form);
             assert!(rt; memory.bytes_out() == 0, "{text}");
-            if found == WANTING {
+            if found == Err(WANTING) {
                 assert!(rt; memory.has_refused(), "{text}");
-                found = fault(memory, &value, form);
+                found = read(memory, &value, form);
             }
             assert!(rt; found == wanted, "{text}");
         }
+    }
+    Ok(())
+}
+
+// What was read, or none where the memory for it was refused.
+fn was_read<T>(rt: &impl Abort, memory: &Memory, outcome: Result<T, JsonError>) -> Option<T> {
+    match outcome {
+        Ok(made) => Some(made),
+        Err(fault) => {
+            assert!(rt; memory.has_refused());
+            assert!(rt; fault == WANTING);
+            None
+        }
+    }
+}
+
+fn three_texts<R: AllocGlobal + Abort>(rt: &R, memory: &Memory) -> Result<(), Fail> {
+    let value = Value::from_str(rt.alloc(), r#"["a","b","a"]"#)?;
+    if let Some(resolver) = was_read(rt, memory, Resolver::deserialize(memory, &value)) {
+        let mut walk = resolver.strings();
+        for text in ["a", "b", "a"] {
+            assert!(rt; walk.next() == Some(text));
+        }
+        assert!(rt; walk.next() == None);
+    }
+    Ok(())
+}
+
+// Of two texts there is a bucket of their three bytes, and of none the usual one.
+fn read_interners<R: AllocGlobal + Abort>(rt: &R, memory: &Memory) -> Result<(), Fail> {
+    let value = Value::from_str(rt.alloc(), r#"["a","bc"]"#)?;
+    if let Some(rodeo) = was_read(rt, memory, Metered::<Spur>::deserialize(memory, &value)) {
+        holds(rt, &rodeo, &["a", "bc"], 3);
+    }
+    let value = Value::from_str(rt.alloc(), "[]")?;
+    if let Some(rodeo) = was_read(rt, memory, Metered::<Spur>::deserialize(memory, &value)) {
+        holds(rt, &rodeo, &[], 4096);
     }
     Ok(())
 }
@@ -50,6 +87,12 @@ fn values_that_are_read(rt: HostRuntime) -> Result<(), Fail> {
     each_refused(&rt, each_form)
 }
 
+#[test]
+fn what_was_read(rt: HostRuntime) -> Result<(), Fail> {
+    each_refused(&rt, three_texts)?;
+    each_refused(&rt, read_interners)
+}
+
 // Where the memory for the value is wanting (`rt try --test --fail-alloc N`), the interner and the key are what they were.
 #[test]
 fn what_is_written_changes_nothing(rt: HostRuntime) -> Result<(), Fail> {
@@ -57,7 +100,7 @@ fn what_is_written_changes_nothing(rt: HostRuntime) -> Result<(), Fail> {
     let rodeo = Metered::<Spur>::from_iter(&memory, ["b", "a"])?;
     match rodeo.serialize(rt.alloc()) {
         Ok(value) => assert!(rt; value.to_string(rt.alloc())?.as_str() == r#"["b","a"]"#),
-        Err(fault) => assert!(rt; Some(fault) == WANTING),
+        Err(fault) => assert!(rt; fault == WANTING),
     }
     holds(&rt, &rodeo, &["b", "a"], 4096);
     let first = rodeo.get("b").ok_or("not there")?;

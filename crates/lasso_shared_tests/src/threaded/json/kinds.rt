@@ -1,5 +1,5 @@
 //! A value of each kind in each place: alone, as an item, as the number of a text, and as its name.
-use super::fault;
+use super::{SpurThreadedRodeo, fault};
 use lasso_parts::json::JsonError;
 use lasso_parts::keys::Spur;
 use serde_json::{Map, Number, Value};
@@ -80,13 +80,27 @@ fn each_kind_in_each_place(rt: HostRuntime) -> Result<(), Fail> {
             wrong_between(alloc, r#"{"k":"#, kind, r#","a":1}"#)? == second,
             "{kind}"
         );
-        let wanted = if kind.starts_with('"') {
-            None
-        } else {
-            Some(JsonError::NotText(1))
-        };
+    }
+    Ok(())
+}
+
+// What is wrong with an array whose item at this position is of this kind: nothing, where it is a text.
+fn wrong_item(kind: &str, at: usize) -> Wrong {
+    if kind.starts_with('"') {
+        return None;
+    }
+    Some(JsonError::NotText(at))
+}
+
+#[test]
+fn each_kind_of_item(rt: HostRuntime) -> Result<(), Fail> {
+    let alloc = rt.alloc();
+    for (kind, _, _, _) in KINDS {
+        let first = wrong_item(kind, 0);
+        assert!(rt; wrong_between(alloc, "[", kind, "]")? == first, "{kind}");
+        let second = wrong_item(kind, 1);
         assert!(rt;
-            wrong_between(alloc, r#"["z","#, kind, "]")? == wanted,
+            wrong_between(alloc, r#"["z","#, kind, "]")? == second,
             "{kind}"
         );
     }
@@ -116,6 +130,38 @@ fn each_kind_of_name(rt: HostRuntime) -> Result<(), Fail> {
             "{name}"
         );
     }
+    Ok(())
+}
+
+fn long_text(alloc: Global) -> Result<Value, Fail> {
+    Ok(Value::String("a".repeat(alloc, 1_000_000)?))
+}
+
+#[test]
+fn a_text_of_a_million_bytes(rt: HostRuntime) -> Result<(), Fail> {
+    let alone = long_text(rt.alloc())?;
+    assert!(rt; fault::<Spur>(rt.alloc(), &alone) == NO_OBJECT);
+    let mut members: Map<String, Value> = Map::new(rt.alloc());
+    members.insert(String::from_str(rt.alloc(), "k")?, long_text(rt.alloc())?)?;
+    let member = Value::Object(members);
+    assert!(rt; fault::<Spur>(rt.alloc(), &member) == NO_POSITION);
+    Ok(())
+}
+
+// One such text is read into a bucket of its bytes, and two of them are equal.
+#[test]
+fn items_of_a_million_bytes(rt: HostRuntime) -> Result<(), Fail> {
+    let mut items: Vec<Value> = Vec::new(rt.alloc());
+    items.push(long_text(rt.alloc())?)?;
+    let one = Value::Array(items);
+    let rodeo = SpurThreadedRodeo::deserialize(rt.alloc(), &one)?;
+    assert!(rt; rodeo.len() == 1);
+    assert!(rt; rodeo.current_memory_usage(&rt) == 1_000_000);
+    let mut items: Vec<Value> = Vec::new(rt.alloc());
+    items.push(long_text(rt.alloc())?)?;
+    items.push(long_text(rt.alloc())?)?;
+    let two = Value::Array(items);
+    assert!(rt; fault::<Spur>(rt.alloc(), &two) == Some(JsonError::Doubled(1)));
     Ok(())
 }
 
