@@ -23,16 +23,25 @@ fn words(alloc: Global, replies: &[Reply<Spur>]) -> Result<String, Fail> {
 }
 
 // Both texts do not fit below a limit of 4 bytes, and after the clear the second one does.
-fn commands<A: Allocator>(first: Spur) -> [Command<'static, Spur, FixedState, A>; 7] {
+fn commands<A: Allocator>() -> [Command<'static, Spur, FixedState, A>; 7] {
     [
         Command::Intern("abcd"),
         Command::Intern("e"),
         Command::Clear,
         Command::Intern("e"),
-        Command::TryResolve(first),
+        Command::TryResolve(Spur::default()),
         Command::Len,
         Command::Usage,
     ]
+}
+
+// The replies of a run of these commands.
+fn replies<A: Allocator + Clone>(
+    alloc: Global,
+    rodeo: &mut Rodeo<Spur, FixedState, A>,
+) -> LassoResult<Vec<Reply<Spur>>> {
+    let commands = commands::<A>();
+    run_commands(alloc, rodeo, commands.as_slice())
 }
 
 // The replies where no command is refused memory; where the first is, so that the second text is the first one there; and where
@@ -49,8 +58,7 @@ fn small_run<R: AllocGlobal + Abort>(rt: &R, memory: &Memory) -> Result<(), Fail
     let Some(mut rodeo) = interner::<Spur>(rt, memory, 4, 4) else {
         return Ok(());
     };
-    let commands = commands(Spur::try_from_usize(0).ok_or("no key")?);
-    let replies = run_commands(rt.alloc(), &mut rodeo, commands.as_slice())?;
+    let replies = replies(rt.alloc(), &mut rodeo)?;
     let wanted = if memory.has_refused() {
         WITHOUT_THE_FIRST
     } else {
@@ -76,8 +84,7 @@ fn a_refused_command_does_not_end_the_run(rt: HostRuntime) -> Result<(), Fail> {
         room,
         limits,
     )?;
-    let commands = commands(Spur::try_from_usize(0).ok_or("no key")?);
-    match run_commands(rt.alloc(), &mut rodeo, commands.as_slice()) {
+    match replies(rt.alloc(), &mut rodeo) {
         Ok(replies) => {
             let found = words(rt.alloc(), replies.as_slice())?;
             let found = found.as_str();
