@@ -73,7 +73,7 @@ run() {
     shift 2
     status=0
     rm -f "$OUT/left"
-    REFUSE=$number LEFT=$OUT/left LD_PRELOAD=$SHIM "$@" < "$input" > "$OUT/answers" 2> "$OUT/error" 3> "$OUT/told" || status=$?
+    REFUSE=$number HALT=60 LEFT=$OUT/left LD_PRELOAD=$SHIM "$@" < "$input" > "$OUT/answers" 2> "$OUT/error" 3> "$OUT/told" || status=$?
     runs=$((runs + 1))
     left=
     [ ! -e "$OUT/left" ] || left=$(< "$OUT/left")

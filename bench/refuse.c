@@ -4,7 +4,10 @@
    Where LEFT stands in the environment, the file of that name gets the line `<n> blocks, <m> bytes` at the program's exit: what the
    program's own code has asked for since its main began and has not given back. What the loader and the C library ask for by themselves,
    before main, for streams or for threads, may be refused and is not counted as left: a call out of their code is none of the program's.
-   A program that ends by a signal or by _exit writes no such line. Preloaded before the C library (LD_PRELOAD). */
+   A program that ends by a signal writes no such line.
+
+   Where HALT stands in the environment, the program is ended by SIGALRM after so many seconds. Preloaded before the C library
+   (LD_PRELOAD). */
 #include <dlfcn.h>
 #include <errno.h>
 #include <fcntl.h>
@@ -13,6 +16,7 @@
 #include <stdint.h>
 #include <stdio.h>
 #include <stdlib.h>
+#include <sys/syscall.h>
 #include <unistd.h>
 
 typedef int main_function(int, char **, char **);
@@ -110,6 +114,13 @@ static int forget(void *block, size_t *size)
     return is_there;
 }
 
+/* The number in the environment, or 0. */
+static unsigned long number(const char *name)
+{
+    const char *digits = getenv(name);
+    return digits ? strtoul(digits, NULL, 10) : 0;
+}
+
 /* Whether this request is the one to refuse. */
 static int is_refused(void)
 {
@@ -184,8 +195,8 @@ static int see_code(struct dl_phdr_info *shown, size_t size, void *nothing)
 
 static int begin(int count, char **words, char **environment)
 {
-    const char *number = getenv("REFUSE");
-    refused = number ? strtoul(number, NULL, 10) : 0;
+    refused = number("REFUSE");
+    alarm((unsigned)number("HALT"));
     dl_iterate_phdr(see_code, NULL);
     atomic_store(&counting, 1);
     return program_main(count, words, environment);
@@ -199,7 +210,7 @@ int __libc_start_main(main_function *entry, int count, char **words, void (*init
     return start(begin, count, words, init, fini, loader_fini, stack_end);
 }
 
-/* At the exit. */
+/* At an exit by main or by exit, and at one that runs nothing else before. */
 __attribute__((destructor)) static void tell_left(void)
 {
     const char *name = getenv("LEFT");
@@ -209,4 +220,11 @@ __attribute__((destructor)) static void tell_left(void)
         return;
     dprintf(file, "%zu blocks, %zu bytes\n", blocks, bytes);
     close(file);
+}
+
+void _exit(int status)
+{
+    tell_left();
+    for (;;)
+        syscall(SYS_exit_group, status);
 }
