@@ -21,6 +21,13 @@ use std::str::from_utf8;
 /// The first text that is refused ends it, for want of keys, for the memory limit, or for want of memory for the text or for its
 /// code. The texts before it are interned and have their codes, and no text after it is taken; so the number of codes tells
 /// which text it is.
+///
+/// ```rust
+/// let mut rodeo: SpurRodeo = Rodeo::default(rt.alloc())?;
+/// let mut codes = Vec::new(rt.alloc());
+/// encode(&mut rodeo, &["red", "green", "red"], &mut codes)?;
+/// assert_eq!(rt; codes.as_slice(), [0, 1, 0].as_slice());
+/// ```
 pub fn encode<S: BuildHasher, A: Allocator + Clone>(
     rodeo: &mut Rodeo<Spur, S, A>,
     texts: &[&str],
@@ -44,6 +51,13 @@ pub fn encode<S: BuildHasher, A: Allocator + Clone>(
 ///
 /// The first line that is refused or is not UTF-8 ends it, and the error has its number, counted from 1. The lines before it are
 /// interned and have their codes, and no line after it is taken.
+///
+/// ```rust
+/// let mut rodeo: SpurRodeo = Rodeo::default(rt.alloc())?;
+/// let mut codes = Vec::new(rt.alloc());
+/// encode_lines(&mut rodeo, b"to be\nor not\nto be\n", &mut codes)?;
+/// assert_eq!(rt; codes.as_slice(), [0, 1, 0].as_slice());
+/// ```
 pub fn encode_lines<S: BuildHasher, A: Allocator + Clone>(
     rodeo: &mut Rodeo<Spur, S, A>,
     bytes: &[u8],
