@@ -35,7 +35,7 @@ extern "C" {
 /* How a call ended. */
 enum lasso_status {
     LASSO_DONE = 0,
-    LASSO_OFFSETS_FALL = 1,      /* an offset is below the one before it */
+    LASSO_OFFSETS_FALL = 1,      /* an offset is below the one before it, and not negative */
     LASSO_OFFSET_PAST_BYTES = 2, /* an offset lies past the bytes, or is negative */
     LASSO_NOT_UTF8 = 3,          /* a text is not UTF-8 */
     LASSO_NO_SUCH_CODE = 4,      /* the dictionary has no text for a code */
@@ -52,7 +52,8 @@ enum lasso_status {
  * LASSO_DONE:              texts and bytes are the sizes of the layout that was written, which has texts + 1 offsets; at is 0.
  * LASSO_.._TOO_SHORT:      texts and bytes are the sizes that the written layout needs; at is 0.
  * LASSO_OFFSETS_FALL to
- * LASSO_TOO_MANY_BYTES:    at is the first text or code at which it was refused, counted from 0; texts and bytes are 0.
+ * LASSO_TOO_MANY_BYTES:    at is the first text or code at which it was refused, counted from 0, and 0 where the first offset is
+ *                          past the bytes; texts and bytes are 0.
  * LASSO_NO_MEMORY:         all three are 0.
  */
 struct lasso_report {
@@ -76,9 +77,10 @@ struct lasso_report {
  * Lengths of what is written may be greater. As many dictionary bytes as bytes and as many dictionary offsets as offsets, but
  * one at least, always serve.
  *
- * The first of these that is so is the status: LASSO_OFFSETS_FALL, LASSO_OFFSET_PAST_BYTES or LASSO_NOT_UTF8 of the first
- * wrong text (where one text is wrong in several ways, the first of them), LASSO_CODES_TOO_SHORT, LASSO_OFFSETS_TOO_SHORT,
- * LASSO_BYTES_TOO_SHORT; else LASSO_DONE. LASSO_NO_MEMORY may come in place of each of them.
+ * The first of these that is so is the status: LASSO_OFFSET_PAST_BYTES at 0 where the first offset is past the bytes;
+ * LASSO_OFFSETS_FALL, LASSO_OFFSET_PAST_BYTES or LASSO_NOT_UTF8 of the first wrong text (where one text is wrong in several
+ * ways, the first of them); LASSO_CODES_TOO_SHORT, LASSO_OFFSETS_TOO_SHORT, LASSO_BYTES_TOO_SHORT; else LASSO_DONE. A negative
+ * offset is past the bytes, and never falls. LASSO_NO_MEMORY may come in place of each of them.
  */
 uint32_t lasso_encode(const uint8_t *bytes, size_t bytes_length,
                       const int32_t *offsets, size_t offsets_length,
