@@ -4,7 +4,7 @@ ghost use Rattle.lasso_parts.specs.Texts.{position_of};
 ghost use Rattle.lasso_single.specs.Filling.{extend};
 ghost use Rattle.lasso_single.specs.Intern.{InternsIn};
 ghost use Rattle.lasso_columns.specs.Codes.{AddsCodes};
-ghost use Rattle.lasso_columns.specs.Encoding.{spur_at, encoded, IsRefused, IsNextRefused};
+ghost use Rattle.lasso_columns.specs.Encoding.{spur_at, encoded_texts, IsRefused, IsNextRefused};
 ghost use Rattle.lasso_columns.specs.Faults.{IsFaultOf, IsNextFault};
 ghost use Rattle.lasso_columns.specs.Lines.{lines_of};
 
@@ -33,8 +33,8 @@ pub fn encode<S: BuildHasher, A: Allocator + Clone>(
     texts: &[&str],
     codes: &mut Vec<u32>,
 ) -> LassoResult<()>
-    ensures list { extend spur_at rodeo.old (encoded codes.old.items codes.new.items (map (λ t. t.now) texts.now)) (Ok tt) rodeo.new }
-    ensures codes { AddsCodes rodeo.new.texts (encoded codes.old.items codes.new.items (map (λ t. t.now) texts.now)) codes.old.items codes.new.items }
+    ensures list { extend spur_at rodeo.old (encoded_texts codes.old.items codes.new.items (map (λ t. t.now) texts.now)) (Ok tt) rodeo.new }
+    ensures codes { AddsCodes rodeo.new.texts (encoded_texts codes.old.items codes.new.items (map (λ t. t.now) texts.now)) codes.old.items codes.new.items }
     ensures whole { OnOk result (vec_len codes.new ≡ vec_len codes.old + length texts.now) }
     ensures refused { IfErr result (IsNextRefused rodeo.new codes.old.items codes.new.items (map (λ t. t.now) texts.now)) }
 {
@@ -63,9 +63,9 @@ pub fn encode_lines<S: BuildHasher, A: Allocator + Clone>(
     bytes: &[u8],
     codes: &mut Vec<u32>,
 ) -> Result<(), LineError>
-    ensures list { extend spur_at rodeo.old (encoded codes.old.items codes.new.items (lines_of bytes.now)) (Ok tt) rodeo.new }
-    ensures codes { AddsCodes rodeo.new.texts (encoded codes.old.items codes.new.items (lines_of bytes.now)) codes.old.items codes.new.items }
-    ensures texts { All IsUtf8 (encoded codes.old.items codes.new.items (lines_of bytes.now)) }
+    ensures list { extend spur_at rodeo.old (encoded_texts codes.old.items codes.new.items (lines_of bytes.now)) (Ok tt) rodeo.new }
+    ensures codes { AddsCodes rodeo.new.texts (encoded_texts codes.old.items codes.new.items (lines_of bytes.now)) codes.old.items codes.new.items }
+    ensures texts { All IsUtf8 (encoded_texts codes.old.items codes.new.items (lines_of bytes.now)) }
     ensures whole { OnOk result (vec_len codes.new ≡ vec_len codes.old + length (lines_of bytes.now)) }
     ensures fault { IfErr result (IsNextFault rodeo.new codes.old.items codes.new.items (lines_of bytes.now)) }
 {
