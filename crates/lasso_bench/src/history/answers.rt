@@ -8,6 +8,9 @@ use lasso::{FixedState, Key, LassoErrorKind, LassoResult, MemoryLimits, Threaded
 use std::alloc::AllocError;
 use std::sync::Wait;
 
+// A limit that is set a little above a usage is less than so many bytes above it.
+const LITTLE: usize = 64;
+
 /// A call, and what it answered. A text goes by its number among the texts, a key by its position.
 #[derive(Clone, Copy, Debug)]
 pub enum Answer {
@@ -88,8 +91,10 @@ pub fn sum_with(sum: u64, text: &str) -> u64 {
     sum
 }
 
-/// So many random calls with the pass, and what each answered. Behind a refusal for the limit come the usage and the limit, read at once.
-/// It is refused for want of memory alone.
+/// So many random calls with the pass, and what each answered. It is refused for want of memory alone.
+///
+/// Behind a refusal for the limit come the usage and the limit, read at once. Behind a usage comes, every other time, a limit a little above it,
+/// where the thread sets limits: so texts often just pass it, or just do not.
 pub fn answers<K: Key, R: AllocGlobal + Wait>(
     rt: &R,
     rodeo: &ThreadedRodeo<K, FixedState>,
@@ -110,6 +115,12 @@ pub fn answers<K: Key, R: AllocGlobal + Wait>(
         if answer.is_past_limit() {
             answers.push(used(rt, rodeo, pass))?;
             answers.push(allowed(rt, rodeo, pass))?;
+        }
+        if let Answer::Used { bytes } = answer {
+            if draws.below(2) == 0 {
+                let limit = bytes.saturating_add(draws.below(LITTLE));
+                answers.push(limited(rt, rodeo, pass, limits.set, limit))?;
+            }
         }
     }
     Ok(answers)
@@ -150,7 +161,10 @@ fn random_answer<K: Key, R: Wait>(
         470..=489 => counted(rodeo, pass),
         490..=499 => used(rt, rodeo, pass),
         500..=504 => allowed(rt, rodeo, pass),
-        505..=509 => limited(rt, rodeo, pass, limits, draws.below(limits.count)),
+        505..=509 => {
+            let bytes = limits.least.saturating_add(draws.below(limits.count));
+            limited(rt, rodeo, pass, limits.set, bytes)
+        }
         _ => walked(rodeo, pass),
     }
 }
@@ -256,11 +270,7 @@ fn counted<K: Key>(rodeo: &ThreadedRodeo<K, FixedState>, pass: &mut Pass<K>) -> 
 }
 
 // Reads the usage.
-fn used<K: Key, R: Wait>(
-    rt: &R,
-    rodeo: &ThreadedRodeo<K, FixedState>,
-    pass: &mut Pass<K>,
-) -> Answer
+fn used<K: Key, R: Wait>(rt: &R, rodeo: &ThreadedRodeo<K, FixedState>, pass: &mut Pass<K>) -> Answer
     requires { pass.old.of ≡ rodeo.now }
     ensures { pass.new.of ≡ pass.old.of }
 {
@@ -283,21 +293,20 @@ fn allowed<K: Key, R: Wait>(
     }
 }
 
-// Sets the limit to so many bytes above the least, where the thread sets limits. Else reads it.
+// Sets the limit, or else reads it.
 fn limited<K: Key, R: Wait>(
     rt: &R,
     rodeo: &ThreadedRodeo<K, FixedState>,
     pass: &mut Pass<K>,
-    limits: Limits,
-    above: usize,
+    set: bool,
+    bytes: usize,
 ) -> Answer
     requires { pass.old.of ≡ rodeo.now }
     ensures { pass.new.of ≡ pass.old.of }
 {
-    if !limits.set {
+    if !set {
         return allowed(rt, rodeo, pass);
     }
-    let bytes = limits.least.saturating_add(above);
     rodeo.set_memory_limits_as(rt, pass, MemoryLimits::new(bytes));
     Answer::Limited { bytes }
 }

@@ -5,7 +5,7 @@
 use crate::history::answers::Answer;
 use crate::history::bounds::{Bound, Setter, least_after, most_bounds};
 use crate::history::frozen::Frozen;
-use crate::history::reigns::{Reign, note_reigns};
+use crate::history::reigns::{Reign, ended, note_reigns};
 use crate::history::texts::Texts;
 use anyhow::{Result, ensure};
 use lasso::{Key, LassoErrorKind};
@@ -60,7 +60,7 @@ fn answers_of(found: &[Vec<Answer>], thread: usize) -> &[Answer] {
 /// behind it.
 pub fn check<K: Key>(alloc: Global, round: &Round<'_>, found: &[Vec<Answer>]) -> Result<()> {
     let mut reigns = Vec::new(alloc);
-    reigns.push(Reign::first(round.limit, round.usage))?;
+    reigns.push(Reign::first(round.limit, round.first()))?;
     let mut all = Vec::new(alloc);
     for thread in 0..found.len() {
         let known = round.known(alloc, found, thread)?;
@@ -74,6 +74,7 @@ pub fn check<K: Key>(alloc: Global, round: &Round<'_>, found: &[Vec<Answer>]) ->
         )?;
         all.push(known)?;
     }
+    let reigns = ended(alloc, reigns.as_slice())?;
     for (known, answers) in all.iter().zip(found) {
         check_pass::<K>(round, reigns.as_slice(), known, answers.as_slice())?;
     }
@@ -185,9 +186,11 @@ fn is_refused_rightly<K: Key>(
         LassoErrorKind::KeySpaceExhaustion => K::try_from_usize(times.most.texts).is_none(),
         LassoErrorKind::MemoryLimitReached => {
             let past = times.most.usage.saturating_add(bytes);
-            copied && bytes > 0 && reigns.iter().any(|reign| {
-                reign.bytes < past && reign.may_be_at(setter, times.least, times.most)
-            })
+            copied
+                && bytes > 0
+                && reigns.iter().any(|reign| {
+                    reign.bytes < past && reign.may_be_at(setter, times.least, times.most)
+                })
         }
         _ => false,
     }
@@ -199,9 +202,10 @@ fn is_refused_rightly<K: Key>(
 fn is_within_limits(reigns: &[Reign], setter: &Setter, answer: &Answer, times: Times) -> bool {
     match *answer {
         Answer::Used { bytes } => {
-            bytes == times.least.usage || reigns.iter().any(|reign| {
-                bytes <= reign.bytes && reign.may_be_at(setter, times.since, times.most)
-            })
+            bytes == times.least.usage
+                || reigns.iter().any(|reign| {
+                    bytes <= reign.bytes && reign.may_be_at(setter, times.since, times.most)
+                })
         }
         Answer::Allowed { bytes } => reigns.iter().any(|reign| {
             reign.bytes == bytes && reign.may_be_at(setter, times.least, times.most)

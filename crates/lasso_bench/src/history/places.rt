@@ -91,15 +91,17 @@ fn walked(texts: &[&str]) -> Answer {
 /// Prints whether answers have places in a list of three texts: for each rule such as have, and such as have none by that rule alone.
 pub fn print_places<R: AllocGlobal + Print>(rt: &R) -> Result<()> {
     print_texts(rt)?;
-    print_longer(rt)?;
-    print_shorter(rt)?;
+    print_fewer(rt)?;
+    print_more(rt)?;
+    print_reasons(rt)?;
     print_refusals(rt)?;
     print_usages(rt)?;
     print_limits(rt)?;
-    print_limits_of_others(rt)
+    print_turns(rt)?;
+    print_windows(rt)
 }
 
-// Prints of answers that are not so in the list.
+// Prints of answers that are so in the list, or not.
 fn print_texts<R: AllocGlobal + Print>(rt: &R) -> Result<()> {
     let early = [FIRST, counted(1), NOTHING_AT_ONE, LAST_IS_MISSING];
     print_place(rt, "answers of a shorter list", &early)?;
@@ -125,60 +127,72 @@ fn print_texts<R: AllocGlobal + Print>(rt: &R) -> Result<()> {
     print_place(rt, "more than there are in the end", &[counted(4)])
 }
 
-// Prints of answers that show three texts, and fewer behind them.
-fn print_longer<R: AllocGlobal + Print>(rt: &R) -> Result<()> {
-    print_place(rt, "two behind a count of two", &[counted(2), counted(2)])?;
-    print_place(rt, "two behind a count", &[counted(3), counted(2)])?;
-    print_place(rt, "two behind a walk", &[walked(&["5", "", "1"]), counted(2)])?;
-    print_place(rt, "two behind a new text", &[LAST, counted(2)])?;
-    print_place(rt, "two behind a found text", &[LAST_IS_FOUND, counted(2)])?;
-    print_place(rt, "two behind a resolved key", &[LAST_IS_RESOLVED, counted(2)])
+// Prints of two texts, and what was there before that shows so many or more.
+fn print_fewer<R: AllocGlobal + Print>(rt: &R) -> Result<()> {
+    let two = counted(2);
+    let walk = walked(&["5", "", "1"]);
+    print_place(rt, "two behind two", &[two, two])?;
+    print_place(rt, "two behind three", &[counted(3), two])?;
+    print_place(rt, "two behind a walk", &[walk, two])?;
+    print_place(rt, "two behind a new text", &[LAST, two])?;
+    print_place(rt, "two behind a found text", &[LAST_IS_FOUND, two])?;
+    print_place(rt, "two behind a resolved key", &[LAST_IS_RESOLVED, two])
 }
 
-// Prints of answers that show a list that was shorter than three texts, behind all three.
-fn print_shorter<R: AllocGlobal + Print>(rt: &R) -> Result<()> {
-    print_place(rt, "two texts before", &[counted(2), LAST_IS_MISSING])?;
-    print_place(rt, "a text is gone", &[counted(3), LAST_IS_MISSING])?;
-    print_place(rt, "a key is gone", &[counted(3), NOTHING_AT_ONE])?;
-    print_place(rt, "a walk is shorter", &[counted(3), walked(&["5"])])?;
+// Prints of answers that show fewer than three texts, behind two or three.
+fn print_more<R: AllocGlobal + Print>(rt: &R) -> Result<()> {
+    let [two, three] = [2, 3].map(|texts| counted(texts));
+    print_place(rt, "a text that is not there yet", &[two, LAST_IS_MISSING])?;
+    print_place(rt, "a text is gone", &[three, LAST_IS_MISSING])?;
+    print_place(rt, "a key is gone", &[three, NOTHING_AT_ONE])?;
+    print_place(rt, "a walk is shorter", &[three, walked(&["5"])])?;
     let last = refused(1, LassoErrorKind::MemoryLimitReached);
-    print_place(rt, "a new text is refused", &[used(48), limited(20), counted(2), last])?;
-    print_place(rt, "a text that was is refused", &[used(48), limited(20), counted(3), last])
+    let [used, low] = [used(48), limited(20)];
+    print_place(rt, "a new text is refused", &[used, low, two, last])?;
+    print_place(rt, "a text that was is refused", &[used, low, three, last])
 }
 
-// Prints of refusals.
-fn print_refusals<R: AllocGlobal + Print>(rt: &R) -> Result<()> {
+// Prints of refusals with other reasons than a limit, or of other texts than such as take memory.
+fn print_reasons<R: AllocGlobal + Print>(rt: &R) -> Result<()> {
     let no_key = refused(9, LassoErrorKind::KeySpaceExhaustion);
     print_place(rt, "no key where there are keys", &[no_key])?;
     let no_memory = refused(9, LassoErrorKind::FailedAllocation);
     print_place(rt, "no memory", &[no_memory])?;
-    print_place(rt, "a copy is refused", &[used(48), limited(20), PAST_LIMIT])?;
+    let [used, low] = [used(48), limited(20)];
+    print_place(rt, "a copy is refused", &[used, low, PAST_LIMIT])?;
     let kept = Answer::Refused {
         text: 9,
         copied: false,
         kind: LassoErrorKind::MemoryLimitReached,
     };
-    print_place(rt, "a static text is refused", &[used(48), limited(20), kept])?;
+    print_place(rt, "a static text is refused", &[used, low, kept])?;
     let empty = refused(0, LassoErrorKind::MemoryLimitReached);
-    print_place(rt, "an empty text is refused", &[used(48), limited(20), empty])?;
+    print_place(rt, "an empty text is refused", &[used, low, empty])
+}
+
+// Prints of refusals for the limit.
+fn print_refusals<R: AllocGlobal + Print>(rt: &R) -> Result<()> {
+    let [low, all, more] = [20, 48, 49].map(|bytes| limited(bytes));
     print_place(rt, "a refusal under the first limit", &[PAST_LIMIT])?;
-    print_place(rt, "one byte past the limit", &[limited(48), PAST_LIMIT, used(48)])?;
-    print_place(rt, "the last byte", &[limited(49), PAST_LIMIT, used(48)])?;
-    print_place(rt, "room behind it", &[limited(48), PAST_LIMIT, used(47)])?;
-    print_place(rt, "a limit that is over", &[limited(20), limited(900), PAST_LIMIT])?;
-    print_place(rt, "a limit to come", &[PAST_LIMIT, limited(20)])
+    print_place(rt, "a byte past the limit", &[all, PAST_LIMIT, used(48)])?;
+    print_place(rt, "the limit's last byte", &[more, PAST_LIMIT, used(48)])?;
+    print_place(rt, "room behind it", &[all, PAST_LIMIT, used(47)])?;
+    print_place(rt, "a limit that is over", &[low, limited(900), PAST_LIMIT])?;
+    print_place(rt, "a limit to come", &[PAST_LIMIT, low])
 }
 
 // Prints of usages.
 fn print_usages<R: AllocGlobal + Print>(rt: &R) -> Result<()> {
-    print_place(rt, "a usage that falls", &[used(48), used(16)])?;
+    let [first, last] = [16, 48].map(|bytes| used(bytes));
+    let [low, less, all] = [20, 47, 48].map(|bytes| limited(bytes));
+    print_place(rt, "a usage that falls", &[last, first])?;
     print_place(rt, "a usage below the first", &[used(15)])?;
     print_place(rt, "a usage past the end's", &[used(49)])?;
-    print_place(rt, "a usage at the limit", &[limited(48), used(16), used(48)])?;
-    print_place(rt, "a usage past the limit", &[limited(47), used(16), used(48)])?;
-    print_place(rt, "a usage past limits", &[limited(47), used(16), limited(46), used(48)])?;
-    print_place(rt, "a limit falls below it", &[used(48), limited(20), used(48)])?;
-    print_place(rt, "it rose before", &[limited(20), used(48)])
+    print_place(rt, "a usage at the limit", &[all, first, last])?;
+    print_place(rt, "a usage past the limit", &[less, first, last])?;
+    print_place(rt, "a usage past two limits", &[less, first, low, last])?;
+    print_place(rt, "a limit falls below the usage", &[last, low, last])?;
+    print_place(rt, "a usage that rose before", &[low, last])
 }
 
 // Prints of limits that were read.
@@ -190,51 +204,80 @@ fn print_limits<R: AllocGlobal + Print>(rt: &R) -> Result<()> {
     print_place(rt, "the limit behind", &[allowed(100), limited(100)])
 }
 
-// Prints of limits that another thread set, as one of several or alone.
-fn print_limits_of_others<R: AllocGlobal + Print>(rt: &R) -> Result<()> {
-    let sets = [limited(100), limited(900)];
-    print_others(rt, "100 before 900", true, &sets, &[allowed(100), allowed(900)])?;
-    print_others(rt, "100 behind 900", true, &sets, &[allowed(900), allowed(100)])?;
-    let low = [limited(20), limited(900)];
-    print_others(rt, "refused before 900", true, &low, &[PAST_LIMIT, allowed(900)])?;
-    print_others(rt, "refused behind 900", true, &low, &[allowed(900), PAST_LIMIT])?;
-    print_others(rt, "refused before 20", true, &low, &[PAST_LIMIT, allowed(1000)])?;
-    let rises = [allowed(20), used(16), used(48)];
-    print_others(rt, "a rise behind 20", true, &low, &rises)?;
-    let rises = [allowed(20), used(16), used(48), allowed(20)];
-    print_others(rt, "a rise under 20", true, &low, &rises)?;
-    let late = [counted(2), limited(20)];
-    print_others(rt, "20 came in time", false, &late, &[PAST_LIMIT, counted(2)])?;
-    print_others(rt, "20 came too late", false, &late, &[PAST_LIMIT, counted(1)])?;
-    let early = [limited(20), limited(900), counted(1)];
-    print_others(rt, "20 was not over", false, &early, &[counted(1), PAST_LIMIT])?;
-    print_others(rt, "20 was over", false, &early, &[counted(2), PAST_LIMIT])?;
-    let late = [used(48), limited(20)];
-    print_others(rt, "20 was there", false, &late, &[allowed(20), used(48)])?;
-    print_others(rt, "20 was not there", false, &late, &[allowed(20), used(47)])?;
-    let early = [limited(900), used(47)];
-    print_others(rt, "1000 was there", false, &early, &[used(47), allowed(1000)])?;
-    print_others(rt, "1000 was over", false, &early, &[used(48), allowed(1000)])
+// Prints of limits that another thread alone set: first 20, then 900.
+fn print_turns<R: AllocGlobal + Print>(rt: &R) -> Result<()> {
+    let answers = [limited(20), limited(900)];
+    let sets = Sets {
+        alone: true,
+        answers: &answers,
+    };
+    let [first, low, high] = [1000, 20, 900].map(|bytes| allowed(bytes));
+    sets.print(rt, "20, then 900", &[low, high])?;
+    sets.print(rt, "900, then 20", &[high, low])?;
+    sets.print(rt, "refused before 900", &[PAST_LIMIT, high])?;
+    sets.print(rt, "refused behind 900", &[high, PAST_LIMIT])?;
+    sets.print(rt, "refused before 20", &[PAST_LIMIT, first])?;
+    sets.print(rt, "risen behind 20", &[low, used(16), used(48)])?;
+    sets.print(rt, "risen under 20", &[low, used(16), used(48), low])
+}
+
+// Prints of limits that another thread set, in a list or with a usage of its time.
+fn print_windows<R: AllocGlobal + Print>(rt: &R) -> Result<()> {
+    let [one, two] = [1, 2].map(|texts| counted(texts));
+    let [low, high] = [20, 900].map(|bytes| limited(bytes));
+    let sets = [two, low];
+    let late = Sets::some(&sets);
+    late.print(rt, "20 came in time", &[PAST_LIMIT, two])?;
+    late.print(rt, "20 came too late", &[PAST_LIMIT, one])?;
+    let sets = [low, high, one];
+    let early = Sets::some(&sets);
+    early.print(rt, "20 may be there still", &[one, PAST_LIMIT])?;
+    early.print(rt, "20 is over", &[two, PAST_LIMIT])?;
+    let sets = [used(48), low];
+    let late = Sets::some(&sets);
+    late.print(rt, "20 at a usage of 48", &[allowed(20), used(48)])?;
+    late.print(rt, "20 at a usage of 47", &[allowed(20), used(47)])?;
+    let sets = [high, used(47)];
+    let early = Sets::some(&sets);
+    early.print(rt, "1000 at a usage of 47", &[used(47), allowed(1000)])?;
+    early.print(rt, "1000 at a usage of 48", &[used(48), allowed(1000)])?;
+    let sets = [one, high, one];
+    let later = Sets::some(&sets);
+    let still = [low, counted(0), one, PAST_LIMIT];
+    later.print(rt, "900 may be to come", &still)?;
+    let over = [low, counted(0), two, PAST_LIMIT];
+    later.print(rt, "900 took its place", &over)
+}
+
+// What a thread answers that sets limits, alone or as one of several.
+#[derive(Clone, Copy)]
+struct Sets<'a> {
+    alone: bool,
+    answers: &'a [Answer],
+}
+
+impl<'a> Sets<'a> {
+    // The answers of one of several threads that set limits.
+    fn some(answers: &'a [Answer]) -> Self {
+        Sets {
+            alone: false,
+            answers,
+        }
+    }
+
+    // Prints whether these answers and those of a second thread have places.
+    fn print<R: AllocGlobal + Print>(&self, rt: &R, name: &str, answers: &[Answer]) -> Result<()> {
+        let alone = if self.alone { Some(0) } else { None };
+        let first = with_ends(rt, self.answers)?;
+        let second = with_ends(rt, answers)?;
+        print_verdict(rt, name, alone, &[first, second])
+    }
 }
 
 // Prints whether the answers of a thread have places, where there is no other.
 fn print_place<R: AllocGlobal + Print>(rt: &R, name: &str, answers: &[Answer]) -> Result<()> {
     let answers = with_ends(rt, answers)?;
     print_verdict(rt, name, None, &[answers])
-}
-
-// Prints whether the answers of two threads have places, of which the first alone sets limits, or does not.
-fn print_others<R: AllocGlobal + Print>(
-    rt: &R,
-    name: &str,
-    alone: bool,
-    first: &[Answer],
-    second: &[Answer],
-) -> Result<()> {
-    let alone = if alone { Some(0) } else { None };
-    let first = with_ends(rt, first)?;
-    let second = with_ends(rt, second)?;
-    print_verdict(rt, name, alone, &[first, second])
 }
 
 // The answers, and behind them how many texts and how great a usage there are in the end.
