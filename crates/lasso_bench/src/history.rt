@@ -46,7 +46,7 @@ pub fn rounds_in<R: AllocGlobal + Clock + Print + Threads + Wait + Sync>(
             return Ok(seed);
         }
         if let Err(error) = history_round(rt, seed, calls) {
-            bail!("round {seed}: {error}");
+            return Err(error.context(format_args!("round {seed}")));
         }
     }
     Ok(u64::MAX)

@@ -7,7 +7,7 @@ use crate::history::bounds::{Bound, Setter, least_after, most_bounds};
 use crate::history::frozen::Frozen;
 use crate::history::reigns::{Reign, ended, note_reigns};
 use crate::history::texts::Texts;
-use anyhow::{Result, ensure};
+use anyhow::{Error, Result, anyhow};
 use lasso::{Key, LassoErrorKind};
 use std::alloc::Global;
 
@@ -92,27 +92,11 @@ fn check_pass<K: Key>(
     let mut least = round.first();
     let mut since = least;
     for (answer, most) in answers.iter().zip(known.mosts.iter().rev()) {
-        ensure!(
-            is_true(round.frozen, answer),
-            "this is not so in the list: {answer:?}"
-        );
-        ensure!(
-            is_late(round.frozen, answer, least),
-            "an earlier answer showed {least:?}, but then came {answer:?}"
-        );
-        let times = Times {
-            since,
-            least,
-            most: *most,
-        };
-        ensure!(
-            is_refused_rightly::<K>(round.texts, reigns, setter, answer, times),
-            "this is no refusal: {answer:?}, {times:?}"
-        );
-        ensure!(
-            is_within_limits(reigns, setter, answer, times),
-            "no limit allows this: {answer:?}, {times:?}"
-        );
+        let most = *most;
+        let times = Times { since, least, most };
+        if let Some(rule) = broken::<K>(round, reigns, setter, answer, times) {
+            return Err(times.error().context(format_args!("{rule}: {answer:?}")));
+        }
         least = least_after(setter, answer, least);
         if let Answer::Used { .. } = answer {
             since = least;
@@ -121,12 +105,50 @@ fn check_pass<K: Key>(
     Ok(())
 }
 
+// The rule that the answer breaks, where it breaks one.
+fn broken<K: Key>(
+    round: &Round<'_>,
+    reigns: &[Reign],
+    setter: &Setter,
+    answer: &Answer,
+    times: Times,
+) -> Option<&'static str> {
+    if !is_true(round.frozen, answer) {
+        Some("not so in the list")
+    } else if !is_late(round.frozen, answer, times.least) {
+        Some("too late")
+    } else if !is_refused_rightly::<K>(round.texts, reigns, setter, answer, times) {
+        Some("no refusal")
+    } else if !is_within_limits(reigns, setter, answer, times) {
+        Some("no limit allows it")
+    } else {
+        None
+    }
+}
+
 // What an answer is about at least and at most, and what the last reading of the usage before it was about at least.
 #[derive(Clone, Copy, Debug)]
 struct Times {
     since: Bound,
     least: Bound,
     most: Bound,
+}
+
+impl Times {
+    // An error that says them.
+    fn error(&self) -> Error {
+        let Times { since, least, most } = *self;
+        anyhow!(
+            "texts {}..{}, usage {}..{}, limits {}..{} since {}",
+            least.texts,
+            most.texts,
+            least.usage,
+            most.usage,
+            least.limits,
+            most.limits,
+            since.limits
+        )
+    }
 }
 
 // Whether the answer is that of some beginning of the list.

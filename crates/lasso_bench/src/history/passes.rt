@@ -65,8 +65,12 @@ fn by_two<K: Key + Send + Sync, R: AllocGlobal + Threads + Wait + Sync>(
 {
     let (one, two) = join(
         rt,
-        || by_one(rt, rodeo, work, thread),
-        || by_one(rt, rodeo, work, thread.wrapping_add(1)),
+        move || -> Told<Found, K>
+            ensures { result.pass.of ≡ rodeo.entry.now }
+        { by_one(rt, rodeo, work, thread) },
+        move || -> Told<Found, K>
+            ensures { result.pass.of ≡ rodeo.entry.now }
+        { by_one(rt, rodeo, work, thread.wrapping_add(1)) },
     );
     let mut pass = one.pass;
     pass.meet(&two.pass);
@@ -86,8 +90,12 @@ pub fn by_four<K: Key + Send + Sync, R: AllocGlobal + Threads + Wait + Sync>(
 {
     let (first, second) = join(
         rt,
-        || by_two(rt, rodeo, work, 0),
-        || by_two(rt, rodeo, work, 2),
+        move || -> Told<[Found; 2], K>
+            ensures { result.pass.of ≡ rodeo.entry.now }
+        { by_two(rt, rodeo, work, 0) },
+        move || -> Told<[Found; 2], K>
+            ensures { result.pass.of ≡ rodeo.entry.now }
+        { by_two(rt, rodeo, work, 2) },
     );
     let mut pass = first.pass;
     pass.meet(&second.pass);
