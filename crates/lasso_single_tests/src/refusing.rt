@@ -99,7 +99,7 @@ unsafe impl<B: Allocator> Allocator for Refusing<B> {
     }
 
     unsafe fn deallocate(&self, ptr: *mut u8, size: usize, align: usize) {
-        takes_back(&self.requests, size);
         self.inner.deallocate(ptr, size, align);
+        takes_back(&self.requests, size);
     }
 }
