@@ -5,9 +5,12 @@ use std::cell::Cell;
 /// What was asked of an allocator, and what it gave.
 #[derive(Drop)]
 pub struct Requests {
+    // the number of the request that is refused
     refused: u64,
     made: Cell<u64>,
+    // how many of those made were given their bytes
     met: Cell<u64>,
+    // how many refusals `has_refused_anew` has told of
     told: Cell<u64>,
     bytes_out: Cell<usize>,
 }
@@ -56,7 +59,10 @@ impl<B: Allocator> Refusing<B> {
 
     /// How many requests were refused, by number or by the inner allocator.
     pub fn refusals(&self) -> u64 {
-        self.requests.made.get().saturating_sub(self.requests.met.get())
+        self.requests
+            .made
+            .get()
+            .saturating_sub(self.requests.met.get())
     }
 
     /// Whether a request was refused since this was asked last.
