@@ -32,6 +32,9 @@ type Metered<'a, K> = Rodeo<K, FixedState, &'a Memory>;
 // More requests than any of the scripts makes.
 const MOST: u64 = 1000;
 
+// A run meets its own refusal, and at most one of the allocator below (`rt try --test --fail-alloc N`).
+const REFUSALS: u8 = 2;
+
 // Runs the script with its first request refused, then with its second, until a run meets no refusal.
 fn each_refused<R: AllocGlobal + Abort, F: Fn(&R, &Memory) -> Result<(), Fail> + Drop>(
     rt: &R,
@@ -43,7 +46,7 @@ fn each_refused<R: AllocGlobal + Abort, F: Fn(&R, &Memory) -> Result<(), Fail> +
         let memory = Refusing::new(rt.alloc(), refused);
         script(rt, &memory)?;
         assert!(rt; memory.bytes_out() == 0, "{refused}");
-        if !memory.has_refused() {
+        if memory.refusals() == 0 {
             assert!(rt; refused > 1, "no request at all");
             return Ok(());
         }
@@ -63,8 +66,9 @@ fn made<T>(rt: &impl Abort, memory: &Memory, outcome: LassoResult<T>) -> Option<
     }
 }
 
+// The call answers this where a request of its own was refused, which no call before told of.
 fn is_refused(rt: &impl Abort, memory: &Memory, kind: LassoErrorKind) {
-    assert!(rt; memory.has_refused());
+    assert!(rt; memory.has_refused_anew());
     assert!(rt; kind == MEMORY);
 }
 
@@ -93,11 +97,21 @@ fn told<K: Key>(outcome: LassoResult<K>) -> Answer {
     }
 }
 
-// Interns the text, twice where the first call is refused for want of memory and changes nothing.
-fn gives<K: Key>(rt: &impl Abort, rodeo: &mut Metered<'_, K>, text: &str, wanted: Answer) {
+// Interns the text until no request of the call is refused. Each call before answers want of memory, and changes nothing.
+fn gives<K: Key>(
+    rt: &impl Abort,
+    memory: &Memory,
+    rodeo: &mut Metered<'_, K>,
+    text: &str,
+    wanted: Answer,
+) {
     let (len, usage) = (rodeo.len(), rodeo.current_memory_usage());
     let mut answer = told(rodeo.try_get_or_intern(text));
-    if answer == Err(MEMORY) {
+    for _refusal in 0..REFUSALS {
+        if !memory.has_refused_anew() {
+            break;
+        }
+        assert!(rt; answer == Err(MEMORY), "{text}");
         assert!(rt; rodeo.len() == len, "{text}");
         assert!(rt; rodeo.current_memory_usage() == usage, "{text}");
         assert!(rt; !rodeo.contains(text), "{text}");
@@ -121,8 +135,8 @@ fn hello_twice<R: AllocGlobal + Abort>(rt: &R, memory: &Memory) -> Result<(), Fa
     let Some(mut rodeo) = made(rt, memory, Rodeo::default(memory)) else {
         return Ok(());
     };
-    gives(rt, &mut rodeo, "Hello, world!", Ok(0));
-    gives(rt, &mut rodeo, "Hello, world!", Ok(0));
+    gives(rt, memory, &mut rodeo, "Hello, world!", Ok(0));
+    gives(rt, memory, &mut rodeo, "Hello, world!", Ok(0));
     holds(rt, &rodeo, &["Hello, world!"], 4096);
     Ok(())
 }
@@ -133,7 +147,7 @@ fn past_the_first_bucket<R: AllocGlobal + Abort>(rt: &R, memory: &Memory) -> Res
         return Ok(());
     };
     for (text, number) in [("qqqqqqqqq", 0usize), ("wxyz", 1), ("n", 2)] {
-        gives(rt, &mut rodeo, text, Ok(number));
+        gives(rt, memory, &mut rodeo, text, Ok(number));
     }
     holds(rt, &rodeo, &["qqqqqqqqq", "wxyz", "n"], 21);
     Ok(())
@@ -153,7 +167,7 @@ fn past_the_keys<R: AllocGlobal + Abort>(rt: &R, memory: &Memory) -> Result<(), 
         ("q", Ok(1)),
     ];
     for (text, wanted) in rows {
-        gives(rt, &mut rodeo, text, wanted);
+        gives(rt, memory, &mut rodeo, text, wanted);
     }
     holds(rt, &rodeo, &["p", "q"], 4);
     let reader = rodeo.into_reader();

@@ -6,12 +6,17 @@ fn cloned<R: AllocGlobal + Abort>(rt: &R, memory: &Memory) -> Result<(), Fail> {
     let Some(mut rodeo) = interner::<Spur>(rt, memory, 10, 5) else {
         return Ok(());
     };
-    gives(rt, &mut rodeo, "abc", Ok(0));
-    if let Err(refusal) = rodeo.try_get_or_intern_static("gdfg") {
-        is_refused(rt, memory, refusal.kind());
+    gives(rt, memory, &mut rodeo, "abc", Ok(0));
+    let mut answer = told(rodeo.try_get_or_intern_static("gdfg"));
+    for _refusal in 0..REFUSALS {
+        if !memory.has_refused_anew() {
+            break;
+        }
+        assert!(rt; answer == Err(MEMORY));
         holds(rt, &rodeo, &["abc"], 10);
-        assert!(rt; rodeo.try_get_or_intern_static("gdfg")?.into_usize() == 1);
+        answer = told(rodeo.try_get_or_intern_static("gdfg"));
     }
+    assert!(rt; answer == Ok(1));
     let mut copy = match rodeo.try_clone() {
         Ok(copy) => copy,
         Err(refusal) => {
@@ -20,9 +25,9 @@ fn cloned<R: AllocGlobal + Abort>(rt: &R, memory: &Memory) -> Result<(), Fail> {
             rodeo.try_clone()?
         }
     };
-    gives(rt, &mut copy, "x", Err(LIMIT));
+    gives(rt, memory, &mut copy, "x", Err(LIMIT));
     holds(rt, &copy, &["abc", "gdfg"], 7);
-    gives(rt, &mut rodeo, "x", Ok(2));
+    gives(rt, memory, &mut rodeo, "x", Ok(2));
     holds(rt, &rodeo, &["abc", "gdfg", "x"], 10);
     Ok(())
 }
@@ -30,12 +35,12 @@ fn cloned<R: AllocGlobal + Abort>(rt: &R, memory: &Memory) -> Result<(), Fail> {
 // A source of two texts in one bucket of 8 bytes.
 fn two<'a>(rt: &impl Abort, memory: &'a Memory) -> Option<Metered<'a, Spur>> {
     let mut source = interner::<Spur>(rt, memory, 8, usize::MAX)?;
-    gives(rt, &mut source, "abc", Ok(0));
-    gives(rt, &mut source, "defg", Ok(1));
+    gives(rt, memory, &mut source, "abc", Ok(0));
+    gives(rt, memory, &mut source, "defg", Ok(1));
     Some(source)
 }
 
-// Whatever refuses the copy, it leaves no text, and the bucket of 4 bytes that it began with.
+// Whatever refuses the copy, the limit or want of memory before, it leaves no text, and the bucket of 4 bytes that it began with.
 fn copied_past_the_limit<R: AllocGlobal + Abort>(rt: &R, memory: &Memory) -> Result<(), Fail> {
     let Some(source) = two(rt, memory) else {
         return Ok(());
@@ -43,13 +48,16 @@ fn copied_past_the_limit<R: AllocGlobal + Abort>(rt: &R, memory: &Memory) -> Res
     let Some(mut target) = interner::<Spur>(rt, memory, 4, 4) else {
         return Ok(());
     };
-    gives(rt, &mut target, "old", Ok(0));
+    gives(rt, memory, &mut target, "old", Ok(0));
     let refusal = target.try_clone_from(&source).err().ok_or("not refused")?;
-    if refusal.kind() != LIMIT {
-        is_refused(rt, memory, refusal.kind());
-    }
+    let wanted = if memory.has_refused_anew() {
+        MEMORY
+    } else {
+        LIMIT
+    };
+    assert!(rt; refusal.kind() == wanted);
     holds(rt, &target, &[], 4);
-    gives(rt, &mut target, "wxyz", Ok(0));
+    gives(rt, memory, &mut target, "wxyz", Ok(0));
     holds(rt, &target, &["wxyz"], 4);
     holds(rt, &source, &["abc", "defg"], 8);
     Ok(())
@@ -94,15 +102,18 @@ fn copied_past_the_first_bucket<R: AllocGlobal + Abort>(
         return Ok(());
     };
     let mut refusal = target.try_clone_from(&source).err().ok_or("not refused")?;
-    if refusal.kind() != LIMIT {
-        is_refused(rt, memory, refusal.kind());
+    for _refusal in 0..REFUSALS {
+        if !memory.has_refused_anew() {
+            break;
+        }
+        assert!(rt; refusal.kind() == MEMORY);
         holds(rt, &target, &[], 4);
         refusal = target.try_clone_from(&source).err().ok_or("not refused")?;
     }
     assert!(rt; refusal.kind() == LIMIT);
     holds(rt, &target, &[], 12);
-    gives(rt, &mut target, "wxyz", Ok(0));
-    gives(rt, &mut target, "ijklmnop", Ok(1));
+    gives(rt, memory, &mut target, "wxyz", Ok(0));
+    gives(rt, memory, &mut target, "ijklmnop", Ok(1));
     holds(rt, &target, &["wxyz", "ijklmnop"], 12);
     Ok(())
 }

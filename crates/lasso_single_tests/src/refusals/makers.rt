@@ -27,7 +27,7 @@ fn copies(rt: &impl Abort, memory: &Memory, maker: usize, usage: usize) -> Resul
         return Ok(());
     };
     holds(rt, &rodeo, &[], usage);
-    gives(rt, &mut rodeo, "a", Ok(0));
+    gives(rt, memory, &mut rodeo, "a", Ok(0));
     let mut copy = match rodeo.clone() {
         Ok(copy) => copy,
         Err(refusal) => {

@@ -34,12 +34,16 @@ fn each_form<R: AllocGlobal + Abort>(rt: &R, memory: &Memory) -> Result<(), Fail
         let value = Value::from_str(rt.alloc(), text)?;
         for (form, wanted) in wanted.into_iter().enumerate() {
             let mut found = read(memory, &value, form);
-            assert!(rt; memory.bytes_out() == 0, "{text}");
-            if found == Err(WANTING) {
-                assert!(rt; memory.has_refused(), "{text}");
+            for _refusal in 0..REFUSALS {
+                if !memory.has_refused_anew() {
+                    break;
+                }
+                assert!(rt; found == Err(WANTING), "{text}");
+                assert!(rt; memory.bytes_out() == 0, "{text}");
                 found = read(memory, &value, form);
             }
             assert!(rt; found == wanted, "{text}");
+            assert!(rt; memory.bytes_out() == 0, "{text}");
         }
     }
     Ok(())
@@ -50,7 +54,7 @@ fn was_read<T>(rt: &impl Abort, memory: &Memory, outcome: Result<T, JsonError>) 
     match outcome {
         Ok(made) => Some(made),
         Err(fault) => {
-            assert!(rt; memory.has_refused());
+            assert!(rt; memory.has_refused_anew());
             assert!(rt; fault == WANTING);
             None
         }
@@ -93,15 +97,21 @@ fn what_was_read(rt: HostRuntime) -> Result<(), Fail> {
     each_refused(&rt, read_interners)
 }
 
-// Where the memory for the value is wanting (`rt try --test --fail-alloc N`), the interner and the key are what they were.
+// Where the memory for the value is wanting (`rt try --test --fail-alloc N`), the interner and the key are what they were, and the same
+// call again writes the value.
 #[test]
 fn what_is_written_changes_nothing(rt: HostRuntime) -> Result<(), Fail> {
     let memory = Refusing::new(rt.alloc(), 0);
     let rodeo = Metered::<Spur>::from_iter(&memory, ["b", "a"])?;
-    match rodeo.serialize(rt.alloc()) {
-        Ok(value) => assert!(rt; value.to_string(rt.alloc())?.as_str() == r#"["b","a"]"#),
-        Err(fault) => assert!(rt; fault == WANTING),
-    }
+    let value = match rodeo.serialize(rt.alloc()) {
+        Ok(value) => value,
+        Err(fault) => {
+            assert!(rt; fault == WANTING);
+            holds(&rt, &rodeo, &["b", "a"], 4096);
+            rodeo.serialize(rt.alloc())?
+        }
+    };
+    assert!(rt; value.to_string(rt.alloc())?.as_str() == r#"["b","a"]"#);
     holds(&rt, &rodeo, &["b", "a"], 4096);
     let first = rodeo.get("b").ok_or("not there")?;
     assert!(rt; first.key_to_json(rt.alloc())?.as_u64() == Some(1));
