@@ -18,7 +18,7 @@ use frozen::Frozen;
 use lasso::log::Pass;
 use lasso::{Capacity, FixedState, Key, MemoryLimits, MicroSpur, Spur, ThreadedRodeo};
 pub use passes::THREADS;
-use passes::{Found, Told, Work, by_four};
+use passes::{Found, Work, by_all};
 pub use places::print_places;
 use std::alloc::Global;
 use std::rt::Clock;
@@ -97,7 +97,8 @@ fn round<K: Key + Send + Sync, R: AllocGlobal + Threads + Wait + Sync>(
         Capacity::for_bytes(FIRST),
         MemoryLimits::new(limit),
     )?;
-    let Told { found, mut pass } = by_four(rt, &rodeo, work);
+    let mut pass = rodeo.pass();
+    let found = by_all(rt, &rodeo, &mut pass, work)?;
     let last = readings(rt, &rodeo, &mut pass);
     let frozen = freeze(rt, rodeo, &mut pass, work.texts)?;
     let round = Round {
@@ -130,7 +131,7 @@ fn freeze<K: Key, R: AllocGlobal + Wait>(
 }
 
 // The answers of each thread, and behind them those of the pass that has seen what all had.
-fn with_last(alloc: Global, found: [Found; 4], last: [Answer; 3]) -> Result<Vec<Vec<Answer>>> {
+fn with_last(alloc: Global, found: Vec<Found>, last: [Answer; 3]) -> Result<Vec<Vec<Answer>>> {
     let mut all = Vec::new(alloc);
     for answers in found {
         let Ok(mut answers) = answers else {

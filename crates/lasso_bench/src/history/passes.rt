@@ -1,13 +1,14 @@
-//! The threads of a round: each makes random calls by a pass of its own, and in the end the passes meet.
+//! The threads of a round: each makes random calls by a pass of its own, and in the end one pass has seen what all of them had.
 ghost use Rattle.std.specs.Prelude.{◌≡◌};
+ghost use Rattle.lasso_log.specs.Views.{PassView, KnownView, InternerId};
 
 use crate::history::answers::{Answer, Limits, answers};
 use crate::history::texts::Texts;
-use lasso::log::Pass;
+use lasso::log::{Known, Pass};
 use lasso::{FixedState, Key, ThreadedRodeo};
 use std::alloc::AllocError;
 use std::sync::Wait;
-use std::thread::{Threads, join};
+use std::thread::{Threads, map_indices};
 
 /// How many threads make calls at once.
 pub const THREADS: usize = 4;
@@ -25,21 +26,21 @@ pub struct Work<'a> {
 /// The answers of a thread, or none for want of memory.
 pub type Found = Result<Vec<Answer>, AllocError>;
 
-/// What threads found, and a pass that has seen what all of them had.
+// What a thread found, and what its pass has seen of the interner.
 #[derive(Drop)]
-pub struct Told<F: Drop, K: Key> {
-    pub found: F,
-    pub pass: Pass<K>,
+struct Told<K: Key> {
+    found: Found,
+    known: Known<K>,
 }
 
-// Makes random calls of the interner by a pass, as the thread of this number.
+// Makes random calls of the interner by a pass of its own, as the thread of this number.
 fn by_one<K: Key, R: AllocGlobal + Wait>(
     rt: &R,
     rodeo: &ThreadedRodeo<K, FixedState>,
     work: Work<'_>,
     thread: usize,
-) -> Told<Found, K>
-    ensures { result.pass.of ≡ rodeo.now }
+) -> Told<K>
+    ensures { result.known.of ≡ rodeo.now }
 {
     let mut pass = rodeo.pass();
     let seed = work
@@ -51,58 +52,33 @@ fn by_one<K: Key, R: AllocGlobal + Wait>(
         ..work.limits
     };
     let found = answers(rt, rodeo, &mut pass, work.texts, limits, seed, work.calls);
-    Told { found, pass }
-}
-
-// Has the thread of this number and the next make random calls of the interner at once.
-fn by_two<K: Key + Send + Sync, R: AllocGlobal + Threads + Wait + Sync>(
-    rt: &R,
-    rodeo: &ThreadedRodeo<K, FixedState>,
-    work: Work<'_>,
-    thread: usize,
-) -> Told<[Found; 2], K>
-    ensures { result.pass.of ≡ rodeo.now }
-{
-    let (one, two) = join(
-        rt,
-        move || -> Told<Found, K>
-            ensures { result.pass.of ≡ rodeo.entry.now }
-        { by_one(rt, rodeo, work, thread) },
-        move || -> Told<Found, K>
-            ensures { result.pass.of ≡ rodeo.entry.now }
-        { by_one(rt, rodeo, work, thread.wrapping_add(1)) },
-    );
-    let mut pass = one.pass;
-    pass.meet(&two.pass);
     Told {
-        found: [one.found, two.found],
-        pass,
+        found,
+        known: pass.known(),
     }
 }
 
-/// Has four threads make random calls of the interner at once. Their passes meet in the end.
-pub fn by_four<K: Key + Send + Sync, R: AllocGlobal + Threads + Wait + Sync>(
+/// Has the threads make random calls of the interner at once, and gives the answers of each. Where a thread can't be started, the caller
+/// makes its calls. The pass has then seen what those of all threads had. It is refused for want of memory alone.
+pub fn by_all<K: Key + Send + Sync, R: AllocGlobal + Threads + Wait + Sync>(
     rt: &R,
     rodeo: &ThreadedRodeo<K, FixedState>,
+    pass: &mut Pass<K>,
     work: Work<'_>,
-) -> Told<[Found; 4], K>
-    ensures { result.pass.of ≡ rodeo.now }
+) -> Result<Vec<Found>, AllocError>
+    requires { pass.old.of ≡ rodeo.now }
+    ensures { pass.new.of ≡ rodeo.now }
 {
-    let (first, second) = join(
-        rt,
-        move || -> Told<[Found; 2], K>
-            ensures { result.pass.of ≡ rodeo.entry.now }
-        { by_two(rt, rodeo, work, 0) },
-        move || -> Told<[Found; 2], K>
-            ensures { result.pass.of ≡ rodeo.entry.now }
-        { by_two(rt, rodeo, work, 2) },
-    );
-    let mut pass = first.pass;
-    pass.meet(&second.pass);
-    let [one, two] = first.found;
-    let [three, four] = second.found;
-    Told {
-        found: [one, two, three, four],
-        pass,
+    let make_calls = move |thread: usize| -> Told<K>
+        ensures { result.known.of ≡ rodeo.entry.now }
+    { by_one(rt, rodeo, work, thread) };
+    let told = map_indices(rt, rt.alloc(), THREADS, &make_calls)?;
+    for thread in 0..told.len() {
+        pass.recall(&told[thread].known);
     }
+    let mut found = Vec::new(rt.alloc());
+    for one in told {
+        found.push(one.found)?;
+    }
+    Ok(found)
 }
