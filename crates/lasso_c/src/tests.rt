@@ -76,7 +76,8 @@ fn refuses_to_encode(rt: HostRuntime) {
     for (given, offsets_given, rooms, want, told) in [
         (b"abcd", [0, 3, 2], (9, 9, 9), 1, (0, 0, 1)),
         (b"abcd", [0, 3, 5], (9, 9, 9), 2, (0, 0, 1)),
-        (b"abcd", [5, 5, 5], (9, 9, 9), 2, (0, 0, 0)),
+        (b"abcd", [5, 3, 4], (9, 9, 9), 2, (0, 0, 0)),
+        (b"abcd", [0xffff_ffff, 0, 1], (9, 9, 9), 2, (0, 0, 0)),
         (b"abcd", [0, 1, 0xffff_ffff], (9, 9, 9), 2, (0, 0, 1)),
         (b"ab\xc3d", [0, 2, 3], (9, 9, 9), 3, (0, 0, 1)),
         (b"abcd", [0, 1, 4], (1, 9, 9), 6, (2, 4, 0)),
