@@ -23,9 +23,9 @@ fn encodes_each_distinct_text_once(rt: HostRuntime) {
         &mut report,
     );
     // "red", "blue", "" and "red": the first three are new, and have 7 bytes.
-    assert_eq!(rt; status, 8);
-    assert_eq!(rt; (report.texts, report.bytes, report.at), (3, 7, 0));
-    assert_eq!(rt; (codes, bytes, offsets), ([9; 5], [9; 5], [9; 5]));
+    assert!(rt; status == 8);
+    assert!(rt; (report.texts, report.bytes, report.at) == (3, 7, 0));
+    assert!(rt; (codes, bytes, offsets) == ([9; 5], [9; 5], [9; 5]));
 
     let mut bytes = [9; 8];
     let status = lasso_encode(
@@ -37,11 +37,11 @@ fn encodes_each_distinct_text_once(rt: HostRuntime) {
         &mut offsets,
         &mut report,
     );
-    assert_eq!(rt; status, 0);
-    assert_eq!(rt; (report.texts, report.bytes, report.at), (3, 7, 0));
-    assert_eq!(rt; codes, [0, 1, 2, 0, 9]);
-    assert_eq!(rt; bytes, *b"redblue\t");
-    assert_eq!(rt; offsets, [0, 3, 7, 7, 9]);
+    assert!(rt; status == 0);
+    assert!(rt; (report.texts, report.bytes, report.at) == (3, 7, 0));
+    assert!(rt; codes == [0, 1, 2, 0, 9]);
+    assert!(rt; bytes == *b"redblue\t");
+    assert!(rt; offsets == [0, 3, 7, 7, 9]);
 }
 
 #[test]
@@ -63,11 +63,11 @@ fn encodes_a_part_of_an_array_and_no_text_at_all(rt: HostRuntime) {
             &mut offsets,
             &mut report,
         );
-        assert_eq!(rt; status, 0);
-        assert_eq!(rt; (report.texts, report.at), (texts, 0));
-        assert_eq!(rt; (codes, offsets), ([0, 1], want));
+        assert!(rt; status == 0);
+        assert!(rt; (report.texts, report.at) == (texts, 0));
+        assert!(rt; (codes, offsets) == ([0, 1], want));
     }
-    assert_eq!(rt; bytes, [b'd', b'e', 9]);
+    assert!(rt; bytes == [b'd', b'e', 9]);
 }
 
 #[test]
@@ -95,9 +95,9 @@ fn refuses_to_encode(rt: HostRuntime) {
             &mut offsets[..rooms.1],
             &mut report,
         );
-        assert_eq!(rt; status, want);
-        assert_eq!(rt; (report.texts, report.bytes, report.at), told);
-        assert_eq!(rt; (codes, bytes, offsets), ([9; 9], [9; 9], [9; 9]));
+        assert!(rt; status == want);
+        assert!(rt; (report.texts, report.bytes, report.at) == told);
+        assert!(rt; (codes, bytes, offsets) == ([9; 9], [9; 9], [9; 9]));
     }
 }
 
@@ -113,10 +113,10 @@ fn decodes_the_texts_that_codes_name(rt: HostRuntime) {
         &mut offsets,
         &mut report,
     );
-    assert_eq!(rt; status, 0);
-    assert_eq!(rt; (report.texts, report.bytes, report.at), (4, 10, 0));
-    assert_eq!(rt; bytes, *b"blueredred\t");
-    assert_eq!(rt; offsets, [0, 4, 4, 7, 10]);
+    assert!(rt; status == 0);
+    assert!(rt; (report.texts, report.bytes, report.at) == (4, 10, 0));
+    assert!(rt; bytes == *b"blueredred\t");
+    assert!(rt; offsets == [0, 4, 4, 7, 10]);
 }
 
 #[test]
@@ -140,9 +140,9 @@ fn refuses_to_decode(rt: HostRuntime) {
             &mut offsets[..rooms.0],
             &mut report,
         );
-        assert_eq!(rt; status, want);
-        assert_eq!(rt; (report.texts, report.bytes, report.at), told);
-        assert_eq!(rt; (bytes, offsets), ([9; 9], [9; 9]));
+        assert!(rt; status == want);
+        assert!(rt; (report.texts, report.bytes, report.at) == told);
+        assert!(rt; (bytes, offsets) == ([9; 9], [9; 9]));
     }
 }
 
@@ -153,16 +153,16 @@ fn counts_past_the_greatest_offset(rt: HostRuntime) -> Result<(), Fail> {
     let codes = vec![in rt.alloc(); 0u32; 1024]?;
     let mut report = UNSET;
     let status = lasso_decode(&text, &[0, 2 << 20], &codes, &mut [], &mut [], &mut report);
-    assert_eq!(rt; status, 5);
-    assert_eq!(rt; (report.texts, report.bytes, report.at), (0, 0, 1023));
+    assert!(rt; status == 5);
+    assert!(rt; (report.texts, report.bytes, report.at) == (0, 0, 1023));
     Ok(())
 }
 
 #[test]
 fn tells_what_a_status_means(rt: HostRuntime) {
     let mut text = [b'.'; 10];
-    assert_eq!(rt; lasso_status_text(0, &mut text), 4);
-    assert_eq!(rt; text, *b"done......");
-    assert_eq!(rt; lasso_status_text(9, &mut text), 18);
-    assert_eq!(rt; text, *b"there is n");
+    assert!(rt; lasso_status_text(0, &mut text) == 4);
+    assert!(rt; text == *b"done......");
+    assert!(rt; lasso_status_text(9, &mut text) == 18);
+    assert!(rt; text == *b"there is n");
 }

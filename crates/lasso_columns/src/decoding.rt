@@ -20,7 +20,7 @@ use std::hash::BuildHasher;
 /// let reader = rodeo.into_reader();
 /// let mut texts = Vec::new(rt.alloc());
 /// decode(&reader, &[1, 0, 1], &mut texts)?;
-/// assert_eq!(rt; texts.as_slice(), ["green", "red", "green"].as_slice());
+/// assert!(rt; texts.as_slice() == ["green", "red", "green"].as_slice());
 /// ```
 pub fn decode<'r, S: BuildHasher, A: Allocator>(
     reader: &'r RodeoReader<Spur, S, A>,

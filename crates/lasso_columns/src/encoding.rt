@@ -26,7 +26,7 @@ use std::str::from_utf8;
 /// let mut rodeo: SpurRodeo = Rodeo::default(rt.alloc())?;
 /// let mut codes = Vec::new(rt.alloc());
 /// encode(&mut rodeo, &["red", "green", "red"], &mut codes)?;
-/// assert_eq!(rt; codes.as_slice(), [0, 1, 0].as_slice());
+/// assert!(rt; codes.as_slice() == [0, 1, 0].as_slice());
 /// ```
 pub fn encode<S: BuildHasher, A: Allocator + Clone>(
     rodeo: &mut Rodeo<Spur, S, A>,
@@ -56,7 +56,7 @@ pub fn encode<S: BuildHasher, A: Allocator + Clone>(
 /// let mut rodeo: SpurRodeo = Rodeo::default(rt.alloc())?;
 /// let mut codes = Vec::new(rt.alloc());
 /// encode_lines(&mut rodeo, b"to be\nor not\nto be\n", &mut codes)?;
-/// assert_eq!(rt; codes.as_slice(), [0, 1, 0].as_slice());
+/// assert!(rt; codes.as_slice() == [0, 1, 0].as_slice());
 /// ```
 pub fn encode_lines<S: BuildHasher, A: Allocator + Clone>(
     rodeo: &mut Rodeo<Spur, S, A>,

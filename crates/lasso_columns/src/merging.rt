@@ -21,7 +21,7 @@ use std::hash::BuildHasher;
 /// let mut from: SpurRodeo = Rodeo::default(rt.alloc())?;
 /// from.extend(["blue", "green"])?;
 /// let merged = merge(rt.alloc(), &mut into, &from.into_reader())?;
-/// assert_eq!(rt; merged.as_slice(), [2, 1].as_slice());
+/// assert!(rt; merged.as_slice() == [2, 1].as_slice());
 /// ```
 pub fn merge<S: BuildHasher, A: Allocator + Clone, T: BuildHasher, B: Allocator>(
     alloc: Global,

@@ -24,7 +24,7 @@ use std::thread::{Threads, map_chunks};
 /// let mut codes = Vec::new(rt.alloc());
 /// encode_shared(&rt, &rodeo, &["red", "green", "red"], &mut codes, 2)?;
 /// assert!(rt; codes.first() == codes.last());
-/// assert_eq!(rt; rodeo.len(), 2);
+/// assert!(rt; rodeo.len() == 2);
 /// ```
 pub fn encode_shared<R: AllocGlobal + Threads + Wait + Sync>(
     rt: &R,

@@ -8,7 +8,7 @@ fn texts_encoded(rt: HostRuntime) -> Result<(), Fail> {
     let mut rodeo: SpurRodeo = Rodeo::default(rt.alloc())?;
     let mut codes = Vec::new(rt.alloc());
     encode(&mut rodeo, &["red", "green", "red"], &mut codes)?;
-    assert_eq!(rt; codes.as_slice(), [0, 1, 0].as_slice());
+    assert!(rt; codes.as_slice() == [0, 1, 0].as_slice());
     Ok(())
 }
 
@@ -17,7 +17,7 @@ fn lines_encoded(rt: HostRuntime) -> Result<(), Fail> {
     let mut rodeo: SpurRodeo = Rodeo::default(rt.alloc())?;
     let mut codes = Vec::new(rt.alloc());
     encode_lines(&mut rodeo, b"to be\nor not\nto be\n", &mut codes)?;
-    assert_eq!(rt; codes.as_slice(), [0, 1, 0].as_slice());
+    assert!(rt; codes.as_slice() == [0, 1, 0].as_slice());
     Ok(())
 }
 
@@ -28,7 +28,7 @@ fn codes_decoded(rt: HostRuntime) -> Result<(), Fail> {
     let reader = rodeo.into_reader();
     let mut texts = Vec::new(rt.alloc());
     decode(&reader, &[1, 0, 1], &mut texts)?;
-    assert_eq!(rt; texts.as_slice(), ["green", "red", "green"].as_slice());
+    assert!(rt; texts.as_slice() == ["green", "red", "green"].as_slice());
     Ok(())
 }
 
@@ -39,7 +39,7 @@ fn dictionaries_merged(rt: HostRuntime) -> Result<(), Fail> {
     let mut from: SpurRodeo = Rodeo::default(rt.alloc())?;
     from.extend(["blue", "green"])?;
     let merged = merge(rt.alloc(), &mut into, &from.into_reader())?;
-    assert_eq!(rt; merged.as_slice(), [2, 1].as_slice());
+    assert!(rt; merged.as_slice() == [2, 1].as_slice());
     Ok(())
 }
 
@@ -49,6 +49,6 @@ fn texts_encoded_by_threads(rt: HostRuntime) -> Result<(), Fail> {
     let mut codes = Vec::new(rt.alloc());
     encode_shared(&rt, &rodeo, &["red", "green", "red"], &mut codes, 2)?;
     assert!(rt; codes.first() == codes.last());
-    assert_eq!(rt; rodeo.len(), 2);
+    assert!(rt; rodeo.len() == 2);
     Ok(())
 }
