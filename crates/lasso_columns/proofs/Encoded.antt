@@ -21,14 +21,14 @@ use Rattle.lasso_columns.specs.Codes.{AddsCodes}
 use Rattle.lasso_columns.specs.Encoding.{spur_at, encoded_texts}
 
 -- the position of a key
-pub place_of : (place k : ℕ) → spur_at place ≡ Some k → place ≡ k - 1
-place_of place k e = let sum = (cond_some _ _ _ e).1 in omega arith
+pub position_of_key : (position k : ℕ) → spur_at position ≡ Some k → position ≡ k - 1
+position_of_key position k e = let sum = (cond_some _ _ _ e).1 in omega arith
 
 -- where an interned text is found
 pub interned_at : (old new : InternerView) (text : Text) (key : ℕ) → InternsIn spur_at old text (Ok key) new → position_of new.texts text ≡ Some (key - 1)
 interned_at old new text key h =
     let here = position_with_last old.texts text (position_of old.texts text) refl in
-    rw (list_interned spur_at old new text key h) here ∙ ap (λ n. Some n) (place_of (interned_position old.texts text) key h.0.1)
+    rw (list_interned spur_at old new text key h) here ∙ ap (λ n. Some n) (position_of_key (interned_position old.texts text) key h.0.1)
 
 -- these texts were interned in order, and their codes were put behind those from before
 pub record Encoded (old : InternerView) (texts : List Text) (before : List ℕ) (new : InternerView) (after : List ℕ) : Type 0 where

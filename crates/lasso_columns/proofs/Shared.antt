@@ -22,14 +22,14 @@ use Rattle.lasso_log.proofs.Legal.{totals_append, list_grows}
 use Rattle.lasso_log.proofs.Lengths.{texts_past}
 use Rattle.lasso_shared.proofs.CallerLaws.{tells_keys}
 use Rattle.lasso_columns.proofs.Coded.{codes_longer, map_some_push, map_some_both}
-use Rattle.lasso_columns.proofs.Encoded.{place_of}
+use Rattle.lasso_columns.proofs.Encoded.{position_of_key}
 use Rattle.lasso_columns.specs.Codes.{AreCodes}
 use Rattle.lasso_columns.specs.Encoding.{spur_at}
-use Rattle.lasso_columns.specs.Sharing.{MayRefuse}
+use Rattle.lasso_columns.specs.Sharing.{IsRefusalIn}
 
 found_at : (o : Option ℕ) (key : ℕ) → option_and_then spur_at o ≡ Some key → o ≡ Some (key - 1)
 found_at None key has = cc
-found_at (Some n) key has = ap Some (place_of n key has)
+found_at (Some n) key has = ap Some (position_of_key n key has)
 
 -- codes are those of any list that theirs begins
 pub codes_past : (list later texts : List Text) (codes : List ℕ) → IsPrefix list later → AreCodes list texts codes → AreCodes later texts codes
@@ -57,13 +57,13 @@ shared_join of before known after texts more codes codes' begins knows are are' 
 -- ---- refusals
 
 -- a call of the pass is refused
-pub shared_refused : (o : Totals) (before after : History) (pass : ℕ) (texts : List Text) (text : Text) (error : LassoErrorKind) → Contains texts text → IsCall {K = ℕ} spur_at o before after pass (Intern Copied text) (Interned (Err error)) → MayRefuse o after texts error
+pub shared_refused : (o : Totals) (before after : History) (pass : ℕ) (texts : List Text) (text : Text) (error : LassoErrorKind) → Contains texts text → IsCall {K = ℕ} spur_at o before after pass (Intern Copied text) (Interned (Err error)) → IsRefusalIn o after texts error
 shared_refused o before after pass texts text error there call =
     let why = call.explained in
     inr (text, before ++ why.0, why.1, there, append_assoc before why.0 why.1 ∙ ap (λ past. before ++ past) why.2 ∙ call.begins, why.4)
 
 -- what explains a refusal of one of some texts explains it of one of more texts, in any history that theirs begins
-pub refused_more : (o : Totals) (known after : List NoteView) (texts more : List Text) (error : LassoErrorKind) → IsPrefix known after → ((text : Text) → Contains texts text → Contains more text) → MayRefuse o (history known) texts error → MayRefuse o (history after) more error
+pub refused_more : (o : Totals) (known after : List NoteView) (texts more : List Text) (error : LassoErrorKind) → IsPrefix known after → ((text : Text) → Contains texts text → Contains more text) → IsRefusalIn o (history known) texts error → IsRefusalIn o (history after) more error
 refused_more o known after texts more error knows all (inl e) = inl e
 refused_more o known after texts more error knows all (inr why) =
     let whole : why.1 ++ (why.2 ++ history knows.0) ≡ history after =

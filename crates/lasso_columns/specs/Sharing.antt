@@ -16,8 +16,8 @@ AddsSharedCodes opening texts before after =
     (past : History) × IsLegal spur_at opening past × AddsCodes (totals opening past).texts texts before after
 
 -- memory was wanting; or somewhere in this history interning one of the texts may be refused with this error
-abbrev pub MayRefuse : Totals → History → List Text → LassoErrorKind → Type 0
-MayRefuse opening past texts error =
+abbrev pub IsRefusalIn : Totals → History → List Text → LassoErrorKind → Type 0
+IsRefusalIn opening past texts error =
     (error ≡ FailedAllocation)
     ⊎ ((text : Text) × (front back : History) × Contains texts text × (front ++ back ≡ past) × MayReply spur_at (totals opening front) (Intern Copied text) (Interned (Err error)))
 
@@ -25,4 +25,4 @@ MayRefuse opening past texts error =
 abbrev pub IsPartOf : {A : Type 0} → InternerId → List Text → KnownView → Result (Vec ℕ A) LassoErrorKind → Type 0
 IsPartOf of texts known outcome =
     (known.of ≡ of)
-    × MatchResult outcome (λ codes. AreCodes (list_of of known.notes) texts codes.items) (λ error. MayRefuse of.opening (history known.notes) texts error)
+    × MatchResult outcome (λ codes. AreCodes (list_of of known.notes) texts codes.items) (λ error. IsRefusalIn of.opening (history known.notes) texts error)

@@ -34,10 +34,10 @@ pub fn decode<'r, S: BuildHasher, A: Allocator>(
     // Where there is no memory for the texts of all codes, each asks for its own.
     let _ = out.reserve(codes.len());
     let count = reader.len();
-    for place in 0..codes.len() {
-        let code = codes[place];
+    for position in 0..codes.len() {
+        let code = codes[position];
         if code as usize >= count {
-            return Err(DecodeError::NoText { place, code });
+            return Err(DecodeError::NoText { position, code });
         }
         if out.push(reader.text_at(code as usize)).is_err() {
             return Err(DecodeError::NoMemory);

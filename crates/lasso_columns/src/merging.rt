@@ -11,7 +11,7 @@ use std::alloc::{Allocator, Global};
 use std::hash::BuildHasher;
 
 /// Interns the texts of one interner in another, in order, and answers the code that each has there: for the code n of `from` the
-/// number at place n. So columns of both are joined by rewriting codes alone.
+/// number at position n. So columns of both are joined by rewriting codes alone.
 ///
 /// The first text that is refused ends it, as in `encode`, and is the answer. The texts before it stay in `into`.
 ///

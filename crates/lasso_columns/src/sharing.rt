@@ -5,7 +5,7 @@ ghost use Rattle.lasso_log.specs.Notes.{Since};
 ghost use Rattle.lasso_log.specs.Views.{PassView, InternerId, IsSamePass, list_of, seen};
 ghost use Rattle.lasso_columns.specs.Codes.{AreCodes, AddsCodes};
 ghost use Rattle.lasso_columns.specs.Encoding.{spur_at};
-ghost use Rattle.lasso_columns.specs.Sharing.{AddsSharedCodes, IsPartOf, MayRefuse};
+ghost use Rattle.lasso_columns.specs.Sharing.{AddsSharedCodes, IsPartOf, IsRefusalIn};
 
 use lasso::log::{Known, Pass};
 use lasso::{LassoError, LassoResult, Spur, SpurThreadedRodeo};
@@ -35,7 +35,7 @@ pub fn encode_shared<R: AllocGlobal + Threads + Wait + Sync>(
 ) -> LassoResult<()>
     ensures codes { OnOk result (AddsSharedCodes rodeo.now.opening (map (λ t. t.now) texts.now) codes.old.items codes.new.items) }
     ensures refused { OnErr result (codes.new.items ≡ codes.old.items) }
-    ensures reason { IfErr result (λ error. (past : History) × IsLegal spur_at rodeo.now.opening past × MayRefuse rodeo.now.opening past (map (λ t. t.now) texts.now) error) }
+    ensures reason { IfErr result (λ error. (past : History) × IsLegal spur_at rodeo.now.opening past × IsRefusalIn rodeo.now.opening past (map (λ t. t.now) texts.now) error) }
 {
     let mut pass = rodeo.pass();
     pass.show_legal();
@@ -58,7 +58,7 @@ pub fn encode_shared_as<R: AllocGlobal + Threads + Wait + Sync>(
     ensures since { Since pass.old.number pass.old.notes pass.new.notes [] }
     ensures codes { OnOk result (AddsCodes (list_of rodeo.now pass.new.notes) (map (λ t. t.now) texts.now) codes.old.items codes.new.items) }
     ensures refused { OnErr result (codes.new.items ≡ codes.old.items) }
-    ensures reason { IfErr result (λ error. MayRefuse rodeo.now.opening (seen pass.new) (map (λ t. t.now) texts.now) error) }
+    ensures reason { IfErr result (λ error. IsRefusalIn rodeo.now.opening (seen pass.new) (map (λ t. t.now) texts.now) error) }
     ensures legal { IsLegal spur_at rodeo.now.opening (seen pass.new) }
 {
     pass.show_legal();
@@ -109,7 +109,7 @@ fn encode_by<R: AllocGlobal + Wait>(
     requires { pass.old.of ≡ rodeo.now }
     ensures of { pass.new.of ≡ rodeo.now }
     ensures codes { IfOk result (λ codes. AreCodes (list_of rodeo.now pass.new.notes) (map (λ t. t.now) texts.now) codes.items) }
-    ensures reason { IfErr result (λ error. MayRefuse rodeo.now.opening (seen pass.new) (map (λ t. t.now) texts.now) error) }
+    ensures reason { IfErr result (λ error. IsRefusalIn rodeo.now.opening (seen pass.new) (map (λ t. t.now) texts.now) error) }
 {
     let mut codes = Vec::new(rt.alloc());
     codes.reserve(texts.len())?;

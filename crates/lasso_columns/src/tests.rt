@@ -28,16 +28,16 @@ fn a_code_without_a_text_is_told(rt: HostRuntime) -> Result<(), Fail> {
     let reader = rodeo.into_reader();
     let mut texts = Vec::new(rt.alloc());
     let fault = decode(&reader, &[1, 0, 2, 1], &mut texts).err();
-    assert!(rt; fault == Some(DecodeError::NoText { place: 2, code: 2 }));
+    assert!(rt; fault == Some(DecodeError::NoText { position: 2, code: 2 }));
     assert!(rt; texts.as_slice() == ["green", "red"].as_slice());
     let printed = format!(in rt.alloc();
         "{}",
         DecodeError::NoText {
-            place: 0,
+            position: 0,
             code: 4294967295
         }
     )?;
-    assert!(rt; printed.as_str() == "Code 4294967295 at place 0 has no text");
+    assert!(rt; printed.as_str() == "Code 4294967295 at position 0 has no text");
     Ok(())
 }
 

@@ -98,3 +98,16 @@ fn a_limit_in_mid_column_stays_what_it_was(rt: HostRuntime) -> Result<(), Fail> 
     assert!(rt; rodeo.max_memory_usage(&rt) == 10);
     Ok(())
 }
+
+// The second worker interns its text whatever the first one, which is refused, does meanwhile: the bucket has room for it all the time. One
+// worker alone would end at the first text.
+#[test]
+fn each_worker_interns_its_part(rt: HostRuntime) -> Result<(), Fail> {
+    let rodeo = limited(&rt)?;
+    let mut codes = Vec::new(rt.alloc());
+    let texts = ["longer than ten bytes", "short"];
+    limit_refuses(encode_shared(&rt, &rodeo, &texts, &mut codes, 2).err())?;
+    assert!(rt; codes.is_empty());
+    assert!(rt; rodeo.len() == 1);
+    Ok(())
+}

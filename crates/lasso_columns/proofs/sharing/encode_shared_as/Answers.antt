@@ -7,7 +7,7 @@ use Rattle.lasso_log.specs.Views.{InternerId, list_of, seen}
 use Rattle.lasso_log.proofs.Tickets.{since_trans}
 use Rattle.lasso_columns.specs.Codes.{AreCodes}
 use Rattle.lasso_columns.specs.Encoding.{spur_at}
-use Rattle.lasso_columns.specs.Sharing.{IsPartOf, MayRefuse}
+use Rattle.lasso_columns.specs.Sharing.{IsPartOf, IsRefusalIn}
 use Rattle.lasso_columns.proofs.Shared.{shared_join, refused_more, part_texts, part_contained, parts_reach, ok_at, err_at}
 use Rattle.lasso_columns.proofs.sharing.encode_shared_as.Goals as goal
 
@@ -22,7 +22,7 @@ loop-part-preserved g c =
     let gave : IsPartOf of (map (λ (t : Bor Text). t.now) each.argument.now) done.known done.codes =
     subst (λ p. IsPartOf of (map (λ (t : Bor Text). t.now) each.argument.now) p.known p.codes) (sym c.index-done.ensures) each.call in
     let coded =
-    ok_at (λ codes. AreCodes (list_of of done.known.notes) (map (λ (t : Bor Text). t.now) each.argument.now) codes.items) (λ error. MayRefuse of.opening (history done.known.notes) (map (λ (t : Bor Text). t.now) each.argument.now) error) done.codes c.in-Ok.part_codes gave.1 c.in-Ok.is in
+    ok_at (λ codes. AreCodes (list_of of done.known.notes) (map (λ (t : Bor Text). t.now) each.argument.now) codes.items) (λ error. IsRefusalIn of.opening (history done.known.notes) (map (λ (t : Bor Text). t.now) each.argument.now) error) done.codes c.in-Ok.part_codes gave.1 c.in-Ok.is in
     let joined = shared_join of c.loop-part.pass.notes done.known.notes after _ _ c.loop-part.added.items c.in-Ok.part_codes.items (known.since.rest, known.since.begins) known.known c.loop-part.invariant.codes coded in
     let put = c.in_ok-extend_from_slice-in-Ok.ensures.items ∙ ap (λ cs. c.loop-part.added.items ++ cs) c.deref.ensures.value in
     let mine = known.same.1 ∙ c.loop-part.invariant.same.1 ∙ c.requires in
@@ -65,7 +65,7 @@ returns-in-Err-clause-reason g c =
     let each = (c.in_ok-parts.ensures.each c.loop-part.part done inside).1 in
     let part = map (λ (t : Bor Text). t.now) each.argument.now in
     let gave : IsPartOf of part done.known done.codes = subst (λ p. IsPartOf of part p.known p.codes) (sym c.index-done.ensures) each.call in
-    let why = err_at (λ codes. AreCodes (list_of of done.known.notes) part codes.items) (λ error. MayRefuse of.opening (history done.known.notes) part error) done.codes c.in-Err.error gave.1 c.in-Err.is in
-    let told : MayRefuse of.opening (history after) all c.in-Err.error =
+    let why = err_at (λ codes. AreCodes (list_of of done.known.notes) part codes.items) (λ error. IsRefusalIn of.opening (history done.known.notes) part error) done.codes c.in-Err.error gave.1 c.in-Err.is in
+    let told : IsRefusalIn of.opening (history after) all c.in-Err.error =
     refused_more of.opening done.known.notes after part all c.in-Err.error c.recall.ensures.known (λ t there. part_contained c.args.texts.now each.argument.now c.loop-part.part c.max-size.result t each.argument_is.value there) why in
     rw (c.new.ensures, c.kind.ensures) told
