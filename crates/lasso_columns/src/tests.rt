@@ -28,7 +28,8 @@ fn a_code_without_a_text_is_told(rt: HostRuntime) -> Result<(), Fail> {
     let reader = rodeo.into_reader();
     let mut texts = Vec::new(rt.alloc());
     let fault = decode(&reader, &[1, 0, 2, 1], &mut texts).err();
-    assert!(rt; fault == Some(DecodeError::NoText { position: 2, code: 2 }));
+    let (position, code) = (2, 2);
+    assert!(rt; fault == Some(DecodeError::NoText { position, code }));
     assert!(rt; texts.as_slice() == ["green", "red"].as_slice());
     let printed = format!(in rt.alloc();
         "{}",
