@@ -40,14 +40,17 @@ static void free_layout(struct layout *layout)
     free(layout->offsets);
 }
 
-/* Ends the program where a call was refused, with what its status means. */
+/* Ends the program where a call was refused, with what its status means, and the line where it was refused at one. */
 static void expect_done(uint32_t status, const struct lasso_report *report)
 {
     if (status == LASSO_DONE)
         return;
     uint8_t text[80];
     size_t length = lasso_status_text(status, text, sizeof text);
-    fprintf(stderr, "lines: %.*s, at line %zu\n", (int)(length < sizeof text ? length : sizeof text), (char *)text, report->at + 1);
+    fprintf(stderr, "lines: %.*s", (int)(length < sizeof text ? length : sizeof text), (char *)text);
+    if (status <= LASSO_TOO_MANY_BYTES)
+        fprintf(stderr, ", at line %zu", report->at + 1);
+    fputc('\n', stderr);
     exit(1);
 }
 
@@ -111,5 +114,7 @@ int main(int argc, char **argv)
     free_layout(&dictionary);
     free_layout(&again);
     free(codes);
-    return fflush(stdout) == 0 ? 0 : 1;
+    if (fflush(stdout) != 0 || ferror(stdout))
+        fail("the lines can't be written");
+    return 0;
 }

@@ -4,7 +4,7 @@
 The workers and this program see the folders by the same names. OUT gets `dictionary`, the distinct lines of all parts in the order of
 their bytes, and for each part `codes/NAME`, the position in the dictionary of each of its lines. Each task is one run of `step` beside this
 file, which the workers see by the same name too. A task that fails ends the program with what `step` said; a task whose worker is lost is
-done again by another one.
+done again by another one, and ends the program where it is lost more often than the scheduler's `allowed-failures`.
 """
 import os
 import subprocess
@@ -12,7 +12,7 @@ import sys
 import time
 from pathlib import Path
 
-from distributed import Client, as_completed
+from distributed import Client, KilledWorker, as_completed
 
 STEP = Path(__file__).resolve().parent / "step"
 
@@ -58,3 +58,5 @@ try:
     main()
 except (OSError, RuntimeError) as fault:
     sys.exit(str(fault))
+except KilledWorker as fault:
+    sys.exit(f"a step was given up, since it lost its worker again and again; is there memory for it? {fault}")

@@ -15,6 +15,9 @@ class Report(ctypes.Structure):
     _fields_ = [("texts", c_size_t), ("bytes", c_size_t), ("at", c_size_t)]
 
 
+# The last of the statuses that tell at which text or code a call was refused; lasso.h has them all.
+TOO_MANY_BYTES = 5
+
 BYTES, OFFSETS, CODES = ((POINTER(kind), c_size_t) for kind in (c_uint8, c_int32, c_uint32))
 
 
@@ -53,11 +56,12 @@ class Lasso:
         return texts_of(named, starts[:])
 
     def expect_done(self, status, report):
-        """Raises an error that says what the status means, unless the call was done."""
+        """Raises an error that says what the status means, and the line where there is one, unless the call was done."""
         if status != 0:
             text = room(c_uint8, 80)
             length = self.text_call(status, *sized(text))
-            raise ValueError(f"{bytes(text)[:length].decode()}, at line {report.at + 1}")
+            line = f", at line {report.at + 1}" if status <= TOO_MANY_BYTES else ""
+            raise ValueError(bytes(text)[:length].decode() + line)
 
 
 def room(kind, length):
@@ -81,6 +85,8 @@ def texts_of(data, offsets):
 
 
 def main():
+    if len(sys.argv) != 3:
+        sys.exit("usage: lines.py LIBRARY FILE")
     lasso = Lasso(sys.argv[1])
     with open(sys.argv[2], "rb") as file:
         lines = [line.removesuffix(b"\n") for line in file]

@@ -115,7 +115,10 @@ impl Layout {
     }
 }
 
-/// An error that says what the status means, unless it is that of a call that was done.
+/// The last of the statuses that tell at which text or code a call was refused; `lasso.h` has them all.
+const TOO_MANY_BYTES: u32 = 5;
+
+/// An error that says what the status means, and the line where there is one, unless it is that of a call that was done.
 fn done(status: u32, report: &Report) -> Result<(), Box<dyn Error>> {
     if status == 0 {
         return Ok(());
@@ -124,7 +127,10 @@ fn done(status: u32, report: &Report) -> Result<(), Box<dyn Error>> {
     // SAFETY: the pointer and the length are those of one slice.
     let length = unsafe { lasso_status_text(status, text.as_mut_ptr(), text.len()) };
     let meaning = String::from_utf8_lossy(&text[..length.min(text.len())]);
-    Err(format!("{meaning}, at line {}", report.at + 1).into())
+    if status <= TOO_MANY_BYTES {
+        return Err(format!("{meaning}, at line {}", report.at + 1).into());
+    }
+    Err(meaning.into())
 }
 
 fn main() -> Result<(), Box<dyn Error>> {

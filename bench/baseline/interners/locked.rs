@@ -40,8 +40,8 @@ impl Interner for Locked {
     }
 
     #[inline]
-    fn length(&self, key: u32) -> Option<usize> {
-        self.texts.read().unwrap().texts.get(key as usize).map(|text| text.len())
+    fn with_text<T>(&self, key: u32, look: impl FnOnce(&str) -> T) -> Option<T> {
+        self.texts.read().unwrap().texts.get(key as usize).map(|text| look(text))
     }
 
     fn count(&self) -> usize {

@@ -24,8 +24,8 @@ pub trait Interner: Sync {
     /// The key of the text, which joins the others if it is not there.
     fn intern(&self, text: &str) -> u32;
 
-    /// The length of the key's text, or `None` where the key stands for no text.
-    fn length(&self, key: u32) -> Option<usize>;
+    /// What `look` makes of the key's text, or `None` where the key stands for no text.
+    fn with_text<T>(&self, key: u32, look: impl FnOnce(&str) -> T) -> Option<T>;
 
     /// How many texts there are.
     fn count(&self) -> usize;
@@ -46,7 +46,7 @@ fn intern_all<I: Interner>(interner: &I, texts: &[String]) -> usize {
 fn resolve_all<I: Interner>(interner: &I, keys: &[u32]) -> usize {
     let mut sum = 0usize;
     for key in keys {
-        if let Some(length) = interner.length(*key) {
+        if let Some(length) = interner.with_text(*key, str::len) {
             sum = sum.wrapping_add(length);
         }
     }

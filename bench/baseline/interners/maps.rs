@@ -54,8 +54,8 @@ impl Interner for Maps {
     }
 
     #[inline]
-    fn length(&self, key: u32) -> Option<usize> {
-        self.texts.get(&key).map(|text| text.len())
+    fn with_text<T>(&self, key: u32, look: impl FnOnce(&str) -> T) -> Option<T> {
+        self.texts.get(&key).map(|text| look(&text))
     }
 
     fn count(&self) -> usize {

@@ -1,29 +1,37 @@
 //! Rounds of random calls that threads make of one interner, and whether one list explains all answers.
+ghost use Rattle.std.specs.Prelude.{◌≡◌};
+
 mod answers;
+mod bounds;
 mod checker;
 mod draws;
 mod frozen;
+mod passes;
 mod places;
+mod reigns;
 mod texts;
 
-use answers::{Answer, Limits, answers};
+use answers::{Answer, Limits, readings};
 use anyhow::{Result, bail, ensure};
-use checker::check;
+use checker::{Round, check};
 use frozen::Frozen;
+use lasso::log::Pass;
 use lasso::{Capacity, FixedState, Key, MemoryLimits, MicroSpur, Spur, ThreadedRodeo};
+pub use passes::THREADS;
+use passes::{Found, Work, by_all};
 pub use places::print_places;
-use std::alloc::AllocError;
+use std::alloc::Global;
 use std::rt::Clock;
 use std::sync::Wait;
-use std::thread::{Threads, map_indices};
+use std::thread::Threads;
 use std::time::Instant;
 use texts::Texts;
 
-/// How many threads make calls at once.
-pub const THREADS: usize = 4;
-
 // The bytes of the first bucket.
 const FIRST: usize = 16;
+
+// The least limit.
+const LEAST: usize = 1000;
 
 /// Makes rounds of so many calls a thread, each with another seed from 0 on, until so many seconds are over, and gives how many rounds it
 /// were. It fails where a round does, and where the clock does.
@@ -38,86 +46,101 @@ pub fn rounds_in<R: AllocGlobal + Clock + Print + Threads + Wait + Sync>(
             return Ok(seed);
         }
         if let Err(error) = history_round(rt, seed, calls) {
-            bail!("round {seed}: {error}");
+            return Err(error.context(format_args!("round {seed}")));
         }
     }
     Ok(u64::MAX)
 }
 
 /// A round: four threads make so many random calls each, and each answer is checked. Rounds of even seeds have keys enough; of the odd ones
-/// keys run out. How many texts there are in the end. It fails with a message where an answer is wrong, and for want of memory.
+/// keys run out. In every third round one thread alone sets limits. How many texts there are in the end. It fails with a message where an
+/// answer is wrong, and for want of memory.
 pub fn history_round<R: AllocGlobal + Threads + Wait + Sync>(
     rt: &R,
     seed: u64,
     calls: u32,
 ) -> Result<usize> {
-    if seed % 2 == 0 {
-        round::<Spur, R>(rt, &Texts::new(rt.alloc(), 4000)?, seed, calls)
+    let count = if seed % 2 == 0 { 4000 } else { 400 };
+    let texts = Texts::new(rt.alloc(), count)?;
+    let limits = Limits {
+        least: LEAST,
+        count: count * 8,
+        set: true,
+    };
+    let setter = if seed % 3 == 2 {
+        Some((seed / 3) as usize % THREADS)
     } else {
-        round::<MicroSpur, R>(rt, &Texts::new(rt.alloc(), 400)?, seed, calls)
+        None
+    };
+    let work = Work {
+        texts: &texts,
+        limits,
+        setter,
+        seed,
+        calls,
+    };
+    if seed % 2 == 0 {
+        round::<Spur, R>(rt, work)
+    } else {
+        round::<MicroSpur, R>(rt, work)
     }
 }
 
 // A round with keys of this type.
 fn round<K: Key + Send + Sync, R: AllocGlobal + Threads + Wait + Sync>(
     rt: &R,
-    texts: &Texts,
-    seed: u64,
-    calls: u32,
+    work: Work<'_>,
 ) -> Result<usize> {
-    let limits = Limits {
-        least: 1000,
-        count: texts.count().saturating_mul(8),
-    };
-    let limit = limits.least.saturating_add(limits.count / 2);
+    let limit = LEAST.saturating_add(work.limits.count / 2);
     let rodeo: ThreadedRodeo<K, FixedState> = ThreadedRodeo::with_capacity_and_memory_limits(
         rt.alloc(),
         Capacity::for_bytes(FIRST),
         MemoryLimits::new(limit),
     )?;
-    let found = map_indices(
-        rt,
-        rt.alloc(),
-        THREADS,
-        &|thread| {
-            let own = seed
-                .wrapping_mul(THREADS as u64)
-                .wrapping_add(thread as u64);
-            answers(rt, &rodeo, texts, limits, own, calls)
-        },
-    )?;
-    let mut frozen = Frozen::new(rt.alloc(), texts, limit, FIRST)?;
-    frozen.usage = rodeo.current_memory_usage(rt);
-    let len = rodeo.len();
-    let reader = rodeo.into_reader(rt)?;
+    let mut pass = rodeo.pass();
+    let found = by_all(rt, &rodeo, &mut pass, work)?;
+    let last = readings(rt, &rodeo, &mut pass);
+    let frozen = freeze(rt, rodeo, &mut pass, work.texts)?;
+    let round = Round {
+        texts: work.texts,
+        frozen: &frozen,
+        usage: FIRST,
+        limit,
+        alone: work.setter,
+    };
+    let found = with_last(rt.alloc(), found, last)?;
+    check::<K>(rt.alloc(), &round, found.as_slice())?;
+    Ok(frozen.len())
+}
+
+// The texts of the interner, as the pass has then seen them.
+fn freeze<K: Key, R: AllocGlobal + Wait>(
+    rt: &R,
+    rodeo: ThreadedRodeo<K, FixedState>,
+    pass: &mut Pass<K>,
+    texts: &Texts,
+) -> Result<Frozen>
+    requires { pass.old.of ≡ rodeo }
+{
+    let reader = rodeo.into_reader_as(rt, pass)?;
+    let mut frozen = Frozen::new(rt.alloc(), texts)?;
     for text in reader.strings() {
         frozen.push(texts, text)?;
     }
-    ensure!(frozen.len() == len, "{len} texts were counted in the end");
-    check_all::<K>(&mut frozen, texts, &found)?;
-    Ok(len)
+    Ok(frozen)
 }
 
-// Checks the answers of all threads.
-fn check_all<K: Key>(
-    frozen: &mut Frozen,
-    texts: &Texts,
-    found: &[Result<Vec<Answer>, AllocError>],
-) -> Result<()> {
+// The answers of each thread, and behind them those of the pass that has seen what all had.
+fn with_last(alloc: Global, found: Vec<Found>, last: [Answer; 3]) -> Result<Vec<Vec<Answer>>> {
+    let mut all = Vec::new(alloc);
     for answers in found {
-        let Ok(answers) = answers else {
+        let Ok(mut answers) = answers else {
             bail!("no memory for the answers");
         };
-        frozen.note_limits(answers.as_slice());
-    }
-    ensure!(
-        frozen.usage <= frozen.greatest,
-        "the usage rose past each limit"
-    );
-    for answers in found {
-        if let Ok(answers) = answers {
-            check::<K>(frozen, texts, FIRST, answers.as_slice())?;
+        for answer in last {
+            answers.push(answer)?;
         }
+        all.push(answers)?;
     }
-    Ok(())
+    Ok(all)
 }

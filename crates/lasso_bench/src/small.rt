@@ -176,9 +176,9 @@ fn print_walks<R: AllocGlobal + Clock + Print + Wait>(rt: &R) -> Result<()> {
     Ok(())
 }
 
-// Makes two rounds of random calls, one of them with few keys.
+// Makes three rounds of random calls, one of them with few keys and one in which a thread sets limits alone.
 fn print_histories<R: AllocGlobal + Print + Threads + Wait + Sync>(rt: &R) -> Result<()> {
-    for seed in [0u64, 1] {
+    for seed in [0u64, 1, 2] {
         let len = history_round(rt, seed, CALLS)?;
         ensure!(len > 200, "round {seed} has {len} texts alone");
         println!(rt; "round {seed}: one list explains all answers")?;

@@ -67,10 +67,10 @@ struct lasso_report {
  * they first stand. A code is the position of its text in the dictionary, from 0. Equal texts have equal codes.
  *
  * bytes               the caller's, read: the texts' bytes. bytes_length counts bytes.
- * offsets             the caller's, read: places in bytes, counted in bytes. offsets_length counts offsets, one more than texts.
+ * offsets             the caller's, read: positions in bytes, counted in bytes. offsets_length counts offsets, one more than texts.
  * codes               the caller's, written: a code for each text, in their order. codes_length counts codes, one for each text.
  * dictionary_bytes    the caller's, written: the distinct texts' bytes. dictionary_bytes_length counts bytes, as many as those.
- * dictionary_offsets  the caller's, written: places in dictionary_bytes, counted in bytes, of which the first is 0.
+ * dictionary_offsets  the caller's, written: positions in dictionary_bytes, counted in bytes, of which the first is 0.
  *                     dictionary_offsets_length counts offsets, one more than distinct texts.
  * report              the caller's, written: one struct.
  *
@@ -94,11 +94,11 @@ uint32_t lasso_encode(const uint8_t *bytes, size_t bytes_length,
  * gives the texts that it was given.
  *
  * dictionary_bytes    the caller's, read: the dictionary's bytes. dictionary_bytes_length counts bytes.
- * dictionary_offsets  the caller's, read: places in dictionary_bytes, counted in bytes. dictionary_offsets_length counts
+ * dictionary_offsets  the caller's, read: positions in dictionary_bytes, counted in bytes. dictionary_offsets_length counts
  *                     offsets, one more than the dictionary's texts, of which some may be equal.
  * codes               the caller's, read: positions in the dictionary, from 0. codes_length counts codes.
  * bytes               the caller's, written: the named texts' bytes. bytes_length counts bytes, as many as those.
- * offsets             the caller's, written: places in bytes, counted in bytes, of which the first is 0. offsets_length counts
+ * offsets             the caller's, written: positions in bytes, counted in bytes, of which the first is 0. offsets_length counts
  *                     offsets, one more than codes.
  * report              the caller's, written: one struct.
  *

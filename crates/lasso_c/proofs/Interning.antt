@@ -16,7 +16,7 @@ use Rattle.lasso_parts.specs.Kept.{kept_at}
 use Rattle.lasso_parts.specs.Texts.{Text, position_of}
 use Rattle.lasso_parts.proofs.TextLemmas.{position_last}
 use Rattle.lasso_single.specs.Intern.{interned_position}
-use Rattle.lasso_c.specs.Layout.{reach, texts_from, texts_of, text_fault, texts_fault, layout_fault}
+use Rattle.lasso_c.specs.Layout.{reach, texts_from, layout_texts, text_fault, texts_fault, layout_fault}
 use Rattle.lasso_c.specs.Encoding.{with_new, with_all_new, dictionary_of, codes_of}
 use Rattle.lasso_c.specs.declared.refusal.Refusal.{Refusal}
 use Rattle.lasso_c.proofs.Layouts.{fault_step, fault_here}
@@ -34,12 +34,12 @@ pub position_stays : (texts more : List Text) (text : Text) (n : ℕ) → positi
 position_stays texts [] text n at = at
 position_stays texts (other ∷ more) text n at = position_stays (with_new texts other) more text n (with_new_by (is_some (position_of texts other)) texts text other n at)
 
-key_of_place : (place key : ℕ) → kept_at 4294967295 place ≡ Some key → Some place ≡ Some (key - 1)
-key_of_place place key is = let sum = (cond_some _ _ _ is).1 in let same : place ≡ key - 1 = omega arith in ap (λ n. Some n) same
+key_of_position : (position key : ℕ) → kept_at 4294967295 position ≡ Some key → Some position ≡ Some (key - 1)
+key_of_position position key is = let sum = (cond_some _ _ _ is).1 in let same : position ≡ key - 1 = omega arith in ap (λ n. Some n) same
 
 placed_by : (found : Option ℕ) (texts : List Text) (text : Text) (key : ℕ) → position_of texts text ≡ found → kept_at 4294967295 (unwrap_or found (length texts)) ≡ Some key → position_of (if is_some found then texts else texts ++ text ∷ []) text ≡ Some (key - 1)
-placed_by None texts text key none is = position_last texts text none ∙ key_of_place (length texts) key is
-placed_by (Some n) texts text key at is = at ∙ key_of_place n key is
+placed_by None texts text key none is = position_last texts text none ∙ key_of_position (length texts) key is
+placed_by (Some n) texts text key at is = at ∙ key_of_position n key is
 
 -- the key of a text that was interned is that of its position
 pub placed : (texts : List Text) (text : Text) (key : ℕ) → kept_at 4294967295 (interned_position texts text) ≡ Some key → position_of (with_new texts text) text ≡ Some (key - 1)
@@ -53,8 +53,8 @@ new_bytes false texts text = omega (arith, ap length (concat-append texts (text 
 -- the texts that a layout still has from an offset on are still to be interned
 pub record Interning (bytes offsets : List ℕ) (at from : ℕ) (rest : List ℕ) (texts : List Text) (found : List ℕ) : Type 0 where
   pub layout : layout_fault bytes offsets ≡ texts_fault bytes at from rest
-  pub dictionary : dictionary_of (texts_of bytes offsets) ≡ with_all_new texts (texts_from bytes from rest)
-  pub codes : codes_of (dictionary_of (texts_of bytes offsets)) (texts_of bytes offsets) ≡ found ++ codes_of (dictionary_of (texts_of bytes offsets)) (texts_from bytes from rest)
+  pub dictionary : dictionary_of (layout_texts bytes offsets) ≡ with_all_new texts (texts_from bytes from rest)
+  pub codes : codes_of (dictionary_of (layout_texts bytes offsets)) (layout_texts bytes offsets) ≡ found ++ codes_of (dictionary_of (layout_texts bytes offsets)) (texts_from bytes from rest)
   pub small : length (concat texts) ≤ from
   pub within : from ≤ reach bytes
 
@@ -62,7 +62,7 @@ module _ (bytes offsets : List ℕ) (at from to : ℕ) (texts : List Text) (code
   -- the next text is interned
   interned_next : (rest : List ℕ) (text : Text) (code : ℕ) → Interning bytes offsets at from (to ∷ rest) texts codes → text ≡ slice_range bytes from to → from ≤ to → to ≤ reach bytes → text_fault bytes at from to ≡ None → position_of (with_new texts text) text ≡ Some code → Interning bytes offsets (at + 1) to rest (with_new texts text) (codes ++ code ∷ [])
   interned_next rest text code i is rises within good found =
-      let whole = dictionary_of (texts_of bytes offsets) in
+      let whole = dictionary_of (layout_texts bytes offsets) in
       let more = texts_from bytes to rest in
       let left : whole ≡ with_all_new (with_new texts text) more = i.dictionary ∙ ap (λ t. with_all_new (with_new texts t) more) (sym is) in
       let last : position_of whole text ≡ Some code = ap (λ d. position_of d text) left ∙ position_stays (with_new texts text) more text code found in
@@ -76,7 +76,7 @@ module _ (bytes offsets : List ℕ) (at from to : ℕ) (texts : List Text) (code
       }
 
 module _ (bytes offsets : List ℕ) (at from : ℕ) (rest : List ℕ) (texts : List Text) (codes : List ℕ) where
-  -- the same, at a place of the offsets
+  -- the same, at a position of the offsets
   pub interned_more : (text : Text) (code : ℕ) → Interning bytes offsets at from (drop at rest) texts codes → at < length rest → text ≡ slice_range bytes from (get_or rest at 0) → from ≤ get_or rest at 0 → get_or rest at 0 ≤ reach bytes → text_fault bytes at from (get_or rest at 0) ≡ None → position_of (with_new texts text) text ≡ Some code → Interning bytes offsets (at + 1) (get_or rest at 0) (drop (at + 1) rest) (with_new texts text) (codes ++ code ∷ [])
   interned_more text code i small is rises within good found =
       interned_next bytes offsets at from (get_or rest at 0) texts codes (drop (at + 1) rest) text code (subst (λ r. Interning bytes offsets at from r texts codes) (drop_more rest at 0 small) i) is rises within good found

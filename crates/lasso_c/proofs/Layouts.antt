@@ -11,7 +11,7 @@ use Rattle.std.proofs.lemmas.Bool.{false_from_ne_true}
 use Rattle.std.proofs.lemmas.Bool.Decides.{nat_tests}
 use Rattle.std.proofs.lemmas.Option.{slice_get_past}
 use Rattle.lasso_parts.specs.Texts.{Text}
-use Rattle.lasso_c.specs.Layout.{reach, texts_from, texts_of, start_fault, text_fault, texts_fault, layout_fault}
+use Rattle.lasso_c.specs.Layout.{reach, texts_from, layout_texts, start_fault, text_fault, texts_fault, layout_fault}
 use Rattle.lasso_c.specs.declared.refusal.Refusal.{Refusal}
 use Rattle.lasso_c.specs.declared.refusal.Refusal.TheVariants.{NotUtf8}
 
@@ -33,12 +33,12 @@ or_none None other e = (refl, e)
 or_none (Some refusal) other e = let no : Some refusal ≡ None = e in absurd cc
 
 -- where a text lies, and that it is there
-pub record LiesAt (bytes : List ℕ) (from to : ℕ) (text : Option Text) : Type 0 where
+pub record LiesBetween (bytes : List ℕ) (from to : ℕ) (text : Option Text) : Type 0 where
   pub rises : from ≤ to
   pub within : to ≤ reach bytes
   pub is : text ≡ Some (slice_range bytes from to)
 
-lies_from : (bytes : List ℕ) (at from : ℕ) (offsets : List ℕ) (k : ℕ) → texts_fault bytes at from offsets ≡ None → k < length offsets → LiesAt bytes (get_or (from ∷ offsets) k 0) (get_or offsets k 0) (slice_get (texts_from bytes from offsets) k)
+lies_from : (bytes : List ℕ) (at from : ℕ) (offsets : List ℕ) (k : ℕ) → texts_fault bytes at from offsets ≡ None → k < length offsets → LiesBetween bytes (get_or (from ∷ offsets) k 0) (get_or offsets k 0) (slice_get (texts_from bytes from offsets) k)
 lies_from bytes at from [] k good small = absurd (omega arith)
 lies_from bytes at from (to ∷ offsets) zero good small =
     let both = or_none (text_fault bytes at from to) (texts_fault bytes (at + 1) to offsets) good in
@@ -49,7 +49,7 @@ lies_from bytes at from (to ∷ offsets) (suc k) good small =
     lies_from bytes (at + 1) to offsets k both.1 (omega arith)
 
 -- a text of a good layout lies between its two offsets
-pub lies : (bytes offsets : List ℕ) (k : ℕ) → layout_fault bytes offsets ≡ None → k + 1 < length offsets → LiesAt bytes (get_or offsets k 0) (get_or offsets (k + 1) 0) (slice_get (texts_of bytes offsets) k)
+pub lies : (bytes offsets : List ℕ) (k : ℕ) → layout_fault bytes offsets ≡ None → k + 1 < length offsets → LiesBetween bytes (get_or offsets k 0) (get_or offsets (k + 1) 0) (slice_get (layout_texts bytes offsets) k)
 lies bytes [] k good small = absurd (omega arith)
 lies bytes (from ∷ offsets) k good small =
     let both = or_none (start_fault bytes from) (texts_fault bytes 0 from offsets) good in
@@ -60,13 +60,13 @@ length-texts_from bytes from [] = refl
 length-texts_from bytes from (to ∷ offsets) = ap suc (length-texts_from bytes to offsets)
 
 -- there are as many texts as there are offsets but one
-pub length-texts_of : (bytes offsets : List ℕ) → length (texts_of bytes offsets) ≡ length offsets - 1
-length-texts_of bytes [] = refl
-length-texts_of bytes (from ∷ offsets) = omega (arith, length-texts_from bytes from offsets)
+pub length-layout_texts : (bytes offsets : List ℕ) → length (layout_texts bytes offsets) ≡ length offsets - 1
+length-layout_texts bytes [] = refl
+length-layout_texts bytes (from ∷ offsets) = omega (arith, length-texts_from bytes from offsets)
 
 -- no text is there past the last offset
-pub lacks : (bytes offsets : List ℕ) (k : ℕ) → length offsets ≤ k + 1 → slice_get (texts_of bytes offsets) k ≡ None
-lacks bytes offsets k far = slice_get_past (texts_of bytes offsets) k (omega (arith, length-texts_of bytes offsets))
+pub lacks : (bytes offsets : List ℕ) (k : ℕ) → length offsets ≤ k + 1 → slice_get (layout_texts bytes offsets) k ≡ None
+lacks bytes offsets k far = slice_get_past (layout_texts bytes offsets) k (omega (arith, length-layout_texts bytes offsets))
 
 -- one text further from an offset on
 pub fault_step : (bytes : List ℕ) (at from to : ℕ) (offsets : List ℕ) → text_fault bytes at from to ≡ None → texts_fault bytes at from (to ∷ offsets) ≡ texts_fault bytes (at + 1) to offsets

@@ -10,7 +10,7 @@ use Rattle.std.proofs.lemmas.List.{drop_more, length-map}
 use Rattle.std.proofs.lemmas.Option.{get_or_from_slice_get, slice_get-get_or, slice_get-map}
 use Rattle.lasso_parts.specs.Texts.{Text}
 use Rattle.lasso_c.specs.Layout.{greatest_offset}
-use Rattle.lasso_c.specs.Decoding.{nothing, texts_named, with_next, and_then, measured}
+use Rattle.lasso_c.specs.Decoding.{nothing, texts_named, with_next, unless_refused, measured}
 use Rattle.lasso_c.specs.declared.refusal.Sizes.{Sizes}
 use Rattle.lasso_c.specs.declared.refusal.Refusal.{Refusal}
 use Rattle.lasso_c.specs.declared.refusal.Refusal.TheVariants.{NoSuchCode}
@@ -26,7 +26,7 @@ next_known : (sizes more : Sizes) (found : Option Text) → with_next sizes foun
 next_known sizes more None is = let no : Err (NoSuchCode sizes.texts) ≡ Ok more = is in absurd cc
 next_known sizes more (Some text) is = (text, record { is = refl; texts = grind (arith, nat_tests); bytes = grind (arith, nat_tests); small = grind (arith, nat_tests) })
 
-both_known : {X Y E : Type 0} (one : Result X E) (next : X → Result Y E) (last : Y) → and_then one next ≡ Ok last → (mid : X) × (one ≡ Ok mid) × (next mid ≡ Ok last)
+both_known : {X Y E : Type 0} (one : Result X E) (next : X → Result Y E) (last : Y) → unless_refused one next ≡ Ok last → (mid : X) × (one ≡ Ok mid) × (next mid ≡ Ok last)
 both_known (Ok mid) next last is = (mid, refl, is)
 both_known {X} {Y} {E} (Err error) next last is = let no : ◌≡◌ {A = Result Y E} (Err error) (Ok last) = is in absurd cc
 
@@ -63,13 +63,13 @@ measured_known dictionary sizes (code ∷ codes) whole is =
 module _ (dictionary : List Text) (sizes : Sizes) (codes : List ℕ) (at : ℕ) where
   -- the next code's text is there and fits
   pub measured_more : (more : Sizes) → at < length codes → with_next sizes (slice_get dictionary (get_or codes at 0)) ≡ Ok more → measured dictionary sizes (drop at codes) ≡ measured dictionary more (drop (at + 1) codes)
-  measured_more more small is = ap (λ cs. measured dictionary sizes cs) (drop_more codes at 0 small) ∙ ap (λ r. and_then r (λ m. measured dictionary m (drop (at + 1) codes))) is
+  measured_more more small is = ap (λ cs. measured dictionary sizes cs) (drop_more codes at 0 small) ∙ ap (λ r. unless_refused r (λ m. measured dictionary m (drop (at + 1) codes))) is
 
   -- the next code is the first wrong one
   pub measured_stops : (refusal : Refusal) → at < length codes → with_next sizes (slice_get dictionary (get_or codes at 0)) ≡ Err refusal → measured dictionary sizes (drop at codes) ≡ Err refusal
-  measured_stops refusal small is = ap (λ cs. measured dictionary sizes cs) (drop_more codes at 0 small) ∙ ap (λ r. and_then r (λ m. measured dictionary m (drop (at + 1) codes))) is
+  measured_stops refusal small is = ap (λ cs. measured dictionary sizes cs) (drop_more codes at 0 small) ∙ ap (λ r. unless_refused r (λ m. measured dictionary m (drop (at + 1) codes))) is
 
--- the text that a code names is that of its place
+-- the text that a code names is that of its position
 pub named_at : (dictionary : List Text) (codes : List ℕ) (at : ℕ) (text : Text) → at < length codes → slice_get dictionary (get_or codes at 0) ≡ Some text → slice_get (texts_named dictionary codes) at ≡ Some text
 named_at dictionary codes at text small is =
     slice_get-map (λ code. get_or dictionary code []) codes at ∙ ap (λ o. option_map (λ code. get_or dictionary code []) o) (slice_get-get_or codes at 0 small) ∙ ap (λ (t : Text). Some t) (get_or_from_slice_get dictionary (get_or codes at 0) text [] is)

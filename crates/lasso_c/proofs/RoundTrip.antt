@@ -2,7 +2,7 @@
 --
 -- Texts that lie one behind the other in a buffer are cut out of it again at their offsets, whatever lies in front of the
 -- first: so a text is moved from the back to the front, one after another. Each text of a layout stands in its dictionary,
--- at the place that its code tells, and the dictionary has no more bytes than the layout.
+-- at the position that its code tells, and the dictionary has no more bytes than the layout.
 use Rattle.std.proofs.Common.{ℕ, ◌≡◌, ◌+◌, ◌-◌, ◌<◌, ◌≤◌, Bool, true, false, List, [], ◌∷◌, ◌++◌, length, take, drop, slice_get, is_some, if◌then◌else◌, Option, Some, None, Ok, refl, ap, sym, subst, ◌∙◌, lit≤, zero-add, arith, length-append, append_assoc}
 use Rattle.std.specs.List.{slice_range, concat}
 use Rattle.std.specs.Option.{option_or, unwrap_or}
@@ -14,9 +14,9 @@ use Rattle.std.proofs.lemmas.Map.Keys.{IsDistinct-from_apart}
 use Rattle.std.proofs.lemmas.Option.{get_or_from_slice_get}
 use Rattle.lasso_parts.specs.Texts.{Text, position_of, IsDistinct}
 use Rattle.lasso_parts.proofs.TextLemmas.{distinct_push, position_here, position_last}
-use Rattle.lasso_c.specs.Layout.{greatest_offset, reach, texts_from, texts_of, start_fault, text_fault, texts_fault, layout_fault, offsets_from}
+use Rattle.lasso_c.specs.Layout.{greatest_offset, reach, texts_from, layout_texts, start_fault, text_fault, texts_fault, layout_fault, offsets_from}
 use Rattle.lasso_c.specs.Encoding.{with_new, with_all_new, dictionary_of, codes_of, sizes_of}
-use Rattle.lasso_c.specs.Decoding.{texts_named, with_next, and_then, measured, fitting, unless_faulty, nothing}
+use Rattle.lasso_c.specs.Decoding.{texts_named, with_next, unless_refused, measured, fitting, unless_faulty, nothing}
 use Rattle.lasso_c.specs.Laws.{DecodesBack, DecodingUndoesEncoding}
 use Rattle.lasso_c.specs.declared.refusal.Sizes.{Sizes}
 use Rattle.lasso_c.specs.declared.refusal.Refusal.{Refusal}
@@ -29,7 +29,7 @@ Each P [] = Unit {0}
 Each P (text ∷ texts) = P text × Each P texts
 
 -- the first text, up to the next offset
-cut_first : (bytes : List ℕ) (from end : ℕ) (texts : List Text) → texts_from bytes from (offsets_from end texts) ≡ slice_range bytes from end ∷ texts_of bytes (offsets_from end texts)
+cut_first : (bytes : List ℕ) (from end : ℕ) (texts : List Text) → texts_from bytes from (offsets_from end texts) ≡ slice_range bytes from end ∷ layout_texts bytes (offsets_from end texts)
 cut_first bytes from end [] = refl
 cut_first bytes from end (text ∷ texts) = refl
 
@@ -42,12 +42,12 @@ behind : (front text : List ℕ) (at : ℕ) → at ≡ length front → at + len
 behind front text at e = omega (arith, length-append front text)
 
 -- texts are cut out again where they lie
-texts_back : (front : List ℕ) (texts : List Text) (at : ℕ) → at ≡ length front → texts_of (front ++ concat texts) (offsets_from at texts) ≡ texts
+texts_back : (front : List ℕ) (texts : List Text) (at : ℕ) → at ≡ length front → layout_texts (front ++ concat texts) (offsets_from at texts) ≡ texts
 texts_back front [] at e = refl
 texts_back front (text ∷ texts) at e =
     let end = at + length text in
-    let others : texts_of (front ++ (text ++ concat texts)) (offsets_from end texts) ≡ texts = ap (λ bytes. texts_of bytes (offsets_from end texts)) (sym (append_assoc front text (concat texts))) ∙ texts_back (front ++ text) texts end (behind front text at e) in
-    cut_first (front ++ (text ++ concat texts)) at end texts ∙ ap (λ (t : Text). t ∷ texts_of (front ++ (text ++ concat texts)) (offsets_from end texts)) (slice_here front text (concat texts) at e) ∙ ap (λ ts. text ∷ ts) others
+    let others : layout_texts (front ++ (text ++ concat texts)) (offsets_from end texts) ≡ texts = ap (λ bytes. layout_texts bytes (offsets_from end texts)) (sym (append_assoc front text (concat texts))) ∙ texts_back (front ++ text) texts end (behind front text at e) in
+    cut_first (front ++ (text ++ concat texts)) at end texts ∙ ap (λ (t : Text). t ∷ layout_texts (front ++ (text ++ concat texts)) (offsets_from end texts)) (slice_here front text (concat texts) at e) ∙ ap (λ ts. text ∷ ts) others
 
 -- the faults from the first of some offsets on
 faults_at : List ℕ → ℕ → List ℕ → Option Refusal
@@ -104,22 +104,22 @@ pub record GoodTexts (texts : List Text) : Type 0 where
   pub utf8 : Each IsUtf8 texts
   pub small : length (concat texts) ≤ greatest_offset
 
-good_texts : (bytes offsets : List ℕ) → layout_fault bytes offsets ≡ None → GoodTexts (texts_of bytes offsets)
+good_texts : (bytes offsets : List ℕ) → layout_fault bytes offsets ≡ None → GoodTexts (layout_texts bytes offsets)
 good_texts bytes [] good = record { utf8 = tt; small = lit≤ tt }
 good_texts bytes (from ∷ offsets) good =
     let both = or_none (start_fault bytes from) (texts_fault bytes 0 from offsets) good in
     record { utf8 = utf8_from bytes 0 from offsets both.1; small = let all = bytes_from bytes 0 from offsets (start_known bytes from both.0) both.1 in omega arith }
 
--- where a text stands in a dictionary
-abbrev Stands : List Text → Text → Type 0
-Stands dictionary text = (n : ℕ) × (position_of dictionary text ≡ Some n)
+-- a text has a code in a dictionary
+abbrev HasCode : List Text → Text → Type 0
+HasCode dictionary text = (n : ℕ) × (position_of dictionary text ≡ Some n)
 
-new_stands : (found : Option ℕ) (texts : List Text) (text : Text) → position_of texts text ≡ found → Stands (if is_some found then texts else texts ++ text ∷ []) text
+new_stands : (found : Option ℕ) (texts : List Text) (text : Text) → position_of texts text ≡ found → HasCode (if is_some found then texts else texts ++ text ∷ []) text
 new_stands None texts text none = (length texts, position_last texts text none)
 new_stands (Some n) texts text at = (n, at)
 
 -- each text that is interned stands in the dictionary
-all_stand : (texts more : List Text) → Each (Stands (with_all_new texts more)) more
+all_stand : (texts more : List Text) → Each (HasCode (with_all_new texts more)) more
 all_stand texts [] = tt
 all_stand texts (text ∷ more) =
     let here = new_stands (position_of texts text) texts text refl in
@@ -155,11 +155,11 @@ all_distinct : (texts more : List Text) → IsDistinct texts → IsDistinct (wit
 all_distinct texts [] distinct = distinct
 all_distinct texts (text ∷ more) distinct = all_distinct (with_new texts text) more (distinct_by (position_of texts text) texts text refl distinct)
 
--- the text at the place of a code
-at_code : (dictionary : List Text) (text : Text) → Stands dictionary text → slice_get dictionary (unwrap_or (position_of dictionary text) 0) ≡ Some text
+-- the text at the position of a code
+at_code : (dictionary : List Text) (text : Text) → HasCode dictionary text → slice_get dictionary (unwrap_or (position_of dictionary text) 0) ≡ Some text
 at_code dictionary text stands = ap (λ o. slice_get dictionary (unwrap_or o 0)) stands.1 ∙ position_here dictionary text stands.0 stands.1
 
-named_back : (dictionary texts : List Text) → Each (Stands dictionary) texts → texts_named dictionary (codes_of dictionary texts) ≡ texts
+named_back : (dictionary texts : List Text) → Each (HasCode dictionary) texts → texts_named dictionary (codes_of dictionary texts) ≡ texts
 named_back dictionary [] all = refl
 named_back dictionary (text ∷ texts) all =
     let here = get_or_from_slice_get dictionary (unwrap_or (position_of dictionary text) 0) text [] (at_code dictionary text all.0) in
@@ -171,7 +171,7 @@ sized texts bytes = record { texts = texts; bytes = bytes }
 next_fits : (n b : ℕ) (text : Text) → b + length text ≤ greatest_offset → with_next (sized n b) (Some text) ≡ Ok (sized (n + 1) (b + length text))
 next_fits n b text small = grind (arith, nat_tests)
 
-measured_back : (dictionary texts : List Text) (n b : ℕ) → Each (Stands dictionary) texts → b + length (concat texts) ≤ greatest_offset → measured dictionary (sized n b) (codes_of dictionary texts) ≡ Ok (sized (n + length texts) (b + length (concat texts)))
+measured_back : (dictionary texts : List Text) (n b : ℕ) → Each (HasCode dictionary) texts → b + length (concat texts) ≤ greatest_offset → measured dictionary (sized n b) (codes_of dictionary texts) ≡ Ok (sized (n + length texts) (b + length (concat texts)))
 measured_back dictionary [] n b all small =
     let n' : n ≡ n + 0 = omega arith in
     let b' : b ≡ b + 0 = omega arith in
@@ -182,7 +182,7 @@ measured_back dictionary (text ∷ texts) n b all small =
     let rest = measured_back dictionary texts (n + 1) (b + length text) all.1 (omega arith) in
     let n' : (n + 1) + length texts ≡ n + length (text ∷ texts) = omega arith in
     let b' : (b + length text) + length (concat texts) ≡ b + length (text ++ concat texts) = omega arith in
-    ap (λ r. and_then r (λ more. measured dictionary more (codes_of dictionary texts))) next ∙ rest
+    ap (λ r. unless_refused r (λ more. measured dictionary more (codes_of dictionary texts))) next ∙ rest
     ∙ ap (λ k. Ok (sized k ((b + length text) + length (concat texts)))) n' ∙ ap (λ k. Ok (sized (n + length (text ∷ texts)) k)) b'
 
 fits : (sizes : Sizes) (offsets bytes : ℕ) → sizes.texts < offsets → sizes.bytes ≤ bytes → fitting sizes offsets bytes ≡ Ok sizes
@@ -198,7 +198,7 @@ module _ (texts : List Text) (good : GoodTexts texts) where
       let small : length (concat dictionary) ≤ greatest_offset = omega (arith, all_bytes [] texts, good.small) in
       start_then (concat dictionary) 0 dictionary (grind (arith, nat_tests)) ∙ no_faults [] dictionary 0 0 refl (all_new IsUtf8 [] texts tt good.utf8) small
 
-  stands_again : texts_of (concat dictionary) (offsets_from 0 dictionary) ≡ dictionary
+  stands_again : layout_texts (concat dictionary) (offsets_from 0 dictionary) ≡ dictionary
   stands_again = texts_back [] dictionary 0 refl
 
   measured_whole : measured dictionary nothing (codes_of dictionary texts) ≡ Ok (sizes_of texts)
@@ -213,12 +213,12 @@ module _ (texts : List Text) (good : GoodTexts texts) where
     stands = stands_again;
     named = named_back dictionary texts (all_stand [] texts);
     done = λ offsets bytes below within.
-        ap (λ fault. unless_faulty fault (and_then (measured (texts_of (concat dictionary) (offsets_from 0 dictionary)) nothing (codes_of dictionary texts)) (λ sizes. fitting sizes offsets bytes))) written_good
-        ∙ ap (λ ts. and_then (measured ts nothing (codes_of dictionary texts)) (λ sizes. fitting sizes offsets bytes)) stands_again
-        ∙ ap (λ r. and_then r (λ sizes. fitting sizes offsets bytes)) measured_whole
+        ap (λ fault. unless_faulty fault (unless_refused (measured (layout_texts (concat dictionary) (offsets_from 0 dictionary)) nothing (codes_of dictionary texts)) (λ sizes. fitting sizes offsets bytes))) written_good
+        ∙ ap (λ ts. unless_refused (measured ts nothing (codes_of dictionary texts)) (λ sizes. fitting sizes offsets bytes)) stands_again
+        ∙ ap (λ r. unless_refused r (λ sizes. fitting sizes offsets bytes)) measured_whole
         ∙ fits (sizes_of texts) offsets bytes below within;
   }
 
 pub undoes : DecodingUndoesEncoding
 unfolding dictionary
-undoes bytes offsets good = decodes_back (texts_of bytes offsets) (good_texts bytes offsets good)
+undoes bytes offsets good = decodes_back (layout_texts bytes offsets) (good_texts bytes offsets good)

@@ -24,11 +24,11 @@ over_both start part rest buffer small =
     ∙ paste-paste buffer start part rest n m refl refl small
     ∙ sym (over_is start (n + m) (part ++ rest) buffer (sym (length-append part rest)))
 
--- a number that is written at a place
+-- a number that is written at a position
 pub over_one : (at value : ℕ) (buffer : List ℕ) → at < length buffer → set buffer at value ≡ over_from at (value ∷ []) buffer
 over_one at value buffer small = rw add-one (set_split buffer at value small)
 
--- what is written from the first place on
+-- what is written from the first position on
 pub over_all : (part buffer : List ℕ) → over_from 0 part buffer ≡ over part buffer
 over_all part buffer = ap (λ n. part ++ drop n buffer) (zero-add (length part))
 
@@ -39,7 +39,7 @@ over_none start buffer = rw add-zero (take-append-drop start buffer)
 length-over_from : (start : ℕ) (part buffer : List ℕ) → start + length part ≤ length buffer → length (over_from start part buffer) ≡ length buffer
 length-over_from start part buffer room = omega (arith, length-append (take start buffer) (part ++ drop (start + length part) buffer), length-append part (drop (start + length part) buffer), length-drop (start + length part) buffer, length-take-le start buffer (omega arith))
 
--- some texts are still to be written, the first of them with this number, from this place on
+-- some texts are still to be written, the first of them with this number, from this position on
 pub record Writes (offsets bytes : List ℕ) (texts : List Text) (at start : ℕ) (offsets' bytes' : List ℕ) : Type 0 where
   pub offsets_left : over_from at (offsets_from start texts) offsets' ≡ offsets
   pub bytes_left : over_from start (concat texts) bytes' ≡ bytes
@@ -92,7 +92,7 @@ module _ (offsets bytes : List ℕ) (texts : List Text) (at start : ℕ) (offset
   pub written_at : (text : Text) → slice_get texts at ≡ Some text → Writes offsets bytes (drop at texts) at start offsets' bytes' → Writes offsets bytes (drop (at + 1) texts) (at + 1) (start + length text) (set offsets' at start) (over_from start text bytes')
   written_at text is w = one_written offsets bytes at start offsets' bytes' text (drop (at + 1) texts) (left_is text is w)
 
-  -- the same, where the buffers and the place behind the text are known by equations
+  -- the same, where the buffers and the position behind the text are known by equations
   pub written_next : (text part : Text) (end : ℕ) (offsets'' bytes'' : List ℕ) → slice_get texts at ≡ Some text → part ≡ text → Writes offsets bytes (drop at texts) at start offsets' bytes' → end ≡ start + length part → offsets'' ≡ set offsets' at start → bytes'' ≡ over_from start part bytes' → Writes offsets bytes (drop (at + 1) texts) (at + 1) end offsets'' bytes''
   written_next text part end offsets'' bytes'' is same w ends sets puts = rw (ends, sets, puts, same) (written_at text is w)
 

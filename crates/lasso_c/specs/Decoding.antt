@@ -2,7 +2,7 @@
 use Rattle.std.specs.Prelude.{ℕ, ◌+◌, List, [], ◌∷◌, length, map, slice_get, nat_lt, if◌then◌else◌, Option, Some, None, Result, Ok, Err}
 use Rattle.std.specs.List.{slice_index_or}
 use Rattle.lasso_parts.specs.Texts.{Text}
-use Rattle.lasso_c.specs.Layout.{greatest_offset, texts_of, layout_fault}
+use Rattle.lasso_c.specs.Layout.{greatest_offset, layout_texts, layout_fault}
 use Rattle.lasso_c.specs.declared.refusal.Sizes.{Sizes}
 use Rattle.lasso_c.specs.declared.refusal.Refusal.{Refusal}
 use Rattle.lasso_c.specs.declared.refusal.Refusal.TheVariants.{NoSuchCode, TooManyBytes, OffsetsTooShort, BytesTooShort}
@@ -18,14 +18,15 @@ with_next sizes (Some text) =
     if nat_lt greatest_offset (sizes.bytes + length text) then Err (TooManyBytes sizes.texts)
     else Ok (record { texts = sizes.texts + 1; bytes = sizes.bytes + length text })
 
-abbrev pub and_then : {X Y E : Type 0} → Result X E → (X → Result Y E) → Result Y E
-and_then (Ok x) next = next x
-and_then (Err e) next = Err e
+-- what follows from a result, or its refusal
+abbrev pub unless_refused : {X Y E : Type 0} → Result X E → (X → Result Y E) → Result Y E
+unless_refused (Ok x) next = next x
+unless_refused (Err e) next = Err e
 
 -- the sizes of some texts and then those of the codes, or why the first wrong code is refused
 abbrev pub measured : List Text → Sizes → List ℕ → Result Sizes Refusal
 measured dictionary sizes [] = Ok sizes
-measured dictionary sizes (code ∷ codes) = and_then (with_next sizes (slice_get dictionary code)) (λ more. measured dictionary more codes)
+measured dictionary sizes (code ∷ codes) = unless_refused (with_next sizes (slice_get dictionary code)) (λ more. measured dictionary more codes)
 
 -- sizes that fit into so many offsets and bytes, or which of them is too short
 abbrev pub fitting : Sizes → ℕ → ℕ → Result Sizes Refusal
@@ -42,7 +43,7 @@ unless_faulty None result = result
 unless_faulty (Some refusal) result = Err refusal
 
 -- how decoding the codes by the dictionary of that layout ends, where there is room for so many offsets and bytes
-abbrev pub decoded : List ℕ → List ℕ → List ℕ → ℕ → ℕ → Result Sizes Refusal
-decoded dictionary_bytes dictionary_offsets codes offsets bytes =
+abbrev pub decoding_outcome : List ℕ → List ℕ → List ℕ → ℕ → ℕ → Result Sizes Refusal
+decoding_outcome dictionary_bytes dictionary_offsets codes offsets bytes =
     unless_faulty (layout_fault dictionary_bytes dictionary_offsets)
-    (and_then (measured (texts_of dictionary_bytes dictionary_offsets) nothing codes) (λ sizes. fitting sizes offsets bytes))
+    (unless_refused (measured (layout_texts dictionary_bytes dictionary_offsets) nothing codes) (λ sizes. fitting sizes offsets bytes))

@@ -2,7 +2,7 @@
 use Rattle.std.specs.Prelude.{ℕ, List, [], ◌∷◌, ◌++◌, length, map, is_some, unwrap_or, nat_lt, if◌then◌else◌, Result, Err}
 use Rattle.std.specs.List.{concat}
 use Rattle.lasso_parts.specs.Texts.{Text, position_of}
-use Rattle.lasso_c.specs.Layout.{texts_of, layout_fault}
+use Rattle.lasso_c.specs.Layout.{layout_texts, layout_fault}
 use Rattle.lasso_c.specs.Decoding.{fitting, unless_faulty}
 use Rattle.lasso_c.specs.declared.refusal.Sizes.{Sizes}
 use Rattle.lasso_c.specs.declared.refusal.Refusal.{Refusal}
@@ -29,9 +29,9 @@ abbrev pub sizes_of : List Text → Sizes
 sizes_of texts = record { texts = length texts; bytes = length (concat texts) }
 
 -- how encoding the texts of that layout ends where memory is found, and where there is room for so many codes, offsets and bytes
-abbrev pub encoded : List ℕ → List ℕ → ℕ → ℕ → ℕ → Result Sizes Refusal
-encoded bytes offsets codes dictionary_offsets dictionary_bytes =
-    let texts = texts_of bytes offsets in
+abbrev pub encoding_outcome : List ℕ → List ℕ → ℕ → ℕ → ℕ → Result Sizes Refusal
+encoding_outcome bytes offsets codes dictionary_offsets dictionary_bytes =
+    let texts = layout_texts bytes offsets in
     let sizes = sizes_of (dictionary_of texts) in
     unless_faulty (layout_fault bytes offsets)
     (if nat_lt codes (length texts) then Err (CodesTooShort sizes) else fitting sizes dictionary_offsets dictionary_bytes)

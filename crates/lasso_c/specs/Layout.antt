@@ -22,11 +22,11 @@ texts_from bytes from [] = []
 texts_from bytes from (to ∷ offsets) = slice_range bytes from to ∷ texts_from bytes to offsets
 
 -- the texts of a buffer with these offsets; no offset at all stands for no text
-abbrev pub texts_of : List ℕ → List ℕ → List Text
-texts_of bytes [] = []
-texts_of bytes (from ∷ offsets) = texts_from bytes from offsets
+abbrev pub layout_texts : List ℕ → List ℕ → List Text
+layout_texts bytes [] = []
+layout_texts bytes (from ∷ offsets) = texts_from bytes from offsets
 
--- what is wrong with the place where the first text begins, or nothing
+-- what is wrong with the offset where the first text begins, or nothing
 abbrev pub start_fault : List ℕ → ℕ → Option Refusal
 start_fault bytes from = if nat_lt (reach bytes) from then Some (OffsetPastBytes 0) else None
 
@@ -48,7 +48,7 @@ abbrev pub layout_fault : List ℕ → List ℕ → Option Refusal
 layout_fault bytes [] = None
 layout_fault bytes (from ∷ offsets) = option_or (start_fault bytes from) (texts_fault bytes 0 from offsets)
 
--- the offsets of texts that lie one behind the other from a place on
+-- the offsets of texts that lie one behind the other from an offset on
 abbrev pub offsets_from : ℕ → List Text → List ℕ
 offsets_from at [] = at ∷ []
 offsets_from at (text ∷ texts) = at ∷ offsets_from (at + length text) texts
@@ -57,6 +57,6 @@ offsets_from at (text ∷ texts) = at ∷ offsets_from (at + length text) texts
 abbrev pub over : List ℕ → List ℕ → List ℕ
 over front buffer = front ++ drop (length front) buffer
 
--- a buffer once this is written from a place on
+-- a buffer once this is written from a position on
 abbrev pub over_from : ℕ → List ℕ → List ℕ → List ℕ
 over_from start part buffer = take start buffer ++ (part ++ drop (start + length part) buffer)

@@ -6,42 +6,42 @@ use Rattle.lasso_c.specs.declared.refusal.Refusal.{Refusal}
 use Rattle.lasso_c.specs.declared.refusal.Refusal.TheVariants.{OffsetsFall, OffsetPastBytes, NotUtf8, NoSuchCode, TooManyBytes, CodesTooShort, OffsetsTooShort, BytesTooShort, NoMemory}
 
 -- 0 where the call was done, and a number of its own for each kind of refusal
-abbrev pub status_of : Result Sizes Refusal → ℕ
-status_of (Ok _) = 0
-status_of (Err (OffsetsFall _)) = 1
-status_of (Err (OffsetPastBytes _)) = 2
-status_of (Err (NotUtf8 _)) = 3
-status_of (Err (NoSuchCode _)) = 4
-status_of (Err (TooManyBytes _)) = 5
-status_of (Err (CodesTooShort _)) = 6
-status_of (Err (OffsetsTooShort _)) = 7
-status_of (Err (BytesTooShort _)) = 8
-status_of (Err NoMemory) = 9
+abbrev pub outcome_status : Result Sizes Refusal → ℕ
+outcome_status (Ok _) = 0
+outcome_status (Err (OffsetsFall _)) = 1
+outcome_status (Err (OffsetPastBytes _)) = 2
+outcome_status (Err (NotUtf8 _)) = 3
+outcome_status (Err (NoSuchCode _)) = 4
+outcome_status (Err (TooManyBytes _)) = 5
+outcome_status (Err (CodesTooShort _)) = 6
+outcome_status (Err (OffsetsTooShort _)) = 7
+outcome_status (Err (BytesTooShort _)) = 8
+outcome_status (Err NoMemory) = 9
 
 -- a report of sizes alone
 abbrev pub sizes_report : Sizes → LassoReport
 sizes_report sizes = record { texts = sizes.texts; bytes = sizes.bytes; at = 0 }
 
--- a report of a place alone
-abbrev pub place_report : ℕ → LassoReport
-place_report at = record { texts = 0; bytes = 0; at = at }
+-- a report of a position alone
+abbrev pub position_report : ℕ → LassoReport
+position_report at = record { texts = 0; bytes = 0; at = at }
 
--- the sizes that were written or are needed, or the place of a refusal
-abbrev pub report_of : Result Sizes Refusal → LassoReport
-report_of (Ok sizes) = sizes_report sizes
-report_of (Err (OffsetsFall at)) = place_report at
-report_of (Err (OffsetPastBytes at)) = place_report at
-report_of (Err (NotUtf8 at)) = place_report at
-report_of (Err (NoSuchCode at)) = place_report at
-report_of (Err (TooManyBytes at)) = place_report at
-report_of (Err (CodesTooShort sizes)) = sizes_report sizes
-report_of (Err (OffsetsTooShort sizes)) = sizes_report sizes
-report_of (Err (BytesTooShort sizes)) = sizes_report sizes
-report_of (Err NoMemory) = place_report 0
+-- the sizes that were written or are needed, or the position of the text or code that was refused
+abbrev pub outcome_report : Result Sizes Refusal → LassoReport
+outcome_report (Ok sizes) = sizes_report sizes
+outcome_report (Err (OffsetsFall at)) = position_report at
+outcome_report (Err (OffsetPastBytes at)) = position_report at
+outcome_report (Err (NotUtf8 at)) = position_report at
+outcome_report (Err (NoSuchCode at)) = position_report at
+outcome_report (Err (TooManyBytes at)) = position_report at
+outcome_report (Err (CodesTooShort sizes)) = sizes_report sizes
+outcome_report (Err (OffsetsTooShort sizes)) = sizes_report sizes
+outcome_report (Err (BytesTooShort sizes)) = sizes_report sizes
+outcome_report (Err NoMemory) = position_report 0
 
 -- a status and a report are those of how a call ended
-abbrev pub Tells : Result Sizes Refusal → ℕ → LassoReport → Type 0
-Tells outcome status report = (status ≡ status_of outcome) × (report ≡ report_of outcome)
+abbrev pub Reports : Result Sizes Refusal → ℕ → LassoReport → Type 0
+Reports outcome status report = (status ≡ outcome_status outcome) × (report ≡ outcome_report outcome)
 
 -- what a status means
 abbrev pub status_text : ℕ → List ℕ

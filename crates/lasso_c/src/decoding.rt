@@ -2,8 +2,8 @@
 ghost use Rattle.std.specs.Prelude.{◌≡◌, ◌+◌, ◌^◌, ◌<◌, ◌≤◌, None, IfOk, IsOkAnd, length, is_ok, if◌then◌else◌};
 ghost use Rattle.std.specs.List.{concat};
 ghost use Rattle.std.specs.Option.{option_copied};
-ghost use Rattle.lasso_c.specs.Layout.{greatest_offset, layout_fault, texts_of, offsets_from, over};
-ghost use Rattle.lasso_c.specs.Decoding.{with_next, measured, decoded, nothing, texts_named};
+ghost use Rattle.lasso_c.specs.Layout.{greatest_offset, layout_fault, layout_texts, offsets_from, over};
+ghost use Rattle.lasso_c.specs.Decoding.{with_next, measured, decoding_outcome, nothing, texts_named};
 
 use crate::layout::{GREATEST_OFFSET, check_layout, put_text, text_at};
 use crate::refusal::{Refusal, Sizes};
@@ -16,10 +16,10 @@ pub(crate) fn decode(
     bytes: &mut [u8],
     offsets: &mut [u32],
 ) -> Result<Sizes, Refusal>
-    ensures outcome { result ≡ decoded dictionary_bytes.now dictionary_offsets.now codes.now (length offsets.old) (length bytes.old) }
-    ensures bytes { let texts = texts_named (texts_of dictionary_bytes.now dictionary_offsets.now) codes.now in
+    ensures outcome { result ≡ decoding_outcome dictionary_bytes.now dictionary_offsets.now codes.now (length offsets.old) (length bytes.old) }
+    ensures bytes { let texts = texts_named (layout_texts dictionary_bytes.now dictionary_offsets.now) codes.now in
         bytes.new ≡ (if is_ok result then over (concat texts) bytes.old else bytes.old) }
-    ensures offsets { let texts = texts_named (texts_of dictionary_bytes.now dictionary_offsets.now) codes.now in
+    ensures offsets { let texts = texts_named (layout_texts dictionary_bytes.now dictionary_offsets.now) codes.now in
         offsets.new ≡ (if is_ok result then over (offsets_from 0 texts) offsets.old else offsets.old) }
 {
     check_layout(dictionary_bytes, dictionary_offsets)?;
@@ -41,7 +41,7 @@ fn measure(
     codes: &[u32],
 ) -> Result<Sizes, Refusal>
     requires { layout_fault dictionary_bytes.now dictionary_offsets.now ≡ None }
-    ensures { result ≡ measured (texts_of dictionary_bytes.now dictionary_offsets.now) nothing codes.now }
+    ensures { result ≡ measured (layout_texts dictionary_bytes.now dictionary_offsets.now) nothing codes.now }
 {
     let mut sizes = Sizes { texts: 0, bytes: 0 };
     for code in codes {
@@ -79,10 +79,10 @@ fn write_named(
     offsets: &mut [u32],
 )
     requires layout { layout_fault dictionary_bytes.now dictionary_offsets.now ≡ None }
-    requires room { IsOkAnd (measured (texts_of dictionary_bytes.now dictionary_offsets.now) nothing codes.now)
+    requires room { IsOkAnd (measured (layout_texts dictionary_bytes.now dictionary_offsets.now) nothing codes.now)
         (λ sizes. (sizes.texts < length offsets.old) × (sizes.bytes ≤ length bytes.old)) }
-    ensures bytes { bytes.new ≡ over (concat (texts_named (texts_of dictionary_bytes.now dictionary_offsets.now) codes.now)) bytes.old }
-    ensures offsets { offsets.new ≡ over (offsets_from 0 (texts_named (texts_of dictionary_bytes.now dictionary_offsets.now) codes.now)) offsets.old }
+    ensures bytes { bytes.new ≡ over (concat (texts_named (layout_texts dictionary_bytes.now dictionary_offsets.now) codes.now)) bytes.old }
+    ensures offsets { offsets.new ≡ over (offsets_from 0 (texts_named (layout_texts dictionary_bytes.now dictionary_offsets.now) codes.now)) offsets.old }
 {
     let mut start = 0;
     for (at, code) in codes.iter().enumerate() {

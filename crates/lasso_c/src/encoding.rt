@@ -2,8 +2,8 @@
 ghost use Rattle.std.specs.Prelude.{◌≡◌, ◌⊎◌, ◌<◌, ◌≤◌, None, Some, Err, OnOk, IfOk, IfErr, length, slice_get, is_ok, if◌then◌else◌};
 ghost use Rattle.std.specs.List.{concat};
 ghost use Rattle.lasso_parts.specs.Texts.{position_of};
-ghost use Rattle.lasso_c.specs.Layout.{greatest_offset, layout_fault, texts_of, offsets_from, over};
-ghost use Rattle.lasso_c.specs.Encoding.{with_new, dictionary_of, codes_of, sizes_of, encoded};
+ghost use Rattle.lasso_c.specs.Layout.{greatest_offset, layout_fault, layout_texts, offsets_from, over};
+ghost use Rattle.lasso_c.specs.Encoding.{with_new, dictionary_of, codes_of, sizes_of, encoding_outcome};
 ghost use Rattle.lasso_c.specs.declared.refusal.Refusal.TheVariants.{NoMemory};
 
 use crate::layout::{first_start, put_text, text_between};
@@ -32,12 +32,12 @@ pub(crate) fn encode(
     dictionary_bytes: &mut [u8],
     dictionary_offsets: &mut [u32],
 ) -> Result<Sizes, Refusal>
-    ensures outcome { (result ≡ encoded bytes.now offsets.now (length codes.old) (length dictionary_offsets.old) (length dictionary_bytes.old)) ⊎ (result ≡ Err NoMemory) }
-    ensures codes { let texts = texts_of bytes.now offsets.now in
+    ensures outcome { (result ≡ encoding_outcome bytes.now offsets.now (length codes.old) (length dictionary_offsets.old) (length dictionary_bytes.old)) ⊎ (result ≡ Err NoMemory) }
+    ensures codes { let texts = layout_texts bytes.now offsets.now in
         codes.new ≡ (if is_ok result then over (codes_of (dictionary_of texts) texts) codes.old else codes.old) }
-    ensures dictionary_bytes { let dictionary = dictionary_of (texts_of bytes.now offsets.now) in
+    ensures dictionary_bytes { let dictionary = dictionary_of (layout_texts bytes.now offsets.now) in
         dictionary_bytes.new ≡ (if is_ok result then over (concat dictionary) dictionary_bytes.old else dictionary_bytes.old) }
-    ensures dictionary_offsets { let dictionary = dictionary_of (texts_of bytes.now offsets.now) in
+    ensures dictionary_offsets { let dictionary = dictionary_of (layout_texts bytes.now offsets.now) in
         dictionary_offsets.new ≡ (if is_ok result then over (offsets_from 0 dictionary) dictionary_offsets.old else dictionary_offsets.old) }
 {
     let interned = intern_texts(alloc, bytes, offsets)?;
@@ -61,8 +61,8 @@ pub(crate) fn encode(
 fn intern_texts(alloc: Global, bytes: &[u8], offsets: &[u32]) -> Result<Interned, Refusal>
     ensures refused { IfErr result (λ refusal. (layout_fault bytes.now offsets.now ≡ Some refusal) ⊎ (refusal ≡ NoMemory)) }
     ensures layout { OnOk result (layout_fault bytes.now offsets.now ≡ None) }
-    ensures dictionary { IfOk result (λ interned. interned.dictionary.texts ≡ dictionary_of (texts_of bytes.now offsets.now)) }
-    ensures codes { let texts = texts_of bytes.now offsets.now in
+    ensures dictionary { IfOk result (λ interned. interned.dictionary.texts ≡ dictionary_of (layout_texts bytes.now offsets.now)) }
+    ensures codes { let texts = layout_texts bytes.now offsets.now in
         IfOk result (λ interned. interned.codes.items ≡ codes_of (dictionary_of texts) texts) }
     ensures small { IfOk result (λ interned. length (concat interned.dictionary.texts) ≤ greatest_offset) }
 {

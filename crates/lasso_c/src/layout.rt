@@ -3,7 +3,7 @@ ghost use Rattle.std.specs.Prelude.{◌≡◌, ◌+◌, ◌<◌, ◌≤◌, None
 ghost use Rattle.std.specs.List.{slice_range};
 ghost use Rattle.std.specs.Option.{option_copied};
 ghost use Rattle.std.specs.Result.{result_err};
-ghost use Rattle.lasso_c.specs.Layout.{greatest_offset, reach, texts_of, start_fault, text_fault, layout_fault, over_from};
+ghost use Rattle.lasso_c.specs.Layout.{greatest_offset, reach, layout_texts, start_fault, text_fault, layout_fault, over_from};
 
 use crate::refusal::Refusal;
 use std::str::from_utf8;
@@ -65,7 +65,7 @@ pub(crate) fn check_layout(bytes: &[u8], offsets: &[u32]) -> Result<(), Refusal>
 // The bytes of the text of this number, where there is one. Nothing may be wrong with the layout.
 pub(crate) fn text_at<'a>(bytes: &'a [u8], offsets: &[u32], number: u32) -> Option<&'a [u8]>
     requires { layout_fault bytes.now offsets.now ≡ None }
-    ensures { option_copied result ≡ slice_get (texts_of bytes.now offsets.now) number }
+    ensures { option_copied result ≡ slice_get (layout_texts bytes.now offsets.now) number }
 {
     let number = number as usize;
     if number + 1 >= offsets.len() {

@@ -6,10 +6,10 @@
 
 ghost use Rattle.std.specs.Prelude.{◌≡◌, ◌⊎◌, Err, length, take};
 ghost use Rattle.std.specs.List.{concat};
-ghost use Rattle.lasso_c.specs.Layout.{texts_of, offsets_from, over};
-ghost use Rattle.lasso_c.specs.Encoding.{dictionary_of, codes_of, encoded};
-ghost use Rattle.lasso_c.specs.Decoding.{texts_named, decoded};
-ghost use Rattle.lasso_c.specs.Status.{Tells, status_text};
+ghost use Rattle.lasso_c.specs.Layout.{layout_texts, offsets_from, over};
+ghost use Rattle.lasso_c.specs.Encoding.{dictionary_of, codes_of, encoding_outcome};
+ghost use Rattle.lasso_c.specs.Decoding.{texts_named, decoding_outcome};
+ghost use Rattle.lasso_c.specs.Status.{Reports, status_text};
 ghost use Rattle.lasso_c.specs.declared.refusal.Refusal.TheVariants.{NoMemory};
 
 mod decoding;
@@ -36,13 +36,13 @@ pub extern "C" fn lasso_encode(
     dictionary_offsets: &mut [u32],
     report: &mut LassoReport,
 ) -> u32
-    ensures outcome { Tells (encoded bytes.now offsets.now (length codes.old) (length dictionary_offsets.old) (length dictionary_bytes.old)) result report.new
-        ⊎ Tells (Err NoMemory) result report.new }
+    ensures outcome { Reports (encoding_outcome bytes.now offsets.now (length codes.old) (length dictionary_offsets.old) (length dictionary_bytes.old)) result report.new
+        ⊎ Reports (Err NoMemory) result report.new }
 
-    ensures codes { result ≡ 0 → (let texts = texts_of bytes.now offsets.now in
+    ensures codes { result ≡ 0 → (let texts = layout_texts bytes.now offsets.now in
         codes.new ≡ over (codes_of (dictionary_of texts) texts) codes.old) }
-    ensures dictionary_bytes { result ≡ 0 → dictionary_bytes.new ≡ over (concat (dictionary_of (texts_of bytes.now offsets.now))) dictionary_bytes.old }
-    ensures dictionary_offsets { result ≡ 0 → dictionary_offsets.new ≡ over (offsets_from 0 (dictionary_of (texts_of bytes.now offsets.now))) dictionary_offsets.old }
+    ensures dictionary_bytes { result ≡ 0 → dictionary_bytes.new ≡ over (concat (dictionary_of (layout_texts bytes.now offsets.now))) dictionary_bytes.old }
+    ensures dictionary_offsets { result ≡ 0 → dictionary_offsets.new ≡ over (offsets_from 0 (dictionary_of (layout_texts bytes.now offsets.now))) dictionary_offsets.old }
 
     ensures codes_kept { ¬ (result ≡ 0) → codes.new ≡ codes.old }
     ensures dictionary_bytes_kept { ¬ (result ≡ 0) → dictionary_bytes.new ≡ dictionary_bytes.old }
@@ -70,10 +70,10 @@ pub extern "C" fn lasso_decode(
     offsets: &mut [u32],
     report: &mut LassoReport,
 ) -> u32
-    ensures outcome { Tells (decoded dictionary_bytes.now dictionary_offsets.now codes.now (length offsets.old) (length bytes.old)) result report.new }
+    ensures outcome { Reports (decoding_outcome dictionary_bytes.now dictionary_offsets.now codes.now (length offsets.old) (length bytes.old)) result report.new }
 
-    ensures bytes { result ≡ 0 → bytes.new ≡ over (concat (texts_named (texts_of dictionary_bytes.now dictionary_offsets.now) codes.now)) bytes.old }
-    ensures offsets { result ≡ 0 → offsets.new ≡ over (offsets_from 0 (texts_named (texts_of dictionary_bytes.now dictionary_offsets.now) codes.now)) offsets.old }
+    ensures bytes { result ≡ 0 → bytes.new ≡ over (concat (texts_named (layout_texts dictionary_bytes.now dictionary_offsets.now) codes.now)) bytes.old }
+    ensures offsets { result ≡ 0 → offsets.new ≡ over (offsets_from 0 (texts_named (layout_texts dictionary_bytes.now dictionary_offsets.now) codes.now)) offsets.old }
 
     ensures bytes_kept { ¬ (result ≡ 0) → bytes.new ≡ bytes.old }
     ensures offsets_kept { ¬ (result ≡ 0) → offsets.new ≡ offsets.old }
@@ -88,7 +88,7 @@ pub extern "C" fn lasso_status_text(status: u32, text: &mut [u8]) -> usize
     ensures len { result ≡ length (status_text status) }
     ensures text { text.new ≡ over (take (length text.old) (status_text status)) text.old }
 {
-    let whole = refusal::text_of(status).as_bytes();
+    let whole = refusal::message_of(status).as_bytes();
     let room = whole.len().min(text.len());
     text[..room].copy_from_slice(&whole[..room]);
     whole.len()

@@ -1,6 +1,6 @@
 //! How a call ends: the sizes of what it wrote, or why it was refused. What C sees of either is a status and a report.
 ghost use Rattle.std.specs.Prelude.{◌≡◌};
-ghost use Rattle.lasso_c.specs.Status.{Tells, status_text};
+ghost use Rattle.lasso_c.specs.Status.{Reports, status_text};
 ghost use Rattle.lasso_c.specs.declared.refusal.Refusal.TheVariants.{NoMemory};
 
 use lasso_parts::util::LassoError;
@@ -76,7 +76,7 @@ pub struct LassoReport {
 
 // The status of how a call ended. It writes the report.
 pub(crate) fn tell(outcome: &Result<Sizes, Refusal>, report: &mut LassoReport) -> u32
-    ensures { Tells outcome.now result report.new }
+    ensures { Reports outcome.now result report.new }
 {
     let (status, texts, bytes, at) = match outcome {
         Ok(sizes) => (0, sizes.texts, sizes.bytes, 0),
@@ -95,7 +95,7 @@ pub(crate) fn tell(outcome: &Result<Sizes, Refusal>, report: &mut LassoReport) -
 }
 
 // What a status means.
-pub(crate) fn text_of(status: u32) -> &'static str
+pub(crate) fn message_of(status: u32) -> &'static str
     ensures { result.now ≡ status_text status }
 {
     match status {

@@ -4,10 +4,11 @@
 -- one code more goes behind them. As many codes were added as texts were encoded: so their number tells which these are.
 use denote.Ref.{Bor}
 use Rattle.std.proofs.Common.{ℕ, suc, map, drop, get_or, ◌≡◌, ◌+◌, ◌-◌, ◌<◌, List, [], ◌∷◌, ◌++◌, length, take, Some, Ok, IsSomeAnd, is_some, refl, sym, ap, subst, ◌∙◌, arith, length-append}
-use Rattle.std.specs.Prelude.{slice_get}
+use Rattle.std.specs.Prelude.{Contains, slice_get}
 use Rattle.std.proofs.lemmas.Option.{cond_some}
 use Rattle.std.proofs.Math.Seq.{drop-cons, take-append_seam}
 use Rattle.std.proofs.lemmas.List.{append-nil, take_more, take-append-drop, get_or-map, length-map}
+use Rattle.std.proofs.lemmas.List.Elements.{Contains-get_or}
 use Rattle.lasso_parts.specs.Texts.{Text, position_of}
 use Rattle.lasso_single.specs.Filling.{extend}
 use Rattle.lasso_single.specs.Intern.{InternsIn, interned_position}
@@ -17,17 +18,17 @@ use Rattle.lasso.proofs.Calling.{list_interned}
 use Rattle.lasso.proofs.Interned.{position_with_last}
 use Rattle.lasso_columns.proofs.Coded.{codes_stay, adds_push, adds_length}
 use Rattle.lasso_columns.specs.Codes.{AddsCodes}
-use Rattle.lasso_columns.specs.Encoding.{spur_at, encoded}
+use Rattle.lasso_columns.specs.Encoding.{spur_at, encoded_texts}
 
 -- the position of a key
-pub place_of : (place k : ℕ) → spur_at place ≡ Some k → place ≡ k - 1
-place_of place k e = let sum = (cond_some _ _ _ e).1 in omega arith
+pub position_of_key : (position k : ℕ) → spur_at position ≡ Some k → position ≡ k - 1
+position_of_key position k e = let sum = (cond_some _ _ _ e).1 in omega arith
 
 -- where an interned text is found
 pub interned_at : (old new : InternerView) (text : Text) (key : ℕ) → InternsIn spur_at old text (Ok key) new → position_of new.texts text ≡ Some (key - 1)
 interned_at old new text key h =
     let here = position_with_last old.texts text (position_of old.texts text) refl in
-    rw (list_interned spur_at old new text key h) here ∙ ap (λ n. Some n) (place_of (interned_position old.texts text) key h.0.1)
+    rw (list_interned spur_at old new text key h) here ∙ ap (λ n. Some n) (position_of_key (interned_position old.texts text) key h.0.1)
 
 -- these texts were interned in order, and their codes were put behind those from before
 pub record Encoded (old : InternerView) (texts : List Text) (before : List ℕ) (new : InternerView) (after : List ℕ) : Type 0 where
@@ -53,15 +54,15 @@ encoded_length old new texts before after so_far = adds_length new.texts texts b
 -- ---- what the codes tell of a list of texts, some of which were encoded
 
 module _ (all done rest : List Text) (split : all ≡ done ++ rest) (old new : InternerView) (before after : List ℕ) (so_far : Encoded old done before new after) where
-  pub encoded_are : encoded before after all ≡ done
+  pub encoded_are : encoded_texts before after all ≡ done
   encoded_are =
       let long : length after - length before ≡ length done = omega (arith, encoded_length old new done before after so_far) in
       ap (λ n. take n all) long ∙ ap (take (length done)) split ∙ take-append_seam done rest
 
-  pub told_list : extend spur_at old (encoded before after all) accepted new
+  pub told_list : extend spur_at old (encoded_texts before after all) accepted new
   told_list = subst (λ (ts : List Text). extend spur_at old ts accepted new) (sym encoded_are) so_far.list
 
-  pub told_codes : AddsCodes new.texts (encoded before after all) before after
+  pub told_codes : AddsCodes new.texts (encoded_texts before after all) before after
   told_codes = subst (λ (ts : List Text). AddsCodes new.texts ts before after) (sym encoded_are) so_far.codes
 
   pub told_whole : rest ≡ [] → length after ≡ length before + length all
@@ -97,3 +98,10 @@ texts_split texts i d small =
     let all = map (λ (t : Bor Text). t.now) texts in
     let inside : i < length all = omega (arith, length-map texts (λ t. t.now)) in
     sym (take-append-drop i all) ∙ ap (λ (ts : List Text). take i all ++ ts) (drop-cons all i [] inside) ∙ ap (λ (t : Text). take i all ++ t ∷ drop (suc i) all) (get_or-map (λ t. t.now) texts i d [] small)
+
+-- the text at an index is one of them
+pub texts_contain : (texts : List (Bor Text)) (i : ℕ) (d : Bor Text) → i < length texts → Contains (map (λ t. t.now) texts) (get_or texts i d).now
+texts_contain texts i d small =
+    let all = map (λ (t : Bor Text). t.now) texts in
+    let inside : i < length all = omega (arith, length-map texts (λ t. t.now)) in
+    subst (Contains all) (get_or-map (λ t. t.now) texts i d [] small) (Contains-get_or all i [] inside)

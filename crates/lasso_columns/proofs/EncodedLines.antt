@@ -11,7 +11,7 @@ use Rattle.lasso_parts.specs.Texts.{Text, position_of}
 use Rattle.lasso_single.specs.Intern.{InternsIn}
 use Rattle.lasso_single.specs.Interner.{InternerView}
 use Rattle.lasso_columns.proofs.Encoded.{Encoded, encoded_none, encoded_push, encoded_still, encoded_are, encoded_length, next_at}
-use Rattle.lasso_columns.specs.Encoding.{spur_at, encoded}
+use Rattle.lasso_columns.specs.Encoding.{spur_at, encoded_texts}
 use Rattle.lasso_columns.specs.Faults.{IsFaultOf, IsNextFault}
 use Rattle.lasso_columns.specs.Lines.{lines_of}
 use Rattle.lasso_columns.specs.declared.faults.LineError.{LineError}
@@ -54,7 +54,7 @@ lines_still old mid new bytes before count rest codes after lines same kept = re
 }
 
 module _ (old new : InternerView) (bytes before : List ℕ) (count : ℕ) (rest after : List ℕ) (lines : LinesSoFar old bytes before count rest new after) where
-  pub told_texts : All IsUtf8 (encoded before after (lines_of bytes))
+  pub told_texts : All IsUtf8 (encoded_texts before after (lines_of bytes))
   told_texts = subst (λ (ts : List Text). All IsUtf8 ts) (sym (encoded_are (lines_of bytes) lines.done (lines_of rest) lines.split old new before after lines.so_far)) lines.texts
 
   -- the fault of the next line

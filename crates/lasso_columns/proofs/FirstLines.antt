@@ -2,12 +2,12 @@
 --
 -- Bytes without a line feed begin the first line. A line feed behind them ends it; where nothing is behind them
 -- they are the last line. Where the search finds a line feed, the bytes are a line, the feed, and what is behind it.
-use Rattle.std.proofs.Common.{ℕ, suc, zero, ◌≡◌, ◌+◌, ◌-◌, ◌<◌, ◌≤◌, ◌==◌, true, false, cond, List, [], ◌∷◌, ◌++◌, length, take, drop, Some, None, ap, sym, subst, ◌∙◌, refl, arith, add-one, length-drop}
+use Rattle.std.proofs.Common.{ℕ, suc, zero, ◌≡◌, ◌+◌, ◌-◌, ◌<◌, ◌≤◌, ◌==◌, true, false, cond, inl, inr, List, [], ◌∷◌, ◌++◌, length, take, drop, Some, None, ap, sym, subst, ◌∙◌, refl, arith, add-one, length-drop}
 use Rattle.std.specs.List.{onto_first, slice_index}
 use Rattle.std.proofs.lemmas.Bool.{false_from_ne_true}
 use Rattle.std.proofs.lemmas.Bool.Decides.{nat_tests}
 use Rattle.memchr.specs.Find.{IsFirstByte, is_byte}
-use Rattle.lasso_columns.specs.Lines.{is_line_feed, lines_of, NoFeed}
+use Rattle.lasso_columns.specs.Lines.{is_line_feed, lines_of, IsFirstLine, NoFeed}
 
 pub no_feed_both : (front back : List ℕ) → NoFeed front → NoFeed back → NoFeed (front ++ back)
 no_feed_both [] back none none' = none'
@@ -76,3 +76,11 @@ lines_first bytes line rest at found line_is rest_is =
 pub lines_last : (bytes : List ℕ) → 0 < length bytes → IsFirstByte (is_byte 10) bytes None → lines_of bytes ≡ bytes ∷ []
 lines_last [] some none = absurd (omega arith)
 lines_last (b ∷ bytes) some none = lines_end b bytes (none_no_feed (b ∷ bytes) none)
+
+-- what it has cut off, and the rest
+pub first_line_is : (bytes line rest : List ℕ) (at : ℕ) → IsFirstByte (is_byte 10) bytes (Some at) → line ≡ take at bytes → rest ≡ drop (at + 1) bytes → IsFirstLine bytes line rest
+first_line_is bytes line rest at found line_is rest_is = let cut = cut_at bytes at found in rw (line_is, rest_is) (cut.no_feed, inl cut.bytes_are)
+
+-- and where it finds no line feed, the line is all
+pub last_line_is : (bytes : List ℕ) → IsFirstByte (is_byte 10) bytes None → IsFirstLine bytes bytes []
+last_line_is bytes none = (none_no_feed bytes none, inr (refl, refl))

@@ -13,8 +13,8 @@ abbrev pub spur_at : ℕ → Option ℕ
 spur_at = kept_at 4294967295
 
 -- those of the texts that were encoded: the first ones, as many as codes were added
-abbrev pub encoded : List ℕ → List ℕ → List Text → List Text
-encoded before after texts = take (length after - length before) texts
+abbrev pub encoded_texts : List ℕ → List ℕ → List Text → List Text
+encoded_texts before after texts = take (length after - length before) texts
 
 -- the limit or the keys refuse the text, or memory was wanting: for the text, or for its code
 abbrev pub IsRefused : InternerView → Text → LassoError → Type 0

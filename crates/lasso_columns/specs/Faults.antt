@@ -15,7 +15,7 @@ line_error_text (Refused line error) = codes "line " ++ (decimal line ++ (codes 
 line_error_text (NotText line) = codes "line " ++ (decimal line ++ codes ": not UTF-8")
 
 abbrev pub decode_error_text : DecodeError → List ℕ
-decode_error_text (NoText place code) = codes "Code " ++ (decimal code ++ (codes " at place " ++ (decimal place ++ codes " has no text")))
+decode_error_text (NoText position code) = codes "Code " ++ (decimal code ++ (codes " at position " ++ (decimal position ++ codes " has no text")))
 decode_error_text NoMemory = codes "Failed to allocate memory"
 
 -- the line of this number is refused, or it is not UTF-8
@@ -28,7 +28,7 @@ abbrev pub IsNextFault : InternerView → List ℕ → List ℕ → List Text �
 IsNextFault now before after lines fault =
     let n = length after - length before in IsSomeAnd (slice_get lines n) (λ line. IsFaultOf now line (n + 1) fault)
 
--- why the code at this place was not decoded: the list has no such position, or memory was wanting
+-- why the code at this position was not decoded: the list has no such position, or memory was wanting
 abbrev pub IsFaultAt : List Text → List ℕ → ℕ → DecodeError → Type 0
-IsFaultAt list codes n (NoText place code) = (place ≡ n) × (slice_get codes n ≡ Some code) × (slice_get list code ≡ None)
+IsFaultAt list codes n (NoText position code) = (position ≡ n) × (slice_get codes n ≡ Some code) × (slice_get list code ≡ None)
 IsFaultAt list codes n NoMemory = n < length codes

@@ -1,5 +1,5 @@
 -- The lines of bytes.
-use Rattle.std.specs.Prelude.{ℕ, ◌≡◌, false, Bool, cond, List, [], ◌∷◌, nat_eq}
+use Rattle.std.specs.Prelude.{ℕ, ◌≡◌, ◌⊎◌, false, Bool, cond, List, [], ◌∷◌, ◌++◌, nat_eq}
 use Rattle.std.specs.List.{onto_first}
 
 abbrev pub is_line_feed : ℕ → Bool
@@ -14,3 +14,7 @@ lines_of (b ∷ bytes) = cond (is_line_feed b) ([] ∷ lines_of bytes) (onto_fir
 abbrev pub NoFeed : List ℕ → Type 0
 NoFeed [] = Unit {0}
 NoFeed (b ∷ bytes) = (is_line_feed b ≡ false) × NoFeed bytes
+
+-- the first line of the bytes and the rest: the line has no line feed, and one ends it, behind which the rest is; or the line is all
+abbrev pub IsFirstLine : List ℕ → List ℕ → List ℕ → Type 0
+IsFirstLine bytes line rest = NoFeed line × ((bytes ≡ line ++ 10 ∷ rest) ⊎ ((bytes ≡ line) × (rest ≡ [])))

@@ -13,6 +13,15 @@ use std::hash::BuildHasher;
 ///
 /// The first code that stands for no text ends it, and so does want of memory. The texts of the codes before it are put behind
 /// the others, and no code after it is read; so the number of texts tells which code it is.
+///
+/// ```rust
+/// let mut rodeo: SpurRodeo = Rodeo::default(rt.alloc())?;
+/// rodeo.extend(["red", "green"])?;
+/// let reader = rodeo.into_reader();
+/// let mut texts = Vec::new(rt.alloc());
+/// decode(&reader, &[1, 0, 1], &mut texts)?;
+/// assert!(rt; texts.as_slice() == ["green", "red", "green"].as_slice());
+/// ```
 pub fn decode<'r, S: BuildHasher, A: Allocator>(
     reader: &'r RodeoReader<Spur, S, A>,
     codes: &[u32],
@@ -25,10 +34,10 @@ pub fn decode<'r, S: BuildHasher, A: Allocator>(
     // Where there is no memory for the texts of all codes, each asks for its own.
     let _ = out.reserve(codes.len());
     let count = reader.len();
-    for place in 0..codes.len() {
-        let code = codes[place];
+    for position in 0..codes.len() {
+        let code = codes[position];
         if code as usize >= count {
-            return Err(DecodeError::NoText { place, code });
+            return Err(DecodeError::NoText { position, code });
         }
         if out.push(reader.text_at(code as usize)).is_err() {
             return Err(DecodeError::NoMemory);

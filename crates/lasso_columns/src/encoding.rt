@@ -4,7 +4,7 @@ ghost use Rattle.lasso_parts.specs.Texts.{position_of};
 ghost use Rattle.lasso_single.specs.Filling.{extend};
 ghost use Rattle.lasso_single.specs.Intern.{InternsIn};
 ghost use Rattle.lasso_columns.specs.Codes.{AddsCodes};
-ghost use Rattle.lasso_columns.specs.Encoding.{spur_at, encoded, IsRefused, IsNextRefused};
+ghost use Rattle.lasso_columns.specs.Encoding.{spur_at, encoded_texts, IsRefused, IsNextRefused};
 ghost use Rattle.lasso_columns.specs.Faults.{IsFaultOf, IsNextFault};
 ghost use Rattle.lasso_columns.specs.Lines.{lines_of};
 
@@ -21,13 +21,20 @@ use std::str::from_utf8;
 /// The first text that is refused ends it, for want of keys, for the memory limit, or for want of memory for the text or for its
 /// code. The texts before it are interned and have their codes, and no text after it is taken; so the number of codes tells
 /// which text it is.
+///
+/// ```rust
+/// let mut rodeo: SpurRodeo = Rodeo::default(rt.alloc())?;
+/// let mut codes = Vec::new(rt.alloc());
+/// encode(&mut rodeo, &["red", "green", "red"], &mut codes)?;
+/// assert!(rt; codes.as_slice() == [0, 1, 0].as_slice());
+/// ```
 pub fn encode<S: BuildHasher, A: Allocator + Clone>(
     rodeo: &mut Rodeo<Spur, S, A>,
     texts: &[&str],
     codes: &mut Vec<u32>,
 ) -> LassoResult<()>
-    ensures list { extend spur_at rodeo.old (encoded codes.old.items codes.new.items (map (λ t. t.now) texts.now)) (Ok tt) rodeo.new }
-    ensures codes { AddsCodes rodeo.new.texts (encoded codes.old.items codes.new.items (map (λ t. t.now) texts.now)) codes.old.items codes.new.items }
+    ensures list { extend spur_at rodeo.old (encoded_texts codes.old.items codes.new.items (map (λ t. t.now) texts.now)) (Ok tt) rodeo.new }
+    ensures codes { AddsCodes rodeo.new.texts (encoded_texts codes.old.items codes.new.items (map (λ t. t.now) texts.now)) codes.old.items codes.new.items }
     ensures whole { OnOk result (vec_len codes.new ≡ vec_len codes.old + length texts.now) }
     ensures refused { IfErr result (IsNextRefused rodeo.new codes.old.items codes.new.items (map (λ t. t.now) texts.now)) }
 {
@@ -44,14 +51,21 @@ pub fn encode<S: BuildHasher, A: Allocator + Clone>(
 ///
 /// The first line that is refused or is not UTF-8 ends it, and the error has its number, counted from 1. The lines before it are
 /// interned and have their codes, and no line after it is taken.
+///
+/// ```rust
+/// let mut rodeo: SpurRodeo = Rodeo::default(rt.alloc())?;
+/// let mut codes = Vec::new(rt.alloc());
+/// encode_lines(&mut rodeo, b"to be\nor not\nto be\n", &mut codes)?;
+/// assert!(rt; codes.as_slice() == [0, 1, 0].as_slice());
+/// ```
 pub fn encode_lines<S: BuildHasher, A: Allocator + Clone>(
     rodeo: &mut Rodeo<Spur, S, A>,
     bytes: &[u8],
     codes: &mut Vec<u32>,
 ) -> Result<(), LineError>
-    ensures list { extend spur_at rodeo.old (encoded codes.old.items codes.new.items (lines_of bytes.now)) (Ok tt) rodeo.new }
-    ensures codes { AddsCodes rodeo.new.texts (encoded codes.old.items codes.new.items (lines_of bytes.now)) codes.old.items codes.new.items }
-    ensures texts { All IsUtf8 (encoded codes.old.items codes.new.items (lines_of bytes.now)) }
+    ensures list { extend spur_at rodeo.old (encoded_texts codes.old.items codes.new.items (lines_of bytes.now)) (Ok tt) rodeo.new }
+    ensures codes { AddsCodes rodeo.new.texts (encoded_texts codes.old.items codes.new.items (lines_of bytes.now)) codes.old.items codes.new.items }
+    ensures texts { All IsUtf8 (encoded_texts codes.old.items codes.new.items (lines_of bytes.now)) }
     ensures whole { OnOk result (vec_len codes.new ≡ vec_len codes.old + length (lines_of bytes.now)) }
     ensures fault { IfErr result (IsNextFault rodeo.new codes.old.items codes.new.items (lines_of bytes.now)) }
 {

@@ -28,13 +28,13 @@ impl fmt::Display for LineError {
 
 impl Error for LineError {}
 
-/// Why codes were not decoded. Places are counted from 0.
+/// Why codes were not decoded. Positions are counted from 0.
 #[derive(Clone, Copy, Debug, PartialEq, Eq, Hash)]
 pub enum DecodeError {
-    /// The code at this place stands for no text.
+    /// The code at this position stands for no text.
     NoText {
-        /// The place among the codes.
-        place: usize,
+        /// The position among the codes.
+        position: usize,
         /// The code that stands there.
         code: u32,
     },
@@ -47,8 +47,8 @@ impl fmt::Display for DecodeError {
 
     fn fmt<W: fmt::Write>(&self, f: &mut fmt::Formatter<W>) -> fmt::Result {
         match self {
-            DecodeError::NoText { place, code } => {
-                write!(f, "Code {code} at place {place} has no text")
+            DecodeError::NoText { position, code } => {
+                write!(f, "Code {code} at position {position} has no text")
             }
             DecodeError::NoMemory => f.write_str("Failed to allocate memory"),
         }

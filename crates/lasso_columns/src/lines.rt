@@ -1,7 +1,7 @@
 //! The lines of bytes, one after another.
 ghost use Rattle.std.specs.Prelude.{◌≡◌, ◌+◌, ◌<◌, ◌∷◌, [], MatchOption, IfSome, drop, length};
 ghost use Rattle.memchr.specs.Find.{IsFirstByte, is_byte};
-ghost use Rattle.lasso_columns.specs.Lines.{lines_of};
+ghost use Rattle.lasso_columns.specs.Lines.{IsFirstLine, lines_of};
 
 use memchr::memchr_iter;
 
@@ -28,6 +28,7 @@ pub fn behind(bytes: &[u8], at: usize) -> &[u8]
 #[inline]
 pub fn first_line(bytes: &[u8]) -> Option<(&[u8], &[u8])>
     ensures lines { MatchOption result (bytes.now ≡ []) (λ cut. lines_of bytes.now ≡ cut.0.now ∷ lines_of cut.1.now) }
+    ensures rest { IfSome result (λ cut. IsFirstLine bytes.now cut.0.now cut.1.now) }
     ensures less { IfSome result (λ cut. length cut.1.now < length bytes.now) }
 {
     if bytes.is_empty() {

@@ -11,9 +11,18 @@ use std::alloc::{Allocator, Global};
 use std::hash::BuildHasher;
 
 /// Interns the texts of one interner in another, in order, and answers the code that each has there: for the code n of `from` the
-/// number at place n. So columns of both are joined by rewriting codes alone.
+/// number at position n. So columns of both are joined by rewriting codes alone.
 ///
 /// The first text that is refused ends it, as in `encode`, and is the answer. The texts before it stay in `into`.
+///
+/// ```rust
+/// let mut into: SpurRodeo = Rodeo::default(rt.alloc())?;
+/// into.extend(["red", "green"])?;
+/// let mut from: SpurRodeo = Rodeo::default(rt.alloc())?;
+/// from.extend(["blue", "green"])?;
+/// let merged = merge(rt.alloc(), &mut into, &from.into_reader())?;
+/// assert!(rt; merged.as_slice() == [2, 1].as_slice());
+/// ```
 pub fn merge<S: BuildHasher, A: Allocator + Clone, T: BuildHasher, B: Allocator>(
     alloc: Global,
     into: &mut Rodeo<Spur, S, A>,

@@ -8,6 +8,9 @@ use lasso::{FixedState, Key, LassoErrorKind, LassoResult, MemoryLimits, Threaded
 use std::alloc::AllocError;
 use std::sync::Wait;
 
+// A limit that is set a little above a usage is less than so many bytes above it.
+const LITTLE: usize = 64;
+
 /// A call, and what it answered. A text goes by its number among the texts, a key by its position.
 #[derive(Clone, Copy, Debug)]
 pub enum Answer {
@@ -45,11 +48,25 @@ pub enum Answer {
     Limited {
         bytes: usize,
     },
+    /// The limit in force, in bytes.
+    Allowed {
+        bytes: usize,
+    },
     /// A walk over so many texts, with the sum of them.
     Walked {
         texts: usize,
         sum: u64,
     },
+}
+
+impl Answer {
+    /// Whether a text got no key since it would have taken the usage past the limit.
+    pub fn is_past_limit(&self) -> bool {
+        match *self {
+            Answer::Refused { kind, .. } => kind == LassoErrorKind::MemoryLimitReached,
+            _ => false,
+        }
+    }
 }
 
 /// The limits that are set at random, in bytes: the least, and how many from there on.
@@ -59,6 +76,8 @@ pub struct Limits {
     pub least: usize,
     /// How many there are.
     pub count: usize,
+    /// Whether the thread sets limits. Else it reads the limit in force.
+    pub set: bool,
 }
 
 /// The sum with a text at its end, by which walks are told apart. A sum begins with 0.
@@ -72,22 +91,53 @@ pub fn sum_with(sum: u64, text: &str) -> u64 {
     sum
 }
 
-/// So many random calls with a pass, and what each answered. It is refused for want of memory alone.
+/// So many random calls with the pass, and what each answered. It is refused for want of memory alone.
+///
+/// Behind a refusal for the limit come the usage and the limit, read at once. Behind a usage comes, every other time, a limit a little above it,
+/// where the thread sets limits: so texts often just pass it, or just do not.
 pub fn answers<K: Key, R: AllocGlobal + Wait>(
     rt: &R,
     rodeo: &ThreadedRodeo<K, FixedState>,
+    pass: &mut Pass<K>,
     texts: &Texts,
     limits: Limits,
     seed: u64,
     calls: u32,
-) -> Result<Vec<Answer>, AllocError> {
-    let mut pass = rodeo.pass();
+) -> Result<Vec<Answer>, AllocError>
+    requires { pass.old.of ≡ rodeo.now }
+    ensures { pass.new.of ≡ pass.old.of }
+{
     let mut draws = Draws::new(seed);
     let mut answers = Vec::new(rt.alloc());
     for _ in 0..calls {
-        answers.push(random_answer(rt, rodeo, &mut pass, texts, limits, &mut draws))?;
+        let answer = random_answer(rt, rodeo, pass, texts, limits, &mut draws);
+        answers.push(answer)?;
+        if answer.is_past_limit() {
+            answers.push(used(rt, rodeo, pass))?;
+            answers.push(allowed(rt, rodeo, pass))?;
+        }
+        if let Answer::Used { bytes } = answer {
+            if draws.below(2) == 0 {
+                let limit = bytes.saturating_add(draws.below(LITTLE));
+                answers.push(limited(rt, rodeo, pass, limits.set, limit))?;
+            }
+        }
     }
     Ok(answers)
+}
+
+/// How many texts there are, the usage and the limit in force.
+pub fn readings<K: Key, R: Wait>(
+    rt: &R,
+    rodeo: &ThreadedRodeo<K, FixedState>,
+    pass: &mut Pass<K>,
+) -> [Answer; 3]
+    requires { pass.old.of ≡ rodeo.now }
+    ensures { pass.new.of ≡ pass.old.of }
+{
+    let texts = counted(rodeo, pass);
+    let usage = used(rt, rodeo, pass);
+    [texts, usage, allowed(rt, rodeo, pass)]
 }
 
 // Makes one random call.
@@ -108,18 +158,13 @@ fn random_answer<K: Key, R: Wait>(
         200..=249 => fixed(rt, rodeo, pass, draws.below(fixed_count())),
         250..=369 => found(rt, rodeo, pass, texts, text),
         370..=469 => resolved(rodeo, pass, texts, text),
-        470..=489 => Answer::Counted {
-            texts: rodeo.len_as(pass),
-        },
-        490..=504 => Answer::Used {
-            bytes: rodeo.current_memory_usage_as(rt, pass),
-        },
-        505..=509 => limited(
-            rt,
-            rodeo,
-            pass,
-            limits.least.saturating_add(draws.below(limits.count)),
-        ),
+        470..=489 => counted(rodeo, pass),
+        490..=499 => used(rt, rodeo, pass),
+        500..=504 => allowed(rt, rodeo, pass),
+        505..=509 => {
+            let bytes = limits.least.saturating_add(draws.below(limits.count));
+            limited(rt, rodeo, pass, limits.set, bytes)
+        }
         _ => walked(rodeo, pass),
     }
 }
@@ -198,9 +243,7 @@ fn resolved<K: Key>(
     ensures { pass.new.of ≡ pass.old.of }
 {
     let Some(key) = K::try_from_usize(position) else {
-        return Answer::Counted {
-            texts: rodeo.len_as(pass),
-        };
+        return counted(rodeo, pass);
     };
     match rodeo.try_resolve_as(pass, key) {
         Some(text) => Answer::Resolved {
@@ -216,16 +259,54 @@ fn resolved<K: Key>(
     }
 }
 
-// Sets the limit.
+// Counts the texts.
+fn counted<K: Key>(rodeo: &ThreadedRodeo<K, FixedState>, pass: &mut Pass<K>) -> Answer
+    requires { pass.old.of ≡ rodeo.now }
+    ensures { pass.new.of ≡ pass.old.of }
+{
+    Answer::Counted {
+        texts: rodeo.len_as(pass),
+    }
+}
+
+// Reads the usage.
+fn used<K: Key, R: Wait>(rt: &R, rodeo: &ThreadedRodeo<K, FixedState>, pass: &mut Pass<K>) -> Answer
+    requires { pass.old.of ≡ rodeo.now }
+    ensures { pass.new.of ≡ pass.old.of }
+{
+    Answer::Used {
+        bytes: rodeo.current_memory_usage_as(rt, pass),
+    }
+}
+
+// Reads the limit.
+fn allowed<K: Key, R: Wait>(
+    rt: &R,
+    rodeo: &ThreadedRodeo<K, FixedState>,
+    pass: &mut Pass<K>,
+) -> Answer
+    requires { pass.old.of ≡ rodeo.now }
+    ensures { pass.new.of ≡ pass.old.of }
+{
+    Answer::Allowed {
+        bytes: rodeo.max_memory_usage_as(rt, pass),
+    }
+}
+
+// Sets the limit, or else reads it.
 fn limited<K: Key, R: Wait>(
     rt: &R,
     rodeo: &ThreadedRodeo<K, FixedState>,
     pass: &mut Pass<K>,
+    set: bool,
     bytes: usize,
 ) -> Answer
     requires { pass.old.of ≡ rodeo.now }
     ensures { pass.new.of ≡ pass.old.of }
 {
+    if !set {
+        return allowed(rt, rodeo, pass);
+    }
     rodeo.set_memory_limits_as(rt, pass, MemoryLimits::new(bytes));
     Answer::Limited { bytes }
 }

@@ -1,59 +1,154 @@
-//! Whether each answer of a pass has a place in the frozen list.
+//! Whether each answer of each pass has a place in the frozen list.
 //!
-//! The answers are gone through twice. From the first to the last, what earlier answers show is the least list and the least usage that a
-//! later one may be about. From the last to the first, what later answers show is the longest list and the greatest usage.
+//! The answers of a pass are gone through from the first to the last. What earlier ones show is the least that a later one may be about,
+//! and what later ones show is the most. The limits that can have been in force are those of all threads, as far as their times may meet.
 use crate::history::answers::Answer;
+use crate::history::bounds::{Bound, Setter, least_after, most_bounds};
 use crate::history::frozen::Frozen;
+use crate::history::reigns::{Reign, ended, note_reigns};
 use crate::history::texts::Texts;
-use anyhow::{Result, bail, ensure};
+use anyhow::{Error, Result, anyhow};
 use lasso::{Key, LassoErrorKind};
+use std::alloc::Global;
 
-// How long the list is and how great the usage, at least or at most.
-#[derive(Clone, Copy, Debug)]
-struct Bound {
-    texts: usize,
-    usage: usize,
+/// A round: what it began with, in bytes, the list that it ended with, and the thread that alone set limits, where one did.
+#[derive(Clone, Copy)]
+pub struct Round<'a> {
+    pub texts: &'a Texts,
+    pub frozen: &'a Frozen,
+    pub usage: usize,
+    pub limit: usize,
+    pub alone: Option<usize>,
 }
 
-/// Fails with a message where an answer has no place in the list, after those before it and before those behind it. The usage began
-/// with so many bytes.
-pub fn check<K: Key>(
-    frozen: &Frozen,
-    texts: &Texts,
-    first_usage: usize,
-    answers: &[Answer],
-) -> Result<()> {
-    let mut least = Bound {
-        texts: 0,
-        usage: first_usage,
-    };
-    for answer in answers {
-        ensure!(
-            is_true(frozen, answer),
-            "this is not so in the list: {answer:?}"
-        );
-        ensure!(
-            is_late(frozen, answer, least),
-            "an earlier answer showed {least:?}, but then came {answer:?}"
-        );
-        least = least_after(answer, least);
+// What is known of a pass: the limits that it counts, and what each of its answers is about at most, that of the last one first.
+#[derive(Drop)]
+struct Known {
+    setter: Setter,
+    mosts: Vec<Bound>,
+}
+
+impl Round<'_> {
+    // What a pass is about at least before its first answer.
+    fn first(&self) -> Bound {
+        Bound {
+            texts: 0,
+            usage: self.usage,
+            limits: 0,
+        }
     }
-    let mut most = Bound {
-        texts: frozen.len(),
-        usage: frozen.usage,
-    };
-    for answer in answers.iter().rev() {
-        ensure!(
-            is_early(frozen, answer, most),
-            "a later answer showed {most:?}, but before it came {answer:?}"
-        );
-        ensure!(
-            is_refused_rightly::<K>(frozen, texts, answer, most),
-            "with {most:?} this is no refusal: {answer:?}"
-        );
-        most = most_before(frozen, answer, most);
+
+    // What is known of the pass of a thread.
+    fn known(&self, alloc: Global, found: &[Vec<Answer>], thread: usize) -> Result<Known> {
+        let own = self.alone.unwrap_or(thread);
+        let limits = answers_of(found, own);
+        let setter = Setter::new(alloc, own, self.alone.is_some(), self.limit, limits)?;
+        let mosts = most_bounds(alloc, self.frozen, &setter, answers_of(found, thread))?;
+        Ok(Known { setter, mosts })
+    }
+}
+
+// The answers of the thread.
+fn answers_of(found: &[Vec<Answer>], thread: usize) -> &[Answer] {
+    match found.get(thread) {
+        Some(answers) => answers.as_slice(),
+        None => &[],
+    }
+}
+
+/// Fails with a message where an answer of a thread has no place in the list, after those of the same pass before it and before those
+/// behind it.
+pub fn check<K: Key>(alloc: Global, round: &Round<'_>, found: &[Vec<Answer>]) -> Result<()> {
+    let mut reigns = Vec::new(alloc);
+    reigns.push(Reign::first(round.limit, round.first()))?;
+    let mut all = Vec::new(alloc);
+    for thread in 0..found.len() {
+        let known = round.known(alloc, found, thread)?;
+        let answers = answers_of(found, thread);
+        note_reigns(
+            &mut reigns,
+            &known.setter,
+            answers,
+            round.first(),
+            known.mosts.as_slice(),
+        )?;
+        all.push(known)?;
+    }
+    let reigns = ended(alloc, reigns.as_slice())?;
+    for (known, answers) in all.iter().zip(found) {
+        check_pass::<K>(round, reigns.as_slice(), known, answers.as_slice())?;
     }
     Ok(())
+}
+
+// Fails with a message where an answer of a pass has no place.
+fn check_pass<K: Key>(
+    round: &Round<'_>,
+    reigns: &[Reign],
+    known: &Known,
+    answers: &[Answer],
+) -> Result<()> {
+    let setter = &known.setter;
+    let mut least = round.first();
+    let mut since = least;
+    for (answer, most) in answers.iter().zip(known.mosts.iter().rev()) {
+        let most = *most;
+        let times = Times { since, least, most };
+        if let Some(rule) = broken::<K>(round, reigns, setter, answer, times) {
+            return Err(times.error().context(format_args!("{rule}: {answer:?}")));
+        }
+        least = least_after(setter, answer, least);
+        if let Answer::Used { .. } = answer {
+            since = least;
+        }
+    }
+    Ok(())
+}
+
+// The rule that the answer breaks, where it breaks one.
+fn broken<K: Key>(
+    round: &Round<'_>,
+    reigns: &[Reign],
+    setter: &Setter,
+    answer: &Answer,
+    times: Times,
+) -> Option<&'static str> {
+    if !is_true(round.frozen, answer) {
+        Some("not so in the list")
+    } else if !is_late(round.frozen, answer, times.least) {
+        Some("too late")
+    } else if !is_refused_rightly::<K>(round.texts, reigns, setter, answer, times) {
+        Some("no refusal")
+    } else if !is_within_limits(reigns, setter, answer, times) {
+        Some("no limit allows it")
+    } else {
+        None
+    }
+}
+
+// What an answer is about at least and at most, and what the last reading of the usage before it was about at least.
+#[derive(Clone, Copy, Debug)]
+struct Times {
+    since: Bound,
+    least: Bound,
+    most: Bound,
+}
+
+impl Times {
+    // An error that says them.
+    fn error(&self) -> Error {
+        let Times { since, least, most } = *self;
+        anyhow!(
+            "texts {}..{}, usage {}..{}, limits {}..{} since {}",
+            least.texts,
+            most.texts,
+            least.usage,
+            most.usage,
+            least.limits,
+            most.limits,
+            since.limits
+        )
+    }
 }
 
 // Whether the answer is that of some beginning of the list.
@@ -70,7 +165,6 @@ fn is_true(frozen: &Frozen, answer: &Answer) -> bool {
             text,
         } => { text.is_some() && frozen.number(position) == text }
         Answer::Walked { texts, sum } => frozen.sum(texts) == Some(sum),
-        Answer::Used { bytes } => bytes <= frozen.greatest,
         Answer::Refused { kind, .. } => kind != LassoErrorKind::FailedAllocation,
         _ => true,
     }
@@ -96,88 +190,48 @@ fn is_late(frozen: &Frozen, answer: &Answer, least: Bound) -> bool {
     }
 }
 
-// Whether the answer may come where the list and the usage are at most these.
-fn is_early(frozen: &Frozen, answer: &Answer, most: Bound) -> bool {
-    match *answer {
-        Answer::Interned { position, .. } => position < most.texts,
-        Answer::Found {
-            position: Some(position),
-            ..
-        } => position < most.texts,
-        Answer::Resolved {
-            position,
-            there: true,
-            ..
-        } => position < most.texts,
-        Answer::Counted { texts } => texts <= most.texts,
-        Answer::Walked { texts, .. } => texts <= most.texts,
-        Answer::Used { bytes } => bytes <= most.usage && bytes <= frozen.usage,
-        _ => true,
-    }
-}
-
-// Whether a refusal has its reason where the list and the usage are at most these.
+// Whether a refusal has its reason. The usage only grows: so one for the limit has none where the least usage that was read behind it, with
+// the text's bytes, is within each limit that can have been in force. Keys are asked for at the list's end: so one for want of a key has
+// none where the longest list that it may be about has a next key.
 fn is_refused_rightly<K: Key>(
-    frozen: &Frozen,
     texts: &Texts,
+    reigns: &[Reign],
+    setter: &Setter,
     answer: &Answer,
-    most: Bound,
+    times: Times,
 ) -> bool {
     let Answer::Refused { text, copied, kind } = *answer else {
         return true;
     };
     let bytes = texts.text(text).len();
     match kind {
-        LassoErrorKind::KeySpaceExhaustion => K::try_from_usize(most.texts).is_none(),
+        LassoErrorKind::KeySpaceExhaustion => K::try_from_usize(times.most.texts).is_none(),
         LassoErrorKind::MemoryLimitReached => {
-            copied && bytes > 0 && most.usage.saturating_add(bytes) > frozen.least
+            let past = times.most.usage.saturating_add(bytes);
+            copied
+                && bytes > 0
+                && reigns.iter().any(|reign| {
+                    reign.bytes < past && reign.may_be_at(setter, times.least, times.most)
+                })
         }
         _ => false,
     }
 }
 
-// The least list and usage behind the answer.
-fn least_after(answer: &Answer, least: Bound) -> Bound {
-    let mut after = least;
+// Whether a limit that was read can have been in force, and whether a usage that was read can have been reached. A step that raises the usage
+// ends within the limit in force: so a usage that rose since the last reading is within one that can have been in force since then. It may lie
+// above a limit that fell, and then it stays.
+fn is_within_limits(reigns: &[Reign], setter: &Setter, answer: &Answer, times: Times) -> bool {
     match *answer {
-        Answer::Interned { position, .. } => after.texts = after
-            .texts
-            .max(position.saturating_add(1)),
-        Answer::Found {
-            position: Some(position),
-            ..
-        } => after.texts = after.texts.max(position.saturating_add(1)),
-        Answer::Resolved {
-            position,
-            there: true,
-            ..
-        } => after.texts = after.texts.max(position.saturating_add(1)),
-        Answer::Counted { texts } => after.texts = after.texts.max(texts),
-        Answer::Walked { texts, .. } => after.texts = after.texts.max(texts),
-        Answer::Used { bytes } => after.usage = after.usage.max(bytes),
-        _ => {}
+        Answer::Used { bytes } => {
+            bytes == times.least.usage
+                || reigns.iter().any(|reign| {
+                    bytes <= reign.bytes && reign.may_be_at(setter, times.since, times.most)
+                })
+        }
+        Answer::Allowed { bytes } => reigns.iter().any(|reign| {
+            reign.bytes == bytes && reign.may_be_at(setter, times.least, times.most)
+        }),
+        _ => true,
     }
-    after
-}
-
-// The longest list and the greatest usage before the answer.
-fn most_before(frozen: &Frozen, answer: &Answer, most: Bound) -> Bound {
-    let mut before = most;
-    match *answer {
-        Answer::Refused { text, .. } => before.texts = before.texts.min(frozen.position(text)),
-        Answer::Found {
-            text,
-            position: None,
-        } => before.texts = before.texts.min(frozen.position(text)),
-        Answer::Resolved {
-            position,
-            there: false,
-            ..
-        } => before.texts = before.texts.min(position),
-        Answer::Counted { texts } => before.texts = before.texts.min(texts),
-        Answer::Walked { texts, .. } => before.texts = before.texts.min(texts),
-        Answer::Used { bytes } => before.usage = before.usage.min(bytes),
-        _ => {}
-    }
-    before
 }

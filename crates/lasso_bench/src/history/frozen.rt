@@ -1,10 +1,10 @@
 //! The frozen list in which answers have their places.
-use crate::history::answers::{Answer, sum_with};
+use crate::history::answers::sum_with;
 use crate::history::texts::Texts;
 use anyhow::{Result, bail};
 use std::alloc::{AllocError, Global};
 
-/// A list of distinct texts, with all that was in force while it grew.
+/// A list of distinct texts.
 #[derive(Drop)]
 pub struct Frozen {
     // the number of the text at each position
@@ -13,22 +13,11 @@ pub struct Frozen {
     positions: Vec<usize>,
     // the sum of so many texts from the front
     sums: Vec<u64>,
-    /// The usage at the end, in bytes.
-    pub usage: usize,
-    /// The least limit that was in force, in bytes.
-    pub least: usize,
-    /// The greatest limit that was in force, in bytes, or the first bucket where that is greater.
-    pub greatest: usize,
 }
 
 impl Frozen {
-    /// A list without texts, which began with this limit and this usage, in bytes. It is refused for want of memory alone.
-    pub fn new(
-        alloc: Global,
-        texts: &Texts,
-        limit: usize,
-        usage: usize,
-    ) -> Result<Self, AllocError> {
+    /// A list without texts. It is refused for want of memory alone.
+    pub fn new(alloc: Global, texts: &Texts) -> Result<Self, AllocError> {
         let mut positions = Vec::new(alloc);
         for _ in 0..texts.count() {
             positions.push(usize::MAX)?;
@@ -39,9 +28,6 @@ impl Frozen {
             numbers: Vec::new(alloc),
             positions,
             sums,
-            usage,
-            least: limit,
-            greatest: limit.max(usage),
         })
     }
 
@@ -59,16 +45,6 @@ impl Frozen {
         self.sums.push(sum_with(sum, text))?;
         self.numbers.push(number)?;
         Ok(())
-    }
-
-    /// Notes the limits that were set.
-    pub fn note_limits(&mut self, answers: &[Answer]) {
-        for answer in answers {
-            if let Answer::Limited { bytes } = *answer {
-                self.least = self.least.min(bytes);
-                self.greatest = self.greatest.max(bytes);
-            }
-        }
     }
 
     /// How many texts there are.

@@ -1,12 +1,12 @@
 use Rattle.std.proofs.Common.{◌≡◌, ◌≤◌, drop}
-use Rattle.lasso_c.specs.Layout.{greatest_offset, texts_of}
+use Rattle.lasso_c.specs.Layout.{greatest_offset, layout_texts}
 use Rattle.lasso_c.specs.Decoding.{measured, nothing}
 use Rattle.lasso_c.proofs.decoding.measure.Given as goal
 
 -- no code was wrong so far
 abbrev pub invariant-loop-code : goal.invariant-loop-code
 invariant-loop-code l =
-    let dictionary = texts_of l.dictionary_bytes l.dictionary_offsets in
+    let dictionary = layout_texts l.dictionary_bytes l.dictionary_offsets in
     record {
       left : measured dictionary nothing l.codes ≡ measured dictionary l.sizes (drop l.code-index l.codes);
       counted : l.sizes.texts ≡ l.code-index;

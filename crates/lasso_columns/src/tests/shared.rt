@@ -1,0 +1,113 @@
+//! Columns that several threads encode. How they take turns is another each time, and what is looked at is the same.
+use super::limit_refuses;
+use crate::{encode_shared, encode_shared_as};
+use lasso::{Capacity, Key, MemoryLimits, Spur, SpurThreadedRodeo, ThreadedRodeo};
+use std::process::Abort;
+use std::test::Fail;
+
+// Five texts for each of four workers; they are a, b, c, d, e, f and g.
+const TWENTY: [&str; 20] = [
+    "a", "b", "a", "c", "b", "d", "a", "e", "d", "a", "b", "f", "a", "c", "g", "a", "a", "e", "b",
+    "d",
+];
+
+// There is a code for each text, and it resolves to it.
+fn stand_for<R: Abort>(
+    rt: &R,
+    rodeo: &SpurThreadedRodeo,
+    codes: &[u32],
+    texts: &[&str],
+) -> Result<(), Fail> {
+    assert!(rt; codes.len() == texts.len());
+    for (code, text) in codes.iter().zip(texts) {
+        let key = Spur::try_from_usize(*code as usize).ok_or("no key")?;
+        assert!(rt; rodeo.try_resolve(key) == Some(*text));
+    }
+    Ok(())
+}
+
+#[test]
+fn threads_give_equal_texts_equal_codes(rt: HostRuntime) -> Result<(), Fail> {
+    let texts = ["a", "b", "a", "c", "b", "a", "d", "c", "a"];
+    for workers in [0, 1, 4, 20] {
+        let rodeo: SpurThreadedRodeo = ThreadedRodeo::default(rt.alloc())?;
+        let mut codes = Vec::new(rt.alloc());
+        encode_shared(&rt, &rodeo, &texts, &mut codes, workers)?;
+        stand_for(&rt, &rodeo, &codes, &texts)?;
+        assert!(rt; rodeo.len() == 4);
+    }
+    Ok(())
+}
+
+#[test]
+fn twenty_texts_are_all_that_is_interned(rt: HostRuntime) -> Result<(), Fail> {
+    let limits = MemoryLimits::new(5000);
+    let rodeo: SpurThreadedRodeo = ThreadedRodeo::with_memory_limits(rt.alloc(), limits)?;
+    let mut codes = Vec::new(rt.alloc());
+    encode_shared(&rt, &rodeo, &TWENTY, &mut codes, 4)?;
+    stand_for(&rt, &rodeo, &codes, &TWENTY)?;
+    assert!(rt; rodeo.len() == 7);
+    assert!(rt; rodeo.max_memory_usage(&rt) == 5000);
+    Ok(())
+}
+
+#[test]
+fn codes_go_behind_those_from_before(rt: HostRuntime) -> Result<(), Fail> {
+    let rodeo: SpurThreadedRodeo = ThreadedRodeo::default(rt.alloc())?;
+    let mut codes = Vec::new(rt.alloc());
+    codes.push(7)?;
+    encode_shared(&rt, &rodeo, &["a", "a"], &mut codes, 2)?;
+    encode_shared(&rt, &rodeo, &[], &mut codes, 3)?;
+    assert!(rt; codes.as_slice() == [7, 0, 0].as_slice());
+    Ok(())
+}
+
+// The first bucket has 10 bytes, which two texts of five fill, and the limit leaves no second one.
+fn limited(rt: &HostRuntime) -> Result<SpurThreadedRodeo, Fail> {
+    let capacity = Capacity::for_bytes(10);
+    let limits = MemoryLimits::new(10);
+    Ok(ThreadedRodeo::with_capacity_and_memory_limits(rt.alloc(), capacity, limits)?)
+}
+
+#[test]
+fn a_refused_worker_adds_no_code(rt: HostRuntime) -> Result<(), Fail> {
+    let rodeo = limited(&rt)?;
+    let mut pass = rodeo.pass();
+    let mut codes = Vec::new(rt.alloc());
+    let texts = ["first", "other", "third", "first"];
+    let ended = encode_shared_as(&rt, &rodeo, &mut pass, &texts, &mut codes, 2);
+    limit_refuses(ended.err())?;
+    assert!(rt; codes.is_empty());
+    assert!(rt; rodeo.len() == 2);
+    Ok(())
+}
+
+// The last of four workers meets the limit at its third text, after it has interned the two that fill the bucket.
+#[test]
+fn a_limit_in_mid_column_stays_what_it_was(rt: HostRuntime) -> Result<(), Fail> {
+    let rodeo = limited(&rt)?;
+    let mut codes = Vec::new(rt.alloc());
+    let mut texts = ["first"; 20];
+    texts[3] = "other";
+    texts[9] = "other";
+    texts[16] = "other";
+    texts[17] = "third";
+    limit_refuses(encode_shared(&rt, &rodeo, &texts, &mut codes, 4).err())?;
+    assert!(rt; codes.is_empty());
+    assert!(rt; rodeo.len() == 2);
+    assert!(rt; rodeo.max_memory_usage(&rt) == 10);
+    Ok(())
+}
+
+// The second worker interns its text whatever the first one, which is refused, does meanwhile: the bucket has room for it all the time. One
+// worker alone would end at the first text.
+#[test]
+fn each_worker_interns_its_part(rt: HostRuntime) -> Result<(), Fail> {
+    let rodeo = limited(&rt)?;
+    let mut codes = Vec::new(rt.alloc());
+    let texts = ["longer than ten bytes", "short"];
+    limit_refuses(encode_shared(&rt, &rodeo, &texts, &mut codes, 2).err())?;
+    assert!(rt; codes.is_empty());
+    assert!(rt; rodeo.len() == 1);
+    Ok(())
+}
