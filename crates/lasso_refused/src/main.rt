@@ -7,6 +7,7 @@ mod keys;
 mod making;
 mod one_thread;
 mod refusals;
+mod rows;
 mod saving;
 mod shared;
 mod stories;
@@ -14,6 +15,7 @@ mod stories;
 use making::makers;
 use one_thread::{commands, written};
 use refusals::{Fault, Refused};
+use rows::rows;
 use saving::json;
 use shared::{buckets, filled, gap, texts};
 use std::process::ExitCode;
@@ -32,17 +34,19 @@ enum Script {
     Buckets,
     Gap,
     Filled,
+    Rows,
     Makers,
     Json,
     Written,
     Commands,
 }
 
-const SCRIPTS: [(&str, Script); 8] = [
+const SCRIPTS: [(&str, Script); 9] = [
     ("texts", Script::Texts),
     ("buckets", Script::Buckets),
     ("gap", Script::Gap),
     ("filled", Script::Filled),
+    ("rows", Script::Rows),
     ("makers", Script::Makers),
     ("json", Script::Json),
     ("written", Script::Written),
@@ -94,6 +98,7 @@ fn run<R: AllocGlobal + Wait>(rt: &R, script: Script, refused: &mut Refused) -> 
         Script::Buckets => buckets(rt, refused),
         Script::Gap => gap(rt, refused),
         Script::Filled => filled(rt, refused),
+        Script::Rows => rows(rt, refused),
         Script::Makers => makers(rt, refused),
         Script::Json => json(rt, refused),
         Script::Written => written(rt, refused),
