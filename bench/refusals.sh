@@ -247,21 +247,20 @@ lines_in_turn() {
 }
 
 # Runs a script of lasso_refused with each request refused in turn. The program says itself at which call memory was wanting and that all
-# stands then; or it ends before the script begins, or a request makes no difference. At some call memory has to be wanting.
+# stands then; or it ends before the script begins, or a request makes no difference. At each of these calls memory has to be wanting once.
 calls() {
     local number=1 name=$1 stood=0
+    shift
     scripts=$((scripts + 1))
     echo "$name" > "$OUT/input"
     run 0 /dev/null "$REFUSED_PROGRAM" "$name"
-    [ "$status" -eq 0 ] && [ "$(cat "$OUT/answers")" = "$name: as worked" ] && [ ! -s "$OUT/told" ] || fail "a run without a refusal"
+    is_as_worked && [ ! -s "$OUT/told" ] || fail "a run without a refusal"
     while run "$number" /dev/null "$REFUSED_PROGRAM" "$name" && [ -s "$OUT/told" ]; do
         if [ "$status" -eq 1 ] && [ ! -s "$OUT/answers" ] && [ "$(cat "$OUT/error")" = "$REPLAY_ERROR" ]; then
             ended=$((ended + 1))
-        elif [ "$status" -ne 0 ] || [ -s "$OUT/error" ]; then
-            fail "request $number refused"
-        elif [ "$(cat "$OUT/answers")" = "$name: as worked" ]; then
+        elif is_as_worked; then
             unneeded=$((unneeded + 1))
-        elif grep -qx "$name refused at .*: stands" "$OUT/answers"; then
+        elif [ "$status" -eq 0 ] && [ ! -s "$OUT/error" ] && grep -qx "$name refused at .*: stands" "$OUT/answers"; then
             stood=$((stood + 1))
             cat "$OUT/answers" >> "$OUT/calls"
         else
@@ -269,7 +268,21 @@ calls() {
         fi
         number=$((number + 1))
     done
-    [ "$stood" -gt 0 ] && [ "$status" -eq 0 ] && [ "$(cat "$OUT/answers")" = "$name: as worked" ] || fail "a run with no request of number $number"
+    is_as_worked || fail "a run with no request of number $number"
+    want_memory_at "$@"
     replied=$((replied + stood))
     refused=$((refused + number - 1))
+}
+
+# Whether the script of lasso_refused ended well, and answered as worked.
+is_as_worked() {
+    [ "$status" -eq 0 ] && [ ! -s "$OUT/error" ] && [ "$(cat "$OUT/answers")" = "$name: as worked" ]
+}
+
+# Fails unless memory was wanting at each of these calls of the script.
+want_memory_at() {
+    local call
+    for call; do
+        grep -qxF "$name refused at $call: stands" "$OUT/calls" || fail "memory was never wanting at $call"
+    done
 }

@@ -13,7 +13,7 @@ mod shared;
 mod stories;
 
 use making::makers;
-use one_thread::{commands, written};
+use one_thread::{commands, hint, written};
 use refusals::{Fault, Refused};
 use rows::rows;
 use saving::json;
@@ -38,10 +38,11 @@ enum Script {
     Makers,
     Json,
     Written,
+    Hint,
     Commands,
 }
 
-const SCRIPTS: [(&str, Script); 9] = [
+const SCRIPTS: [(&str, Script); 10] = [
     ("texts", Script::Texts),
     ("buckets", Script::Buckets),
     ("gap", Script::Gap),
@@ -50,6 +51,7 @@ const SCRIPTS: [(&str, Script); 9] = [
     ("makers", Script::Makers),
     ("json", Script::Json),
     ("written", Script::Written),
+    ("hint", Script::Hint),
     ("commands", Script::Commands),
 ];
 
@@ -102,6 +104,7 @@ fn run<R: AllocGlobal + Wait>(rt: &R, script: Script, refused: &mut Refused) -> 
         Script::Makers => makers(rt, refused),
         Script::Json => json(rt, refused),
         Script::Written => written(rt, refused),
+        Script::Hint => hint(rt, refused),
         Script::Commands => commands(rt, refused),
     }
 }

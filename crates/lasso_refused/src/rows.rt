@@ -95,9 +95,11 @@ fn iter_gives_all(interner: &Interner<Spur>) -> bool {
     let mut walk = interner.iter();
     let mut position = 0usize;
     for wanted in LIST {
-        match walk.next() {
-            Some((key, text)) if key.into_usize() == position && text == wanted => {}
-            _ => return false,
+        let Some((key, text)) = walk.next() else {
+            return false;
+        };
+        if key.into_usize() != position || text != wanted {
+            return false;
         }
         position = position.saturating_add(1);
     }
