@@ -5,7 +5,7 @@ use mathlib.Core.List.{IsPrefix}
 use Rattle.lasso_parts.specs.Texts.{Text}
 use Rattle.lasso_log.specs.History.{Event, Reserve, Charge, Append, Limit, Totals, totals, counted, Lacks, MayFollow}
 use Rattle.lasso_log.specs.Chunks.{ListOnlyGrows}
-use Rattle.lasso_log.specs.Notes.{NoteView, history, state, worded, words_after, words_of, first_words, IsWord, IsWordWith, shown, texts_shown, lent_after, lent_by}
+use Rattle.lasso_log.specs.Notes.{NoteView, history, state, worded, words_after, words_of, first_words, IsWord, IsWordWith, shown_note, texts_shown, lent_after, lent_by}
 use Rattle.lasso_log.specs.LentBuckets.{LentBucket}
 use Rattle.lasso_log.specs.Book.{May, Moving, MovesBy, Lets, shown_of}
 use Rattle.lasso_log.specs.Events.{IsQuiet, ready}
@@ -87,7 +87,7 @@ module _ {Key : Type 0} (keys : ℕ → Option Key) where
   lets_quiet f v e j k old quiet still cells log kept begins word =
       let texts = ap (λ (x : Totals). x.texts) (one_more f.opening log e) ∙ quiet (state f.opening log) in
       let lent = lent_more f.lent log e ∙ still (lent_after f.lent log) in
-      inl (refl, λ i. shown (texts i) (lent i))
+      inl (refl, λ i. shown_note (texts i) (lent i))
 
 pub moving_append : (t : ℕ) (x : Text) (y : ℕ) → Moving t (Append x) 0 1 y
 moving_append t x y ws = inl refl

@@ -4,7 +4,7 @@ use mathlib.Core.List.{IsPrefix}
 use Rattle.logbook.specs.Pages.{Cell, cell, Step, View, Book, Named, may_write, may_make, nib, no_nib, Runs}
 use Rattle.logbook.specs.declared.tokens.Pen.{Pen}
 use Rattle.lasso_log.specs.History.{Event, Reserve, Charge, Append, Limit, Totals, counted, IsOpening, IsLegal, MayFollow}
-use Rattle.lasso_log.specs.Notes.{NoteView, history, state, Chained, words_of, worded, bumped, shown, texts_in, lent_in, texts_shown, lent_shown, bucket_in, Since, IsWordWith, IsOpened, opening_of, notes_of, ticket_of}
+use Rattle.lasso_log.specs.Notes.{NoteView, history, state, Chained, words_of, worded, bumped, shown_note, texts_in, lent_in, texts_shown, lent_shown, bucket_in, Since, IsWordWith, IsOpened, opening_of, notes_of, ticket_of}
 use Rattle.lasso_log.specs.Chunks.{PutsLastAt}
 use Rattle.lasso_log.specs.LentBuckets.{TakesBytesAt, AddsBucket}
 
@@ -53,7 +53,7 @@ LogKeepsRule keys cells (first ∷ notes) = KeepsRule keys cells first.opening n
 
 -- what the book's keepers see of a log
 abbrev pub shown_of : List NoteView → List NoteView
-shown_of log = shown (texts_in log) (lent_in log)
+shown_of log = shown_note (texts_in log) (lent_in log)
 
 abbrev pub word_of : Book → ℕ → Named
 word_of b k = record { tracked = true; key = k; book = b }

@@ -133,8 +133,8 @@ abbrev pub lent_in : List NoteView → List LentBucket
 lent_in log = lent_after (first_note log).lent (notes_of log)
 
 -- What the book's keepers see of a log: one note, which has the list and the lent buckets.
-abbrev pub shown : List Text → List LentBucket → List NoteView
-shown texts buckets = record (opening_note record no_totals { texts = texts }) { lent = buckets } ∷ []
+abbrev pub shown_note : List Text → List LentBucket → List NoteView
+shown_note texts buckets = record (opening_note record no_totals { texts = texts }) { lent = buckets } ∷ []
 
 abbrev pub texts_shown : List NoteView → List Text
 texts_shown log = (opening_of log).texts

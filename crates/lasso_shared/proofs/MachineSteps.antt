@@ -5,7 +5,6 @@
 -- buckets, the usage and the limit; so the events of a run add up to what the run leaves.
 use mathlib.Core.List.{IsPrefix}
 use Rattle.std.proofs.Common.{◌≡◌, ◌≢◌, ℕ, ◌+◌, ◌<◌, ◌≤◌, List, [], ◌∷◌, ◌++◌, map, length, Option, Some, None, IsSome, is_some, IfSome, option_and_then, Err, refl, sym, ap, ◌∙◌, subst, ⊎_elim, inl, arith, append-nil, append_assoc}
-use Rattle.std.specs.List.{enumerate_from}
 use Rattle.std.proofs.lemmas.Option.{none-some}
 use Rattle.std.proofs.lemmas.List.{map-append}
 use Rattle.std.proofs.lemmas.List.Elements.{All-push}
@@ -17,9 +16,10 @@ use Rattle.lasso_parts.proofs.IndexLaws.{position_of_at}
 use Rattle.lasso_log.specs.Buckets.{CountedBucket, with_taken, changed_at, doubling_after}
 use Rattle.lasso_log.specs.History.{Totals, totals, IsLegal}
 use Rattle.lasso_log.specs.Replies.{Keeping, Question, Intern, Get, Contains, ContainsKey, Resolve, Len, IsEmpty, Usage, MaxUsage, Iterate, Strings, Serialize, Freeze, Interned, MayReply}
-use Rattle.lasso_shared.specs.Machine.{RangedBucket, Phase, Missing, Stored, Appended, Call, State, Step, Take, Reserve, Charge, Append, Release, Refuse, Read, SetLimit, IsInFlight, IsFree, IsReady, MayRefuse, MayRead, MayStep, new_call, taken, after, events, replied, found_reply, with_key, entries_from, read, reply, sums, reserved, charged}
+use Rattle.lasso_shared.specs.Machine.{RangedBucket, Phase, Missing, Stored, Appended, Call, State, Step, Take, Reserve, Charge, Append, Release, Refuse, Read, SetLimit, IsInFlight, IsFree, IsReady, MayRefuse, MayRead, MayStep, new_call, taken, after, events, replied, found_reply, read, reply, sums, reserved, charged}
 use Rattle.lasso_shared.specs.Runs.{IsFilled, StandsBy, IsGood, IsStart, IsRun, run, run_history, OwesReply, IsSoundStep, HoldsInRun}
 use Rattle.lasso_log.proofs.Legal.{totals_append, legal_append, bucket_fits}
+use Rattle.lasso_shared.proofs.Walked.{walk_from}
 use Rattle.lasso_shared.proofs.Ranges.{map_changed, reserved_filled, charged_filled}
 use Rattle.lasso_shared.proofs.MachineGood.{HasAppendedNone, found_free, lacks_own, good_begun, good_stored, good_appended, good_refused, good_released, good_limited}
 
@@ -58,17 +58,6 @@ key_explained key_at s keeping text (Some k) e = e
 some_interned : {K : Type 0} (keeping : Keeping) (text : Text) (key : Option K) → IsSome key → IsSome (found_reply keeping text key)
 some_interned keeping text None e = absurd (grind arith)
 some_interned keeping text (Some k) e = refl
-
-with_key_keyed : {K : Type 0} (key : Option K) (text : Text) (entries : List (K × Text)) → IsSome key → map {B = Option K × Text} (λ e. (Some e.0, e.1)) (with_key key text entries) ≡ (key, text) ∷ map (λ e. (Some e.0, e.1)) entries
-with_key_keyed None text entries e = absurd (grind arith)
-with_key_keyed (Some k) text entries e = refl
-
--- where each position has a key the entries are all texts beside their keys
-entries_keyed : {K : Type 0} (key_at : ℕ → Option K) (n : ℕ) (texts : List Text) → ((i : ℕ) → n ≤ i → i < n + length texts → IsSome (key_at i)) → map {B = Option K × Text} (λ e. (Some e.0, e.1)) (entries_from key_at n texts) ≡ map (λ e. (key_at e.0, e.1)) (enumerate_from n texts)
-entries_keyed key_at n [] fits = refl
-entries_keyed key_at n (text ∷ texts) fits =
-    with_key_keyed (key_at n) text (entries_from key_at (n + 1) texts) (fits n (omega arith) (omega arith))
-    ∙ ap (λ es. (key_at n, text) ∷ es) (entries_keyed key_at (n + 1) texts (λ i low high. fits i (omega arith) (omega arith)))
 
 -- ---- what a step does
 
@@ -139,7 +128,7 @@ module _ {K : Type 0} (key_at : ℕ → Option K) (shard : Text → ℕ) (s : St
   reading_explained IsEmpty may = refl
   reading_explained Usage may = refl
   reading_explained MaxUsage may = refl
-  reading_explained Iterate may = entries_keyed key_at 0 s.texts (λ i low high. good.fits i (omega arith))
+  reading_explained Iterate may = walk_from key_at 0 s.texts (λ i below. good.fits i (omega (arith, below)))
   reading_explained Strings may = refl
   reading_explained Serialize may = inl refl
   reading_explained Freeze may = absurd may

@@ -45,7 +45,8 @@ module _ {K : Type 0} (key_at : ℕ → Option K) where
   pub entries_left : (n : ℕ) (ts : List Text) (entries : List (K × Text)) → entries_from key_at n ts ≡ entries → Fits key_at (n + length ts) → length entries ≡ length ts
   entries_left n ts entries is fits = sym (ap length is) ∙ length-entries n ts fits
 
-  walk_from : (n : ℕ) (ts : List Text) → Fits key_at (n + length ts) → map {B = Option K × Text} (λ e. (Some e.0, e.1)) (entries_from key_at n ts) ≡ map (λ e. (key_at e.0, e.1)) (enumerate_from n ts)
+  -- where each position has a key the entries are all texts beside their keys
+  pub walk_from : (n : ℕ) (ts : List Text) → Fits key_at (n + length ts) → map {B = Option K × Text} (λ e. (Some e.0, e.1)) (entries_from key_at n ts) ≡ map (λ e. (key_at e.0, e.1)) (enumerate_from n ts)
   walk_from n [] fits = refl
   walk_from n (t ∷ ts) fits =
       let k = there (key_at n) (fits n (omega arith)) in

@@ -6,6 +6,7 @@ use Rattle.lasso_parts.specs.declared.util.LassoErrorKind.TheVariants.{MemoryLim
 use Rattle.lasso_log.specs.Buckets.{CountedBucket, with_taken, changed_at, HasNoRoom, bucket_size, doubling_after}
 use Rattle.lasso_log.specs.History.{Event, History, Totals}
 use Rattle.lasso_log.specs.Replies.{Keeping, Copied, Static, Question, Intern, Get, Contains, ContainsKey, Resolve, Len, IsEmpty, Usage, MaxUsage, Iterate, Strings, Serialize, Reply, Interned, Found, Flag, Resolved, Number, Pairs, Listed}
+use Rattle.lasso_shared.specs.Walks.{entries_from}
 
 -- bytes that were taken in a bucket: where they begin, and how many they are
 pub record Range : Type 0 where
@@ -199,15 +200,6 @@ replied question given = option_map (λ r. (question, r)) given
 -- the reply to an intern whose text has this key
 abbrev pub found_reply : {K : Type 0} → Keeping → Text → Option K → Option (Question × Reply K)
 found_reply keeping text key = replied (Intern keeping text) (option_map (λ k. Interned (Ok k)) key)
-
--- the entries of a walk: the texts beside their keys, where there are keys
-abbrev pub with_key : {K : Type 0} → Option K → Text → List (K × Text) → List (K × Text)
-with_key None text entries = entries
-with_key (Some k) text entries = (k, text) ∷ entries
-
-abbrev pub entries_from : {K : Type 0} → (ℕ → Option K) → ℕ → List Text → List (K × Text)
-entries_from key_at n [] = []
-entries_from key_at n (text ∷ texts) = with_key (key_at n) text (entries_from key_at (n + 1) texts)
 
 -- what is read: look-ups of texts read their shard's index, and all else the list, the usage or the limit
 abbrev pub read : {K : Type 0} → (ℕ → Option K) → (Text → ℕ) → State → Question → Option (Reply K)

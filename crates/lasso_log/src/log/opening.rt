@@ -152,9 +152,9 @@ impl<'a> Opening<First<'a>, Note> for ByOpening {
 impl<'a> OpensWith<First<'a>, Note> for ByOpening {
     ghost use Rattle.std.specs.Prelude.{[], ◌∷◌};
     ghost use Rattle.lasso_log.specs.Events.{bucket_at};
-    ghost use Rattle.lasso_log.specs.Notes.{shown};
+    ghost use Rattle.lasso_log.specs.Notes.{shown_note};
 
-    ghost shown = { λ o. shown o.known.now.texts (bucket_at o.site.now.numbers o.size o.used ∷ []) };
+    ghost shown = { λ o. shown_note o.known.now.texts (bucket_at o.site.now.numbers o.size o.used ∷ []) };
 }
 
 /// What a new log comes with: its spine, and its first bucket.
