@@ -9,46 +9,75 @@ digits() {
     fi
 }
 
-# Begins a script: kind, key type, first capacity in texts and in bytes, limit.
+# Begins a script of the interner `kind`: key type, first capacity in texts and in bytes, limit. `worked` are the replies to its lines, each
+# worked by hand.
 start() {
-    script=("script refused $*")
+    script=("script refused $kind $*")
+    worked=('script refused')
 }
 
-# Adds a command, twice: after a refusal it is made again.
+# What stands for a rodeo, or for an interner that threads share.
+either() {
+    if [ "$kind" = rodeo ]; then
+        echo "$1"
+    else
+        echo "$2"
+    fi
+}
+
+# Adds a reply and the command that is answered so, twice: after a refusal it is made again.
 add() {
-    local call=$1 line=$1 word
-    shift
+    local reply=$1 call=$2 line=$2 word
+    shift 2
     for word; do
         [ "$call" = limit ] || word=$(digits "$word")
         line="$line $word"
     done
     script+=("$line" "$line")
+    worked+=("$reply" "$reply")
 }
 
-# Ends a script with a look at all that the interner then answers, and refuses its requests in turn.
+# Ends a script with a look at all that the interner then answers: how many texts there are, the usage, the limit, and the first five texts.
+# Refuses its requests in turn.
 finish() {
-    local key
+    local key limit=$3
+    [ "$limit" != max ] || limit=18446744073709551615
     script+=(len usage max)
+    worked+=("number $1" "number $2" "number $limit")
+    shift 3
     for key in 0 1 2 3 4; do
         script+=("resolve $key")
+        if [ $# -gt 0 ]; then
+            worked+=("text $(digits "$1")")
+            shift
+        else
+            worked+=('text none')
+        fi
     done
     refuse_in_turn
 }
 
-# A value that is read twice: form, key type, text.
+# A value that is read twice: form, text, reply.
 json() {
     local line
-    line="json $1 $2 $(digits "$3")"
+    line="json $1 spur $(digits "$2")"
     script=("$line" "$line")
+    worked=("$3" "$3")
     refuse_in_turn
 }
 
-# Runs a program on an input, with the request of this number refused: sets `status`, and leaves what it wrote in files.
+# Runs a program on an input, with the request of this number refused: sets `status`, and leaves what it wrote in files. No block of its
+# own may be left.
 run() {
     local number=$1 input=$2
     shift 2
     status=0
-    REFUSE=$number LD_PRELOAD=$SHIM "$@" < "$input" > "$OUT/answers" 2> "$OUT/error" 3> "$OUT/told" || status=$?
+    rm -f "$OUT/left"
+    REFUSE=$number HALT=60 LEFT=$OUT/left LD_PRELOAD=$SHIM "$@" < "$input" > "$OUT/answers" 2> "$OUT/error" 3> "$OUT/told" || status=$?
+    runs=$((runs + 1))
+    left=
+    [ ! -e "$OUT/left" ] || left=$(< "$OUT/left")
+    [ "$left" = '0 blocks, 0 bytes' ] || fail "request $number refused: ${left:-no count of blocks} left"
 }
 
 # Fails, with what the last run wrote.
@@ -60,9 +89,9 @@ fail() {
     exit 1
 }
 
-# Whether the first file is the beginning of the second.
-begins() {
-    cmp -s -n "$(stat -c %s "$1")" "$1" "$2"
+# Whether the run ended well, and wrote what was worked by hand.
+is_usual() {
+    [ "$status" -eq 0 ] && [ ! -s "$OUT/error" ] && cmp -s "$OUT/worked" "$OUT/answers"
 }
 
 # Runs the script with each request refused in turn.
@@ -70,18 +99,16 @@ refuse_in_turn() {
     local number=1
     scripts=$((scripts + 1))
     printf '%s\n' "${script[@]}" > "$OUT/input"
+    printf '%s\n' "${worked[@]}" > "$OUT/worked"
     rm -rf "$OUT/variants"
     mkdir "$OUT/variants"
     run 0 "$OUT/input" "$REPLAY"
-    [ "$status" -eq 0 ] && [ ! -s "$OUT/error" ] && [ ! -s "$OUT/told" ] || fail "a run without a refusal"
-    mv "$OUT/answers" "$OUT/usual"
-    mapfile -t usual < "$OUT/usual"
-    [ ${#usual[@]} -eq ${#script[@]} ] || fail "not a reply for each line"
+    is_usual && [ ! -s "$OUT/told" ] || fail "a run without a refusal"
     while run "$number" "$OUT/input" "$REPLAY" && [ -s "$OUT/told" ]; do
         explain || fail "request $number refused"
         number=$((number + 1))
     done
-    [ "$number" -gt 1 ] && [ "$status" -eq 0 ] && cmp -s "$OUT/usual" "$OUT/answers" || fail "a run with no request of number $number"
+    [ "$number" -gt 1 ] && is_usual || fail "a run with no request of number $number"
     refused=$((refused + number - 1))
 }
 
@@ -95,7 +122,7 @@ explain() {
         return
     fi
     [ ! -s "$OUT/error" ] || return 1
-    if cmp -s "$OUT/usual" "$OUT/answers"; then
+    if is_usual; then
         unneeded=$((unneeded + 1))
         return
     fi
@@ -108,17 +135,17 @@ explain() {
 explain_reply() {
     local at=0 line words count
     mapfile -t answers < "$OUT/answers"
-    [ ${#answers[@]} -eq ${#usual[@]} ] || return 1
-    while [ "${answers[at]}" = "${usual[at]}" ]; do
+    [ ${#answers[@]} -eq ${#worked[@]} ] || return 1
+    while [ "${answers[at]}" = "${worked[at]}" ]; do
         at=$((at + 1))
     done
-    [ "${answers[at]}" = 'refused FailedAllocation' ] || return 1
+    [ "${answers[at]}" = 'refused FailedAllocation' ] && may_want_memory "$at" || return 1
+    # The second of two lines does what the first left undone.
+    [ "${answers[*]:at + 1}" != "${worked[*]:at + 1}" ] || return 0
+    others=$((others + 1))
     line=${script[at]}
     read -ra words <<< "$line"
     case $line in
-        'intern '* | 'json '*)
-            goes_on_as "$at"
-            ;;
         'extend '*)
             for ((count = 0; count < ${#words[@]} - 1; count++)); do
                 goes_on_as "$at" "${words[*]:0:count + 1}" && return
@@ -132,6 +159,27 @@ explain_reply() {
             done
             return 1
             ;;
+        *)
+            goes_on_as "$at"
+            ;;
+    esac
+}
+
+# Whether the command at this line may want memory. A text that is there never does, nor does in a rodeo one that is refused for another
+# reason; and no value that is no array, where an array is wanted.
+may_want_memory() {
+    local at=$1 reply=${worked[$1]}
+    case ${script[at]} in
+        'intern '*)
+            if [ "${script[at - 1]}" = "${script[at]}" ] && [[ $reply = 'key '* ]]; then
+                return 1
+            fi
+            [[ ${script[0]} != *' rodeo '* || $reply = 'key '* ]]
+            ;;
+        'json '*)
+            [ "$reply" != 'fault NotAnArray' ]
+            ;;
+        'extend '* | 'clonefrom '*) ;;
         *)
             return 1
             ;;
@@ -161,17 +209,17 @@ lines_with_workers() {
     lines_in_turn "$LINES_PROGRAM" --workers 2 -- "$@"
 }
 
-# Whether what a program of so many words wrote before it was refused memory may stand: of workers nothing, else a beginning.
-are_of_lines_before() {
-    if [ "$1" -gt 1 ]; then
-        [ ! -s "$OUT/answers" ]
-    else
-        begins "$OUT/answers" "$OUT/usual"
-    fi
+# Whether a program of so many words was refused memory at a line, and wrote the answers to the lines before it, with workers nothing, and
+# no more. At number 0 no line was at hand.
+ends_at_line() {
+    local lines
+    [ "$status" -eq 1 ] && [[ $(< "$OUT/error") =~ $LINES_ERROR ]] || return 1
+    lines=$((BASH_REMATCH[1] > 0 && $1 == 1 ? BASH_REMATCH[1] - 1 : 0))
+    head -n "$lines" "$OUT/worked" | cmp -s - "$OUT/answers"
 }
 
-# Runs the words before `--` over the lines behind it. A refusal ends the program at a line, after the answers to lines before it
-# and with workers after none, or makes no difference.
+# Runs the words before `--` over the lines behind it, which are answered as `worked` says. A refusal ends the program at a line, or makes no
+# difference.
 lines_in_turn() {
     local number=1 program=()
     while [ "$1" != -- ]; do
@@ -181,39 +229,38 @@ lines_in_turn() {
     shift
     scripts=$((scripts + 1))
     printf '%s\n' "$@" > "$OUT/input"
+    printf '%s\n' "${worked[@]}" > "$OUT/worked"
     run 0 "$OUT/input" "${program[@]}"
-    [ "$status" -eq 0 ] && [ ! -s "$OUT/told" ] || fail "a run without a refusal"
-    mv "$OUT/answers" "$OUT/usual"
+    is_usual && [ ! -s "$OUT/told" ] || fail "a run without a refusal"
     while run "$number" "$OUT/input" "${program[@]}" && [ -s "$OUT/told" ]; do
-        if [ "$status" -eq 0 ] && cmp -s "$OUT/usual" "$OUT/answers" && [ ! -s "$OUT/error" ]; then
+        if is_usual; then
             unneeded=$((unneeded + 1))
-        elif [ "$status" -eq 1 ] && are_of_lines_before "${#program[@]}" && grep -qx "$LINES_ERROR" "$OUT/error"; then
+        elif ends_at_line "${#program[@]}"; then
             ended=$((ended + 1))
         else
             fail "request $number refused"
         fi
         number=$((number + 1))
     done
-    [ "$number" -gt 1 ] && [ "$status" -eq 0 ] && cmp -s "$OUT/usual" "$OUT/answers" || fail "a run with no request of number $number"
+    [ "$number" -gt 1 ] && is_usual || fail "a run with no request of number $number"
     refused=$((refused + number - 1))
 }
 
 # Runs a script of lasso_refused with each request refused in turn. The program says itself at which call memory was wanting and that all
-# stands then; or it ends before the script begins, or a request makes no difference. At some call memory has to be wanting.
+# stands then; or it ends before the script begins, or a request makes no difference. At each of these calls memory has to be wanting once.
 calls() {
     local number=1 name=$1 stood=0
+    shift
     scripts=$((scripts + 1))
     echo "$name" > "$OUT/input"
     run 0 /dev/null "$REFUSED_PROGRAM" "$name"
-    [ "$status" -eq 0 ] && [ "$(cat "$OUT/answers")" = "$name: as worked" ] && [ ! -s "$OUT/told" ] || fail "a run without a refusal"
+    is_as_worked && [ ! -s "$OUT/told" ] || fail "a run without a refusal"
     while run "$number" /dev/null "$REFUSED_PROGRAM" "$name" && [ -s "$OUT/told" ]; do
         if [ "$status" -eq 1 ] && [ ! -s "$OUT/answers" ] && [ "$(cat "$OUT/error")" = "$REPLAY_ERROR" ]; then
             ended=$((ended + 1))
-        elif [ "$status" -ne 0 ] || [ -s "$OUT/error" ]; then
-            fail "request $number refused"
-        elif [ "$(cat "$OUT/answers")" = "$name: as worked" ]; then
+        elif is_as_worked; then
             unneeded=$((unneeded + 1))
-        elif grep -qx "$name refused at .*: stands" "$OUT/answers"; then
+        elif [ "$status" -eq 0 ] && [ ! -s "$OUT/error" ] && grep -qx "$name refused at .*: stands" "$OUT/answers"; then
             stood=$((stood + 1))
             cat "$OUT/answers" >> "$OUT/calls"
         else
@@ -221,7 +268,21 @@ calls() {
         fi
         number=$((number + 1))
     done
-    [ "$stood" -gt 0 ] && [ "$status" -eq 0 ] && [ "$(cat "$OUT/answers")" = "$name: as worked" ] || fail "a run with no request of number $number"
+    is_as_worked || fail "a run with no request of number $number"
+    want_memory_at "$@"
     replied=$((replied + stood))
     refused=$((refused + number - 1))
+}
+
+# Whether the script of lasso_refused ended well, and answered as worked.
+is_as_worked() {
+    [ "$status" -eq 0 ] && [ ! -s "$OUT/error" ] && [ "$(cat "$OUT/answers")" = "$name: as worked" ]
+}
+
+# Fails unless memory was wanting at each of these calls of the script.
+want_memory_at() {
+    local call
+    for call; do
+        grep -qxF "$name refused at $call: stands" "$OUT/calls" || fail "memory was never wanting at $call"
+    done
 }

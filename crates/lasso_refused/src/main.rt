@@ -7,13 +7,15 @@ mod keys;
 mod making;
 mod one_thread;
 mod refusals;
+mod rows;
 mod saving;
 mod shared;
 mod stories;
 
 use making::makers;
-use one_thread::{commands, written};
+use one_thread::{commands, hint, written};
 use refusals::{Fault, Refused};
+use rows::rows;
 use saving::json;
 use shared::{buckets, filled, gap, texts};
 use std::process::ExitCode;
@@ -32,20 +34,24 @@ enum Script {
     Buckets,
     Gap,
     Filled,
+    Rows,
     Makers,
     Json,
     Written,
+    Hint,
     Commands,
 }
 
-const SCRIPTS: [(&str, Script); 8] = [
+const SCRIPTS: [(&str, Script); 10] = [
     ("texts", Script::Texts),
     ("buckets", Script::Buckets),
     ("gap", Script::Gap),
     ("filled", Script::Filled),
+    ("rows", Script::Rows),
     ("makers", Script::Makers),
     ("json", Script::Json),
     ("written", Script::Written),
+    ("hint", Script::Hint),
     ("commands", Script::Commands),
 ];
 
@@ -94,9 +100,11 @@ fn run<R: AllocGlobal + Wait>(rt: &R, script: Script, refused: &mut Refused) -> 
         Script::Buckets => buckets(rt, refused),
         Script::Gap => gap(rt, refused),
         Script::Filled => filled(rt, refused),
+        Script::Rows => rows(rt, refused),
         Script::Makers => makers(rt, refused),
         Script::Json => json(rt, refused),
         Script::Written => written(rt, refused),
+        Script::Hint => hint(rt, refused),
         Script::Commands => commands(rt, refused),
     }
 }

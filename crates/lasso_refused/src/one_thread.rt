@@ -1,4 +1,4 @@
-//! Scripts over an interner for one thread: a list of commands, and texts that are copied and written.
+//! Scripts over an interner for one thread: a list of commands, texts that are copied and written, and items whose iterator tells how many.
 
 use crate::refusals::{Call, Fault, Refused, twice};
 use crate::saving::is_written;
@@ -7,6 +7,7 @@ use lasso::{
     run_commands,
 };
 use std::alloc::Global;
+use std::iter::repeat_n;
 
 type Interner = Rodeo<Spur, FixedState, Global>;
 
@@ -59,6 +60,9 @@ const WITHOUT_THE_COPY: [Wanted; 7] = [
 const STRINGS: [&str; 4] = ["one string", "two string", "red string", "blue string"];
 
 const ARRAY: &str = r#"["one string","two string","red string","blue string"]"#;
+
+// Twenty times the texts that an interner of default capacity has room for.
+const ITEMS: usize = 1000;
 
 /// A run of commands in an interner of four bytes. Where the room for replies is refused nothing is done; else the command that wants
 /// memory is answered so, and the run goes on.
@@ -166,4 +170,25 @@ pub fn written<R: AllocGlobal>(rt: &R, refused: &mut Refused) -> Result<(), Faul
         resolver.eq_rodeo(&copy)
     );
     is_written(alloc, refused, call, &value, ARRAY)
+}
+
+/// An interner of items that all lend one text, whose iterator tells of 1000. Where room for so many is refused, no more is there than an
+/// interner of default capacity has, and the answer is the same.
+pub fn hint<R: AllocGlobal>(rt: &R, refused: &mut Refused) -> Result<(), Fault> {
+    let call = Call::of("from_iter");
+    let rodeo: Interner = twice!(
+        refused,
+        call,
+        Rodeo::from_iter(rt.alloc(), repeat_n("a", ITEMS)),
+        true
+    );
+    if rodeo.capacity() < ITEMS {
+        refused.note(Call {
+            name: "from_iter",
+            text: "for what its iterator tells",
+        })?;
+    }
+    let key = rodeo.get("a").map(|key| key.into_usize());
+    let is_whole = key == Some(0) && rodeo.len() == 1 && rodeo.current_memory_usage() == 4096;
+    call.expect(is_whole, "the text")
 }
