@@ -6,49 +6,18 @@
 use Rattle.std.proofs.Common.{ℕ, suc, zero, ◌≡◌, ◌+◌, ◌-◌, ◌<◌, ◌≤◌, ◌==◌, Ok, Err, true, List, [], ◌∷◌, ◌++◌, length, take, drop, Some, None, ap, sym, subst, ◌∙◌, refl, arith, append_assoc, add-one, length-drop}
 use Rattle.std.specs.List.{slice_index}
 use Rattle.memchr.specs.Find.{IsFirstByte, is_byte}
-use Rattle.lasso_lines.specs.Stretch.{NoFeed, LeadsTo, FailsWith}
+use Rattle.lasso_lines.specs.Stretch.{LeadsTo, FailsWith}
 use Rattle.lasso_parts.specs.Held.{Held}
 use Rattle.lasso_parts.specs.declared.util.LassoErrorKind.TheVariants.{FailedAllocation}
-use Rattle.lasso_lines.specs.Report.{after_line, line_report, lines_of, EndsFrom}
+use Rattle.lasso_columns.specs.Lines.{lines_of, NoFeed}
+use Rattle.lasso_columns.proofs.FirstLines.{Cut, cut_at, no_feed_both, lines_cut}
+use Rattle.lasso_lines.specs.Report.{after_line, line_report, EndsFrom}
 use Rattle.lasso_lines.specs.Answer.{LineFails, no_memory}
 use Rattle.lasso_lines.specs.declared.fault.RunFault.{RunFault}
 use Rattle.lasso_lines.specs.declared.fault.RunFault.TheVariants.{Refused}
 use Rattle.lasso_lines.proofs.Ways.{ends_after, line_fails}
-use Rattle.lasso_lines.proofs.Lines.{no_feed_take, no_feed_both, lines_cut, lines_some}
+use Rattle.lasso_lines.proofs.Lines.{lines_some}
 use Rattle.std.proofs.lemmas.Bool.Decides.{nat_tests}
-
-split_at_feed : (shown : List ℕ) (at : ℕ) → at < length shown → slice_index shown at == 10 ≡ true → shown ≡ take at shown ++ 10 ∷ drop (suc at) shown
-split_at_feed [] at small feed = absurd (omega arith)
-split_at_feed (b ∷ shown) zero small feed = let is : b ≡ 10 = grind (arith, nat_tests) in ap (λ x. x ∷ shown) is
-split_at_feed (b ∷ shown) (suc at) small feed = ap (λ bs. b ∷ bs) (split_at_feed shown at (omega arith) feed)
-
--- what a search that found a line feed says of the bytes
-pub record Cut (bytes : List ℕ) (at : ℕ) : Type 0 where
-  pub inside : at + 1 ≤ length bytes
-  pub feed : slice_index bytes at == 10 ≡ true
-  pub no_feed : NoFeed (take at bytes)
-  pub bytes_are : bytes ≡ take at bytes ++ 10 ∷ drop (at + 1) bytes
-
-pub cut_at : (bytes : List ℕ) (at : ℕ) → IsFirstByte (is_byte 10) bytes (Some at) → Cut bytes at
-cut_at bytes at found =
-    let small : at < length bytes = found.0.high in
-    record {
-      inside = omega arith;
-      feed = found.1;
-      no_feed = no_feed_take bytes at (λ k below. found.0.before k (omega arith) below);
-      bytes_are = split_at_feed bytes at small found.1 ∙ ap (λ n. take at bytes ++ 10 ∷ drop n bytes) (sym (add-one at));
-    }
-
-pub take_all : (bytes : List ℕ) → take (length bytes) bytes ≡ bytes
-take_all [] = refl
-take_all (b ∷ bytes) = ap (λ bs. b ∷ bs) (take_all bytes)
-
-pub rest_behind : (n : ℕ) (bytes : List ℕ) → take (length bytes - n) (drop n bytes) ≡ drop n bytes
-rest_behind n bytes = let same : length bytes - n ≡ length (drop n bytes) = omega (arith, length-drop n bytes) in ap (λ k. take k (drop n bytes)) same ∙ take_all (drop n bytes)
-
--- where the search finds none, no byte is a line feed
-pub none_no_feed : (bytes : List ℕ) → IsFirstByte (is_byte 10) bytes None → NoFeed bytes
-none_no_feed bytes found = subst NoFeed (take_all bytes) (no_feed_take bytes (length bytes) (λ k below. found k (omega arith) below))
 
 pub held_no_feed : (begun bytes held : List ℕ) → held ≡ begun ++ bytes → NoFeed begun → NoFeed bytes → NoFeed held
 held_no_feed begun bytes held is none none' = subst NoFeed (sym is) (no_feed_both begun bytes none none')

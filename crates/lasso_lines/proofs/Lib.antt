@@ -6,4 +6,3 @@ pub mod Numbers
 pub mod Settings
 pub mod Buffers
 pub mod Tested
-pub mod Feeds

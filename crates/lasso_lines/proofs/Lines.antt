@@ -1,7 +1,6 @@
 -- The lines of bytes, and what answering one of them gives.
 --
--- Bytes without a line feed begin the first line. A line feed behind them ends it, and where nothing is behind
--- them they are the last line, unless there are none.
+-- Bytes without a line feed are the last line, where nothing is behind them, unless there are none.
 use Rattle.std.proofs.Common.{ℕ, suc, zero, ◌≡◌, ◌-◌, ◌<◌, ◌==◌, ◌⊎◌, inl, inr, Bool, true, false, cond, List, [], ◌∷◌, ◌++◌, take, Some, Result, Ok, Err, decimal, ap, sym, subst, ◌∙◌, refl, arith}
 use Rattle.std.specs.List.{onto_first, slice_index}
 use Rattle.std.specs.Str.{IsUtf8}
@@ -13,28 +12,13 @@ use Rattle.lasso_parts.specs.declared.util.LassoErrorKind.TheVariants.{FailedAll
 use Rattle.lasso_parts.specs.Held.{Held}
 use Rattle.lasso_single.specs.Intern.{interned, interned_position}
 use Rattle.lasso_lines.specs.Stream.{Begins}
-use Rattle.lasso_lines.specs.Report.{is_line_feed, lines_of, spur_at, first_bytes, after_line, with_number, line_report}
-use Rattle.lasso_lines.specs.Stretch.{NoFeed}
+use Rattle.lasso_columns.specs.Lines.{is_line_feed, lines_of, NoFeed}
+use Rattle.lasso_columns.specs.Encoding.{spur_at}
+use Rattle.lasso_columns.proofs.Encoded.{position_of_key}
+use Rattle.lasso_lines.specs.Report.{first_bytes, after_line, with_number, line_report}
 use Rattle.lasso_lines.specs.Answer.{AnswersLine, WritesAll, LineFails, faulty, no_memory, not_written, last_lines}
 use Rattle.lasso_lines.specs.declared.fault.RunFault.{RunFault}
 use Rattle.lasso_lines.specs.declared.fault.RunFault.TheVariants.{Refused, NotText}
-
-pub no_feed_both : (front back : List ℕ) → NoFeed front → NoFeed back → NoFeed (front ++ back)
-no_feed_both [] back none none' = none'
-no_feed_both (x ∷ front) back none none' = (none.0, no_feed_both front back none.1 none')
-
--- where no byte below n is a line feed, the first n bytes have none
-pub no_feed_take : (bytes : List ℕ) (n : ℕ) → ((k : ℕ) → k < n → ¬ (slice_index bytes k == 10 ≡ true)) → NoFeed (take n bytes)
-no_feed_take bytes zero none = tt
-no_feed_take [] (suc n) none = tt
-no_feed_take (b ∷ bytes) (suc n) none = (false_from_ne_true _ (none 0 (omega arith)), no_feed_take bytes n (λ k small. none (suc k) (omega arith)))
-
-cut_step : (x : ℕ) (bytes line : List ℕ) (lines : List (List ℕ)) → is_line_feed x ≡ false → lines_of bytes ≡ line ∷ lines → lines_of (x ∷ bytes) ≡ (x ∷ line) ∷ lines
-cut_step x bytes line lines e rest = ap (λ t. cond t ([] ∷ lines_of bytes) (onto_first x (lines_of bytes))) e ∙ ap (λ ls. onto_first x ls) rest
-
-pub lines_cut : (line rest : List ℕ) → NoFeed line → lines_of (line ++ 10 ∷ rest) ≡ line ∷ lines_of rest
-lines_cut [] rest none = refl
-lines_cut (x ∷ line) rest none = cut_step x (line ++ 10 ∷ rest) line (lines_of rest) none.0 (lines_cut line rest none.1)
 
 lines_last_onto : (x : ℕ) (line : List ℕ) → onto_first x (last_lines line) ≡ (x ∷ line) ∷ []
 lines_last_onto x [] = refl
@@ -69,15 +53,12 @@ pub refused_line : (first : ℕ) (held : Held) (number : ℕ) (line text : List 
 refused_line first held number line text error X Y same is (inl refused) = faulty _ (text_line held number line is.1 ∙ ap (λ r. with_number number r) (subst (λ t. interned spur_at first_bytes held t ≡ Err error) is.0 (subst (λ (n : ℕ). interned spur_at n held text ≡ Err error) same refused))) refl
 refused_line first held number line text error X Y same is (inr none) = subst (λ e. LineFails held number line [] (Refused number e)) (sym none.0) (no_memory refl)
 
-place_of : (place k : ℕ) → spur_at place ≡ Some k → place ≡ k - 1
-place_of place k e = let sum = (cond_some _ _ _ e).1 in omega arith
-
 line_is_text : (held after : Held) (number : ℕ) (line text : List ℕ) → (text ≡ line) × IsUtf8 line → interned spur_at first_bytes held text ≡ Ok after → after_line held number line ≡ Ok after
 line_is_text held after number line text is reply = text_line held number line is.1 ∙ ap (λ r. with_number number r) (subst (λ t. interned spur_at first_bytes held t ≡ Ok after) is.0 reply)
 
 -- the position in front of the line
 report_is : (held : Held) (line text : List ℕ) (position key : ℕ) → text ≡ line → spur_at (interned_position held.texts text) ≡ Some key → position ≡ key - 1 → decimal position ++ (32 ∷ (line ++ 10 ∷ [])) ≡ line_report held line
-report_is held line text position key is found at = ap (λ n. decimal n ++ (32 ∷ (line ++ 10 ∷ []))) (at ∙ sym (place_of (interned_position held.texts text) key found) ∙ ap (λ t. interned_position held.texts t) is)
+report_is held line text position key is found at = ap (λ n. decimal n ++ (32 ∷ (line ++ 10 ∷ []))) (at ∙ sym (position_of_key (interned_position held.texts text) key found) ∙ ap (λ t. interned_position held.texts t) is)
 
 answered_by : (held after : Held) (number : ℕ) (line : List ℕ) (result : Result (Unit {0}) RunFault) (bytes : List ℕ) → after_line held number line ≡ Ok after → bytes ≡ line_report held line → (part : List ℕ) → WritesAll bytes result part → AnswersLine held number line result after part
 answered_by held after number line (Ok x) bytes good is part wrote = (good, wrote ∙ is)

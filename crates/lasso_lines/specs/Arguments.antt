@@ -1,10 +1,5 @@
 -- Which words give which settings.
-use Rattle.std.specs.Prelude.{ℕ, option_map, ◌+◌, ◌-◌, ◌*◌, ◌^◌, Bool, true, ◌&&◌, List, [], ◌∷◌, length, nat_le, nat_lt, Option, Some, None, codes, bytes_eq, if◌then◌else◌}
-
--- what the function makes of a value, where there is one
-abbrev pub and_then : {X Y : Type 0} → Option X → (X → Option Y) → Option Y
-and_then None f = None
-and_then (Some x) f = f x
+use Rattle.std.specs.Prelude.{ℕ, option_map, option_and_then, ◌+◌, ◌-◌, ◌*◌, ◌^◌, Bool, true, ◌&&◌, List, [], ◌∷◌, length, nat_le, nat_lt, Option, Some, None, codes, bytes_eq, if◌then◌else◌}
 
 -- an ASCII digit
 abbrev pub is_digit : ℕ → Bool
@@ -36,11 +31,11 @@ abbrev pub with_workers : ℕ → ℕ → Option (ℕ × Option ℕ)
 with_workers limit n = if nat_le 1 n && nat_le n 64 then Some (limit, Some n) else None
 
 abbrev pub worked : ℕ → List ℕ → Option (ℕ × Option ℕ)
-worked limit workers = and_then (number_of workers) (with_workers limit)
+worked limit workers = option_and_then (with_workers limit) (number_of workers)
 
 -- a limit and workers
 abbrev pub both : List ℕ → List ℕ → Option (ℕ × Option ℕ)
-both limit workers = and_then (number_of limit) (λ n. worked n workers)
+both limit workers = option_and_then (λ n. worked n workers) (number_of limit)
 
 abbrev pub is_limit : List ℕ → Bool
 is_limit word = bytes_eq word (codes "--limit")

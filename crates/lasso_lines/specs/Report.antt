@@ -1,25 +1,17 @@
 -- What a run writes, and how it ends.
-use Rattle.std.specs.Prelude.{ℕ, zero, suc, ◌≡◌, ◌<◌, ◌+◌, ◌⊎◌, Bool, cond, List, [], ◌∷◌, ◌++◌, length, nat_eq, Option, Some, None, Result, Ok, Err, MatchResult, codes, decimal}
-use Rattle.std.specs.List.{onto_first}
+use Rattle.std.specs.Prelude.{ℕ, zero, suc, ◌≡◌, ◌<◌, ◌+◌, ◌⊎◌, cond, List, [], ◌∷◌, ◌++◌, length, Option, Some, None, Result, Ok, Err, MatchResult, codes, decimal}
 use Rattle.std.specs.Str.{is_utf8}
 use Rattle.lasso_parts.specs.Account.{Account, fresh}
 use Rattle.lasso_parts.specs.Held.{Held}
 use Rattle.lasso_parts.specs.Texts.{Text}
-use Rattle.lasso_parts.specs.Kept.{kept_at}
 use Rattle.lasso_parts.specs.declared.util.LassoError.{LassoError}
 use Rattle.lasso_parts.specs.declared.util.LassoErrorKind.TheVariants.{FailedAllocation}
 use Rattle.lasso_single.specs.Intern.{interned, interned_position}
+use Rattle.lasso_columns.specs.Lines.{lines_of}
+use Rattle.lasso_columns.specs.Encoding.{spur_at}
 use Rattle.lasso_lines.specs.Stream.{Begins}
 use Rattle.lasso_lines.specs.declared.fault.RunFault.{RunFault}
 use Rattle.lasso_lines.specs.declared.fault.RunFault.TheVariants.{Refused, NotText, Usage, ReadFailed, WriteFailed}
-
-abbrev pub is_line_feed : ℕ → Bool
-is_line_feed b = nat_eq b 10
-
--- each line feed ends a line, and bytes after the last one are a line too
-abbrev pub lines_of : List ℕ → List (List ℕ)
-lines_of [] = []
-lines_of (b ∷ bytes) = cond (is_line_feed b) ([] ∷ lines_of bytes) (onto_first b (lines_of bytes))
 
 -- an interner of these texts and this account
 abbrev pub holding : List Text → Account → Held
@@ -29,10 +21,6 @@ holding texts account = record { texts = texts; account = account }
 abbrev pub with_number : ℕ → Result Held LassoError → Result Held RunFault
 with_number number (Ok after) = Ok after
 with_number number (Err error) = Err (Refused number error)
-
--- the key of a position, which is the position plus one
-abbrev pub spur_at : ℕ → Option ℕ
-spur_at = kept_at 4294967295
 
 -- the bytes of the interner's first bucket
 abbrev pub first_bytes : ℕ

@@ -1,13 +1,9 @@
 -- What answering the lines of a stretch of bytes does, whatever comes behind them.
-use Rattle.std.specs.Prelude.{ℕ, ◌≡◌, false, List, [], ◌∷◌, ◌++◌, Result, Err}
+use Rattle.std.specs.Prelude.{ℕ, List, ◌++◌, Result, Err}
 use Rattle.lasso_parts.specs.Held.{Held}
-use Rattle.lasso_lines.specs.Report.{is_line_feed, lines_of, EndsFrom}
+use Rattle.lasso_columns.specs.Lines.{lines_of}
+use Rattle.lasso_lines.specs.Report.{EndsFrom}
 use Rattle.lasso_lines.specs.declared.fault.RunFault.{RunFault}
-
--- no byte is a line feed
-abbrev pub NoFeed : List ℕ → Type 0
-NoFeed [] = Unit {0}
-NoFeed (b ∷ bytes) = (is_line_feed b ≡ false) × NoFeed bytes
 
 -- once the part is written, a run over some bytes, of which the first line has this number, goes on as a run over
 -- others: however that one ends with what comes behind them, so ends this one with the same behind its own, and with

@@ -5,7 +5,8 @@ ghost use Rattle.lasso_lines.specs.Answer.{IsInputFault, IsLineFault, failed_rea
 
 use crate::fault::RunFault;
 use crate::stream::ByteReader;
-use crate::stretches::{behind, hold, next_feed, next_number};
+use crate::stretches::{hold, next_number};
+use lasso_columns::lines::{behind, next_feed};
 use std::str::from_utf8;
 use std::sync::Wait;
 

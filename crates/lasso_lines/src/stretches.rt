@@ -1,17 +1,17 @@
 //! The lines of a stretch: the bytes that a reader shows at once.
-ghost use Rattle.std.specs.Prelude.{◌≡◌, ℕ, ◌+◌, ◌-◌, ◌<◌, ◌++◌, [], OnOk, IfOk, IfErr, MatchResult, IsUtf8, drop, length, take};
-ghost use Rattle.memchr.specs.Find.{IsFirstByte, is_byte};
+ghost use Rattle.std.specs.Prelude.{◌≡◌, ℕ, ◌+◌, ◌-◌, ◌<◌, ◌++◌, [], OnOk, IfOk, IfErr, MatchResult, IsUtf8, length, take};
 ghost use Rattle.lasso_lines.specs.Stream.{Grows, OnlyGrows, written};
 ghost use Rattle.lasso_lines.specs.Report.{holding, first_bytes};
 ghost use Rattle.lasso_lines.specs.Answer.{AnswersLine, IsAnswerFault, failed_writes};
-ghost use Rattle.lasso_lines.specs.Stretch.{NoFeed, LeadsTo, FailsWith};
+ghost use Rattle.lasso_columns.specs.Lines.{NoFeed};
+ghost use Rattle.lasso_lines.specs.Stretch.{LeadsTo, FailsWith};
 ghost use Rattle.lasso_lines.specs.declared.fault.RunFault.TheVariants.{Refused};
 ghost use Rattle.lasso_parts.specs.declared.util.LassoErrorKind.TheVariants.{FailedAllocation};
 
 use crate::answers::{LineRodeo, answer_line};
 use crate::fault::RunFault;
 use crate::stream::ByteWriter;
-use memchr::memchr_iter;
+use lasso_columns::lines::{behind, next_feed};
 use std::str::from_utf8;
 use std::sync::Wait;
 
@@ -88,24 +88,6 @@ fn answer_lines<'a, R: Wait, O: ByteWriter>(
         rest = behind(rest, at);
     }
     Ok((number, rest))
-}
-
-// Where the first line feed stands. It is mostly near, and this is the search that looks there first.
-#[inline]
-pub(crate) fn next_feed(bytes: &[u8]) -> Option<usize>
-    ensures { IsFirstByte (is_byte 10) bytes.now result }
-{
-    memchr_iter(b'\n', bytes).next()
-}
-
-// The bytes behind the one at this position.
-#[inline]
-pub(crate) fn behind(bytes: &[u8], at: usize) -> &[u8]
-    requires { at < length bytes.now }
-    ensures value { result.now ≡ drop (at + 1) bytes.now }
-    ensures less { length result.now < length bytes.now }
-{
-    &bytes[at + 1..]
 }
 
 // How many bytes at the end are not known to be text: those in front of them are. ASCII is looked for first,
