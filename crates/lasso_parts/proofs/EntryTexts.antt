@@ -19,18 +19,18 @@ source_kept earlier later at (Copied span) keeps lies =
 source_kept earlier later at (Static text) keeps lies = (tt, refl)
 
 -- an entry's text stays
-pub slot_kept : (earlier later : List Extent) (entry : EntryView) → KeepsTexts earlier later → IsThere earlier entry → IsThere later entry × (entry_text later entry ≡ entry_text earlier entry)
-slot_kept earlier later entry = source_kept earlier later entry.at entry.source
+pub entry_kept : (earlier later : List Extent) (entry : EntryView) → KeepsTexts earlier later → IsThere earlier entry → IsThere later entry × (entry_text later entry ≡ entry_text earlier entry)
+entry_kept earlier later entry = source_kept earlier later entry.at entry.source
 
 -- a list's texts stay there
 pub there_kept : (earlier later : List Extent) (entries : List EntryView) → KeepsTexts earlier later → AllThere earlier entries → AllThere later entries
-there_kept earlier later entries keeps all = All-weaker (IsThere earlier) (IsThere later) (λ s h. (slot_kept earlier later s keeps h).0) entries all
+there_kept earlier later entries keeps all = All-weaker (IsThere earlier) (IsThere later) (λ s h. (entry_kept earlier later s keeps h).0) entries all
 
 -- a list's texts stay the same
 pub texts_kept : (earlier later : List Extent) (entries : List EntryView) → KeepsTexts earlier later → AllThere earlier entries → texts_of later entries ≡ texts_of earlier entries
 texts_kept earlier later [] keeps all = refl
 texts_kept earlier later (s ∷ entries) keeps all =
-    let first = slot_kept earlier later s keeps (All-head (IsThere earlier) s entries all) in
+    let first = entry_kept earlier later s keeps (All-head (IsThere earlier) s entries all) in
     let others : texts_of later entries ≡ texts_of earlier entries = texts_kept earlier later entries keeps (All-tail (IsThere earlier) s entries all) in
     ap (λ (t : Text). t ∷ texts_of later entries) first.1 ∙ ap (λ (ts : List Text). entry_text earlier s ∷ ts) others
 

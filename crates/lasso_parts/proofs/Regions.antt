@@ -1,9 +1,9 @@
 -- Lists of regions while texts are copied in, and while they are cleared.
 --
--- Where one region gets more bytes, each region of the earlier list begins the one at its place in the
--- later list, and both lie at the same place. A span that is stored lies within the bytes of its region, so the
+-- Where one region gets more bytes, each region of the earlier list begins the one at its position in the
+-- later list, and both lie at the same address. A span that is stored lies within the bytes of its region, so the
 -- bytes that it names stay the same; so it does where a region more comes behind the others. A text in a region that was just opened is the same as a region more that holds the text.
--- Neither bytes nor clearing change a region's place or capacity, so the list of blocks stays the same.
+-- Neither bytes nor clearing change a region's address or capacity, so the list of blocks stays the same.
 use Rattle.std.proofs.Common.{◌≡◌, ℕ, zero, suc, ◌+◌, ◌-◌, ◌<◌, ◌≤◌, List, [], ◌∷◌, ◌++◌, length, get_or, set, take, drop, map, sym, ap, subst, refl, ◌∙◌, arith, inl, inr, append_assoc}
 use Rattle.std.specs.Prelude.{slice_range, IsUtf8}
 use Rattle.std.proofs.lemmas.List.{take-append-le, drop-append-le, length-append, length-drop, get_or_append_left, get_or_at, get_or-set_same, get_or-set_other, length-set, set_at, append-nil, drop_more, take_more, length-map, length-take-le, map-append, take_all}

@@ -51,7 +51,7 @@ abbrev IsBlock : Ptr → Type 0
 IsBlock (block_ptr b o) = Unit {0}
 IsBlock null_ptr = ⊥
 
--- a place that leads to a block, moved on
+-- an address that leads to a block, moved on
 moved : (p at : Ptr) (start : ℕ) → p ≡ at +ₚ start → LeadsToBlock p → (block_of p ≡ block_of at) × (count_of p ≡ count_of at + start)
 moved p (block_ptr b o) start is block = (ap block_of is, ap count_of is)
 moved p null_ptr start is block = absurd (subst IsBlock (sym block ∙ is) tt)

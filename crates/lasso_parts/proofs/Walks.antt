@@ -51,22 +51,22 @@ past_all n first ts rest items e none is =
 
 -- ---- texts of entries
 
-module _ {X : Type 0} (text_of : X → Text) where
+module _ {X : Type 0} (lends : X → Text) where
   -- a front of the list
-  pub taken_texts : (xs : List X) (ts : List Text) (k : ℕ) → map text_of xs ≡ ts → map text_of (take k xs) ≡ take k ts
-  taken_texts xs ts k e = sym (take-map text_of k xs) ∙ ap (take k) e
+  pub taken_texts : (xs : List X) (ts : List Text) (k : ℕ) → map lends xs ≡ ts → map lends (take k xs) ≡ take k ts
+  taken_texts xs ts k e = sym (take-map lends k xs) ∙ ap (take k) e
 
   -- the text at a position
-  pub shown_text : (xs : List X) (ts : List Text) (k : ℕ) (d : X) (t : Text) → map text_of xs ≡ ts → k < length xs → t ≡ text_of (get_or xs k d) → Some t ≡ slice_get ts k
+  pub shown_text : (xs : List X) (ts : List Text) (k : ℕ) (d : X) (t : Text) → map lends xs ≡ ts → k < length xs → t ≡ lends (get_or xs k d) → Some t ≡ slice_get ts k
   shown_text xs ts k d t e inside is =
-      ap Some is ∙ sym (ap (option_map text_of) (slice_get-get_or xs k d inside)) ∙ sym (slice_get-map text_of xs k) ∙ ap (λ (l : List Text). slice_get l k) e
+      ap Some is ∙ sym (ap (option_map lends) (slice_get-get_or xs k d inside)) ∙ sym (slice_get-map lends xs k) ∙ ap (λ (l : List Text). slice_get l k) e
 
   -- no text past the end
-  pub no_text : (xs : List X) (ts : List Text) (k : ℕ) → map text_of xs ≡ ts → length xs ≤ k → None ≡ slice_get ts k
-  no_text xs ts k e past = let long : length ts ≡ length xs = sym (ap length e) ∙ length-map xs text_of in sym (slice_get_past ts k (omega arith))
+  pub no_text : (xs : List X) (ts : List Text) (k : ℕ) → map lends xs ≡ ts → length xs ≤ k → None ≡ slice_get ts k
+  no_text xs ts k e past = let long : length ts ≡ length xs = sym (ap length e) ∙ length-map xs lends in sym (slice_get_past ts k (omega arith))
 
   -- the position that is n before the last
-  pub from_back : (xs : List X) (ts : List Text) (n : ℕ) → map text_of xs ≡ ts → length xs - 1 - n ≡ length ts - (n + 1)
-  from_back xs ts n e = omega (arith, sym (ap length e) ∙ length-map xs text_of)
+  pub from_back : (xs : List X) (ts : List Text) (n : ℕ) → map lends xs ≡ ts → length xs - 1 - n ≡ length ts - (n + 1)
+  from_back xs ts n e = omega (arith, sym (ap length e) ∙ length-map xs lends)
 
 pub ruleset walk_steps = (length-enumerate_from, enumerate_from-push, take-enumerate_from, drop-enumerate_from, slice_get-enumerate_from, common_steps)

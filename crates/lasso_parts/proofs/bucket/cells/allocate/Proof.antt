@@ -1,6 +1,6 @@
 -- `allocate` asks the allocator for the bytes, and makes places of them and a deed of the right to free them.
 --
--- The allocator answers with room for the bytes at some place, and with its token for that block. Room for
+-- The allocator answers with room for the bytes at some address, and with its token for that block. Room for
 -- bytes is a row of empty places, which `from_raw_parts` takes; the values that it wants for the empty places
 -- are zeros that nobody can read. The token is what the deed owns. Where it refuses, so does `allocate`.
 use Rattle.std.proofs.Common.{◌≡◌, ℕ, ◌*◌, ◌^◌, ◌<◌, Bool, true, false, List, [], ◌∷◌, length, replicate, refl, sym, subst, ◌∙◌, lit<, arith, w64}
@@ -66,7 +66,7 @@ allocate_spec 𝓤 𝓛 𝓜 𝓡 wired A laws heap methods drops met dropped =
     proved 𝓛 ended stayed c 𝓜 𝓡 (Goes-dropped 𝓛 2 (RefOf (0 ∷ []) tt (plain (λ _. P)) (λ _. tt)) yes (λ κs x w. refl), (Goes-dropped 𝓛 2 (plain (λ _. usize)) yes (λ κs x w. refl), tt))
     (f.Key.name args) function (code.unfolded 𝓤 H 𝓜 𝓡 wired (A, tt) methods drops)
     (λ κs. (shr_vals, (uint_vals w64, tt))) (λ κs. (shr_Tells (named 0) κs.0 P, (uint_Tells w64, tt))) (λ κs qs bounds a _ are.
-    let κ : Lft = κs.0 in let q : Share = qs.0 in let place : ℕ × ℕ = a.0.ref_ptr in let alloc : A.Denot = a.0.now in let n : ℕ = a.1.0 in let fits : n < 2 ^ 64 = are.1.0.1 in
+    let κ : Lft = κs.0 in let q : Share = qs.0 in let address : ℕ × ℕ = a.0.ref_ptr in let alloc : A.Denot = a.0.now in let n : ℕ = a.1.0 in let fits : n < 2 ^ 64 = are.1.0.1 in
     let y : W.Ghost = ((κs, qs, bounds, a, (shr_vals a.0, (uint_vals w64 n, tt))), tt) in
     let τ : Ty = bytes_type n in let Dr : RattleType = deed.the_row P heap in let Pair : RattleType = Tuple (cells.the_row ∷ Dr ∷ []) in
     let Out : RattleType = result.the_row Pair error.the_row in
@@ -77,10 +77,10 @@ allocate_spec 𝓤 𝓛 𝓜 𝓡 wired A laws heap methods drops met dropped =
     enter ! _ _ _ _ _ $ alloc_all ! (λ l. pass_all ! refl ((tt, tt), ((tt, record { fits = fits }), tt)) $
     let En = env function.locals l in
     let Then : Post 𝓤 H = any_q (after_seq 𝓤 H (Wp 𝓤 H 𝓣.C 𝓣.Λ En (after 2 function.body) (at_return 𝓤 H En (W.post y))) (at_return 𝓤 H En (W.post y))) in
-    let asks = at_takes Z 𝓛 𝓜.mem 𝓡.returns κ q place alloc n 1 τ in
-    use2 𝓛 (raw ((Takes Z 𝓛 𝓜.mem 𝓡.returns).pre asks)) (Takes-goes Z 𝓛 𝓜.mem 𝓡.returns κ q place alloc (Incl-trans bounds.0 lives) n 1 τ (capped_is (n * 1) (omega arith) ∙ omega arith) refl fits (lit< tt)) $
+    let asks = at_takes Z 𝓛 𝓜.mem 𝓡.returns κ q address alloc n 1 τ in
+    use2 𝓛 (raw ((Takes Z 𝓛 𝓜.mem 𝓡.returns).pre asks)) (Takes-goes Z 𝓛 𝓜.mem 𝓡.returns κ q address alloc (Incl-trans bounds.0 lives) n 1 τ (capped_is (n * 1) (omega arith) ∙ omega arith) refl fits (lit< tt)) $
     calls_at ! (framed 𝓤 H 𝓜 𝓣) (Takes Z 𝓛 𝓜.mem 𝓡.returns) (met.allocate drops) asks (and_then ! (get ! refl) (and_then ! (get ! refl) (and_then ! (lit ! tt) (no_more !)))) (λ v.
-    use1 𝓛 (later (raw (Answered Z 𝓛 𝓜.mem 𝓡.returns alloc τ v) ⊛ ‵ (flft κ q))) (Takes-gives Z 𝓛 𝓜.mem 𝓡.returns κ q place alloc n 1 τ v) $ await ! tt $ split ! $
+    use1 𝓛 (later (raw (Answered Z 𝓛 𝓜.mem 𝓡.returns alloc τ v) ⊛ ‵ (flft κ q))) (Takes-gives Z 𝓛 𝓜.mem 𝓡.returns κ q address alloc n 1 τ v) $ await ! tt $ split ! $
     answers Z ! 𝓜.mem 𝓡.returns alloc τ v
     (λ b o is_block.
     -- [room for the bytes; the allocator's token; the token of the `&`; the other token]

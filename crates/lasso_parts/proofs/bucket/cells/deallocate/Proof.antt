@@ -60,7 +60,7 @@ deallocate_spec 𝓤 𝓛 𝓜 𝓡 wired A laws heap methods drops met dropped 
     )
     (f.Key.name args) function (code.unfolded 𝓤 H 𝓜 𝓡 wired (A, tt) methods drops) (λ y _.
     let κs = y.0.0 in let qs = y.0.1 in let a = y.0.3 in let vss = y.0.4 in
-    let κ : Lft = κs.0 in let q : Share = qs.0 in let place : ℕ × ℕ = a.0.ref_ptr in let alloc : A.Denot = a.0.now in
+    let κ : Lft = κs.0 in let q : Share = qs.0 in let address : ℕ × ℕ = a.0.ref_ptr in let alloc : A.Denot = a.0.now in
     let row : Slots ℕ = a.1.0 in let right = a.1.1.0 in let n : ℕ = row.len in
     let Asked : Type 0 = (right.at ≡ row.ptr) × (right.len ≡ n) × (right.alloc ≡ alloc) in
     let Run : List Val → Goal 𝓤 H = λ us. prop (WpFn 𝓤 H 𝓣.C 𝓣.Λ function us (W.post y)) in
@@ -87,11 +87,11 @@ deallocate_spec 𝓤 𝓛 𝓜 𝓡 wired A laws heap methods drops met dropped 
     use1 𝓛 (‵ (froom (bytes_type (length row.items)) b o)) (to_room byte 𝓛 b row.items row.filled o (sym row.ok.1 ∙ row.ok.0)) $ rewrite ! 0 (λ (k : ℕ). ‵ (froom (bytes_type k) b o)) (sym row.ok.0) refl $
     -- [room for the bytes; the allocator's token; a `&` to the allocator; its token; the other token]
     move ! (2 ∷ 3 ∷ []) $ join ! $ move ! (1 ∷ 2 ∷ 0 ∷ []) $
-    let gives = at_gives Z 𝓛 𝓜.mem 𝓡.returns κ q place alloc b o n 1 (bytes_type n) in
+    let gives = at_gives Z 𝓛 𝓜.mem 𝓡.returns κ q address alloc b o n 1 (bytes_type n) in
     use3 𝓛 (raw ((Gives Z 𝓛 𝓜.mem 𝓡.returns).pre gives))
-    (Gives-goes Z 𝓛 𝓜.mem 𝓡.returns κ q place alloc (Incl-trans y.0.2.0 lives) b o n 1 (bytes_type n) (capped_is (n * 1) (omega arith) ∙ omega arith) refl fits (lit< tt)) $
+    (Gives-goes Z 𝓛 𝓜.mem 𝓡.returns κ q address alloc (Incl-trans y.0.2.0 lives) b o n 1 (bytes_type n) (capped_is (n * 1) (omega arith) ∙ omega arith) refl fits (lit< tt)) $
     calls_at_last ! (framed 𝓤 H 𝓜 𝓣) (Gives Z 𝓛 𝓜.mem 𝓡.returns) (met.deallocate drops) gives (and_then ! (get ! refl) (and_then ! (get ! refl) (and_then ! (get ! refl) (and_then ! (lit ! tt) (no_more !))))) (λ v.
-    use1 𝓛 (later (given (v ≡ vunit) (‵ (flft κ q)))) (Gives-Gives Z 𝓛 𝓜.mem 𝓡.returns κ q place alloc b o n 1 (bytes_type n) v) $ await ! tt $ learn ! (λ is_unit.
+    use1 𝓛 (later (given (v ≡ vunit) (‵ (flft κ q)))) (Gives-Gives Z 𝓛 𝓜.mem 𝓡.returns κ q address alloc b o n 1 (bytes_type n) v) $ await ! tt $ learn ! (λ is_unit.
     lands_last ! refl (subst (λ (u : Val). T (has_ty ty_unit u) × WT u) (sym is_unit) (tt, tt)) $
     exec ! 𝓣.C 𝓣.Λ En (after 2 function.body) (at_ret En (W.post y)) $ sets ! (of_opd ! (unit_lit !)) refl (tt, tt) $
     returns ! (look_at ! 0 refl) $ free_all ! refl $

@@ -17,7 +17,7 @@ loop-text-init g c =
     let empty = made_long n _ c.args.texts.items c.resize.new.self.items _ c.requires.empty c.args.texts.ok.0 c.in_ok-resize.ensures.items in
     let entries = c.into_iter-text-iterator.ensures.into_iter_gives.0 in record {
       marks = ap length unmarked ∙ length-replicate n false;
-      places = ap length empty ∙ length-replicate n _;
+      positions = ap length empty ∙ length-replicate n _;
       steps = omega (arith, ap length entries, c.len-count.ensures.len);
       reading = subst (λ (es : List Entry). IsReading g.K.Key.key_at n (read_members g.K.Key.key_at n [] (replicate n []) (members_view c.args.members.now.entries)) c.resize-2.new.self.items (map (λ t. t.now) c.resize.new.self.items) 0 (members_view es)) (sym entries)
           (reading_begins g.K.Key.key_at n c.resize-2.new.self.items (map (λ t. t.now) c.resize.new.self.items) (members_view c.args.members.now.entries) unmarked (ap (map (λ t. t.now)) empty ∙ map_alike (λ t. t.now) n _));
@@ -39,7 +39,7 @@ loop-text-preserved g c =
     let named : map (λ t. t.now) (set texts p c.as_str.result) ≡ set (map (λ t. t.now) texts) p (string_bytes e.0) =
     map-set (λ t. t.now) texts p c.as_str.result ∙ ap (set (map (λ t. t.now) texts) p) c.as_str.ensures.value in record {
       marks = length-set taken p _ ∙ c.loop-text.invariant.marks;
-      places = length-set texts p _ ∙ c.loop-text.invariant.places;
+      positions = length-set texts p _ ∙ c.loop-text.invariant.positions;
       steps = grind (arith, common_steps, ap length steps, c.loop-text.invariant.steps);
       reading = subst (λ (ts : List Text). IsReading g.K.Key.key_at n whole (set taken p true) ts (c.loop-text.at + 1) (members_view left)) (sym named) next;
     }

@@ -1,7 +1,7 @@
 -- `for_ever` leaves the two words of a `&` that never ends, and keeps what it holds.
 --
--- A `&` to bytes is their place and their number, and a `&` to each byte. The second is all that a loan owns,
--- so the loan, which is no word, is had for it, and the place is the first word.
+-- A `&` to bytes is their address and their number, and a `&` to each byte. The second is all that a loan owns,
+-- so the loan, which is no word, is had for it, and the address is the first word.
 use Rattle.std.proofs.Common.{ℕ, ◌*◌, ◌^◌, ◌<◌, List, [], ◌∷◌, length, refl, arith}
 use base.Fml.{ftrue}
 use mir.Val.{Val, vptr}

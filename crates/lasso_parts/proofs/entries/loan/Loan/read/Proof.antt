@@ -1,6 +1,6 @@
 -- `read` makes a slice of the bytes of a text.
 --
--- A `&` to the loan and one to the regions lend a `&` to each byte of the text (`TextsLent`). With the place and the
+-- A `&` to the loan and one to the regions lend a `&` to each byte of the text (`TextsLent`). With the address and the
 -- number of the bytes that is what a slice is.
 use Rattle.std.proofs.Common.{◌≡◌, ℕ, ◌*◌, ◌^◌, List, [], ◌∷◌, length, refl, sym, ap, ◌∙◌, arith, w64}
 use base.Fml.{Lft, Share, ftrue, fsep, flft, flt}
