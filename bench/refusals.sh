@@ -199,9 +199,11 @@ goes_on_as() {
     [ "${answers[*]:at + 1}" = "${kept[*]:at + $#}" ]
 }
 
-# Runs lasso_lines over the lines with each request refused in turn.
+# Runs lasso_lines over the lines with each request refused in turn. The last one, which no line feed ends, is held until the end of the input:
+# memory has to be wanting for that once.
 lines() {
     lines_in_turn "$LINES_PROGRAM" -- "$@"
+    grep -q "^line $#: " "$OUT/ends" || fail "memory was never wanting at line $#"
 }
 
 # The same with two workers.
@@ -218,8 +220,8 @@ ends_at_line() {
     head -n "$lines" "$OUT/worked" | cmp -s - "$OUT/answers"
 }
 
-# Runs the words before `--` over the lines behind it, which are answered as `worked` says. A refusal ends the program at a line, or makes no
-# difference.
+# Runs the words before `--` over the lines behind it, the last of them without a line feed, which are answered as `worked` says. A refusal
+# ends the program at a line, or makes no difference.
 lines_in_turn() {
     local number=1 program=()
     while [ "$1" != -- ]; do
@@ -228,8 +230,9 @@ lines_in_turn() {
     done
     shift
     scripts=$((scripts + 1))
-    printf '%s\n' "$@" > "$OUT/input"
+    printf '%s\n' "$@" | head -c -1 > "$OUT/input"
     printf '%s\n' "${worked[@]}" > "$OUT/worked"
+    : > "$OUT/ends"
     run 0 "$OUT/input" "${program[@]}"
     is_usual && [ ! -s "$OUT/told" ] || fail "a run without a refusal"
     while run "$number" "$OUT/input" "${program[@]}" && [ -s "$OUT/told" ]; do
@@ -237,6 +240,7 @@ lines_in_turn() {
             unneeded=$((unneeded + 1))
         elif ends_at_line "${#program[@]}"; then
             ended=$((ended + 1))
+            cat "$OUT/error" >> "$OUT/ends"
         else
             fail "request $number refused"
         fi
