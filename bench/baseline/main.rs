@@ -17,7 +17,7 @@ fn main() -> io::Result<()> {
         if line.last() == Some(&b'\n') {
             line.pop();
         }
-        let text = std::str::from_utf8(&line).map_err(io::Error::other)?;
+        let text = std::str::from_utf8(&line).map_err(|error| io::Error::new(io::ErrorKind::Other, error))?;
         let position = match positions.get(text) {
             Some(position) => *position,
             None => {

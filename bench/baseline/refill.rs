@@ -1,7 +1,9 @@
 //! How long it takes to clear a `HashMap<Box<str>, u32>` of std and to fill it with the same texts, round after round,
 //! beside a new one for each round, over the texts of `lasso_bench refill`. Prints the nanoseconds of a text.
+mod opaque;
+
+use opaque::black_box;
 use std::collections::HashMap;
-use std::hint::black_box;
 use std::time::Instant;
 
 const ROUNDS: usize = 1000;

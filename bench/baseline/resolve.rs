@@ -1,9 +1,10 @@
 //! How long it takes to read a text of a plain list by its position, over the same texts and at the same random
 //! positions as `lasso_bench` reads them from frozen interners. Prints the nanoseconds of a read.
+mod opaque;
 mod positions;
 
+use opaque::black_box;
 use positions::random_positions;
-use std::hint::black_box;
 use std::time::Instant;
 
 const ROUNDS: usize = 7;

@@ -1,10 +1,11 @@
 //! How long it takes threads to read texts of one list at once, behind a lock and in a plain list, over the same texts
 //! and at the same positions as `lasso_bench` reads them from the log of a shared interner. Prints the nanoseconds
 //! that a call takes each thread.
+mod opaque;
 mod positions;
 
+use opaque::black_box;
 use positions::random_positions;
-use std::hint::black_box;
 use std::ptr;
 use std::sync::RwLock;
 use std::sync::atomic::{AtomicUsize, Ordering};
@@ -129,7 +130,7 @@ fn time_copies(text: &[u8; 16]) -> f64 {
 }
 
 fn main() {
-    let texts: Vec<&'static str> = (0..TEXTS).map(|n| &*format!("text {n}").leak()).collect();
+    let texts: Vec<&'static str> = (0..TEXTS).map(|n| &*Box::leak(format!("text {n}").into_boxed_str())).collect();
     let positions = random_positions(TEXTS as u32, CALLS as u32);
     measure("RwLock<Vec<&str>>", "index", &RwLock::new(texts.clone()), &positions);
     measure("Vec<&str>", "index", &texts, &positions);

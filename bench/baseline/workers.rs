@@ -49,7 +49,7 @@ fn front_of(text: &str) -> u64 {
 
 // Sorts the texts: each thread a part of them, and then the parts are merged.
 fn sort(texts: &mut [(u64, &str)], threads: usize) {
-    let size = texts.len().div_ceil(threads).max(1);
+    let size = ((texts.len() + threads - 1) / threads).max(1);
     thread::scope(|scope| {
         for part in texts.chunks_mut(size) {
             scope.spawn(move || part.sort_unstable());
@@ -63,7 +63,7 @@ fn sort(texts: &mut [(u64, &str)], threads: usize) {
 fn number(word: Option<String>) -> io::Result<usize> {
     match word.and_then(|word| word.parse().ok()) {
         Some(number) if number > 0 => Ok(number),
-        _ => Err(io::Error::other("usage: workers THREADS MAPS")),
+        _ => Err(io::Error::new(io::ErrorKind::Other, "usage: workers THREADS MAPS")),
     }
 }
 

@@ -1,9 +1,11 @@
 //! How long single calls take in one round, over the same texts in the same order as in `lasso_bench round`. The word
 //! says which hash: `fx`, `ahash` or `fold`. Prints for each count of texts the nanoseconds of a call.
+#[path = "../opaque.rs"]
+mod opaque;
 mod pool;
 
+use opaque::black_box;
 use pool::{Fold, Fx, Pool, TextHash, A};
-use std::hint::black_box;
 use std::time::Instant;
 
 const COUNTS: [u64; 2] = [100_000, 1_000_000];

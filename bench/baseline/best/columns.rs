@@ -1,11 +1,13 @@
 //! A column at a time, as `lasso_bench columns` does it, over the lines of standard input: the codes of all lines, from texts that were
 //! cut before and from the bytes as they are, the texts of the codes, and the codes of one dictionary in another. The word says which
 //! hash: `fx`, `ahash` or `fold`. Prints the nanoseconds of a text in one round.
+#[path = "../opaque.rs"]
+mod opaque;
 mod pool;
 
 use memchr::memchr_iter;
+use opaque::black_box;
 use pool::{Fold, Fx, Pool, TextHash, A};
-use std::hint::black_box;
 use std::io::{self, Read};
 use std::time::Instant;
 
@@ -90,7 +92,7 @@ fn main() -> io::Result<()> {
         Some("fx") => round::<Fx>(&bytes),
         Some("ahash") => round::<A>(&bytes),
         Some("fold") => round::<Fold>(&bytes),
-        _ => return Err(io::Error::other("usage: columns fx|ahash|fold")),
+        _ => return Err(io::Error::new(io::ErrorKind::Other, "usage: columns fx|ahash|fold")),
     }
     Ok(())
 }

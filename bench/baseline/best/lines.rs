@@ -66,11 +66,12 @@ fn run<H: TextHash>() -> io::Result<()> {
         }
         let before = filled;
         filled += count;
-        let Some(last) = memrchr(b'\n', &buffer[before..filled]) else {
-            continue;
+        let last = match memrchr(b'\n', &buffer[before..filled]) {
+            Some(last) => last,
+            None => continue,
         };
         let end = before + last + 1;
-        let lines = std::str::from_utf8(&buffer[..end]).map_err(io::Error::other)?.as_bytes();
+        let lines = std::str::from_utf8(&buffer[..end]).map_err(|error| io::Error::new(io::ErrorKind::Other, error))?.as_bytes();
         let mut start = 0;
         for at in memchr_iter(b'\n', lines) {
             let line = &lines[start..at];
@@ -81,7 +82,7 @@ fn run<H: TextHash>() -> io::Result<()> {
         filled -= end;
     }
     if filled > 0 {
-        let line = std::str::from_utf8(&buffer[..filled]).map_err(io::Error::other)?.as_bytes();
+        let line = std::str::from_utf8(&buffer[..filled]).map_err(|error| io::Error::new(io::ErrorKind::Other, error))?.as_bytes();
         output.answer(pool.intern(line), line)?;
     }
     output.number(pool.len());
@@ -96,6 +97,6 @@ fn main() -> io::Result<()> {
         Some("fx") => run::<Fx>(),
         Some("ahash") => run::<A>(),
         Some("fold") => run::<Fold>(),
-        _ => Err(io::Error::other("usage: best fx|ahash|fold")),
+        _ => Err(io::Error::new(io::ErrorKind::Other, "usage: best fx|ahash|fold")),
     }
 }

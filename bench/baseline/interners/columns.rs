@@ -1,16 +1,18 @@
-//! The codes of all lines of standard input by 1, 2 and 4 threads over one interner of two maps of `dashmap`, as `lasso_bench columns` has
+//! The codes of all lines of standard input by 1 to 4 threads over one interner of two maps of `dashmap`, as `lasso_bench columns` has
 //! them by a `ThreadedRodeo`. Prints the nanoseconds of a text in one round.
 #[cfg(feature = "maps")]
 mod arena;
 #[cfg(feature = "maps")]
 mod maps;
+#[path = "../opaque.rs"]
+mod opaque;
 
-use std::hint::black_box;
+use opaque::black_box;
 use std::io::{self, Read};
 use std::thread;
 use std::time::Instant;
 
-const THREADS: [usize; 3] = [1, 2, 4];
+const THREADS: [usize; 4] = [1, 2, 3, 4];
 
 /// An interner that threads share.
 pub trait Interner: Sync {
@@ -30,7 +32,7 @@ pub trait Interner: Sync {
 #[inline(never)]
 fn encode<I: Interner>(interner: &I, texts: &[&str], threads: usize) -> Vec<u32> {
     let mut codes = vec![0; texts.len()];
-    let length = texts.len().div_ceil(threads).max(1);
+    let length = ((texts.len() + threads - 1) / threads).max(1);
     thread::scope(|scope| {
         for (texts, codes) in texts.chunks(length).zip(codes.chunks_mut(length)) {
             scope.spawn(move || {

@@ -8,9 +8,11 @@ mod lines;
 mod locked;
 #[cfg(feature = "maps")]
 mod maps;
+#[path = "../opaque.rs"]
+mod opaque;
 
 use lines::Lines;
-use std::hint::black_box;
+use opaque::black_box;
 use std::io::{self, BufRead, BufReader, StdinLock};
 use std::thread;
 use std::time::{Duration, Instant};
@@ -70,7 +72,7 @@ fn time<P: Sync>(parts: &[P], work: impl Fn(&P) -> usize + Sync) -> (usize, Dura
 
 // The texts in as many parts as there are threads, or fewer where there are few texts.
 fn parts(texts: &[String], threads: usize) -> Vec<&[String]> {
-    texts.chunks(texts.len().div_ceil(threads)).collect()
+    texts.chunks((texts.len() + threads - 1) / threads).collect()
 }
 
 fn print(call: &str, threads: usize, elapsed: Duration, calls: usize) {
@@ -122,7 +124,7 @@ fn run<I: Interner>(what: &str, input: BufReader<StdinLock>) -> io::Result<()> {
     match what {
         "round" => round::<I>(&Lines::read(input)?),
         "fill" => println!("{}", fill::<I>(input)?),
-        _ => return Err(io::Error::other("usage: interners maps|locked round|fill")),
+        _ => return Err(io::Error::new(io::ErrorKind::Other, "usage: interners maps|locked round|fill")),
     }
     Ok(())
 }
@@ -134,6 +136,6 @@ fn main() -> io::Result<()> {
         #[cfg(feature = "maps")]
         ["maps", what] => run::<maps::Maps>(what, input),
         ["locked", what] => run::<locked::Locked>(what, input),
-        _ => Err(io::Error::other("usage: interners maps|locked round|fill")),
+        _ => Err(io::Error::new(io::ErrorKind::Other, "usage: interners maps|locked round|fill")),
     }
 }
