@@ -2,15 +2,25 @@
 
 COLUMNS_OURS=$PWD/crates/lasso_bench/out/lasso_bench
 COLUMNS=$OUT/best/release/columns
-COLUMNS_SHARED=$OUT/interners/release/columns
-COLUMN_NAMES="zipf distinct few ten"
+COLUMN_NAMES="zipf distinct few ten large"
 COLUMN_ROUNDS=3
+PANDAS=
 
-# Installs pandas of the system's Python where it is missing, and an input of 10,000,000 lines: `zipf` ten times.
+has_pandas() {
+    /usr/bin/python3 -c 'import pandas' 2> "$OUT/pandas.log"
+}
+
+# Installs pandas of the system's Python where it is missing, and makes two inputs of 10,000,000 lines: `zipf` ten times, and `large`, to whose
+# end there are new words. Says where a column of the table stays empty.
 prepare_columns() {
-    /usr/bin/python3 -c 'import pandas' 2> "$OUT/pandas.log" ||
-        { apt-get update && apt-get install -y python3-pandas; } > "$OUT/apt.log" 2>&1 || true
+    has_pandas || { apt-get update && apt-get install -y python3-pandas; } > "$OUT/apt.log" 2>&1 || true
+    if has_pandas; then
+        PANDAS=yes
+    else
+        echo "pandas can't be had ($OUT/pandas.log): it does not stand beside columns" >&2
+    fi
     [ -s "$OUT/inputs/ten" ] || for _ in 1 2 3 4 5 6 7 8 9 10; do cat "$OUT/inputs/zipf"; done > "$OUT/inputs/ten"
+    [ -s "$OUT/inputs/large.tenth" ] || python3 bench/generate.py "$OUT/inputs" large
 }
 
 # Rounds over an input, each program in turn: lines of a program's name, a call, and nanoseconds a text.
@@ -21,8 +31,8 @@ rounds_of_columns() {
         for hash in $HASHES; do
             "$COLUMNS" "$hash" < "$1" | sed 's/^/rust /'
         done
-        [ ! -x "$COLUMNS_SHARED" ] || "$COLUMNS_SHARED" < "$1" | sed 's/^encode_shared /encode_shared_/; s/^/rust /'
-        /usr/bin/python3 bench/columns.py < "$1" | sed 's/^/pandas /' || true
+        [ -z "$COLUMNS_SHARED" ] || "$COLUMNS_SHARED" < "$1" | sed 's/^encode_shared /encode_shared_/; s/^/rust /'
+        [ -z "$PANDAS" ] || /usr/bin/python3 bench/columns.py < "$1" | sed 's/^/pandas /'
     done
 }
 
@@ -31,14 +41,14 @@ table_of_columns() {
     awk -v input="$1" '
         { key = $1 " " $2; if (!(key in least) || $3 < least[key]) least[key] = $3 }
         function beside(ours, key) {
-            if (key in least) printf "%10.1f%7.2f", least[key], ours / least[key]
+            if (key in least) printf "%10.1f%7s", least[key], ours == "" ? "-" : sprintf("%.2f", ours / least[key])
             else printf "%10s%7s", "-", "-"
         }
         END {
-            calls = split("encode encode_lines decode merge encode_shared_1 encode_shared_2 encode_shared_4", call)
+            calls = split("encode encode_lines decode merge encode_shared_1 encode_shared_2 encode_shared_3 encode_shared_4", call)
             for (c = 1; c <= calls; c++) {
                 ours = least["ours " call[c]]
-                printf "%-10s%-18s%10.1f", input, call[c], ours
+                printf "%-10s%-18s%10s", input, call[c], ours == "" ? "-" : sprintf("%.1f", ours)
                 beside(ours, "rust " call[c])
                 beside(ours, "pandas " (call[c] ~ /^encode/ ? "encode" : call[c]))
                 print ""

@@ -1,5 +1,6 @@
 #!/usr/bin/env python3
-"""Writes the four inputs of the benchmark into the folder that is given, each whole and as a tenth of its lines.
+"""Writes the inputs of the benchmark into the folder that is given, each whole and as a tenth of its lines: those that are named, or else the
+four that come first.
 
 The seed is fixed, so that every run on every machine has the same bytes.
 """
@@ -24,11 +25,16 @@ def distinct_words(rng, count, shortest, longest):
     return list(seen)
 
 
-def zipf(rng):
-    """A million lines over 100,000 words, the n-th of which comes about 1/n as often as the first."""
-    words = distinct_words(rng, 100_000, 3, 12)
+def zipf(rng, count=1_000_000):
+    """So many lines over a tenth as many words, the n-th of which comes about 1/n as often as the first."""
+    words = distinct_words(rng, count // 10, 3, 12)
     sums = list(accumulate(1 / rank for rank in range(1, len(words) + 1)))
-    return [words[bisect(sums, rng.random() * sums[-1])] for _ in range(1_000_000)]
+    return [words[bisect(sums, rng.random() * sums[-1])] for _ in range(count)]
+
+
+def large(rng):
+    """Ten million lines over a million words, which come as those of zipf do: new ones up to the end."""
+    return zipf(rng, 10_000_000)
 
 
 def distinct(rng):
@@ -47,11 +53,14 @@ def few(rng):
     return rng.choices(words, k=2_000_000)
 
 
+INPUTS = {"zipf": zipf, "distinct": distinct, "long": long_lines, "few": few, "large": large}
+
+
 def main():
     folder = Path(sys.argv[1])
     folder.mkdir(parents=True, exist_ok=True)
-    for name, lines_of in (("zipf", zipf), ("distinct", distinct), ("long", long_lines), ("few", few)):
-        lines = lines_of(random.Random(f"{SEED} {name}"))
+    for name in sys.argv[2:] or list(INPUTS)[:4]:
+        lines = INPUTS[name](random.Random(f"{SEED} {name}"))
         for suffix, part in (("", lines), (".tenth", lines[: len(lines) // 10])):
             (folder / f"{name}{suffix}").write_text("\n".join(part) + "\n", encoding="ascii")
 

@@ -6,13 +6,20 @@ INTERNERS=$OUT/interners/release/interners
 RIVALS="maps locked"
 SHARED_NAMES="zipf distinct few"
 
-# Builds the interners that Rust has for threads; where the packages can't be had, std stands alone.
+# Builds the interners that Rust has for threads; where the packages can't be had, or are not built, std stands alone, and nothing where that
+# is not built either.
 build_rivals() {
+    COLUMNS_SHARED=$OUT/interners/release/columns
     build_over_crates interners dashmap fxhash hashbrown && return
-    echo "the packages of Rust crates can't be had ($OUT/interners.log): only std stands beside ThreadedRodeo" >&2
+    COLUMNS_SHARED=
     RIVALS=locked
     INTERNERS=$OUT/interners-std
-    rustc -O --edition 2021 -o "$INTERNERS" bench/baseline/interners/main.rs
+    if rustc -O --edition 2021 -o "$INTERNERS" bench/baseline/interners/main.rs > "$OUT/interners-std.log" 2>&1; then
+        echo "dashmap can't be had or built ($OUT/interners.log): only std stands beside ThreadedRodeo" >&2
+    else
+        echo "neither dashmap ($OUT/interners.log) nor std ($OUT/interners-std.log) can be built: nothing stands beside ThreadedRodeo" >&2
+        RIVALS=
+    fi
 }
 
 # All rounds over an input, each program in turn: lines of a name, a call, a number of threads and nanoseconds.
