@@ -12,65 +12,91 @@ const UNSET: LassoReport = LassoReport {
     at: 77,
 };
 
-#[test]
-fn encodes_each_distinct_text_once(rt: HostRuntime) {
-    let (mut codes, mut bytes, mut offsets) = ([9; 5], [9; 5], [9; 5]);
+// A call's status, and the three numbers of its report.
+type Told = (u32, (usize, usize, usize));
+
+fn told(status: u32, report: &LassoReport) -> Told {
+    (status, (report.texts, report.bytes, report.at))
+}
+
+// Encodes, and ends the test where memory is wanting.
+fn encode<R: AllocGlobal>(
+    rt: &R,
+    bytes: &[u8],
+    offsets: &[u32],
+    codes: &mut [u32],
+    dictionary_bytes: &mut [u8],
+    dictionary_offsets: &mut [u32],
+) -> Result<Told, Fail> {
     let mut report = UNSET;
     let status = lasso_encode(
         rt.alloc(),
-        b"redbluered",
-        &[0, 3, 7, 7, 10],
-        &mut codes,
-        &mut bytes[..],
-        &mut offsets,
+        bytes,
+        offsets,
+        codes,
+        dictionary_bytes,
+        dictionary_offsets,
         &mut report,
     );
-    // "red", "blue", "" and "red": the first three are new, and have 7 bytes.
-    assert!(rt; status == 8);
-    assert!(rt; (report.texts, report.bytes, report.at) == (3, 7, 0));
-    assert!(rt; (codes, bytes, offsets) == ([9; 5], [9; 5], [9; 5]));
+    if status == 9 {
+        return Err(Fail::from("out of memory"));
+    }
+    Ok(told(status, &report))
+}
 
-    let mut bytes = [9; 8];
-    let status = lasso_encode(
-        rt.alloc(),
-        b"redbluered",
-        &[0, 3, 7, 7, 10],
-        &mut codes,
-        &mut bytes,
-        &mut offsets,
+fn decode(
+    dictionary_bytes: &[u8],
+    dictionary_offsets: &[u32],
+    codes: &[u32],
+    bytes: &mut [u8],
+    offsets: &mut [u32],
+) -> Told {
+    let mut report = UNSET;
+    let status = lasso_decode(
+        dictionary_bytes,
+        dictionary_offsets,
+        codes,
+        bytes,
+        offsets,
         &mut report,
     );
-    assert!(rt; status == 0);
-    assert!(rt; (report.texts, report.bytes, report.at) == (3, 7, 0));
-    assert!(rt; codes == [0, 1, 2, 0, 9]);
-    assert!(rt; bytes == *b"redblue\t");
-    assert!(rt; offsets == [0, 3, 7, 7, 9]);
+    told(status, &report)
 }
 
 #[test]
-fn encodes_a_part_of_an_array_and_no_text_at_all(rt: HostRuntime) {
+fn encodes_each_distinct_text_once(rt: HostRuntime) -> Result<(), Fail> {
+    let (mut codes, mut bytes, mut offsets) = ([9; 5], [9; 5], [9; 5]);
+    // "red", "blue", "" and "red": the first three are new, and have 7 bytes.
+    let (given, ends) = (b"redbluered", [0, 3, 7, 7, 10]);
+    let told = encode(&rt, given, &ends, &mut codes, &mut bytes, &mut offsets)?;
+    assert!(rt; told == (8, (3, 7, 0)));
+    assert!(rt; (codes, bytes, offsets) == ([9; 5], [9; 5], [9; 5]));
+
+    let mut bytes = [9; 8];
+    let told = encode(&rt, given, &ends, &mut codes, &mut bytes, &mut offsets)?;
+    assert!(rt; told == (0, (3, 7, 0)));
+    assert!(rt; codes == [0, 1, 2, 0, 9]);
+    assert!(rt; bytes == *b"redblue\t");
+    assert!(rt; offsets == [0, 3, 7, 7, 9]);
+    Ok(())
+}
+
+#[test]
+fn encodes_a_part_of_an_array_and_no_text_at_all(rt: HostRuntime) -> Result<(), Fail> {
     let (mut codes, mut bytes, mut offsets) = ([9; 2], [9; 3], [9; 3]);
-    // An array that begins at its second text, as one that was cut has it; then no text, by one offset and by none.
-    for (given, want, texts) in [
-        ([3, 5, 5].as_slice(), [0, 2, 2], 2),
-        ([4].as_slice(), [0, 2, 2], 0),
-        ([].as_slice(), [0, 2, 2], 0),
+    // An array that begins at its second text, as one that was cut has it; then no text, by one offset and by none. How many
+    // texts there are, and their bytes.
+    for (given, sizes) in [
+        ([3, 5, 5].as_slice(), (2, 2, 0)),
+        ([4].as_slice(), (0, 0, 0)),
+        ([].as_slice(), (0, 0, 0)),
     ] {
-        let mut report = UNSET;
-        let status = lasso_encode(
-            rt.alloc(),
-            b"abcde",
-            given,
-            &mut codes,
-            &mut bytes,
-            &mut offsets,
-            &mut report,
-        );
-        assert!(rt; status == 0);
-        assert!(rt; (report.texts, report.at) == (texts, 0));
-        assert!(rt; (codes, offsets) == ([0, 1], want));
+        let told = encode(&rt, b"abcde", given, &mut codes, &mut bytes, &mut offsets)?;
+        assert!(rt; told == (0, sizes));
+        assert!(rt; (codes, offsets) == ([0, 1], [0, 2, 2]));
     }
     assert!(rt; bytes == [b'd', b'e', 9]);
+    Ok(())
 }
 
 // Encoding is refused with this status and report, where so many codes, offsets and bytes have room, and writes none of them.
@@ -79,92 +105,95 @@ fn refuse_to_encode<R: Abort + AllocGlobal>(
     bytes_given: &[u8],
     offsets_given: &[u32],
     rooms: (usize, usize, usize),
-    want: u32,
-    told: (usize, usize, usize),
-)
+    want: Told,
+) -> Result<(), Fail>
     requires { (rooms.0 ≤ 9) × (rooms.1 ≤ 9) × (rooms.2 ≤ 9) }
 {
     let (mut codes, mut bytes, mut offsets) = ([9; 9], [9; 9], [9; 9]);
-    let mut report = UNSET;
-    let status = lasso_encode(
-        rt.alloc(),
+    let told = encode(
+        rt,
         bytes_given,
         offsets_given,
         &mut codes[..rooms.0],
         &mut bytes[..rooms.2],
         &mut offsets[..rooms.1],
-        &mut report,
-    );
-    assert!(rt; status == want);
-    assert!(rt; (report.texts, report.bytes, report.at) == told);
+    )?;
+    assert!(rt; told == want);
     assert!(rt; (codes, bytes, offsets) == ([9; 9], [9; 9], [9; 9]));
+    Ok(())
 }
 
 #[test]
-fn refuses_to_encode_a_wrong_layout(rt: HostRuntime) {
+fn refuses_to_encode_a_wrong_layout(rt: HostRuntime) -> Result<(), Fail> {
     // The bytes, the offsets, and the status and report that are wanted.
-    for (bytes, offsets, want, told) in [
-        (b"abcd", [0, 3, 2], 1, (0, 0, 1)),
-        (b"abcd", [0, 3, 5], 2, (0, 0, 1)),
-        (b"abcd", [5, 3, 4], 2, (0, 0, 0)),
-        (b"abcd", [0xffff_ffff, 0, 1], 2, (0, 0, 0)),
-        (b"abcd", [0, 1, 0xffff_ffff], 2, (0, 0, 1)),
-        (b"ab\xc3d", [0, 2, 3], 3, (0, 0, 1)),
+    for (bytes, offsets, want) in [
+        (b"abcd", [0, 3, 2], (1, (0, 0, 1))),
+        (b"abcd", [0, 3, 5], (2, (0, 0, 1))),
+        (b"abcd", [5, 3, 4], (2, (0, 0, 0))),
+        (b"abcd", [0xffff_ffff, 0, 1], (2, (0, 0, 0))),
+        (b"abcd", [0, 1, 0xffff_ffff], (2, (0, 0, 1))),
+        (b"ab\xc3d", [0, 2, 3], (3, (0, 0, 1))),
     ] {
-        refuse_to_encode(&rt, bytes, &offsets, (9, 9, 9), want, told);
+        refuse_to_encode(&rt, bytes, &offsets, (9, 9, 9), want)?;
     }
+    Ok(())
 }
 
 #[test]
-fn refuses_to_encode_where_there_is_no_room(rt: HostRuntime) {
+fn refuses_to_encode_where_there_is_no_room(rt: HostRuntime) -> Result<(), Fail> {
     // How many codes, offsets and bytes have room, and the status.
     for (rooms, want) in [((1, 9, 9), 6), ((2, 2, 9), 7), ((2, 3, 3), 8)] {
-        refuse_to_encode(&rt, b"abcd", &[0, 1, 4], rooms, want, (2, 4, 0));
+        refuse_to_encode(&rt, b"abcd", &[0, 1, 4], rooms, (want, (2, 4, 0)))?;
     }
+    Ok(())
 }
 
 #[test]
 fn decodes_the_texts_that_codes_name(rt: HostRuntime) {
     let (mut bytes, mut offsets) = ([9; 11], [9; 5]);
-    let mut report = UNSET;
-    let status = lasso_decode(
-        b"redblue",
-        &[0, 3, 7, 7],
-        &[1, 2, 0, 0],
-        &mut bytes,
-        &mut offsets,
-        &mut report,
-    );
-    assert!(rt; status == 0);
-    assert!(rt; (report.texts, report.bytes, report.at) == (4, 10, 0));
+    let codes = [1, 2, 0, 0];
+    let told = decode(b"redblue", &[0, 3, 7, 7], &codes, &mut bytes, &mut offsets);
+    assert!(rt; told == (0, (4, 10, 0)));
     assert!(rt; bytes == *b"blueredred\t");
     assert!(rt; offsets == [0, 4, 4, 7, 10]);
 }
 
+// Decoding is refused with this status and report, where so many offsets and bytes have room, and writes none of them.
+fn refuse_to_decode<R: Abort>(
+    rt: &R,
+    dictionary_bytes: &[u8],
+    dictionary_offsets: &[u32],
+    codes: &[u32],
+    rooms: (usize, usize),
+    want: Told,
+)
+    requires { (rooms.0 ≤ 9) × (rooms.1 ≤ 9) }
+{
+    let (mut bytes, mut offsets) = ([9; 9], [9; 9]);
+    let told = decode(
+        dictionary_bytes,
+        dictionary_offsets,
+        codes,
+        &mut bytes[..rooms.1],
+        &mut offsets[..rooms.0],
+    );
+    assert!(rt; told == want);
+    assert!(rt; (bytes, offsets) == ([9; 9], [9; 9]));
+}
+
 #[test]
 fn refuses_to_decode(rt: HostRuntime) {
+    let bytes = b"abcde\xc3\xa9";
     // The dictionary's offsets, the codes, how many offsets and bytes have room, and the status and report that are wanted.
-    for (dictionary, codes, rooms, want, told) in [
-        ([0, 3, 2], [0, 1], (9, 9), 1, (0, 0, 1)),
-        ([0, 3, 8], [0, 1], (9, 9), 2, (0, 0, 1)),
-        ([0, 5, 6], [0, 1], (9, 9), 3, (0, 0, 1)),
-        ([0, 3, 5], [1, 2], (9, 9), 4, (0, 0, 1)),
-        ([0, 3, 5], [0, 0], (2, 9), 7, (2, 6, 0)),
-        ([0, 3, 5], [0, 0], (3, 5), 8, (2, 6, 0)),
+    for (offsets, codes, rooms, want) in [
+        ([0, 3, 2], [0, 1], (9, 9), (1, (0, 0, 1))),
+        ([0, 3, 8], [0, 1], (9, 9), (2, (0, 0, 1))),
+        ([0, 5, 6], [0, 1], (9, 9), (3, (0, 0, 1))),
+        ([0, 3, 5], [1, 2], (9, 9), (4, (0, 0, 1))),
+        ([0, 3, 5], [0, 0], (2, 9), (7, (2, 6, 0))),
+        ([0, 3, 5], [0, 0], (3, 5), (8, (2, 6, 0))),
     ] {
-        let (mut bytes, mut offsets) = ([9; 9], [9; 9]);
-        let mut report = UNSET;
-        let status = lasso_decode(
-            b"abcde\xc3\xa9",
-            &dictionary,
-            &codes,
-            &mut bytes[..rooms.1],
-            &mut offsets[..rooms.0],
-            &mut report,
-        );
-        assert!(rt; status == want);
-        assert!(rt; (report.texts, report.bytes, report.at) == told);
-        assert!(rt; (bytes, offsets) == ([9; 9], [9; 9]));
+        refuse_to_decode(&rt, bytes, &offsets, &codes, rooms, want);
     }
 }
 
@@ -173,18 +202,21 @@ fn counts_past_the_greatest_offset(rt: HostRuntime) -> Result<(), Fail> {
     // 1024 times 2 MiB is one byte more than the greatest offset.
     let text = vec![in rt.alloc(); b'a'; 2 << 20]?;
     let codes = vec![in rt.alloc(); 0u32; 1024]?;
-    let mut report = UNSET;
-    let status = lasso_decode(&text, &[0, 2 << 20], &codes, &mut [], &mut [], &mut report);
-    assert!(rt; status == 5);
-    assert!(rt; (report.texts, report.bytes, report.at) == (0, 0, 1023));
+    let told = decode(&text, &[0, 2 << 20], &codes, &mut [], &mut []);
+    assert!(rt; told == (5, (0, 0, 1023)));
     Ok(())
+}
+
+// Writes what the status means, and answers how many bytes that has.
+fn status_text(status: u32, text: &mut [u8]) -> usize {
+    lasso_status_text(status, text)
 }
 
 #[test]
 fn tells_what_a_status_means(rt: HostRuntime) {
     let mut text = [b'.'; 10];
-    assert!(rt; lasso_status_text(0, &mut text) == 4);
+    assert!(rt; status_text(0, &mut text) == 4);
     assert!(rt; text == *b"done......");
-    assert!(rt; lasso_status_text(9, &mut text) == 18);
+    assert!(rt; status_text(9, &mut text) == 18);
     assert!(rt; text == *b"there is n");
 }
