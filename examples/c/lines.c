@@ -1,4 +1,5 @@
-/* Writes each line of a file behind the code of its text, and checks that decoding gives the lines again. */
+/* Writes each line of a file behind the code of its text, and checks that decoding gives the lines again. Before that it makes
+ * calls that are refused, and checks that each is so with the status that lasso.h names. */
 #include "lasso.h"
 
 #include <stdio.h>
@@ -81,10 +82,48 @@ static struct layout read_lines(const char *name)
     return lines;
 }
 
+static void expect(uint32_t status, enum lasso_status named)
+{
+    if (status != (uint32_t)named)
+        fail("a call ended with another status than the one that lasso.h names");
+}
+
+/* Each status that a call tells, but for want of memory. */
+static void check_statuses(void)
+{
+    const uint8_t text[] = {'a', 'b', 'c', 0xff};
+    const struct { int32_t offsets[3]; size_t codes_room, offsets_room, bytes_room; enum lasso_status named; } calls[] = {
+        {{0, 2, 3}, 2, 3, 3, LASSO_DONE},
+        {{0, 2, 1}, 2, 3, 3, LASSO_OFFSETS_FALL},
+        {{0, 2, 5}, 2, 3, 3, LASSO_OFFSET_PAST_BYTES},
+        {{0, 2, 4}, 2, 3, 3, LASSO_NOT_UTF8},
+        {{0, 2, 3}, 1, 3, 3, LASSO_CODES_TOO_SHORT},
+        {{0, 2, 3}, 2, 2, 3, LASSO_OFFSETS_TOO_SHORT},
+        {{0, 2, 3}, 2, 3, 2, LASSO_BYTES_TOO_SHORT},
+    };
+    uint32_t codes[2];
+    uint8_t bytes[3];
+    int32_t offsets[3];
+    struct lasso_report told;
+    for (size_t k = 0; k < sizeof calls / sizeof *calls; k++)
+        expect(lasso_encode(text, sizeof text, calls[k].offsets, 3, codes, calls[k].codes_room, bytes, calls[k].bytes_room,
+                            offsets, calls[k].offsets_room, &told),
+               calls[k].named);
+
+    /* A code behind the only text; and 1024 codes of one text of 2 MiB. */
+    const int32_t one[] = {0, 3}, large[] = {0, 2 << 20};
+    const uint32_t behind[] = {1}, same[1024] = {0};
+    expect(lasso_decode(text, 3, one, 2, behind, 1, bytes, 3, offsets, 3, &told), LASSO_NO_SUCH_CODE);
+    uint8_t *zeros = memory(2 << 20, 1);
+    expect(lasso_decode(zeros, 2 << 20, large, 2, same, 1024, bytes, 3, offsets, 3, &told), LASSO_TOO_MANY_BYTES);
+    free(zeros);
+}
+
 int main(int argc, char **argv)
 {
     if (argc != 2)
         fail("give the name of a file");
+    check_statuses();
     struct layout lines = read_lines(argv[1]);
     size_t count = lines.offsets_room - 1;
 

@@ -14,11 +14,13 @@
  * - Arrays that are written overlap no other array of the call.
  * - A call that refuses, whose status is not LASSO_DONE, writes nothing but *report. One that is done writes what is said
  *   below to the front of each output, and leaves the rest of it as it was.
- * - Calls may run in several threads at once, each on memory of its own, but not in a signal handler, nor in the forked
- *   child of a process with threads.
+ * - Calls may run in several threads at once. What all of them only read they may share, as two that decode from one
+ *   dictionary. What a call writes, nothing else reads or writes meanwhile.
+ * - No call is made in a signal handler, nor in the forked child of a process with threads.
  *
- * lasso_encode takes memory from malloc and realloc, which are one allocator with free, and gives it back before it returns.
- * The others take none.
+ * lasso_encode takes memory from malloc and realloc, and gives it back before it returns. The others take none. The program's
+ * malloc, realloc and free are one allocator, whose blocks are aligned to each power of two up to 16 that divides their
+ * size, as to 8 for 24 bytes.
  *
  * What a call writes and answers is proved. What the caller owes is not, nor what is said here of threads and of memory.
  */
