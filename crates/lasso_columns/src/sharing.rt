@@ -12,7 +12,7 @@ use lasso::{LassoError, LassoResult, Spur, SpurThreadedRodeo};
 use std::sync::Wait;
 use std::thread::{Threads, map_chunks};
 
-/// Interns the texts by so many threads, and puts their codes behind those that are there, in the order of the texts: the positions
+/// Interns the texts by at most so many threads, and puts their codes behind those that are there, in the order of the texts: the positions
 /// that they then have in the interner's list, and keep. So codes of equal texts are equal. 0 workers count as one; where a
 /// thread can't be started, the caller does its work.
 ///
