@@ -17,14 +17,19 @@ pub struct Sample {
 }
 
 impl Sample {
-    /// So many texts, and as many others. It is refused for want of memory alone.
+    /// So many texts, and as many others. Each list is made by itself, so that a walk over it meets its texts side by side. It is refused for
+    /// want of memory alone.
     pub fn new(alloc: Global, count: u32) -> Result<Self, AllocError> {
         let mut texts = Vec::new(alloc);
-        let mut again = Vec::new(alloc);
-        let mut missing = Vec::new(alloc);
         for number in 0..count {
             texts.push(numbered_text(alloc, u64::from(number))?)?;
+        }
+        let mut again = Vec::new(alloc);
+        for number in 0..count {
             again.push(numbered_text(alloc, jumped(number, count))?)?;
+        }
+        let mut missing = Vec::new(alloc);
+        for number in 0..count {
             missing.push(numbered_text(alloc, u64::from(count) + u64::from(number))?)?;
         }
         Ok(Sample {
