@@ -28,7 +28,7 @@ abbrev pub IsNextFault : InternerView → List ℕ → List ℕ → List Text �
 IsNextFault now before after lines fault =
     let n = length after - length before in IsSomeAnd (slice_get lines n) (λ line. IsFaultOf now line (n + 1) fault)
 
--- why the code at this position was not decoded: the list has no such position, or memory was wanting
+-- why the code at this position was not decoded: the list has no such position, or it has and memory was wanting
 abbrev pub IsFaultAt : List Text → List ℕ → ℕ → DecodeError → Type 0
 IsFaultAt list codes n (NoText position code) = (position ≡ n) × (slice_get codes n ≡ Some code) × (slice_get list code ≡ None)
-IsFaultAt list codes n NoMemory = n < length codes
+IsFaultAt list codes n NoMemory = IsSomeAnd (slice_get codes n) (λ code. code < length list)

@@ -1,15 +1,17 @@
 //! What no clause says: that each call answers where memory is there; and whole columns, with values worked by hand.
+mod calls;
 mod examples;
 mod shared;
 
-use crate::{DecodeError, LineError, decode, encode, encode_lines, merge};
+use crate::{DecodeError, LineError};
+use calls::{decode, encode, encode_lines, interner, merge};
 use lasso::{Capacity, LassoError, MemoryLimits, Rodeo, SpurRodeo};
 use std::fmt::Debug;
 use std::test::Fail;
 
 #[test]
 fn texts_are_encoded_and_decoded(rt: HostRuntime) -> Result<(), Fail> {
-    let mut rodeo: SpurRodeo = Rodeo::new(rt.alloc())?;
+    let mut rodeo = interner(&rt, &[])?;
     let mut codes = Vec::new(rt.alloc());
     encode(&mut rodeo, &["red", "green", "red", ""], &mut codes)?;
     encode(&mut rodeo, &["", "blue"], &mut codes)?;
@@ -23,9 +25,7 @@ fn texts_are_encoded_and_decoded(rt: HostRuntime) -> Result<(), Fail> {
 
 #[test]
 fn a_code_without_a_text_is_told(rt: HostRuntime) -> Result<(), Fail> {
-    let mut rodeo: SpurRodeo = Rodeo::new(rt.alloc())?;
-    rodeo.extend(["red", "green"])?;
-    let reader = rodeo.into_reader();
+    let reader = interner(&rt, &["red", "green"])?.into_reader();
     let mut texts = Vec::new(rt.alloc());
     let fault = decode(&reader, &[1, 0, 2, 1], &mut texts).err();
     let (position, code) = (2, 2);
@@ -81,7 +81,7 @@ fn a_refusal_in_mid_column_keeps_what_came_before(rt: HostRuntime) -> Result<(),
 
 #[test]
 fn lines_are_cut_and_encoded(rt: HostRuntime) -> Result<(), Fail> {
-    let mut rodeo: SpurRodeo = Rodeo::new(rt.alloc())?;
+    let mut rodeo = interner(&rt, &[])?;
     let mut codes = Vec::new(rt.alloc());
     encode_lines(&mut rodeo, b"to\nbe\n\nto\r\nbe", &mut codes)?;
     assert!(rt; codes.as_slice() == [0, 1, 2, 3, 1].as_slice());
@@ -118,17 +118,14 @@ fn a_faulty_line_is_told_by_its_number(rt: HostRuntime) -> Result<(), Fail> {
 
 #[test]
 fn two_dictionaries_are_merged(rt: HostRuntime) -> Result<(), Fail> {
-    let mut into: SpurRodeo = Rodeo::new(rt.alloc())?;
-    into.extend(["red", "green"])?;
-    let mut from: SpurRodeo = Rodeo::new(rt.alloc())?;
-    from.extend(["blue", "green", "white"])?;
-    let merged = merge(rt.alloc(), &mut into, &from.into_reader())?;
+    let mut into = interner(&rt, &["red", "green"])?;
+    let from = interner(&rt, &["blue", "green", "white"])?.into_reader();
+    let merged = merge(&rt, &mut into, &from)?;
     assert!(rt; merged.as_slice() == [2, 1, 3].as_slice());
     assert!(rt; into.len() == 4);
     let mut into = limited(&rt)?;
-    let mut from: SpurRodeo = Rodeo::new(rt.alloc())?;
-    from.extend(["first", "other", "third"])?;
-    limit_refuses(merge(rt.alloc(), &mut into, &from.into_reader()).err())?;
+    let from = interner(&rt, &["first", "other", "third"])?.into_reader();
+    limit_refuses(merge(&rt, &mut into, &from).err())?;
     assert!(rt; into.len() == 2);
     Ok(())
 }

@@ -1,6 +1,6 @@
 //! Columns that several threads encode. How they take turns is another each time, and what is looked at is the same.
+use super::calls::{encode_shared, encode_shared_as, shared_interner};
 use super::limit_refuses;
-use crate::{encode_shared, encode_shared_as};
 use lasso::{Capacity, Key, MemoryLimits, Spur, SpurThreadedRodeo, ThreadedRodeo};
 use std::process::Abort;
 use std::test::Fail;
@@ -30,7 +30,7 @@ fn stand_for<R: Abort>(
 fn threads_give_equal_texts_equal_codes(rt: HostRuntime) -> Result<(), Fail> {
     let texts = ["a", "b", "a", "c", "b", "a", "d", "c", "a"];
     for workers in [0, 1, 4, 20] {
-        let rodeo: SpurThreadedRodeo = ThreadedRodeo::default(rt.alloc())?;
+        let rodeo = shared_interner(&rt)?;
         let mut codes = Vec::new(rt.alloc());
         encode_shared(&rt, &rodeo, &texts, &mut codes, workers)?;
         stand_for(&rt, &rodeo, &codes, &texts)?;
@@ -53,7 +53,7 @@ fn twenty_texts_are_all_that_is_interned(rt: HostRuntime) -> Result<(), Fail> {
 
 #[test]
 fn codes_go_behind_those_from_before(rt: HostRuntime) -> Result<(), Fail> {
-    let rodeo: SpurThreadedRodeo = ThreadedRodeo::default(rt.alloc())?;
+    let rodeo = shared_interner(&rt)?;
     let mut codes = Vec::new(rt.alloc());
     codes.push(7)?;
     encode_shared(&rt, &rodeo, &["a", "a"], &mut codes, 2)?;
@@ -72,10 +72,9 @@ fn limited(rt: &HostRuntime) -> Result<SpurThreadedRodeo, Fail> {
 #[test]
 fn a_refused_worker_adds_no_code(rt: HostRuntime) -> Result<(), Fail> {
     let rodeo = limited(&rt)?;
-    let mut pass = rodeo.pass();
     let mut codes = Vec::new(rt.alloc());
     let texts = ["first", "other", "third", "first"];
-    let ended = encode_shared_as(&rt, &rodeo, &mut pass, &texts, &mut codes, 2);
+    let ended = encode_shared_as(&rt, &rodeo, &texts, &mut codes, 2);
     limit_refuses(ended.err())?;
     assert!(rt; codes.is_empty());
     assert!(rt; rodeo.len() == 2);

@@ -1,0 +1,73 @@
+//! The calls that the tests make, each in a function of no contract: what a call leaves is looked at, and nothing of it is known before.
+use crate::{DecodeError, LineError};
+use lasso::{LassoResult, Rodeo, SpurRodeo, SpurRodeoReader, SpurThreadedRodeo, ThreadedRodeo};
+use std::sync::Wait;
+use std::test::Fail;
+use std::thread::Threads;
+
+// An interner of these texts.
+pub(super) fn interner(rt: &HostRuntime, texts: &[&str]) -> Result<SpurRodeo, Fail> {
+    let mut rodeo: SpurRodeo = Rodeo::new(rt.alloc())?;
+    for text in texts {
+        rodeo.try_get_or_intern(text)?;
+    }
+    Ok(rodeo)
+}
+
+pub(super) fn shared_interner(rt: &HostRuntime) -> Result<SpurThreadedRodeo, Fail> {
+    Ok(ThreadedRodeo::default(rt.alloc())?)
+}
+
+pub(super) fn encode(
+    rodeo: &mut SpurRodeo,
+    texts: &[&str],
+    codes: &mut Vec<u32>,
+) -> LassoResult<()> {
+    crate::encode(rodeo, texts, codes)
+}
+
+pub(super) fn encode_lines(
+    rodeo: &mut SpurRodeo,
+    bytes: &[u8],
+    codes: &mut Vec<u32>,
+) -> Result<(), LineError> {
+    crate::encode_lines(rodeo, bytes, codes)
+}
+
+pub(super) fn decode<'r>(
+    reader: &'r SpurRodeoReader,
+    codes: &[u32],
+    out: &mut Vec<&'r str>,
+) -> Result<(), DecodeError> {
+    crate::decode(reader, codes, out)
+}
+
+pub(super) fn merge(
+    rt: &HostRuntime,
+    into: &mut SpurRodeo,
+    from: &SpurRodeoReader,
+) -> LassoResult<Vec<u32>> {
+    crate::merge(rt.alloc(), into, from)
+}
+
+pub(super) fn encode_shared<R: AllocGlobal + Threads + Wait + Sync>(
+    rt: &R,
+    rodeo: &SpurThreadedRodeo,
+    texts: &[&str],
+    codes: &mut Vec<u32>,
+    workers: usize,
+) -> LassoResult<()> {
+    crate::encode_shared(rt, rodeo, texts, codes, workers)
+}
+
+// By a pass of its own.
+pub(super) fn encode_shared_as<R: AllocGlobal + Threads + Wait + Sync>(
+    rt: &R,
+    rodeo: &SpurThreadedRodeo,
+    texts: &[&str],
+    codes: &mut Vec<u32>,
+    workers: usize,
+) -> LassoResult<()> {
+    let mut pass = rodeo.pass();
+    crate::encode_shared_as(rt, rodeo, &mut pass, texts, codes, workers)
+}
