@@ -68,6 +68,7 @@ fn four_texts<R: AllocGlobal + Wait>(
         steps: &UP_TO_LIMIT,
     };
     let interner = limited.tell::<R, Spur>(rt, refused)?;
+    has_last(rt, &interner, false)?;
     interner.set_memory_limits(rt, MemoryLimits::new(14));
     let raised = Story {
         bytes: 4,
@@ -80,14 +81,33 @@ fn four_texts<R: AllocGlobal + Wait>(
     Ok(interner)
 }
 
-// The four texts by `get`, both walks, and the limit.
+// The four texts by `get`, both walks, the tests, and the limit.
 fn is_seen<R: Wait>(rt: &R, interner: &Interner<Spur>) -> Result<(), Fault> {
     let last = interner.get(rt, "yz").map(|key| key.into_usize());
     Call::of("get").expect(last == Some(3), "the last key")?;
     Call::of("iter").expect(iter_gives_all(interner), "the keys and texts")?;
     Call::of("strings").expect(strings_give_all(interner), "the texts")?;
+    has_last(rt, interner, true)?;
     let limit = interner.max_memory_usage(rt);
     Call::of("max_memory_usage").expect(limit == 14, "the limit")
+}
+
+// That the last text and its key are there, or neither. The texts before it are there, so the interner is not empty.
+fn has_last<R: Wait>(rt: &R, interner: &Interner<Spur>, wanted: bool) -> Result<(), Fault> {
+    let has_text = interner.contains(rt, "yz");
+    Call::of("contains").expect(has_text == wanted, "the last text")?;
+    let has_key = has_fourth_key(interner);
+    Call::of("contains_key").expect(has_key == Some(wanted), "the last key")?;
+    let is_empty = interner.is_empty();
+    Call::of("is_empty").expect(!is_empty, "the texts")
+}
+
+// Whether the interner has the key of number 3.
+fn has_fourth_key(interner: &Interner<Spur>) -> Option<bool> {
+    match Spur::try_from_usize(3) {
+        Some(key) => Some(interner.contains_key(key)),
+        None => None,
+    }
 }
 
 // Whether the walk gives the four texts in order, each behind the key of its position, and then nothing.
