@@ -10,6 +10,32 @@ use std::test::Fail;
 
 type Small = Rodeo<Spur, FixedState, Global>;
 
+// An interner with a first bucket of 4 bytes, under this limit.
+fn of_four_bytes(alloc: Global, limit: usize) -> Result<Small, Fail> {
+    Ok(Rodeo::with_capacity_and_memory_limits(
+        alloc,
+        Capacity::for_bytes(4),
+        MemoryLimits::new(limit),
+    )?)
+}
+
+fn of_two_texts(alloc: Global) -> Result<Small, Fail> {
+    Ok(Rodeo::from_iter(alloc, ["one", "two"])?)
+}
+
+fn key_at(position: usize) -> Result<Spur, Fail> {
+    Ok(Spur::try_from_usize(position).ok_or("no key")?)
+}
+
+// The replies to the commands.
+fn replies_to(
+    alloc: Global,
+    rodeo: &mut Small,
+    commands: &[Command<'_, Spur, FixedState, Global>],
+) -> Result<Vec<Reply<Spur>>, Fail> {
+    Ok(run_commands(alloc, rodeo, commands)?)
+}
+
 fn is_key(reply: &Reply<Spur>, number: usize) -> bool {
     match reply {
         Reply::Key(key) => key.into_usize() == number,
@@ -33,7 +59,8 @@ fn is_text(reply: &Reply<Spur>, wanted: &str) -> bool {
 
 fn is_found(reply: &Reply<Spur>, wanted: Option<usize>) -> bool {
     match reply {
-        Reply::Found(key) => key.map(|key| key.into_usize()) == wanted,
+        Reply::Found(Some(key)) => wanted == Some(key.into_usize()),
+        Reply::Found(None) => wanted.is_none(),
         _ => false,
     }
 }
@@ -54,13 +81,8 @@ fn is_number(reply: &Reply<Spur>, wanted: usize) -> bool {
 
 #[test]
 fn a_refusal_does_not_end_the_run(rt: HostRuntime) -> Result<(), Fail> {
-    let limits = MemoryLimits::new(4);
-    let mut rodeo: Small = Rodeo::with_capacity_and_memory_limits(
-        rt.alloc(),
-        Capacity::for_bytes(4),
-        limits,
-    )?;
-    let first = Spur::try_from_usize(0).ok_or("no key")?;
+    let mut rodeo = of_four_bytes(rt.alloc(), 4)?;
+    let first = key_at(0)?;
     let commands = [
         Command::Intern("abcd"),
         Command::Intern("e"),
@@ -70,15 +92,19 @@ fn a_refusal_does_not_end_the_run(rt: HostRuntime) -> Result<(), Fail> {
         Command::Len,
         Command::Usage,
     ];
-    let replies = run_commands(rt.alloc(), &mut rodeo, commands.as_slice())?;
-    assert!(rt; replies.len() == 7);
-    assert!(rt; is_key(&replies[0], 0));
-    assert!(rt; is_limit(&replies[1]));
-    assert!(rt; matches!(&replies[2], Reply::Done));
-    assert!(rt; is_key(&replies[3], 0));
-    assert!(rt; is_text(&replies[4], "e"));
-    assert!(rt; is_number(&replies[5], 1));
-    assert!(rt; is_number(&replies[6], 4));
+    let replies = replies_to(rt.alloc(), &mut rodeo, commands.as_slice())?;
+    match replies.as_slice() {
+        [first, refused, cleared, second, text, count, taken] => {
+            assert!(rt; is_key(first, 0));
+            assert!(rt; is_limit(refused));
+            assert!(rt; matches!(cleared, Reply::Done));
+            assert!(rt; is_key(second, 0));
+            assert!(rt; is_text(text, "e"));
+            assert!(rt; is_number(count, 1));
+            assert!(rt; is_number(taken, 4));
+        }
+        _ => assert!(rt; false, "not one reply for each command"),
+    }
     Ok(())
 }
 
@@ -87,10 +113,9 @@ fn a_refusal_does_not_end_the_run(rt: HostRuntime) -> Result<(), Fail> {
 // into the other, in which "three" has just room.
 #[test]
 fn each_command_in_one_run(rt: HostRuntime) -> Result<(), Fail> {
-    let mut source: Small = Rodeo::new(rt.alloc())?;
-    source.extend(["one", "two"])?;
-    let mut rodeo: Small = Rodeo::with_capacity(rt.alloc(), Capacity::for_bytes(4))?;
-    let second = Spur::try_from_usize(1).ok_or("no key")?;
+    let source = of_two_texts(rt.alloc())?;
+    let mut rodeo = of_four_bytes(rt.alloc(), usize::MAX)?;
+    let second = key_at(1)?;
     let commands = [
         Command::SetLimit(MemoryLimits::new(20)),
         Command::MaxUsage,
@@ -108,7 +133,7 @@ fn each_command_in_one_run(rt: HostRuntime) -> Result<(), Fail> {
         Command::Extend(&["two", "three"]),
         Command::InternStatic("four"),
     ];
-    let replies = run_commands(rt.alloc(), &mut rodeo, commands.as_slice())?;
+    let replies = replies_to(rt.alloc(), &mut rodeo, commands.as_slice())?;
     answers_as_worked(&rt, replies.as_slice());
     holds_as_worked(&rt, &rodeo);
     Ok(())
@@ -153,12 +178,16 @@ fn answers_as_worked(rt: &impl Abort, replies: &[Reply<Spur>]) {
     }
 }
 
+fn text_at(rodeo: &Small, position: usize) -> Option<&str> {
+    rodeo.strings().nth(position)
+}
+
 fn holds_as_worked(rt: &impl Abort, rodeo: &Small) {
     assert!(rt; rodeo.len() == 4);
-    let mut texts = rodeo.strings();
-    for text in ["one", "two", "three", "four"] {
-        assert!(rt; texts.next() == Some(text));
-    }
+    assert!(rt; text_at(rodeo, 0) == Some("one"));
+    assert!(rt; text_at(rodeo, 1) == Some("two"));
+    assert!(rt; text_at(rodeo, 2) == Some("three"));
+    assert!(rt; text_at(rodeo, 3) == Some("four"));
     assert!(rt; rodeo.current_memory_usage() == 12);
     assert!(rt; rodeo.max_memory_usage() == 20);
 }
@@ -167,14 +196,8 @@ fn holds_as_worked(rt: &impl Abort, rodeo: &Small) {
 // filling stops at "three" behind the text that fits, and a static text asks for nothing.
 #[test]
 fn each_command_past_the_limit(rt: HostRuntime) -> Result<(), Fail> {
-    let mut source: Small = Rodeo::new(rt.alloc())?;
-    source.extend(["one", "two"])?;
-    let limits = MemoryLimits::new(4);
-    let mut rodeo: Small = Rodeo::with_capacity_and_memory_limits(
-        rt.alloc(),
-        Capacity::for_bytes(4),
-        limits,
-    )?;
+    let source = of_two_texts(rt.alloc())?;
+    let mut rodeo = of_four_bytes(rt.alloc(), 4)?;
     let commands = [
         Command::Intern("abc"),
         Command::CloneFrom(&source),
@@ -184,14 +207,22 @@ fn each_command_past_the_limit(rt: HostRuntime) -> Result<(), Fail> {
         Command::InternStatic("three"),
         Command::Get("a"),
     ];
-    let replies = run_commands(rt.alloc(), &mut rodeo, commands.as_slice())?;
-    assert!(rt; replies.len() == 7);
-    assert!(rt; is_key(&replies[0], 0));
-    assert!(rt; is_limit(&replies[1]));
-    assert!(rt; is_number(&replies[2], 0));
-    assert!(rt; is_limit(&replies[3]));
-    assert!(rt; is_number(&replies[4], 1));
-    assert!(rt; is_key(&replies[5], 1));
-    assert!(rt; is_found(&replies[6], None));
+    let replies = replies_to(rt.alloc(), &mut rodeo, commands.as_slice())?;
+    answers_past_the_limit(&rt, replies.as_slice());
     Ok(())
+}
+
+fn answers_past_the_limit(rt: &impl Abort, replies: &[Reply<Spur>]) {
+    match replies {
+        [copied, cloned, none, extended, one, lasting, absent] => {
+            assert!(rt; is_key(copied, 0));
+            assert!(rt; is_limit(cloned));
+            assert!(rt; is_number(none, 0));
+            assert!(rt; is_limit(extended));
+            assert!(rt; is_number(one, 1));
+            assert!(rt; is_key(lasting, 1));
+            assert!(rt; is_found(absent, None));
+        }
+        _ => assert!(rt; false, "not one reply for each command"),
+    }
 }

@@ -90,6 +90,14 @@ fn interner<'a, K: Key>(
     )
 }
 
+// What the call was refused for.
+fn refusal_of<T: Drop>(outcome: LassoResult<T>) -> Option<LassoErrorKind> {
+    match outcome {
+        Ok(_made) => None,
+        Err(refusal) => Some(refusal.kind()),
+    }
+}
+
 fn told<K: Key>(outcome: LassoResult<K>) -> Answer {
     match outcome {
         Ok(key) => Ok(key.into_usize()),

@@ -1,5 +1,7 @@
 //! A value of each kind in each place: alone, as an item and as a member.
-use super::{SpurReader, SpurResolver, SpurRodeo, fault};
+use super::{
+    SpurReader, SpurResolver, SpurRodeo, as_reader, as_resolver, as_rodeo, fault, usage, value_of,
+};
 use lasso_parts::json::JsonError;
 use serde_json::Value;
 use std::alloc::Global;
@@ -47,15 +49,18 @@ const KINDS: [(&str, Option<&str>, Option<JsonError>); 33] = [
     (r#"{"a":{"b":["c"]}}"#, None, NO_ARRAY),
 ];
 
-// What is wrong with the JSON as an interner, and the same as a reader and as a resolver.
+// What is wrong with the value as an interner, and the same as a reader and as a resolver.
+fn wrong_value<R: AllocGlobal + Abort>(rt: &R, value: &Value) -> Option<JsonError> {
+    let wrong = fault(as_rodeo(rt.alloc(), value));
+    assert!(rt; fault(as_reader(rt.alloc(), value)) == wrong);
+    assert!(rt; fault(as_resolver(rt.alloc(), value)) == wrong);
+    wrong
+}
+
+// The same with the value of the JSON.
 fn wrong_with<R: AllocGlobal + Abort>(rt: &R, json: &str) -> Result<Option<JsonError>, Fail> {
-    let value = Value::from_str(rt.alloc(), json)?;
-    let wrong = fault(SpurRodeo::deserialize(rt.alloc(), &value));
-    let as_reader = fault(SpurReader::deserialize(rt.alloc(), &value));
-    assert!(rt; as_reader == wrong, "{json}");
-    let as_resolver = fault(SpurResolver::deserialize(rt.alloc(), &value));
-    assert!(rt; as_resolver == wrong, "{json}");
-    Ok(wrong)
+    let value = value_of(rt.alloc(), json)?;
+    Ok(wrong_value(rt, &value))
 }
 
 // The same with the JSON of a value between these.
@@ -101,26 +106,52 @@ fn each_kind_in_each_place(rt: HostRuntime) -> Result<(), Fail> {
     Ok(())
 }
 
+fn is_rodeo_of(rodeo: &SpurRodeo, text: &str) -> bool {
+    rodeo.len() == 1 && rodeo.contains(text)
+}
+
+fn is_reader_of(reader: &SpurReader, text: &str) -> bool {
+    reader.len() == 1 && reader.contains(text)
+}
+
+fn is_resolver_of(resolver: &SpurResolver, text: &str) -> bool {
+    resolver.len() == 1 && resolver.strings().next() == Some(text)
+}
+
+// The text is the one that each form reads from the value.
+fn is_read<R: AllocGlobal + Abort>(rt: &R, value: &Value, text: &str) -> Result<(), Fail> {
+    assert!(rt; is_rodeo_of(&as_rodeo(rt.alloc(), value)?, text));
+    assert!(rt; is_reader_of(&as_reader(rt.alloc(), value)?, text));
+    assert!(rt; is_resolver_of(&as_resolver(rt.alloc(), value)?, text));
+    Ok(())
+}
+
+// The same with the value of an array of this JSON.
+fn is_read_from<R: AllocGlobal + Abort>(rt: &R, kind: &str, text: &str) -> Result<(), Fail> {
+    let json = format!(in rt.alloc(); "[{kind}]")?;
+    let value = value_of(rt.alloc(), json.as_str())?;
+    is_read(rt, &value, text)
+}
+
 #[test]
 fn each_kind_of_text_is_read(rt: HostRuntime) -> Result<(), Fail> {
     for (kind, text, _) in KINDS {
         if let Some(text) = text {
-            let json = format!(in rt.alloc(); "[{kind}]")?;
-            let value = Value::from_str(rt.alloc(), json.as_str())?;
-            let rodeo = SpurRodeo::deserialize(rt.alloc(), &value)?;
-            assert!(rt; rodeo.contains(text), "{kind}");
-            let resolver = SpurResolver::deserialize(rt.alloc(), &value)?;
-            assert!(rt; resolver.strings().next() == Some(text), "{kind}");
+            is_read_from(&rt, kind, text)?;
         }
     }
     Ok(())
+}
+
+fn long_text(alloc: Global) -> Result<String, Fail> {
+    Ok("a".repeat(alloc, 1_000_000)?)
 }
 
 // An array of a text of 1 MB, so many times.
 fn long_texts(alloc: Global, count: usize) -> Result<Value, Fail> {
     let mut items: Vec<Value> = Vec::new(alloc);
     for _item in 0..count {
-        items.push(Value::String("a".repeat(alloc, 1_000_000)?))?;
+        items.push(Value::String(long_text(alloc)?))?;
     }
     Ok(Value::Array(items))
 }
@@ -128,21 +159,32 @@ fn long_texts(alloc: Global, count: usize) -> Result<Value, Fail> {
 #[test]
 fn texts_of_a_million_bytes(rt: HostRuntime) -> Result<(), Fail> {
     let one = long_texts(rt.alloc(), 1)?;
-    let rodeo = SpurRodeo::deserialize(rt.alloc(), &one)?;
-    assert!(rt; rodeo.current_memory_usage() == 1_000_000);
+    assert!(rt; usage(&as_rodeo(rt.alloc(), &one)?) == 1_000_000);
+    let text = long_text(rt.alloc())?;
+    is_read(&rt, &one, text.as_str())?;
+    assert!(rt; wrong_value(&rt, &Value::String(text)) == NO_ARRAY);
+    Ok(())
+}
+
+// How many texts there are of 1 MB.
+fn count_long(resolver: &SpurResolver) -> usize {
+    let mut count = 0usize;
+    for text in resolver.strings() {
+        if text.len() == 1_000_000 {
+            count = count.saturating_add(1);
+        }
+    }
+    count
+}
+
+#[test]
+fn a_text_of_a_million_bytes_twice(rt: HostRuntime) -> Result<(), Fail> {
     let two = long_texts(rt.alloc(), 2)?;
     let doubled = Some(JsonError::Doubled(1));
-    assert!(rt; fault(SpurRodeo::deserialize(rt.alloc(), &two)) == doubled);
-    assert!(rt; fault(SpurReader::deserialize(rt.alloc(), &two)) == doubled);
-    let resolver = SpurResolver::deserialize(rt.alloc(), &two)?;
-    let lengths = resolver.strings().map(|text| text.len());
-    assert!(rt; lengths.max() == Some(1_000_000));
+    assert!(rt; fault(as_rodeo(rt.alloc(), &two)) == doubled);
+    assert!(rt; fault(as_reader(rt.alloc(), &two)) == doubled);
+    let resolver = as_resolver(rt.alloc(), &two)?;
     assert!(rt; resolver.len() == 2);
-    assert!(rt;
-        fault(SpurRodeo::deserialize(
-            rt.alloc(),
-            &Value::String("a".repeat(rt.alloc(), 1_000_000)?)
-        )) == NO_ARRAY
-    );
+    assert!(rt; count_long(&resolver) == 2);
     Ok(())
 }

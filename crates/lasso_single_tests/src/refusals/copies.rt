@@ -40,26 +40,38 @@ fn two<'a>(rt: &impl Abort, memory: &'a Memory) -> Option<Metered<'a, Spur>> {
     Some(source)
 }
 
-// Whatever refuses the copy, the limit or want of memory before, it leaves no text, and the bucket of 4 bytes that it began with.
-fn copied_past_the_limit<R: AllocGlobal + Abort>(rt: &R, memory: &Memory) -> Result<(), Fail> {
+// Whatever refuses the copy, the limit or want of memory before, it leaves no text, and the bucket of 4 bytes that the target began
+// with. The target has one text before the copy, or none.
+fn copied_past_the_limit(rt: &impl Abort, memory: &Memory, is_empty: bool) {
     let Some(source) = two(rt, memory) else {
-        return Ok(());
+        return;
     };
     let Some(mut target) = interner::<Spur>(rt, memory, 4, 4) else {
-        return Ok(());
+        return;
     };
-    gives(rt, memory, &mut target, "old", Ok(0));
-    let refusal = target.try_clone_from(&source).err().ok_or("not refused")?;
+    if !is_empty {
+        gives(rt, memory, &mut target, "old", Ok(0));
+    }
+    let refusal = refusal_of(target.try_clone_from(&source));
     let wanted = if memory.has_refused_anew() {
         MEMORY
     } else {
         LIMIT
     };
-    assert!(rt; refusal.kind() == wanted);
+    assert!(rt; refusal == Some(wanted));
     holds(rt, &target, &[], 4);
     gives(rt, memory, &mut target, "wxyz", Ok(0));
     holds(rt, &target, &["wxyz"], 4);
     holds(rt, &source, &["abc", "defg"], 8);
+}
+
+fn over_one_text<R: AllocGlobal + Abort>(rt: &R, memory: &Memory) -> Result<(), Fail> {
+    copied_past_the_limit(rt, memory, false);
+    Ok(())
+}
+
+fn over_no_text<R: AllocGlobal + Abort>(rt: &R, memory: &Memory) -> Result<(), Fail> {
+    copied_past_the_limit(rt, memory, true);
     Ok(())
 }
 
@@ -126,6 +138,7 @@ fn a_copy_refused_past_the_first_bucket(rt: HostRuntime) -> Result<(), Fail> {
 #[test]
 fn copied_interners(rt: HostRuntime) -> Result<(), Fail> {
     each_refused(&rt, cloned)?;
-    each_refused(&rt, copied_past_the_limit)?;
+    each_refused(&rt, over_one_text)?;
+    each_refused(&rt, over_no_text)?;
     each_refused(&rt, copied_into_a_new_bucket)
 }
