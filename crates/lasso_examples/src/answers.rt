@@ -6,12 +6,11 @@ use std::process::Abort;
 /// The refusal by a memory limit.
 pub const LIMIT: LassoErrorKind = LassoErrorKind::MemoryLimitReached;
 
+/// The number of a key, or the refusal.
+pub type Answer = Result<usize, LassoErrorKind>;
+
 /// That the answer is the key of the number, or the refusal.
-pub fn is_answer<K: Key>(
-    rt: &impl Abort,
-    answer: LassoResult<K>,
-    wanted: Result<usize, LassoErrorKind>,
-) {
+pub fn is_answer<K: Key>(rt: &impl Abort, answer: LassoResult<K>, wanted: Answer) {
     match (answer, wanted) {
         (Ok(key), Ok(number)) => assert!(rt; key.into_usize() == number),
         (Err(error), Err(kind)) => assert!(rt; error.kind() == kind),

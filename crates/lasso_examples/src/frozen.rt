@@ -19,7 +19,11 @@ fn frozen_to_a_resolver(rt: HostRuntime) -> Result<(), Fail> {
     let resolver = rodeo.into_resolver();
     assert!(rt; resolver.try_resolve(hello) == Some("Hello, world!"));
     assert!(rt; resolver.len() == 1);
+    Ok(())
+}
 
+#[test]
+fn a_reader_frozen_to_a_resolver(rt: HostRuntime) -> Result<(), Fail> {
     let reader = SpurRodeo::from_iter(rt.alloc(), ["red", "green"])?.into_reader();
     let red = reader.get("red").ok_or("not there")?;
     let resolver = reader.into_resolver();
@@ -50,7 +54,11 @@ fn keys_of_a_readers_texts(rt: HostRuntime) -> Result<(), Fail> {
     let green = reader.get("green").ok_or("not there")?;
     assert!(rt; green.into_usize() == 1);
     assert!(rt; reader.get("blue").is_none());
+    Ok(())
+}
 
+#[test]
+fn texts_that_a_reader_has(rt: HostRuntime) -> Result<(), Fail> {
     let reader = SpurRodeo::from_iter(rt.alloc(), ["red", "green"])?.into_reader();
     assert!(rt; reader.contains("green"));
     assert!(rt; !reader.contains("blue"));
@@ -83,7 +91,11 @@ fn texts_of_keys_that_a_reader_has(rt: HostRuntime) -> Result<(), Fail> {
     let red = reader.get("red").ok_or("not there")?;
     assert!(rt; reader.contains_key(red));
     assert!(rt; reader.resolve(red) == "red");
+    Ok(())
+}
 
+#[test]
+fn texts_of_a_readers_keys_untested(rt: HostRuntime) -> Result<(), Fail> {
     let reader = SpurRodeo::from_iter(rt.alloc(), ["red", "green"])?.into_reader();
     let red = reader.get("red").ok_or("not there")?;
     assert!(rt; reader.contains_key(red));
@@ -95,7 +107,11 @@ fn texts_of_keys_that_a_reader_has(rt: HostRuntime) -> Result<(), Fail> {
 fn how_many_texts_a_reader_has(rt: HostRuntime) -> Result<(), Fail> {
     let reader = SpurRodeo::from_iter(rt.alloc(), ["red", "green"])?.into_reader();
     assert!(rt; reader.len() == 2);
+    Ok(())
+}
 
+#[test]
+fn a_reader_without_a_text(rt: HostRuntime) -> Result<(), Fail> {
     let reader = SpurRodeo::default(rt.alloc())?.into_reader();
     assert!(rt; reader.is_empty());
     Ok(())
@@ -130,7 +146,11 @@ fn texts_of_keys_that_a_resolver_has(rt: HostRuntime) -> Result<(), Fail> {
     let resolver = rodeo.into_resolver();
     assert!(rt; resolver.contains_key(red));
     assert!(rt; resolver.resolve(red) == "red");
+    Ok(())
+}
 
+#[test]
+fn texts_of_a_resolvers_keys_untested(rt: HostRuntime) -> Result<(), Fail> {
     let mut rodeo = Rodeo::default(rt.alloc())?;
     let red = rodeo.try_get_or_intern("red")?;
     let resolver = rodeo.into_resolver();
@@ -143,7 +163,11 @@ fn texts_of_keys_that_a_resolver_has(rt: HostRuntime) -> Result<(), Fail> {
 fn how_many_texts_a_resolver_has(rt: HostRuntime) -> Result<(), Fail> {
     let resolver = SpurRodeo::from_iter(rt.alloc(), ["red", "green"])?.into_resolver();
     assert!(rt; resolver.len() == 2);
+    Ok(())
+}
 
+#[test]
+fn a_resolver_without_a_text(rt: HostRuntime) -> Result<(), Fail> {
     let resolver = SpurRodeo::default(rt.alloc())?.into_resolver();
     assert!(rt; resolver.is_empty());
     Ok(())

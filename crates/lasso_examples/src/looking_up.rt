@@ -9,7 +9,11 @@ fn interned(rt: HostRuntime) -> Result<(), Fail> {
     assert!(rt; hello.into_usize() == 0);
     let again = rodeo.try_get_or_intern("Hello, world!")?;
     assert!(rt; again == hello);
+    Ok(())
+}
 
+#[test]
+fn interned_by_either_name(rt: HostRuntime) -> Result<(), Fail> {
     let mut rodeo = Rodeo::default(rt.alloc())?;
     let hello = rodeo.try_get_or_intern("Hello, world!")?;
     let same = rodeo.get_or_intern("Hello, world!")?;
@@ -27,7 +31,11 @@ fn static_texts(rt: HostRuntime) -> Result<(), Fail> {
     let lasting = rodeo.try_get_or_intern_static("a static text")?;
     assert!(rt; rodeo.try_resolve(lasting) == Some("a static text"));
     assert!(rt; rodeo.current_memory_usage() == 4);
+    Ok(())
+}
 
+#[test]
+fn kept_by_either_name(rt: HostRuntime) -> Result<(), Fail> {
     let mut rodeo = Rodeo::default(rt.alloc())?;
     let hello = rodeo.get_or_intern_static("Hello, world!")?;
     let same = rodeo.get_or_intern("Hello, world!")?;
@@ -41,7 +49,11 @@ fn keys_of_texts(rt: HostRuntime) -> Result<(), Fail> {
     let hello = rodeo.try_get_or_intern("Hello, world!")?;
     assert!(rt; rodeo.get("Hello, world!") == Some(hello));
     assert!(rt; rodeo.get("Hello").is_none());
+    Ok(())
+}
 
+#[test]
+fn texts_that_are_there(rt: HostRuntime) -> Result<(), Fail> {
     let mut rodeo = Rodeo::default(rt.alloc())?;
     rodeo.extend(["red", "green", "red"])?;
     assert!(rt; rodeo.contains("green"));
@@ -75,7 +87,11 @@ fn texts_of_keys_that_are_there(rt: HostRuntime) -> Result<(), Fail> {
     let hello = rodeo.try_get_or_intern("Hello, world!")?;
     assert!(rt; rodeo.contains_key(hello));
     assert!(rt; rodeo.resolve(hello) == "Hello, world!");
+    Ok(())
+}
 
+#[test]
+fn texts_of_keys_untested(rt: HostRuntime) -> Result<(), Fail> {
     let mut rodeo = Rodeo::default(rt.alloc())?;
     let hello = rodeo.try_get_or_intern("Hello, world!")?;
     assert!(rt; rodeo.contains_key(hello));
@@ -88,7 +104,11 @@ fn how_many_texts(rt: HostRuntime) -> Result<(), Fail> {
     let mut rodeo = Rodeo::default(rt.alloc())?;
     rodeo.extend(["red", "green", "red"])?;
     assert!(rt; rodeo.len() == 2);
+    Ok(())
+}
 
+#[test]
+fn no_text(rt: HostRuntime) -> Result<(), Fail> {
     let mut rodeo = Rodeo::default(rt.alloc())?;
     assert!(rt; rodeo.is_empty());
     rodeo.extend(["red", "green", "red"])?;

@@ -7,7 +7,11 @@ fn made_by_default(rt: HostRuntime) -> Result<(), Fail> {
     let rodeo = Rodeo::default(rt.alloc())?;
     assert!(rt; rodeo.is_empty());
     assert!(rt; rodeo.current_memory_usage() == 4096);
+    Ok(())
+}
 
+#[test]
+fn no_limit_by_default(rt: HostRuntime) -> Result<(), Fail> {
     let rodeo = Rodeo::default(rt.alloc())?;
     assert!(rt; rodeo.max_memory_usage() == usize::MAX);
     Ok(())
@@ -35,7 +39,11 @@ fn made_with_limits(rt: HostRuntime) -> Result<(), Fail> {
     let rodeo: SpurRodeo = Rodeo::with_memory_limits(rt.alloc(), limits)?;
     assert!(rt; rodeo.max_memory_usage() == 10000);
     assert!(rt; rodeo.current_memory_usage() == 4096);
+    Ok(())
+}
 
+#[test]
+fn made_with_a_capacity_and_limits(rt: HostRuntime) -> Result<(), Fail> {
     let capacity = Capacity::for_bytes(4);
     let limits = MemoryLimits::new(4);
     let mut rodeo = SpurRodeo::with_capacity_and_memory_limits(rt.alloc(), capacity, limits)?;
@@ -50,7 +58,11 @@ fn made_with_a_hasher(rt: HostRuntime) -> Result<(), Fail> {
     let rodeo: SpurRodeo = Rodeo::with_hasher(rt.alloc(), FixedState::new())?;
     assert!(rt; rodeo.is_empty());
     assert!(rt; rodeo.current_memory_usage() == 4096);
+    Ok(())
+}
 
+#[test]
+fn made_with_a_capacity_and_a_hasher(rt: HostRuntime) -> Result<(), Fail> {
     let capacity = Capacity::for_bytes(7);
     let hasher = FixedState::new();
     let rodeo = SpurRodeo::with_capacity_and_hasher(rt.alloc(), capacity, hasher)?;
@@ -75,7 +87,11 @@ fn filled_from_items(rt: HostRuntime) -> Result<(), Fail> {
     let rodeo: SpurRodeo = Rodeo::from_iter(rt.alloc(), colours)?;
     assert!(rt; rodeo.len() == 3);
     assert!(rt; rodeo.contains("blue"));
+    Ok(())
+}
 
+#[test]
+fn room_for_items(rt: HostRuntime) -> Result<(), Fail> {
     let colours = ["red", "green", "red", "blue"];
     let rodeo: SpurRodeo = Rodeo::from_iter(rt.alloc(), colours)?;
     assert!(rt; rodeo.capacity() >= 3);

@@ -4,7 +4,7 @@ use lasso::interface::object_laws::{
     boxed_object_interns_as_one, boxed_rodeo_object_interns_as_one, object_interns_as_one,
 };
 use lasso::interface::{SpurInterner, SpurReader, SpurResolver};
-use lasso::{Rodeo, SpurRodeo};
+use lasso::{Rodeo, Spur, SpurRodeo};
 use std::process::Abort;
 use std::test::Fail;
 
@@ -74,6 +74,11 @@ fn one_text_through_a_box(rt: HostRuntime) -> Result<(), Fail> {
     let mut interner: Box<dyn SpurInterner + Drop> = Box::new(rt.alloc(), rodeo)?;
     takes_one_text(&rt, &mut *interner)?;
     assert!(rt; boxed_object_interns_as_one(interner, "Hello, world!")?);
+    Ok(())
+}
+
+#[test]
+fn a_boxed_rodeo_interns_as_one(rt: HostRuntime) -> Result<(), Fail> {
     let rodeo = Box::new(rt.alloc(), hello(rt.alloc())?)?;
     assert!(rt; boxed_rodeo_object_interns_as_one(rodeo, "Goodbye!")?);
     Ok(())
@@ -82,7 +87,11 @@ fn one_text_through_a_box(rt: HostRuntime) -> Result<(), Fail> {
 #[test]
 fn static_texts_through_a_box(rt: HostRuntime) -> Result<(), Fail> {
     let mut interner: Box<dyn SpurInterner + Drop> = Box::new(rt.alloc(), limited(rt.alloc())?)?;
-    takes_a_static_text(&rt, &mut *interner)?;
+    takes_a_static_text(&rt, &mut *interner)
+}
+
+#[test]
+fn static_texts_take_no_bytes_through_a_box(rt: HostRuntime) -> Result<(), Fail> {
     let mut interner: Box<dyn SpurInterner + Drop> = Box::new(
         rt.alloc(),
         of_four_bytes(rt.alloc())?,
@@ -100,6 +109,12 @@ fn frozen_forms(rt: HostRuntime) -> Result<(), Fail> {
     let first = reader.get("Hello, world!").ok_or("not there")?;
     assert!(rt; reader.try_resolve(first) == Some("Hello, world!"));
     assert!(rt; reader.len() == 1);
+    Ok(())
+}
+
+#[test]
+fn a_frozen_resolver(rt: HostRuntime) -> Result<(), Fail> {
+    let first = Spur::default();
     let frozen = hello(rt.alloc())?.into_resolver();
     let resolver: &dyn SpurResolver = &frozen;
     assert!(rt; resolver.try_resolve(first) == Some("Hello, world!"));

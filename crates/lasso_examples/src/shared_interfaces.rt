@@ -7,6 +7,7 @@ use lasso::interface::laws::{interns_as_one, reader_knows, resolver_knows};
 use lasso::interface::{IntoReader, IntoResolver};
 use lasso::{Capacity, LassoResult, MemoryLimits, Spur, SpurThreadedRodeo, ThreadedRodeo};
 use std::alloc::Global;
+use std::process::Abort;
 use std::sync::Wait;
 use std::test::Fail;
 use std::thread::join;
@@ -26,46 +27,77 @@ fn limited(rt: &impl Wait, alloc: Global) -> LassoResult<SpurThreadedRodeo> {
     Ok(rodeo)
 }
 
+/// A shared interner without a text.
+fn fresh(alloc: Global) -> LassoResult<SpurThreadedRodeo> {
+    ThreadedRodeo::default(alloc)
+}
+
+fn takes<R: Abort + Wait>(rt: &R, shared: &SpurThreadedRodeo, usage: usize, limit: usize) {
+    assert!(rt; shared.current_memory_usage(rt) == usage);
+    assert!(rt; shared.max_memory_usage(rt) == limit);
+}
+
 #[test]
-fn one_text_through_a_shared_interner(rt: HostRuntime) -> Result<(), Fail> {
-    let mut rodeo: SpurThreadedRodeo = ThreadedRodeo::default(rt.alloc())?;
+fn one_text_through_an_interner(rt: HostRuntime) -> Result<(), Fail> {
+    let mut rodeo = fresh(rt.alloc())?;
     one_text::<Spur, _, _>(&rt, &mut rodeo);
-    assert!(rt; rodeo.current_memory_usage(&rt) == 4096);
-    assert!(rt; rodeo.max_memory_usage(&rt) == usize::MAX);
-    let shared: SpurThreadedRodeo = ThreadedRodeo::default(rt.alloc())?;
-    one_text::<Spur, _, _>(&rt, &mut &shared);
-    assert!(rt; shared.current_memory_usage(&rt) == 4096);
-    assert!(rt; shared.max_memory_usage(&rt) == usize::MAX);
-    let mut owned: SpurThreadedRodeo = ThreadedRodeo::default(rt.alloc())?;
-    one_text::<Spur, _, _>(&rt, &mut &mut owned);
-    assert!(rt; owned.current_memory_usage(&rt) == 4096);
-    assert!(rt; owned.max_memory_usage(&rt) == usize::MAX);
-    let made: SpurThreadedRodeo = ThreadedRodeo::default(rt.alloc())?;
-    let mut boxed = Box::new(rt.alloc(), made)?;
-    one_text::<Spur, _, _>(&rt, &mut boxed);
-    assert!(rt; boxed.current_memory_usage(&rt) == 4096);
-    assert!(rt; boxed.max_memory_usage(&rt) == usize::MAX);
+    takes(&rt, &rodeo, 4096, usize::MAX);
     Ok(())
 }
 
 #[test]
-fn static_texts_through_a_shared_interner(rt: HostRuntime) -> Result<(), Fail> {
+fn one_text_through_a_reference(rt: HostRuntime) -> Result<(), Fail> {
+    let shared = fresh(rt.alloc())?;
+    one_text::<Spur, _, _>(&rt, &mut &shared);
+    takes(&rt, &shared, 4096, usize::MAX);
+    Ok(())
+}
+
+#[test]
+fn one_text_through_a_lent_interner(rt: HostRuntime) -> Result<(), Fail> {
+    let mut owned = fresh(rt.alloc())?;
+    one_text::<Spur, _, _>(&rt, &mut &mut owned);
+    takes(&rt, &owned, 4096, usize::MAX);
+    Ok(())
+}
+
+#[test]
+fn one_text_through_an_interner_in_a_box(rt: HostRuntime) -> Result<(), Fail> {
+    let mut boxed = Box::new(rt.alloc(), fresh(rt.alloc())?)?;
+    one_text::<Spur, _, _>(&rt, &mut boxed);
+    takes(&rt, &*boxed, 4096, usize::MAX);
+    Ok(())
+}
+
+#[test]
+fn static_texts_through_an_interner(rt: HostRuntime) -> Result<(), Fail> {
     let mut rodeo = limited(&rt, rt.alloc())?;
     static_texts_under_no_limit::<Spur, _, _>(&rt, &mut rodeo);
-    assert!(rt; rodeo.current_memory_usage(&rt) == 10);
-    assert!(rt; rodeo.max_memory_usage(&rt) == 0);
+    takes(&rt, &rodeo, 10, 0);
+    Ok(())
+}
+
+#[test]
+fn static_texts_through_a_reference(rt: HostRuntime) -> Result<(), Fail> {
     let shared = limited(&rt, rt.alloc())?;
     static_texts_under_no_limit::<Spur, _, _>(&rt, &mut &shared);
-    assert!(rt; shared.current_memory_usage(&rt) == 10);
-    assert!(rt; shared.max_memory_usage(&rt) == 0);
+    takes(&rt, &shared, 10, 0);
+    Ok(())
+}
+
+#[test]
+fn static_texts_through_a_lent_interner(rt: HostRuntime) -> Result<(), Fail> {
     let mut owned = limited(&rt, rt.alloc())?;
     static_texts_under_no_limit::<Spur, _, _>(&rt, &mut &mut owned);
-    assert!(rt; owned.current_memory_usage(&rt) == 10);
-    assert!(rt; owned.max_memory_usage(&rt) == 0);
+    takes(&rt, &owned, 10, 0);
+    Ok(())
+}
+
+#[test]
+fn static_texts_through_an_interner_in_a_box(rt: HostRuntime) -> Result<(), Fail> {
     let mut boxed = Box::new(rt.alloc(), limited(&rt, rt.alloc())?)?;
     static_texts_under_no_limit::<Spur, _, _>(&rt, &mut boxed);
-    assert!(rt; boxed.current_memory_usage(&rt) == 10);
-    assert!(rt; boxed.max_memory_usage(&rt) == 0);
+    takes(&rt, &*boxed, 10, 0);
     Ok(())
 }
 
@@ -85,29 +117,43 @@ fn two_threads_intern_through_references(rt: HostRuntime) -> Result<(), Fail> {
 
 #[test]
 fn shared_interners_freeze(rt: HostRuntime) -> Result<(), Fail> {
-    let alloc = rt.alloc();
-    freezes::<Spur, _, _>(&rt, hello(&rt, alloc)?, hello(&rt, alloc)?)?;
-    let again: SpurThreadedRodeo = ThreadedRodeo::default(alloc)?;
-    assert!(rt; reader_knows::<Spur, _, _>(&rt, again, "abc")?);
-    let again: SpurThreadedRodeo = ThreadedRodeo::default(alloc)?;
-    assert!(rt; resolver_knows::<Spur, _, _>(&rt, again, "abc")?);
+    freezes::<Spur, _, _>(&rt, hello(&rt, rt.alloc())?, hello(&rt, rt.alloc())?)
+}
+
+#[test]
+fn frozen_shared_interners_know_a_text(rt: HostRuntime) -> Result<(), Fail> {
+    assert!(rt; reader_knows::<Spur, _, _>(&rt, fresh(rt.alloc())?, "abc")?);
+    assert!(rt; resolver_knows::<Spur, _, _>(&rt, fresh(rt.alloc())?, "abc")?);
     Ok(())
+}
+
+fn boxed_hello(rt: &impl Wait, alloc: Global) -> LassoResult<Box<SpurThreadedRodeo>> {
+    Ok(Box::new(alloc, hello(rt, alloc)?)?)
 }
 
 #[test]
 fn boxed_shared_interners_freeze(rt: HostRuntime) -> Result<(), Fail> {
-    let alloc = rt.alloc();
-    let boxed = Box::new(alloc, hello(&rt, alloc)?)?;
+    let boxed = boxed_hello(&rt, rt.alloc())?;
     has_one_text::<Spur, _, _>(&rt, &IntoReader::into_reader_boxed(boxed, &rt)?);
-    let boxed = Box::new(alloc, hello(&rt, alloc)?)?;
+    let boxed = boxed_hello(&rt, rt.alloc())?;
     resolves_one_text::<Spur, _, _>(&rt, &IntoResolver::into_resolver_boxed(boxed, &rt)?);
-    let boxed = Box::new(alloc, hello(&rt, alloc)?)?;
+    Ok(())
+}
+
+#[test]
+fn a_box_freezes_as_what_it_holds(rt: HostRuntime) -> Result<(), Fail> {
+    let boxed = boxed_hello(&rt, rt.alloc())?;
     has_one_text::<Spur, _, _>(&rt, &IntoReader::into_reader(boxed, &rt)?);
-    let boxed = Box::new(alloc, hello(&rt, alloc)?)?;
+    let boxed = boxed_hello(&rt, rt.alloc())?;
     resolves_one_text::<Spur, _, _>(&rt, &IntoResolver::into_resolver(boxed, &rt)?);
-    let twice = Box::new(alloc, Box::new(alloc, hello(&rt, alloc)?)?)?;
+    Ok(())
+}
+
+#[test]
+fn a_box_in_a_box_freezes(rt: HostRuntime) -> Result<(), Fail> {
+    let twice = Box::new(rt.alloc(), boxed_hello(&rt, rt.alloc())?)?;
     has_one_text::<Spur, _, _>(&rt, &IntoReader::into_reader_boxed(twice, &rt)?);
-    let twice = Box::new(alloc, Box::new(alloc, hello(&rt, alloc)?)?)?;
+    let twice = Box::new(rt.alloc(), boxed_hello(&rt, rt.alloc())?)?;
     resolves_one_text::<Spur, _, _>(&rt, &IntoResolver::into_resolver_boxed(twice, &rt)?);
     Ok(())
 }

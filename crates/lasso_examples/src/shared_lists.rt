@@ -9,7 +9,11 @@ fn shared_filled(rt: HostRuntime) -> Result<(), Fail> {
     rodeo.extend(&rt, ["red", "green", "red"])?;
     assert!(rt; rodeo.len() == 2);
     assert!(rt; rodeo.contains(&rt, "green"));
+    Ok(())
+}
 
+#[test]
+fn shared_filled_from_items(rt: HostRuntime) -> Result<(), Fail> {
     let colours = ["red", "green", "red", "blue"];
     let rodeo: SpurThreadedRodeo = ThreadedRodeo::from_iter(rt.alloc(), &rt, colours)?;
     assert!(rt; rodeo.len() == 3);
@@ -34,7 +38,11 @@ fn shared_frozen(rt: HostRuntime) -> Result<(), Fail> {
     let reader = rodeo.into_reader(&rt)?;
     assert!(rt; reader.get("Hello, world!") == Some(key));
     assert!(rt; reader.try_resolve(key) == Some("Hello, world!"));
+    Ok(())
+}
 
+#[test]
+fn shared_frozen_to_a_resolver(rt: HostRuntime) -> Result<(), Fail> {
     let rodeo: SpurThreadedRodeo = ThreadedRodeo::default(rt.alloc())?;
     let key = rodeo.try_get_or_intern(&rt, "Hello, world!")?;
     let resolver = rodeo.into_resolver(&rt)?;
@@ -48,7 +56,11 @@ fn shared_compared(rt: HostRuntime) -> Result<(), Fail> {
     let rodeo: SpurThreadedRodeo = ThreadedRodeo::from_iter(rt.alloc(), &rt, colours)?;
     let other: SpurThreadedRodeo = ThreadedRodeo::from_iter(rt.alloc(), &rt, colours)?;
     assert!(rt; rodeo.eq_threaded(&rt, &other));
+    Ok(())
+}
 
+#[test]
+fn shared_compared_with_a_rodeo(rt: HostRuntime) -> Result<(), Fail> {
     let colours = ["red", "green"];
     let shared: SpurThreadedRodeo = ThreadedRodeo::from_iter(rt.alloc(), &rt, colours)?;
     let rodeo: SpurRodeo = Rodeo::from_iter(rt.alloc(), colours)?;

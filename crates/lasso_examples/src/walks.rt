@@ -37,7 +37,11 @@ fn texts_passed_over_from_the_front(rt: HostRuntime) -> Result<(), Fail> {
     let mut ahead = rodeo.strings();
     assert!(rt; ahead.nth(1) == Some("green"));
     assert!(rt; ahead.next() == Some("blue"));
+    Ok(())
+}
 
+#[test]
+fn pairs_passed_over_from_the_front(rt: HostRuntime) -> Result<(), Fail> {
     let rodeo: SpurRodeo = Rodeo::from_iter(rt.alloc(), ["red", "green", "blue"])?;
     let green = rodeo.get("green").ok_or("not there")?;
     let mut ahead = rodeo.iter();
