@@ -68,10 +68,10 @@ module _ {K : Type 0} (key_at : ℕ → Option K) where
       (ap (λ (ts : List Text). Some ts) known.0, known.1, subst (λ (ts : List Text). key_of key_at ts text ≡ Some first) known.0 known.2)
 
   -- the key that an intern answered is the text's key in the list that is frozen then
-  pub key_kept : (old mid frozen : Option (List Text)) (text : Text) (k : K) → IfSome old (λ texts. InternsAmong key_at texts text (Ok k) mid) → IfSome mid (λ texts. frozen ≡ Some texts) → IfSome old (λ texts. (frozen ≡ Some (with_last texts text)) × (key_of key_at (with_last texts text) text ≡ Some k))
-  key_kept None mid frozen text k h j = tt
-  key_kept (Some texts) None frozen text k h j = absurd (cc)
-  key_kept (Some texts) (Some after) frozen text k h j =
+  pub key_in_frozen : (old mid frozen : Option (List Text)) (text : Text) (k : K) → IfSome old (λ texts. InternsAmong key_at texts text (Ok k) mid) → IfSome mid (λ texts. frozen ≡ Some texts) → IfSome old (λ texts. (frozen ≡ Some (with_last texts text)) × (key_of key_at (with_last texts text) text ≡ Some k))
+  key_in_frozen None mid frozen text k h j = tt
+  key_in_frozen (Some texts) None frozen text k h j = absurd (cc)
+  key_in_frozen (Some texts) (Some after) frozen text k h j =
       let left : after ≡ with_last texts text = cc in
       (cc, subst (λ (ts : List Text). key_of key_at ts text ≡ Some k) left (key_interned texts after text k h))
 

@@ -80,16 +80,16 @@ usage_limited key_at s (Reserve bucket n) may grew = absurd (omega arith)
 usage_limited key_at s (Append text) may grew = absurd (omega arith)
 usage_limited key_at s (Limit limit) may grew = absurd (omega arith)
 
-taken_within : (n place : ℕ) (bs : List CountedBucket) → AllByRecursion (λ (b : CountedBucket). b.used ≤ b.size) bs → IsSomeAnd (slice_get bs place) (λ (b : CountedBucket). b.used + n ≤ b.size) → AllByRecursion (λ (b : CountedBucket). b.used ≤ b.size) (changed_at place (with_taken n) bs)
-taken_within n place [] within room = within
+taken_within : (n position : ℕ) (bs : List CountedBucket) → AllByRecursion (λ (b : CountedBucket). b.used ≤ b.size) bs → IsSomeAnd (slice_get bs position) (λ (b : CountedBucket). b.used + n ≤ b.size) → AllByRecursion (λ (b : CountedBucket). b.used ≤ b.size) (changed_at position (with_taken n) bs)
+taken_within n position [] within room = within
 taken_within n zero (b ∷ bs) within room = (room, within.1)
-taken_within n (suc place) (b ∷ bs) within room = (within.0, taken_within n place bs within.1 room)
+taken_within n (suc position) (b ∷ bs) within room = (within.0, taken_within n position bs within.1 room)
 
-taken_sizes : (n place : ℕ) (bs : List CountedBucket) → sum_by (λ (b : CountedBucket). b.size) (changed_at place (with_taken n) bs) ≡ sum_by (λ (b : CountedBucket). b.size) bs
-taken_sizes n place [] = refl
+taken_sizes : (n position : ℕ) (bs : List CountedBucket) → sum_by (λ (b : CountedBucket). b.size) (changed_at position (with_taken n) bs) ≡ sum_by (λ (b : CountedBucket). b.size) bs
+taken_sizes n position [] = refl
 taken_sizes n zero (b ∷ bs) = grind arith
-taken_sizes n (suc place) (b ∷ bs) =
-    sum_by-cons (λ (b : CountedBucket). b.size) b (changed_at place (with_taken n) bs) ∙ ap (λ k. b.size + k) (taken_sizes n place bs) ∙ sym (sum_by-cons (λ (b : CountedBucket). b.size) b bs)
+taken_sizes n (suc position) (b ∷ bs) =
+    sum_by-cons (λ (b : CountedBucket). b.size) b (changed_at position (with_taken n) bs) ∙ ap (λ k. b.size + k) (taken_sizes n position bs) ∙ sym (sum_by-cons (λ (b : CountedBucket). b.size) b bs)
 
 -- one event keeps the buckets within their sizes, and the usage their sum
 keeps_buckets : {K : Type 0} (key_at : ℕ → Option K) (s : Totals) (e : Event) → All (λ (b : CountedBucket). b.used ≤ b.size) s.buckets → s.usage ≡ sum_by (λ (b : CountedBucket). b.size) s.buckets → MayFollow key_at s e → All (λ (b : CountedBucket). b.used ≤ b.size) (counted s e).buckets × ((counted s e).usage ≡ sum_by (λ (b : CountedBucket). b.size) (counted s e).buckets)

@@ -74,13 +74,13 @@ module _ {Key : Type 0} (keys : ℕ → Option Key) where
       let more : length ((state o log).texts ++ t ∷ []) ≡ length (state o log).texts + 1 = length-append (state o log).texts (t ∷ []) in
       (subst (λ (ts : List Text). Lacks ts t × IsSome (keys (length ts))) same may, omega (arith, small, here, more))
 
-  -- the update of an append files the text at the position that was the length; `f` is the log's first note
+  -- the update of an append puts the text at the position that was the length; `f` is the log's first note
   pub lets_append : (f : NoteView) (v : List NoteView) (e : NoteView) (old : ℕ) (t : Text) → e.event ≡ Append t → e.position ≡ length f.opening.texts + old → Lets keys f v 0 0 old e None
-  lets_append f v e old t is place cells log kept begins word =
+  lets_append f v e old t is position cells log kept begins word =
       let o : Totals = f.opening in
       let after : (state o (log ++ e ∷ [])).texts ≡ (state o log).texts ++ t ∷ [] = ap (λ (s : Totals). s.texts) (one_more o log e) ∙ text_added (state o log) e.event t is in
       let still : lent_after f.lent (log ++ e ∷ []) ≡ lent_after f.lent log = lent_more f.lent log e ∙ ap (λ (x : Event). lent_by (lent_after f.lent log) x e.lent) is in
-      inr (0, refl, refl, subst (λ (x : Event). MovesBy x e (shown_of (f ∷ log)) (shown_of (f ∷ (log ++ e ∷ [])))) (sym is) ((after, length_of o log 0 old word ∙ sym place), still))
+      inr (0, refl, refl, subst (λ (x : Event). MovesBy x e (shown_of (f ∷ log)) (shown_of (f ∷ (log ++ e ∷ [])))) (sym is) ((after, length_of o log 0 old word ∙ sym position), still))
 
   -- an event that leaves the list and the buckets' bytes as they are needs no update
   pub lets_quiet : (f : NoteView) (v : List NoteView) (e : NoteView) (j k old : ℕ) → ((t : Totals) → (counted t e.event).texts ≡ t.texts) → ((bs : List LentBucket) → lent_by bs e.event e.lent ≡ bs) → Lets keys f v j k old e (Some 0)
@@ -92,13 +92,13 @@ module _ {Key : Type 0} (keys : ℕ → Option Key) where
 pub moving_append : (t : ℕ) (x : Text) (y : ℕ) → Moving t (Append x) 0 1 y
 moving_append t x y ws = inl refl
 
--- the update of a note that speaks of no bucket: it files an appended text, or has nothing to do
-pub lets_filed : {Key F : Type 0} (keys : ℕ → Option Key) (f : NoteView) (v : List NoteView) (e : NoteView) (j k old : ℕ) (cell_proof : Option F) (text : F → Text) (At Lasts : F → Type 0) → e.lent ≡ []
+-- the update of a note that speaks of no bucket: it puts an appended text last, or has nothing to do
+pub lets_cell_proof : {Key F : Type 0} (keys : ℕ → Option Key) (f : NoteView) (v : List NoteView) (e : NoteView) (j k old : ℕ) (cell_proof : Option F) (text : F → Text) (At Lasts : F → Type 0) → e.lent ≡ []
     → MatchOption cell_proof (IsQuiet e.event) (λ p. At p × (e.event ≡ Append (text p)) × Lasts p × (j ≡ 0) × (k ≡ 0) × (e.position ≡ length f.opening.texts + old)) → Lets keys f v j k old e (ready cell_proof)
-lets_filed keys f v e j k old None text At Lasts none quiet = lets_quiet keys f v e j k old quiet.0 (λ bs. subst (λ (own : List LentBucket). lent_by bs e.event own ≡ bs) (sym none) (quiet.1 bs))
-lets_filed keys f v e j k old (Some p) text At Lasts none is =
+lets_cell_proof keys f v e j k old None text At Lasts none quiet = lets_quiet keys f v e j k old quiet.0 (λ bs. subst (λ (own : List LentBucket). lent_by bs e.event own ≡ bs) (sym none) (quiet.1 bs))
+lets_cell_proof keys f v e j k old (Some p) text At Lasts none is =
     subst (λ (i : ℕ). Lets keys f v i k old e None) (sym is.3) (subst (λ (i : ℕ). Lets keys f v 0 i old e None) (sym is.4) (lets_append keys f v e old (text p) is.1 is.5))
 
--- every history has the length word, at place 0 and with key 0
+-- every history has the length word, at position 0 and with key 0
 pub has_head : (notes : List NoteView) → IsWord notes 0 0
 has_head notes = let r = word_later [] notes 0 0 0 (notes, refl) refl in (r.0, r.1)

@@ -88,9 +88,9 @@ module _ {M : Type 1} {𝓤 : Ura M} (𝓛 : Logic 𝓤) (V R : RattleType) (cel
   fills era chunk offset v x text is long = let cell : ℕ = name_at (cells v) offset in qed 𝓛 (‵ (written V chunk v) ∷ ‵ (written R cell x) ∷ []) ∵ move ! (1 ∷ []) $
       use1 𝓛 (‵ (holds_text V R cells meaning lasts era cell text)) (fills_cell era cell x text is long) $ move ! (1 ∷ 0 ∷ []) $ fjoin ! $ fpack ! V.Denot (in_chunk V R cells meaning lasts era chunk offset text) v $ done !
 
-  pub fills_place : (names : List ℕ) (n : ℕ) (chunk cell : ℕ) (v : V.Denot) (x : R.Denot) (text : Text) → IsCellAt names n chunk (cells v) cell → meaning x ≡ text → lasts x (era_named names)
+  pub fills_position : (names : List ℕ) (n : ℕ) (chunk cell : ℕ) (v : V.Denot) (x : R.Denot) (text : Text) → IsCellAt names n chunk (cells v) cell → meaning x ≡ text → lasts x (era_named names)
       → ⟦ written V chunk v ⟧ ∗ ⟦ written R cell x ⟧ ⊢ ⟦ Filled names n text ⟧
-  fills_place names n chunk cell v x text at is long = qed 𝓛 (‵ (written V chunk v) ∷ ‵ (written R cell x) ∷ []) ∵ rewrite ! 0 (λ (k : ℕ). ‵ (written V k v)) at.0 refl $
+  fills_position names n chunk cell v x text at is long = qed 𝓛 (‵ (written V chunk v) ∷ ‵ (written R cell x) ∷ []) ∵ rewrite ! 0 (λ (k : ℕ). ‵ (written V k v)) at.0 refl $
       rewrite ! 1 (λ (k : ℕ). ‵ (written R k x)) at.1 refl $ by ! (fills (era_named names) (chunk_named names n) (offset_of n) v x text is long)
 
   twice : (era chunk offset : ℕ) (text : Text) → ⟦ filled V R cells meaning lasts era chunk offset text ⟧ ⊢ ⟦ filled V R cells meaning lasts era chunk offset text ⟧ ∗ ⟦ filled V R cells meaning lasts era chunk offset text ⟧
@@ -122,14 +122,14 @@ module _ {M : Type 1} {𝓤 : Ura M} (𝓛 : Logic 𝓤) (V R : RattleType) (cel
     keeps names shown = fsep (Lined names 0 (listed shown)) (all_untaken (buckets shown))
 
     -- an update that puts last what the two facts are of
-    pub offered : (moves : List E → List E → ℕ → Type 0) (names : List ℕ) (place chunk cell : ℕ) (text : Text) (v : V.Denot) (x : R.Denot)
-        → ((before after : List E) (answer : ℕ) → moves before after answer → PutsLastAt listed place text before after × (buckets after ≡ buckets before)) → IsCellAt names place chunk (cells v) cell → meaning x ≡ text → lasts x (era_named names)
+    pub offered : (moves : List E → List E → ℕ → Type 0) (names : List ℕ) (position chunk cell : ℕ) (text : Text) (v : V.Denot) (x : R.Denot)
+        → ((before after : List E) (answer : ℕ) → moves before after answer → PutsLastAt listed position text before after × (buckets after ≡ buckets before)) → IsCellAt names position chunk (cells v) cell → meaning x ≡ text → lasts x (era_named names)
         → ⟦ written V chunk v ⟧ ∗ ⟦ written R cell x ⟧ ⊢ ⟦ offer_owns (keeps names) moves (λ (_ : ℕ). ftrue) None ⟧
-    offered moves names place chunk cell text v x puts at is long = let F : Fml = Filled names place text in
+    offered moves names position chunk cell text v x puts at is long = let F : Fml = Filled names position text in
         let Goes : List E × List E × ℕ → Pr = λ t. ⟦ keeps names t.0 ⟧ -∗ upd 𝓤 (⟦ keeps names t.1 ⟧ ∗ ⟦ ftrue ⟧) in
-        via 𝓤 _ (fills_place names place chunk cell v x text at is long)
+        via 𝓤 _ (fills_position names position chunk cell v x text at is long)
         (all_i 𝓤 (λ (t : List E × List E × ℕ). all 𝓤 (λ (_ : moves t.0 t.1 t.2). Goes t)) (λ t. all_i 𝓤 (λ (_ : moves t.0 t.1 t.2). Goes t) (λ m.
-        let moved = puts t.0 t.1 t.2 m in let put : PutsLastAt listed place text t.0 t.1 = moved.0 in let last : place ≡ 0 + length (listed t.0) = omega (arith, put.1) in
+        let moved = puts t.0 t.1 t.2 m in let put : PutsLastAt listed position text t.0 t.1 = moved.0 in let last : position ≡ 0 + length (listed t.0) = omega (arith, put.1) in
         qed 𝓛 (‵ F ∷ []) ∵ assume ! (‵ (keeps names t.0)) $ suffices ! _ (upd_i 𝓤 (⟦ keeps names t.1 ⟧ ∗ ⟦ ftrue ⟧)) $ fsplit ! $ move ! (2 ∷ []) $
         rewrite ! 0 (λ (k : ℕ). ‵ (Filled names k text)) last refl $ move ! (1 ∷ 0 ∷ []) $
         use2 𝓛 (‵ (Lined names 0 (listed t.0 ++ text ∷ []))) (grown names 0 (listed t.0) text) $

@@ -1,5 +1,5 @@
 -- The words of a log, and what one more event does to them: their cells keep their values and stay apart,
--- a word stays at its place, and its value only grows.
+-- a word stays at its position, and its value only grows.
 use Rattle.std.proofs.Common.{◌≡◌, ◌≢◌, ℕ, zero, suc, ◌+◌, ◌≤◌, ◌<◌, true, false, List, [], ◌∷◌, ◌++◌, length, set, inl, inr, refl, ap, sym, ◌∙◌, subst, arith, Some, slice_get, get_or-set_other, get_or-set_same, length-set}
 use mathlib.Core.List.{IsPrefix}
 use Rattle.logbook.specs.Pages.{Cell, cell}
@@ -110,7 +110,7 @@ words_stay i k v ws (e ∷ es) h =
     let b = words_stay i k a.0 (worded ws e.ticket e.event) es a.1 in
     (b.0, b.1, omega (arith, a.2, b.2))
 
--- a longer log has the word at the same place, with a value that is no less
+-- a longer log has the word at the same position, with a value that is no less
 pub word_later : (v log : List NoteView) (j k n : ℕ) → IsPrefix v log → IsWordWith v j k n → (m : ℕ) × IsWordWith log j k m × (n ≤ m)
 word_later v log j k n p h =
     let r = words_stay j k n (words_of v) p.0 h in

@@ -50,9 +50,9 @@ pub data Reply (K : Type 0) : Type 0 where
 abbrev pub keyed : {K : Type 0} → (ℕ → Option K) → List Text → List (Option K × Text)
 keyed key_at texts = map (λ e. (key_at e.0, e.1)) (enumerate_from 0 texts)
 
--- these are the entries of a walk over the texts
+-- these are the pairs of a walk over the texts
 abbrev pub IsWalkOf : {K : Type 0} → (ℕ → Option K) → List Text → List (K × Text) → Type 0
-IsWalkOf {K} key_at texts entries = map {B = Option K × Text} (λ e. (Some e.0, e.1)) entries ≡ keyed key_at texts
+IsWalkOf {K} key_at texts pairs = map {B = Option K × Text} (λ e. (Some e.0, e.1)) pairs ≡ keyed key_at texts
 
 -- the list is written or copied, unless memory is wanting
 abbrev pub MayCopy : List Text → Result (List Text) LassoErrorKind → Type 0

@@ -24,7 +24,7 @@ IsOfEra era b = b.site.era ≡ era
 
 -- these are the words of what is owed of a bucket, and what the right to free it is for
 pub record IsHolding (r : Owed) (ptr : Ptr) (size : ℕ) (at : Ptr) (len : ℕ) : Type 0 where
-  pub place : ptr ≡ block_ptr r.block r.start
+  pub address : ptr ≡ block_ptr r.block r.start
   pub count : r.len ≡ size
   pub small : size < 2 ^ 63
   pub block : at ≡ ptr
@@ -32,7 +32,7 @@ pub record IsHolding (r : Owed) (ptr : Ptr) (size : ℕ) (at : Ptr) (len : ℕ) 
 
 -- these are the words of a bucket that is not in a history yet, and the right to its bytes that were not taken
 pub record IsNewBucket (r : Free) (numbers : List ℕ) (ptr : Ptr) (size taken : ℕ) : Type 0 where
-  pub place : ptr ≡ block_ptr (site_at numbers).block (site_at numbers).start
+  pub address : ptr ≡ block_ptr (site_at numbers).block (site_at numbers).start
   pub right : IsRightTo r (bucket_at numbers size taken) (size - taken)
   pub within : taken ≤ size
   pub small : size < 2 ^ 63
@@ -65,7 +65,7 @@ pub record IsShared (book : Book) (names : List ℕ) (log : List NoteView) (word
   pub own : word ≡ word_of book word.key
   pub opened : IsOpened log
   pub stands : IsBucketAt (first_note log) (notes_of log) position word.key base size numbers
-  pub place : ptr ≡ block_ptr (site_at numbers).block (site_at numbers).start
+  pub address : ptr ≡ block_ptr (site_at numbers).block (site_at numbers).start
   pub era : (site_at numbers).era ≡ era_named names
   pub within : base ≤ size
   pub small : size < 2 ^ 63

@@ -23,12 +23,12 @@ module _ (hash_of : Text → ℕ) (number : ℕ) (texts : List Text) (distinct :
   grown n old new shard filed same = reserved hash_of number (take n texts) texts old new (drop n texts, take-append-drop n texts) shard filed same
 
   -- a text of the shard is entered
-  pub entered : (n place hash : ℕ) (t : Text) (old new : Table) → place ≡ n → slice_get texts n ≡ Some t → is_in hash_of number t ≡ true → hash ≡ hash_of t → IsShardOf hash_of number (take n texts) old → ((m : ℕ) → Holds new.slots m ↔ (Holds old.slots m ⊎ (m ≡ place))) → StaysFiled hash place old new → IsShardOf hash_of number (take (n + 1) texts) new
-  entered n place hash t old new here at is hashed shard held stays =
+  pub entered : (n position hash : ℕ) (t : Text) (old new : Table) → position ≡ n → slice_get texts n ≡ Some t → is_in hash_of number t ≡ true → hash ≡ hash_of t → IsShardOf hash_of number (take n texts) old → ((m : ℕ) → Holds new.slots m ↔ (Holds old.slots m ⊎ (m ≡ position))) → StaysFiled hash position old new → IsShardOf hash_of number (take (n + 1) texts) new
+  entered n position hash t old new here at is hashed shard held stays =
       let inside = slice_get_within texts n t at in
-      let last : place ≡ length (take n texts) = here ∙ sym (length-take-le n texts (omega (arith, inside))) in
+      let last : position ≡ length (take n texts) = here ∙ sym (length-take-le n texts (omega (arith, inside))) in
       subst (λ (ts : List Text). IsShardOf hash_of number ts new) (sym (take_more_at texts n t at))
-      (pushed hash_of number (take n texts) t hash place old new shard (absent_before texts n t distinct at) is last hashed held stays)
+      (pushed hash_of number (take n texts) t hash position old new shard (absent_before texts n t distinct at) is last hashed held stays)
 
   -- a text of another shard is passed over
   pub passed : (n : ℕ) (t : Text) (index : Table) → slice_get texts n ≡ Some t → is_in hash_of number t ≡ false → IsShardOf hash_of number (take n texts) index → IsShardOf hash_of number (take (n + 1) texts) index

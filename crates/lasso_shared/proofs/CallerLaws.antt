@@ -84,12 +84,12 @@ none_appended key_at s (e ∷ past) pass n text (x ∷ stored) at legal is = by_
 
 -- where a text with a key stands
 record Placed {K : Type 0} (key_at : ℕ → Option K) (texts : List Text) (text : Text) (k : K) : Type 0 where
-  place : ℕ
-  at : position_of texts text ≡ Some place
-  key : key_at place ≡ Some k
+  position : ℕ
+  at : position_of texts text ≡ Some position
+  key : key_at position ≡ Some k
 
 placed : {K : Type 0} (key_at : ℕ → Option K) (texts : List Text) (text : Text) (k : K) → key_of key_at texts text ≡ Some k → Placed key_at texts text k
-placed key_at texts text k has = option_and_then_some key_at (position_of texts text) k has (λ n at key. record { place = n; at = at; key = key })
+placed key_at texts text k has = option_and_then_some key_at (position_of texts text) k has (λ n at key. record { position = n; at = at; key = key })
 
 some_there : {K : Type 0} (o : Option K) → IsSome o → (k : K) × (o ≡ Some k)
 some_there None there = absurd (cc there)
@@ -100,7 +100,7 @@ module _ {K : Type 0} (key_at : ℕ → Option K) where
   pub has_key_later : (o : Totals) (h g : History) (text : Text) (k : K) → HasKey key_at o h text k → IsPrefix h g → HasKey key_at o g text k
   has_key_later o h g text k has more =
       let p = placed key_at (totals o h).texts text k has in
-      ap (option_and_then key_at) (position_past (totals o h).texts (totals o g).texts text p.place (list_past o h g more) p.at) ∙ p.key
+      ap (option_and_then key_at) (position_past (totals o h).texts (totals o g).texts text p.position (list_past o h g more) p.at) ∙ p.key
 
   -- the history at which a call's reply is read, past its entry and before its exit
   read_at : (o : Totals) (before after : History) (pass : ℕ) (q : Question) (r : Reply K) → IsCall key_at o before after pass q r → History
@@ -140,7 +140,7 @@ module _ {K : Type 0} (key_at : ℕ → Option K) where
     key_resolves : (texts : List Text) (text : Text) (k : K) → key_of key_at texts text ≡ Some k → slice_get texts (number k) ≡ Some text
     key_resolves texts text k has =
         let p = placed key_at texts text k has in
-        subst (λ (n : ℕ). slice_get texts n ≡ Some text) (sym (made p.place k p.key)) (position_here texts text p.place p.at)
+        subst (λ (n : ℕ). slice_get texts n ≡ Some text) (sym (made p.position k p.key)) (position_here texts text p.position p.at)
 
     pub seen_texts_keep_keys : SeenTextsKeepKeys key_at number
     seen_texts_keep_keys o h before after pass text k had more = record {
@@ -148,7 +148,7 @@ module _ {K : Type 0} (key_at : ℕ → Option K) where
       idle = λ keeping reply c legal.
           let p = placed key_at (totals o before).texts text k has in
           let parts = legal_parts key_at o before c.past (subst (IsLegal key_at o) (sym c.begins) legal) in
-          ⊎_elim (λ none. none) (λ (added : StoresAndAppends keeping text (events_of pass c.past)). absurd (none_appended key_at (totals o before) c.past pass p.place text added.0 p.at parts.1 added.2))
+          ⊎_elim (λ none. none) (λ (added : StoresAndAppends keeping text (events_of pass c.past)). absurd (none_appended key_at (totals o before) c.past pass p.position text added.0 p.at parts.1 added.2))
           (subst (λ (r : Result K LassoErrorKind). Makes (Intern keeping text) (Interned r) (events_of pass c.past)) (interned keeping reply c) c.makes);
       found = λ reply c. c.explained.4 ∙ there c.explained.0;
       contained = λ reply c. let p = placed key_at (totals o (before ++ c.explained.0)).texts text k (there c.explained.0) in c.explained.4 ∙ ap is_some p.at;

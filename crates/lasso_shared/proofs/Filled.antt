@@ -41,18 +41,18 @@ filled_more key_at of texts text k old new so_far same call legal = record {
 }
 
 -- the text that an item lends was interned
-pub filled_turn : {K T : Type 0} (key_at : ℕ → Option K) (of : InternerId) (text_of : T → Text) (items : List T) (item : T) (text : Text) (k : K) (old new : PassView) → FilledSo key_at of (map text_of items) old → text ≡ text_of item → IsSamePass new old → IsCall key_at of.opening (seen old) (seen new) old.number (Intern Copied text) (Interned (Ok k)) → IsLegal key_at of.opening (seen new) → FilledSo key_at of (map text_of (items ++ item ∷ [])) new
-filled_turn key_at of text_of items item text k old new so_far lent same call legal =
-    let its_own : IsCall key_at of.opening (seen old) (seen new) old.number (Intern Copied (text_of item)) (Interned (Ok k)) = subst (λ (t : Text). IsCall key_at of.opening (seen old) (seen new) old.number (Intern Copied t) (Interned (Ok k))) lent call in
-    subst (λ (texts : List Text). FilledSo key_at of texts new) (sym (map_push text_of items item)) (filled_more key_at of (map text_of items) (text_of item) k old new so_far same its_own legal)
+pub filled_turn : {K T : Type 0} (key_at : ℕ → Option K) (of : InternerId) (lends : T → Text) (items : List T) (item : T) (text : Text) (k : K) (old new : PassView) → FilledSo key_at of (map lends items) old → text ≡ lends item → IsSamePass new old → IsCall key_at of.opening (seen old) (seen new) old.number (Intern Copied text) (Interned (Ok k)) → IsLegal key_at of.opening (seen new) → FilledSo key_at of (map lends (items ++ item ∷ [])) new
+filled_turn key_at of lends items item text k old new so_far lent same call legal =
+    let its_own : IsCall key_at of.opening (seen old) (seen new) old.number (Intern Copied (lends item)) (Interned (Ok k)) = subst (λ (t : Text). IsCall key_at of.opening (seen old) (seen new) old.number (Intern Copied t) (Interned (Ok k))) lent call in
+    subst (λ (texts : List Text). FilledSo key_at of texts new) (sym (map_push lends items item)) (filled_more key_at of (map lends items) (lends item) k old new so_far same its_own legal)
 
 -- it was refused
-pub refused_turn : {K T : Type 0} (key_at : ℕ → Option K) (of : InternerId) (text_of : T → Text) (items : List T) (item : T) (text : Text) (error : LassoErrorKind) (old new : PassView) → FilledSo key_at of (map text_of items) old → text ≡ text_of item → IsCall {K = K} key_at of.opening (seen old) (seen new) old.number (Intern Copied text) (Interned (Err error)) → IsLegal key_at of.opening (seen new) → IsPlainFilling key_at of.opening (map text_of (items ++ item ∷ [])) (Err error)
-refused_turn {K} key_at of text_of items item text error old new so_far lent call legal =
-    let its_own : IsCall {K = K} key_at of.opening (seen old) (seen new) old.number (Intern Copied (text_of item)) (Interned (Err error)) = subst (λ (t : Text). IsCall {K = K} key_at of.opening (seen old) (seen new) old.number (Intern Copied t) (Interned (Err error))) lent call in record {
+pub refused_turn : {K T : Type 0} (key_at : ℕ → Option K) (of : InternerId) (lends : T → Text) (items : List T) (item : T) (text : Text) (error : LassoErrorKind) (old new : PassView) → FilledSo key_at of (map lends items) old → text ≡ lends item → IsCall {K = K} key_at of.opening (seen old) (seen new) old.number (Intern Copied text) (Interned (Err error)) → IsLegal key_at of.opening (seen new) → IsPlainFilling key_at of.opening (map lends (items ++ item ∷ [])) (Err error)
+refused_turn {K} key_at of lends items item text error old new so_far lent call legal =
+    let its_own : IsCall {K = K} key_at of.opening (seen old) (seen new) old.number (Intern Copied (lends item)) (Interned (Err error)) = subst (λ (t : Text). IsCall {K = K} key_at of.opening (seen old) (seen new) old.number (Intern Copied t) (Interned (Err error))) lent call in record {
       pass = old.number;
       seen = history new.notes;
-      calls = (map text_of items, text_of item, history old.notes, map_push text_of items item, so_far.each, its_own);
+      calls = (map lends items, lends item, history old.notes, map_push lends items item, so_far.each, its_own);
       legal = legal;
     }
 

@@ -68,9 +68,9 @@ module _ {K : Type 0} (key_at : ℕ → Option K) (shard : Text → ℕ) (s : St
 
   pub good_after : (step : Step) → MayStep key_at shard s step → IsGood key_at shard (after shard s step)
   good_after (Take number keeping text) may = good_taken (new_call shard number keeping text) refl refl may.0 may.1 (s.index (shard text) text) refl
-  good_after (Reserve c place) may =
-      good_stored key_at shard s good c (changed_at place (reserved (length c.text)) s.buckets) s.doubling s.usage may.0 (missing_none c may.1)
-      (reserved_filled (length c.text) place s.buckets good.filled may.3)
+  good_after (Reserve c position) may =
+      good_stored key_at shard s good c (changed_at position (reserved (length c.text)) s.buckets) s.doubling s.usage may.0 (missing_none c may.1)
+      (reserved_filled (length c.text) position s.buckets good.filled may.3)
   good_after (Charge c size) may =
       good_stored key_at shard s good c (s.buckets ++ charged size (length c.text) ∷ []) (doubling_after s.doubling s.usage s.limit (length c.text)) (s.usage + size) may.0 (missing_none c may.1)
       (All-push IsFilled s.buckets (charged size (length c.text)) good.filled
@@ -92,7 +92,7 @@ module _ {K : Type 0} (key_at : ℕ → Option K) (shard : Text → ℕ) (s : St
   grows : (step : Step) → IsPrefix s.texts (after shard s step).texts
   grows (Take number keeping text) = ([], append-nil s.texts ∙ sym (ap (λ (t : Totals). t.texts) (took_sums number keeping text)))
   grows (Append c) = (c.text ∷ [], refl)
-  grows (Reserve c place) = ([], append-nil s.texts)
+  grows (Reserve c position) = ([], append-nil s.texts)
   grows (Charge c size) = ([], append-nil s.texts)
   grows (Release c position) = ([], append-nil s.texts)
   grows (Refuse c why) = ([], append-nil s.texts)
@@ -102,7 +102,7 @@ module _ {K : Type 0} (key_at : ℕ → Option K) (shard : Text → ℕ) (s : St
   limited : (step : Step) → MayStep key_at shard s step → s.usage < (after shard s step).usage → (after shard s step).usage ≤ (after shard s step).limit
   limited (Take number keeping text) may grew = let same = ap (λ (t : Totals). t.usage) (took_sums number keeping text) in absurd (omega (arith, same))
   limited (Charge c size) may grew = (bucket_fits s.doubling s.usage s.limit (length c.text) size (some_bytes c.text may.2.1) may.4).1
-  limited (Reserve c place) may grew = absurd (omega arith)
+  limited (Reserve c position) may grew = absurd (omega arith)
   limited (Append c) may grew = absurd (omega arith)
   limited (Release c position) may grew = absurd (omega arith)
   limited (Refuse c why) may grew = absurd (omega arith)
@@ -157,7 +157,7 @@ module _ {K : Type 0} (key_at : ℕ → Option K) (shard : Text → ℕ) (s : St
   explained (Release c position) may = key_explained key_at (sums s) c.keeping c.text (key_at position) (own_key c position may.0 may.1)
   explained (Refuse c why) may = refusal_explained c why may.0 may.1
   explained (Read question) may = reading_explained question may
-  explained (Reserve c place) may = tt
+  explained (Reserve c position) may = tt
   explained (Charge c size) may = tt
   explained (Append c) may = tt
   explained (SetLimit number limit) may = tt
@@ -168,7 +168,7 @@ module _ {K : Type 0} (key_at : ℕ → Option K) (shard : Text → ℕ) (s : St
   stays (Release c position) = whatever (sums s ≡ sums s) (found_reply c.keeping c.text (key_at position)) refl
   stays (Refuse c why) = refl
   stays (Read question) = whatever (sums s ≡ sums s) (replied question (read key_at shard s question)) refl
-  stays (Reserve c place) = tt
+  stays (Reserve c position) = tt
   stays (Charge c size) = tt
   stays (Append c) = tt
   stays (SetLimit number limit) = tt
@@ -187,7 +187,7 @@ module _ {K : Type 0} (key_at : ℕ → Option K) (shard : Text → ℕ) (s : St
       some_interned c.keeping c.text (key_at position) (subst (λ (o : Option K). IsSome o) (own_key c position may.0 may.1) (has_key c.text (subst (λ (o : Option ℕ). IsSome o) (sym at) refl)))
   given (Refuse c why) may owed = refl
   given (Read question) may owed = reading_given question may
-  given (Reserve c place) may owed = absurd owed
+  given (Reserve c position) may owed = absurd owed
   given (Charge c size) may owed = absurd owed
   given (Append c) may owed = absurd owed
   given (SetLimit number limit) may owed = absurd owed
@@ -202,7 +202,7 @@ module _ {K : Type 0} (key_at : ℕ → Option K) (shard : Text → ℕ) (s : St
   }
 
   pub legal_step : (step : Step) → MayStep key_at shard s step → IsLegal key_at (sums s) (events step)
-  legal_step (Reserve c place) may = ((some_bytes c.text may.2.1, may.3), tt)
+  legal_step (Reserve c position) may = ((some_bytes c.text may.2.1, may.3), tt)
   legal_step (Charge c size) may =
       ((some_bytes c.text may.2.1, may.3, may.4, (bucket_fits s.doubling s.usage s.limit (length c.text) size (some_bytes c.text may.2.1) may.4).1), tt)
   legal_step (Append c) may = ((lacks_own key_at shard s good c may.0 (ready_none c may.1), may.2), tt)
@@ -213,9 +213,9 @@ module _ {K : Type 0} (key_at : ℕ → Option K) (shard : Text → ℕ) (s : St
   legal_step (Read question) may = tt
 
   pub counted_step : (step : Step) → totals (sums s) (events step) ≡ sums (after shard s step)
-  counted_step (Reserve c place) =
+  counted_step (Reserve c position) =
       ap (λ (bs : List CountedBucket). record (sums s) { buckets = bs })
-      (sym (map_changed (λ (b : RangedBucket). b.bucket) (reserved (length c.text)) (with_taken (length c.text)) (λ b. refl) place s.buckets))
+      (sym (map_changed (λ (b : RangedBucket). b.bucket) (reserved (length c.text)) (with_taken (length c.text)) (λ b. refl) position s.buckets))
   counted_step (Charge c size) =
       ap (λ (bs : List CountedBucket). record (sums s) { buckets = bs; doubling = doubling_after s.doubling s.usage s.limit (length c.text); usage = s.usage + size })
       (sym (map-append (λ (b : RangedBucket). b.bucket) s.buckets (charged size (length c.text) ∷ [])))

@@ -1,8 +1,8 @@
 -- What a walk over a list that was seen has left, and what it gives.
 --
 -- A walk at position n has left what the list has from n on: the text at n, and behind it what a walk at n + 1 has left. Where each
--- position of the list has a key, no text is left out behind its key. So there are as many entries as texts, the keys of the entries
--- are those of their positions, and one who was told the list of a legal history was told its entries.
+-- position of the list has a key, no text is left out behind its key. So there are as many pairs as texts, the keys of the pairs
+-- are those of their positions, and one who was told the list of a legal history was told its pairs.
 use Rattle.std.proofs.Common.{◌≡◌, ℕ, zero, suc, ◌+◌, List, [], ◌∷◌, ◌++◌, length, map, drop, Option, Some, None, Ok, refl, sym, ap, ◌∙◌, subst, append_assoc, arith}
 use Rattle.std.proofs.lemmas.Bool.{true≢false}
 use Rattle.std.proofs.lemmas.Grind.{common_steps}
@@ -13,7 +13,7 @@ use Rattle.lasso_parts.specs.Texts.{Text, Fits}
 use Rattle.lasso_log.specs.History.{History, Totals, totals, IsOpening, IsLegal}
 use Rattle.lasso_log.specs.Replies.{Iterate, Strings, Pairs, Listed, IsWalkOf}
 use Rattle.lasso_log.specs.Calls.{IsCall}
-use Rattle.lasso_shared.specs.Walks.{entries_from}
+use Rattle.lasso_shared.specs.Walks.{pairs_from}
 use Rattle.lasso_log.proofs.Legal.{legal_parts, list_kept}
 
 -- the text at a position and those behind it
@@ -30,28 +30,28 @@ module _ {K : Type 0} (key_at : ℕ → Option K) where
   there None some = absurd (true≢false (sym some))
   there (Some k) some = (k, refl)
 
-  -- behind the first entry stand those of the later positions
-  pub first_entry : (n : ℕ) (t : Text) (ts : List Text) (k : K) → key_at n ≡ Some k → entries_from key_at n (t ∷ ts) ≡ (k, t) ∷ entries_from key_at (n + 1) ts
-  first_entry n t ts k is = rw is refl
+  -- behind the first pair stand those of the later positions
+  pub first_pair : (n : ℕ) (t : Text) (ts : List Text) (k : K) → key_at n ≡ Some k → pairs_from key_at n (t ∷ ts) ≡ (k, t) ∷ pairs_from key_at (n + 1) ts
+  first_pair n t ts k is = rw is refl
 
-  length-entries : (n : ℕ) (ts : List Text) → Fits key_at (n + length ts) → length (entries_from key_at n ts) ≡ length ts
-  length-entries n [] fits = refl
-  length-entries n (t ∷ ts) fits =
+  length-pairs : (n : ℕ) (ts : List Text) → Fits key_at (n + length ts) → length (pairs_from key_at n ts) ≡ length ts
+  length-pairs n [] fits = refl
+  length-pairs n (t ∷ ts) fits =
       let k = there (key_at n) (fits n (omega arith)) in
-      let rest = length-entries (n + 1) ts (λ i below. fits i (omega (arith, below))) in
-      ap length (first_entry n t ts k.0 k.1) ∙ omega (arith, rest)
+      let rest = length-pairs (n + 1) ts (λ i below. fits i (omega (arith, below))) in
+      ap length (first_pair n t ts k.0 k.1) ∙ omega (arith, rest)
 
-  -- as many entries are left as texts
-  pub entries_left : (n : ℕ) (ts : List Text) (entries : List (K × Text)) → entries_from key_at n ts ≡ entries → Fits key_at (n + length ts) → length entries ≡ length ts
-  entries_left n ts entries is fits = sym (ap length is) ∙ length-entries n ts fits
+  -- as many pairs are left as texts
+  pub pairs_left : (n : ℕ) (ts : List Text) (pairs : List (K × Text)) → pairs_from key_at n ts ≡ pairs → Fits key_at (n + length ts) → length pairs ≡ length ts
+  pairs_left n ts pairs is fits = sym (ap length is) ∙ length-pairs n ts fits
 
-  -- where each position has a key the entries are all texts beside their keys
-  pub walk_from : (n : ℕ) (ts : List Text) → Fits key_at (n + length ts) → map {B = Option K × Text} (λ e. (Some e.0, e.1)) (entries_from key_at n ts) ≡ map (λ e. (key_at e.0, e.1)) (enumerate_from n ts)
+  -- where each position has a key the pairs are all texts beside their keys
+  pub walk_from : (n : ℕ) (ts : List Text) → Fits key_at (n + length ts) → map {B = Option K × Text} (λ e. (Some e.0, e.1)) (pairs_from key_at n ts) ≡ map (λ e. (key_at e.0, e.1)) (enumerate_from n ts)
   walk_from n [] fits = refl
   walk_from n (t ∷ ts) fits =
       let k = there (key_at n) (fits n (omega arith)) in
       let rest = walk_from (n + 1) ts (λ i below. fits i (omega (arith, below))) in
-      ap (map {B = Option K × Text} (λ e. (Some e.0, e.1))) (first_entry n t ts k.0 k.1)
+      ap (map {B = Option K × Text} (λ e. (Some e.0, e.1))) (first_pair n t ts k.0 k.1)
       ∙ ap (λ (es : List (Option K × Text)). (Some k.0, t) ∷ es) rest
       ∙ ap (λ (o : Option K). (o, t) ∷ map (λ e. (key_at e.0, e.1)) (enumerate_from (n + 1) ts)) (sym k.1)
 
@@ -67,12 +67,12 @@ module _ {K : Type 0} (key_at : ℕ → Option K) where
         let past = (legal_parts key_at o (before ++ x.0) x.1 (subst (IsLegal key_at o) (sym whole) legal)).0 in
         subst (λ (ts : List Text). Fits key_at (length ts)) (sym told) (list_kept key_at o (before ++ x.0) opens.distinct opens.fits past).1
 
-    -- one who was told the texts was told the entries
-    pub told_entries : IsCall key_at o before after p Iterate (Pairs (entries_from key_at 0 texts))
-    told_entries =
+    -- one who was told the texts was told the pairs
+    pub told_pairs : IsCall key_at o before after p Iterate (Pairs (pairs_from key_at 0 texts))
+    told_pairs =
         let x = c.explained in record {
           past = c.past;
           begins = c.begins;
-          explained = (x.0, x.1, x.2, x.3, subst (λ (ts : List Text). IsWalkOf key_at ts (entries_from key_at 0 texts)) told (walk_from 0 texts (λ i below. told_fit i (omega (arith, below)))));
+          explained = (x.0, x.1, x.2, x.3, subst (λ (ts : List Text). IsWalkOf key_at ts (pairs_from key_at 0 texts)) told (walk_from 0 texts (λ i below. told_fit i (omega (arith, below)))));
           makes = c.makes;
         }

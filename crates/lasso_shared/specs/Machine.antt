@@ -6,7 +6,7 @@ use Rattle.lasso_parts.specs.declared.util.LassoErrorKind.TheVariants.{MemoryLim
 use Rattle.lasso_log.specs.Buckets.{CountedBucket, with_taken, changed_at, HasNoRoom, bucket_size, doubling_after}
 use Rattle.lasso_log.specs.History.{Event, History, Totals}
 use Rattle.lasso_log.specs.Replies.{Keeping, Copied, Static, Question, Intern, Get, Contains, ContainsKey, Resolve, Len, IsEmpty, Usage, MaxUsage, Iterate, Strings, Serialize, Reply, Interned, Found, Flag, Resolved, Number, Pairs, Listed}
-use Rattle.lasso_shared.specs.Walks.{entries_from}
+use Rattle.lasso_shared.specs.Walks.{pairs_from}
 
 -- bytes that were taken in a bucket: where they begin, and how many they are
 pub record Range : Type 0 where
@@ -211,7 +211,7 @@ read key_at shard s Len = Some (Number (length s.texts))
 read key_at shard s IsEmpty = Some (Flag (nat_eq (length s.texts) 0))
 read key_at shard s Usage = Some (Number s.usage)
 read key_at shard s MaxUsage = Some (Number s.limit)
-read key_at shard s Iterate = Some (Pairs (entries_from key_at 0 s.texts))
+read key_at shard s Iterate = Some (Pairs (pairs_from key_at 0 s.texts))
 read key_at shard s Strings = Some (Listed (Ok s.texts))
 read key_at shard s Serialize = Some (Listed (Ok s.texts))
 read key_at shard s question = None

@@ -120,7 +120,7 @@ pub fn offered<K: Key>(
     proposal: Proposal<'_, K>,
     cell_proof: Option<CellProof>,
 ) -> Offer<Note, u64, LogRule<K>, NoGain>
-    requires filed { MatchOption cell_proof (Unit {0}) (λ f. IsCellAt seen.names proposal.position f.0.of f.0.value.items f.1.of × (event_of proposal.change ≡ Append f.1.value.text) × Incl (life (era_named seen.names)) f.1.value.until) }
+    requires cell_proof { MatchOption cell_proof (Unit {0}) (λ f. IsCellAt seen.names proposal.position f.0.of f.0.value.items f.1.of × (event_of proposal.change ≡ Append f.1.value.text) × Incl (life (era_named seen.names)) f.1.value.until) }
     ensures offer { (result.names ≡ seen.names) × (result.ask ≡ note_of (first_number proposal.entry.number.now.numbers) (event_of proposal.entry.change) proposal.entry.position proposal.entry.ticket.now.pen.nib.key proposal.entry.next.now.pen.nib.key) × (result.state ≡ ready cell_proof) }
 {
     match cell_proof {

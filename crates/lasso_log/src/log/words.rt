@@ -142,7 +142,7 @@ impl<K: Key> Log<K> {
         requires sum { numbers.expected + 1 < 2 ^ 64 }
         requires known { IsOpened given.now.log × (opening_of given.now.log ≡ self.now.opening) × IsWord (notes_of given.now.log) numbers.word_index word.now.key }
         requires may { ((ticket : ℕ) → Moving ticket (event_of change) numbers.word_index 1 0) × May K.key_at self.now.opening (notes_of given.now.log) numbers.word_index word.now.key numbers.expected (event_of change) }
-        requires filed { MatchOption cell_proof (IsQuiet (event_of change)) (λ f. IsCellAt self.now.chunks numbers.position f.0.of f.0.value.items f.1.of × (event_of change ≡ Append f.1.value.text) × Incl (life (era_named self.now.chunks)) f.1.value.until × (numbers.word_index ≡ 0) × (word.now.key ≡ 0) × (numbers.position ≡ length self.now.opening.texts + numbers.expected)) }
+        requires cell_proof { MatchOption cell_proof (IsQuiet (event_of change)) (λ f. IsCellAt self.now.chunks numbers.position f.0.of f.0.value.items f.1.of × (event_of change ≡ Append f.1.value.text) × Incl (life (era_named self.now.chunks)) f.1.value.until × (numbers.word_index ≡ 0) × (word.now.key ≡ 0) × (numbers.position ≡ length self.now.opening.texts + numbers.expected)) }
         ensures same { IsSamePass pass.new pass.old }
         ensures done { MatchOption result (pass.new ≡ pass.old) (λ w. (w ≡ word_of self.now.book w.key) × IsDone K.key_at self.now.opening pass.old.number pass.old.notes (notes_of given.now.log) pass.new.notes (event_of change.entry) numbers.word_index word.now.key numbers.expected w.key) }
     {

@@ -136,7 +136,7 @@ impl Holdings {
     ) -> LassoResult<(*mut u8, Tag, Free)>
         requires { 0 < size }
         ensures added { IfOk result (λ r. (self.new ≡ self.old ++ bucket_at r.1.numbers size 0 ∷ []) × ((site_at r.1.numbers).era ≡ era.now.id) × (size < 2 ^ 63)) }
-        ensures place { IfOk result (λ r. r.0 ≡ block_ptr (site_at r.1.numbers).block (site_at r.1.numbers).start) }
+        ensures address { IfOk result (λ r. r.0 ≡ block_ptr (site_at r.1.numbers).block (site_at r.1.numbers).start) }
         ensures right { IfOk result (λ r. IsRightTo r.2 (bucket_at r.1.numbers size 0) size) }
         ensures err { OnErr result (self.new ≡ self.old) }
         ensures refused { IfErr result (λ error. error ≡ FailedAllocation) }

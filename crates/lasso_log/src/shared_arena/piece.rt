@@ -68,7 +68,7 @@ fn address_at(first: *mut u8, start: usize) -> *mut u8
 impl Range {
     /// The right to the `len` places from `start` on of a bucket, whose first place the pointer leads to.
     pub fn new(first: *mut u8, start: usize, len: usize, right: Free) -> Range
-        requires place { (first ≡ block_ptr right.block (count_of first)) × (right.start ≡ count_of first + start) }
+        requires address { (first ≡ block_ptr right.block (count_of first)) × (right.start ≡ count_of first + start) }
         requires count { len ≡ right.len }
         ensures { (result.era ≡ right.era) × (result.block ≡ right.block) × (result.start ≡ right.start) × (result.len ≡ right.len) }
     {

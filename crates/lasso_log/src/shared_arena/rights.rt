@@ -94,7 +94,7 @@ impl Free {
     /// Fills the places with these bytes, which lie there until the era ends.
     pub fn fill(self, era: &Era, ptr: *mut u8, bytes: &[u8]) -> Lent
         requires era { self.era ≡ era.now.id }
-        requires place { ptr ≡ block_ptr self.block self.start }
+        requires address { ptr ≡ block_ptr self.block self.start }
         requires count { length bytes.now ≡ self.len }
         ensures until { result.until ≡ life self.era }
         ensures at { result.at ≡ ptr }
@@ -144,7 +144,7 @@ impl Owed {
     /// The places, once the era is over.
     pub fn take_back(self, ended: &Ended, ptr: *mut u8, len: usize) -> Slots<u8>
         requires era { self.era ≡ ended.now.id }
-        requires place { ptr ≡ block_ptr self.block self.start }
+        requires address { ptr ≡ block_ptr self.block self.start }
         requires count { (self.len ≡ len) × (len < 2 ^ 63) }
         ensures { (slots_ptr result ≡ ptr) × (slots_len result ≡ len) }
     {

@@ -97,13 +97,13 @@ impl<'a, K: Key> Model for Iter<'a, K> {
     ghost use Rattle.std.specs.Prelude.{◌+◌, ◌<◌, ◌^◌, List, length};
     ghost use base.Stored.{coded×, coded_list, coded_ℕ};
     ghost use Rattle.lasso_parts.specs.Texts.{Text, Fits};
-    ghost use Rattle.lasso_shared.specs.Walks.{entries_from};
+    ghost use Rattle.lasso_shared.specs.Walks.{pairs_from};
 
     ghost Value = { List (K × Text) };
 
     ghost coded = { coded_list (coded× K.code (coded_list coded_ℕ)) };
 
-    ghost view = { λ s. entries_from K.key_at s.first s.strings };
+    ghost view = { λ s. pairs_from K.key_at s.first s.strings };
 
     ghost invariant = { λ s. (s.first + length s.strings < 2 ^ 64) × Fits K.key_at (s.first + length s.strings) };
 }
@@ -112,9 +112,9 @@ impl<'a, K: Key> Model for Iter<'a, K> {
 impl<'a, K: Key> Iterator for Iter<'a, K> {
     type Item = (K, &'a str);
 
-    ghost next_gives = { YieldsFirstBy (λ x. (x.0, x.1.now)) (λ entries. entries) };
+    ghost next_gives = { YieldsFirstBy (λ x. (x.0, x.1.now)) (λ pairs. pairs) };
 
-    ghost remaining = { item_count (λ entries. entries) };
+    ghost remaining = { item_count (λ pairs. pairs) };
 
     fn next(&mut self) -> Option<(K, &'a str)> {
         let text = self.strings.next()?;

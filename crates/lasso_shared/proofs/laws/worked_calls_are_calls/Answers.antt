@@ -1,4 +1,4 @@
--- Each call with the place at which its reply is read.
+-- Each call with the history at which its reply is read.
 use Rattle.std.proofs.Common.{◌<◌, ◌+◌, ℕ, List, [], ◌∷◌, refl, inl, inr, arith}
 use Rattle.std.proofs.lemmas.List.Elements.{All-cons, All-nil}
 use Rattle.lasso_log.specs.Buckets.{CountedBucket, HasNoRoom}

@@ -4,7 +4,7 @@ use Rattle.lasso_log.proofs.WalkWords.{◌≡◌, ◌+◌, arith, rewrite, ℕ, 
 use Rattle.boxcar.specs.contracts.slot.Written as Written
 use Rattle.lasso_parts.specs.Texts.{Text}
 use Rattle.lasso_log.specs.Chunks.{IsCellAt, era_named}
-use Rattle.lasso_log.proofs.Lined.{Lined, Filled, grown, fills_place}
+use Rattle.lasso_log.proofs.Lined.{Lined, Filled, grown, fills_position}
 use Rattle.lasso_log.specs.contracts.chunks.facts.Lines as Lines
 use Rattle.lasso_log.specs.contracts.chunks.facts.Lines.push.{ended, clauses}
 use Rattle.lasso_log.specs.contracts.chunks.facts.Lines.push.Key.{name as #self}
@@ -30,9 +30,9 @@ push_spec 𝓤 𝓛 𝓜 𝓡 wired T V _ _ gt dt gv dv _ _ =
     keep ! (3 ∷ 4 ∷ 0 ∷ []) $ heard ! _ (λ at. heard ! _ (λ long. split ! $
     fsplit ! $ move ! (2 ∷ []) $ fsplit ! $ fsplit3 ! $ move ! (3 ∷ []) $ fsplit ! $ fsplit ! $ move ! (2 ∷ []) $ fsplit ! $ fsplit ! $ keep ! (1 ∷ 4 ∷ 6 ∷ 7 ∷ 8 ∷ 9 ∷ []) $
     unhide ! $ fsplit ! $ let_go ! $ move ! (1 ∷ []) $ unhide ! $ fsplit ! $ let_go ! $
-    use2 𝓛 (‵ (Filled 𝓛 V' T' gv.cells gt.meaning gt.lasts me.names n text)) (fills_place 𝓛 V' T' gv.cells gt.meaning gt.lasts me.names n z.of w.of z.value w.value text at refl long) $
+    use2 𝓛 (‵ (Filled 𝓛 V' T' gv.cells gt.meaning gt.lasts me.names n text)) (fills_position 𝓛 V' T' gv.cells gt.meaning gt.lasts me.names n z.of w.of z.value w.value text at refl long) $
     rewrite ! 0 (λ (k : ℕ). ‵ (Filled 𝓛 V' T' gv.cells gt.meaning gt.lasts me.names k text)) here refl $
-    -- [the new place; the lines, in two parts; the token of their lifetime; the other tokens]
+    -- [the new position; the lines, in two parts; the token of their lifetime; the other tokens]
     enter ! 𝓣.C 𝓣.Λ fn (vptr b o ∷ p ∷ p' ∷ []) Post $ alloc_all ! (λ l. pass_all ! refl ((tt, tt), ((tt, tt), ((tt, tt), tt))) $
     move ! (1 ∷ 2 ∷ 3 ∷ []) $ opens ! tt Y b o (λ ts. move ! (1 ∷ []) $ fsplit ! $ move ! (1 ∷ 6 ∷ []) $
     use2 𝓛 (‵ (Put (me.texts ++ text ∷ []))) (grown 𝓛 V' T' gv.cells gt.meaning gt.lasts me.names 0 me.texts text) $

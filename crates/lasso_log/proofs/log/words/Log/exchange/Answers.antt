@@ -8,7 +8,7 @@ use Rattle.lasso_log.specs.Chunks.{IsCellAt, era_named, first_number}
 use Rattle.lasso_log.specs.Eras.{life}
 use Rattle.lasso_log.specs.Events.{event_of, note_of}
 use Rattle.lasso_log.proofs.Histories.{prefix_trans}
-use Rattle.lasso_log.proofs.Lengths.{lets_filed}
+use Rattle.lasso_log.proofs.Lengths.{lets_cell_proof}
 use Rattle.lasso_log.proofs.Logs.{add_opened, opening_first, added}
 use Rattle.lasso_log.proofs.log.words.Log.exchange.Given.{Over}
 use Rattle.lasso_log.proofs.log.words.Log.exchange.Goals as goal
@@ -32,8 +32,8 @@ compare_exchange-found-requires g c =
     let may : May g.K.Key.key_at (opening_of gl) (notes_of gl) c.args.numbers.word_index c.args.word.now.key c.args.numbers.expected e.event = rw (c.requires.known.1, event) c.requires.may.1 in
     let opening : (first_note gl).opening ≡ c.args.self.now.opening = sym (opening_first gl) ∙ c.requires.known.1 in
     let lets : Lets g.K.Key.key_at (first_note gl) (notes_of gl) c.args.numbers.word_index c.args.word.now.key c.args.numbers.expected e c.offered-offer.result.state =
-    rw (offer.1, offer.2) (lets_filed g.K.Key.key_at (first_note gl) (notes_of gl) (note_of (first_number c.pass.inside.number.numbers) (event_of c.args.change) c.args.numbers.position c.set.new.self.pen.nib.key c.pass.inside.next.pen.nib.key) c.args.numbers.word_index c.args.word.now.key c.args.numbers.expected c.args.cell_proof
-    (λ f. f.1.value.text) (λ f. IsCellAt c.args.self.now.chunks c.args.numbers.position f.0.of f.0.value.items f.1.of) (λ f. Incl (life (era_named c.args.self.now.chunks)) f.1.value.until) refl (rw opening c.requires.filed)) in (
+    rw (offer.1, offer.2) (lets_cell_proof g.K.Key.key_at (first_note gl) (notes_of gl) (note_of (first_number c.pass.inside.number.numbers) (event_of c.args.change) c.args.numbers.position c.set.new.self.pen.nib.key c.pass.inside.next.pen.nib.key) c.args.numbers.word_index c.args.word.now.key c.args.numbers.expected c.args.cell_proof
+    (λ f. f.1.value.text) (λ f. IsCellAt c.args.self.now.chunks c.args.numbers.position f.0.of f.0.value.items f.1.of) (λ f. Incl (life (era_named c.args.self.now.chunks)) f.1.value.until) refl (rw opening c.requires.cell_proof)) in (
       ap (λ w. w.tracked) c.requires.of.2,
       c.learn-2.ensures.0 ∙ (self ∙ word),
       set.0 ∙ (i.0.1 ∙ (ap (λ s. s.of.book) c.pass.view_is ∙ (ap (λ o. o.book) c.requires.of.0 ∙ word))),

@@ -28,8 +28,8 @@ exchange-requires-clause-may g c =
     let small : length o.texts + c.spine.inside.appended + 1 < 2 ^ 64 = omega (arith, opening, some, c.spine.invariant.1, c.spine.invariant.3) in
     (λ t. moving_append t c.args.text.now 0, rw (ap (λ w. w.key) c.self.invariant.0) (may_append g.K.Key.key_at o v c.args.text.now c.spine.inside.appended (length_of o v 0 c.spine.inside.appended c.spine.invariant.2.0) small legal))
 
-pub exchange-requires-clause-filed : goal.exchange-requires-clause-filed
-exchange-requires-clause-filed g c =
+pub exchange-requires-clause-cell_proof : goal.exchange-requires-clause-cell_proof
+exchange-requires-clause-cell_proof g c =
     let o = c.args.self.now.opening in
     let v = notes_of c.spine.inside.seen.log in
     let first : c.spine.inside.first ≡ length o.texts = c.spine.invariant.1 ∙ (ap (λ s. length s.of.opening.texts) c.spine.view_is ∙ ap (λ of. length of.opening.texts) c.requires.of.1) in

@@ -57,7 +57,7 @@ fill_spec 𝓤 𝓛 𝓜 𝓡 wired =
     let OfEra : Type 0 = era ≡ a.1.0.now.id in let At : Type 0 = ptr ≡ block_ptr b o in let Count : Type 0 = n ≡ me.len in
     let zeros : List ℕ = replicate n 0 in let marks : List Bool = replicate (length zeros) false in
     let long : n ≡ length zeros = sym (length-replicate n 0) in let counted : n ≡ length marks = long ∙ sym (length-replicate (length zeros) false) in
-    let place : Val = vptr a.1.0.ref_ptr.0 a.1.0.ref_ptr.1 in let slice : Val = slice_val x.ref_ptr n in
+    let address : Val = vptr a.1.0.ref_ptr.0 a.1.0.ref_ptr.1 in let slice : Val = slice_val x.ref_ptr n in
     let number : WT (row_val b o n) = (tt, (record { fits = fits }, tt)) in
     qed 𝓛 (((‵ (flft κ q) ⊛ ‵ (flft κ' q') ⊛ ‵ ftrue) ⊛ ‵ (owns (types_at f.ended.signature.params κs) a y.0.4)) ∷ (raw (fact 𝓤 OfEra) ⊛ raw (fact 𝓤 At) ⊛ raw (fact 𝓤 Count)) ∷ []) ∵
     move ! (1 ∷ []) $ split ! $ heard ! OfEra (λ of_era. split ! $ heard ! At (λ at. heard ! Count (λ count. split ! $ split ! $ move ! (1 ∷ []) $ split ! $ move ! (3 ∷ []) $
@@ -65,7 +65,7 @@ fill_spec 𝓤 𝓛 𝓜 𝓡 wired =
     fsplit ! $ fsplit ! $ let_go ! $ move ! (1 ∷ []) $ fsplit ! $ fsplit ! $ let_go ! $ unhide ! $ fsplit ! $ let_go ! $ move ! (1 ∷ []) $ fsplit ! $ let_go ! $ fsplit ! $ fsplit ! $ let_go ! $
     -- [a `&` to each byte; nothing; that the `&` lasts; the right; the token of the bytes; nothing; the token of the `&` to the era]
     keep ! (2 ∷ 6 ∷ 3 ∷ 0 ∷ 4 ∷ []) $ rewrite ! 0 (λ (e : ℕ). ‵ (lasts e κ)) (sym of_era) refl $ rewrite ! 2 (λ (m : ℕ). ‵ (free era b o m)) (sym count) refl $
-    regoal ! (λ (v : Val). prop (WpFn 𝓤 H 𝓣.C 𝓣.Λ code.function (token ∷ place ∷ v ∷ slice ∷ []) (W.post y))) (ap ptr_val at) refl $
+    regoal ! (λ (v : Val). prop (WpFn 𝓤 H 𝓣.C 𝓣.Λ code.function (token ∷ address ∷ v ∷ slice ∷ []) (W.post y))) (ap ptr_val at) refl $
     enter ! _ _ _ _ _ $ alloc_all ! (λ l. pass_all ! refl ((tt, (tt, tt)), ((tt, tt), ((tt, tt), ((tt, (tt, (record { fits = fits }, tt))), tt)))) $ let En = env code.Mir.locals l in
     shr_bor-open ! tt (tokens_halve 𝓛 (life era)) (λ r.
     -- [the open borrow of the token; a part of the era's token; the right; a `&` to each byte; the token of the bytes]

@@ -43,13 +43,13 @@ take_back_spec 𝓤 𝓛 𝓜 𝓡 wired =
     let OfEra : Type 0 = era ≡ a.1.0.now.id in let At : Type 0 = ptr ≡ block_ptr b o in let Count : Type 0 = (me.len ≡ n) × (n < 2 ^ 63) in
     let zeros : List ℕ = replicate n 0 in let marks : List Bool = replicate (length zeros) false in
     let long : n ≡ length zeros = sym (length-replicate n 0) in let counted : n ≡ length marks = long ∙ sym (length-replicate (length zeros) false) in
-    let place : Val = vptr a.1.0.ref_ptr.0 a.1.0.ref_ptr.1 in let number : WT (row_val b o n) = (tt, (record { fits = fits }, tt)) in
+    let address : Val = vptr a.1.0.ref_ptr.0 a.1.0.ref_ptr.1 in let number : WT (row_val b o n) = (tt, (record { fits = fits }, tt)) in
     qed 𝓛 (((‵ (flft κ q) ⊛ ‵ ftrue) ⊛ ‵ (owns (types_at f.ended.signature.params κs) a y.0.4)) ∷ (raw (fact 𝓤 OfEra) ⊛ raw (fact 𝓤 At) ⊛ raw (fact 𝓤 Count)) ∷ []) ∵
     move ! (1 ∷ []) $ split ! $ heard ! OfEra (λ of_era. split ! $ heard ! At (λ at. heard ! Count (λ count. split ! $ split ! $ move ! (2 ∷ []) $
     fsplit ! $ fsplit ! $ let_go ! $ move ! (1 ∷ []) $ fsplit ! $ fsplit ! $ let_go ! $ unhide ! $ fsplit ! $ let_go ! $
     -- [that the era is over; the numbers; the right; the token of the `&`]
     keep ! (0 ∷ 2 ∷ 3 ∷ []) $ rewrite ! 0 (λ (e : ℕ). ‵ (fdead (life e))) (sym of_era) refl $ rewrite ! 1 (λ (m : ℕ). ‵ (owed era b o m)) count.0 refl $
-    regoal ! (λ (v : Val). prop (WpFn 𝓤 H 𝓣.C 𝓣.Λ code.function (token ∷ place ∷ v ∷ vint w64 n ∷ []) (W.post y))) (ap ptr_val at) refl $
+    regoal ! (λ (v : Val). prop (WpFn 𝓤 H 𝓣.C 𝓣.Λ code.function (token ∷ address ∷ v ∷ vint w64 n ∷ []) (W.post y))) (ap ptr_val at) refl $
     enter ! _ _ _ _ _ $ alloc_all ! (λ l. pass_all ! refl ((tt, (tt, tt)), ((tt, tt), ((tt, tt), ((tt, record { fits = fits }), tt)))) $ let En = env code.Mir.locals l in
     use2 𝓛 (later (‵ (Space 𝓛 era b o n))) (gets_back 𝓛 era b n o) $ await ! tt $
     rewrite ! 0 (λ (k : ℕ). ‵ (Space 𝓛 era b o k)) long refl $ use1 𝓛 (‵ (slots u8 (block_ptr b o) zeros marks)) (of_room byte 𝓛 b zeros o) $

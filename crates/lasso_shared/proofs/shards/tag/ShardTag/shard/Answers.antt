@@ -52,11 +52,11 @@ loop-position-preserved g c =
           let room = w.in_ok-reserve_one.ensures in
           let filed : IsFiled hash_of texts w.reserve_one.new.self = subst (λ (ts : List Text). IsFiled hash_of ts w.reserve_one.new.self) is room.filed in
           let ready = grown hash_of number texts distinct n c.loop-position.index w.reserve_one.new.self i.exact filed room.same in
-          let place = (g.met.K.Key.made n w.unwrap.result (sym w.try_from_usize.ensures ∙ w.unwrap.ensures)).2 in
+          let position = (g.met.K.Key.made n w.unwrap.result (sym w.try_from_usize.ensures ∙ w.unwrap.ensures)).2 in
           let its = is_its hash_of number c.number_of.result hash at.0 at.2 c.number_of.ensures.0 w.if-number_of-self.true in
           let put = w.insert_reserved.ensures in record {
             exact = subst (λ (x : Table). IsShardOf hash_of number (take (n + 1) texts) x) (sym w.index-is)
-                (entered hash_of number texts distinct n (g.K.Key.number w.unwrap.result) hash at.0 w.reserve_one.new.self w.insert_reserved.new.self place at.1 its at.2 ready put.holds put.filed);
+                (entered hash_of number texts distinct n (g.K.Key.number w.unwrap.result) hash at.0 w.reserve_one.new.self w.insert_reserved.new.self position at.1 its at.2 ready put.holds put.filed);
             counts = w.count-is ∙ counted_one hash_of number texts distinct n c.loop-position.count at.0 at.1 its i.counts;
           }
       | else-number_of-self w ↦
