@@ -1,18 +1,21 @@
 //! Shards that stand apart, hashers that put all texts into one, and slots that are given back.
-ghost use Rattle.std.specs.Prelude.{◌≡◌};
+ghost use Rattle.std.specs.Prelude.{◌<◌};
 
 mod armed;
 mod copied;
 mod writers;
 
+use crate::calls::{answered, found, hashed, kept, len};
 use crate::hashers::{FirstState, SameState};
 use lasso_log::log::Opened;
 use lasso_parts::index::hash_text;
 use lasso_parts::keys::{Key, MicroSpur, Spur};
-use lasso_parts::util::{FixedState, LassoErrorKind};
+use lasso_parts::util::{FixedState, LassoErrorKind, LassoResult};
 use lasso_shared::shards::Shards;
 use lasso_shared::shards::tag::number_of;
 use lasso_shared::threaded::ThreadedRodeo;
+use lasso_single::reader::RodeoReader;
+use std::alloc::Global;
 use std::hash::BuildHasher;
 use std::process::Abort;
 use std::sync::Wait;
@@ -67,6 +70,21 @@ fn is_seen(flag: &AtomicU64) -> bool {
     false
 }
 
+// An interner that holds nothing, with such a hasher.
+fn opened<K: Key, S: BuildHasher + Drop>(alloc: Global, hasher: S) -> Result<Shards<K, S>, Fail> {
+    Ok(Shards::open(alloc, hasher, OPENED)?)
+}
+
+// The number of a static text that a new pass interns.
+fn intern_static<K: Key, S: BuildHasher + Drop, R: Wait>(
+    rt: &R,
+    shards: &Shards<K, S>,
+    text: &'static str,
+) -> LassoResult<usize> {
+    let mut pass = shards.log.pass();
+    Ok(shards.intern_static(rt, &mut pass, text)?.into_usize())
+}
+
 // Interns the text, and then sets the flag.
 fn intern_and_set<S: BuildHasher + Drop, R: Wait>(
     rt: &R,
@@ -74,27 +92,43 @@ fn intern_and_set<S: BuildHasher + Drop, R: Wait>(
     text: &'static str,
     flag: &AtomicU64,
 ) {
-    let mut pass = shards.log.pass();
-    if shards.intern_static(rt, &mut pass, text).is_ok() {
+    if intern_static(rt, shards, text).is_ok() {
         flag.store(1, Ordering::SeqCst);
     }
+}
+
+// Whether the flag is set by who interns the text while the shard of this number is held.
+fn is_set_beside_a_writer<S: BuildHasher + Drop, R: Threads + Wait + Sync>(
+    rt: &R,
+    shards: &Shards<Spur, S>,
+    number: usize,
+    text: &'static str,
+) -> bool
+    requires { number < 16 }
+{
+    let flag = AtomicU64::new(0);
+    let (guard, shard) = shards.lock(number).take(rt);
+    let (seen, ()) = join(
+        rt,
+        || is_seen(&flag),
+        || intern_and_set(rt, shards, text, &flag),
+    );
+    guard.give(rt, shard);
+    seen
+}
+
+// The shard of the text.
+fn shard_of(hasher: &FirstState, text: &str) -> usize {
+    number_of(hash_text(hasher, text))
 }
 
 #[test]
 fn shards_apart(rt: HostRuntime) -> Result<(), Fail> {
     let hasher = FirstState::new();
-    assert!(rt; number_of(hash_text(&hasher, "0")) == 3);
-    assert!(rt; number_of(hash_text(&hasher, "a")) == 6);
-    let shards = Shards::open(rt.alloc(), hasher, OPENED)?;
-    let flag = AtomicU64::new(0);
-    let (guard, shard) = shards.lock(3).take(&rt);
-    let (seen, ()) = join(
-        &rt,
-        || is_seen(&flag),
-        || intern_and_set(&rt, &shards, "a", &flag),
-    );
-    guard.give(&rt, shard);
-    assert!(rt; seen);
+    assert!(rt; shard_of(&hasher, "0") == 3);
+    assert!(rt; shard_of(&hasher, "a") == 6);
+    let shards = opened(rt.alloc(), hasher)?;
+    assert!(rt; is_set_beside_a_writer(&rt, &shards, 3, "a"));
     Ok(())
 }
 
@@ -114,20 +148,31 @@ fn find_and_set<S: BuildHasher + Drop, R: Wait>(
     }
 }
 
-#[test]
-fn a_text_that_is_there_is_found_beside_readers(rt: HostRuntime) -> Result<(), Fail> {
-    let shards = Shards::open(rt.alloc(), FirstState::new(), OPENED)?;
-    let mut pass = shards.log.pass();
-    shards.intern_static(&rt, &mut pass, "0")?;
+// Whether the flag is set by who finds the text while the shard of this number is read.
+fn is_set_beside_a_reader<S: BuildHasher + Drop, R: Threads + Wait + Sync>(
+    rt: &R,
+    shards: &Shards<Spur, S>,
+    number: usize,
+    text: &'static str,
+) -> bool
+    requires { number < 16 }
+{
     let flag = AtomicU64::new(0);
-    let reading = shards.lock(3).read(&rt);
+    let reading = shards.lock(number).read(rt);
     let (seen, ()) = join(
-        &rt,
+        rt,
         || is_seen(&flag),
-        || find_and_set(&rt, &shards, "0", &flag),
+        || find_and_set(rt, shards, text, &flag),
     );
     reading.leave();
-    assert!(rt; seen);
+    seen
+}
+
+#[test]
+fn a_text_that_is_there_is_found_beside_readers(rt: HostRuntime) -> Result<(), Fail> {
+    let shards = opened(rt.alloc(), FirstState::new())?;
+    intern_static(&rt, &shards, "0")?;
+    assert!(rt; is_set_beside_a_reader(&rt, &shards, 3, "0"));
     Ok(())
 }
 
@@ -138,49 +183,60 @@ fn in_order<S: BuildHasher + Drop, R: Wait>(
     texts: &[&'static str],
 ) -> bool {
     for position in 0..texts.len() {
-        match shared.try_get_or_intern_static(rt, texts[position]) {
-            Ok(key) if key.into_usize() == position => {}
+        match kept(rt, shared, texts[position]) {
+            Ok(number) if number == position => {}
             _ => return false,
         }
     }
     for position in 0..texts.len() {
-        match shared.get(rt, texts[position]) {
-            Some(key) if key.into_usize() == position => {}
-            _ => return false,
+        if found(rt, shared, texts[position]) != Some(position) {
+            return false;
         }
     }
     true
 }
 
+// Whether the reader has these texts at their positions, and no other.
+fn has_just<S: BuildHasher + Drop>(
+    reader: &RodeoReader<Spur, S, Global>,
+    texts: &[&str],
+    other: &str,
+) -> bool {
+    for position in 0..texts.len() {
+        match reader.get(texts[position]) {
+            Some(key) if key.into_usize() == position => {}
+            _ => return false,
+        }
+    }
+    reader.len() == texts.len() && reader.get(other).is_none()
+}
+
+// The frozen interner.
+fn frozen<S: BuildHasher + Drop, R: Wait>(
+    rt: &R,
+    shared: ThreadedRodeo<Spur, S>,
+) -> LassoResult<RodeoReader<Spur, S, Global>> {
+    shared.into_reader(rt)
+}
+
 #[test]
 fn constant_hash(rt: HostRuntime) -> Result<(), Fail> {
-    let shared: ThreadedRodeo<Spur, SameState> = ThreadedRodeo::with_hasher(
-        rt.alloc(),
-        SameState::new(),
-    )?;
+    let shared: ThreadedRodeo<Spur, SameState> = hashed(rt.alloc())?;
     assert!(rt; in_order(&rt, &shared, &TEXTS));
-    assert!(rt; shared.get(&rt, "300") == None);
-    assert!(rt; shared.len() == 300);
-    let reader = shared.into_reader(&rt)?;
-    assert!(rt; reader.len() == 300);
-    for position in 0..TEXTS.len() {
-        let found = reader.get(TEXTS[position]).ok_or("not there")?;
-        assert!(rt; found.into_usize() == position);
-    }
-    assert!(rt; reader.get("300").is_none());
+    assert!(rt; found(&rt, &shared, "300") == None);
+    assert!(rt; len(&shared) == 300);
+    let reader = frozen(&rt, shared)?;
+    assert!(rt; has_just(&reader, &TEXTS, "300"));
     Ok(())
 }
 
 #[test]
 fn texts_of_one_shard_and_of_others(rt: HostRuntime) -> Result<(), Fail> {
-    let shared: ThreadedRodeo<Spur, FirstState> = ThreadedRodeo::with_hasher(
-        rt.alloc(),
-        FirstState::new(),
-    )?;
+    let shared: ThreadedRodeo<Spur, FirstState> = hashed(rt.alloc())?;
     assert!(rt; in_order(&rt, &shared, &TEXTS));
     assert!(rt; in_order(&rt, &shared, &TEXTS));
-    assert!(rt; shared.get(&rt, "a") == None);
-    assert!(rt; shared.len() == 300);
+    assert!(rt; found(&rt, &shared, "a") == None);
+    assert!(rt; len(&shared) == 300);
     Ok(())
 }
 
@@ -198,37 +254,37 @@ fn number<K: Key, R: Wait>(
     shards: &Shards<K, FixedState>,
     text: &'static str,
 ) -> Result<usize, LassoErrorKind> {
-    let mut pass = shards.log.pass();
-    let mut reply = shards.intern_static(rt, &mut pass, text);
-    if let Err(error) = &reply
-        && error.kind() == LassoErrorKind::FailedAllocation
-        && kept_slots(rt, shards) == 0
-    {
-        let mut again = shards.log.pass();
-        reply = shards.intern_static(rt, &mut again, text);
+    match answered(intern_static(rt, shards, text)) {
+        Err(LassoErrorKind::FailedAllocation) if kept_slots(rt, shards) == 0 => {
+            answered(intern_static(rt, shards, text))
+        }
+        reply => reply,
     }
-    match reply {
-        Ok(key) => Ok(key.into_usize()),
-        Err(error) => Err(error.kind()),
+}
+
+// Whether the first texts, so many of them, get their positions as their numbers.
+fn takes_first<K: Key, R: Wait>(rt: &R, shards: &Shards<K, FixedState>, count: usize) -> bool {
+    let mut position: usize = 0;
+    for text in TEXTS.iter().take(count) {
+        if number(rt, shards, *text) != Ok(position) {
+            return false;
+        }
+        position = position.saturating_add(1);
     }
+    position == count
 }
 
 #[test]
 fn a_refused_text_gives_its_slot_back(rt: HostRuntime) -> Result<(), Fail> {
-    let shards: Shards<MicroSpur, FixedState> = Shards::open(
-        rt.alloc(),
-        FixedState::new(),
-        OPENED,
-    )?;
-    for position in 0..255usize {
-        assert!(rt; number(&rt, &shards, TEXTS[position]) == Ok(position));
+    let shards: Shards<MicroSpur, FixedState> = opened(rt.alloc(), FixedState::new())?;
+    assert!(rt; takes_first(&rt, &shards, 255));
+    assert!(rt; kept_slots(&rt, &shards) == 0);
+    // no number is left for another text nor for the empty one
+    for text in ["255", ""] {
+        assert!(rt; number(&rt, &shards, text) == Err(LassoErrorKind::KeySpaceExhaustion));
+        assert!(rt; kept_slots(&rt, &shards) == 0);
     }
-    assert!(rt; kept_slots(&rt, &shards) == 0);
-    assert!(rt; number(&rt, &shards, TEXTS[255]) == Err(LassoErrorKind::KeySpaceExhaustion));
-    assert!(rt; kept_slots(&rt, &shards) == 0);
-    // no number is left for the empty text either, and the texts that are there keep theirs
-    assert!(rt; number(&rt, &shards, "") == Err(LassoErrorKind::KeySpaceExhaustion));
-    assert!(rt; kept_slots(&rt, &shards) == 0);
-    assert!(rt; number(&rt, &shards, TEXTS[0]) == Ok(0));
+    // and the texts that are there keep theirs
+    assert!(rt; number(&rt, &shards, "000") == Ok(0));
     Ok(())
 }

@@ -16,6 +16,9 @@ mod looking;
 mod passes;
 mod walking;
 
+use crate::calls::{
+    Shared, hashed, kept_as, len_as, made, pass_of, seen_by, stands_for, text_at_as,
+};
 use lasso_log::log::Pass;
 use lasso_parts::keys::{Key, Spur};
 use lasso_parts::util::{FixedState, LassoErrorKind, LassoResult};
@@ -103,14 +106,11 @@ const SECOND: [&str; 100] = [
 ];
 
 // Interns these texts, and tells whether each was accepted.
-fn fill<R: Wait>(rt: &R, shared: &ThreadedRodeo<Spur, FixedState>, texts: &[&'static str]) -> bool {
-    let mut pass = shared.pass();
+fn fill<R: Wait>(rt: &R, shared: &Shared, texts: &[&'static str]) -> bool {
+    let mut pass = pass_of(shared);
     let mut all = true;
     for text in texts.iter() {
-        if shared
-            .try_get_or_intern_static_as(rt, &mut pass, *text)
-            .is_err()
-        {
+        if kept_as(rt, shared, &mut pass, *text).is_err() {
             all = false;
         }
     }
@@ -127,21 +127,20 @@ fn number<K: Key, R: Wait>(
     requires { pass.old.of ≡ shared.now }
     ensures { pass.new.of ≡ pass.old.of }
 {
-    match shared.try_get_or_intern_static_as(rt, pass, text) {
+    match kept_as(rt, shared, pass, text) {
         Ok(key) => Ok(key.into_usize()),
         Err(error) => Err(error.kind()),
     }
 }
 
 // How many of the texts stand in the list, each past the one before it.
-fn in_order(shared: &ThreadedRodeo<Spur, FixedState>, texts: &[&str]) -> usize {
-    let mut pass = shared.pass();
+fn in_order(shared: &Shared, texts: &[&str]) -> usize {
+    let mut pass = pass_of(shared);
     let mut found: usize = 0;
     for position in 0..200usize {
         if let Some(key) = Spur::try_from_usize(position)
-            && let Some(text) = shared.try_resolve_as(&mut pass, key)
             && found < texts.len()
-            && text == texts[found]
+            && stands_for(shared, &mut pass, key, texts[found])
         {
             found += 1;
         }
@@ -151,36 +150,29 @@ fn in_order(shared: &ThreadedRodeo<Spur, FixedState>, texts: &[&str]) -> usize {
 
 #[test]
 fn two_threads_append(rt: HostRuntime) -> Result<(), Fail> {
-    let shared = ThreadedRodeo::default(rt.alloc())?;
+    let shared = made(rt.alloc())?;
     let (a, b) = join(
         &rt,
         || fill(&rt, &shared, &FIRST),
         || fill(&rt, &shared, &SECOND),
     );
     assert!(rt; a && b);
-    let mut pass = shared.pass();
-    assert!(rt; shared.len_as(&mut pass) == 200);
+    assert!(rt; len_as(&shared) == 200);
     // 100 texts of each thread at 200 positions: each stands once, in its thread's order
     assert!(rt; in_order(&shared, &FIRST) == 100);
     assert!(rt; in_order(&shared, &SECOND) == 100);
-    let mut past = shared.pass();
-    let key = Spur::try_from_usize(200).ok_or("no key")?;
-    assert!(rt; shared.try_resolve_as(&mut past, key) == None);
+    assert!(rt; text_at_as(&shared, 200)? == None);
     Ok(())
 }
 
 // Interns the texts, and asks again where one was refused. Tells whether each refusal was for want of memory and
 // left the list as it was, and whether each text got the next number.
-fn takes_all<R: Wait>(
-    rt: &R,
-    shared: &ThreadedRodeo<Spur, FixedState>,
-    texts: &[&'static str],
-) -> bool {
-    let mut pass = shared.pass();
+fn takes_all<R: Wait>(rt: &R, shared: &Shared, texts: &[&'static str]) -> bool {
+    let mut pass = pass_of(shared);
     for position in 0..texts.len() {
         let mut found = number(rt, shared, &mut pass, texts[position]);
         if found == Err(LassoErrorKind::FailedAllocation) {
-            if shared.len_as(&mut pass) != position {
+            if seen_by(shared, &mut pass) != position {
                 return false;
             }
             found = number(rt, shared, &mut pass, texts[position]);
@@ -194,7 +186,7 @@ fn takes_all<R: Wait>(
 
 #[test]
 fn a_text_that_was_refused_once_is_taken_later(rt: HostRuntime) -> Result<(), Fail> {
-    let shared = ThreadedRodeo::default(rt.alloc())?;
+    let shared = made(rt.alloc())?;
     assert!(rt; takes_all(&rt, &shared, &FIRST));
     assert!(rt; in_order(&shared, &FIRST) == 100);
     Ok(())
@@ -202,11 +194,8 @@ fn a_text_that_was_refused_once_is_taken_later(rt: HostRuntime) -> Result<(), Fa
 
 #[test]
 fn keys_used_up_refuse_new_texts_alone(rt: HostRuntime) -> Result<(), Fail> {
-    let shared: ThreadedRodeo<Two, FixedState> = ThreadedRodeo::with_hasher(
-        rt.alloc(),
-        FixedState::new(),
-    )?;
-    let mut pass = shared.pass();
+    let shared: ThreadedRodeo<Two, FixedState> = hashed(rt.alloc())?;
+    let mut pass = pass_of(&shared);
     assert!(rt; number(&rt, &shared, &mut pass, "p") == Ok(0));
     assert!(rt; number(&rt, &shared, &mut pass, "q") == Ok(1));
     assert!(rt; number(&rt, &shared, &mut pass, "r") == Err(LassoErrorKind::KeySpaceExhaustion));
@@ -215,22 +204,17 @@ fn keys_used_up_refuse_new_texts_alone(rt: HostRuntime) -> Result<(), Fail> {
 }
 
 // Interns `x` and a text of its own, and gives the number of `x` where both keys stand for their texts.
-fn meets<R: Wait>(
-    rt: &R,
-    shared: &ThreadedRodeo<Spur, FixedState>,
-    own: &'static str,
-) -> LassoResult<Option<usize>> {
-    let mut pass = shared.pass();
-    let x = shared.try_get_or_intern_static_as(rt, &mut pass, "x")?;
-    let mine = shared.try_get_or_intern_static_as(rt, &mut pass, own)?;
-    let both = shared.try_resolve_as(&mut pass, x) == Some("x")
-        && shared.try_resolve_as(&mut pass, mine) == Some(own);
+fn meets<R: Wait>(rt: &R, shared: &Shared, own: &'static str) -> LassoResult<Option<usize>> {
+    let mut pass = pass_of(shared);
+    let x = kept_as(rt, shared, &mut pass, "x")?;
+    let mine = kept_as(rt, shared, &mut pass, own)?;
+    let both = stands_for(shared, &mut pass, x, "x") && stands_for(shared, &mut pass, mine, own);
     Ok(if both { Some(x.into_usize()) } else { None })
 }
 
 #[test]
 fn a_text_of_two_threads_has_one_key(rt: HostRuntime) -> Result<(), Fail> {
-    let shared = ThreadedRodeo::default(rt.alloc())?;
+    let shared = made(rt.alloc())?;
     let (a, b) = join(
         &rt,
         || meets(&rt, &shared, "a"),
@@ -239,7 +223,6 @@ fn a_text_of_two_threads_has_one_key(rt: HostRuntime) -> Result<(), Fail> {
     let (a, b) = (a?, b?);
     assert!(rt; a.is_some());
     assert!(rt; a == b);
-    let mut pass = shared.pass();
-    assert!(rt; shared.len_as(&mut pass) == 3);
+    assert!(rt; len_as(&shared) == 3);
     Ok(())
 }

@@ -1,7 +1,8 @@
 //! Copied texts: what they take of the buckets, and what refuses them.
 ghost use Rattle.std.specs.Prelude.{◌≢◌};
 
-use super::{TEXTS, kept_slots};
+use super::{TEXTS, kept_slots, takes_first};
+use crate::calls::answered;
 use lasso_log::log::Opened;
 use lasso_parts::keys::{Key, MicroSpur, Spur};
 use lasso_parts::util::{FixedState, LassoErrorKind, LassoResult};
@@ -29,6 +30,16 @@ fn set_limit<K: Key, R: Wait>(rt: &R, shards: &Shards<K, FixedState>, limit: u64
     shards.set_limit(rt, &mut pass, limit);
 }
 
+// The number of a copied text that a new pass interns.
+fn intern_copied<K: Key, R: Wait>(
+    rt: &R,
+    shards: &Shards<K, FixedState>,
+    text: &str,
+) -> LassoResult<usize> {
+    let mut pass = shards.log.pass();
+    Ok(shards.intern_copied(rt, &mut pass, text)?.into_usize())
+}
+
 // The number of an interned text, or why it was refused. It is asked for again where memory was wanting, which kept no slot and took no
 // byte.
 fn number<K: Key, R: Wait>(
@@ -37,32 +48,46 @@ fn number<K: Key, R: Wait>(
     text: &str,
 ) -> Result<usize, LassoErrorKind> {
     let before = usage(rt, shards);
-    let mut pass = shards.log.pass();
-    let mut reply = shards.intern_copied(rt, &mut pass, text);
-    if let Err(error) = &reply
-        && error.kind() == LassoErrorKind::FailedAllocation
-        && kept_slots(rt, shards) == 0
-        && usage(rt, shards) == before
-    {
-        let mut again = shards.log.pass();
-        reply = shards.intern_copied(rt, &mut again, text);
+    match answered(intern_copied(rt, shards, text)) {
+        Err(LassoErrorKind::FailedAllocation)
+            if kept_slots(rt, shards) == 0 && usage(rt, shards) == before => {
+            answered(intern_copied(rt, shards, text))
+        }
+        reply => reply,
     }
-    match reply {
-        Ok(key) => Ok(key.into_usize()),
-        Err(error) => Err(error.kind()),
+}
+
+// Whether copies of the first texts, so many of them, get their positions as their numbers.
+fn takes_first_copies<K: Key, R: Wait>(
+    rt: &R,
+    shards: &Shards<K, FixedState>,
+    count: usize,
+) -> bool {
+    let mut position: usize = 0;
+    for text in TEXTS.iter().take(count) {
+        if number(rt, shards, *text) != Ok(position) {
+            return false;
+        }
+        position = position.saturating_add(1);
     }
+    position == count
+}
+
+// How many bytes the third bucket has.
+fn last_bucket<R: Wait>(rt: &R, shards: &Shards<Spur, FixedState>) -> u64 {
+    let last = shards.buckets.find(rt, &shards.log, 2);
+    last.capacity()
 }
 
 #[test]
 fn bytes_are_taken_where_a_bucket_has_room(rt: HostRuntime) -> Result<(), Fail> {
     let shards: Shards<Spur, FixedState> = opens(rt.alloc(), 4, u64::MAX)?;
-    assert!(rt; number(&rt, &shards, "abc") == Ok(0));
-    assert!(rt; usage(&rt, &shards) == 4);
-    assert!(rt; number(&rt, &shards, "defghijk") == Ok(1));
-    assert!(rt; usage(&rt, &shards) == 12);
-    // the first bucket has room for one byte still
-    assert!(rt; number(&rt, &shards, "x") == Ok(2));
-    assert!(rt; usage(&rt, &shards) == 12);
+    // the first bucket has room for one byte still when the third text comes
+    let rows = [("abc", Ok(0), 4), ("defghijk", Ok(1), 12), ("x", Ok(2), 12)];
+    for (text, wanted, bytes) in rows {
+        assert!(rt; number(&rt, &shards, text) == wanted, "{text}");
+        assert!(rt; usage(&rt, &shards) == bytes, "{text}");
+    }
     assert!(rt; kept_slots(&rt, &shards) == 0);
     Ok(())
 }
@@ -70,18 +95,22 @@ fn bytes_are_taken_where_a_bucket_has_room(rt: HostRuntime) -> Result<(), Fail> 
 #[test]
 fn the_limit_refuses_what_no_bucket_has_room_for(rt: HostRuntime) -> Result<(), Fail> {
     let shards: Shards<Spur, FixedState> = opens(rt.alloc(), 4, 12)?;
-    assert!(rt; number(&rt, &shards, "abc") == Ok(0));
-    assert!(rt; number(&rt, &shards, "defghijk") == Ok(1));
-    assert!(rt; number(&rt, &shards, "x") == Ok(2));
-    assert!(rt; number(&rt, &shards, "yz") == Err(LassoErrorKind::MemoryLimitReached));
-    assert!(rt; usage(&rt, &shards) == 12);
+    let rows = [
+        ("abc", Ok(0), 4),
+        ("defghijk", Ok(1), 12),
+        ("x", Ok(2), 12),
+        ("yz", Err(LassoErrorKind::MemoryLimitReached), 12),
+    ];
+    for (text, wanted, bytes) in rows {
+        assert!(rt; number(&rt, &shards, text) == wanted, "{text}");
+        assert!(rt; usage(&rt, &shards) == bytes, "{text}");
+    }
     assert!(rt; kept_slots(&rt, &shards) == 0);
     set_limit(&rt, &shards, 14);
     assert!(rt; usage(&rt, &shards) == 12);
     assert!(rt; number(&rt, &shards, "yz") == Ok(3));
     assert!(rt; usage(&rt, &shards) == 14);
-    let last = shards.buckets.find(&rt, &shards.log, 2);
-    assert!(rt; last.capacity() == 2);
+    assert!(rt; last_bucket(&rt, &shards) == 2);
     Ok(())
 }
 
@@ -89,11 +118,9 @@ fn the_limit_refuses_what_no_bucket_has_room_for(rt: HostRuntime) -> Result<(), 
 fn limit_and_keys_are_used_up_together(rt: HostRuntime) -> Result<(), Fail> {
     let shards: Shards<MicroSpur, FixedState> = opens(rt.alloc(), 765, 765)?;
     // 255 texts of three bytes
-    for position in 0..255usize {
-        assert!(rt; number(&rt, &shards, TEXTS[position]) == Ok(position));
-    }
+    assert!(rt; takes_first_copies(&rt, &shards, 255));
     assert!(rt; number(&rt, &shards, "x") == Err(LassoErrorKind::MemoryLimitReached));
-    assert!(rt; number(&rt, &shards, TEXTS[0]) == Ok(0));
+    assert!(rt; number(&rt, &shards, "000") == Ok(0));
     // no byte of a static text is stored, nor of the empty one
     assert!(rt; super::number(&rt, &shards, "x") == Err(LassoErrorKind::KeySpaceExhaustion));
     assert!(rt; number(&rt, &shards, "") == Err(LassoErrorKind::KeySpaceExhaustion));
@@ -105,15 +132,13 @@ fn limit_and_keys_are_used_up_together(rt: HostRuntime) -> Result<(), Fail> {
 #[test]
 fn bytes_are_taken_before_the_key_type_is_asked(rt: HostRuntime) -> Result<(), Fail> {
     let shards: Shards<MicroSpur, FixedState> = opens(rt.alloc(), 4, 4)?;
-    for position in 0..255usize {
-        assert!(rt; super::number(&rt, &shards, TEXTS[position]) == Ok(position));
-    }
+    assert!(rt; takes_first(&rt, &shards, 255));
     // each refusal by the key type takes a byte of four
     for _ in 0..4u32 {
         assert!(rt; number(&rt, &shards, "r") == Err(LassoErrorKind::KeySpaceExhaustion));
     }
     assert!(rt; number(&rt, &shards, "r") == Err(LassoErrorKind::MemoryLimitReached));
-    assert!(rt; number(&rt, &shards, TEXTS[7]) == Ok(7));
+    assert!(rt; number(&rt, &shards, "007") == Ok(7));
     assert!(rt; usage(&rt, &shards) == 4);
     assert!(rt; kept_slots(&rt, &shards) == 0);
     Ok(())

@@ -1,4 +1,5 @@
 //! Writers of two shards that go on beside each other.
+use crate::calls::{copied, kept, len};
 use crate::shards::armed::{ArmedState, Gate};
 use lasso_parts::keys::Spur;
 use lasso_parts::util::LassoResult;
@@ -21,29 +22,32 @@ fn four_digits(alloc: Global) -> Result<Vec<&'static str>, AllocError> {
     Ok(texts)
 }
 
+type Armed<'a> = ThreadedRodeo<Spur, ArmedState<'a>>;
+
+// An interner whose hasher stops at the gate.
+fn armed<'a>(alloc: Global, gate: &'a Gate) -> Result<Armed<'a>, Fail> {
+    Ok(ThreadedRodeo::with_hasher(alloc, ArmedState::new(gate))?)
+}
+
 // Interns `00`, arms the gate, and interns the texts.
 fn fills<R: Wait>(
     rt: &R,
-    shared: &ThreadedRodeo<Spur, ArmedState<'_>>,
+    shared: &Armed<'_>,
     gate: &Gate,
     texts: &[&'static str],
 ) -> LassoResult<()> {
-    shared.try_get_or_intern_static(rt, "00")?;
+    kept(rt, shared, "00")?;
     gate.arm();
     for text in texts.iter() {
-        shared.try_get_or_intern_static(rt, *text)?;
+        kept(rt, shared, *text)?;
     }
     Ok(())
 }
 
 // Interns `a` while the other writer stops at the gate.
-fn passes<R: Wait>(
-    rt: &R,
-    shared: &ThreadedRodeo<Spur, ArmedState<'_>>,
-    gate: &Gate,
-) -> LassoResult<bool> {
+fn passes<R: Wait>(rt: &R, shared: &Armed<'_>, gate: &Gate) -> LassoResult<bool> {
     let there = gate.is_first_there();
-    shared.try_get_or_intern_static(rt, "a")?;
+    kept(rt, shared, "a")?;
     gate.pass();
     Ok(there)
 }
@@ -51,26 +55,22 @@ fn passes<R: Wait>(
 // The same with copied texts.
 fn fills_copies<R: Wait>(
     rt: &R,
-    shared: &ThreadedRodeo<Spur, ArmedState<'_>>,
+    shared: &Armed<'_>,
     gate: &Gate,
     texts: &[&'static str],
 ) -> LassoResult<()> {
-    shared.try_get_or_intern(rt, "00")?;
+    copied(rt, shared, "00")?;
     gate.arm();
     for text in texts.iter() {
-        shared.try_get_or_intern(rt, *text)?;
+        copied(rt, shared, *text)?;
     }
     Ok(())
 }
 
 // Copies `a` in while the other writer stops at the gate.
-fn passes_with_a_copy<R: Wait>(
-    rt: &R,
-    shared: &ThreadedRodeo<Spur, ArmedState<'_>>,
-    gate: &Gate,
-) -> LassoResult<bool> {
+fn passes_with_a_copy<R: Wait>(rt: &R, shared: &Armed<'_>, gate: &Gate) -> LassoResult<bool> {
     let there = gate.is_first_there();
-    shared.try_get_or_intern(rt, "a")?;
+    copied(rt, shared, "a")?;
     gate.pass();
     Ok(there)
 }
@@ -79,7 +79,7 @@ fn passes_with_a_copy<R: Wait>(
 fn writers_of_copies_apart(rt: HostRuntime) -> Result<(), Fail> {
     let texts = four_digits(rt.alloc())?;
     let gate = Gate::new();
-    let shared = ThreadedRodeo::with_hasher(rt.alloc(), ArmedState::new(&gate))?;
+    let shared = armed(rt.alloc(), &gate)?;
     let (filled, there) = join(
         &rt,
         || fills_copies(&rt, &shared, &gate, &texts),
@@ -88,7 +88,7 @@ fn writers_of_copies_apart(rt: HostRuntime) -> Result<(), Fail> {
     filled?;
     assert!(rt; there?);
     assert!(rt; gate.is_met());
-    assert!(rt; shared.len() == 1002);
+    assert!(rt; len(&shared) == 1002);
     Ok(())
 }
 
@@ -96,7 +96,7 @@ fn writers_of_copies_apart(rt: HostRuntime) -> Result<(), Fail> {
 fn writers_apart(rt: HostRuntime) -> Result<(), Fail> {
     let texts = four_digits(rt.alloc())?;
     let gate = Gate::new();
-    let shared = ThreadedRodeo::with_hasher(rt.alloc(), ArmedState::new(&gate))?;
+    let shared = armed(rt.alloc(), &gate)?;
     let (filled, there) = join(
         &rt,
         || fills(&rt, &shared, &gate, &texts),
@@ -105,6 +105,6 @@ fn writers_apart(rt: HostRuntime) -> Result<(), Fail> {
     filled?;
     assert!(rt; there?);
     assert!(rt; gate.is_met());
-    assert!(rt; shared.len() == 1002);
+    assert!(rt; len(&shared) == 1002);
     Ok(())
 }

@@ -2,6 +2,7 @@
 //! for callers.
 ghost use Rattle.std.specs.Prelude.{◌≡◌, ◌≢◌, ◌↔◌, Some, IsTrue, IfOk, option_map};
 
+use crate::calls::{Shared, kept_as, made, pass_of, text_of};
 use lasso_log::log::Pass;
 use lasso_parts::keys::{Key, Spur};
 use lasso_parts::util::{FixedState, LassoResult};
@@ -89,32 +90,76 @@ fn numbers_differ(
     one.differs(other);
 }
 
+// Whether another pass resolves the text's key.
+fn resolves<R: Wait>(
+    rt: &R,
+    shared: &Shared,
+    one: &mut Pass<Spur>,
+    other: &mut Pass<Spur>,
+    text: &'static str,
+) -> LassoResult<bool>
+    requires of { (one.old.of ≡ shared.now) × (other.old.of ≡ shared.now) }
+    ensures of { (one.new.of ≡ shared.now) × (other.new.of ≡ shared.now) }
+{
+    Ok(resolved_by_another(rt, shared, one, other, text)? == Some(text))
+}
+
+// The number of the text, where both passes interned it with one key.
+fn number_by_both<R: Wait>(
+    rt: &R,
+    shared: &Shared,
+    one: &mut Pass<Spur>,
+    other: &mut Pass<Spur>,
+    text: &'static str,
+) -> LassoResult<Option<usize>>
+    requires of { (one.old.of ≡ shared.now) × (other.old.of ≡ shared.now) }
+    ensures of { (one.new.of ≡ shared.now) × (other.new.of ≡ shared.now) }
+{
+    let (key, again) = interned_by_both(rt, shared, one, other, text)?;
+    Ok(if again == Some(key) {
+        Some(key.into_usize())
+    } else {
+        None
+    })
+}
+
+// The same as `have_one_key`, with no promise.
+fn one_key<R: Wait>(
+    rt: &R,
+    shared: &Shared,
+    one: &mut Pass<Spur>,
+    other: &mut Pass<Spur>,
+    text: &'static str,
+    word: &'static str,
+) -> LassoResult<bool>
+    requires of { (one.old.of ≡ shared.now) × (other.old.of ≡ shared.now) }
+    ensures of { (one.new.of ≡ shared.now) × (other.new.of ≡ shared.now) }
+{
+    have_one_key(rt, shared, one, other, text, word)
+}
+
 #[test]
 fn two_passes_rely_on_each_other(rt: HostRuntime) -> Result<(), Fail> {
-    let shared = ThreadedRodeo::default(rt.alloc())?;
-    let mut one = shared.pass();
-    let mut other = shared.pass();
+    let shared = made(rt.alloc())?;
+    let mut one = pass_of(&shared);
+    let mut other = pass_of(&shared);
     numbers_differ(&shared, &mut one, &mut other);
-    assert!(rt; resolved_by_another(&rt, &shared, &mut one, &mut other, "p")? == Some("p"));
-    let (key, again) = interned_by_both(&rt, &shared, &mut other, &mut one, "q")?;
-    assert!(rt; key.into_usize() == 1);
-    assert!(rt; again == Some(key));
-    assert!(rt; have_one_key(&rt, &shared, &mut one, &mut other, "r", "r")?);
-    assert!(rt; !have_one_key(&rt, &shared, &mut other, &mut one, "r", "s")?);
+    assert!(rt; resolves(&rt, &shared, &mut one, &mut other, "p")?);
+    assert!(rt; number_by_both(&rt, &shared, &mut other, &mut one, "q")? == Some(1));
+    assert!(rt; one_key(&rt, &shared, &mut one, &mut other, "r", "r")?);
+    assert!(rt; !one_key(&rt, &shared, &mut other, &mut one, "r", "s")?);
     Ok(())
 }
 
 #[test]
 fn the_position_after_the_last_text_is_empty(rt: HostRuntime) -> Result<(), Fail> {
-    let shared = ThreadedRodeo::default(rt.alloc())?;
-    let mut pass = shared.pass();
+    let shared = made(rt.alloc())?;
+    let mut pass = pass_of(&shared);
     for text in ["p", "q", "p", "", "q"] {
-        shared.try_get_or_intern_static_as(&rt, &mut pass, text)?;
+        kept_as(&rt, &shared, &mut pass, text)?;
     }
     // three of the five texts are distinct
-    let last = Spur::try_from_usize(2).ok_or("no key")?;
-    assert!(rt; shared.try_resolve_as(&mut pass, last) == Some(""));
-    let past = Spur::try_from_usize(3).ok_or("no key")?;
-    assert!(rt; shared.try_resolve_as(&mut pass, past) == None);
+    assert!(rt; text_of(&shared, &mut pass, 2)? == Some(""));
+    assert!(rt; text_of(&shared, &mut pass, 3)? == None);
     Ok(())
 }

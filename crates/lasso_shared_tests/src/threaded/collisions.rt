@@ -1,7 +1,9 @@
 //! Threads that intern the same few texts, and threads that call two interners in turn.
+use crate::calls::{
+    Shared, contains, copied_as, len, limit, limited, made, pass_of, stands_for, usage,
+};
 use lasso_parts::keys::{Key, Spur};
-use lasso_parts::util::{Capacity, FixedState, LassoResult, MemoryLimits};
-use lasso_shared::threaded::ThreadedRodeo;
+use lasso_parts::util::LassoResult;
 use std::alloc::{AllocError, Global};
 use std::sync::Wait;
 use std::test::*;
@@ -14,16 +16,12 @@ const FEW: [&str; 16] = [
 
 // Interns the few texts 1000 times, from one of them on, and gives their numbers. None, where a text was refused or had two
 // numbers.
-fn numbers_of_few<R: Wait>(
-    rt: &R,
-    shared: &ThreadedRodeo<Spur, FixedState>,
-    first: usize,
-) -> Option<[usize; 16]> {
-    let mut pass = shared.pass();
+fn numbers_of_few<R: Wait>(rt: &R, shared: &Shared, first: usize) -> Option<[usize; 16]> {
+    let mut pass = pass_of(shared);
     let mut numbers = [usize::MAX; 16];
     for call in 0..16_000usize {
         let at = first.wrapping_add(call) % 16;
-        let Ok(key) = shared.try_get_or_intern_as(rt, &mut pass, FEW[at]) else {
+        let Ok(key) = copied_as(rt, shared, &mut pass, FEW[at]) else {
             return None;
         };
         let number = key.into_usize();
@@ -35,26 +33,36 @@ fn numbers_of_few<R: Wait>(
     Some(numbers)
 }
 
+// Whether there are so many lists of numbers, all alike and of the numbers below 16.
+fn are_alike(found: &[Option<[usize; 16]>], count: usize) -> bool {
+    let Some(Some(first)) = found.first() else {
+        return false;
+    };
+    let mut all = found.len() == count;
+    for numbers in found.iter() {
+        if *numbers != Some(*first) {
+            all = false;
+        }
+    }
+    for number in 0..16usize {
+        if !first.contains(&number) {
+            all = false;
+        }
+    }
+    all
+}
+
 #[test]
 fn few_texts(rt: HostRuntime) -> Result<(), Fail> {
-    let shared = ThreadedRodeo::default(rt.alloc())?;
+    let shared = made(rt.alloc())?;
     let found = map_indices(
         &rt,
         rt.alloc(),
         8,
         &|thread| numbers_of_few(&rt, &shared, thread.wrapping_mul(2)),
     )?;
-    assert!(rt; found.len() == 8);
-    let first = found
-        .first()
-        .copied()
-        .flatten()
-        .ok_or("a text was refused")?;
-    assert!(rt; found.iter().all(|numbers| *numbers == Some(first)));
-    for number in 0..16usize {
-        assert!(rt; first.contains(&number), "no text has {number}");
-    }
-    assert!(rt; shared.len() == 16);
+    assert!(rt; are_alike(&found, 8));
+    assert!(rt; len(&shared) == 16);
     Ok(())
 }
 
@@ -70,20 +78,20 @@ fn lettered(alloc: Global, letter: &str) -> Result<Vec<String>, AllocError> {
 // Interns a text in one interner and a text in the other in turn, and tells whether each key resolves to its text there.
 fn interns_in_turn<R: Wait>(
     rt: &R,
-    one: &ThreadedRodeo<Spur, FixedState>,
-    other: &ThreadedRodeo<Spur, FixedState>,
+    one: &Shared,
+    other: &Shared,
     here: &[String],
     there: &[String],
 ) -> LassoResult<bool> {
-    let mut pass = one.pass();
-    let mut other_pass = other.pass();
+    let mut pass = pass_of(one);
+    let mut other_pass = pass_of(other);
     let mut all = true;
     for (mine, theirs) in here.iter().zip(there.iter()) {
         let (mine, theirs) = (mine.as_str(), theirs.as_str());
-        let key = one.try_get_or_intern_as(rt, &mut pass, mine)?;
-        let other_key = other.try_get_or_intern_as(rt, &mut other_pass, theirs)?;
-        if one.try_resolve_as(&mut pass, key) != Some(mine)
-            || other.try_resolve_as(&mut other_pass, other_key) != Some(theirs)
+        let key = copied_as(rt, one, &mut pass, mine)?;
+        let other_key = copied_as(rt, other, &mut other_pass, theirs)?;
+        if !stands_for(one, &mut pass, key, mine)
+            || !stands_for(other, &mut other_pass, other_key, theirs)
         {
             all = false;
         }
@@ -92,48 +100,50 @@ fn interns_in_turn<R: Wait>(
 }
 
 // Whether the interner has the texts and no others.
-fn has_just<R: Wait>(rt: &R, shared: &ThreadedRodeo<Spur, FixedState>, texts: &[String]) -> bool {
-    let mut all = shared.len() == texts.len();
+fn has_just<R: Wait>(rt: &R, shared: &Shared, texts: &[String]) -> bool {
+    let mut all = len(shared) == texts.len();
     for text in texts.iter() {
-        if !shared.contains(rt, text.as_str()) {
+        if !contains(rt, shared, text.as_str()) {
             all = false;
         }
     }
     all
 }
 
+// Whether two threads that call the interners in different order got keys that resolve to their texts.
+fn both_intern<R: Threads + Wait + Sync>(
+    rt: &R,
+    one: &Shared,
+    other: &Shared,
+    here: &[String],
+    there: &[String],
+) -> LassoResult<bool> {
+    let (a, b) = join(
+        rt,
+        || interns_in_turn(rt, one, other, here, there),
+        || interns_in_turn(rt, other, one, there, here),
+    );
+    let (a, b) = (a?, b?);
+    Ok(a && b)
+}
+
 #[test]
 fn two_interners(rt: HostRuntime) -> Result<(), Fail> {
     // 1000 texts of 4 bytes: there is room for these in one interner, and for no other text
-    let one = ThreadedRodeo::with_capacity_and_memory_limits(
-        rt.alloc(),
-        Capacity::for_bytes(4000),
-        MemoryLimits::new(4000),
-    )?;
-    let other = ThreadedRodeo::default(rt.alloc())?;
+    let one: Shared = limited(rt.alloc(), 4000, 4000)?;
+    let other = made(rt.alloc())?;
     let here = lettered(rt.alloc(), "a")?;
     let there = lettered(rt.alloc(), "b")?;
-    let ((a, b), (c, d)) = join(
+    let (first, second) = join(
         &rt,
-        || {
-            join(
-                &rt,
-                || interns_in_turn(&rt, &one, &other, &here, &there),
-                || interns_in_turn(&rt, &other, &one, &there, &here),
-            )
-        },
-        || {
-            join(
-                &rt,
-                || interns_in_turn(&rt, &one, &other, &here, &there),
-                || interns_in_turn(&rt, &other, &one, &there, &here),
-            )
-        },
+        || both_intern(&rt, &one, &other, &here, &there),
+        || both_intern(&rt, &one, &other, &here, &there),
     );
-    assert!(rt; a? && b? && c? && d?);
-    assert!(rt; has_just(&rt, &one, &here) && has_just(&rt, &other, &there));
-    assert!(rt; one.current_memory_usage(&rt) == 4000);
-    assert!(rt; one.max_memory_usage(&rt) == 4000);
-    assert!(rt; other.max_memory_usage(&rt) == usize::MAX);
+    assert!(rt; first? && second?);
+    assert!(rt; has_just(&rt, &one, &here));
+    assert!(rt; has_just(&rt, &other, &there));
+    assert!(rt; usage(&rt, &one) == 4000);
+    assert!(rt; limit(&rt, &one) == 4000);
+    assert!(rt; limit(&rt, &other) == usize::MAX);
     Ok(())
 }

@@ -1,42 +1,84 @@
 //! An interner that threads share, compared with each form of a list.
+use crate::calls::{Shared, made};
 use lasso_parts::keys::Spur;
 use lasso_parts::util::{FixedState, LassoResult};
 use lasso_shared::threaded::ThreadedRodeo;
+use lasso_single::reader::RodeoReader;
+use lasso_single::resolver::RodeoResolver;
 use lasso_single::rodeo::Rodeo;
 use std::alloc::Global;
 use std::sync::Wait;
 use std::test::*;
 
+type Single = Rodeo<Spur, FixedState, Global>;
+
+// An interner that threads share, of these two texts.
+fn pair_of<R: Wait>(rt: &R, alloc: Global, texts: [&'static str; 2]) -> LassoResult<Shared> {
+    ThreadedRodeo::from_iter(alloc, rt, texts)
+}
+
+// An interner that threads share, of these three texts.
+fn shared_of<R: Wait>(rt: &R, alloc: Global, texts: [&'static str; 3]) -> LassoResult<Shared> {
+    ThreadedRodeo::from_iter(alloc, rt, texts)
+}
+
+// An interner for one thread, of these texts.
+fn single_of(alloc: Global, texts: [&'static str; 3]) -> LassoResult<Single> {
+    Rodeo::from_iter(alloc, texts)
+}
+
+// Interns these texts too.
+fn extend<R: Wait>(rt: &R, shared: &Shared, texts: [&'static str; 2]) -> LassoResult<()> {
+    shared.extend(rt, texts)
+}
+
+// A reader of the interner's texts.
+fn reader_of(rodeo: &Single) -> LassoResult<RodeoReader<Spur, FixedState, Global>> {
+    Ok(rodeo.try_clone()?.into_reader())
+}
+
+// A resolver of the interner's texts.
+fn resolver_of(rodeo: &Single) -> LassoResult<RodeoResolver<Spur, Global>> {
+    Ok(rodeo.try_clone()?.into_resolver())
+}
+
+// Whether the interner is equal to the other.
+fn is_equal<R: Wait>(rt: &R, shared: &Shared, other: &Shared) -> bool {
+    shared.eq_threaded(rt, other)
+}
+
+// Whether the interner is equal to one for one thread, to its reader and to its resolver.
+fn is_equal_to_forms<R: Wait>(
+    rt: &R,
+    shared: &Shared,
+    rodeo: &Single,
+) -> LassoResult<(bool, bool, bool)> {
+    let (reader, resolver) = (reader_of(rodeo)?, resolver_of(rodeo)?);
+    let rodeo = shared.eq_rodeo(rt, rodeo);
+    let reader = shared.eq_reader(rt, &reader);
+    Ok((rodeo, reader, shared.eq_resolver(rt, &resolver)))
+}
+
 // Whether the interner is equal to another one, to an interner for one thread, to a reader and to a resolver of these texts.
 fn compared<R: Wait>(
     rt: &R,
     alloc: Global,
-    shared: &ThreadedRodeo<Spur, FixedState>,
+    shared: &Shared,
     texts: [&'static str; 3],
 ) -> LassoResult<(bool, bool, bool, bool)> {
-    let threaded: ThreadedRodeo<Spur, FixedState> = ThreadedRodeo::from_iter(alloc, rt, texts)?;
-    let rodeo: Rodeo<Spur, FixedState, Global> = Rodeo::from_iter(alloc, texts)?;
-    let reader = rodeo.try_clone()?.into_reader();
-    let resolver = rodeo.try_clone()?.into_resolver();
-    Ok((
-        shared.eq_threaded(rt, &threaded),
-        shared.eq_rodeo(rt, &rodeo),
-        shared.eq_reader(rt, &reader),
-        shared.eq_resolver(rt, &resolver),
-    ))
+    let threaded = shared_of(rt, alloc, texts)?;
+    let single = single_of(alloc, texts)?;
+    let (rodeo, reader, resolver) = is_equal_to_forms(rt, shared, &single)?;
+    Ok((is_equal(rt, shared, &threaded), rodeo, reader, resolver))
 }
 
 #[test]
 fn four_forms_of_one_list(rt: HostRuntime) -> Result<(), Fail> {
-    let shared: ThreadedRodeo<Spur, FixedState> = ThreadedRodeo::from_iter(
-        rt.alloc(),
-        &rt,
-        ["a", "b"],
-    )?;
+    let shared = pair_of(&rt, rt.alloc(), ["a", "b"])?;
     // a list that only begins another is not equal to it
     let shorter = compared(&rt, rt.alloc(), &shared, ["a", "b", "c"])?;
     assert!(rt; shorter == (false, false, false, false));
-    shared.extend(&rt, ["b", "c"])?;
+    extend(&rt, &shared, ["b", "c"])?;
     let same = compared(&rt, rt.alloc(), &shared, ["a", "b", "c"])?;
     assert!(rt; same == (true, true, true, true));
     let other_order = compared(&rt, rt.alloc(), &shared, ["a", "c", "b"])?;
@@ -44,17 +86,26 @@ fn four_forms_of_one_list(rt: HostRuntime) -> Result<(), Fail> {
     Ok(())
 }
 
+// Whether the interner is equal to the reader of the other, and to that reader's resolver.
+fn is_equal_to_frozen<R: Wait>(
+    rt: &R,
+    shared: &Shared,
+    other: Shared,
+) -> LassoResult<(bool, bool)> {
+    let reader = other.into_reader(rt)?;
+    let same = shared.eq_reader(rt, &reader);
+    Ok((same, shared.eq_resolver(rt, &reader.into_resolver())))
+}
+
 #[test]
 fn an_interner_is_equal_to_itself_and_to_its_frozen_form(rt: HostRuntime) -> Result<(), Fail> {
-    let shared = ThreadedRodeo::default(rt.alloc())?;
-    let other = ThreadedRodeo::default(rt.alloc())?;
-    assert!(rt; shared.eq_threaded(&rt, &other));
-    shared.extend(&rt, ["a", ""])?;
-    assert!(rt; shared.eq_threaded(&rt, &shared));
-    assert!(rt; !shared.eq_threaded(&rt, &other));
-    other.extend(&rt, ["a", ""])?;
-    let reader = other.into_reader(&rt)?;
-    assert!(rt; shared.eq_reader(&rt, &reader));
-    assert!(rt; shared.eq_resolver(&rt, &reader.into_resolver()));
+    let shared = made(rt.alloc())?;
+    let other = made(rt.alloc())?;
+    assert!(rt; is_equal(&rt, &shared, &other));
+    extend(&rt, &shared, ["a", ""])?;
+    assert!(rt; is_equal(&rt, &shared, &shared));
+    assert!(rt; !is_equal(&rt, &shared, &other));
+    extend(&rt, &other, ["a", ""])?;
+    assert!(rt; is_equal_to_frozen(&rt, &shared, other)? == (true, true));
     Ok(())
 }

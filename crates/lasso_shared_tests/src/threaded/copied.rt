@@ -1,97 +1,97 @@
 //! Copied texts, beside static ones and of two threads.
+use crate::calls::{
+    Shared, answered, copied, copied_as, copied_so, found, kept, kept_so, len, limit, limited,
+    made, number, pass_of, resolved, set_limit, stands_for, usage, with_bytes,
+};
 use crate::hashers::SameState;
 use lasso_parts::keys::{Key, MicroSpur, Spur};
 use lasso_parts::util::{Capacity, FixedState, LassoErrorKind, LassoResult, MemoryLimits};
 use lasso_shared::threaded::ThreadedRodeo;
+use std::alloc::Global;
 use std::hash::BuildHasher;
 use std::process::Abort;
 use std::sync::Wait;
 use std::test::*;
 use std::thread::join;
 
-/// The number of a copied text, or why it was refused. It is asked for again where memory was wanting.
-pub fn number<K: Key, S: BuildHasher + Drop, R: Wait>(
-    rt: &R,
-    shared: &ThreadedRodeo<K, S>,
-    text: &str,
-) -> Result<usize, LassoErrorKind> {
-    let mut reply = shared.try_get_or_intern(rt, text);
-    if let Err(error) = &reply
-        && error.kind() == LassoErrorKind::FailedAllocation
-    {
-        reply = shared.try_get_or_intern(rt, text);
-    }
-    match reply {
-        Ok(key) => Ok(key.into_usize()),
-        Err(error) => Err(error.kind()),
-    }
-}
-
 #[test]
 fn usage_grows_by_whole_buckets(rt: HostRuntime) -> Result<(), Fail> {
-    let shared: ThreadedRodeo<Spur, FixedState> = ThreadedRodeo::with_capacity(
-        rt.alloc(),
-        Capacity::for_bytes(4),
-    )?;
-    assert!(rt; number(&rt, &shared, "abc") == Ok(0));
-    assert!(rt; shared.current_memory_usage(&rt) == 4);
-    assert!(rt; number(&rt, &shared, "defghijk") == Ok(1));
-    assert!(rt; shared.current_memory_usage(&rt) == 12);
-    // the first bucket has a byte left
-    assert!(rt; number(&rt, &shared, "x") == Ok(2));
-    assert!(rt; shared.current_memory_usage(&rt) == 12);
+    let shared: Shared = with_bytes(rt.alloc(), 4)?;
+    // the first bucket has a byte left when the third text comes
+    for (text, wanted, bytes) in [("abc", Ok(0), 4), ("defghijk", Ok(1), 12), ("x", Ok(2), 12)] {
+        assert!(rt; number(&rt, &shared, text) == wanted, "{text}");
+        assert!(rt; usage(&rt, &shared) == bytes, "{text}");
+    }
     Ok(())
 }
 
 #[test]
 fn a_raised_limit_lets_a_text_in(rt: HostRuntime) -> Result<(), Fail> {
-    let shared: ThreadedRodeo<Spur, FixedState> = ThreadedRodeo::with_capacity_and_memory_limits(
-        rt.alloc(),
-        Capacity::for_bytes(4),
-        MemoryLimits::new(12),
-    )?;
-    assert!(rt; number(&rt, &shared, "abc") == Ok(0));
-    assert!(rt; shared.current_memory_usage(&rt) == 4);
-    assert!(rt; number(&rt, &shared, "defghijk") == Ok(1));
-    assert!(rt; number(&rt, &shared, "x") == Ok(2));
-    assert!(rt; shared.current_memory_usage(&rt) == 12);
-    assert!(rt; number(&rt, &shared, "yz") == Err(LassoErrorKind::MemoryLimitReached));
-    assert!(rt; shared.current_memory_usage(&rt) == 12);
-    shared.set_memory_limits(&rt, MemoryLimits::new(14));
-    assert!(rt; shared.current_memory_usage(&rt) == 12);
+    let shared: Shared = limited(rt.alloc(), 4, 12)?;
+    let rows = [
+        ("abc", Ok(0), 4),
+        ("defghijk", Ok(1), 12),
+        ("x", Ok(2), 12),
+        ("yz", Err(LassoErrorKind::MemoryLimitReached), 12),
+    ];
+    for (text, wanted, bytes) in rows {
+        assert!(rt; number(&rt, &shared, text) == wanted, "{text}");
+        assert!(rt; usage(&rt, &shared) == bytes, "{text}");
+    }
+    set_limit(&rt, &shared, 14);
+    assert!(rt; usage(&rt, &shared) == 12);
     assert!(rt; number(&rt, &shared, "yz") == Ok(3));
-    assert!(rt; shared.current_memory_usage(&rt) == 14);
-    assert!(rt; shared.max_memory_usage(&rt) == 14);
-    assert!(rt; shared.len() == 4);
+    assert!(rt; usage(&rt, &shared) == 14);
+    assert!(rt; limit(&rt, &shared) == 14);
+    assert!(rt; len(&shared) == 4);
     Ok(())
+}
+
+// An interner of 8-bit keys with 655 bytes in its first bucket, which are its limit.
+fn full_with_655<S: BuildHasher + Default + Drop>(
+    alloc: Global,
+) -> Result<ThreadedRodeo<MicroSpur, S>, Fail> {
+    let (room, limits) = (Capacity::for_bytes(655), MemoryLimits::new(655));
+    let made = ThreadedRodeo::with_capacity_memory_limits_and_hasher(
+        alloc,
+        room,
+        limits,
+        S::default(),
+    );
+    Ok(made?)
+}
+
+// Interns the numbers from 0 on, so many of them, and tells whether each got itself as its number.
+fn takes_numbers<S: BuildHasher + Drop, R: AllocGlobal + Wait>(
+    rt: &R,
+    shared: &ThreadedRodeo<MicroSpur, S>,
+    count: usize,
+) -> Result<bool, Fail> {
+    let mut all = true;
+    for position in 0..count {
+        let text = format!(in rt.alloc(); "{position}")?;
+        if number(rt, shared, text.as_str()) != Ok(position) {
+            all = false;
+        }
+    }
+    Ok(all)
 }
 
 // 10 numbers of one digit, 90 of two and 155 of three fill the bucket.
 fn uses_keys_up<S: BuildHasher + Default + Drop, R: AllocGlobal + Wait + Abort>(
     rt: &R,
 ) -> Result<(), Fail> {
-    let (room, limits) = (Capacity::for_bytes(655), MemoryLimits::new(655));
-    let shared: ThreadedRodeo<MicroSpur, S> = ThreadedRodeo::with_capacity_memory_limits_and_hasher(
-        rt.alloc(),
-        room,
-        limits,
-        S::default(),
-    )?;
-    for position in 0..255usize {
-        let text = format!(in rt.alloc(); "{position}")?;
-        assert!(rt; number(rt, &shared, text.as_str()) == Ok(position));
-    }
+    let shared: ThreadedRodeo<MicroSpur, S> = full_with_655(rt.alloc())?;
+    assert!(rt; takes_numbers(rt, &shared, 255)?);
+    let no_key = Err(LassoErrorKind::KeySpaceExhaustion);
     assert!(rt; number(rt, &shared, "x") == Err(LassoErrorKind::MemoryLimitReached));
     assert!(rt; number(rt, &shared, "0") == Ok(0));
-    assert!(rt; number(rt, &shared, "") == Err(LassoErrorKind::KeySpaceExhaustion));
+    assert!(rt; number(rt, &shared, "") == no_key);
     for text in ["x", ""] {
-        match shared.try_get_or_intern_static(rt, text) {
-            Ok(_) => assert!(rt; false),
-            Err(error) => assert!(rt; error.kind() == LassoErrorKind::KeySpaceExhaustion),
-        }
+        assert!(rt; answered(kept(rt, &shared, text)) == no_key, "{text}");
     }
-    assert!(rt; shared.len() == 255);
-    assert!(rt; shared.current_memory_usage(rt) == 655);
+    assert!(rt; len(&shared) == 255);
+    assert!(rt; usage(rt, &shared) == 655);
     Ok(())
 }
 
@@ -103,51 +103,45 @@ fn the_limit_answers_before_the_key_type(rt: HostRuntime) -> Result<(), Fail> {
 
 #[test]
 fn a_copied_and_a_static_text_have_one_key(rt: HostRuntime) -> Result<(), Fail> {
-    let shared = ThreadedRodeo::default(rt.alloc())?;
-    let first = shared.try_get_or_intern(&rt, "p")?;
-    assert!(rt; shared.try_get_or_intern_static(&rt, "p")? == first);
-    let second = shared.get_or_intern_static(&rt, "q")?;
-    assert!(rt; shared.get_or_intern(&rt, "q")? == second);
-    let empty = shared.get_or_intern(&rt, "")?;
-    assert!(rt; shared.get_or_intern_static(&rt, "")? == empty);
-    assert!(rt; shared.len() == 3);
-    assert!(rt; (first.into_usize(), second.into_usize(), empty.into_usize()) == (0, 1, 2));
-    assert!(rt; shared.resolve(first) == Some("p"));
-    assert!(rt; shared.resolve(empty) == Some(""));
+    let shared = made(rt.alloc())?;
+    assert!(rt; copied(&rt, &shared, "p")? == 0);
+    assert!(rt; kept(&rt, &shared, "p")? == 0);
+    assert!(rt; kept_so(&rt, &shared, "q")? == 1);
+    assert!(rt; copied_so(&rt, &shared, "q")? == 1);
+    assert!(rt; copied_so(&rt, &shared, "")? == 2);
+    assert!(rt; kept_so(&rt, &shared, "")? == 2);
+    assert!(rt; len(&shared) == 3);
+    assert!(rt; resolved(&shared, 0)? == Some("p"));
+    assert!(rt; resolved(&shared, 2)? == Some(""));
     Ok(())
 }
 
 #[test]
 fn a_copy_stays_where_its_source_changes(rt: HostRuntime) -> Result<(), Fail> {
-    let shared = ThreadedRodeo::default(rt.alloc())?;
+    let shared = made(rt.alloc())?;
     let mut bytes = [97u8, 98u8];
     let text = str::from_utf8(&bytes).ok().ok_or("no text")?;
-    let key = shared.try_get_or_intern(&rt, text)?;
+    assert!(rt; copied(&rt, &shared, text)? == 0);
     bytes[0] = 122;
-    assert!(rt; shared.resolve(key) == Some("ab"));
+    assert!(rt; resolved(&shared, 0)? == Some("ab"));
     let changed = str::from_utf8(&bytes).ok().ok_or("no text")?;
-    assert!(rt; shared.get(&rt, changed) == None);
-    assert!(rt; shared.get(&rt, "ab") == Some(key));
+    assert!(rt; found(&rt, &shared, changed) == None);
+    assert!(rt; found(&rt, &shared, "ab") == Some(0));
     Ok(())
 }
 
 // Interns `x` and a text of its own, and gives the number of `x` where both keys stand for their texts.
-fn meets<R: Wait>(
-    rt: &R,
-    shared: &ThreadedRodeo<Spur, FixedState>,
-    own: &str,
-) -> LassoResult<Option<usize>> {
-    let mut pass = shared.pass();
-    let x = shared.try_get_or_intern_as(rt, &mut pass, "x")?;
-    let mine = shared.try_get_or_intern_as(rt, &mut pass, own)?;
-    let both = shared.try_resolve_as(&mut pass, x) == Some("x")
-        && shared.try_resolve_as(&mut pass, mine) == Some(own);
+fn meets<R: Wait>(rt: &R, shared: &Shared, own: &str) -> LassoResult<Option<usize>> {
+    let mut pass = pass_of(shared);
+    let x = copied_as(rt, shared, &mut pass, "x")?;
+    let mine = copied_as(rt, shared, &mut pass, own)?;
+    let both = stands_for(shared, &mut pass, x, "x") && stands_for(shared, &mut pass, mine, own);
     Ok(if both { Some(x.into_usize()) } else { None })
 }
 
 #[test]
 fn a_copied_text_of_two_threads_has_one_key(rt: HostRuntime) -> Result<(), Fail> {
-    let shared = ThreadedRodeo::default(rt.alloc())?;
+    let shared = made(rt.alloc())?;
     let (a, b) = join(
         &rt,
         || meets(&rt, &shared, "a"),
@@ -156,19 +150,19 @@ fn a_copied_text_of_two_threads_has_one_key(rt: HostRuntime) -> Result<(), Fail>
     let (a, b) = (a?, b?);
     assert!(rt; a.is_some());
     assert!(rt; a == b);
-    assert!(rt; shared.len() == 3);
+    assert!(rt; len(&shared) == 3);
     Ok(())
 }
 
 #[test]
 fn a_text_of_each_thread_resolves(rt: HostRuntime) -> Result<(), Fail> {
-    let shared = ThreadedRodeo::default(rt.alloc())?;
+    let shared = made(rt.alloc())?;
     let (here, there) = join(
         &rt,
-        || shared.get_or_intern(&rt, "Hello, world!"),
-        || shared.get_or_intern(&rt, "Hello from the thread!"),
+        || copied_so(&rt, &shared, "Hello, world!"),
+        || copied_so(&rt, &shared, "Hello from the thread!"),
     );
-    assert!(rt; shared.resolve(here?) == Some("Hello, world!"));
-    assert!(rt; shared.resolve(there?) == Some("Hello from the thread!"));
+    assert!(rt; resolved(&shared, here?)? == Some("Hello, world!"));
+    assert!(rt; resolved(&shared, there?)? == Some("Hello from the thread!"));
     Ok(())
 }

@@ -1,7 +1,7 @@
 //! Four threads, each with texts of its own and texts that all of them have.
+use crate::calls::{Shared, len, made, usage};
 use lasso_parts::keys::Spur;
-use lasso_parts::util::{FixedState, LassoResult};
-use lasso_shared::threaded::ThreadedRodeo;
+use lasso_parts::util::LassoResult;
 use std::alloc::{AllocError, Global};
 use std::process::Abort;
 use std::sync::Wait;
@@ -29,75 +29,94 @@ fn bytes_of(texts: &[String]) -> usize {
     bytes
 }
 
+// Interns the text and gives its key.
+fn key_of<R: Wait>(rt: &R, shared: &Shared, text: &str) -> LassoResult<Spur> {
+    shared.try_get_or_intern(rt, text)
+}
+
+// Whether the key stands for the text.
+fn is_key_of(shared: &Shared, key: Spur, text: &str) -> bool {
+    shared.resolve(key) == Some(text)
+}
+
 // Interns a text of its own and a common one in turn, and tells whether each key resolves to its text.
 fn interns<R: Wait>(
     rt: &R,
-    shared: &ThreadedRodeo<Spur, FixedState>,
+    shared: &Shared,
     own: &[String],
     common: &[String],
 ) -> LassoResult<bool> {
     let mut all = true;
     for (mine, ours) in own.iter().zip(common.iter()) {
         let (mine, ours) = (mine.as_str(), ours.as_str());
-        let first = shared.try_get_or_intern(rt, mine)?;
-        let second = shared.try_get_or_intern(rt, ours)?;
-        if shared.resolve(first) != Some(mine) || shared.resolve(second) != Some(ours) {
+        let first = key_of(rt, shared, mine)?;
+        let second = key_of(rt, shared, ours)?;
+        if !is_key_of(shared, first, mine) || !is_key_of(shared, second, ours) {
             all = false;
         }
     }
     Ok(all)
 }
 
+// Whether the text is found, and its key resolves to it.
+fn is_there<R: Wait>(rt: &R, shared: &Shared, text: &str) -> bool {
+    match shared.get(rt, text) {
+        Some(key) => is_key_of(shared, key, text),
+        None => false,
+    }
+}
+
 // Whether each text is found, and its key resolves to it.
-fn are_there<R: Wait>(rt: &R, shared: &ThreadedRodeo<Spur, FixedState>, texts: &[String]) -> bool {
+fn are_there<R: Wait>(rt: &R, shared: &Shared, texts: &[String]) -> bool {
     let mut all = true;
     for text in texts.iter() {
-        let text = text.as_str();
-        match shared.get(rt, text) {
-            Some(key) if shared.resolve(key) == Some(text) => {}
-            _ => all = false,
+        if !is_there(rt, shared, text.as_str()) {
+            all = false;
         }
     }
     all
 }
 
+// Whether two threads that intern their texts and the common ones beside each other got keys that resolve to them.
+fn both_intern<R: Threads + Wait + Sync>(
+    rt: &R,
+    shared: &Shared,
+    one: &[String],
+    other: &[String],
+    common: &[String],
+) -> LassoResult<bool> {
+    let (first, second) = join(
+        rt,
+        || interns(rt, shared, one, common),
+        || interns(rt, shared, other, common),
+    );
+    let (first, second) = (first?, second?);
+    Ok(first && second)
+}
+
 #[test]
 fn four_threads_share_half_of_their_texts(rt: HostRuntime) -> Result<(), Fail> {
-    let shared = ThreadedRodeo::default(rt.alloc())?;
+    let shared = made(rt.alloc())?;
     let a = lettered(rt.alloc(), "a")?;
     let b = lettered(rt.alloc(), "b")?;
     let c = lettered(rt.alloc(), "c")?;
     let d = lettered(rt.alloc(), "d")?;
     let common = lettered(rt.alloc(), "e")?;
-    let ((one, two), (three, four)) = join(
+    let (here, there) = join(
         &rt,
-        || {
-            join(
-                &rt,
-                || interns(&rt, &shared, &a, &common),
-                || interns(&rt, &shared, &b, &common),
-            )
-        },
-        || {
-            join(
-                &rt,
-                || interns(&rt, &shared, &c, &common),
-                || interns(&rt, &shared, &d, &common),
-            )
-        },
+        || both_intern(&rt, &shared, &a, &b, &common),
+        || both_intern(&rt, &shared, &c, &d, &common),
     );
-    assert!(rt; one? && two? && three? && four?);
+    assert!(rt; here? && there?);
     // five lists of 10000 texts, each text once
-    assert!(rt; shared.len() == 50_000);
-    assert!(rt; are_there(&rt, &shared, &a) && are_there(&rt, &shared, &b));
-    assert!(rt; are_there(&rt, &shared, &c) && are_there(&rt, &shared, &d));
-    assert!(rt; are_there(&rt, &shared, &common));
-    // each list has 38890 digits and 10000 letters
+    assert!(rt; len(&shared) == 50_000);
     let mut bytes: usize = 0;
     for texts in [&a, &b, &c, &d, &common] {
+        assert!(rt; are_there(&rt, &shared, texts));
         bytes = bytes.saturating_add(bytes_of(texts));
     }
+    // each list has 38890 digits and 10000 letters
     assert!(rt; bytes == 244_450);
-    assert!(rt; shared.current_memory_usage(&rt) <= 4096 + 4 * 244_450);
+    assert!(rt; usage(&rt, &shared) <= 4096 + 4 * 244_450);
     Ok(())
 }

@@ -1,8 +1,10 @@
 //! A limit that falls to nothing while another thread interns.
+ghost use Rattle.std.specs.Prelude.{◌≡◌};
+
+use crate::calls::{Reader, Shared, copied_as, len, pass_of, seen_by, usage, with_bytes};
+use lasso_log::log::Pass;
 use lasso_parts::keys::{Key, Spur};
-use lasso_parts::util::{Capacity, FixedState, LassoErrorKind, LassoResult, MemoryLimits};
-use lasso_shared::threaded::ThreadedRodeo;
-use lasso_single::reader::RodeoReader;
+use lasso_parts::util::{LassoErrorKind, LassoResult, MemoryLimits};
 use std::alloc::{AllocError, Global};
 use std::sync::Wait;
 use std::test::*;
@@ -22,16 +24,12 @@ fn numbered(alloc: Global) -> Result<Vec<String>, AllocError> {
 
 // Interns the texts in turn, and gives how many got a key, their position. None, where another came than these keys and from some
 // text on refusals by the limit alone.
-fn keys_before_refusals<R: Wait>(
-    rt: &R,
-    shared: &ThreadedRodeo<Spur, FixedState>,
-    texts: &[String],
-) -> Option<usize> {
-    let mut pass = shared.pass();
+fn keys_before_refusals<R: Wait>(rt: &R, shared: &Shared, texts: &[String]) -> Option<usize> {
+    let mut pass = pass_of(shared);
     let mut position: usize = 0;
     let mut taken: usize = 0;
     for text in texts.iter() {
-        match shared.try_get_or_intern_as(rt, &mut pass, text.as_str()) {
+        match copied_as(rt, shared, &mut pass, text.as_str()) {
             Ok(key) if key.into_usize() == position && taken == position => {
                 taken = position.saturating_add(1);
             }
@@ -43,28 +41,27 @@ fn keys_before_refusals<R: Wait>(
     Some(taken)
 }
 
+// Lets the limit fall, and reads the usage then.
+fn let_fall<R: Wait>(rt: &R, shared: &Shared, pass: &mut Pass<Spur>) -> usize
+    requires { pass.old.of ≡ shared.now }
+{
+    shared.set_memory_limits_as(rt, pass, MemoryLimits::new(0));
+    shared.current_memory_usage_as(rt, pass)
+}
+
 // Waits for so many texts, but not for ever; lets the limit fall, and reads the usage then.
-fn usage_after_fall<R: Wait>(
-    rt: &R,
-    shared: &ThreadedRodeo<Spur, FixedState>,
-    awaited: usize,
-) -> usize {
-    let mut pass = shared.pass();
+fn usage_after_fall<R: Wait>(rt: &R, shared: &Shared, awaited: usize) -> usize {
+    let mut pass = pass_of(shared);
     for _ in 0..1_000_000usize {
-        if shared.len_as(&mut pass) >= awaited {
+        if seen_by(shared, &mut pass) >= awaited {
             break;
         }
     }
-    shared.set_memory_limits_as(rt, &mut pass, MemoryLimits::new(0));
-    shared.current_memory_usage_as(rt, &mut pass)
+    let_fall(rt, shared, &mut pass)
 }
 
 // Whether the reader has just the first texts, so many of them, in order.
-fn has_first(
-    reader: &RodeoReader<Spur, FixedState, Global>,
-    texts: &[String],
-    count: usize,
-) -> bool {
+fn has_first(reader: &Reader, texts: &[String], count: usize) -> bool {
     let mut walk = reader.strings();
     for text in texts.iter().take(count) {
         if walk.next() != Some(text.as_str()) {
@@ -74,17 +71,25 @@ fn has_first(
     walk.next().is_none()
 }
 
+// Whether the frozen interner has just the first texts, so many of them.
+fn freezes_first<R: Wait>(
+    rt: &R,
+    shared: Shared,
+    texts: &[String],
+    count: usize,
+) -> LassoResult<bool> {
+    let reader = shared.into_reader(rt)?;
+    Ok(has_first(&reader, texts, count))
+}
+
 // Whether all is right where the limit falls after so many texts: the keys, the count, the usage and the frozen list.
 fn falls_after<R: AllocGlobal + Threads + Wait + Sync>(
     rt: &R,
     texts: &[String],
     awaited: usize,
-) -> LassoResult<bool> {
-    let shared: ThreadedRodeo<Spur, FixedState> = ThreadedRodeo::with_capacity(
-        rt.alloc(),
-        Capacity::for_bytes(16),
-    )?;
-    let (taken, usage) = join(
+) -> Result<bool, Fail> {
+    let shared: Shared = with_bytes(rt.alloc(), 16)?;
+    let (taken, bytes) = join(
         rt,
         || keys_before_refusals(rt, &shared, texts),
         || usage_after_fall(rt, &shared, awaited),
@@ -92,9 +97,8 @@ fn falls_after<R: AllocGlobal + Threads + Wait + Sync>(
     let Some(taken) = taken else {
         return Ok(false);
     };
-    let alike = shared.len() == taken && shared.current_memory_usage(rt) == usage;
-    let reader = shared.into_reader(rt)?;
-    Ok(alike && has_first(&reader, texts, taken))
+    let alike = len(&shared) == taken && usage(rt, &shared) == bytes;
+    Ok(alike && freezes_first(rt, shared, texts, taken)?)
 }
 
 #[test]

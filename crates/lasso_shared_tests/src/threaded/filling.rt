@@ -1,63 +1,82 @@
 //! An interner that threads share, filled from items.
 use super::Two;
-use lasso_parts::keys::{Key, Spur};
-use lasso_parts::util::{Capacity, FixedState, LassoErrorKind, LassoResult, MemoryLimits};
+use crate::calls::{Shared, answered, contains, found, len, limit, limited, made, resolved, usage};
+use lasso_parts::util::{FixedState, LassoErrorKind, LassoResult};
 use lasso_shared::threaded::ThreadedRodeo;
+use std::alloc::Global;
+use std::sync::Wait;
 use std::test::*;
 use std::thread::join;
 
+// Interns two items.
+fn extend_by_two<R: Wait>(rt: &R, shared: &Shared, items: [&'static str; 2]) -> LassoResult<()> {
+    shared.extend(rt, items)
+}
+
+// Interns three items.
+fn extend_by_three<R: Wait>(rt: &R, shared: &Shared, items: [&'static str; 3]) -> LassoResult<()> {
+    shared.extend(rt, items)
+}
+
+// Interns four items.
+fn extend_by_four<R: Wait>(rt: &R, shared: &Shared, items: [&'static str; 4]) -> LassoResult<()> {
+    shared.extend(rt, items)
+}
+
 #[test]
 fn items_are_interned_in_order(rt: HostRuntime) -> Result<(), Fail> {
-    let shared: ThreadedRodeo<Spur, FixedState> = ThreadedRodeo::from_iter(
-        rt.alloc(),
-        &rt,
-        ["a", "b"],
-    )?;
-    assert!(rt; shared.len() == 2);
-    assert!(rt; shared.current_memory_usage(&rt) == 4096);
-    assert!(rt; shared.max_memory_usage(&rt) == usize::MAX);
-    shared.extend(&rt, ["b", "c"])?;
-    assert!(rt; shared.len() == 3);
-    let c = shared.get(&rt, "c").ok_or("not there")?;
-    assert!(rt; c.into_usize() == 2);
-    assert!(rt; shared.resolve(c) == Some("c"));
+    let shared = two_items(&rt, rt.alloc())?;
+    assert!(rt; len(&shared) == 2);
+    assert!(rt; usage(&rt, &shared) == 4096);
+    assert!(rt; limit(&rt, &shared) == usize::MAX);
+    extend_by_two(&rt, &shared, ["b", "c"])?;
+    assert!(rt; len(&shared) == 3);
+    assert!(rt; found(&rt, &shared, "c") == Some(2));
+    assert!(rt; resolved(&shared, 2)? == Some("c"));
     Ok(())
+}
+
+// An interner of `a` and `b`.
+fn two_items<R: Wait>(rt: &R, alloc: Global) -> LassoResult<Shared> {
+    ThreadedRodeo::from_iter(alloc, rt, ["a", "b"])
 }
 
 #[test]
 fn a_refused_item_ends_the_filling(rt: HostRuntime) -> Result<(), Fail> {
-    let shared: ThreadedRodeo<Spur, FixedState> = ThreadedRodeo::with_capacity_and_memory_limits(
-        rt.alloc(),
-        Capacity::for_bytes(4),
-        MemoryLimits::new(4),
-    )?;
-    match shared.extend(&rt, ["ab", "cd", "e", ""]) {
-        Ok(()) => assert!(rt; false),
-        Err(error) => assert!(rt; error.kind() == LassoErrorKind::MemoryLimitReached),
-    }
+    let shared: Shared = limited(rt.alloc(), 4, 4)?;
+    let reply = answered(extend_by_four(&rt, &shared, ["ab", "cd", "e", ""]));
+    assert!(rt; reply == Err(LassoErrorKind::MemoryLimitReached));
     // the empty text takes no bytes, and was not taken
-    assert!(rt; shared.len() == 2);
-    assert!(rt; shared.contains(&rt, "cd"));
-    assert!(rt; !shared.contains(&rt, ""));
-    assert!(rt; shared.current_memory_usage(&rt) == 4);
-    shared.extend(&rt, ["cd", ""])?;
-    assert!(rt; shared.len() == 3);
+    assert!(rt; len(&shared) == 2);
+    assert!(rt; contains(&rt, &shared, "cd"));
+    assert!(rt; !contains(&rt, &shared, ""));
+    assert!(rt; usage(&rt, &shared) == 4);
+    extend_by_two(&rt, &shared, ["cd", ""])?;
+    assert!(rt; len(&shared) == 3);
     Ok(())
+}
+
+type TwoKeys = ThreadedRodeo<Two, FixedState>;
+
+// An interner of keys 0 and 1 that is made of three items.
+fn of_three<R: Wait>(rt: &R, alloc: Global, items: [&'static str; 3]) -> LassoResult<TwoKeys> {
+    ThreadedRodeo::from_iter(alloc, rt, items)
+}
+
+// An interner of keys 0 and 1 that is made of four items.
+fn of_four<R: Wait>(rt: &R, alloc: Global, items: [&'static str; 4]) -> LassoResult<TwoKeys> {
+    ThreadedRodeo::from_iter(alloc, rt, items)
 }
 
 #[test]
 fn items_fill_a_new_interner(rt: HostRuntime) -> Result<(), Fail> {
-    let whole: ThreadedRodeo<Two, FixedState> = ThreadedRodeo::from_iter(
-        rt.alloc(),
-        &rt,
-        ["p", "q", "p"],
-    )?;
-    assert!(rt; whole.len() == 2);
+    let whole = of_three(&rt, rt.alloc(), ["p", "q", "p"])?;
+    assert!(rt; len(&whole) == 2);
     Ok(())
 }
 
 // Whether no interner was made for want of a key.
-fn lacks_a_key(made: LassoResult<ThreadedRodeo<Two, FixedState>>) -> bool {
+fn lacks_a_key(made: LassoResult<TwoKeys>) -> bool {
     match made {
         Ok(_made) => false,
         Err(error) => error.kind() == LassoErrorKind::KeySpaceExhaustion,
@@ -66,24 +85,24 @@ fn lacks_a_key(made: LassoResult<ThreadedRodeo<Two, FixedState>>) -> bool {
 
 #[test]
 fn a_refused_item_leaves_no_new_interner(rt: HostRuntime) -> Result<(), Fail> {
-    let made = ThreadedRodeo::from_iter(rt.alloc(), &rt, ["p", "q", "r", "p"]);
+    let made = of_four(&rt, rt.alloc(), ["p", "q", "r", "p"]);
     assert!(rt; lacks_a_key(made));
     Ok(())
 }
 
 #[test]
 fn two_threads_fill_one_interner(rt: HostRuntime) -> Result<(), Fail> {
-    let shared = ThreadedRodeo::default(rt.alloc())?;
+    let shared = made(rt.alloc())?;
     let (first, second) = join(
         &rt,
-        || shared.extend(&rt, ["x", "a", "y"]),
-        || shared.extend(&rt, ["x", "b", "y"]),
+        || extend_by_three(&rt, &shared, ["x", "a", "y"]),
+        || extend_by_three(&rt, &shared, ["x", "b", "y"]),
     );
     first?;
     second?;
-    assert!(rt; shared.len() == 4);
+    assert!(rt; len(&shared) == 4);
     for text in ["x", "a", "b", "y"] {
-        assert!(rt; shared.contains(&rt, text));
+        assert!(rt; contains(&rt, &shared, text));
     }
     Ok(())
 }

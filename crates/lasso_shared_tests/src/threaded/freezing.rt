@@ -1,123 +1,178 @@
 //! Frozen forms of an interner that threads share.
-use super::copied::number;
+ghost use Rattle.std.specs.Prelude.{◌≡◌};
+
 use super::gaps::WithoutTwo;
+use crate::calls::{Reader, Shared, copied, kept_as, limited, made, number, pass_of, set_limit};
+use lasso_log::log::Pass;
 use lasso_parts::keys::{Key, Spur};
-use lasso_parts::util::{Capacity, FixedState, LassoErrorKind, MemoryLimits};
+use lasso_parts::util::{FixedState, LassoErrorKind, LassoResult};
 use lasso_shared::threaded::ThreadedRodeo;
+use lasso_single::reader::RodeoReader;
+use lasso_single::resolver::RodeoResolver;
+use std::alloc::Global;
+use std::sync::Wait;
 use std::test::*;
 use std::thread::join;
 
+type Resolver = RodeoResolver<Spur, Global>;
+
+// The reader of the interner.
+fn reader<K: Key, R: Wait>(
+    rt: &R,
+    shared: ThreadedRodeo<K, FixedState>,
+) -> LassoResult<RodeoReader<K, FixedState, Global>> {
+    shared.into_reader(rt)
+}
+
+// The resolver of the interner.
+fn resolver<R: Wait>(rt: &R, shared: Shared) -> LassoResult<Resolver> {
+    shared.into_resolver(rt)
+}
+
+// How many texts the reader has.
+fn len<K: Key>(reader: &RodeoReader<K, FixedState, Global>) -> usize {
+    reader.len()
+}
+
+// Whether the reader has the text.
+fn has<K: Key>(reader: &RodeoReader<K, FixedState, Global>, text: &str) -> bool {
+    reader.contains(text)
+}
+
+// The number of the text in the reader.
+fn found(reader: &Reader, text: &str) -> Option<usize> {
+    match reader.get(text) {
+        Some(key) => Some(key.into_usize()),
+        None => None,
+    }
+}
+
+// The text of this number in the reader.
+fn read(reader: &Reader, number: usize) -> Option<&str> {
+    match Spur::try_from_usize(number) {
+        Some(key) => reader.try_resolve(key),
+        None => Some("no key"),
+    }
+}
+
+// The text of the default key in the reader.
+fn first_of(reader: &Reader) -> Option<&str> {
+    reader.try_resolve(Spur::default())
+}
+
+// The text of this number in the resolver.
+fn resolved(resolver: &Resolver, number: usize) -> Option<&str> {
+    match Spur::try_from_usize(number) {
+        Some(key) => resolver.try_resolve(key),
+        None => Some("no key"),
+    }
+}
+
 #[test]
 fn a_reader_of_texts_in_three_buckets(rt: HostRuntime) -> Result<(), Fail> {
-    let shared: ThreadedRodeo<Spur, FixedState> = ThreadedRodeo::with_capacity_and_memory_limits(
-        rt.alloc(),
-        Capacity::for_bytes(4),
-        MemoryLimits::new(12),
-    )?;
-    assert!(rt; number(&rt, &shared, "abc") == Ok(0));
-    assert!(rt; number(&rt, &shared, "defghijk") == Ok(1));
-    assert!(rt; number(&rt, &shared, "x") == Ok(2));
-    shared.set_memory_limits(&rt, MemoryLimits::new(14));
+    let shared: Shared = limited(rt.alloc(), 4, 12)?;
+    for (text, wanted) in [("abc", 0), ("defghijk", 1), ("x", 2)] {
+        assert!(rt; number(&rt, &shared, text) == Ok(wanted), "{text}");
+    }
+    set_limit(&rt, &shared, 14);
     assert!(rt; number(&rt, &shared, "yz") == Ok(3));
-    let reader = shared.into_reader(&rt)?;
-    assert!(rt; reader.len() == 4);
-    let last = reader.get("yz").ok_or("not there")?;
-    assert!(rt; last.into_usize() == 3);
-    assert!(rt; reader.try_resolve(last) == Some("yz"));
-    assert!(rt; !reader.contains("abcd"));
+    let reader = reader(&rt, shared)?;
+    assert!(rt; len(&reader) == 4);
+    assert!(rt; found(&reader, "yz") == Some(3));
+    assert!(rt; read(&reader, 3) == Some("yz"));
+    assert!(rt; !has(&reader, "abcd"));
     Ok(())
 }
 
 #[test]
 fn refused_texts_are_not_in_a_frozen_form(rt: HostRuntime) -> Result<(), Fail> {
-    let shared: ThreadedRodeo<WithoutTwo, FixedState> =
-        ThreadedRodeo::with_capacity_and_memory_limits(
-            rt.alloc(),
-            Capacity::for_bytes(4),
-            MemoryLimits::new(4),
-        )?;
-    assert!(rt; number(&rt, &shared, "p") == Ok(0));
-    assert!(rt; number(&rt, &shared, "q") == Ok(1));
-    for _ in 0..2usize {
-        assert!(rt; number(&rt, &shared, "r") == Err(LassoErrorKind::KeySpaceExhaustion));
+    let shared: ThreadedRodeo<WithoutTwo, FixedState> = limited(rt.alloc(), 4, 4)?;
+    let rows = [
+        ("p", Ok(0)),
+        ("q", Ok(1)),
+        ("r", Err(LassoErrorKind::KeySpaceExhaustion)),
+        ("r", Err(LassoErrorKind::KeySpaceExhaustion)),
+        ("r", Err(LassoErrorKind::MemoryLimitReached)),
+        ("q", Ok(1)),
+    ];
+    for (text, wanted) in rows {
+        assert!(rt; number(&rt, &shared, text) == wanted, "{text}");
     }
-    assert!(rt; number(&rt, &shared, "r") == Err(LassoErrorKind::MemoryLimitReached));
-    assert!(rt; number(&rt, &shared, "q") == Ok(1));
-    let reader = shared.into_reader(&rt)?;
-    assert!(rt; reader.len() == 2);
-    assert!(rt; reader.contains("p"));
-    assert!(rt; reader.contains("q"));
-    assert!(rt; !reader.contains("r"));
+    let reader = reader(&rt, shared)?;
+    assert!(rt; len(&reader) == 2);
+    for (text, wanted) in [("p", true), ("q", true), ("r", false)] {
+        assert!(rt; has(&reader, text) == wanted, "{text}");
+    }
     Ok(())
+}
+
+// What a thread finds and reads: the numbers of two texts, and the texts of numbers 0 and 10.
+fn looks(reader: &Reader) -> (Option<usize>, Option<usize>, bool, bool) {
+    let (first, past) = (read(reader, 0) == Some("A"), read(reader, 10) == None);
+    (found(reader, "A"), found(reader, "F"), first, past)
 }
 
 #[test]
 fn two_threads_read_a_reader(rt: HostRuntime) -> Result<(), Fail> {
-    let shared = ThreadedRodeo::default(rt.alloc())?;
-    let key = shared.try_get_or_intern(&rt, "A")?;
-    let reader = shared.into_reader(&rt)?;
-    let (here, there) = join(
-        &rt,
-        || (reader.get("A"), reader.get("F")),
-        || (reader.get("A"), reader.get("F")),
-    );
-    assert!(rt; key.into_usize() == 0);
-    assert!(rt; here == (Some(key), None));
-    assert!(rt; there == (Some(key), None));
-    let past = Spur::try_from_usize(10).ok_or("no key")?;
-    let (here, there) = join(
-        &rt,
-        || (reader.try_resolve(key), reader.try_resolve(past)),
-        || (reader.try_resolve(key), reader.try_resolve(past)),
-    );
-    assert!(rt; here == (Some("A"), None));
-    assert!(rt; there == (Some("A"), None));
+    let shared = made(rt.alloc())?;
+    assert!(rt; copied(&rt, &shared, "A")? == 0);
+    let reader = reader(&rt, shared)?;
+    let (here, there) = join(&rt, || looks(&reader), || looks(&reader));
+    assert!(rt; here == (Some(0), None, true, true));
+    assert!(rt; there == (Some(0), None, true, true));
     Ok(())
+}
+
+// Whether number 0 is `A` for a thread, and number 10 nothing.
+fn resolves(resolver: &Resolver) -> (bool, bool) {
+    (
+        resolved(resolver, 0) == Some("A"),
+        resolved(resolver, 10) == None,
+    )
 }
 
 #[test]
 fn two_threads_read_a_resolver(rt: HostRuntime) -> Result<(), Fail> {
-    let shared = ThreadedRodeo::default(rt.alloc())?;
-    shared.try_get_or_intern(&rt, "A")?;
-    let resolver = shared.into_resolver(&rt)?;
-    let first = Spur::try_from_usize(0).ok_or("no key")?;
-    let past = Spur::try_from_usize(10).ok_or("no key")?;
-    let (here, there) = join(
-        &rt,
-        || (resolver.try_resolve(first), resolver.try_resolve(past)),
-        || (resolver.try_resolve(first), resolver.try_resolve(past)),
-    );
-    assert!(rt; here == (Some("A"), None));
-    assert!(rt; there == (Some("A"), None));
+    let shared = made(rt.alloc())?;
+    copied(&rt, &shared, "A")?;
+    let resolver = resolver(&rt, shared)?;
+    let (here, there) = join(&rt, || resolves(&resolver), || resolves(&resolver));
+    assert!(rt; here == (true, true));
+    assert!(rt; there == (true, true));
     Ok(())
+}
+
+// The reader of the interner by the pass.
+fn reader_as<R: Wait>(rt: &R, shared: Shared, pass: &mut Pass<Spur>) -> LassoResult<Reader>
+    requires { pass.old.of ≡ shared }
+{
+    shared.into_reader_as(rt, pass)
 }
 
 #[test]
 fn static_texts_and_texts_of_other_passes_are_frozen(rt: HostRuntime) -> Result<(), Fail> {
-    let shared = ThreadedRodeo::default(rt.alloc())?;
-    let mut pass = shared.pass();
-    shared.try_get_or_intern_static_as(&rt, &mut pass, "a static text")?;
+    let shared = made(rt.alloc())?;
+    let mut pass = pass_of(&shared);
+    kept_as(&rt, &shared, &mut pass, "a static text")?;
     let (first, second) = join(
         &rt,
-        || shared.try_get_or_intern(&rt, "red"),
-        || shared.try_get_or_intern(&rt, ""),
+        || copied(&rt, &shared, "red"),
+        || copied(&rt, &shared, ""),
     );
     let (red, empty) = (first?, second?);
-    let reader = shared.into_reader_as(&rt, &mut pass)?;
-    assert!(rt; reader.len() == 3);
-    assert!(rt; reader.get("red") == Some(red));
-    assert!(rt; reader.try_resolve(empty) == Some(""));
-    assert!(rt; reader.try_resolve(Spur::default()) == Some("a static text"));
+    let reader = reader_as(&rt, shared, &mut pass)?;
+    assert!(rt; len(&reader) == 3);
+    assert!(rt; found(&reader, "red") == Some(red));
+    assert!(rt; read(&reader, empty) == Some(""));
+    assert!(rt; first_of(&reader) == Some("a static text"));
     Ok(())
 }
 
 #[test]
 fn an_interner_without_texts_is_frozen(rt: HostRuntime) -> Result<(), Fail> {
-    let shared = ThreadedRodeo::default(rt.alloc())?;
-    let reader = shared.into_reader(&rt)?;
+    let reader = reader(&rt, made(rt.alloc())?)?;
     assert!(rt; reader.is_empty());
-    assert!(rt; reader.get("").is_none());
-    let other = ThreadedRodeo::default(rt.alloc())?;
-    assert!(rt; other.into_resolver(&rt)?.len() == 0);
+    assert!(rt; found(&reader, "") == None);
+    assert!(rt; resolver(&rt, made(rt.alloc())?)?.len() == 0);
     Ok(())
 }

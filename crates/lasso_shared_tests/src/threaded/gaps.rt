@@ -1,7 +1,7 @@
 //! Key types that lack one number and have the next.
-use super::copied::number;
+use crate::calls::{len, limited, number, usage};
 use lasso_parts::keys::Key;
-use lasso_parts::util::{Capacity, FixedState, LassoErrorKind, MemoryLimits};
+use lasso_parts::util::{FixedState, LassoErrorKind};
 use lasso_shared::threaded::ThreadedRodeo;
 use std::marker::Model;
 use std::test::*;
@@ -67,31 +67,29 @@ pub type WithoutZero = Gap<0>;
 
 #[test]
 fn no_text_passes_over_a_number_without_a_key(rt: HostRuntime) -> Result<(), Fail> {
-    let shared: ThreadedRodeo<WithoutTwo, FixedState> =
-        ThreadedRodeo::with_capacity_and_memory_limits(
-            rt.alloc(),
-            Capacity::for_bytes(4),
-            MemoryLimits::new(4),
-        )?;
+    let shared: ThreadedRodeo<WithoutTwo, FixedState> = limited(rt.alloc(), 4, 4)?;
     assert!(rt; WithoutTwo::try_from_usize(3).is_some());
-    assert!(rt; number(&rt, &shared, "p") == Ok(0));
-    assert!(rt; number(&rt, &shared, "q") == Ok(1));
-    // each of these takes one of the two bytes that are left
-    assert!(rt; number(&rt, &shared, "r") == Err(LassoErrorKind::KeySpaceExhaustion));
-    assert!(rt; number(&rt, &shared, "r") == Err(LassoErrorKind::KeySpaceExhaustion));
-    assert!(rt; number(&rt, &shared, "r") == Err(LassoErrorKind::MemoryLimitReached));
-    assert!(rt; number(&rt, &shared, "q") == Ok(1));
-    assert!(rt; shared.len() == 2);
-    assert!(rt; shared.current_memory_usage(&rt) == 4);
+    // each `r` takes one of the two bytes that `p` and `q` leave
+    let rows = [
+        ("p", Ok(0)),
+        ("q", Ok(1)),
+        ("r", Err(LassoErrorKind::KeySpaceExhaustion)),
+        ("r", Err(LassoErrorKind::KeySpaceExhaustion)),
+        ("r", Err(LassoErrorKind::MemoryLimitReached)),
+        ("q", Ok(1)),
+    ];
+    for (text, wanted) in rows {
+        assert!(rt; number(&rt, &shared, text) == wanted, "{text}");
+    }
+    assert!(rt; len(&shared) == 2);
+    assert!(rt; usage(&rt, &shared) == 4);
     Ok(())
 }
 
 // Two of the four bytes are taken by each text that finds no key for it.
 #[test]
 fn no_text_has_a_key(rt: HostRuntime) -> Result<(), Fail> {
-    let (room, limits) = (Capacity::for_bytes(4), MemoryLimits::new(4));
-    let shared: ThreadedRodeo<WithoutZero, FixedState> =
-        ThreadedRodeo::with_capacity_and_memory_limits(rt.alloc(), room, limits)?;
+    let shared: ThreadedRodeo<WithoutZero, FixedState> = limited(rt.alloc(), 4, 4)?;
     let answers = [
         LassoErrorKind::KeySpaceExhaustion,
         LassoErrorKind::KeySpaceExhaustion,
@@ -99,8 +97,8 @@ fn no_text_has_a_key(rt: HostRuntime) -> Result<(), Fail> {
     ];
     for wanted in answers {
         assert!(rt; number(&rt, &shared, "pp") == Err(wanted));
-        assert!(rt; shared.current_memory_usage(&rt) == 4);
-        assert!(rt; shared.len() == 0);
+        assert!(rt; usage(&rt, &shared) == 4);
+        assert!(rt; len(&shared) == 0);
     }
     Ok(())
 }

@@ -2,10 +2,11 @@
 mod kinds;
 
 use super::gaps::{WithoutTwo, WithoutZero};
+use crate::calls::{Shared, contains, copied, found, len, limit, usage};
 use crate::hashers::{FirstState, SameState};
 use lasso_parts::json::JsonError;
 use lasso_parts::keys::{Key, MicroSpur, Spur};
-use lasso_parts::util::FixedState;
+use lasso_parts::util::{FixedState, LassoResult};
 use lasso_shared::threaded::ThreadedRodeo;
 use lasso_single::rodeo::Rodeo;
 use serde_json::{Map, Number, Value};
@@ -15,7 +16,7 @@ use std::sync::Wait;
 use std::test::*;
 use std::thread::{Threads, join};
 
-type SpurThreadedRodeo = ThreadedRodeo<Spur, FixedState>;
+type Single = Rodeo<Spur, FixedState, Global>;
 
 // What is wrong with the value, or none.
 fn fault<K: Key>(alloc: Global, value: &Value) -> Option<JsonError> {
@@ -23,6 +24,12 @@ fn fault<K: Key>(alloc: Global, value: &Value) -> Option<JsonError> {
         Ok(_read) => None,
         Err(fault) => Some(fault),
     }
+}
+
+// What is wrong with the JSON, or none.
+fn wrong_with<K: Key>(alloc: Global, json: &str) -> Result<Option<JsonError>, Fail> {
+    let value = Value::from_str(alloc, json)?;
+    Ok(fault::<K>(alloc, &value))
 }
 
 #[test]
@@ -48,29 +55,26 @@ fn faulty_values(rt: HostRuntime) -> Result<(), Fail> {
         (r#""a""#, JsonError::NotAnObject),
     ];
     for (text, wanted) in rows {
-        let value = Value::from_str(rt.alloc(), text)?;
-        assert!(rt; fault::<Spur>(rt.alloc(), &value) == Some(wanted), "{text}");
+        assert!(rt;
+            wrong_with::<Spur>(rt.alloc(), text)? == Some(wanted),
+            "{text}"
+        );
     }
     Ok(())
 }
 
 #[test]
 fn a_position_without_a_key(rt: HostRuntime) -> Result<(), Fail> {
+    let alloc = rt.alloc();
     for text in [r#"{"a":2,"b":1,"c":3}"#, r#"["a","b","c"]"#] {
-        let value = Value::from_str(rt.alloc(), text)?;
         let wanted = Some(JsonError::TooMany(2));
-        assert!(rt; fault::<WithoutTwo>(rt.alloc(), &value) == wanted, "{text}");
+        assert!(rt; wrong_with::<WithoutTwo>(alloc, text)? == wanted, "{text}");
     }
     for text in [r#"{"pp":1}"#, r#"["pp"]"#] {
-        let value = Value::from_str(rt.alloc(), text)?;
         let wanted = Some(JsonError::TooMany(0));
-        assert!(rt;
-            fault::<WithoutZero>(rt.alloc(), &value) == wanted,
-            "{text}"
-        );
+        assert!(rt; wrong_with::<WithoutZero>(alloc, text)? == wanted, "{text}");
     }
-    let two = Value::from_str(rt.alloc(), r#"{"a":2,"b":1}"#)?;
-    assert!(rt; fault::<WithoutTwo>(rt.alloc(), &two) == None);
+    assert!(rt; wrong_with::<WithoutTwo>(alloc, r#"{"a":2,"b":1}"#)? == None);
     Ok(())
 }
 
@@ -93,50 +97,90 @@ fn more_members_than_keys(rt: HostRuntime) -> Result<(), Fail> {
     Ok(())
 }
 
-// Reads the value, interns `c`, and tells the number of `c`, the usage then, and what is written then.
-fn with_c<R: Wait>(rt: &R, alloc: Global, text: &str) -> Result<(usize, usize, String), Fail> {
-    let value = Value::from_str(alloc, text)?;
-    let rodeo = SpurThreadedRodeo::deserialize(alloc, &value)?;
-    let key = rodeo.try_get_or_intern(rt, "c")?;
-    let usage = rodeo.current_memory_usage(rt);
-    let written = rodeo.serialize(alloc)?.to_string(alloc)?;
-    Ok((key.into_usize(), usage, written))
+// The interner that is read from the value.
+fn read<S: BuildHasher + Default + Drop>(
+    alloc: Global,
+    value: &Value,
+) -> Result<ThreadedRodeo<Spur, S>, Fail> {
+    Ok(ThreadedRodeo::deserialize(alloc, value)?)
+}
+
+// The interner that is read from the JSON.
+fn read_from(alloc: Global, json: &str) -> Result<Shared, Fail> {
+    let value = Value::from_str(alloc, json)?;
+    read(alloc, &value)
+}
+
+// What the interner is written as.
+fn written(alloc: Global, shared: &Shared) -> Result<Value, Fail> {
+    Ok(shared.serialize(alloc)?)
+}
+
+// The JSON that the interner is written as.
+fn json_of(alloc: Global, shared: &Shared) -> Result<String, Fail> {
+    Ok(written(alloc, shared)?.to_string(alloc)?)
 }
 
 #[test]
 fn a_new_text_goes_last(rt: HostRuntime) -> Result<(), Fail> {
     // the bucket of two bytes is full, and one of four comes
     for text in [r#"{"a":2,"b":1}"#, r#"["b","a"]"#] {
-        let (number, usage, written) = with_c(&rt, rt.alloc(), text)?;
-        assert!(rt; number == 2, "{text}");
-        assert!(rt; usage == 6, "{text}");
-        assert!(rt; written.as_str() == r#"{"a":2,"b":1,"c":3}"#, "{text}");
+        let shared = read_from(rt.alloc(), text)?;
+        assert!(rt; copied(&rt, &shared, "c")? == 2, "{text}");
+        assert!(rt; usage(&rt, &shared) == 6, "{text}");
+        let json = json_of(rt.alloc(), &shared)?;
+        assert!(rt; json.as_str() == r#"{"a":2,"b":1,"c":3}"#, "{text}");
     }
     Ok(())
 }
 
 #[test]
 fn no_bytes_make_a_bucket_of_4096(rt: HostRuntime) -> Result<(), Fail> {
-    for (text, len) in [("[]", 0), ("{}", 0), (r#"{"":1}"#, 1), (r#"[""]"#, 1)] {
-        let value = Value::from_str(rt.alloc(), text)?;
-        let rodeo = SpurThreadedRodeo::deserialize(rt.alloc(), &value)?;
-        assert!(rt; rodeo.len() == len, "{text}");
-        assert!(rt; rodeo.contains(&rt, "") == (len == 1), "{text}");
-        assert!(rt; rodeo.current_memory_usage(&rt) == 4096, "{text}");
-        assert!(rt; rodeo.max_memory_usage(&rt) == usize::MAX, "{text}");
+    for (text, count) in [("[]", 0), ("{}", 0), (r#"{"":1}"#, 1), (r#"[""]"#, 1)] {
+        let shared = read_from(rt.alloc(), text)?;
+        assert!(rt; len(&shared) == count, "{text}");
+        assert!(rt; contains(&rt, &shared, "") == (count == 1), "{text}");
+        assert!(rt; usage(&rt, &shared) == 4096, "{text}");
+        assert!(rt; limit(&rt, &shared) == usize::MAX, "{text}");
     }
     Ok(())
 }
 
+// An interner for one thread, of two texts.
+fn pair(alloc: Global) -> LassoResult<Single> {
+    Rodeo::from_iter(alloc, ["x", "y"])
+}
+
+// What an interner for one thread is written as.
+fn written_by(alloc: Global, rodeo: &Single) -> Result<Value, Fail> {
+    Ok(rodeo.serialize(alloc)?)
+}
+
+// Whether the interner is equal to one for one thread, and these texts are at their positions in its reader.
+fn is_equal_and_has<R: Wait>(
+    rt: &R,
+    shared: Shared,
+    rodeo: &Single,
+    texts: &[&str],
+) -> LassoResult<(bool, bool)> {
+    let same = shared.eq_rodeo(rt, rodeo);
+    let reader = shared.into_reader(rt)?;
+    let mut has = true;
+    for position in 0..texts.len() {
+        let key = reader.get(texts[position]);
+        if key.is_none() || key != Spur::try_from_usize(position) {
+            has = false;
+        }
+    }
+    Ok((same, has))
+}
+
 #[test]
 fn what_one_thread_wrote(rt: HostRuntime) -> Result<(), Fail> {
-    let rodeo: Rodeo<Spur, FixedState, Global> = Rodeo::from_iter(rt.alloc(), ["x", "y"])?;
-    let value = rodeo.serialize(rt.alloc())?;
-    let shared = SpurThreadedRodeo::deserialize(rt.alloc(), &value)?;
-    assert!(rt; shared.eq_rodeo(&rt, &rodeo));
-    let reader = shared.into_reader(&rt)?;
-    assert!(rt; reader.get("x") == Spur::try_from_usize(0));
-    assert!(rt; reader.get("y") == Spur::try_from_usize(1));
+    let rodeo = pair(rt.alloc())?;
+    let value = written_by(rt.alloc(), &rodeo)?;
+    let shared = read(rt.alloc(), &value)?;
+    assert!(rt; is_equal_and_has(&rt, shared, &rodeo, &["x", "y"])? == (true, true));
     Ok(())
 }
 
@@ -185,28 +229,23 @@ const TEXTS: [&str; 40] = [
 
 // Whether each text is found at its position, and interned again there.
 fn are_found<S: BuildHasher + Drop, R: Wait>(rt: &R, shared: &ThreadedRodeo<Spur, S>) -> bool {
-    let mut position = 0;
+    let mut position: usize = 0;
     for text in TEXTS {
-        let key = Spur::try_from_usize(position);
-        if shared.get(rt, text) != key {
+        if found(rt, shared, text) != Some(position) {
             return false;
         }
-        match shared.try_get_or_intern(rt, text) {
-            Ok(again) => {
-                if Some(again) != key {
-                    return false;
-                }
-            }
-            Err(_) => return false,
+        match copied(rt, shared, text) {
+            Ok(again) if again == position => {}
+            _ => return false,
         }
-        position += 1;
+        position = position.saturating_add(1);
     }
     true
 }
 
 // Whether there are as many texts as the list has, and another is not among them.
 fn has_no_other<S: BuildHasher + Drop, R: Wait>(rt: &R, shared: &ThreadedRodeo<Spur, S>) -> bool {
-    shared.get(rt, "none").is_none() && shared.len() == 40
+    found(rt, shared, "none") == None && len(shared) == 40
 }
 
 // Whether two threads find each text in what is read from the value, and no other, where texts are of several shards.
@@ -215,7 +254,7 @@ fn found_in_several_shards<R: Threads + Wait + Sync>(
     alloc: Global,
     value: &Value,
 ) -> Result<bool, Fail> {
-    let shared: ThreadedRodeo<Spur, FixedState> = ThreadedRodeo::deserialize(alloc, value)?;
+    let shared: ThreadedRodeo<Spur, FixedState> = read(alloc, value)?;
     let (here, there) = join(rt, || are_found(rt, &shared), || are_found(rt, &shared));
     Ok(here && there && has_no_other(rt, &shared))
 }
@@ -226,7 +265,7 @@ fn found_in_one_shard<R: Threads + Wait + Sync>(
     alloc: Global,
     value: &Value,
 ) -> Result<bool, Fail> {
-    let shared: ThreadedRodeo<Spur, SameState> = ThreadedRodeo::deserialize(alloc, value)?;
+    let shared: ThreadedRodeo<Spur, SameState> = read(alloc, value)?;
     let (here, there) = join(rt, || are_found(rt, &shared), || are_found(rt, &shared));
     Ok(here && there && has_no_other(rt, &shared))
 }
@@ -237,22 +276,34 @@ fn found_by_first_bytes<R: Threads + Wait + Sync>(
     alloc: Global,
     value: &Value,
 ) -> Result<bool, Fail> {
-    let shared: ThreadedRodeo<Spur, FirstState> = ThreadedRodeo::deserialize(alloc, value)?;
+    let shared: ThreadedRodeo<Spur, FirstState> = read(alloc, value)?;
     let (here, there) = join(rt, || are_found(rt, &shared), || are_found(rt, &shared));
     Ok(here && there && has_no_other(rt, &shared))
 }
 
+// Whether they do in each of these three ways.
+fn found_in_shards<R: Threads + Wait + Sync>(
+    rt: &R,
+    alloc: Global,
+    value: &Value,
+) -> Result<(bool, bool, bool), Fail> {
+    let several = found_in_several_shards(rt, alloc, value)?;
+    let one = found_in_one_shard(rt, alloc, value)?;
+    Ok((several, one, found_by_first_bytes(rt, alloc, value)?))
+}
+
+// An interner for one thread, of the texts.
+fn single(alloc: Global) -> LassoResult<Single> {
+    Rodeo::from_iter(alloc, TEXTS)
+}
+
 #[test]
 fn each_text_is_found_by_each_thread(rt: HostRuntime) -> Result<(), Fail> {
-    let rodeo: Rodeo<Spur, FixedState, Global> = Rodeo::from_iter(rt.alloc(), TEXTS)?;
-    let array = rodeo.serialize(rt.alloc())?;
-    assert!(rt; found_in_several_shards(&rt, rt.alloc(), &array)?);
-    assert!(rt; found_in_one_shard(&rt, rt.alloc(), &array)?);
-    assert!(rt; found_by_first_bytes(&rt, rt.alloc(), &array)?);
-    let object = SpurThreadedRodeo::deserialize(rt.alloc(), &array)?.serialize(rt.alloc())?;
+    let rodeo = single(rt.alloc())?;
+    let array = written_by(rt.alloc(), &rodeo)?;
+    assert!(rt; found_in_shards(&rt, rt.alloc(), &array)? == (true, true, true));
+    let object = written(rt.alloc(), &read(rt.alloc(), &array)?)?;
     assert!(rt; object.as_object().is_some());
-    assert!(rt; found_in_several_shards(&rt, rt.alloc(), &object)?);
-    assert!(rt; found_in_one_shard(&rt, rt.alloc(), &object)?);
-    assert!(rt; found_by_first_bytes(&rt, rt.alloc(), &object)?);
+    assert!(rt; found_in_shards(&rt, rt.alloc(), &object)? == (true, true, true));
     Ok(())
 }

@@ -1,6 +1,11 @@
 //! What makers open with, and limits that are set and read.
+ghost use Rattle.std.specs.Prelude.{◌≡◌};
 
 use super::FIRST;
+use crate::calls::{
+    Shared, kept, kept_as, len, limit, limited, made, pass_of, set_limit, stands_for, usage,
+};
+use lasso_log::log::Pass;
 use lasso_parts::keys::{Key, MicroSpur, Spur};
 use lasso_parts::util::{Capacity, FixedState, LassoResult, MemoryLimits};
 use lasso_shared::threaded::ThreadedRodeo;
@@ -14,144 +19,217 @@ use std::thread::{Threads, join};
 fn has<K: Key, R: Wait>(
     rt: &R,
     made: LassoResult<ThreadedRodeo<K, FixedState>>,
-    usage: usize,
-    limit: usize,
-    cells: usize,
+    wanted: (usize, usize, usize),
 ) -> LassoResult<bool> {
     let shared = made?;
-    Ok(
-        shared.current_memory_usage(rt) == usage
-            && shared.max_memory_usage(rt) == limit
-            && shared.capacity() == cells,
-    )
+    Ok((usage(rt, &shared), limit(rt, &shared), cells(&shared)) == wanted)
+}
+
+// For how many texts there are cells.
+fn cells<K: Key>(shared: &ThreadedRodeo<K, FixedState>) -> usize {
+    shared.capacity()
+}
+
+// What the maker by default makes.
+fn by_default<R: Wait>(rt: &R, alloc: Global, wanted: (usize, usize, usize)) -> LassoResult<bool> {
+    has(rt, ThreadedRodeo::default(alloc), wanted)
+}
+
+// What the maker by default makes for 8-bit keys.
+fn by_new<R: Wait>(rt: &R, alloc: Global, wanted: (usize, usize, usize)) -> LassoResult<bool> {
+    has::<MicroSpur, _>(rt, ThreadedRodeo::new(alloc), wanted)
 }
 
 #[test]
 fn makers_open_with_defaults(rt: HostRuntime) -> Result<(), Fail> {
     // chunks of 32 and 32 cells for 50 texts
-    let made = ThreadedRodeo::default(rt.alloc());
-    assert!(rt; has(&rt, made, 4096, usize::MAX, 64)?);
-    let made = ThreadedRodeo::new(rt.alloc());
-    assert!(rt; has::<MicroSpur, _>(&rt, made, 4096, usize::MAX, 64)?);
+    assert!(rt; by_default(&rt, rt.alloc(), (4096, usize::MAX, 64))?);
+    assert!(rt; by_new(&rt, rt.alloc(), (4096, usize::MAX, 64))?);
     Ok(())
+}
+
+// What is made with this capacity.
+fn by_capacity<R: Wait>(
+    rt: &R,
+    alloc: Global,
+    room: Capacity,
+    wanted: (usize, usize, usize),
+) -> LassoResult<bool> {
+    has::<Spur, _>(rt, ThreadedRodeo::with_capacity(alloc, room), wanted)
+}
+
+// What is made under this limit.
+fn by_limit<R: Wait>(
+    rt: &R,
+    alloc: Global,
+    limits: MemoryLimits,
+    wanted: (usize, usize, usize),
+) -> LassoResult<bool> {
+    has::<Spur, _>(rt, ThreadedRodeo::with_memory_limits(alloc, limits), wanted)
+}
+
+// What is made with this capacity under this limit.
+fn by_both<R: Wait>(
+    rt: &R,
+    alloc: Global,
+    room: Capacity,
+    limits: MemoryLimits,
+    wanted: (usize, usize, usize),
+) -> LassoResult<bool> {
+    let made = ThreadedRodeo::with_capacity_and_memory_limits(alloc, room, limits);
+    has::<Spur, _>(rt, made, wanted)
 }
 
 #[test]
 fn makers_open_with_capacity_and_limit(rt: HostRuntime) -> Result<(), Fail> {
-    let room = Capacity::new(1000, 65536);
-    let made = ThreadedRodeo::with_capacity(rt.alloc(), room);
-    assert!(rt; has::<Spur, _>(&rt, made, 65536, usize::MAX, 1024)?);
-    let made = ThreadedRodeo::with_memory_limits(rt.alloc(), MemoryLimits::new(10000));
-    assert!(rt; has::<Spur, _>(&rt, made, 4096, 10000, 64)?);
-    let (room, limits) = (Capacity::new(70, 4), MemoryLimits::new(12));
-    let made = ThreadedRodeo::with_capacity_and_memory_limits(rt.alloc(), room, limits);
+    let (room, limits) = (Capacity::new(1000, 65536), MemoryLimits::new(10000));
+    assert!(rt; by_capacity(&rt, rt.alloc(), room, (65536, usize::MAX, 1024))?);
+    assert!(rt; by_limit(&rt, rt.alloc(), limits, (4096, 10000, 64))?);
     // chunks of 32, 32 and 64 cells
-    assert!(rt; has::<Spur, _>(&rt, made, 4, 12, 128)?);
+    let (room, limits) = (Capacity::new(70, 4), MemoryLimits::new(12));
+    assert!(rt; by_both(&rt, rt.alloc(), room, limits, (4, 12, 128))?);
     Ok(())
+}
+
+// What is made with this capacity and a hasher.
+fn by_hasher<R: Wait>(
+    rt: &R,
+    alloc: Global,
+    room: Capacity,
+    wanted: (usize, usize, usize),
+) -> LassoResult<bool> {
+    let made = ThreadedRodeo::with_capacity_and_hasher(alloc, room, FixedState::new());
+    has::<Spur, _>(rt, made, wanted)
+}
+
+// What is made with this capacity under this limit and with a hasher.
+fn by_all<R: Wait>(
+    rt: &R,
+    alloc: Global,
+    room: Capacity,
+    limits: MemoryLimits,
+    wanted: (usize, usize, usize),
+) -> LassoResult<bool> {
+    let hasher = FixedState::new();
+    let made = ThreadedRodeo::with_capacity_memory_limits_and_hasher(alloc, room, limits, hasher);
+    has::<Spur, _>(rt, made, wanted)
 }
 
 #[test]
 fn makers_take_a_hasher(rt: HostRuntime) -> Result<(), Fail> {
-    let hasher = FixedState::new();
-    let made = ThreadedRodeo::with_capacity_and_hasher(rt.alloc(), Capacity::for_bytes(7), hasher);
-    assert!(rt; has::<Spur, _>(&rt, made, 7, usize::MAX, 64)?);
-    let (room, limits) = (Capacity::new(0, 10), MemoryLimits::new(5));
+    let room = Capacity::for_bytes(7);
+    assert!(rt; by_hasher(&rt, rt.alloc(), room, (7, usize::MAX, 64))?);
     // the limit lies below the first bucket, which stays
-    let made = ThreadedRodeo::with_capacity_memory_limits_and_hasher(
-        rt.alloc(),
-        room,
-        limits,
-        hasher,
-    );
-    assert!(rt; has::<Spur, _>(&rt, made, 10, 5, 0)?);
+    let (room, limits) = (Capacity::new(0, 10), MemoryLimits::new(5));
+    assert!(rt; by_all(&rt, rt.alloc(), room, limits, (10, 5, 0))?);
     Ok(())
 }
 
 // Interns the texts, and gives the usage and the number of cells then.
 fn filled<R: Wait>(
     rt: &R,
-    made: LassoResult<ThreadedRodeo<Spur, FixedState>>,
+    made: LassoResult<Shared>,
     texts: &[&'static str],
 ) -> LassoResult<(usize, usize)> {
     let shared = made?;
     for text in texts.iter() {
-        shared.try_get_or_intern_static(rt, *text)?;
+        kept(rt, &shared, *text)?;
     }
-    Ok((shared.current_memory_usage(rt), shared.capacity()))
+    Ok((usage(rt, &shared), cells(&shared)))
+}
+
+// An interner with this capacity.
+fn with(alloc: Global, room: Capacity) -> LassoResult<Shared> {
+    ThreadedRodeo::with_capacity(alloc, room)
 }
 
 #[test]
 fn capacity_is_room_for_texts(rt: HostRuntime) -> Result<(), Fail> {
-    let made = ThreadedRodeo::with_capacity(rt.alloc(), Capacity::for_strings(70));
+    let made = with(rt.alloc(), Capacity::for_strings(70));
     assert!(rt; filled(&rt, made, &FIRST)? == (4096, 128));
-    let made = ThreadedRodeo::with_capacity(rt.alloc(), Capacity::minimal());
+    let made = with(rt.alloc(), Capacity::minimal());
     assert!(rt; filled(&rt, made, &["p"])? == (1, 32));
     Ok(())
 }
 
 #[test]
 fn no_limit_refuses_a_static_text(rt: HostRuntime) -> Result<(), Fail> {
-    let (room, limits) = (Capacity::for_bytes(10), MemoryLimits::new(5));
-    let made = ThreadedRodeo::with_capacity_and_memory_limits(rt.alloc(), room, limits);
-    assert!(rt; filled(&rt, made, &["0123456789ab"])? == (10, 64));
+    let shared: Shared = limited(rt.alloc(), 10, 5)?;
+    assert!(rt; filled(&rt, Ok(shared), &["0123456789ab"])? == (10, 64));
     Ok(())
 }
 
-fn is_refused(rt: &impl Abort, alloc: Global, capacity: Capacity) {
-    let made: LassoResult<ThreadedRodeo<Spur, FixedState>> = ThreadedRodeo::with_capacity(
-        alloc, capacity,
-    );
-    match made {
-        Ok(_made) => assert!(rt; false),
-        Err(error) => assert!(rt; error.kind().is_failed_alloc()),
+fn is_refused(alloc: Global, capacity: Capacity) -> bool {
+    match with(alloc, capacity) {
+        Ok(_made) => false,
+        Err(error) => error.kind().is_failed_alloc(),
     }
 }
 
 #[test]
 fn sizes_that_no_memory_has(rt: HostRuntime) {
-    is_refused(&rt, rt.alloc(), Capacity::for_bytes(usize::MAX));
-    is_refused(&rt, rt.alloc(), Capacity::for_strings(usize::MAX));
+    assert!(rt; is_refused(rt.alloc(), Capacity::for_bytes(usize::MAX)));
+    assert!(rt; is_refused(rt.alloc(), Capacity::for_strings(usize::MAX)));
+}
+
+// Sets the limit by the pass.
+fn set_limit_as<R: Wait>(rt: &R, shared: &Shared, pass: &mut Pass<Spur>, bytes: usize)
+    requires { pass.old.of ≡ shared.now }
+    ensures { pass.new.of ≡ pass.old.of }
+{
+    shared.set_memory_limits_as(rt, pass, MemoryLimits::new(bytes));
+}
+
+// Lifts the limit by the pass.
+fn lift_limit_as<R: Wait>(rt: &R, shared: &Shared, pass: &mut Pass<Spur>)
+    requires { pass.old.of ≡ shared.now }
+    ensures { pass.new.of ≡ pass.old.of }
+{
+    shared.set_memory_limits_as(rt, pass, MemoryLimits::default());
+}
+
+// The limit and the usage by the pass.
+fn limit_as<R: Wait>(rt: &R, shared: &Shared, pass: &mut Pass<Spur>) -> (usize, usize)
+    requires { pass.old.of ≡ shared.now }
+    ensures { pass.new.of ≡ pass.old.of }
+{
+    let limit = shared.max_memory_usage_as(rt, pass);
+    (limit, shared.current_memory_usage_as(rt, pass))
 }
 
 #[test]
 fn a_limit_is_what_was_set_last(rt: HostRuntime) -> Result<(), Fail> {
-    let shared: ThreadedRodeo<Spur, FixedState> = ThreadedRodeo::with_capacity_and_memory_limits(
-        rt.alloc(),
-        Capacity::for_bytes(4),
-        MemoryLimits::new(12),
-    )?;
-    let mut pass = shared.pass();
-    let mut other = shared.pass();
-    shared.set_memory_limits_as(&rt, &mut pass, MemoryLimits::new(14));
-    assert!(rt; shared.max_memory_usage_as(&rt, &mut other) == 14);
-    assert!(rt; shared.current_memory_usage_as(&rt, &mut other) == 4);
-    shared.set_memory_limits(&rt, MemoryLimits::new(0));
-    assert!(rt; shared.max_memory_usage_as(&rt, &mut pass) == 0);
-    assert!(rt; shared.current_memory_usage_as(&rt, &mut pass) == 4);
+    let shared: Shared = limited(rt.alloc(), 4, 12)?;
+    let mut pass = pass_of(&shared);
+    let mut other = pass_of(&shared);
+    set_limit_as(&rt, &shared, &mut pass, 14);
+    assert!(rt; limit_as(&rt, &shared, &mut other) == (14, 4));
+    set_limit(&rt, &shared, 0);
+    assert!(rt; limit_as(&rt, &shared, &mut pass) == (0, 4));
     // no limit refuses a static text
-    let key = shared.try_get_or_intern_static_as(&rt, &mut pass, "0123456789")?;
-    shared.set_memory_limits_as(&rt, &mut other, MemoryLimits::default());
-    shared.set_memory_limits_as(&rt, &mut other, MemoryLimits::default());
-    assert!(rt; shared.max_memory_usage(&rt) == usize::MAX);
-    assert!(rt; shared.current_memory_usage(&rt) == 4);
-    assert!(rt; shared.try_resolve_as(&mut other, key) == Some("0123456789"));
-    assert!(rt; shared.len() == 1);
+    let key = kept_as(&rt, &shared, &mut pass, "0123456789")?;
+    lift_limit_as(&rt, &shared, &mut other);
+    lift_limit_as(&rt, &shared, &mut other);
+    assert!(rt; limit(&rt, &shared) == usize::MAX);
+    assert!(rt; usage(&rt, &shared) == 4);
+    assert!(rt; stands_for(&shared, &mut other, key, "0123456789"));
+    assert!(rt; len(&shared) == 1);
     Ok(())
 }
 
 // Sets the limit many times, with one value and another, and gives the last that it reads then.
-fn set_often<R: Wait>(rt: &R, shared: &ThreadedRodeo<Spur, FixedState>, last: usize) -> usize {
-    let mut pass = shared.pass();
+fn set_often<R: Wait>(rt: &R, shared: &Shared, last: usize) -> usize {
+    let mut pass = pass_of(shared);
     for limit in 0..100usize {
-        shared.set_memory_limits_as(rt, &mut pass, MemoryLimits::new(limit));
+        set_limit_as(rt, shared, &mut pass, limit);
     }
-    shared.set_memory_limits_as(rt, &mut pass, MemoryLimits::new(last));
-    shared.max_memory_usage_as(rt, &mut pass)
+    set_limit_as(rt, shared, &mut pass, last);
+    limit_as(rt, shared, &mut pass).0
 }
 
 #[test]
 fn two_threads_set_limits(rt: HostRuntime) -> Result<(), Fail> {
-    let shared = ThreadedRodeo::default(rt.alloc())?;
+    let shared = made(rt.alloc())?;
     let (a, b) = join(
         &rt,
         || set_often(&rt, &shared, 1000),
@@ -160,9 +238,9 @@ fn two_threads_set_limits(rt: HostRuntime) -> Result<(), Fail> {
     // each reads its own limit, or one that the other set after it
     assert!(rt; a == 1000 || a == 2000 || a < 100);
     assert!(rt; b == 1000 || b == 2000 || b < 100);
-    let last = shared.max_memory_usage(&rt);
+    let last = limit(&rt, &shared);
     assert!(rt; last == 1000 || last == 2000);
     assert!(rt; a == last || b == last);
-    assert!(rt; shared.current_memory_usage(&rt) == 4096);
+    assert!(rt; usage(&rt, &shared) == 4096);
     Ok(())
 }

@@ -1,63 +1,94 @@
 //! Readings, with a pass and without one.
+ghost use Rattle.std.specs.Prelude.{◌≡◌};
+
+use crate::calls::{
+    Shared, contains, found, kept, kept_so, key, len, made, pass_of, resolved, seen_by, text_at,
+    text_of,
+};
+use lasso_log::log::Pass;
 use lasso_parts::keys::{Key, Spur};
-use lasso_shared::threaded::ThreadedRodeo;
 use std::process::Abort;
 use std::sync::Wait;
 use std::test::*;
 use std::thread::{Threads, join};
 
+// Whether there is no text.
+fn is_empty(shared: &Shared) -> bool {
+    shared.is_empty()
+}
+
+// Whether the key with this number stands for a text.
+fn is_key(shared: &Shared, number: usize) -> Result<bool, Fail> {
+    Ok(shared.contains_key(key(number)?))
+}
+
 #[test]
 fn plain_readings_of_two_texts(rt: HostRuntime) -> Result<(), Fail> {
-    let shared = ThreadedRodeo::default(rt.alloc())?;
-    assert!(rt; shared.is_empty());
-    let hello = shared.get_or_intern_static(&rt, "Hello, world!")?;
-    let empty = shared.try_get_or_intern_static(&rt, "")?;
-    assert!(rt; (hello.into_usize(), empty.into_usize()) == (0, 1));
-    assert!(rt; shared.get_or_intern_static(&rt, "Hello, world!")? == hello);
-    assert!(rt; shared.get(&rt, "") == Some(empty));
-    assert!(rt; shared.get(&rt, "Hello") == None);
-    assert!(rt; shared.contains(&rt, "Hello, world!"));
-    assert!(rt; !shared.contains(&rt, "Hello"));
-    assert!(rt; shared.resolve(hello) == Some("Hello, world!"));
-    assert!(rt; shared.try_resolve(empty) == Some(""));
-    assert!(rt; shared.len() == 2);
-    assert!(rt; !shared.is_empty());
-    let past = Spur::try_from_usize(2).ok_or("no key")?;
-    assert!(rt; shared.contains_key(empty));
-    assert!(rt; !shared.contains_key(past));
-    assert!(rt; shared.try_resolve(past) == None);
+    let shared = made(rt.alloc())?;
+    assert!(rt; is_empty(&shared));
+    assert!(rt; kept_so(&rt, &shared, "Hello, world!")? == 0);
+    assert!(rt; kept(&rt, &shared, "")? == 1);
+    assert!(rt; kept_so(&rt, &shared, "Hello, world!")? == 0);
+    for (text, wanted) in [("", Some(1)), ("Hello", None), ("Hello, world!", Some(0))] {
+        assert!(rt; found(&rt, &shared, text) == wanted, "{text}");
+        assert!(rt; contains(&rt, &shared, text) == wanted.is_some(), "{text}");
+    }
+    assert!(rt; resolved(&shared, 0)? == Some("Hello, world!"));
+    assert!(rt; text_at(&shared, 1)? == Some(""));
+    assert!(rt; len(&shared) == 2);
+    assert!(rt; !is_empty(&shared));
+    assert!(rt; is_key(&shared, 1)?);
+    assert!(rt; !is_key(&shared, 2)?);
+    assert!(rt; text_at(&shared, 2)? == None);
     Ok(())
+}
+
+// The number of the text by the pass, if it is there.
+fn found_as<R: Wait>(rt: &R, shared: &Shared, pass: &mut Pass<Spur>, text: &str) -> Option<usize>
+    requires { pass.old.of ≡ shared.now }
+    ensures { pass.new.of ≡ pass.old.of }
+{
+    match shared.get_as(rt, pass, text) {
+        Some(key) => Some(key.into_usize()),
+        None => None,
+    }
+}
+
+// Whether the key with this number stands for a text by the pass.
+fn is_key_as(shared: &Shared, pass: &mut Pass<Spur>, number: usize) -> Result<bool, Fail>
+    requires { pass.old.of ≡ shared.now }
+    ensures { pass.new.of ≡ pass.old.of }
+{
+    Ok(shared.contains_key_as(pass, key(number)?))
 }
 
 #[test]
 fn a_pass_reads_what_another_interned(rt: HostRuntime) -> Result<(), Fail> {
-    let shared = ThreadedRodeo::default(rt.alloc())?;
-    let mut pass = shared.pass();
-    assert!(rt; shared.get_as(&rt, &mut pass, "p") == None);
-    assert!(rt; shared.len_as(&mut pass) == 0);
-    let key = shared.try_get_or_intern_static(&rt, "p")?;
-    assert!(rt; shared.get_as(&rt, &mut pass, "p") == Some(key));
-    assert!(rt; shared.get_as(&rt, &mut pass, "q") == None);
-    assert!(rt; shared.contains_key_as(&mut pass, key));
-    assert!(rt; shared.len_as(&mut pass) == 1);
-    let past = Spur::try_from_usize(1).ok_or("no key")?;
-    assert!(rt; !shared.contains_key_as(&mut pass, past));
-    assert!(rt; shared.try_resolve_as(&mut pass, past) == None);
+    let shared = made(rt.alloc())?;
+    let mut pass = pass_of(&shared);
+    assert!(rt; found_as(&rt, &shared, &mut pass, "p") == None);
+    assert!(rt; seen_by(&shared, &mut pass) == 0);
+    assert!(rt; kept(&rt, &shared, "p")? == 0);
+    assert!(rt; found_as(&rt, &shared, &mut pass, "p") == Some(0));
+    assert!(rt; found_as(&rt, &shared, &mut pass, "q") == None);
+    assert!(rt; is_key_as(&shared, &mut pass, 0)?);
+    assert!(rt; seen_by(&shared, &mut pass) == 1);
+    assert!(rt; !is_key_as(&shared, &mut pass, 1)?);
+    assert!(rt; text_of(&shared, &mut pass, 1)? == None);
     Ok(())
 }
 
 #[test]
 fn a_key_of_another_thread_resolves(rt: HostRuntime) -> Result<(), Fail> {
-    let shared = ThreadedRodeo::default(rt.alloc())?;
-    let world = shared.try_get_or_intern_static(&rt, "Hello, world!")?;
-    let (thread, found) = join(
+    let shared = made(rt.alloc())?;
+    let world = kept(&rt, &shared, "Hello, world!")?;
+    let (thread, known) = join(
         &rt,
-        || shared.try_get_or_intern_static(&rt, "Hello from the thread!"),
-        || shared.get(&rt, "Hello, world!"),
+        || kept(&rt, &shared, "Hello from the thread!"),
+        || found(&rt, &shared, "Hello, world!"),
     );
-    let thread = thread?;
-    assert!(rt; found == Some(world));
-    assert!(rt; shared.resolve(world) == Some("Hello, world!"));
-    assert!(rt; shared.resolve(thread) == Some("Hello from the thread!"));
+    assert!(rt; known == Some(world));
+    assert!(rt; resolved(&shared, world)? == Some("Hello, world!"));
+    assert!(rt; resolved(&shared, thread?)? == Some("Hello from the thread!"));
     Ok(())
 }

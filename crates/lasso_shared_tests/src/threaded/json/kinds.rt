@@ -1,7 +1,8 @@
 //! A value of each kind in each place: alone, as an item, as the number of a text, and as its name.
-use super::{SpurThreadedRodeo, fault};
+use super::{fault, read, wrong_with};
+use crate::calls::{Shared, len, usage};
 use lasso_parts::json::JsonError;
-use lasso_parts::keys::Spur;
+use lasso_parts::keys::{Key, MicroSpur, MiniSpur, Spur};
 use serde_json::{Map, Number, Value};
 use std::alloc::Global;
 use std::test::*;
@@ -19,7 +20,7 @@ const FIRST: Wrong = Some(JsonError::NotAPosition(0));
 const SECOND: Wrong = Some(JsonError::NotAPosition(1));
 
 // A value, and what is wrong with it alone, as the number of the only text, and as that of a text behind one of number 1.
-const KINDS: [(&str, Wrong, Wrong, Wrong); 33] = [
+const KINDS: [(&str, Wrong, Wrong, Wrong); 38] = [
     ("null", NO_OBJECT, FIRST, SECOND),
     ("true", NO_OBJECT, FIRST, SECOND),
     ("false", NO_OBJECT, FIRST, SECOND),
@@ -28,6 +29,11 @@ const KINDS: [(&str, Wrong, Wrong, Wrong); 33] = [
     ("2", NO_OBJECT, FIRST, None),
     ("3", NO_OBJECT, FIRST, SECOND),
     ("-1", NO_OBJECT, FIRST, SECOND),
+    ("255", NO_OBJECT, FIRST, SECOND),
+    ("256", NO_OBJECT, FIRST, SECOND),
+    ("65535", NO_OBJECT, FIRST, SECOND),
+    ("65536", NO_OBJECT, FIRST, SECOND),
+    ("4294967295", NO_OBJECT, FIRST, SECOND),
     ("4294967296", NO_OBJECT, FIRST, SECOND),
     ("18446744073709551615", NO_OBJECT, FIRST, SECOND),
     ("18446744073709551616", NO_OBJECT, FIRST, SECOND),
@@ -55,30 +61,132 @@ const KINDS: [(&str, Wrong, Wrong, Wrong); 33] = [
     (r#"{"a":{"a":1}}"#, NO_POSITION, FIRST, SECOND),
 ];
 
-// What is wrong with the JSON.
-fn wrong_with(alloc: Global, json: &str) -> Result<Wrong, Fail> {
-    let value = Value::from_str(alloc, json)?;
-    Ok(fault::<Spur>(alloc, &value))
-}
-
-// The same with the JSON of a value, or a name, between these.
-fn wrong_between(alloc: Global, before: &str, kind: &str, behind: &str) -> Result<Wrong, Fail> {
+// What is wrong with the JSON of a value, or a name, between these.
+fn wrong_between<K: Key>(
+    alloc: Global,
+    before: &str,
+    kind: &str,
+    behind: &str,
+) -> Result<Wrong, Fail> {
     let json = format!(in alloc; "{before}{kind}{behind}")?;
-    wrong_with(alloc, json.as_str())
+    wrong_with::<K>(alloc, json.as_str())
 }
 
+// What is wrong with a value of the kind alone, as the number of the only text, and as that of a text behind one of number 1.
+fn wrong_in_each_place<K: Key>(alloc: Global, kind: &str) -> Result<(Wrong, Wrong, Wrong), Fail> {
+    let alone = wrong_with::<K>(alloc, kind)?;
+    let first = wrong_between::<K>(alloc, r#"{"k":"#, kind, "}")?;
+    let second = wrong_between::<K>(alloc, r#"{"k":"#, kind, r#","a":1}"#)?;
+    Ok((alone, first, second))
+}
+
+// Each of these key types has keys for two texts.
 #[test]
 fn each_kind_in_each_place(rt: HostRuntime) -> Result<(), Fail> {
     let alloc = rt.alloc();
     for (kind, alone, first, second) in KINDS {
-        assert!(rt; wrong_with(alloc, kind)? == alone, "{kind}");
+        let wanted = (alone, first, second);
         assert!(rt;
-            wrong_between(alloc, r#"{"k":"#, kind, "}")? == first,
+            wrong_in_each_place::<Spur>(alloc, kind)? == wanted,
             "{kind}"
         );
         assert!(rt;
-            wrong_between(alloc, r#"{"k":"#, kind, r#","a":1}"#)? == second,
+            wrong_in_each_place::<MicroSpur>(alloc, kind)? == wanted,
             "{kind}"
+        );
+        assert!(rt;
+            wrong_in_each_place::<MiniSpur>(alloc, kind)? == wanted,
+            "{kind}"
+        );
+    }
+    Ok(())
+}
+
+// The object of so many texts of five digits, each with its position plus one, but for the first, which has this number.
+fn numbered_after(alloc: Global, first: u64, count: u64) -> Result<Value, Fail> {
+    let mut members: Map<String, Value> = Map::new(alloc);
+    for n in 0..count {
+        let number = if n == 0 { first } else { n + 1 };
+        let text = format!(in alloc; "{n:05}")?;
+        members.insert(text, Value::Number(Number::from(number)))?;
+    }
+    Ok(Value::Object(members))
+}
+
+// What is wrong with that object.
+fn wrong_after<K: Key>(alloc: Global, first: u64, count: u64) -> Result<Wrong, Fail> {
+    let value = numbered_after(alloc, first, count)?;
+    Ok(fault::<K>(alloc, &value))
+}
+
+// A number is looked at in this order: whether it is above the count, whether its position has a key, whether it is taken.
+#[test]
+fn greatest_numbers_of_8_bits(rt: HostRuntime) -> Result<(), Fail> {
+    let rows = [
+        (1, 255, None, None),
+        (1, 256, Some(JsonError::TooMany(255)), None),
+        (
+            255,
+            255,
+            Some(JsonError::Taken(254)),
+            Some(JsonError::Taken(254)),
+        ),
+        (
+            255,
+            256,
+            Some(JsonError::Taken(254)),
+            Some(JsonError::Taken(254)),
+        ),
+        (256, 255, NO_POSITION, NO_POSITION),
+        (
+            256,
+            256,
+            Some(JsonError::TooMany(0)),
+            Some(JsonError::Taken(255)),
+        ),
+        (257, 256, NO_POSITION, NO_POSITION),
+    ];
+    for (first, count, micro, mini) in rows {
+        assert!(rt;
+            wrong_after::<MicroSpur>(rt.alloc(), first, count)? == micro,
+            "{first}"
+        );
+        assert!(rt;
+            wrong_after::<MiniSpur>(rt.alloc(), first, count)? == mini,
+            "{first}"
+        );
+    }
+    Ok(())
+}
+
+#[test]
+fn greatest_numbers_of_16_bits(rt: HostRuntime) -> Result<(), Fail> {
+    let rows = [
+        (1, 65535, None, None),
+        (1, 65536, Some(JsonError::TooMany(65535)), None),
+        (
+            65535,
+            65536,
+            Some(JsonError::Taken(65534)),
+            Some(JsonError::Taken(65534)),
+        ),
+        (65536, 65535, NO_POSITION, NO_POSITION),
+        (
+            65536,
+            65536,
+            Some(JsonError::TooMany(0)),
+            Some(JsonError::Taken(65535)),
+        ),
+        (4294967295, 65536, NO_POSITION, NO_POSITION),
+    ];
+    for (first, count, mini, spur) in rows {
+        assert!(rt;
+            wrong_after::<MiniSpur>(rt.alloc(), first, count)? == mini,
+            "{first}"
+        );
+        assert!(rt;
+            wrong_after::<Spur>(rt.alloc(), first, count)? == spur,
+            "{first}"
         );
     }
     Ok(())
@@ -92,15 +200,42 @@ fn wrong_item(kind: &str, at: usize) -> Wrong {
     Some(JsonError::NotText(at))
 }
 
+// What is wrong with an array of which one item more is at fault: the first of the two faults.
+fn first_wrong(kind: &str, later: JsonError) -> Wrong {
+    if kind.starts_with('"') {
+        return Some(later);
+    }
+    NO_TEXT
+}
+
 #[test]
 fn each_kind_of_item(rt: HostRuntime) -> Result<(), Fail> {
     let alloc = rt.alloc();
     for (kind, _, _, _) in KINDS {
         let first = wrong_item(kind, 0);
-        assert!(rt; wrong_between(alloc, "[", kind, "]")? == first, "{kind}");
+        assert!(rt;
+            wrong_between::<Spur>(alloc, "[", kind, "]")? == first,
+            "{kind}"
+        );
         let second = wrong_item(kind, 1);
         assert!(rt;
-            wrong_between(alloc, r#"["z","#, kind, "]")? == second,
+            wrong_between::<Spur>(alloc, r#"["z","#, kind, "]")? == second,
+            "{kind}"
+        );
+    }
+    Ok(())
+}
+
+#[test]
+fn each_kind_of_item_before_a_fault(rt: HostRuntime) -> Result<(), Fail> {
+    let alloc = rt.alloc();
+    for (kind, _, _, _) in KINDS {
+        let doubled = first_wrong(kind, JsonError::Doubled(2));
+        let found = wrong_between::<Spur>(alloc, "[", kind, r#","z","z"]"#)?;
+        assert!(rt; found == doubled, "{kind}");
+        let no_text = first_wrong(kind, JsonError::NotText(1));
+        assert!(rt;
+            wrong_between::<Spur>(alloc, "[", kind, ",1]")? == no_text,
             "{kind}"
         );
     }
@@ -121,14 +256,10 @@ fn each_kind_of_name(rt: HostRuntime) -> Result<(), Fail> {
         r#"\"\\\/\n"#,
         r"\u00e9\ud83d\ude00",
     ] {
-        assert!(rt;
-            wrong_between(alloc, r#"{""#, name, r#"":1}"#)? == None,
-            "{name}"
-        );
-        assert!(rt;
-            wrong_between(alloc, r#"{""#, name, r#"":"1"}"#)? == NO_POSITION,
-            "{name}"
-        );
+        let right = wrong_between::<Spur>(alloc, r#"{""#, name, r#"":1}"#)?;
+        assert!(rt; right == None, "{name}");
+        let wrong = wrong_between::<Spur>(alloc, r#"{""#, name, r#"":"1"}"#)?;
+        assert!(rt; wrong == NO_POSITION, "{name}");
     }
     Ok(())
 }
@@ -137,30 +268,56 @@ fn long_text(alloc: Global) -> Result<Value, Fail> {
     Ok(Value::String("a".repeat(alloc, 1_000_000)?))
 }
 
+// The array of such a text, so many times.
+fn long_texts(alloc: Global, count: u32) -> Result<Value, Fail> {
+    let mut items: Vec<Value> = Vec::new(alloc);
+    for _ in 0..count {
+        items.push(long_text(alloc)?)?;
+    }
+    Ok(Value::Array(items))
+}
+
+// The array of two values.
+fn array_of(alloc: Global, first: Value, second: Value) -> Result<Value, Fail> {
+    let mut items: Vec<Value> = Vec::new(alloc);
+    items.push(first)?;
+    items.push(second)?;
+    Ok(Value::Array(items))
+}
+
+// The object of one member.
+fn object_of(alloc: Global, name: String, value: Value) -> Result<Value, Fail> {
+    let mut members: Map<String, Value> = Map::new(alloc);
+    members.insert(name, value)?;
+    Ok(Value::Object(members))
+}
+
 #[test]
 fn a_text_of_a_million_bytes(rt: HostRuntime) -> Result<(), Fail> {
-    let alone = long_text(rt.alloc())?;
-    assert!(rt; fault::<Spur>(rt.alloc(), &alone) == NO_OBJECT);
-    let mut members: Map<String, Value> = Map::new(rt.alloc());
-    members.insert(String::from_str(rt.alloc(), "k")?, long_text(rt.alloc())?)?;
-    let member = Value::Object(members);
-    assert!(rt; fault::<Spur>(rt.alloc(), &member) == NO_POSITION);
+    let alloc = rt.alloc();
+    let alone = long_text(alloc)?;
+    assert!(rt; fault::<Spur>(alloc, &alone) == NO_OBJECT);
+    let member = object_of(alloc, String::from_str(alloc, "k")?, alone)?;
+    assert!(rt; fault::<Spur>(alloc, &member) == NO_POSITION);
+    // the same in an array that is the number of a text, or an item
+    let array = long_texts(alloc, 1)?;
+    let member = object_of(alloc, String::from_str(alloc, "k")?, array)?;
+    assert!(rt; fault::<Spur>(alloc, &member) == NO_POSITION);
+    let items = array_of(alloc, long_texts(alloc, 1)?, long_text(alloc)?)?;
+    assert!(rt; fault::<Spur>(alloc, &items) == NO_TEXT);
+    let items = array_of(alloc, long_text(alloc)?, long_texts(alloc, 1)?)?;
+    assert!(rt; fault::<Spur>(alloc, &items) == Some(JsonError::NotText(1)));
     Ok(())
 }
 
 // One such text is read into a bucket of its bytes, and two of them are equal.
 #[test]
 fn items_of_a_million_bytes(rt: HostRuntime) -> Result<(), Fail> {
-    let mut items: Vec<Value> = Vec::new(rt.alloc());
-    items.push(long_text(rt.alloc())?)?;
-    let one = Value::Array(items);
-    let rodeo = SpurThreadedRodeo::deserialize(rt.alloc(), &one)?;
-    assert!(rt; rodeo.len() == 1);
-    assert!(rt; rodeo.current_memory_usage(&rt) == 1_000_000);
-    let mut items: Vec<Value> = Vec::new(rt.alloc());
-    items.push(long_text(rt.alloc())?)?;
-    items.push(long_text(rt.alloc())?)?;
-    let two = Value::Array(items);
+    let one = long_texts(rt.alloc(), 1)?;
+    let shared: Shared = read(rt.alloc(), &one)?;
+    assert!(rt; len(&shared) == 1);
+    assert!(rt; usage(&rt, &shared) == 1_000_000);
+    let two = long_texts(rt.alloc(), 2)?;
     assert!(rt; fault::<Spur>(rt.alloc(), &two) == Some(JsonError::Doubled(1)));
     Ok(())
 }
@@ -168,10 +325,8 @@ fn items_of_a_million_bytes(rt: HostRuntime) -> Result<(), Fail> {
 #[test]
 fn a_name_of_a_million_bytes(rt: HostRuntime) -> Result<(), Fail> {
     for (number, wanted) in [(0u64, NO_POSITION), (1, None), (2, NO_POSITION)] {
-        let mut members: Map<String, Value> = Map::new(rt.alloc());
         let name = "a".repeat(rt.alloc(), 1_000_000)?;
-        members.insert(name, Value::Number(Number::from(number)))?;
-        let value = Value::Object(members);
+        let value = object_of(rt.alloc(), name, Value::Number(Number::from(number)))?;
         assert!(rt; fault::<Spur>(rt.alloc(), &value) == wanted, "{number}");
     }
     Ok(())

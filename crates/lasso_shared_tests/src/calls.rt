@@ -1,0 +1,265 @@
+//! Calls of an interner that threads share, each in a function of its own. None hands on what its call's contract says, so a test of
+//! many calls is proved as fast as one of few.
+ghost use Rattle.std.specs.Prelude.{◌≡◌, ◌<◌};
+
+use lasso_log::log::Pass;
+use lasso_parts::keys::{Key, Spur};
+use lasso_parts::util::{Capacity, FixedState, LassoErrorKind, LassoResult, MemoryLimits};
+use lasso_shared::threaded::ThreadedRodeo;
+use lasso_single::reader::RodeoReader;
+use std::alloc::Global;
+use std::hash::BuildHasher;
+use std::sync::Wait;
+use std::test::*;
+
+/// An interner with the default keys and hasher.
+pub type Shared = ThreadedRodeo<Spur, FixedState>;
+
+/// A frozen interner with the default keys and hasher.
+pub type Reader = RodeoReader<Spur, FixedState, Global>;
+
+/// An interner by default.
+pub fn made(alloc: Global) -> Result<Shared, Fail> {
+    Ok(ThreadedRodeo::default(alloc)?)
+}
+
+/// An interner with so many bytes in its first bucket, under this limit.
+pub fn limited<K: Key>(
+    alloc: Global,
+    bytes: usize,
+    limit: usize,
+) -> Result<ThreadedRodeo<K, FixedState>, Fail>
+    requires { 0 < bytes }
+{
+    let room = Capacity::for_bytes(bytes);
+    let limits = MemoryLimits::new(limit);
+    Ok(ThreadedRodeo::with_capacity_and_memory_limits(alloc, room, limits)?)
+}
+
+/// The same under no limit.
+pub fn with_bytes<K: Key>(alloc: Global, bytes: usize) -> Result<ThreadedRodeo<K, FixedState>, Fail>
+    requires { 0 < bytes }
+{
+    Ok(ThreadedRodeo::with_capacity(alloc, Capacity::for_bytes(bytes))?)
+}
+
+/// An interner of default capacity and limit whose indexes ask such a hasher.
+pub fn hashed<K: Key, S: BuildHasher + Default + Drop>(
+    alloc: Global,
+) -> Result<ThreadedRodeo<K, S>, Fail> {
+    Ok(ThreadedRodeo::with_hasher(alloc, S::default())?)
+}
+
+/// How many texts there are.
+pub fn len<K: Key, S: BuildHasher + Drop>(shared: &ThreadedRodeo<K, S>) -> usize {
+    shared.len()
+}
+
+/// The same by a new pass.
+pub fn len_as<K: Key, S: BuildHasher + Drop>(shared: &ThreadedRodeo<K, S>) -> usize {
+    let mut pass = shared.pass();
+    shared.len_as(&mut pass)
+}
+
+/// How many bytes all buckets take.
+pub fn usage<K: Key, S: BuildHasher + Drop, R: Wait>(
+    rt: &R,
+    shared: &ThreadedRodeo<K, S>,
+) -> usize {
+    shared.current_memory_usage(rt)
+}
+
+/// How many bytes all buckets may take.
+pub fn limit<K: Key, S: BuildHasher + Drop, R: Wait>(
+    rt: &R,
+    shared: &ThreadedRodeo<K, S>,
+) -> usize {
+    shared.max_memory_usage(rt)
+}
+
+/// Sets how many bytes all buckets may take.
+pub fn set_limit<K: Key, S: BuildHasher + Drop, R: Wait>(
+    rt: &R,
+    shared: &ThreadedRodeo<K, S>,
+    bytes: usize,
+) {
+    shared.set_memory_limits(rt, MemoryLimits::new(bytes));
+}
+
+/// Whether the text is there.
+pub fn contains<K: Key, S: BuildHasher + Drop, R: Wait>(
+    rt: &R,
+    shared: &ThreadedRodeo<K, S>,
+    text: &str,
+) -> bool {
+    shared.contains(rt, text)
+}
+
+/// The number of the text, if it is there.
+pub fn found<K: Key, S: BuildHasher + Drop, R: Wait>(
+    rt: &R,
+    shared: &ThreadedRodeo<K, S>,
+    text: &str,
+) -> Option<usize> {
+    match shared.get(rt, text) {
+        Some(key) => Some(key.into_usize()),
+        None => None,
+    }
+}
+
+/// The key with this number.
+pub fn key<K: Key>(number: usize) -> Result<K, Fail> {
+    Ok(K::try_from_usize(number).ok_or("no key")?)
+}
+
+/// The text that the key with this number stands for.
+pub fn text_at<K: Key, S: BuildHasher + Drop>(
+    shared: &ThreadedRodeo<K, S>,
+    number: usize,
+) -> Result<Option<&str>, Fail> {
+    Ok(shared.try_resolve(key(number)?))
+}
+
+/// The same by the other call.
+pub fn resolved<K: Key, S: BuildHasher + Drop>(
+    shared: &ThreadedRodeo<K, S>,
+    number: usize,
+) -> Result<Option<&str>, Fail> {
+    Ok(shared.resolve(key(number)?))
+}
+
+/// The same by a new pass.
+pub fn text_at_as<K: Key, S: BuildHasher + Drop>(
+    shared: &ThreadedRodeo<K, S>,
+    number: usize,
+) -> Result<Option<&str>, Fail> {
+    let mut pass = shared.pass();
+    Ok(shared.try_resolve_as(&mut pass, key(number)?))
+}
+
+/// The number of a copied text.
+pub fn copied<K: Key, S: BuildHasher + Drop, R: Wait>(
+    rt: &R,
+    shared: &ThreadedRodeo<K, S>,
+    text: &str,
+) -> LassoResult<usize> {
+    Ok(shared.try_get_or_intern(rt, text)?.into_usize())
+}
+
+/// The number of a static text.
+pub fn kept<K: Key, S: BuildHasher + Drop, R: Wait>(
+    rt: &R,
+    shared: &ThreadedRodeo<K, S>,
+    text: &'static str,
+) -> LassoResult<usize> {
+    Ok(shared.try_get_or_intern_static(rt, text)?.into_usize())
+}
+
+/// The number of a copied text, by the other call.
+pub fn copied_so<K: Key, S: BuildHasher + Drop, R: Wait>(
+    rt: &R,
+    shared: &ThreadedRodeo<K, S>,
+    text: &str,
+) -> LassoResult<usize> {
+    Ok(shared.get_or_intern(rt, text)?.into_usize())
+}
+
+/// The number of a static text, by the other call.
+pub fn kept_so<K: Key, S: BuildHasher + Drop, R: Wait>(
+    rt: &R,
+    shared: &ThreadedRodeo<K, S>,
+    text: &'static str,
+) -> LassoResult<usize> {
+    Ok(shared.get_or_intern_static(rt, text)?.into_usize())
+}
+
+/// The number of a copied text, or why it was refused. It is asked for again where memory was wanting.
+pub fn number<K: Key, S: BuildHasher + Drop, R: Wait>(
+    rt: &R,
+    shared: &ThreadedRodeo<K, S>,
+    text: &str,
+) -> Result<usize, LassoErrorKind> {
+    match copied(rt, shared, text) {
+        Err(error) if error.kind() == LassoErrorKind::FailedAllocation => {
+            answered(copied(rt, shared, text))
+        }
+        reply => answered(reply),
+    }
+}
+
+/// The answer, or why it was refused.
+pub fn answered<T>(reply: LassoResult<T>) -> Result<T, LassoErrorKind> {
+    match reply {
+        Ok(answer) => Ok(answer),
+        Err(error) => Err(error.kind()),
+    }
+}
+
+/// A pass of the interner.
+pub fn pass_of<K: Key, S: BuildHasher + Drop>(shared: &ThreadedRodeo<K, S>) -> Pass<K>
+    ensures { result.of ≡ shared.now }
+{
+    shared.pass()
+}
+
+/// How many texts the pass then has seen.
+pub fn seen_by<K: Key, S: BuildHasher + Drop>(
+    shared: &ThreadedRodeo<K, S>,
+    pass: &mut Pass<K>,
+) -> usize
+    requires { pass.old.of ≡ shared.now }
+    ensures { pass.new.of ≡ pass.old.of }
+{
+    shared.len_as(pass)
+}
+
+/// Interns a static text by the pass.
+pub fn kept_as<K: Key, S: BuildHasher + Drop, R: Wait>(
+    rt: &R,
+    shared: &ThreadedRodeo<K, S>,
+    pass: &mut Pass<K>,
+    text: &'static str,
+) -> LassoResult<K>
+    requires { pass.old.of ≡ shared.now }
+    ensures { pass.new.of ≡ pass.old.of }
+{
+    shared.try_get_or_intern_static_as(rt, pass, text)
+}
+
+/// Interns a copied text by the pass.
+pub fn copied_as<K: Key, S: BuildHasher + Drop, R: Wait>(
+    rt: &R,
+    shared: &ThreadedRodeo<K, S>,
+    pass: &mut Pass<K>,
+    text: &str,
+) -> LassoResult<K>
+    requires { pass.old.of ≡ shared.now }
+    ensures { pass.new.of ≡ pass.old.of }
+{
+    shared.try_get_or_intern_as(rt, pass, text)
+}
+
+/// Whether the key stands for the text by the pass.
+pub fn stands_for<K: Key, S: BuildHasher + Drop>(
+    shared: &ThreadedRodeo<K, S>,
+    pass: &mut Pass<K>,
+    key: K,
+    text: &str,
+) -> bool
+    requires { pass.old.of ≡ shared.now }
+    ensures { pass.new.of ≡ pass.old.of }
+{
+    shared.try_resolve_as(pass, key) == Some(text)
+}
+
+/// The text that the key with this number stands for by the pass.
+pub fn text_of<'a, K: Key, S: BuildHasher + Drop>(
+    shared: &'a ThreadedRodeo<K, S>,
+    pass: &mut Pass<K>,
+    number: usize,
+) -> Result<Option<&'a str>, Fail>
+    requires { pass.old.of ≡ shared.now }
+    ensures { pass.new.of ≡ pass.old.of }
+{
+    Ok(shared.try_resolve_as(pass, key(number)?))
+}
