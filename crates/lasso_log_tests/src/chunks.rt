@@ -28,6 +28,11 @@ fn positions_lie_in_chunks_that_double(rt: HostRuntime) {
     }
 }
 
+// Makes the chunk of a position, and tells whether there is one then.
+fn makes(alloc: Global, chunks: &Chunks<&'static str>, position: u64) -> Result<bool, AllocError> {
+    Ok(chunks.make_chunk(alloc, position)?.is_some())
+}
+
 // Fills a cell, and looks at what it holds then.
 fn fills<R: Wait>(
     rt: &R,
@@ -42,12 +47,17 @@ fn fills<R: Wait>(
 #[test]
 fn a_filled_cell_lends_its_text(rt: HostRuntime) -> Result<(), Fail> {
     let chunks = Chunks::new(rt.alloc(), "")?;
-    for (i, position) in [0, 31, 32, 63, 64, 700].into_iter().enumerate() {
-        assert!(rt; chunks.make_chunk(rt.alloc(), position)?.is_some());
-        assert!(rt;
-            fills(&rt, &chunks, position, TEXTS[i % 4]),
-            "at {position}"
-        );
+    let cells = [
+        (0, TEXTS[0]),
+        (31, TEXTS[1]),
+        (32, TEXTS[2]),
+        (63, TEXTS[3]),
+        (64, TEXTS[0]),
+        (700, TEXTS[1]),
+    ];
+    for (position, text) in cells {
+        assert!(rt; makes(rt.alloc(), &chunks, position)?);
+        assert!(rt; fills(&rt, &chunks, position, text), "at {position}");
     }
     Ok(())
 }
@@ -68,7 +78,7 @@ fn keeps<R: Wait>(
 #[test]
 fn a_chunk_is_made_once(rt: HostRuntime) -> Result<(), Fail> {
     let chunks = Chunks::new(rt.alloc(), "")?;
-    assert!(rt; chunks.make_chunk(rt.alloc(), 40)?.is_some());
+    assert!(rt; makes(rt.alloc(), &chunks, 40)?);
     assert!(rt; keeps(&rt, rt.alloc(), &chunks, 40, 41) == (true, true));
     assert!(rt; fills(&rt, &chunks, 41, "beside it"));
     Ok(())
@@ -77,7 +87,7 @@ fn a_chunk_is_made_once(rt: HostRuntime) -> Result<(), Fail> {
 #[test]
 fn a_chunk_past_all_memory_is_refused(rt: HostRuntime) -> Result<(), Fail> {
     let chunks = Chunks::new(rt.alloc(), "")?;
-    assert!(rt; chunks.make_chunk(rt.alloc(), 5)?.is_some());
+    assert!(rt; makes(rt.alloc(), &chunks, 5)?);
     assert!(rt; keeps(&rt, rt.alloc(), &chunks, 5, 1 << 62) == (false, true));
     assert!(rt; keeps(&rt, rt.alloc(), &chunks, 6, u64::MAX) == (false, true));
     Ok(())

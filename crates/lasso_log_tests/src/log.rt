@@ -1,6 +1,6 @@
 //! Slots that a spine keeps ahead of its list.
 ghost use Rattle.std.specs.Prelude.{◌≡◌, ◌<◌, [], All, length};
-ghost use Rattle.lasso_log.specs.Views.{InternerId, list_of};
+ghost use Rattle.lasso_log.specs.Views.{InternerId, PassView, list_of};
 
 mod copied;
 mod given_back;
@@ -150,6 +150,27 @@ fn read_all(log: &Log<Spur>, texts: &[&'static str]) -> usize {
     found
 }
 
+// The text at the position.
+fn read_at<'a>(log: &'a Log<Spur>, pass: &mut Pass<Spur>, position: u64) -> Option<&'a str>
+    requires { pass.old.of ≡ log.now }
+    ensures { pass.new.of ≡ log.now }
+{
+    log.read(position, pass)
+}
+
+// The length of the list, as the spine and as the log tells it.
+fn lengths(log: &Log<Spur>, spine: &Spine<Spur>, pass: &mut Pass<Spur>) -> (u64, u64)
+    requires { pass.old.of ≡ log.now }
+    ensures { pass.new.of ≡ log.now }
+{
+    (spine.len(), log.len(pass))
+}
+
+// The list's length as the spine tells it, and how many slots are kept.
+fn len_and_kept(spine: &Spine<Spur>) -> (u64, u64) {
+    (spine.len(), spine.kept())
+}
+
 #[test]
 fn slots_kept_ahead_have_their_chunks(rt: HostRuntime) -> Result<(), Fail> {
     let opened = Opened {
@@ -158,13 +179,13 @@ fn slots_kept_ahead_have_their_chunks(rt: HostRuntime) -> Result<(), Fail> {
     };
     let (log, mut spine) = Log::open(rt.alloc(), opened)?;
     assert!(rt; append_all(&rt, rt.alloc(), &log, &mut spine, &TEXTS[..31]) == 31);
-    assert!(rt; spine.kept() == 0);
+    assert!(rt; len_and_kept(&spine) == (31, 0));
     // the slots of positions 31, 32 and 33, of which the first alone is in the first chunk
     let (kept, appended) = append_ahead(&rt, rt.alloc(), &log, &mut spine, [TEXTS[31], TEXTS[32]])?;
     assert!(rt; (kept, appended) == (3, 2));
-    assert!(rt; spine.kept() == 0);
+    assert!(rt; len_and_kept(&spine) == (33, 0));
     assert!(rt; read_all(&log, &TEXTS) == 33);
     let mut pass = log.pass();
-    assert!(rt; log.read(33, &mut pass) == None);
+    assert!(rt; read_at(&log, &mut pass, 33) == None);
     Ok(())
 }

@@ -5,6 +5,7 @@ ghost use Rattle.lasso_log.specs.SharedBuckets.{names_with_book};
 ghost use Rattle.lasso_log.specs.Views.{InternerId, PassView, SpineView, list_of};
 
 use crate::log::opened::opens;
+use crate::log::{lengths, read_at};
 use lasso_log::log::{Log, NewLog, Pass, Spine};
 use lasso_log::shared_arena::bucket_list::BucketList;
 use lasso_parts::keys::{Key, Spur};
@@ -58,12 +59,12 @@ fn copied_texts_are_put_last_and_read_back(rt: HostRuntime) -> Result<(), Fail> 
     assert!(rt; list.len() == 1);
     add_copied(&rt, alloc, &log, &list, &mut spine, &mut pass, "jk")?;
     assert!(rt; list.len() == 2);
-    assert!(rt; log.len(&mut pass) == 4);
-    assert!(rt; log.read(0, &mut pass) == Some("bc"));
-    assert!(rt; log.read(1, &mut pass) == Some(""));
-    assert!(rt; log.read(2, &mut pass) == Some("defghi"));
-    assert!(rt; log.read(3, &mut pass) == Some("jk"));
-    assert!(rt; log.read(4, &mut pass) == None);
+    assert!(rt; lengths(&log, &spine, &mut pass) == (4, 4));
+    assert!(rt; read_at(&log, &mut pass, 0) == Some("bc"));
+    assert!(rt; read_at(&log, &mut pass, 1) == Some(""));
+    assert!(rt; read_at(&log, &mut pass, 2) == Some("defghi"));
+    assert!(rt; read_at(&log, &mut pass, 3) == Some("jk"));
+    assert!(rt; read_at(&log, &mut pass, 4) == None);
     // twice the first bucket's size
     assert!(rt; log.usage(&rt, &spine, &mut pass) == 24);
     Ok(())

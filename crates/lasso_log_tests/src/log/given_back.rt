@@ -3,6 +3,7 @@ ghost use Rattle.std.specs.Prelude.{◌≡◌, ◌-◌, ◌∷◌, ◌++◌, [],
 ghost use Rattle.lasso_log.specs.History.{Lacks};
 ghost use Rattle.lasso_log.specs.Views.{IsSameSpine, list_of};
 
+use crate::log::{len_and_kept, read_at};
 use lasso_log::log::{Log, Opened, Pass, Spine};
 use lasso_parts::keys::{Key, Spur};
 use lasso_parts::util::{LassoError, LassoErrorKind, LassoResult};
@@ -63,10 +64,9 @@ fn slots_that_were_given_back_are_kept_again(rt: HostRuntime) -> Result<(), Fail
     add(&rt, rt.alloc(), &log, &mut spine, &mut pass, "p")?;
     keep_and_give_back(rt.alloc(), &log, &mut spine, 1)?;
     add(&rt, rt.alloc(), &log, &mut spine, &mut pass, "q")?;
-    assert!(rt; spine.len() == 2);
-    assert!(rt; spine.kept() == 0);
-    assert!(rt; log.read(0, &mut pass) == Some("p"));
-    assert!(rt; log.read(1, &mut pass) == Some("q"));
-    assert!(rt; log.read(2, &mut pass) == None);
+    assert!(rt; len_and_kept(&spine) == (2, 0));
+    assert!(rt; read_at(&log, &mut pass, 0) == Some("p"));
+    assert!(rt; read_at(&log, &mut pass, 1) == Some("q"));
+    assert!(rt; read_at(&log, &mut pass, 2) == None);
     Ok(())
 }

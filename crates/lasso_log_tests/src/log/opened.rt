@@ -1,20 +1,23 @@
 //! A log that opens with texts: their positions, the length, and the next append.
 ghost use Rattle.std.specs.Prelude.{◌≡◌, ◌∷◌, [], IfOk, codes};
-ghost use Rattle.lasso_log.specs.Views.{list_of};
+ghost use Rattle.lasso_log.specs.Openings.{OpeningView};
+ghost use Rattle.lasso_log.specs.SharedBuckets.{SharedView};
+ghost use Rattle.lasso_log.specs.Views.{InternerId, PassView, list_of};
 
 use crate::log::given_back::add;
-use lasso_log::log::{Log, NewLog, OpeningTexts};
+use crate::log::{lengths, read_at};
+use lasso_log::log::{Log, NewLog, OpeningTexts, Pass};
+use lasso_log::shared_arena::bucket::SharedBucket;
 use lasso_log::shared_arena::piece::Piece;
 use lasso_parts::keys::Spur;
 use lasso_parts::util::{LassoError, LassoErrorKind, LassoResult};
 use std::alloc::Global;
 use std::test::*;
 
-// A log that opens with two texts, one of which is empty. The other is copied.
-pub(super) fn opens(alloc: Global) -> LassoResult<NewLog<Spur>>
-    ensures spine { IfOk result (λ n. n.spine.of ≡ n.log) }
-    ensures list { IfOk result (λ n. list_of n.log n.spine.notes ≡ codes "bc" ∷ [] ∷ []) }
-    ensures bucket { IfOk result (λ n. n.bucket.of ≡ n.log) }
+// Two texts for a log to open with, one of which is empty. The other is copied into a bucket of 8 bytes.
+fn two_texts(alloc: Global) -> LassoResult<OpeningTexts>
+    ensures texts { IfOk result (λ t. t.texts ≡ codes "bc" ∷ [] ∷ []) }
+    ensures bucket { IfOk result (λ t. t.bucket.size ≡ 8) }
 {
     let mut texts = OpeningTexts::new(alloc, 8)?;
     let Some(copied) = texts.copy_in("bc") else {
@@ -22,7 +25,25 @@ pub(super) fn opens(alloc: Global) -> LassoResult<NewLog<Spur>>
     };
     texts.push(alloc, copied)?;
     texts.push(alloc, Piece::lasting(""))?;
+    Ok(texts)
+}
+
+// A log that opens with them.
+pub(super) fn opens(alloc: Global) -> LassoResult<NewLog<Spur>>
+    ensures spine { IfOk result (λ n. n.spine.of ≡ n.log) }
+    ensures list { IfOk result (λ n. list_of n.log n.spine.notes ≡ codes "bc" ∷ [] ∷ []) }
+    ensures bucket { IfOk result (λ n. n.bucket.of ≡ n.log) }
+{
+    let texts = two_texts(alloc)?;
     Ok(Log::open_with(texts, u64::MAX))
+}
+
+// The bytes of the bucket, and how many of them are taken.
+fn bytes_of(log: &Log<Spur>, bucket: &SharedBucket<Spur>, pass: &mut Pass<Spur>) -> (u64, u64)
+    requires { (pass.old.of ≡ log.now) × (bucket.now.of ≡ log.now) }
+    ensures { pass.new.of ≡ log.now }
+{
+    (bucket.capacity(), bucket.len(log, pass))
 }
 
 #[test]
@@ -33,28 +54,36 @@ fn the_texts_of_an_opening_have_the_first_positions(rt: HostRuntime) -> Result<(
         bucket,
     } = opens(rt.alloc())?;
     let mut pass = log.pass();
-    assert!(rt; spine.len() == 2);
-    assert!(rt; log.len(&mut pass) == 2);
-    assert!(rt; log.read(0, &mut pass) == Some("bc"));
-    assert!(rt; log.read(1, &mut pass) == Some(""));
-    assert!(rt; log.read(2, &mut pass) == None);
-    assert!(rt; (bucket.capacity(), bucket.len(&log, &mut pass)) == (8, 2));
+    assert!(rt; lengths(&log, &spine, &mut pass) == (2, 2));
+    assert!(rt; read_at(&log, &mut pass, 0) == Some("bc"));
+    assert!(rt; read_at(&log, &mut pass, 1) == Some(""));
+    assert!(rt; read_at(&log, &mut pass, 2) == None);
+    assert!(rt; bytes_of(&log, &bucket, &mut pass) == (8, 2));
     add(&rt, rt.alloc(), &log, &mut spine, &mut pass, "a")?;
-    assert!(rt; spine.len() == 3);
-    assert!(rt; log.len(&mut pass) == 3);
-    assert!(rt; log.read(0, &mut pass) == Some("bc"));
-    assert!(rt; log.read(2, &mut pass) == Some("a"));
-    assert!(rt; log.read(3, &mut pass) == None);
+    assert!(rt; lengths(&log, &spine, &mut pass) == (3, 3));
+    assert!(rt; read_at(&log, &mut pass, 0) == Some("bc"));
+    assert!(rt; read_at(&log, &mut pass, 2) == Some("a"));
+    assert!(rt; read_at(&log, &mut pass, 3) == None);
     Ok(())
+}
+
+// Whether the text fits the bucket, where it is put then.
+fn fits(texts: &mut OpeningTexts, text: &str) -> bool {
+    texts.copy_in(text).is_some()
 }
 
 #[test]
 fn a_bucket_that_is_full_takes_no_text_of_an_opening(rt: HostRuntime) -> Result<(), Fail> {
     let mut texts = OpeningTexts::new(rt.alloc(), 4)?;
-    assert!(rt; texts.copy_in("abc").is_some());
-    assert!(rt; texts.copy_in("de").is_none());
-    assert!(rt; texts.copy_in("d").is_some());
-    assert!(rt; texts.copy_in("").is_some());
-    assert!(rt; texts.copy_in("e").is_none());
+    let rows = [
+        ("abc", true),
+        ("de", false),
+        ("d", true),
+        ("", true),
+        ("e", false),
+    ];
+    for (text, wanted) in rows {
+        assert!(rt; fits(&mut texts, text) == wanted, "{text}");
+    }
     Ok(())
 }

@@ -3,7 +3,7 @@ ghost use Rattle.std.specs.Prelude.{◌≡◌, ◌≢◌, length};
 ghost use Rattle.lasso_log.specs.SharedBuckets.{names_with_book};
 ghost use Rattle.lasso_log.specs.Views.{InternerId, PassView, SpineView};
 
-use crate::shared_arena::storing::{bucket_at, opens, stores};
+use crate::shared_arena::storing::{bucket_at, opens, stores, usage_of};
 use lasso_log::log::{Log, Pass, Spine};
 use lasso_log::shared_arena::bucket_list::BucketList;
 use lasso_parts::keys::Spur;
@@ -17,9 +17,9 @@ fn a_long_text_gets_a_bucket_of_its_size(rt: HostRuntime) -> Result<(), Fail> {
     let alloc = rt.alloc();
     let (log, mut spine, list) = opens(alloc, 4, u64::MAX)?;
     let mut pass = log.pass();
-    assert!(rt; log.usage(&rt, &spine, &mut pass) == 4);
+    assert!(rt; usage_of(&rt, &log, &spine, &mut pass) == 4);
     stores(&rt, alloc, &log, &list, &mut spine, &mut pass, "123456789")?;
-    assert!(rt; log.usage(&rt, &spine, &mut pass) == 13);
+    assert!(rt; usage_of(&rt, &log, &spine, &mut pass) == 13);
     assert!(rt; list.len() == 2);
     assert!(rt; bucket_at(&rt, &log, &list, &mut pass, 0) == (4, 0));
     assert!(rt; bucket_at(&rt, &log, &list, &mut pass, 1) == (9, 9));
@@ -43,7 +43,7 @@ fn usage_with<R: Wait>(
     let Ok(_) = stores(rt, alloc, log, list, spine, pass, text) else {
         return None;
     };
-    Some(log.usage(rt, spine, pass))
+    Some(usage_of(rt, log, spine, pass))
 }
 
 #[test]
@@ -70,7 +70,7 @@ fn a_charge_that_the_limit_refuses_leaves_no_event(rt: HostRuntime) -> Result<()
     let mut pass = log.pass();
     let refused = stores(&rt, alloc, &log, &list, &mut spine, &mut pass, "123456789");
     assert!(rt; refused.is_err_and(|e| e.kind() == LassoErrorKind::MemoryLimitReached));
-    assert!(rt; log.usage(&rt, &spine, &mut pass) == 4);
+    assert!(rt; usage_of(&rt, &log, &spine, &mut pass) == 4);
     assert!(rt; list.len() == 1);
     assert!(rt; bucket_at(&rt, &log, &list, &mut pass, 0) == (4, 0));
     // what fits is taken as before
@@ -93,14 +93,12 @@ fn stores_again<R: Wait>(
     requires some { length text.now ≢ 0 }
     ensures of { (pass.new.of ≡ log.now) × (spine.new.of ≡ log.now) }
 {
-    let usage = log.usage(rt, spine, pass);
-    let count = list.len();
+    let before = (usage_of(rt, log, spine, pass), list.len());
     let Err(error) = stores(rt, alloc, log, list, spine, pass, text) else {
         return true;
     };
     error.kind() == LassoErrorKind::FailedAllocation
-        && log.usage(rt, spine, pass) == usage
-        && list.len() == count
+        && (usage_of(rt, log, spine, pass), list.len()) == before
         && stores(rt, alloc, log, list, spine, pass, text).is_ok()
 }
 
@@ -121,7 +119,7 @@ fn a_charge_that_was_refused_once_is_made_later(rt: HostRuntime) -> Result<(), F
             "0123456789abcdef"
         )
     );
-    assert!(rt; log.usage(&rt, &spine, &mut pass) == 28);
+    assert!(rt; usage_of(&rt, &log, &spine, &mut pass) == 28);
     assert!(rt; bucket_at(&rt, &log, &list, &mut pass, 1) == (8, 8));
     assert!(rt; bucket_at(&rt, &log, &list, &mut pass, 2) == (16, 16));
     Ok(())

@@ -7,7 +7,8 @@ ghost use Rattle.lasso_log.specs.Pieces.{PieceView};
 ghost use Rattle.lasso_log.specs.SharedBuckets.{SharedView};
 ghost use Rattle.lasso_log.specs.Views.{InternerId};
 
-use crate::shared_arena::ranges::{copies, opens};
+use crate::shared_arena::ranges::copies;
+use crate::shared_arena::storing::begins;
 use lasso_log::log::{Log, NewLog, Pass};
 use lasso_log::shared_arena::bucket::SharedBucket;
 use lasso_log::shared_arena::piece::Piece;
@@ -45,6 +46,16 @@ fn copies_some<R: Wait>(
     copies(rt, log, bucket, pass, letters.get(..1)?)
 }
 
+// The next number at random.
+fn after(random: u32) -> u32 {
+    random.wrapping_mul(1_664_525).wrapping_add(1_013_904_223)
+}
+
+// A count from 1 to 40.
+fn count_of(random: u32) -> usize {
+    ((random >> 16) % 40 + 1) as usize
+}
+
 // Copies 1 to 40 of the letters, at random, until the bucket has no room for one.
 fn fills<R: Wait>(
     rt: &R,
@@ -61,9 +72,8 @@ fn fills<R: Wait>(
     let mut pieces = Vec::new(alloc);
     let mut random = seed;
     for _ in 0..65_536u32 {
-        random = random.wrapping_mul(1_664_525).wrapping_add(1_013_904_223);
-        let count = (random >> 16) % 40 + 1;
-        let Some(piece) = copies_some(rt, log, bucket, &mut pass, letters, count as usize) else {
+        random = after(random);
+        let Some(piece) = copies_some(rt, log, bucket, &mut pass, letters, count_of(random)) else {
             return Ok(pieces);
         };
         pieces.push(piece)?;
@@ -146,7 +156,7 @@ fn four_threads_fill_a_bucket_side_by_side(rt: HostRuntime) -> Result<(), Fail> 
         log,
         spine: _,
         bucket,
-    } = opens(rt.alloc(), 65_536)?;
+    } = begins(rt.alloc(), 65_536, u64::MAX)?;
     let ((a, b), (c, d)) = four_fill(&rt, rt.alloc(), &log, &bucket);
     let first = filled_by(&log, a, LETTERS[0]).ok_or("another text, or no memory")?;
     let second = filled_by(&log, b, LETTERS[1]).ok_or("another text, or no memory")?;

@@ -1,29 +1,19 @@
 //! Ranges that two threads take of one bucket, one thread each.
-ghost use Rattle.std.specs.Prelude.{◌≡◌, ◌≢◌, IfOk, IfSome};
+ghost use Rattle.std.specs.Prelude.{◌≡◌, IfSome};
 ghost use Rattle.lasso_log.specs.Chunks.{era_named};
 ghost use Rattle.lasso_log.specs.Eras.{life};
 ghost use Rattle.lasso_log.specs.Pieces.{PieceView};
 ghost use Rattle.lasso_log.specs.SharedBuckets.{SharedView};
 ghost use Rattle.lasso_log.specs.Views.{InternerId, PassView};
 
-use lasso_log::log::{Log, NewLog, OpeningTexts, Pass};
+use crate::shared_arena::storing::begins;
+use lasso_log::log::{Log, NewLog, Pass};
 use lasso_log::shared_arena::bucket::SharedBucket;
 use lasso_log::shared_arena::piece::Piece;
 use lasso_parts::keys::Spur;
-use lasso_parts::util::LassoResult;
-use std::alloc::Global;
 use std::sync::Wait;
 use std::test::*;
 use std::thread::join;
-
-// A log that opens with an empty bucket of so many bytes.
-pub(super) fn opens(alloc: Global, bytes: usize) -> LassoResult<NewLog<Spur>>
-    requires { bytes ≢ 0 }
-    ensures { IfOk result (λ n. n.bucket.of ≡ n.log) }
-{
-    let texts = OpeningTexts::new(alloc, bytes)?;
-    Ok(Log::open_with(texts, u64::MAX))
-}
 
 // Takes as many bytes as the text has, fills them, and gives the piece.
 pub(super) fn copies<R: Wait>(
@@ -74,7 +64,7 @@ fn two_threads_take_both_halves(rt: HostRuntime) -> Result<(), Fail> {
         log,
         spine: _,
         bucket,
-    } = opens(rt.alloc(), 8)?;
+    } = begins(rt.alloc(), 8, u64::MAX)?;
     let (a, b) = join(
         &rt,
         || copies_once(&rt, &log, &bucket, "abcd"),
@@ -95,7 +85,7 @@ fn the_second_thread_finds_no_room(rt: HostRuntime) -> Result<(), Fail> {
         log,
         spine: _,
         bucket,
-    } = opens(rt.alloc(), 8)?;
+    } = begins(rt.alloc(), 8, u64::MAX)?;
     let (a, b) = join(
         &rt,
         || copies_once(&rt, &log, &bucket, "abcde"),

@@ -5,5 +5,5 @@ use Rattle.lasso_log_tests.proofs.log.opened.opens.Goals as goal
 
 pub open_with-requires-clause-distinct : goal.open_with-requires-clause-distinct
 open_with-requires-clause-distinct c =
-    rw (c.in_ok-push-2.ensures.texts, c.lasting.ensures.text, c.in_ok-push.ensures.texts, c.in-Some.ensures.piece.0, c.copy_in.ensures.texts, c.in_ok-texts.ensures.texts)
+    rw c.in_ok-texts.ensures.texts
     (distinct_push ((98 ∷ 99 ∷ []) ∷ []) [] (distinct_push [] (98 ∷ 99 ∷ []) none_distinct refl) refl)
