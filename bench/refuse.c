@@ -61,12 +61,12 @@ static void unlock(void)
     atomic_flag_clear(&is_locked);
 }
 
-/* Counts a block that the program's own code asked for from this place. */
+/* Counts a block that the program's own code asked for from this address. */
 static void *keep(void *block, size_t size, const void *caller)
 {
     size_t slot = slot_of(block);
-    uintptr_t place = (uintptr_t)caller;
-    if (!block || !atomic_load(&counting) || place < code_start || place >= code_end)
+    uintptr_t address = (uintptr_t)caller;
+    if (!block || !atomic_load(&counting) || address < code_start || address >= code_end)
         return block;
     lock();
     if (++blocks == SLOTS)
@@ -146,12 +146,12 @@ void *aligned_alloc(size_t alignment, size_t size)
     return is_refused() ? NULL : keep(__libc_memalign(alignment, size), size, __builtin_return_address(0));
 }
 
-int posix_memalign(void **place, size_t alignment, size_t size)
+int posix_memalign(void **block_out, size_t alignment, size_t size)
 {
     void *block = is_refused() ? NULL : keep(__libc_memalign(alignment, size), size, __builtin_return_address(0));
     if (!block)
         return ENOMEM;
-    *place = block;
+    *block_out = block;
     return 0;
 }
 

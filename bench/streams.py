@@ -11,7 +11,7 @@ FIRST_BUCKET = 4096
 LETTERS = b"abcdefghijklmnopqrstuvwxyz"
 LONG = 100_000_000
 
-PLACES = {
+FORMS = {
     "alone": b"X",
     "alone_ended": b"X\n",
     "first": b"X\nb\nX\n",
@@ -33,8 +33,8 @@ def shorter():
     yield "cut_letter", ("a" + "\u00e9" * 32768).encode()
     yield "many", b"".join(b"%d\n" % number for number in range(40_000))
     for length in (65_535, 65_536, 65_537):
-        for place, form in PLACES.items():
-            yield f"{place}_{length}", form.replace(b"X", line_of(length))
+        for name, form in FORMS.items():
+            yield f"{name}_{length}", form.replace(b"X", line_of(length))
 
 
 def lines_of(text):

@@ -95,11 +95,11 @@ fn measure<T: SharedTexts>(name: &str, call: &str, texts: &T, positions: &[u32])
     let mut read = [f64::INFINITY; 3];
     let mut count = [f64::INFINITY; 3];
     for _ in 0..ROUNDS {
-        for (place, threads) in THREADS.iter().enumerate() {
+        for (position, threads) in THREADS.iter().enumerate() {
             let once = time(*threads, lengths, || read_all(black_box(texts), black_box(positions)));
-            read[place] = read[place].min(once);
+            read[position] = read[position].min(once);
             let once = time(*threads, TEXTS * CALLS, || count_all(black_box(texts), CALLS));
-            count[place] = count[place].min(once);
+            count[position] = count[position].min(once);
         }
     }
     for (call, times) in [(call, read), ("len", count)] {

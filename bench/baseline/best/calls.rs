@@ -52,7 +52,7 @@ fn time(count: u64, what: &str, wanted: usize, work: impl FnOnce() -> usize) {
 
 fn round<H: TextHash>(count: u64) {
     let texts: Vec<String> = (0..count).map(numbered).collect();
-    let again: Vec<String> = (0..count).map(|place| numbered(place * STRIDE % count)).collect();
+    let again: Vec<String> = (0..count).map(|position| numbered(position * STRIDE % count)).collect();
     let missing: Vec<String> = (count..2 * count).map(numbered).collect();
     let positions = (0..count as usize).sum();
     let last_bytes = again.iter().map(|text| usize::from(*text.as_bytes().last().unwrap())).sum();

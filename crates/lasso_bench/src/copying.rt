@@ -42,7 +42,7 @@ pub fn best_copy_timings<R: AllocGlobal + Clock + Wait>(rt: &R) -> Result<CopyTi
             bucket,
         } = Log::<Spur>::open_with(texts, u64::MAX);
         let start = Instant::now(rt)?;
-        let copied = copy_all(rt, &log, &bucket);
+        let copied = copy_texts(rt, &log, &bucket);
         best.copy = best
             .copy
             .min(tenths_a_call(start.elapsed(rt)?, COPIES as usize));
@@ -57,7 +57,7 @@ pub fn best_copy_timings<R: AllocGlobal + Clock + Wait>(rt: &R) -> Result<CopyTi
 }
 
 /// Copies the text as often as the bucket has room for it, and at most `COPIES` times, and tells how often it was copied.
-pub fn copy_all<R: Wait>(rt: &R, log: &Log<Spur>, bucket: &SharedBucket<Spur>) -> u32
+pub fn copy_texts<R: Wait>(rt: &R, log: &Log<Spur>, bucket: &SharedBucket<Spur>) -> u32
     requires { bucket.now.of ≡ log.now }
 {
     let mut pass = log.pass();

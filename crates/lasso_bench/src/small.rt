@@ -4,12 +4,12 @@ use crate::calls::{Calls, Plain, WithPass, fill};
 use crate::columns::time_columns;
 use crate::copying::best_copy_timings;
 use crate::frozen::{FrozenSample, FrozenTexts, best_frozen_timings, keys_at, resolve_all};
-use crate::history::{history_round, print_places};
 use crate::interners::{time_filled, time_filling};
 use crate::lines::Lines;
 use crate::pools::{KeyedTexts, MapPool, RodeoPool, SetPool, TextPool};
 use crate::positions::random_positions;
 use crate::refill::best_refill_timings;
+use crate::rounds::{calls_in_round, print_verdicts};
 use crate::shared::{SharedTexts, Shelf};
 use crate::texts::{Sample, jumped};
 use crate::threads::{Walk, best_shared_timings};
@@ -40,8 +40,8 @@ pub fn print_small<R: AllocGlobal + Clock + Print + Threads + Wait + Sync>(rt: &
     print_interners(rt)?;
     print_walks(rt)?;
     time_columns(rt, LINES.as_bytes())?;
-    print_places(rt)?;
-    print_histories(rt)
+    print_verdicts(rt)?;
+    print_random_calls(rt)
 }
 
 // Prints positions in the orders in which texts are asked for.
@@ -177,9 +177,9 @@ fn print_walks<R: AllocGlobal + Clock + Print + Wait>(rt: &R) -> Result<()> {
 }
 
 // Makes three rounds of random calls, one of them with few keys and one in which a thread sets limits alone.
-fn print_histories<R: AllocGlobal + Print + Threads + Wait + Sync>(rt: &R) -> Result<()> {
+fn print_random_calls<R: AllocGlobal + Print + Threads + Wait + Sync>(rt: &R) -> Result<()> {
     for seed in [0u64, 1, 2] {
-        let len = history_round(rt, seed, CALLS)?;
+        let len = calls_in_round(rt, seed, CALLS)?;
         ensure!(len > 200, "round {seed} has {len} texts alone");
         println!(rt; "round {seed}: one list explains all answers")?;
     }

@@ -37,13 +37,13 @@ position_stays texts (other ∷ more) text n at = position_stays (with_new texts
 key_of_position : (position key : ℕ) → kept_at 4294967295 position ≡ Some key → Some position ≡ Some (key - 1)
 key_of_position position key is = let sum = (cond_some _ _ _ is).1 in let same : position ≡ key - 1 = omega arith in ap (λ n. Some n) same
 
-placed_by : (found : Option ℕ) (texts : List Text) (text : Text) (key : ℕ) → position_of texts text ≡ found → kept_at 4294967295 (unwrap_or found (length texts)) ≡ Some key → position_of (if is_some found then texts else texts ++ text ∷ []) text ≡ Some (key - 1)
-placed_by None texts text key none is = position_last texts text none ∙ key_of_position (length texts) key is
-placed_by (Some n) texts text key at is = at ∙ key_of_position n key is
+position_interned_by : (found : Option ℕ) (texts : List Text) (text : Text) (key : ℕ) → position_of texts text ≡ found → kept_at 4294967295 (unwrap_or found (length texts)) ≡ Some key → position_of (if is_some found then texts else texts ++ text ∷ []) text ≡ Some (key - 1)
+position_interned_by None texts text key none is = position_last texts text none ∙ key_of_position (length texts) key is
+position_interned_by (Some n) texts text key at is = at ∙ key_of_position n key is
 
 -- the key of a text that was interned is that of its position
-pub placed : (texts : List Text) (text : Text) (key : ℕ) → kept_at 4294967295 (interned_position texts text) ≡ Some key → position_of (with_new texts text) text ≡ Some (key - 1)
-placed texts text key is = placed_by (position_of texts text) texts text key refl is
+pub position_interned : (texts : List Text) (text : Text) (key : ℕ) → kept_at 4294967295 (interned_position texts text) ≡ Some key → position_of (with_new texts text) text ≡ Some (key - 1)
+position_interned texts text key is = position_interned_by (position_of texts text) texts text key refl is
 
 -- a text adds at most its bytes to those of the list
 pub new_bytes : (there : Bool) (texts : List Text) (text : Text) → length (concat (if there then texts else texts ++ text ∷ [])) ≤ length (concat texts) + length text

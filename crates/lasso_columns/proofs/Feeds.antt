@@ -1,7 +1,7 @@
--- The first place that passes a test, by the list of all places that do.
+-- The first position that passes a test, by the list of all positions that do.
 --
--- A search that looks near first answers the first of a list of places. An empty list says that no place passes, and what
--- a list begins with is the first that does: both by going through the places one after another.
+-- A search that looks near first answers the first of a list of positions. An empty list says that no position passes, and what
+-- a list begins with is the first that does: both by going through the positions one after another.
 use Rattle.std.proofs.Common.{◌≡◌, ℕ, zero, suc, ◌+◌, ◌-◌, ◌≤◌, ◌⊎◌, ◌∙◌, Bool, false, List, [], ◌∷◌, Option, Some, None, length, get_or, refl, sym, ap, subst, arith, inl, inr, ⊎_elim}
 use Rattle.std.proofs.lemmas.Bool.{cases_Bool, cond-true, cond-false, false≢true}
 use Rattle.std.specs.List.{slice_index}
@@ -17,7 +17,7 @@ module _ (test : ℕ → Bool) (hay : List ℕ) where
   here_or_later (suc i) zero low = absurd (omega (arith, low))
   here_or_later (suc i) (suc k) low = ⊎_elim (λ e. inl (ap suc e)) (λ l. inr (omega (arith, l))) (here_or_later i k (omega (arith, low)))
 
-  -- a place that does not pass, and none from the next one on
+  -- a position that does not pass, and none from the next one on
   none_more : (i j : ℕ) → ¬ Passes test hay i → Nowhere (Passes test hay) (i + 1) j → Nowhere (Passes test hay) i j
   none_more i j fails later = λ k low high passes. ⊎_elim (λ same. fails (subst (Passes test hay) same passes)) (λ more. later k more high passes) (here_or_later i k low)
 
@@ -39,7 +39,7 @@ module _ (test : ℕ → Bool) (hay : List ℕ) where
       (record { low = omega (arith, later.0.low); high = omega (arith, later.0.high); before = none_more i k (fails_here i f) later.0.before }, later.1))
       (cases_Bool (test (slice_index hay i)))
 
-  -- what is taken first of all places that pass
+  -- what is taken first of all positions that pass
   pub first_taken : (r : Option ℕ) (all rest : List ℕ) → all ≡ places test hay → TakesFirst all r rest → IsFirstByte test hay r
   first_taken None all rest is taken = subst (λ n. Nowhere (Passes test hay) 0 n) (omega arith) (nowhere 0 (length hay - 0) (sym is ∙ taken.0))
   first_taken (Some k) all rest is taken = subst (λ n. NoneBefore (Passes test hay) 0 n k × Passes test hay k) (omega arith) (first 0 (length hay - 0) k rest (sym is ∙ taken))

@@ -172,3 +172,12 @@ fn copied_over_another(rt: HostRuntime) -> Result<(), Fail> {
     assert!(rt; !copy.contains("blue"));
     Ok(())
 }
+
+#[test]
+fn copied_over_another_as_a_clone(rt: HostRuntime) -> Result<(), Fail> {
+    let rodeo: SpurRodeo = Rodeo::from_iter(rt.alloc(), ["red", "green"])?;
+    let mut copy: SpurRodeo = Rodeo::from_iter(rt.alloc(), ["blue"])?;
+    copy.clone_from(&rodeo)?;
+    assert!(rt; copy == rodeo);
+    Ok(())
+}

@@ -49,6 +49,17 @@ fn shared_with_a_pass(rt: HostRuntime) -> Result<(), Fail> {
 }
 
 #[test]
+fn shared_by_passes_that_meet(rt: HostRuntime) -> Result<(), Fail> {
+    let rodeo: SpurThreadedRodeo = ThreadedRodeo::default(rt.alloc())?;
+    let mut first = rodeo.pass();
+    let key = rodeo.try_get_or_intern_as(&rt, &mut first, "Hello, world!")?;
+    let mut second = rodeo.pass();
+    second.meet(&first);
+    assert!(rt; rodeo.try_resolve_as(&mut second, key) == Some("Hello, world!"));
+    Ok(())
+}
+
+#[test]
 fn shared_looked_up(rt: HostRuntime) -> Result<(), Fail> {
     let rodeo: SpurThreadedRodeo = ThreadedRodeo::default(rt.alloc())?;
     let key = rodeo.get_or_intern(&rt, "Hello, world!")?;

@@ -65,7 +65,7 @@ pub front_then : (before mid after : Option (List ℕ)) (front back : List ℕ) 
 front_then before mid after front back result first second =
     grows_then before mid after (λ part. part ≡ front) (WritesAll back result) (WritesAll (front ++ back) result) first second (λ p q is w. writes_behind p q front back result is w)
 
--- the digits end before the last place of 21, where the space is
+-- the digits end before the last position of 21, where the space is
 pub front_is : (digits back : List ℕ) (start : ℕ) → back ≡ digits ++ 32 ∷ [] → start + length digits ≡ 20 → take (21 - start) back ≡ digits ++ 32 ∷ []
 front_is digits back start is fits = take_all (21 - start) back (let n : length back ≡ length digits + 1 = ap length is ∙ length-append digits (32 ∷ []) in omega arith) ∙ is
 

@@ -9,7 +9,7 @@ pub mod Words
 pub mod Lengths
 pub mod Steps
 pub mod Logs
-pub mod Places
+pub mod ChunkPositions
 pub mod Lined
 pub mod Reading
 pub mod LentBytes

@@ -1,4 +1,4 @@
--- What one call of a shared interner is, by what its pass has seen of the history at its entry and at its exit.
+-- What one call of a shared interner is, by what its pass has seen of the history at its beginning and at its end.
 use Rattle.std.specs.Prelude.{◌≡◌, ◌⊎◌, ◌==◌, ℕ, List, [], ◌∷◌, ◌++◌, length, Option, Ok, Err, if◌then◌else◌}
 use Rattle.lasso_parts.specs.Texts.{Text}
 use Rattle.lasso_parts.specs.declared.util.LassoErrorKind.TheVariants.{KeySpaceExhaustion}
@@ -31,7 +31,7 @@ Makes (Intern keeping text) (Interned (Err KeySpaceExhaustion)) es = Stores keep
 Makes (SetLimit limit) reply es = es ≡ Limit limit ∷ []
 Makes question reply es = es ≡ []
 
--- What may come after the step at which the reply was read, up to the exit: nothing, where the whole list is read.
+-- What may come after the step at which the reply was read, up to the end: nothing, where the whole list is read.
 abbrev pub MayComeAfter : Question → History → Type 0
 MayComeAfter Iterate back = back ≡ []
 MayComeAfter Strings back = back ≡ []
@@ -39,8 +39,8 @@ MayComeAfter Serialize back = back ≡ []
 MayComeAfter Freeze back = back ≡ []
 MayComeAfter question back = Unit {0}
 
--- A call of the pass with this number: what the pass had seen at the entry begins what it has seen at the exit, the reply may be
--- given somewhere between the two, and past the entry stand exactly the events that the call makes, among those of other passes.
+-- A call of the pass with this number: what the pass had seen at its beginning begins what it has seen at its end, the reply may be
+-- given somewhere between the two, and past its beginning stand exactly the events that the call makes, among those of other passes.
 pub record IsCall {K : Type 0} (key_at : ℕ → Option K) (opening : Totals) (before after : History) (pass : ℕ) (question : Question) (reply : Reply K) : Type 0 where
   pub past : History
   pub begins : before ++ past ≡ after

@@ -184,12 +184,12 @@ impl<T: HasText + Drop> Chunks<T> {
         ensures { IfOk result (λ r. IfSome r (λ chunk. chunk.of ≡ chunk_named self.now position)) }
     {
         let (number, _) = chunk_and_offset(position);
-        let slot = &self.chunks[number];
-        if let Some(chunk) = slot.witness() {
+        let cell = &self.chunks[number];
+        if let Some(chunk) = cell.witness() {
             return Ok(Some(chunk));
         }
         let chunk = new_chunk(alloc, length_of(number))?;
-        Ok(slot.set_written(chunk).ok())
+        Ok(cell.set_written(chunk).ok())
     }
 
     /// Makes the chunks of the first `count` positions, where they are not there: the longest first, so that a count that no memory
@@ -234,11 +234,11 @@ impl<T: HasText + Drop> Chunks<T> {
         ensures err { IfErr result (λ t. t ≡ text) }
     {
         let (number, offset) = chunk_and_offset(position);
-        let slot = &self.chunks[number];
-        let Some(chunk) = slot.witness() else {
+        let cell = &self.chunks[number];
+        let Some(chunk) = cell.witness() else {
             return Err(text);
         };
-        match slot.value(&chunk)[offset].set_written(text) {
+        match cell.value(&chunk)[offset].set_written(text) {
             Ok(item) => Ok((chunk, item)),
             Err(text) => Err(text),
         }

@@ -24,8 +24,8 @@ use Rattle.lasso_parts.specs.JsonObjects.{AreInOrder, json_object, position_numb
 use Rattle.lasso_parts.specs.JsonObjectLaws.{AreFree, FaultsObjectExactly, ReadsObjectBack, ReadsObjectExactly}
 use Rattle.lasso_parts.proofs.JsonOrder.{order_none, order_texts, same_members}
 use Rattle.lasso_parts.proofs.JsonWritten.{found_at, found_is, long_object}
-use Rattle.lasso_parts.proofs.JsonPositions.{fault_after, free_nil, placed, positions, read_as, read_on}
-use Rattle.lasso_parts.proofs.JsonPlaced.{AreAt, one_has, covered, long_after, pairs_of, found_pair, listed, found_one, apart_positions, at_below, long_placed, placed_at, settled}
+use Rattle.lasso_parts.proofs.JsonPositions.{fault_after, free_nil, texts_set, positions, read_as, read_on}
+use Rattle.lasso_parts.proofs.JsonTextsSet.{AreAt, one_has, covered, long_after, pairs_of, found_pair, listed, found_one, apart_positions, at_below, long_texts_set, texts_set_at, settled}
 use Rattle.lasso_parts.specs.declared.json.error.JsonError.{JsonError}
 
 -- the members that a list is written as
@@ -105,11 +105,11 @@ was_read key_at ms texts ordered h =
     let start = replicate n [] in
     let r = read_as key_at n [] start ms texts (free_nil key_at n) h in
     let more = r.0 in
-    let long : length texts ≡ n = ap length r.2 ∙ long_placed start more ∙ length-replicate n [] in
+    let long : length texts ≡ n = ap length r.2 ∙ long_texts_set start more ∙ length-replicate n [] in
     let many : length (positions more) ≡ n = sym (ap members_len r.1 ∙ long_after more) in
     let below = recursion_from_All (λ p. p < n) (positions more) r.3.below in
     let keyed = recursion_from_All (λ p. IsSome (key_at p)) (positions more) r.3.keyed in
-    let set_at = placed_at start more r.3.apart (subst (λ (m : ℕ). AllByRecursion (λ p. p < m) (positions more)) (sym (length-replicate n [])) below) in
+    let set_at = texts_set_at start more r.3.apart (subst (λ (m : ℕ). AllByRecursion (λ p. p < m) (positions more)) (sym (length-replicate n [])) below) in
     let at = subst (λ (ts : List Text). AreAt ts more) (sym r.2) set_at in
     let ordered' = subst (λ (ns : Members). AreInOrder ns) r.1 ordered in
     let one = λ (p : ℕ) (inside : p < length texts). covered n (positions more) below r.3.apart many p (subst (λ (m : ℕ). p < m) long inside) in record {
@@ -174,5 +174,5 @@ faults_exactly key_at ms fault =
     let empty = replicate n [] in (
       fault_after key_at n [] empty ms fault (free_nil key_at n),
       λ h. ap (read_members key_at n [] empty) h.4 ∙ read_on key_at n [] empty h.0 (member h.1 h.2 h.3) h.5
-          ∙ ap (λ (r : Result ℕ JsonError). and_then r (λ p. read_members key_at n (positions h.0 ++ p ∷ []) (set (placed empty h.0) p h.1) h.3)) h.6,
+          ∙ ap (λ (r : Result ℕ JsonError). and_then r (λ p. read_members key_at n (positions h.0 ++ p ∷ []) (set (texts_set empty h.0) p h.1) h.3)) h.6,
     )

@@ -102,15 +102,15 @@ in_middle P xs ys x all = grind (arith, common_steps, all (length xs) x, length-
 -- ---- members one after another
 
 -- the texts, with each text of the pairs set at its position, in turn
-abbrev pub placed : List Text → List (Text × ℕ) → List Text
-placed texts [] = texts
-placed texts (m ∷ more) = placed (set texts m.1 m.0) more
+abbrev pub texts_set : List Text → List (Text × ℕ) → List Text
+texts_set texts [] = texts
+texts_set texts (m ∷ more) = texts_set (set texts m.1 m.0) more
 
 abbrev pub positions : List (Text × ℕ) → List ℕ
 positions more = map (λ m. m.1) more
 
 -- members of free positions are read, and those after them are left
-pub read_on : {K : Type 0} (key_at : ℕ → Option K) (n : ℕ) (seen : List ℕ) (texts : List Text) (more : List (Text × ℕ)) (ms : Members) → AreFree key_at n (seen ++ positions more) → read_members key_at n seen texts (members_after more ms) ≡ read_members key_at n (seen ++ positions more) (placed texts more) ms
+pub read_on : {K : Type 0} (key_at : ℕ → Option K) (n : ℕ) (seen : List ℕ) (texts : List Text) (more : List (Text × ℕ)) (ms : Members) → AreFree key_at n (seen ++ positions more) → read_members key_at n seen texts (members_after more ms) ≡ read_members key_at n (seen ++ positions more) (texts_set texts more) ms
 read_on key_at n seen texts [] ms free = ap (λ (ps : List ℕ). read_members key_at n ps texts ms) (sym (append-nil seen))
 read_on key_at n seen texts (m ∷ more) ms free =
     let p = m.1 in
@@ -118,10 +118,10 @@ read_on key_at n seen texts (m ∷ more) ms free =
     let here = position_taken key_at n seen p (in_middle (λ q. q < n) seen (positions more) p free.below) (in_middle (λ q. IsSome (key_at q)) seen (positions more) p free.keyed) (not_before seen (positions more) p free.apart) in
     ap (λ (r : Result ℕ JsonError). and_then r (λ q. read_members key_at n (seen ++ q ∷ []) (set texts q m.0) (members_after more ms))) here
     ∙ read_on key_at n (seen ++ p ∷ []) (set texts p m.0) more ms (subst (λ (ps : List ℕ). AreFree key_at n ps) same free)
-    ∙ ap (λ (ps : List ℕ). read_members key_at n ps (placed (set texts p m.0) more) ms) (sym same)
+    ∙ ap (λ (ps : List ℕ). read_members key_at n ps (texts_set (set texts p m.0) more) ms) (sym same)
 
 -- members that are all read have free positions, and their texts are set there
-pub read_as : {K : Type 0} (key_at : ℕ → Option K) (n : ℕ) (seen : List ℕ) (texts : List Text) (ms : Members) (all : List Text) → AreFree key_at n seen → read_members key_at n seen texts ms ≡ Ok all → (more : List (Text × ℕ)) × (ms ≡ members_after more no_members) × (all ≡ placed texts more) × AreFree key_at n (seen ++ positions more)
+pub read_as : {K : Type 0} (key_at : ℕ → Option K) (n : ℕ) (seen : List ℕ) (texts : List Text) (ms : Members) (all : List Text) → AreFree key_at n seen → read_members key_at n seen texts ms ≡ Ok all → (more : List (Text × ℕ)) × (ms ≡ members_after more no_members) × (all ≡ texts_set texts more) × AreFree key_at n (seen ++ positions more)
 read_as key_at n seen texts no_members all free h =
     let same : texts ≡ all = cc in ([], refl, sym same, subst (λ (ps : List ℕ). AreFree key_at n ps) (sym (append-nil seen)) free)
 read_as key_at n seen texts (member t d ms) all free h =

@@ -31,8 +31,8 @@ no_text key_at distinct seen at d fault last h =
     ap (λ (r : Result Text JsonError). and_then r (λ text. new_text key_at (length seen) text (earlier distinct seen text))) here
 
 -- the next item is a text, which has a position or none
-pub placed_text : {K : Type 0} (key_at : ℕ → Option K) (distinct : Bool) (seen : List Text) (at position : ℕ) (d : Data) (text : Text) (r : Result Text JsonError) → at ≡ length seen → position ≡ length seen → Ok text ≡ item_text at (as_str d) → new_text key_at position text (earlier distinct seen text) ≡ r → next_text key_at distinct seen d ≡ r
-placed_text key_at distinct seen at position d text r last last' h new =
+pub new_item_text : {K : Type 0} (key_at : ℕ → Option K) (distinct : Bool) (seen : List Text) (at position : ℕ) (d : Data) (text : Text) (r : Result Text JsonError) → at ≡ length seen → position ≡ length seen → Ok text ≡ item_text at (as_str d) → new_text key_at position text (earlier distinct seen text) ≡ r → next_text key_at distinct seen d ≡ r
+new_item_text key_at distinct seen at position d text r last last' h new =
     let here : item_text (length seen) (as_str d) ≡ Ok text = ap (λ (n : ℕ). item_text n (as_str d)) (sym last) ∙ sym h in
     ap (λ (r : Result Text JsonError). and_then r (λ text. new_text key_at (length seen) text (earlier distinct seen text))) here
     ∙ ap (λ (n : ℕ). new_text key_at n text (earlier distinct seen text)) (sym last') ∙ new

@@ -24,6 +24,6 @@ mod JsonMembers
 mod JsonPositions
 mod JsonOrder
 mod JsonWritten
-mod JsonPlaced
+mod JsonTextsSet
 pub mod JsonLaws
 pub mod JsonObjectLaws

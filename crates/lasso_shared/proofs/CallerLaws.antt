@@ -1,7 +1,7 @@
 -- What callers can rely on.
 --
 -- A text stays at its position when its list grows, so it keeps its key. A call's reply is that of a history between the call's
--- entry and its exit: what the list has at the entry it has there too, and what it has there it has at the exit. Where a history is legal,
+-- beginning and its end: what the list has at the beginning it has there too, and what it has there it has at the end. Where a history is legal,
 -- no append in it is of a text that the list had before: so a call on such a text made no event. A key that a list gives to a
 -- text has the text's position for its number, so equal keys are of equal texts.
 use Rattle.std.proofs.Common.{◌≡◌, ◌↔◌, ℕ, ◌<◌, Bool, cond, List, [], ◌∷◌, ◌++◌, length, slice_get, Option, Some, None, refl, sym, ap, ◌∙◌, subst, inl, inr, ⊎_elim, arith, append_assoc}
@@ -83,13 +83,13 @@ none_appended key_at s (e ∷ past) pass n text (x ∷ stored) at legal is = by_
 -- ---- keys
 
 -- where a text with a key stands
-record Placed {K : Type 0} (key_at : ℕ → Option K) (texts : List Text) (text : Text) (k : K) : Type 0 where
+record HasPosition {K : Type 0} (key_at : ℕ → Option K) (texts : List Text) (text : Text) (k : K) : Type 0 where
   position : ℕ
   at : position_of texts text ≡ Some position
   key : key_at position ≡ Some k
 
-placed : {K : Type 0} (key_at : ℕ → Option K) (texts : List Text) (text : Text) (k : K) → key_of key_at texts text ≡ Some k → Placed key_at texts text k
-placed key_at texts text k has = option_and_then_some key_at (position_of texts text) k has (λ n at key. record { position = n; at = at; key = key })
+position_of_key : {K : Type 0} (key_at : ℕ → Option K) (texts : List Text) (text : Text) (k : K) → key_of key_at texts text ≡ Some k → HasPosition key_at texts text k
+position_of_key key_at texts text k has = option_and_then_some key_at (position_of texts text) k has (λ n at key. record { position = n; at = at; key = key })
 
 some_there : {K : Type 0} (o : Option K) → IsSome o → (k : K) × (o ≡ Some k)
 some_there None there = absurd (cc there)
@@ -99,24 +99,24 @@ module _ {K : Type 0} (key_at : ℕ → Option K) where
   -- a text keeps its key while the history grows
   pub has_key_later : (o : Totals) (h g : History) (text : Text) (k : K) → HasKey key_at o h text k → IsPrefix h g → HasKey key_at o g text k
   has_key_later o h g text k has more =
-      let p = placed key_at (totals o h).texts text k has in
+      let p = position_of_key key_at (totals o h).texts text k has in
       ap (option_and_then key_at) (position_past (totals o h).texts (totals o g).texts text p.position (list_past o h g more) p.at) ∙ p.key
 
-  -- the history at which a call's reply is read, past its entry and before its exit
+  -- the history at which a call's reply is read, past its beginning and before its end
   read_at : (o : Totals) (before after : History) (pass : ℕ) (q : Question) (r : Reply K) → IsCall key_at o before after pass q r → History
   read_at o before after pass q r c = before ++ c.explained.0
 
-  exit_past : (o : Totals) (before after : History) (pass : ℕ) (q : Question) (r : Reply K) (c : IsCall key_at o before after pass q r) → IsPrefix (before ++ c.explained.0) after
-  exit_past o before after pass q r c = (c.explained.1, append_assoc before c.explained.0 c.explained.1 ∙ ap (λ (h : History). before ++ h) c.explained.2 ∙ c.begins)
+  end_past : (o : Totals) (before after : History) (pass : ℕ) (q : Question) (r : Reply K) (c : IsCall key_at o before after pass q r) → IsPrefix (before ++ c.explained.0) after
+  end_past o before after pass q r c = (c.explained.1, append_assoc before c.explained.0 c.explained.1 ∙ ap (λ (h : History). before ++ h) c.explained.2 ∙ c.begins)
 
   pub tells_keys : CallsTellKeys key_at
   tells_keys o before after pass = record {
-    interned = λ keeping text k c. has_key_later o (before ++ c.explained.0) after text k c.explained.4 (exit_past o before after pass (Intern keeping text) (Interned (Ok k)) c);
-    found = λ text k c. has_key_later o (before ++ c.explained.0) after text k (sym c.explained.4) (exit_past o before after pass (Get text) (Found (Some k)) c);
+    interned = λ keeping text k c. has_key_later o (before ++ c.explained.0) after text k c.explained.4 (end_past o before after pass (Intern keeping text) (Interned (Ok k)) c);
+    found = λ text k c. has_key_later o (before ++ c.explained.0) after text k (sym c.explained.4) (end_past o before after pass (Get text) (Found (Some k)) c);
     resolved = λ number text opens legal c.
         let texts = (totals o after).texts in
         let kept = list_kept key_at o after opens.distinct opens.fits legal in
-        let at : slice_get texts number ≡ Some text = read_past (totals o (before ++ c.explained.0)).texts texts text number (list_past o (before ++ c.explained.0) after (exit_past o before after pass (Resolve number) (Resolved (Some text)) c)) (sym c.explained.4) in
+        let at : slice_get texts number ≡ Some text = read_past (totals o (before ++ c.explained.0)).texts texts text number (list_past o (before ++ c.explained.0) after (end_past o before after pass (Resolve number) (Resolved (Some text)) c)) (sym c.explained.4) in
         let key = some_there (key_at number) (kept.1 number (slice_get_within texts number text at)) in
         (key.0, key.1, ap (option_and_then key_at) (position_of_at texts text number kept.0 at) ∙ key.1);
   }
@@ -132,26 +132,26 @@ module _ {K : Type 0} (key_at : ℕ → Option K) where
   resolved_texts_stay o before after later end pass other number text reply c more d =
       let from = totals o (before ++ c.explained.0) in
       let to = totals o (later ++ d.explained.0) in
-      let grown = prefix_trans (before ++ c.explained.0) after (later ++ d.explained.0) (exit_past o before after pass (Resolve number) (Resolved (Some text)) c) (prefix_trans after later (later ++ d.explained.0) more (d.explained.0, refl)) in
+      let grown = prefix_trans (before ++ c.explained.0) after (later ++ d.explained.0) (end_past o before after pass (Resolve number) (Resolved (Some text)) c) (prefix_trans after later (later ++ d.explained.0) more (d.explained.0, refl)) in
       d.explained.4 ∙ read_past from.texts to.texts text number (list_past o (before ++ c.explained.0) (later ++ d.explained.0) grown) (sym c.explained.4)
 
   module _ (number : K → ℕ) (made : (n : ℕ) (k : K) → key_at n ≡ Some k → number k ≡ n) where
     -- a key's number is its text's position
     key_resolves : (texts : List Text) (text : Text) (k : K) → key_of key_at texts text ≡ Some k → slice_get texts (number k) ≡ Some text
     key_resolves texts text k has =
-        let p = placed key_at texts text k has in
+        let p = position_of_key key_at texts text k has in
         subst (λ (n : ℕ). slice_get texts n ≡ Some text) (sym (made p.position k p.key)) (position_here texts text p.position p.at)
 
     pub seen_texts_keep_keys : SeenTextsKeepKeys key_at number
     seen_texts_keep_keys o h before after pass text k had more = record {
       interned = interned;
       idle = λ keeping reply c legal.
-          let p = placed key_at (totals o before).texts text k has in
+          let p = position_of_key key_at (totals o before).texts text k has in
           let parts = legal_parts key_at o before c.past (subst (IsLegal key_at o) (sym c.begins) legal) in
           ⊎_elim (λ none. none) (λ (added : StoresAndAppends keeping text (events_of pass c.past)). absurd (none_appended key_at (totals o before) c.past pass p.position text added.0 p.at parts.1 added.2))
           (subst (λ (r : Result K LassoErrorKind). Makes (Intern keeping text) (Interned r) (events_of pass c.past)) (interned keeping reply c) c.makes);
       found = λ reply c. c.explained.4 ∙ there c.explained.0;
-      contained = λ reply c. let p = placed key_at (totals o (before ++ c.explained.0)).texts text k (there c.explained.0) in c.explained.4 ∙ ap is_some p.at;
+      contained = λ reply c. let p = position_of_key key_at (totals o (before ++ c.explained.0)).texts text k (there c.explained.0) in c.explained.4 ∙ ap is_some p.at;
       key_contained = λ reply c. c.explained.4 ∙ lt-ltb _ _ (slice_get_within (totals o (before ++ c.explained.0)).texts (number k) text (key_resolves (totals o (before ++ c.explained.0)).texts text k (there c.explained.0)));
       resolved = λ reply c. c.explained.4 ∙ key_resolves (totals o (before ++ c.explained.0)).texts text k (there c.explained.0);
     }

@@ -44,11 +44,11 @@ pub record AreCalls : Type 0 where
   pub past_limit : Calls two two 9 (Intern Copied ddd) (Interned (Err MemoryLimitReached))
   pub no_key : Calls three (three ++ (9, Reserve 0 1) ∷ []) 9 (Intern Copied e) (Interned (Err KeySpaceExhaustion))
   pub limit : Calls two wider 9 (SetLimit 100) Done
-  -- what was asked at the entry may be answered by what came meanwhile, or not
+  -- what was asked at the beginning may be answered by what came meanwhile, or not
   pub missed : Calls [] two 9 (Get bc) (Found None)
   pub seen : Calls [] two 9 (Get bc) (Found (Some 0))
   pub walk : Calls [] two 9 Iterate (Pairs ((0, bc) ∷ (1, a) ∷ []))
-  -- the list is the one at the exit, or memory is wanting
+  -- the list is the one at the end, or memory is wanting
   pub frozen : Calls [] two 9 Freeze (Listed (Ok (bc ∷ a ∷ [])))
   pub not_written : Calls [] two 9 Serialize (Listed (Err FailedAllocation))
   -- an interner that opens with texts: they have the first keys, and a new one comes after them
@@ -70,7 +70,7 @@ pub record AreNoCalls : Type 0 where
   pub keys_before_limit : Calls three three 9 (Intern Copied e) (Interned (Err KeySpaceExhaustion)) → ⊥
   -- a text that the pass had seen is not found
   pub opening_read : Calls two two 9 (Get bc) (Found None) → ⊥
-  -- a list that is older than the exit
+  -- a list that is older than the end
   pub old_list : Calls [] two 9 Strings (Listed (Ok [])) → ⊥
   pub old_walk : Calls [] two 9 Iterate (Pairs []) → ⊥
   pub old_json : Calls [] two 9 Serialize (Listed (Ok [])) → ⊥

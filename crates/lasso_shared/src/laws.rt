@@ -30,7 +30,7 @@ pub fn worked_calls_are_calls()
 {}
 
 /// Wrong calls are none: an append that is dropped or doubled, a refusal that takes a position, a text that the pass had
-/// seen and that is not found, a list that is older than the exit, a limit that is not set or set twice, a refusal for which
+/// seen and that is not found, a list that is older than the end, a limit that is not set or set twice, a refusal for which
 /// there is no ground, and others. Nor may an interner open with a text that stands twice, or without a key for each text.
 pub fn wrong_calls_are_none()
     ensures { AreNoCalls }

@@ -57,6 +57,15 @@ impl<K: Key, S: BuildHasher + Drop> Drop for ThreadedRodeo<K, S> {
 
 impl<K: Key, S: BuildHasher + Drop> ThreadedRodeo<K, S> {
     /// A pass that has seen nothing yet. It takes no memory and does not wait.
+    ///
+    /// ```rust
+    /// let rodeo: SpurThreadedRodeo = ThreadedRodeo::default(rt.alloc())?;
+    /// let mut pass = rodeo.pass();
+    /// let key = rodeo.try_get_or_intern_as(&rt, &mut pass, "Hello, world!")?;
+    /// assert!(rt; rodeo.get_as(&rt, &mut pass, "Hello, world!") == Some(key));
+    /// assert!(rt; rodeo.contains_key_as(&mut pass, key));
+    /// assert!(rt; rodeo.len_as(&mut pass) == 1);
+    /// ```
     pub fn pass(&self) -> Pass<K>
         ensures of { result.of ≡ self.now }
         ensures notes { result.notes ≡ [] }

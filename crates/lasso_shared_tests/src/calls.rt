@@ -253,7 +253,7 @@ pub fn stands_for<K: Key, S: BuildHasher + Drop>(
 }
 
 /// The text that the key with this number stands for by the pass.
-pub fn text_of<'a, K: Key, S: BuildHasher + Drop>(
+pub fn text_seen_by<'a, K: Key, S: BuildHasher + Drop>(
     shared: &'a ThreadedRodeo<K, S>,
     pass: &mut Pass<K>,
     number: usize,

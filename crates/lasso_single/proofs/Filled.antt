@@ -38,10 +38,10 @@ extend_push {K} key_at old mid new (t ∷ ts) text one reply h interns e =
     (h.0, h.1, h.2, subst (λ (r : Result K LassoError). MatchResult r (λ _. extend key_at h.1 (ts ++ text ∷ []) reply new) (λ error. (reply ≡ Err error) × (new ≡ h.1))) (sym first.1) others)
 
 -- the same, where the texts are those that items lend
-pub extend_turn : {K T : Type 0} (key_at : ℕ → Option K) (text_of : T → Text) (old mid new : InternerView) (items : List T) (item : T) (text : Text) (one : Result K LassoError) (reply : Result (Unit {0}) LassoError) → extend key_at old (map text_of items) accepted mid → text ≡ text_of item → InternsIn key_at mid text one new → EndsWith one reply → extend key_at old (map text_of (items ++ item ∷ [])) reply new
-extend_turn {K} key_at text_of old mid new items item text one reply h lent interns e =
-    let same : InternsIn key_at mid (text_of item) one new = subst (λ (t : Text). InternsIn key_at mid t one new) lent interns in
-    subst (λ (texts : List Text). extend key_at old texts reply new) (sym (map_push text_of items item)) (extend_push key_at old mid new (map text_of items) (text_of item) one reply h same e)
+pub extend_turn : {K T : Type 0} (key_at : ℕ → Option K) (lent_text : T → Text) (old mid new : InternerView) (items : List T) (item : T) (text : Text) (one : Result K LassoError) (reply : Result (Unit {0}) LassoError) → extend key_at old (map lent_text items) accepted mid → text ≡ lent_text item → InternsIn key_at mid text one new → EndsWith one reply → extend key_at old (map lent_text (items ++ item ∷ [])) reply new
+extend_turn {K} key_at lent_text old mid new items item text one reply h lent interns e =
+    let same : InternsIn key_at mid (lent_text item) one new = subst (λ (t : Text). InternsIn key_at mid t one new) lent interns in
+    subst (λ (texts : List Text). extend key_at old texts reply new) (sym (map_push lent_text items item)) (extend_push key_at old mid new (map lent_text items) (lent_text item) one reply h same e)
 
 -- an iterator gave one item more
 pub yields_push : {S T : Type 0} (steps : S → Option T → S → Type 0) (from to after : S) (items : List T) (item : T) → Yields steps from items to → steps to (Some item) after → Yields steps from (items ++ item ∷ []) after

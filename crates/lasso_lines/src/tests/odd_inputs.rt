@@ -43,7 +43,7 @@ fn assert_piecewise<R: AllocGlobal + Threads + Wait + Sync + Abort>(
 const LETTERS: &[u8] = b"abcdefghijklmnopqrstuvwxyz";
 
 // An input with a long line at each `X`, its report, in which `#` stands for the bytes, and its distinct lines in order.
-const PLACES: [(&str, &str, &str); 6] = [
+const FORMS: [(&str, &str, &str); 6] = [
     ("X", "0 X\n1 texts, # bytes\n", "X\n"),
     ("X\n", "0 X\n1 texts, # bytes\n", "X\n"),
     ("X\nb\nX\n", "0 X\n1 b\n0 X\n2 texts, # bytes\n", "X\nb\n"),
@@ -60,10 +60,10 @@ const PLACES: [(&str, &str, &str); 6] = [
     ("b\nA\nX", "0 b\n1 A\n2 X\n3 texts, # bytes\n", "A\nX\nb\n"),
 ];
 
-// The place with its long line and its bytes filled in.
-fn fill_in<R: AllocGlobal>(rt: &R, place: &str, line: &[u8], bytes: &str) -> Result<Vec<u8>, Fail> {
+// The form with its long line and its bytes filled in.
+fn fill_in<R: AllocGlobal>(rt: &R, form: &str, line: &[u8], bytes: &str) -> Result<Vec<u8>, Fail> {
     let mut filled = Vec::new(rt.alloc());
-    for byte in place.as_bytes() {
+    for byte in form.as_bytes() {
         match byte {
             b'X' => filled.extend_from_slice(line)?,
             b'#' => filled.extend_from_slice(bytes.as_bytes())?,
@@ -82,7 +82,7 @@ fn lines_about_as_long_as_the_buffers(rt: HostRuntime) -> Result<(), Fail> {
         let Some(line) = letters.get(..length) else {
             return Err(Fail::from("there are too few letters"));
         };
-        for (input, report, ordered) in PLACES {
+        for (input, report, ordered) in FORMS {
             let input = fill_in(&rt, input, line, bytes)?;
             let report = fill_in(&rt, report, line, bytes)?;
             let ordered = fill_in(&rt, ordered, line, bytes)?;

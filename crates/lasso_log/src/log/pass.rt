@@ -83,6 +83,15 @@ impl<K: Key> Pass<K> {
     }
 
     /// Afterwards it has seen what either had. It adds no event, takes no memory and does not wait.
+    ///
+    /// ```rust
+    /// let rodeo: SpurThreadedRodeo = ThreadedRodeo::default(rt.alloc())?;
+    /// let mut first = rodeo.pass();
+    /// let key = rodeo.try_get_or_intern_as(&rt, &mut first, "Hello, world!")?;
+    /// let mut second = rodeo.pass();
+    /// second.meet(&first);
+    /// assert!(rt; rodeo.try_resolve_as(&mut second, key) == Some("Hello, world!"));
+    /// ```
     pub fn meet(&mut self, other: &Pass<K>)
         requires { self.old.of ≡ other.now.of }
         ensures same { IsSamePass self.new self.old }

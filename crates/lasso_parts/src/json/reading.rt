@@ -93,7 +93,7 @@ fn enter_text<K: Key, S: BuildHasher, A: Allocator + Clone>(
     distinct: bool,
 ) -> Result<(), JsonError>
     requires { IsTrue distinct → IsIndexOf (text_hash S.build_hasher S.Hasher.write S.Hasher.finish hasher.now) (map (λ t. t.now) texts.now) index.old }
-    ensures placed { OnOk result (new_text K.key_at (length texts.now) text.now (earlier distinct (map (λ t. t.now) texts.now) text.now) ≡ Ok text.now) }
+    ensures taken { OnOk result (new_text K.key_at (length texts.now) text.now (earlier distinct (map (λ t. t.now) texts.now) text.now) ≡ Ok text.now) }
     ensures fault { IfErr result (λ e. (new_text K.key_at (length texts.now) text.now (earlier distinct (map (λ t. t.now) texts.now) text.now) ≡ Err e) ⊎ (e ≡ JsonError.Lasso FailedAllocation)) }
     ensures whole { OnOk result (IsTrue distinct → IsIndexOf (text_hash S.build_hasher S.Hasher.write S.Hasher.finish hasher.now) (map (λ t. t.now) texts.now ++ text.now ∷ []) index.new) }
 {

@@ -5,7 +5,7 @@ ghost use Rattle.lasso_shared.specs.CallerLaws.{CallsTellKeys, SeenTextsKeepKeys
 
 use lasso_parts::keys::Key;
 
-/// A key that a call answers for a text is the text's key at the call's exit. A text that a call resolved has the key that was
+/// A key that a call answers for a text is the text's key at the call's end. A text that a call resolved has the key that was
 /// asked.
 pub fn calls_tell_keys<K: Key>()
     ensures { CallsTellKeys K.key_at }

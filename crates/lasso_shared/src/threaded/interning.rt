@@ -45,6 +45,13 @@ impl<K: Key, S: BuildHasher + Drop> ThreadedRodeo<K, S> {
     /// the memory limit never refuses it. A text that the pass had seen is never refused. A new one may be refused
     /// for want of memory, else where the key type has no key for its position; no event is added then. It waits for those who write in
     /// the text's shard, and for the spine.
+    ///
+    /// ```rust
+    /// let rodeo: SpurThreadedRodeo = ThreadedRodeo::default(rt.alloc())?;
+    /// let mut pass = rodeo.pass();
+    /// let key = rodeo.try_get_or_intern_static_as(&rt, &mut pass, "Hello, world!")?;
+    /// assert!(rt; rodeo.try_resolve_as(&mut pass, key) == Some("Hello, world!"));
+    /// ```
     pub fn try_get_or_intern_static_as<R: Wait>(
         &self,
         rt: &R,

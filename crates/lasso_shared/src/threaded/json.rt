@@ -31,7 +31,9 @@ impl<K: Key, S: BuildHasher + Drop> ThreadedRodeo<K, S> {
     /// let mut pass = rodeo.pass();
     /// rodeo.try_get_or_intern_as(&rt, &mut pass, "b")?;
     /// rodeo.try_get_or_intern_as(&rt, &mut pass, "a")?;
-    /// let written = rodeo.serialize_as(rt.alloc(), &mut pass)?.to_string(rt.alloc())?;
+    /// let written = rodeo
+    ///     .serialize_as(rt.alloc(), &mut pass)?
+    ///     .to_string(rt.alloc())?;
     /// assert!(rt; written.as_str() == r#"{"a":2,"b":1}"#);
     /// ```
     pub fn serialize_as(&self, alloc: Global, pass: &mut Pass<K>) -> Result<Value, JsonError>

@@ -14,6 +14,14 @@ use std::sync::Wait;
 
 impl<K: Key, S: BuildHasher + Drop> ThreadedRodeo<K, S> {
     /// The bytes that all buckets take, also those that no text has taken. It takes no memory. It waits for the spine.
+    ///
+    /// ```rust
+    /// let rodeo: SpurThreadedRodeo = ThreadedRodeo::default(rt.alloc())?;
+    /// let mut pass = rodeo.pass();
+    /// rodeo.set_memory_limits_as(&rt, &mut pass, MemoryLimits::new(10));
+    /// assert!(rt; rodeo.max_memory_usage_as(&rt, &mut pass) == 10);
+    /// assert!(rt; rodeo.current_memory_usage_as(&rt, &mut pass) == 4096);
+    /// ```
     pub fn current_memory_usage_as<R: Wait>(&self, rt: &R, pass: &mut Pass<K>) -> usize
         requires { pass.old.of ≡ self.now }
         ensures same { IsSamePass pass.new pass.old }
@@ -28,6 +36,14 @@ impl<K: Key, S: BuildHasher + Drop> ThreadedRodeo<K, S> {
 
     /// The most bytes that all buckets may take: what the interner was made with, or what was set last. It takes no memory. It
     /// waits for the spine.
+    ///
+    /// ```rust
+    /// let rodeo: SpurThreadedRodeo = ThreadedRodeo::default(rt.alloc())?;
+    /// let mut pass = rodeo.pass();
+    /// rodeo.set_memory_limits_as(&rt, &mut pass, MemoryLimits::new(10));
+    /// assert!(rt; rodeo.max_memory_usage_as(&rt, &mut pass) == 10);
+    /// assert!(rt; rodeo.current_memory_usage_as(&rt, &mut pass) == 4096);
+    /// ```
     pub fn max_memory_usage_as<R: Wait>(&self, rt: &R, pass: &mut Pass<K>) -> usize
         requires { pass.old.of ≡ self.now }
         ensures same { IsSamePass pass.new pass.old }

@@ -36,6 +36,15 @@ impl<K: Key, S: BuildHasher + Drop> ThreadedRodeo<K, S> {
     }
 
     /// Whether the key stands for a text. It takes no memory and does not wait.
+    ///
+    /// ```rust
+    /// let rodeo: SpurThreadedRodeo = ThreadedRodeo::default(rt.alloc())?;
+    /// let mut pass = rodeo.pass();
+    /// let key = rodeo.try_get_or_intern_as(&rt, &mut pass, "Hello, world!")?;
+    /// assert!(rt; rodeo.get_as(&rt, &mut pass, "Hello, world!") == Some(key));
+    /// assert!(rt; rodeo.contains_key_as(&mut pass, key));
+    /// assert!(rt; rodeo.len_as(&mut pass) == 1);
+    /// ```
     pub fn contains_key_as(&self, pass: &mut Pass<K>, key: K) -> bool
         requires { pass.old.of ≡ self.now }
         ensures same { IsSamePass pass.new pass.old }
@@ -50,6 +59,13 @@ impl<K: Key, S: BuildHasher + Drop> ThreadedRodeo<K, S> {
 
     /// The key's text, or `None` where the key stands for no text yet. It is lent as long as the interner. It takes no
     /// memory and does not wait.
+    ///
+    /// ```rust
+    /// let rodeo: SpurThreadedRodeo = ThreadedRodeo::default(rt.alloc())?;
+    /// let mut pass = rodeo.pass();
+    /// let key = rodeo.try_get_or_intern_as(&rt, &mut pass, "Hello, world!")?;
+    /// assert!(rt; rodeo.try_resolve_as(&mut pass, key) == Some("Hello, world!"));
+    /// ```
     pub fn try_resolve_as(&self, pass: &mut Pass<K>, key: K) -> Option<&str>
         requires { pass.old.of ≡ self.now }
         ensures same { IsSamePass pass.new pass.old }
@@ -63,6 +79,15 @@ impl<K: Key, S: BuildHasher + Drop> ThreadedRodeo<K, S> {
     }
 
     /// How many texts there are. It takes no memory and does not wait.
+    ///
+    /// ```rust
+    /// let rodeo: SpurThreadedRodeo = ThreadedRodeo::default(rt.alloc())?;
+    /// let mut pass = rodeo.pass();
+    /// let key = rodeo.try_get_or_intern_as(&rt, &mut pass, "Hello, world!")?;
+    /// assert!(rt; rodeo.get_as(&rt, &mut pass, "Hello, world!") == Some(key));
+    /// assert!(rt; rodeo.contains_key_as(&mut pass, key));
+    /// assert!(rt; rodeo.len_as(&mut pass) == 1);
+    /// ```
     pub fn len_as(&self, pass: &mut Pass<K>) -> usize
         requires { pass.old.of ≡ self.now }
         ensures same { IsSamePass pass.new pass.old }

@@ -2,7 +2,7 @@
 //! for callers.
 ghost use Rattle.std.specs.Prelude.{◌≡◌, ◌≢◌, ◌↔◌, Some, IsTrue, IfOk, option_map};
 
-use crate::calls::{Shared, kept_as, made, pass_of, text_of};
+use crate::calls::{Shared, kept_as, made, pass_of, text_seen_by};
 use lasso_log::log::Pass;
 use lasso_parts::keys::{Key, Spur};
 use lasso_parts::util::{FixedState, LassoResult};
@@ -159,7 +159,7 @@ fn the_position_after_the_last_text_is_empty(rt: HostRuntime) -> Result<(), Fail
         kept_as(&rt, &shared, &mut pass, text)?;
     }
     // three of the five texts are distinct
-    assert!(rt; text_of(&shared, &mut pass, 2)? == Some(""));
-    assert!(rt; text_of(&shared, &mut pass, 3)? == None);
+    assert!(rt; text_seen_by(&shared, &mut pass, 2)? == Some(""));
+    assert!(rt; text_seen_by(&shared, &mut pass, 3)? == None);
     Ok(())
 }

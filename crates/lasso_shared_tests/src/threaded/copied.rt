@@ -164,5 +164,6 @@ fn a_text_of_each_thread_resolves(rt: HostRuntime) -> Result<(), Fail> {
     );
     assert!(rt; resolved(&shared, here?)? == Some("Hello, world!"));
     assert!(rt; resolved(&shared, there?)? == Some("Hello from the thread!"));
+    assert!(rt; len(&shared) == 2);
     Ok(())
 }

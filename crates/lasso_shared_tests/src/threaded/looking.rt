@@ -3,7 +3,7 @@ ghost use Rattle.std.specs.Prelude.{◌≡◌};
 
 use crate::calls::{
     Shared, contains, found, kept, kept_so, key, len, made, pass_of, resolved, seen_by, text_at,
-    text_of,
+    text_seen_by,
 };
 use lasso_log::log::Pass;
 use lasso_parts::keys::{Key, Spur};
@@ -74,7 +74,7 @@ fn a_pass_reads_what_another_interned(rt: HostRuntime) -> Result<(), Fail> {
     assert!(rt; is_key_as(&shared, &mut pass, 0)?);
     assert!(rt; seen_by(&shared, &mut pass) == 1);
     assert!(rt; !is_key_as(&shared, &mut pass, 1)?);
-    assert!(rt; text_of(&shared, &mut pass, 1)? == None);
+    assert!(rt; text_seen_by(&shared, &mut pass, 1)? == None);
     Ok(())
 }
 

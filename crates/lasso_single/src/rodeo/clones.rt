@@ -97,6 +97,13 @@ impl<K: Key, S: BuildHasher + Clone, A: Allocator + Clone> Rodeo<K, S, A> {
 
     /// Copies the texts of the source over those here: the same call as `try_clone_from`, with the same
     /// refusals.
+    ///
+    /// ```rust
+    /// let rodeo: SpurRodeo = Rodeo::from_iter(rt.alloc(), ["red", "green"])?;
+    /// let mut copy: SpurRodeo = Rodeo::from_iter(rt.alloc(), ["blue"])?;
+    /// copy.clone_from(&rodeo)?;
+    /// assert!(rt; copy == rodeo);
+    /// ```
     pub fn clone_from(&mut self, source: &Self) -> LassoResult<()>
         ensures { clone_into self.old source.now.texts result self.new }
     {

@@ -1,6 +1,6 @@
 use Rattle.std.proofs.Common.{rules, arith, ◌<◌, ◌-◌, ◌*◌, ◌^◌, ◌%◌, sym, subst, ℕ}
 use Rattle.std.proofs.lemmas.Nat.{one_shl}
-use Rattle.lasso_log.proofs.Places.{top_low, top_high, top_lies, Lies}
+use Rattle.lasso_log.proofs.ChunkPositions.{top_low, top_high, top_lies, Lies}
 use Rattle.lasso_log.proofs.chunks.chunk_and_offset.Goals as goal
 
 found : (c : goal.After-ilog2-top) → Lies c.args.position (c.ilog2-top.result - 4) (c.args.position - (1 * 2 ^ c.ilog2-top.result) % 2 ^ 64)
@@ -11,7 +11,7 @@ pub overflow_sub-result : goal.overflow_sub-result
 overflow_sub-result c = let low = top_low c.args.position c.ilog2-top.result c.if-position-lt-FIRST_LENGTH.false (search rules) c.ilog2-top.ensures.power_le c.ilog2-top.ensures.next_power_gt in omega arith
 
 pub returns-clause-value : goal.returns-clause-value
-returns-clause-value c = ((found c).row_is, (found c).offset_is)
+returns-clause-value c = ((found c).chunk_is, (found c).offset_is)
 
 pub returns-clause-there : goal.returns-clause-there
 returns-clause-there c = ((found c).few, (found c).inside)

@@ -1,4 +1,4 @@
-use Rattle.lasso_log.proofs.Places.{shifted}
+use Rattle.lasso_log.proofs.ChunkPositions.{shifted}
 use Rattle.lasso_log.proofs.chunks.length_of.Goals as goal
 
 pub returns-else-chunk-eq0 : goal.returns-else-chunk-eq0

@@ -1,4 +1,4 @@
--- What is past the entry is what the exit has more. So own events are those, and where there is none the reply is read at the entry.
+-- What is past the beginning is what the end has more. So own events are those, and where there is none the reply is read at the beginning.
 use Rattle.std.proofs.Common.{◌≡◌, ℕ, List, [], ◌∷◌, ◌++◌, None, Ok, Err, refl, sym, ap, ◌∙◌, subst, ⊎_elim, arith, append-nil}
 use Rattle.std.proofs.lemmas.List.{append_cancel_left}
 use Rattle.std.proofs.lemmas.Option.{none-some}
@@ -15,7 +15,7 @@ use Rattle.lasso_shared.specs.Example.{three_keys, a, bc, ddd, e}
 use Rattle.lasso_shared.specs.ExampleCalls.{opening, two, three, wider, Calls}
 use Rattle.lasso_shared.proofs.laws.wrong_calls_are_none.Goals as goal
 
--- the own events are those that the exit has more
+-- the own events are those that the end has more
 made : (h more : History) (pass : ℕ) (question : Question) (reply : Reply ℕ) → Calls h (h ++ more) pass question reply → Makes question reply (events_of pass more)
 made h more pass question reply c = subst (λ (p : History). Makes question reply (events_of pass p)) (append_cancel_left h c.past more c.begins) c.makes
 
@@ -23,7 +23,7 @@ none_front : (front back : History) → front ++ back ≡ [] → front ≡ []
 none_front [] back e = refl
 none_front (x ∷ front) back e = absurd (cc e)
 
--- where the exit has nothing more, the reply is read at the entry
+-- where the end has nothing more, the reply is read at the beginning
 read_there : (h : History) (pass : ℕ) (question : Question) (reply : Reply ℕ) → Calls h h pass question reply → MayReply three_keys (totals opening h) question reply
 read_there h pass question reply c =
     let past = append_cancel_left h c.past [] (c.begins ∙ sym (append-nil h)) in
@@ -42,7 +42,7 @@ first_bucket (b ∷ bs) = b
 twice : StoresAndAppends Static a (Append a ∷ Append a ∷ []) → ⊥
 twice added = absurd (cc (ap (λ es. es ++ Append a ∷ []) added.1, added.2))
 
--- where nothing comes after the step at which the reply is read, it is read at the exit
+-- where nothing comes after the step at which the reply is read, it is read at the end
 read_last : (after : History) (question : Question) (reply : Reply ℕ) (x : Calls [] after 9 question reply) → x.explained.1 ≡ [] → MayReply three_keys (totals opening after) question reply
 read_last after question reply x none =
     let front = sym (append-nil x.explained.0) ∙ ap (λ (back : History). x.explained.0 ++ back) (sym none) ∙ x.explained.2 ∙ x.begins in

@@ -4,7 +4,7 @@ use Rattle.std.proofs.lemmas.Result.{err_from_is_err_and}
 use Rattle.serde_json.specs.View.{view, items_view}
 use Rattle.lasso_parts.specs.Texts.{Text}
 use Rattle.lasso_parts.specs.Json.{read_items, new_text, earlier}
-use Rattle.lasso_parts.proofs.JsonTexts.{no_text, placed_text, faulty_item, whole_nil}
+use Rattle.lasso_parts.proofs.JsonTexts.{no_text, new_item_text, faulty_item, whole_nil}
 use Rattle.lasso_parts.proofs.json.reading.read_items.Goals as goal
 
 pub loop-item-init : goal.loop-item-init
@@ -32,7 +32,7 @@ returns-in_err-enter_text g c =
     let fault = c.in_err-enter_text.field-0.0 in
     let as_read = c.as_slice.ensures.value in
     let whole : new_text g.K.Key.key_at (length c.as_slice.result.now) text (earlier c.args.distinct (map (λ t. t.now) c.as_slice.result.now) text) ≡ Err fault → Err fault ≡ read_items g.K.Key.key_at c.args.distinct [] (items_view c.args.items.now) = λ h.
-    let misplaced : new_text g.K.Key.key_at (length items) text (earlier c.args.distinct seen text) ≡ Err fault = rw as_read at h in
-    let here = placed_text g.K.Key.key_at c.args.distinct seen c.len.result (length items) (view c.item-item.result) text (Err fault) last (sym (length-map items (λ t. t.now))) c.in_ok-text.ensures misplaced in
+    let refused : new_text g.K.Key.key_at (length items) text (earlier c.args.distinct seen text) ≡ Err fault = rw as_read at h in
+    let here = new_item_text g.K.Key.key_at c.args.distinct seen c.len.result (length items) (view c.item-item.result) text (Err fault) last (sym (length-map items (λ t. t.now))) c.in_ok-text.ensures refused in
     faulty_item g.K.Key.key_at c.args.distinct _ seen c.args.items.now c.loop-item.item-index c.item-item.result fault c.loop-item.invariant.read c.loop-item-test.true c.item-item.is here in
     rw (p.1, p.2) (elim c.in_err-enter_text.ensures.fault [ inl h ↦ inl (whole h) | inr memory ↦ inr (ap Err memory) ])

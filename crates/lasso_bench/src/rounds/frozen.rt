@@ -1,6 +1,6 @@
-//! The frozen list in which answers have their places.
-use crate::history::answers::sum_with;
-use crate::history::texts::Texts;
+//! The frozen list that has to explain the answers.
+use crate::rounds::answers::sum_with;
+use crate::rounds::texts::Texts;
 use anyhow::{Result, bail};
 use std::alloc::{AllocError, Global};
 

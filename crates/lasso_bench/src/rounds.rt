@@ -7,9 +7,9 @@ mod checker;
 mod draws;
 mod frozen;
 mod passes;
-mod places;
 mod reigns;
 mod texts;
+mod verdicts;
 
 use answers::{Answer, Limits, readings};
 use anyhow::{Result, bail, ensure};
@@ -19,13 +19,13 @@ use lasso::log::Pass;
 use lasso::{Capacity, FixedState, Key, MemoryLimits, MicroSpur, Spur, ThreadedRodeo};
 pub use passes::THREADS;
 use passes::{Found, Work, by_all};
-pub use places::print_places;
 use std::alloc::Global;
 use std::rt::Clock;
 use std::sync::Wait;
 use std::thread::Threads;
 use std::time::Instant;
 use texts::Texts;
+pub use verdicts::print_verdicts;
 
 // The bytes of the first bucket.
 const FIRST: usize = 16;
@@ -45,7 +45,7 @@ pub fn rounds_in<R: AllocGlobal + Clock + Print + Threads + Wait + Sync>(
         if start.elapsed(rt)?.as_secs() >= seconds {
             return Ok(seed);
         }
-        if let Err(error) = history_round(rt, seed, calls) {
+        if let Err(error) = calls_in_round(rt, seed, calls) {
             return Err(error.context(format_args!("round {seed}")));
         }
     }
@@ -55,7 +55,7 @@ pub fn rounds_in<R: AllocGlobal + Clock + Print + Threads + Wait + Sync>(
 /// A round: four threads make so many random calls each, and each answer is checked. Rounds of even seeds have keys enough; of the odd ones
 /// keys run out. In every third round one thread alone sets limits. How many texts there are in the end. It fails with a message where an
 /// answer is wrong, and for want of memory.
-pub fn history_round<R: AllocGlobal + Threads + Wait + Sync>(
+pub fn calls_in_round<R: AllocGlobal + Threads + Wait + Sync>(
     rt: &R,
     seed: u64,
     calls: u32,

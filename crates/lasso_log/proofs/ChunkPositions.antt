@@ -21,9 +21,9 @@ start_mono (suc i) zero le = absurd (omega arith)
 start_mono (suc i) (suc k) le = let p : 2 ^ i ≤ 2 ^ k = pow_mono (let less : i ≤ k = omega arith in less) in omega arith
 
 -- a chunk begins where the one before it ends
-pub row_end : (k : ℕ) → chunk_start (suc k) ≡ chunk_start k + chunk_length k
-row_end zero = refl
-row_end (suc k) = let e : 2 ^ suc k ≡ 2 ^ k * 2 = pow-suc 2 k in omega arith
+pub chunk_end : (k : ℕ) → chunk_start (suc k) ≡ chunk_start k + chunk_length k
+chunk_end zero = refl
+chunk_end (suc k) = let e : 2 ^ suc k ≡ 2 ^ k * 2 = pow-suc 2 k in omega arith
 
 found_from : (more i k n : ℕ) → i ≤ k → k ≤ i + more → chunk_start k ≤ n → n < chunk_start (suc k) → chunk_from more i n ≡ k
 found_from zero i k n low high from below = omega arith
@@ -36,18 +36,18 @@ found_from (suc more) i k n low high from below = by_cases (cases_lt i k) (λ le
         subst (λ (b : Bool). (if b then i else chunk_from more (suc i) n) ≡ k) (sym (lt-ltb n (chunk_start (suc i)) (subst (λ (j : ℕ). n < chunk_start (suc j)) (sym here) below))) here
 
 -- the position's chunk is the one in which it lies
-pub row_is : (k n : ℕ) → chunk_start k ≤ n → n < chunk_start (suc k) → chunk_of n ≡ k
-row_is k n from below = let low = number_low k in found_from n 0 k n (omega arith) (omega arith) from below
+pub chunk_is : (k n : ℕ) → chunk_start k ≤ n → n < chunk_start (suc k) → chunk_of n ≡ k
+chunk_is k n from below = let low = number_low k in found_from n 0 k n (omega arith) (omega arith) from below
 
 -- Where a position lies: that chunk and offset are its own, there are 60 chunks, and the offset is inside the chunk.
 pub record Lies (n chunk offset : ℕ) : Type 0 where
-  pub row_is : chunk ≡ chunk_of n
+  pub chunk_is : chunk ≡ chunk_of n
   pub offset_is : offset ≡ offset_of n
   pub few : chunk < 60
   pub inside : offset < chunk_length chunk
 
 pub lies_in : (k n : ℕ) → k < 60 → chunk_start k ≤ n → n < chunk_start (suc k) → Lies n k (n - chunk_start k)
-lies_in k n few from below = let e = row_is k n from below in let end = row_end k in record { row_is = sym e; offset_is = ap (λ (j : ℕ). n - chunk_start j) (sym e); few = few; inside = omega arith }
+lies_in k n few from below = let e = chunk_is k n from below in let end = chunk_end k in record { chunk_is = sym e; offset_is = ap (λ (j : ℕ). n - chunk_start j) (sym e); few = few; inside = omega arith }
 
 -- 2 ^ top is the greatest power of two that a position past the first chunk reaches
 module _ (n top : ℕ) (low : 32 ≤ n) (high : n < 2 ^ 64) (at : 2 ^ top ≤ n) (next : n < 2 * 2 ^ top) where
@@ -60,7 +60,7 @@ module _ (n top : ℕ) (low : 32 ≤ n) (high : n < 2 ^ 64) (at : 2 ^ top ≤ n)
   pub top_lies : Lies n (top - 4) (n - 2 ^ top)
   top_lies = let five = top_low in let few = top_high in let split : 5 + (top - 5) ≡ top = omega arith in let number : suc (top - 5) ≡ top - 4 = omega arith in
       let start : 32 * 2 ^ (top - 5) ≡ 2 ^ top = sym (pow-add 2 5 (top - 5)) ∙ ap (λ (k : ℕ). 2 ^ k) split in
-      let end : chunk_start (suc (suc (top - 5))) ≡ chunk_start (suc (top - 5)) + chunk_length (suc (top - 5)) = row_end (suc (top - 5)) in
+      let end : chunk_start (suc (suc (top - 5))) ≡ chunk_start (suc (top - 5)) + chunk_length (suc (top - 5)) = chunk_end (suc (top - 5)) in
       subst (λ (k : ℕ × ℕ). Lies n k.0 (n - k.1)) (λ i. (number i, start i)) (lies_in (suc (top - 5)) n (omega arith) (omega arith) (omega arith))
 
 -- the shift that `length_of` takes loses no bit

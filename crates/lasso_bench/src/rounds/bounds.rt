@@ -3,8 +3,8 @@
 //!
 //! The steps of a pass go on, the list and the usage only grow, and limits are only added. So what an answer shows at least holds of all
 //! later ones, and what it shows at most of all earlier ones.
-use crate::history::answers::Answer;
-use crate::history::frozen::Frozen;
+use crate::rounds::answers::Answer;
+use crate::rounds::frozen::Frozen;
 use std::alloc::{AllocError, Global};
 
 /// How long the list is, how great the usage and how many limits were set, at least or at most.

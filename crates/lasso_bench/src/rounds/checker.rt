@@ -1,12 +1,12 @@
-//! Whether each answer of each pass has a place in the frozen list.
+//! Whether each answer of each pass is explained by the frozen list.
 //!
 //! The answers of a pass are gone through from the first to the last. What earlier ones show is the least that a later one may be about,
 //! and what later ones show is the most. The limits that can have been in force are those of all threads, as far as their times may meet.
-use crate::history::answers::Answer;
-use crate::history::bounds::{Bound, Setter, least_after, most_bounds};
-use crate::history::frozen::Frozen;
-use crate::history::reigns::{Reign, ended, note_reigns};
-use crate::history::texts::Texts;
+use crate::rounds::answers::Answer;
+use crate::rounds::bounds::{Bound, Setter, least_after, most_bounds};
+use crate::rounds::frozen::Frozen;
+use crate::rounds::reigns::{Reign, ended, note_reigns};
+use crate::rounds::texts::Texts;
 use anyhow::{Error, Result, anyhow};
 use lasso::{Key, LassoErrorKind};
 use std::alloc::Global;
@@ -56,8 +56,8 @@ fn answers_of(found: &[Vec<Answer>], thread: usize) -> &[Answer] {
     }
 }
 
-/// Fails with a message where an answer of a thread has no place in the list, after those of the same pass before it and before those
-/// behind it.
+/// Fails with a message where an answer of a thread is not explained by the list, as one after those of the same pass before it and before
+/// those behind it.
 pub fn check<K: Key>(alloc: Global, round: &Round<'_>, found: &[Vec<Answer>]) -> Result<()> {
     let mut reigns = Vec::new(alloc);
     reigns.push(Reign::first(round.limit, round.first()))?;
@@ -81,7 +81,7 @@ pub fn check<K: Key>(alloc: Global, round: &Round<'_>, found: &[Vec<Answer>]) ->
     Ok(())
 }
 
-// Fails with a message where an answer of a pass has no place.
+// Fails with a message where an answer of a pass is not explained.
 fn check_pass<K: Key>(
     round: &Round<'_>,
     reigns: &[Reign],

@@ -1,4 +1,4 @@
-//! Right and wrong answers about a list of three texts, and which have places in it.
+//! Right and wrong answers about a list of three texts, and which of them it explains.
 //!
 //! The list is `5`, the empty text and `1`. The round began with 16 bytes and a limit of 1000, and ended with 48 bytes.
 use super::answers::{Answer, sum_with};
@@ -88,8 +88,8 @@ fn walked(texts: &[&str]) -> Answer {
     }
 }
 
-/// Prints whether answers have places in a list of three texts: for each rule such as have, and such as have none by that rule alone.
-pub fn print_places<R: AllocGlobal + Print>(rt: &R) -> Result<()> {
+/// Prints whether answers are explained by a list of three texts: for each rule such as are, and such as are not by that rule alone.
+pub fn print_verdicts<R: AllocGlobal + Print>(rt: &R) -> Result<()> {
     print_texts(rt)?;
     print_fewer(rt)?;
     print_more(rt)?;
@@ -104,104 +104,104 @@ pub fn print_places<R: AllocGlobal + Print>(rt: &R) -> Result<()> {
 // Prints of answers that are so in the list, or not.
 fn print_texts<R: AllocGlobal + Print>(rt: &R) -> Result<()> {
     let early = [FIRST, counted(1), NOTHING_AT_ONE, LAST_IS_MISSING];
-    print_place(rt, "answers of a shorter list", &early)?;
+    print_explained(rt, "what a shorter list answers", &early)?;
     let wrong = Answer::Interned {
         text: 1,
         position: 0,
     };
-    print_place(rt, "another key", &[wrong])?;
+    print_explained(rt, "another key", &[wrong])?;
     let wrong = Answer::Found {
         text: 1,
         position: Some(0),
     };
-    print_place(rt, "another position", &[wrong])?;
+    print_explained(rt, "another position", &[wrong])?;
     let [wrong, unknown] = [Some(1), None].map(|text| Answer::Resolved {
         position: 0,
         there: true,
         text,
     });
-    print_place(rt, "another text", &[wrong])?;
-    print_place(rt, "a text of nobody", &[unknown])?;
-    print_place(rt, "a walk", &[walked(&["5", ""])])?;
-    print_place(rt, "another walk", &[walked(&["5", "1"])])?;
-    print_place(rt, "more than there are in the end", &[counted(4)])
+    print_explained(rt, "another text", &[wrong])?;
+    print_explained(rt, "a text of nobody", &[unknown])?;
+    print_explained(rt, "a walk", &[walked(&["5", ""])])?;
+    print_explained(rt, "another walk", &[walked(&["5", "1"])])?;
+    print_explained(rt, "more than there are in the end", &[counted(4)])
 }
 
 // Prints of two texts, and what was there before that shows so many or more.
 fn print_fewer<R: AllocGlobal + Print>(rt: &R) -> Result<()> {
     let two = counted(2);
     let walk = walked(&["5", "", "1"]);
-    print_place(rt, "two behind two", &[two, two])?;
-    print_place(rt, "two behind three", &[counted(3), two])?;
-    print_place(rt, "two behind a walk", &[walk, two])?;
-    print_place(rt, "two behind a new text", &[LAST, two])?;
-    print_place(rt, "two behind a found text", &[LAST_IS_FOUND, two])?;
-    print_place(rt, "two behind a resolved key", &[LAST_IS_RESOLVED, two])
+    print_explained(rt, "two behind two", &[two, two])?;
+    print_explained(rt, "two behind three", &[counted(3), two])?;
+    print_explained(rt, "two behind a walk", &[walk, two])?;
+    print_explained(rt, "two behind a new text", &[LAST, two])?;
+    print_explained(rt, "two behind a found text", &[LAST_IS_FOUND, two])?;
+    print_explained(rt, "two behind a resolved key", &[LAST_IS_RESOLVED, two])
 }
 
 // Prints of answers that show fewer than three texts, behind two or three.
 fn print_more<R: AllocGlobal + Print>(rt: &R) -> Result<()> {
     let [two, three] = [2, 3].map(|texts| counted(texts));
-    print_place(rt, "a text that is not there yet", &[two, LAST_IS_MISSING])?;
-    print_place(rt, "a text is gone", &[three, LAST_IS_MISSING])?;
-    print_place(rt, "a key is gone", &[three, NOTHING_AT_ONE])?;
-    print_place(rt, "a walk is shorter", &[three, walked(&["5"])])?;
+    print_explained(rt, "a text that is not there yet", &[two, LAST_IS_MISSING])?;
+    print_explained(rt, "a text is gone", &[three, LAST_IS_MISSING])?;
+    print_explained(rt, "a key is gone", &[three, NOTHING_AT_ONE])?;
+    print_explained(rt, "a walk is shorter", &[three, walked(&["5"])])?;
     let last = refused(1, LassoErrorKind::MemoryLimitReached);
     let [used, low] = [used(48), limited(20)];
-    print_place(rt, "a new text is refused", &[used, low, two, last])?;
-    print_place(rt, "a text that was is refused", &[used, low, three, last])
+    print_explained(rt, "a new text is refused", &[used, low, two, last])?;
+    print_explained(rt, "a text that was is refused", &[used, low, three, last])
 }
 
 // Prints of refusals with other reasons than a limit, or of other texts than such as take memory.
 fn print_reasons<R: AllocGlobal + Print>(rt: &R) -> Result<()> {
     let no_key = refused(9, LassoErrorKind::KeySpaceExhaustion);
-    print_place(rt, "no key where there are keys", &[no_key])?;
+    print_explained(rt, "no key where there are keys", &[no_key])?;
     let no_memory = refused(9, LassoErrorKind::FailedAllocation);
-    print_place(rt, "no memory", &[no_memory])?;
+    print_explained(rt, "no memory", &[no_memory])?;
     let [used, low] = [used(48), limited(20)];
-    print_place(rt, "a copy is refused", &[used, low, PAST_LIMIT])?;
+    print_explained(rt, "a copy is refused", &[used, low, PAST_LIMIT])?;
     let kept = Answer::Refused {
         text: 9,
         copied: false,
         kind: LassoErrorKind::MemoryLimitReached,
     };
-    print_place(rt, "a static text is refused", &[used, low, kept])?;
+    print_explained(rt, "a static text is refused", &[used, low, kept])?;
     let empty = refused(0, LassoErrorKind::MemoryLimitReached);
-    print_place(rt, "an empty text is refused", &[used, low, empty])
+    print_explained(rt, "an empty text is refused", &[used, low, empty])
 }
 
 // Prints of refusals for the limit.
 fn print_refusals<R: AllocGlobal + Print>(rt: &R) -> Result<()> {
     let [low, all, more] = [20, 48, 49].map(|bytes| limited(bytes));
-    print_place(rt, "a refusal under the first limit", &[PAST_LIMIT])?;
-    print_place(rt, "a byte past the limit", &[all, PAST_LIMIT, used(48)])?;
-    print_place(rt, "the limit's last byte", &[more, PAST_LIMIT, used(48)])?;
-    print_place(rt, "room behind it", &[all, PAST_LIMIT, used(47)])?;
-    print_place(rt, "a limit that is over", &[low, limited(900), PAST_LIMIT])?;
-    print_place(rt, "a limit to come", &[PAST_LIMIT, low])
+    print_explained(rt, "a refusal under the first limit", &[PAST_LIMIT])?;
+    print_explained(rt, "a byte past the limit", &[all, PAST_LIMIT, used(48)])?;
+    print_explained(rt, "the limit's last byte", &[more, PAST_LIMIT, used(48)])?;
+    print_explained(rt, "room behind it", &[all, PAST_LIMIT, used(47)])?;
+    print_explained(rt, "a limit that is over", &[low, limited(900), PAST_LIMIT])?;
+    print_explained(rt, "a limit to come", &[PAST_LIMIT, low])
 }
 
 // Prints of usages.
 fn print_usages<R: AllocGlobal + Print>(rt: &R) -> Result<()> {
     let [first, last] = [16, 48].map(|bytes| used(bytes));
     let [low, less, all] = [20, 47, 48].map(|bytes| limited(bytes));
-    print_place(rt, "a usage that falls", &[last, first])?;
-    print_place(rt, "a usage below the first", &[used(15)])?;
-    print_place(rt, "a usage past the end's", &[used(49)])?;
-    print_place(rt, "a usage at the limit", &[all, first, last])?;
-    print_place(rt, "a usage past the limit", &[less, first, last])?;
-    print_place(rt, "a usage past two limits", &[less, first, low, last])?;
-    print_place(rt, "a limit falls below the usage", &[last, low, last])?;
-    print_place(rt, "a usage that rose before", &[low, last])
+    print_explained(rt, "a usage that falls", &[last, first])?;
+    print_explained(rt, "a usage below the first", &[used(15)])?;
+    print_explained(rt, "a usage past the end's", &[used(49)])?;
+    print_explained(rt, "a usage at the limit", &[all, first, last])?;
+    print_explained(rt, "a usage past the limit", &[less, first, last])?;
+    print_explained(rt, "a usage past two limits", &[less, first, low, last])?;
+    print_explained(rt, "a limit falls below the usage", &[last, low, last])?;
+    print_explained(rt, "a usage that rose before", &[low, last])
 }
 
 // Prints of limits that were read.
 fn print_limits<R: AllocGlobal + Print>(rt: &R) -> Result<()> {
-    print_place(rt, "the first limit", &[allowed(1000)])?;
-    print_place(rt, "no limit of these", &[allowed(999)])?;
-    print_place(rt, "the limit that was set", &[limited(100), allowed(100)])?;
-    print_place(rt, "the limit before", &[limited(100), allowed(1000)])?;
-    print_place(rt, "the limit behind", &[allowed(100), limited(100)])
+    print_explained(rt, "the first limit", &[allowed(1000)])?;
+    print_explained(rt, "no limit of these", &[allowed(999)])?;
+    print_explained(rt, "the limit that was set", &[limited(100), allowed(100)])?;
+    print_explained(rt, "the limit before", &[limited(100), allowed(1000)])?;
+    print_explained(rt, "the limit behind", &[allowed(100), limited(100)])
 }
 
 // Prints of limits that another thread alone set: first 20, then 900.
@@ -265,7 +265,7 @@ impl<'a> Sets<'a> {
         }
     }
 
-    // Prints whether these answers and those of a second thread have places.
+    // Prints whether these answers and those of a second thread are explained.
     fn print<R: AllocGlobal + Print>(&self, rt: &R, name: &str, answers: &[Answer]) -> Result<()> {
         let alone = if self.alone { Some(0) } else { None };
         let first = with_ends(rt, self.answers)?;
@@ -274,8 +274,8 @@ impl<'a> Sets<'a> {
     }
 }
 
-// Prints whether the answers of a thread have places, where there is no other.
-fn print_place<R: AllocGlobal + Print>(rt: &R, name: &str, answers: &[Answer]) -> Result<()> {
+// Prints whether the answers of a thread are explained, where there is no other.
+fn print_explained<R: AllocGlobal + Print>(rt: &R, name: &str, answers: &[Answer]) -> Result<()> {
     let answers = with_ends(rt, answers)?;
     print_verdict(rt, name, None, &[answers])
 }
@@ -289,7 +289,7 @@ fn with_ends<R: AllocGlobal>(rt: &R, answers: &[Answer]) -> Result<Vec<Answer>> 
     Ok(all)
 }
 
-// Prints whether the answers of threads have places, one of which may set limits alone.
+// Prints whether the answers of threads are explained, one of which may set limits alone.
 fn print_verdict<R: AllocGlobal + Print>(
     rt: &R,
     name: &str,
@@ -309,8 +309,8 @@ fn print_verdict<R: AllocGlobal + Print>(
         alone,
     };
     let verdict = match check::<Spur>(rt.alloc(), &round, found) {
-        Ok(()) => "has places",
-        Err(_) => "has none",
+        Ok(()) => "is explained",
+        Err(_) => "is not explained",
     };
     println!(rt; "{name}: {verdict}")?;
     Ok(())

@@ -1,6 +1,6 @@
 //! The limits of a round, and what answers show of when each was in force.
-use crate::history::answers::Answer;
-use crate::history::bounds::{Bound, Setter, least_after};
+use crate::rounds::answers::Answer;
+use crate::rounds::bounds::{Bound, Setter, least_after};
 use std::alloc::{AllocError, Global};
 
 /// A limit while it was in force.

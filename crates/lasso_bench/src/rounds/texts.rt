@@ -1,4 +1,4 @@
-//! The texts of a history, each with its number at its head.
+//! The texts of a round, each with its number at its head.
 use std::alloc::{AllocError, Global};
 
 // How many texts are also there as static ones.

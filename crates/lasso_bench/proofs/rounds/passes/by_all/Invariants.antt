@@ -1,5 +1,5 @@
 use Rattle.std.proofs.Common.{◌≡◌}
-use Rattle.lasso_bench.proofs.history.passes.by_all.Given as goal
+use Rattle.lasso_bench.proofs.rounds.passes.by_all.Given as goal
 
 -- the pass stays one of the interner
 abbrev pub invariant-loop-thread : goal.invariant-loop-thread

@@ -1,5 +1,5 @@
 use Rattle.std.proofs.Common.{◌≡◌}
-use Rattle.lasso_bench.proofs.history.answers.answers.Given as goal
+use Rattle.lasso_bench.proofs.rounds.answers.answers.Given as goal
 
 -- the pass stays one of the interner
 abbrev pub invariant-loop : goal.invariant-loop

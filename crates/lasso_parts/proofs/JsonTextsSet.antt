@@ -20,7 +20,7 @@ use Rattle.lasso_parts.specs.Texts.{Text}
 use Rattle.lasso_parts.specs.JsonObjects.{AreInOrder, position_number}
 use Rattle.lasso_parts.specs.JsonObjectLaws.{members_after}
 use Rattle.lasso_parts.proofs.JsonOrder.{text_order, IsBelow, itself, order_head, order_tail, get_here, get_below, get_cases}
-use Rattle.lasso_parts.proofs.JsonPositions.{placed, positions}
+use Rattle.lasso_parts.proofs.JsonPositions.{texts_set, positions}
 
 -- whether the position is one of them
 abbrev pub is_one : ℕ → List ℕ → Bool
@@ -168,31 +168,31 @@ at_below texts (m ∷ more) at = (slice_get_within texts m.1 m.0 at.0, at_below 
 
 -- ---- texts that are set
 
-pub long_placed : (start : List Text) (more : List (Text × ℕ)) → length (placed start more) ≡ length start
-long_placed start [] = refl
-long_placed start (m ∷ more) = long_placed (set start m.1 m.0) more ∙ length-set start m.1 m.0
+pub long_texts_set : (start : List Text) (more : List (Text × ℕ)) → length (texts_set start more) ≡ length start
+long_texts_set start [] = refl
+long_texts_set start (m ∷ more) = long_texts_set (set start m.1 m.0) more ∙ length-set start m.1 m.0
 
 -- where no text is set, the old one stays
-kept_at : (start : List Text) (more : List (Text × ℕ)) (p : ℕ) → is_one p (positions more) ≡ false → get_or (placed start more) p [] ≡ get_or start p []
-kept_at start [] p none = refl
-kept_at start (m ∷ more) p none =
+unset_stays : (start : List Text) (more : List (Text × ℕ)) (p : ℕ) → is_one p (positions more) ≡ false → get_or (texts_set start more) p [] ≡ get_or start p []
+unset_stays start [] p none = refl
+unset_stays start (m ∷ more) p none =
     let both = or_false (p == m.1) (is_one p (positions more)) none in
-    kept_at (set start m.1 m.0) more p both.1 ∙ get_or-set_other start m.1 p m.0 [] (apart_from p m.1 both.0)
+    unset_stays (set start m.1 m.0) more p both.1 ∙ get_or-set_other start m.1 p m.0 [] (apart_from p m.1 both.0)
 
 -- texts that were set at positions that differ stand there
-pub placed_at : (start : List Text) (more : List (Text × ℕ)) → lists.IsDistinct (λ p q. p == q) (positions more) → AllByRecursion (λ p. p < length start) (positions more) → AreAt (placed start more) more
-placed_at start [] apart below = tt
-placed_at start (m ∷ more) apart below =
+pub texts_set_at : (start : List Text) (more : List (Text × ℕ)) → lists.IsDistinct (λ p q. p == q) (positions more) → AllByRecursion (λ p. p < length start) (positions more) → AreAt (texts_set start more) more
+texts_set_at start [] apart below = tt
+texts_set_at start (m ∷ more) apart below =
     let p = m.1 in
     let none = one_of_none p (positions more) (IsDistinct-head (λ p q. p == q) p (positions more) apart) in
-    let here : get_or (placed (set start p m.0) more) p [] ≡ m.0 = kept_at (set start p m.0) more p none ∙ get_or-set_at start p p m.0 [] refl below.0 in
-    let inside : p < length (placed (set start p m.0) more) = omega (arith, below.0, long_placed (set start p m.0) more, length-set start p m.0) in (
-      slice_get-get_or (placed (set start p m.0) more) p [] inside ∙ ap (λ (t : Text). Some t) here,
-      placed_at (set start p m.0) more (IsDistinct-tail (λ p q. p == q) p (positions more) apart) (subst (λ (n : ℕ). AllByRecursion (λ q. q < n) (positions more)) (sym (length-set start p m.0)) below.1),
+    let here : get_or (texts_set (set start p m.0) more) p [] ≡ m.0 = unset_stays (set start p m.0) more p none ∙ get_or-set_at start p p m.0 [] refl below.0 in
+    let inside : p < length (texts_set (set start p m.0) more) = omega (arith, below.0, long_texts_set (set start p m.0) more, length-set start p m.0) in (
+      slice_get-get_or (texts_set (set start p m.0) more) p [] inside ∙ ap (λ (t : Text). Some t) here,
+      texts_set_at (set start p m.0) more (IsDistinct-tail (λ p q. p == q) p (positions more) apart) (subst (λ (n : ℕ). AllByRecursion (λ q. q < n) (positions more)) (sym (length-set start p m.0)) below.1),
     )
 
 -- setting the texts that stand at all positions gives the list
-pub settled : (texts start : List Text) (more : List (Text × ℕ)) → length start ≡ length texts → AreAt texts more → ((p : ℕ) → p < length texts → (get_or start p [] ≡ get_or texts p []) ⊎ (is_one p (positions more) ≡ true)) → placed start more ≡ texts
+pub settled : (texts start : List Text) (more : List (Text × ℕ)) → length start ≡ length texts → AreAt texts more → ((p : ℕ) → p < length texts → (get_or start p [] ≡ get_or texts p []) ⊎ (is_one p (positions more) ≡ true)) → texts_set start more ≡ texts
 settled texts start [] long at each =
     ext_get_or [] start texts long (λ i inside. elim (each i (omega (arith, inside, long))) [ inl same ↦ same | inr one ↦ absurd (true≢false (sym one)) ])
 settled texts start (m ∷ more) long at each =

@@ -2,8 +2,8 @@
 ghost use Rattle.std.specs.Prelude.{◌≡◌};
 ghost use Rattle.lasso_log.specs.Views.{PassView, KnownView, InternerId};
 
-use crate::history::answers::{Answer, Limits, answers};
-use crate::history::texts::Texts;
+use crate::rounds::answers::{Answer, Limits, answers};
+use crate::rounds::texts::Texts;
 use lasso::log::{Known, Pass};
 use lasso::{FixedState, Key, ThreadedRodeo};
 use std::alloc::AllocError;

@@ -1,8 +1,8 @@
 //! Random calls of a thread by its pass, and what they answer.
 ghost use Rattle.std.specs.Prelude.{◌≡◌};
 
-use crate::history::draws::Draws;
-use crate::history::texts::{Texts, fixed_count, fixed_text};
+use crate::rounds::draws::Draws;
+use crate::rounds::texts::{Texts, fixed_count, fixed_text};
 use lasso::log::Pass;
 use lasso::{FixedState, Key, LassoErrorKind, LassoResult, MemoryLimits, ThreadedRodeo};
 use std::alloc::AllocError;

@@ -1,5 +1,5 @@
 use Rattle.std.proofs.Common.{◌≡◌}
-use Rattle.lasso_bench.proofs.copying.copy_all.Given as goal
+use Rattle.lasso_bench.proofs.copying.copy_texts.Given as goal
 
 -- the pass stays one of the log
 abbrev pub invariant-loop-copied : goal.invariant-loop-copied
