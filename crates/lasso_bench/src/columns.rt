@@ -1,5 +1,4 @@
 //! A column at a time: how long it takes to encode the lines of an input, to decode their codes, and to merge two dictionaries.
-use crate::threads::THREADS;
 use crate::timing::tenths_a_call;
 use anyhow::{Result, ensure};
 use lasso::{Key, Rodeo, Spur, SpurRodeo, SpurRodeoReader, SpurThreadedRodeo, ThreadedRodeo};
@@ -12,6 +11,9 @@ use std::sync::Wait;
 use std::thread::Threads;
 use std::time::Instant;
 
+/// The greatest number of threads that encode together.
+pub const MOST_THREADS: usize = 4;
+
 /// How long each call took, in tenths of a nanosecond a text.
 #[derive(Clone, Copy, Debug)]
 pub struct ColumnTimings {
@@ -23,8 +25,8 @@ pub struct ColumnTimings {
     pub decode: u64,
     /// To merge the dictionary of all lines into that of the first half of them, a text of the first.
     pub merge: u64,
-    /// To encode texts by each number of threads.
-    pub encode_shared: [u64; 3],
+    /// To encode texts by one thread, by two, and so on.
+    pub encode_shared: [u64; MOST_THREADS],
 }
 
 /// What each call took in one round over the lines of the bytes. It fails where the clock does, for want of memory, where a line is no
@@ -49,10 +51,10 @@ pub fn time_columns<R: AllocGlobal + Clock + Threads + Wait + Sync>(
         encode_lines: encoding_lines,
         decode: decoding,
         merge: merging,
-        encode_shared: [0; 3],
+        encode_shared: [0; MOST_THREADS],
     };
-    for at in 0..3usize {
-        timings.encode_shared[at] = time_shared(rt, &lines, THREADS[at])?;
+    for at in 0..MOST_THREADS {
+        timings.encode_shared[at] = time_shared(rt, &lines, at + 1)?;
     }
     Ok(timings)
 }

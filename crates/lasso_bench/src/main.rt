@@ -29,7 +29,7 @@ mod walks;
 
 use anyhow::{Result, bail};
 use calls::{Plain, WithPass, fill};
-use columns::time_columns;
+use columns::{MOST_THREADS, time_columns};
 use copying::{COPIES, best_copy_timings};
 use frozen::{FrozenSample, best_frozen_timings};
 use interners::{time_filled, time_filling};
@@ -240,7 +240,12 @@ fn print_codes<R: AllocGlobal + Clock + Input + Print + Threads + Wait + Sync>(
         let tenth = tenths % 10;
         println!(rt; "{call} {whole}.{tenth}")?;
     }
-    print_calls(rt, "encode_shared", timings.encode_shared)
+    for before in 0..MOST_THREADS {
+        let whole = timings.encode_shared[before] / 10;
+        let tenth = timings.encode_shared[before] % 10;
+        println!(rt; "encode_shared {} {whole}.{tenth}", before + 1)?;
+    }
+    Ok(())
 }
 
 // Interns the lines of standard input in an interner that threads share, and prints how many texts there are.

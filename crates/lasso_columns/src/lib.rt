@@ -8,8 +8,6 @@ pub mod laws;
 pub mod lines;
 mod merging;
 mod sharing;
-#[cfg(test)]
-mod tests;
 
 pub use decoding::decode;
 pub use encoding::{encode, encode_lines};

@@ -1,6 +1,6 @@
 //! The examples in the documents of the calls, in tests.
-use crate::{decode, encode, encode_lines, encode_shared, merge};
 use lasso::{Rodeo, SpurRodeo, SpurThreadedRodeo, ThreadedRodeo};
+use lasso_columns::{decode, encode, encode_lines, encode_shared, merge};
 use std::test::Fail;
 
 #[test]

@@ -1,6 +1,6 @@
 //! The calls that the tests make, each in a function of no contract: what a call leaves is looked at, and nothing of it is known before.
-use crate::{DecodeError, LineError};
 use lasso::{LassoResult, Rodeo, SpurRodeo, SpurRodeoReader, SpurThreadedRodeo, ThreadedRodeo};
+use lasso_columns::{DecodeError, LineError};
 use std::sync::Wait;
 use std::test::Fail;
 use std::thread::Threads;
@@ -23,7 +23,7 @@ pub(super) fn encode(
     texts: &[&str],
     codes: &mut Vec<u32>,
 ) -> LassoResult<()> {
-    crate::encode(rodeo, texts, codes)
+    lasso_columns::encode(rodeo, texts, codes)
 }
 
 pub(super) fn encode_lines(
@@ -31,7 +31,7 @@ pub(super) fn encode_lines(
     bytes: &[u8],
     codes: &mut Vec<u32>,
 ) -> Result<(), LineError> {
-    crate::encode_lines(rodeo, bytes, codes)
+    lasso_columns::encode_lines(rodeo, bytes, codes)
 }
 
 pub(super) fn decode<'r>(
@@ -39,7 +39,7 @@ pub(super) fn decode<'r>(
     codes: &[u32],
     out: &mut Vec<&'r str>,
 ) -> Result<(), DecodeError> {
-    crate::decode(reader, codes, out)
+    lasso_columns::decode(reader, codes, out)
 }
 
 pub(super) fn merge(
@@ -47,7 +47,7 @@ pub(super) fn merge(
     into: &mut SpurRodeo,
     from: &SpurRodeoReader,
 ) -> LassoResult<Vec<u32>> {
-    crate::merge(rt.alloc(), into, from)
+    lasso_columns::merge(rt.alloc(), into, from)
 }
 
 pub(super) fn encode_shared<R: AllocGlobal + Threads + Wait + Sync>(
@@ -57,7 +57,7 @@ pub(super) fn encode_shared<R: AllocGlobal + Threads + Wait + Sync>(
     codes: &mut Vec<u32>,
     workers: usize,
 ) -> LassoResult<()> {
-    crate::encode_shared(rt, rodeo, texts, codes, workers)
+    lasso_columns::encode_shared(rt, rodeo, texts, codes, workers)
 }
 
 // By a pass of its own.
@@ -69,5 +69,5 @@ pub(super) fn encode_shared_as<R: AllocGlobal + Threads + Wait + Sync>(
     workers: usize,
 ) -> LassoResult<()> {
     let mut pass = rodeo.pass();
-    crate::encode_shared_as(rt, rodeo, &mut pass, texts, codes, workers)
+    lasso_columns::encode_shared_as(rt, rodeo, &mut pass, texts, codes, workers)
 }

@@ -1,11 +1,8 @@
 //! What no clause says: that each call answers where memory is there; and whole columns, with values worked by hand.
-mod calls;
-mod examples;
-mod shared;
-
-use crate::{DecodeError, LineError};
-use calls::{decode, encode, encode_lines, interner, merge};
-use lasso::{Capacity, LassoError, MemoryLimits, Rodeo, SpurRodeo};
+use crate::calls::{decode, encode, encode_lines, interner, merge};
+use crate::limited::limited;
+use lasso::LassoError;
+use lasso_columns::{DecodeError, LineError};
 use std::fmt::Debug;
 use std::test::Fail;
 
@@ -51,7 +48,7 @@ fn unwanted<E: Debug + Drop>(ended: Result<(), E>) -> Fail {
 }
 
 // The refusal is the limit's.
-fn limit_refuses(refusal: Option<LassoError>) -> Result<(), Fail> {
+pub(super) fn limit_refuses(refusal: Option<LassoError>) -> Result<(), Fail> {
     let error = refusal.ok_or("not refused")?;
     if error.kind().is_memory_limit() {
         return Ok(());
@@ -59,16 +56,9 @@ fn limit_refuses(refusal: Option<LassoError>) -> Result<(), Fail> {
     Err(Fail::from(error))
 }
 
-// The first bucket has 10 bytes, which two texts of five fill, and the limit leaves no second one.
-fn limited(rt: &HostRuntime) -> Result<SpurRodeo, Fail> {
-    let capacity = Capacity::for_bytes(10);
-    let limits = MemoryLimits::new(10);
-    Ok(Rodeo::with_capacity_and_memory_limits(rt.alloc(), capacity, limits)?)
-}
-
 #[test]
 fn a_refusal_in_mid_column_keeps_what_came_before(rt: HostRuntime) -> Result<(), Fail> {
-    let mut rodeo = limited(&rt)?;
+    let mut rodeo = limited(rt.alloc())?;
     let mut codes = Vec::new(rt.alloc());
     let texts = ["first", "other", "first", "third", "first"];
     limit_refuses(encode(&mut rodeo, &texts, &mut codes).err())?;
@@ -97,7 +87,7 @@ fn lines_are_cut_and_encoded(rt: HostRuntime) -> Result<(), Fail> {
 
 #[test]
 fn a_faulty_line_is_told_by_its_number(rt: HostRuntime) -> Result<(), Fail> {
-    let mut rodeo = limited(&rt)?;
+    let mut rodeo = limited(rt.alloc())?;
     let mut codes = Vec::new(rt.alloc());
     match encode_lines(&mut rodeo, b"first\nother\n\xff\nfirst\n", &mut codes) {
         Err(LineError::NotText(line)) => assert!(rt; line == 3),
@@ -123,9 +113,33 @@ fn two_dictionaries_are_merged(rt: HostRuntime) -> Result<(), Fail> {
     let merged = merge(&rt, &mut into, &from)?;
     assert!(rt; merged.as_slice() == [2, 1, 3].as_slice());
     assert!(rt; into.len() == 4);
-    let mut into = limited(&rt)?;
+    let mut into = limited(rt.alloc())?;
     let from = interner(&rt, &["first", "other", "third"])?.into_reader();
     limit_refuses(merge(&rt, &mut into, &from).err())?;
     assert!(rt; into.len() == 2);
+    Ok(())
+}
+
+#[test]
+fn long_columns_are_encoded(rt: HostRuntime) -> Result<(), Fail> {
+    let mut rodeo = interner(&rt, &[])?;
+    let mut codes = Vec::new(rt.alloc());
+    encode(&mut rodeo, &["first"; 1000], &mut codes)?;
+    assert!(rt; codes.as_slice() == [0; 1000].as_slice());
+    codes.clear();
+    encode_lines(&mut rodeo, &[b'\n'; 1000], &mut codes)?;
+    assert!(rt; codes.as_slice() == [1; 1000].as_slice());
+    Ok(())
+}
+
+#[test]
+fn long_dictionaries_are_merged(rt: HostRuntime) -> Result<(), Fail> {
+    let mut from = interner(&rt, &[])?;
+    let letters = b"a\nb\nc\nd\ne\nf\ng\nh\ni\nj\nk\nl\nm\nn\no\np\nq\nr\ns\nt\nu\nv\nw\nx\ny\nz";
+    encode_lines(&mut from, letters, &mut Vec::new(rt.alloc()))?;
+    let mut into = interner(&rt, &["z"])?;
+    let merged = merge(&rt, &mut into, &from.into_reader())?;
+    assert!(rt; merged.len() == 26 && into.len() == 26);
+    assert!(rt; merged.first() == Some(&1) && merged.last() == Some(&0));
     Ok(())
 }

@@ -1,7 +1,8 @@
 //! Columns that several threads encode. How they take turns is another each time, and what is looked at is the same.
-use super::calls::{encode_shared, encode_shared_as, shared_interner};
-use super::limit_refuses;
-use lasso::{Capacity, Key, MemoryLimits, Spur, SpurThreadedRodeo, ThreadedRodeo};
+use crate::calls::{encode_shared, encode_shared_as, shared_interner};
+use crate::columns::limit_refuses;
+use crate::limited::limited_shared;
+use lasso::{Key, MemoryLimits, Spur, SpurThreadedRodeo, ThreadedRodeo};
 use std::process::Abort;
 use std::test::Fail;
 
@@ -62,16 +63,9 @@ fn codes_go_behind_those_from_before(rt: HostRuntime) -> Result<(), Fail> {
     Ok(())
 }
 
-// The first bucket has 10 bytes, which two texts of five fill, and the limit leaves no second one.
-fn limited(rt: &HostRuntime) -> Result<SpurThreadedRodeo, Fail> {
-    let capacity = Capacity::for_bytes(10);
-    let limits = MemoryLimits::new(10);
-    Ok(ThreadedRodeo::with_capacity_and_memory_limits(rt.alloc(), capacity, limits)?)
-}
-
 #[test]
 fn a_refused_worker_adds_no_code(rt: HostRuntime) -> Result<(), Fail> {
-    let rodeo = limited(&rt)?;
+    let rodeo = limited_shared(rt.alloc())?;
     let mut codes = Vec::new(rt.alloc());
     let texts = ["first", "other", "third", "first"];
     let ended = encode_shared_as(&rt, &rodeo, &texts, &mut codes, 2);
@@ -84,7 +78,7 @@ fn a_refused_worker_adds_no_code(rt: HostRuntime) -> Result<(), Fail> {
 // The last of four workers meets the limit at its third text, after it has interned the two that fill the bucket.
 #[test]
 fn a_limit_in_mid_column_stays_what_it_was(rt: HostRuntime) -> Result<(), Fail> {
-    let rodeo = limited(&rt)?;
+    let rodeo = limited_shared(rt.alloc())?;
     let mut codes = Vec::new(rt.alloc());
     let mut texts = ["first"; 20];
     texts[3] = "other";
@@ -102,11 +96,42 @@ fn a_limit_in_mid_column_stays_what_it_was(rt: HostRuntime) -> Result<(), Fail> 
 // worker alone would end at the first text.
 #[test]
 fn each_worker_interns_its_part(rt: HostRuntime) -> Result<(), Fail> {
-    let rodeo = limited(&rt)?;
+    let rodeo = limited_shared(rt.alloc())?;
     let mut codes = Vec::new(rt.alloc());
     let texts = ["longer than ten bytes", "short"];
     limit_refuses(encode_shared(&rt, &rodeo, &texts, &mut codes, 2).err())?;
     assert!(rt; codes.is_empty());
     assert!(rt; rodeo.len() == 1);
+    Ok(())
+}
+
+#[test]
+fn a_worker_ends_at_its_first_refused_text(rt: HostRuntime) -> Result<(), Fail> {
+    let rodeo = limited_shared(rt.alloc())?;
+    let mut codes = Vec::new(rt.alloc());
+    let texts = ["longer than ten bytes", "short"];
+    limit_refuses(encode_shared(&rt, &rodeo, &texts, &mut codes, 1).err())?;
+    assert!(rt; rodeo.is_empty());
+    Ok(())
+}
+
+// What was refused before counts no more once the limit was raised.
+#[test]
+fn a_raised_limit_is_the_one_in_force(rt: HostRuntime) -> Result<(), Fail> {
+    let rodeo = limited_shared(rt.alloc())?;
+    let mut codes = Vec::new(rt.alloc());
+    let texts = ["first", "other", "third", "first"];
+    limit_refuses(encode_shared_as(&rt, &rodeo, &texts, &mut codes, 2).err())?;
+    rodeo.set_memory_limits(&rt, MemoryLimits::new(5000));
+    encode_shared_as(&rt, &rodeo, &texts, &mut codes, 2)?;
+    stand_for(&rt, &rodeo, &codes, &texts)
+}
+
+#[test]
+fn threads_encode_a_long_column(rt: HostRuntime) -> Result<(), Fail> {
+    let rodeo = shared_interner(&rt)?;
+    let mut codes = Vec::new(rt.alloc());
+    encode_shared(&rt, &rodeo, &["first"; 1000], &mut codes, 4)?;
+    assert!(rt; codes.as_slice() == [0; 1000].as_slice());
     Ok(())
 }

@@ -1,0 +1,13 @@
+//! Tests of `lasso_columns` by its public calls: whole columns, with values worked by hand, columns that several threads encode,
+//! and the examples in the documents.
+#![tactic(auto)]
+
+#[cfg(test)]
+mod calls;
+#[cfg(test)]
+mod columns;
+#[cfg(test)]
+mod examples;
+pub mod limited;
+#[cfg(test)]
+mod shared;

@@ -1,0 +1,23 @@
+//! Interners that a third text of five bytes is refused in.
+ghost use Rattle.std.specs.Prelude.{◌≡◌, ℕ, [], IfOk};
+
+use lasso::{
+    Capacity, LassoResult, MemoryLimits, Rodeo, SpurRodeo, SpurThreadedRodeo, ThreadedRodeo,
+};
+use std::alloc::Global;
+
+/// An interner whose first bucket has 10 bytes, which two texts of five fill; the limit leaves no second one.
+pub fn limited(alloc: Global) -> LassoResult<SpurRodeo>
+    ensures { IfOk result (λ r. (r.texts ≡ []) × (r.account.limit ≡ 10)) }
+{
+    let capacity = Capacity::for_bytes(10);
+    let limits = MemoryLimits::new(10);
+    Rodeo::with_capacity_and_memory_limits(alloc, capacity, limits)
+}
+
+/// The same for threads.
+pub fn limited_shared(alloc: Global) -> LassoResult<SpurThreadedRodeo> {
+    let capacity = Capacity::for_bytes(10);
+    let limits = MemoryLimits::new(10);
+    ThreadedRodeo::with_capacity_and_memory_limits(alloc, capacity, limits)
+}
