@@ -68,7 +68,7 @@ fn write_answer<O: ByteWriter>(writer: &mut O, position: usize, line: &[u8]) -> 
 }
 
 // Writes the front, the line and a line feed, at once where the writer has room.
-#[inline]
+#[inline(always)]
 pub(crate) fn write_line<O: ByteWriter>(
     writer: &mut O,
     front: &[u8],
