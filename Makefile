@@ -20,9 +20,5 @@ $(PROGRAM): $(SOURCES)
 	@rm -f crates/lasso_lines/out.log
 	@touch $(PROGRAM)
 
-# As many checks at a time as there are processors, and 5.5 GB of free memory for each: the largest seen took 6.3, most take 1 to 3. Left to itself
-# rt reckons with 7 for the largest, and then a lane stays empty for most of the time.
-AT_ONCE = $(shell awk -v most=$$(nproc) '/^MemAvailable/ { n = int($$2 / 5500000); print n < 1 ? 1 : n < most ? n : most }' /proc/meminfo)
-
 test:
-	RT_JOBS=$(AT_ONCE) rt ci
+	rt ci
