@@ -7,7 +7,7 @@ use opaque::black_box;
 use positions::random_positions;
 use std::time::Instant;
 
-const ROUNDS: usize = 7;
+const ROUNDS: usize = 8;
 
 const COUNTS: [u32; 2] = [100_000, 1_000_000];
 

@@ -12,7 +12,7 @@ use std::sync::atomic::{AtomicUsize, Ordering};
 use std::thread;
 use std::time::Instant;
 
-const ROUNDS: usize = 7;
+const ROUNDS: usize = 8;
 
 const TEXTS: usize = 100_000;
 
