@@ -41,14 +41,14 @@ failed_calls (Ok _) = 0
 failed_calls (Err _) = 1
 
 -- a reader: the bytes at hand, all bytes that are left, where they are known, and how many calls have failed
-pub record Reading : Type 0 where
+pub record ReaderView : Type 0 where
   pub at_hand : List ℕ
   pub left : Option (List ℕ)
   pub failures : ℕ
 
 -- a writer: the bytes that were delivered and those that are pending, where they are known, how many calls have
 -- failed, and how many bytes it can take at once
-pub record Writing : Type 0 where
+pub record WriterView : Type 0 where
   pub delivered : Option (List ℕ)
   pub pending : Option (List ℕ)
   pub failures : ℕ
@@ -56,7 +56,7 @@ pub record Writing : Type 0 where
 
 -- a writer into memory: the bytes that it has taken, which are delivered, how many calls have failed, and how many
 -- bytes it can take at once
-pub record Taken : Type 0 where
+pub record MemoryWriterView : Type 0 where
   pub bytes : List ℕ
   pub failures : ℕ
   pub room : ℕ

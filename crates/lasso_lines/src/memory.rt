@@ -64,9 +64,9 @@ pub struct MemoryWriter {
 
 impl Model for MemoryWriter {
     ghost use Rattle.std.specs.Prelude.{◌-◌, length, vec_capacity};
-    ghost use Rattle.lasso_lines.specs.Stream.{Taken};
+    ghost use Rattle.lasso_lines.specs.Stream.{MemoryWriterView};
 
-    ghost Value = { Taken };
+    ghost Value = { MemoryWriterView };
 
     ghost view = { λ w. record { bytes = w.bytes.items; failures = w.failures.count; room = vec_capacity w.bytes - length w.bytes.items } };
 }

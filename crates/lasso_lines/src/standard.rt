@@ -27,9 +27,9 @@ pub struct StandardReader<R: Read + Drop> {
 impl<R: Read + Drop> Model for StandardReader<R> {
     ghost use Rattle.std.specs.Prelude.{◌<◌, ◌≤◌, drop, take, length};
     ghost use Rattle.std.specs.Io.KnownBytes.{prepend_known};
-    ghost use Rattle.lasso_lines.specs.Stream.{Reading};
+    ghost use Rattle.lasso_lines.specs.Stream.{ReaderView};
 
-    ghost Value = { Reading };
+    ghost Value = { ReaderView };
 
     ghost view = { λ r. record { at_hand = drop r.used (take r.filled r.buffer.items); left = prepend_known (drop r.used (take r.filled r.buffer.items)) (R.remaining r.inner); failures = r.failures.count } };
 
@@ -95,9 +95,9 @@ pub struct StandardWriter<W: Write + Drop> {
 
 impl<W: Write + Drop> Model for StandardWriter<W> {
     ghost use Rattle.std.specs.Prelude.{◌-◌, Some, drop, length};
-    ghost use Rattle.lasso_lines.specs.Stream.{Writing};
+    ghost use Rattle.lasso_lines.specs.Stream.{WriterView};
 
-    ghost Value = { Writing };
+    ghost Value = { WriterView };
 
     ghost view = { λ w. record { delivered = W.contents w.outgoing.inner; pending = Some (drop w.outgoing.sent w.outgoing.buffer.items); failures = w.failures.count; room = 65536 - length w.outgoing.buffer.items } };
 }

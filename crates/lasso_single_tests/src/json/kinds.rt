@@ -1,4 +1,4 @@
-//! A value of each kind at each position: alone, as an item and as a member.
+//! A value of each kind in each role: alone, as an item and as a member.
 use super::{
     SpurReader, SpurResolver, SpurRodeo, as_reader, as_resolver, as_rodeo, fault, usage, value_of,
 };
@@ -83,7 +83,7 @@ fn wrong_item(text: Option<&str>, at: usize, behind: Option<JsonError>) -> Optio
 }
 
 #[test]
-fn each_kind_at_each_position(rt: HostRuntime) -> Result<(), Fail> {
+fn each_kind_in_each_role(rt: HostRuntime) -> Result<(), Fail> {
     for (kind, text, alone) in KINDS {
         assert!(rt; wrong_with(&rt, kind)? == alone, "{kind}");
         let first = wrong_item(text, 0, None);

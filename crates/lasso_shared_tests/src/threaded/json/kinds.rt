@@ -1,4 +1,4 @@
-//! A value of each kind at each position: alone, as an item, as the number of a text, and as its name.
+//! A value of each kind in each role: alone, as an item, as the number of a text, and as its name.
 use super::{fault, read, wrong_with};
 use crate::calls::{Shared, len, usage};
 use lasso_parts::json::JsonError;
@@ -73,10 +73,7 @@ fn wrong_between<K: Key>(
 }
 
 // What is wrong with a value of the kind alone, as the number of the only text, and as that of a text behind one of number 1.
-fn wrong_at_each_position<K: Key>(
-    alloc: Global,
-    kind: &str,
-) -> Result<(Wrong, Wrong, Wrong), Fail> {
+fn wrong_in_each_role<K: Key>(alloc: Global, kind: &str) -> Result<(Wrong, Wrong, Wrong), Fail> {
     let alone = wrong_with::<K>(alloc, kind)?;
     let first = wrong_between::<K>(alloc, r#"{"k":"#, kind, "}")?;
     let second = wrong_between::<K>(alloc, r#"{"k":"#, kind, r#","a":1}"#)?;
@@ -85,20 +82,20 @@ fn wrong_at_each_position<K: Key>(
 
 // Each of these key types has keys for two texts.
 #[test]
-fn each_kind_at_each_position(rt: HostRuntime) -> Result<(), Fail> {
+fn each_kind_in_each_role(rt: HostRuntime) -> Result<(), Fail> {
     let alloc = rt.alloc();
     for (kind, alone, first, second) in KINDS {
         let wanted = (alone, first, second);
         assert!(rt;
-            wrong_at_each_position::<Spur>(alloc, kind)? == wanted,
+            wrong_in_each_role::<Spur>(alloc, kind)? == wanted,
             "{kind}"
         );
         assert!(rt;
-            wrong_at_each_position::<MicroSpur>(alloc, kind)? == wanted,
+            wrong_in_each_role::<MicroSpur>(alloc, kind)? == wanted,
             "{kind}"
         );
         assert!(rt;
-            wrong_at_each_position::<MiniSpur>(alloc, kind)? == wanted,
+            wrong_in_each_role::<MiniSpur>(alloc, kind)? == wanted,
             "{kind}"
         );
     }
