@@ -205,6 +205,36 @@ fn makers_of_default_size(rt: HostRuntime) -> Result<(), Fail> {
     Ok(())
 }
 
+// For how many texts the list of what was made has room.
+fn room_of(made: LassoResult<Rodeo<Spur, FixedState, Global>>) -> LassoResult<usize> {
+    Ok(made?.capacity())
+}
+
+#[test]
+fn makers_have_room_for_a_number_of_texts(rt: HostRuntime) -> Result<(), Fail> {
+    let room = Capacity::new(1000, 4096);
+    let limits = MemoryLimits::new(4096);
+    let hasher = FixedState::new();
+    assert!(rt; room_of(Rodeo::with_capacity(rt.alloc(), room))? >= 1000);
+    let made = Rodeo::with_capacity_and_memory_limits(rt.alloc(), room, limits);
+    assert!(rt; room_of(made)? >= 1000);
+    let made = Rodeo::with_capacity_and_hasher(rt.alloc(), room, hasher);
+    assert!(rt; room_of(made)? >= 1000);
+    let made = Rodeo::with_capacity_memory_limits_and_hasher(rt.alloc(), room, limits, hasher);
+    assert!(rt; room_of(made)? >= 1000);
+    Ok(())
+}
+
+#[test]
+fn makers_have_room_for_fifty_texts_by_default(rt: HostRuntime) -> Result<(), Fail> {
+    let limits = MemoryLimits::new(4096);
+    assert!(rt; room_of(Rodeo::default(rt.alloc()))? >= 50);
+    assert!(rt; room_of(Rodeo::new(rt.alloc()))? >= 50);
+    assert!(rt; room_of(Rodeo::with_memory_limits(rt.alloc(), limits))? >= 50);
+    assert!(rt; room_of(Rodeo::with_hasher(rt.alloc(), FixedState::new()))? >= 50);
+    Ok(())
+}
+
 #[test]
 fn no_text_has_a_key(rt: HostRuntime) -> Result<(), Fail> {
     let mut rodeo = interner::<Gap<0>>(rt.alloc(), 4, 4)?;

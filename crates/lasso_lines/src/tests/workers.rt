@@ -308,24 +308,22 @@ fn each_write_fails_in_turn(rt: HostRuntime) -> Result<(), Fail> {
     Ok(())
 }
 
+// The first two reads have three bytes each, and the third finds the end: no more are made.
 #[test]
 fn each_read_fails_in_turn(rt: HostRuntime) -> Result<(), Fail> {
-    let mut whole = false;
-    for calls in 0..100 {
+    for calls in 0..3 {
         let mut reader = ShortReader::new(INPUT, calls);
         let mut writer = MemoryWriter::new(rt.alloc());
         let ended = run_workers(&rt, &mut reader, &mut writer, no_limit(), 2, &OpenGate);
-        let text = writer.into_bytes();
-        if ended.is_ok() {
-            whole = true;
-            assert!(rt; text.as_slice() == OUTPUT);
-            assert!(rt; reader.tries == 0);
-            break;
-        }
-        assert!(rt; text.is_empty());
+        assert!(rt; writer.into_bytes().is_empty());
         assert!(rt; reader.tries == 1);
         assert_fault(&rt, ended, "read failed", 4)?;
     }
-    assert!(rt; whole);
+    let mut reader = ShortReader::new(INPUT, 3);
+    let mut writer = MemoryWriter::new(rt.alloc());
+    let ended = run_workers(&rt, &mut reader, &mut writer, no_limit(), 2, &OpenGate);
+    assert!(rt; ended == Ok(()));
+    assert!(rt; writer.into_bytes().as_slice() == OUTPUT);
+    assert!(rt; reader.tries == 0);
     Ok(())
 }

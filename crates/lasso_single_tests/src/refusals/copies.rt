@@ -130,6 +130,28 @@ fn copied_past_the_first_bucket<R: AllocGlobal + Abort>(
     Ok(())
 }
 
+// The list, the index and the buckets of the copy are in the memory of the interner that was copied over.
+fn copied_between<'a, R: AllocGlobal + Abort>(
+    rt: &R,
+    of_source: &'a Memory,
+    of_target: &'a Memory,
+) -> Result<(), Fail> {
+    let source = Metered::<'a, Spur>::from_iter(of_source, ["abc", "defg"])?;
+    let mut target = Metered::<'a, Spur>::from_iter(of_target, ["old"])?;
+    let bytes = of_source.bytes_out();
+    target.try_clone_from(&source)?;
+    assert!(rt; of_source.bytes_out() == bytes);
+    assert!(rt; target.len() == 2);
+    Ok(())
+}
+
+#[test]
+fn a_copy_stays_in_the_memory_of_its_target(rt: HostRuntime) -> Result<(), Fail> {
+    let of_source = Refusing::new(rt.alloc(), 0);
+    let of_target = Refusing::new(rt.alloc(), 0);
+    copied_between(&rt, &of_source, &of_target)
+}
+
 #[test]
 fn a_copy_refused_past_the_first_bucket(rt: HostRuntime) -> Result<(), Fail> {
     each_refused(&rt, copied_past_the_first_bucket)

@@ -49,6 +49,25 @@ fn texts_given_room_first_go_in_without_a_growth(rt: HostRuntime) -> Result<(), 
     Ok(())
 }
 
+// A growth of the clone's index would hash the texts that it holds again.
+#[test]
+fn a_clone_has_room_for_its_texts(rt: HostRuntime) -> Result<(), Fail> {
+    let made = Cell::new(0);
+    let mut rodeo: Rodeo<Spur, CountingState<'_>, Global> = Rodeo::with_hasher(
+        rt.alloc(),
+        CountingState::new(&made),
+    )?;
+    for number in 0..1000usize {
+        let text = format!(in rt.alloc(); "{number}")?;
+        rodeo.try_get_or_intern(text.as_str())?;
+    }
+    let before = made.get();
+    let copy = rodeo.try_clone()?;
+    assert!(rt; made.get().saturating_sub(before) == 1000);
+    assert!(rt; copy.len() == 1000);
+    Ok(())
+}
+
 // A copy of two texts over another interner: the source's hasher is asked for them, once each, and later too.
 fn copies_with<'a, R: AllocGlobal + Abort>(
     rt: &R,
