@@ -4,8 +4,10 @@ FILE ?= sample/words.txt
 PROGRAM = crates/lasso_lines/out/lasso_lines
 SOURCES = crates.txt $(shell find crates -type f \( -path '*/src/*' -o -path '*/specs/*' -o -path '*/proofs/*' \) -not -path '*/out/*')
 
-# Of what rt says, how far each crate is.
-PROGRESS = awk '/^checked .*, [0-9]+ of [0-9]+$$/ { crate = $$2; sub(/::.*/, "", crate); \
+# Of what rt says, which crate is proved and how far it is.
+PROGRESS = awk '/^rt: chose --jobs [0-9]+ for / { crate = $$NF } \
+	/^so far: [0-9]+ of [0-9]+ functions checked/ { print crate ": " $$3 " of " $$5 " functions checked"; fflush() } \
+	/^checked .*, [0-9]+ of [0-9]+$$/ { crate = $$2; sub(/::.*/, "", crate); \
 	if (crate != last || $$(NF - 2) % 20 == 0) print crate ": " $$(NF - 2) " of " $$NF " functions checked"; last = crate; fflush() }'
 
 .PHONY: run test
