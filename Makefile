@@ -1,14 +1,13 @@
 # make run FILE=path   proves and builds lasso_lines where the sources changed, and runs it on the file
-# make test            proves every crate from nothing, and runs every test (rt ci)
+# make test            proves what did not pass on this machine before, at first everything, and runs every test (rt ci)
 FILE ?= sample/words.txt
 PROGRAM = crates/lasso_lines/out/lasso_lines
 SOURCES = crates.txt $(shell find crates -type f \( -path '*/src/*' -o -path '*/specs/*' -o -path '*/proofs/*' \) -not -path '*/out/*')
 
-# Of what rt says, which crate is proved and how far it is.
-PROGRESS = awk '/^rt: chose --jobs [0-9]+ for / { crate = $$NF } \
-	/^so far: [0-9]+ of [0-9]+ functions checked/ { print crate ": " $$3 " of " $$5 " functions checked"; fflush() } \
-	/^checked .*, [0-9]+ of [0-9]+$$/ { crate = $$2; sub(/::.*/, "", crate); \
-	if (crate != last || $$(NF - 2) % 20 == 0) print crate ": " $$(NF - 2) " of " $$NF " functions checked"; last = crate; fflush() }'
+# Of what rt says, which crate is proved and how far it is (sed reads and writes line by line; awk need not).
+PROGRESS = sed -unE -e '/^rt: chose --jobs [0-9]+ for /{s///;h}' \
+	-e '/^so far: ([0-9]+ of [0-9]+) functions checked.*/{s//: \1 functions checked/;G;s/^(.*)\n(.*)$$/\2\1/p}' \
+	-e 's/^checked ([a-z0-9_]+)[^,]*, (1|([0-9]*[02468])?0) of ([0-9]+)$$/\1: \2 of \4 functions checked/p'
 
 .PHONY: run test
 
