@@ -177,15 +177,15 @@ impl<X: Fits + Drop> TaggedRwLock<X> {
         ensures { result.tag ≡ self.now }
     {
         for _ in 0..LOOKS {
-            if let Some(reading) = self.try_read() {
-                return reading;
+            if let Some(guard) = self.try_read() {
+                return guard;
             }
             spin_loop();
         }
         let _first = self.queue.lock(rt);
         for _ in rt.forever() {
-            if let Some(reading) = self.try_read() {
-                return reading;
+            if let Some(guard) = self.try_read() {
+                return guard;
             }
             // Nobody has read or changed the value yet.
             if let Some(value) = pull(&self.slot) {

@@ -25,11 +25,11 @@ pub fn count_up<R: Wait>(rt: &R, lock: &TaggedMutex<Count>, times: u32)
     requires { lock.now ≡ 5000 }
 {
     for _ in 0..times {
-        let (taken, mut count) = lock.take(rt);
+        let (guard, mut count) = lock.take(rt);
         if count.number < 5000 {
             count.number += 1;
         }
-        taken.give(rt, count);
+        guard.give(rt, count);
     }
 }
 
@@ -38,8 +38,8 @@ pub fn count_in<R: Wait>(rt: &R, lock: &TaggedMutex<Count>) -> u64
     requires { lock.now ≡ 5000 }
     ensures { result ≤ 5000 }
 {
-    let (taken, count) = lock.take(rt);
+    let (guard, count) = lock.take(rt);
     let number = count.number;
-    taken.give(rt, count);
+    guard.give(rt, count);
     number
 }

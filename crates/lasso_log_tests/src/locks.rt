@@ -50,10 +50,10 @@ fn change<R: Wait>(rt: &R, lock: &TaggedRwLock<Pair>, times: u32)
     requires { lock.now ≡ 9 }
 {
     for i in 0..times {
-        let (taken, mut pair) = lock.take(rt);
+        let (guard, mut pair) = lock.take(rt);
         pair.first = u64::from(i) + 1;
         pair.second = u64::from(i) + 10;
-        taken.give(rt, pair);
+        guard.give(rt, pair);
     }
 }
 

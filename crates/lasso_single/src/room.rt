@@ -11,6 +11,7 @@ use lasso_parts::util::{Capacity, LassoError, LassoErrorKind, LassoResult};
 pub fn one_bucket<T: Texts>(texts: &T, len: usize) -> LassoResult<Capacity>
     requires { len ≡ length (T.list texts.now) }
     ensures bytes { IfOk result (λ capacity. capacity.bytes ≡ clone_size (T.list texts.now)) }
+    ensures strings { IfOk result (λ capacity. capacity.strings ≡ len) }
     ensures counted { IfOk result (λ _. bytes_of (T.list texts.now) < 2 ^ 64) }
     ensures refused { IfErr result (λ error. error ≡ FailedAllocation) }
     ensures overflow { 2 ^ 64 ≤ bytes_of (T.list texts.now) → result ≡ Err FailedAllocation }

@@ -105,14 +105,14 @@ impl<K: Key> Log<K> {
         ensures bucket { IfOk result (λ b. (b.site.era ≡ era_named self.now.chunks) × (b.size ≡ size) × (b.used ≡ 0)) }
         ensures refused { IfErr result (λ error. error ≡ FailedAllocation) }
     {
-        let (taken, mut holdings) = self.memory.holdings.take(rt);
+        let (guard, mut holdings) = self.memory.holdings.take(rt);
         let made = NewBucket::with_capacity(
             alloc,
             self.memory.chunks.era(),
             &mut holdings,
             size as usize,
         );
-        taken.give(rt, holdings);
+        guard.give(rt, holdings);
         made
     }
 

@@ -144,9 +144,9 @@ impl<K: Key, S: BuildHasher + Drop> Shards<K, S> {
         ensures since { Since pass.old.number pass.old.notes pass.new.notes [] }
         ensures found { IfSome result (λ k. key_of K.key_at (list_of self.now.log pass.new.notes) text.now ≡ Some k) }
     {
-        let reading = self.lock(number_of(hash)).read(rt);
-        let found = self.find(reading.get(), pass, hash, text);
-        reading.leave();
+        let guard = self.lock(number_of(hash)).read(rt);
+        let found = self.find(guard.get(), pass, hash, text);
+        guard.leave();
         found
     }
 
@@ -181,9 +181,9 @@ impl<K: Key, S: BuildHasher + Drop> Shards<K, S> {
         ensures call { IsCall K.key_at self.now.log.opening (seen pass.old) (seen pass.new) pass.old.number (Get text.now) (Found result) }
     {
         let hash = hash_text(&self.hasher, text);
-        let reading = self.lock(number_of(hash)).read(rt);
-        let found = self.look_up(rt, reading.get(), pass, hash, text);
-        reading.leave();
+        let guard = self.lock(number_of(hash)).read(rt);
+        let found = self.look_up(rt, guard.get(), pass, hash, text);
+        guard.leave();
         found
     }
 }

@@ -49,9 +49,9 @@ invariant_of-spine g c =
     let first : c.spine.inside.first ≡ length o.texts = c.spine.invariant.1 ∙ (ap (λ s. length s.of.opening.texts) c.spine.view_is ∙ ap (λ of. length of.opening.texts) c.requires.of.1) in
     let reads = length_after_append g.K.Key.key_at o c.args.pass.now.number c.args.pass.now.notes v c.exchange.new.pass.notes c.args.text.now c.spine.inside.appended c.in-Some.word.key done in
     let some = c.if-spine-eq0.false in
-    let sighted : interner_id c.copy_seen.result.book c.copy_seen.result.names (opening_of c.copy_seen.result.log) ≡ c.exchange.new.pass.of = λ i. interner_id (s.of.0 i) (s.of.1 i) (s.of.2 i) in
+    let same_interner : interner_id c.copy_seen.result.book c.copy_seen.result.names (opening_of c.copy_seen.result.log) ≡ c.exchange.new.pass.of = λ i. interner_id (s.of.0 i) (s.of.1 i) (s.of.2 i) in
     let turns : c.spine.inside.turns.of ≡ interner_id c.copy_seen.result.book c.copy_seen.result.names (opening_of c.copy_seen.result.log) =
-    c.spine.invariant.4 ∙ (ap (λ y. y.of) c.spine.view_is ∙ (c.requires.of.1 ∙ (sym (c.exchange.ensures.same.1 ∙ c.requires.of.0) ∙ sym sighted))) in
+    c.spine.invariant.4 ∙ (ap (λ y. y.of) c.spine.view_is ∙ (c.requires.of.1 ∙ (sym (c.exchange.ensures.same.1 ∙ c.requires.of.0) ∙ sym same_interner))) in
     (s.log.0, rw opening first, rw (opening, s.log.1) reads, omega (arith, c.spine.invariant.3, some), turns)
 
 pub returns-clause-done : goal.returns-clause-done
