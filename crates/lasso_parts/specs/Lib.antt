@@ -10,6 +10,7 @@ pub mod Index
 pub mod IndexTable
 pub mod KeySlots
 pub mod Scan
+pub mod Groups
 pub mod Bucket
 pub mod Arena
 pub mod Doubled

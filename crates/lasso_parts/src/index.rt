@@ -5,6 +5,7 @@ ghost use Rattle.lasso_parts.specs.Hashing.{text_hash};
 ghost use Rattle.lasso_parts.specs.Index.{Holds, HoldsNone, IsFiled, IsFiledAnywhere, IsVacancy, StaysFiled, IsIndexOf, IsFewest, used, room, grown_count};
 ghost use Rattle.lasso_parts.specs.Texts.{position_of, Fits};
 
+mod groups;
 mod hashing;
 pub mod key_slots;
 mod lists;
