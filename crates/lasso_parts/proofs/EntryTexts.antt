@@ -10,13 +10,14 @@ use denote.RawPtr.{Ptr}
 use Rattle.lasso_parts.specs.Texts.{Text}
 use Rattle.lasso_parts.specs.Bucket.{Extent}
 use Rattle.lasso_parts.specs.Arena.{KeepsTexts}
-use Rattle.lasso_parts.specs.Entries.{Source, EntryView, Copied, Static, LiesAt, source_text, entry_text, IsThere, AllThere, texts_of}
+use Rattle.lasso_parts.specs.Entries.{Source, EntryView, Copied, Static, Kept, LiesAt, source_text, entry_text, IsThere, AllThere, texts_of}
 
 source_kept : (earlier later : List Extent) (at : Ptr) (s : Source) → KeepsTexts earlier later → LiesAt earlier at s → LiesAt later at s × (source_text later s ≡ source_text earlier s)
 source_kept earlier later at (Copied span) keeps lies =
     let kept = keeps span lies.0 in
     ((kept.stored, lies.1 ∙ sym kept.address), kept.text)
 source_kept earlier later at (Static text) keeps lies = (tt, refl)
+source_kept earlier later at (Kept text) keeps lies = (tt, refl)
 
 -- an entry's text stays
 pub entry_kept : (earlier later : List Extent) (entry : EntryView) → KeepsTexts earlier later → IsThere earlier entry → IsThere later entry × (entry_text later entry ≡ entry_text earlier entry)

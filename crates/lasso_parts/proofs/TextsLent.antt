@@ -29,13 +29,14 @@ use Rattle.lasso_parts.specs.Arena.{region_at, text_at}
 use Rattle.lasso_parts.specs.Bucket.{Extent}
 use Rattle.lasso_parts.specs.Cells.{AreFilled, LeadsToBlock}
 use Rattle.lasso_parts.specs.Loans.{lent}
-use Rattle.lasso_parts.specs.Entries.{Source, EntryView, Copied, Static, AreWordsOf, IsThere, IsWhole, LiesAt, source_len, source_text, entry_text}
+use Rattle.lasso_parts.specs.Entries.{Source, EntryView, Copied, Static, Kept, AreWordsOf, IsThere, IsWhole, LiesAt, source_len, source_text, entry_text}
 use Rattle.lasso_parts.specs.contracts.bucket.region.Region.{the_row as Part}
 use Rattle.lasso_parts.proofs.PlacesLent.{run_lent}
 
 -- a loan may be had twice, and for a shorter time
 pub lent_laws : (source : Source) (p : Ptr) → ShrLaws (lent source p)
 lent_laws (Copied span) p = nothing_shr_laws
+lent_laws (Kept text) p = nothing_shr_laws
 lent_laws (Static text) p = elements_shr_laws u8 (uint_row_laws w8) text (block_of p) (count_of p)
 
 -- a run of the first bytes is a run of all
@@ -101,6 +102,7 @@ module _ {M : Type 1} {𝓤 : Ura M} (𝓛 : Logic 𝓤) (κ : Lft) where
     where
       by_source : (s : Source) (at : Ptr) → LiesAt regions at s → LeadsToBlock at → len ≡ source_len s → IsWhole s
           → ent 𝓤 (sem 𝓛 (fsep (lent s at []) (elements_shared Part regions rb ro κ))) (sem 𝓛 (fsep (flt len (2 ^ 63)) (elements_shared u8 (source_text regions s) (block_of at) (count_of at) κ)))
+      by_source (Kept text) at lies block count whole = absurd whole
       by_source (Static text) at lies block count whole =
           qed 𝓛 (‵ (elements_shared u8 text (block_of at) (count_of at) []) ∷ ‵ (elements_shared Part regions rb ro κ) ∷ []) ∵
           keep ! (0 ∷ []) $ use1 𝓛 (‵ (elements_shared u8 text (block_of at) (count_of at) κ))
@@ -121,6 +123,7 @@ text_len regions e ptr len there kept = by_source e.source e.at there kept.count
   where
     by_source : (s : Source) (at : Ptr) → LiesAt regions at s → len ≡ source_len s → length (source_text regions s) ≡ len
     by_source (Static text) at lies count = sym count
+    by_source (Kept text) at lies count = sym count
     by_source (Copied span) at lies count =
         let bytes : List ℕ = (region_at regions span.region).bytes in
         let part : span.start + span.len - span.start ≡ span.len = omega arith in

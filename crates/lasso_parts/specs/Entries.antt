@@ -13,6 +13,8 @@ pub data Source : Type 0 where
   Copied : Span → Source
   -- the program's: these bytes are never freed
   Static : Text → Source
+  -- the entry's own: these bytes stand in it
+  Kept : Text → Source
 
 -- an entry: where the first byte of its text lies, and whose memory that is
 pub record EntryView : Type 0 where
@@ -22,22 +24,26 @@ pub record EntryView : Type 0 where
 abbrev pub source_text : List Extent → Source → Text
 source_text regions (Copied span) = text_at regions span
 source_text regions (Static text) = text
+source_text regions (Kept text) = text
 
 abbrev pub source_len : Source → ℕ
 source_len (Copied span) = span.len
 source_len (Static text) = length text
+source_len (Kept text) = length text
 
 -- a text that was copied is stored among these regions, at this address
 abbrev pub LiesAt : List Extent → Ptr → Source → Type 0
 LiesAt regions at (Copied span) = IsStored regions span × (at ≡ address_of regions span)
 LiesAt regions at (Static text) = Unit {0}
+LiesAt regions at (Kept text) = Unit {0}
 
--- the bytes of a static text are UTF-8, and fewer than 2 ^ 63
+-- the bytes of a static text are UTF-8, and fewer than 2 ^ 63; an address leads to no text that an entry has itself
 abbrev pub IsWhole : Source → Type 0
 IsWhole (Copied span) = Unit {0}
 IsWhole (Static text) = (length text < 2 ^ 63) × IsUtf8 text
+IsWhole (Kept text) = ⊥
 
--- these are the two words of an entry: where its text lies, which is not null, and how many bytes it has
+-- these are the address and the length of a text that stands elsewhere: where its text lies, which is not null, and how many bytes it has
 pub record AreWordsOf (e : EntryView) (at : Ptr) (len : ℕ) : Type 0 where
   pub address : at ≡ e.at
   pub block : LeadsToBlock e.at
@@ -48,7 +54,7 @@ pub record AreWordsOf (e : EntryView) (at : Ptr) (len : ℕ) : Type 0 where
 abbrev pub entry_text : List Extent → EntryView → Text
 entry_text regions e = source_text regions e.source
 
--- a copied text is stored among these regions, at the entry's address; a static text is always there
+-- a copied text is stored among these regions, at the entry's address; any other text is always there
 abbrev pub IsThere : List Extent → EntryView → Type 0
 IsThere regions e = LiesAt regions e.at e.source
 

@@ -15,6 +15,7 @@ pub mod Bucket
 pub mod Arena
 pub mod Doubled
 pub mod Placements
+pub mod Places
 pub mod Waste
 pub mod Cells
 pub mod Entries

@@ -47,7 +47,7 @@ fn store(rt: &impl Abort, arena: &mut Arena<Global>, text: &str) -> Option<Lasso
         Ok(span) => {
             let regions = arena.regions();
             assert!(rt; arena.text(span) == text);
-            assert!(rt; text_of(regions, &Entry::copied(regions, span)) == text);
+            assert!(rt; text_of(regions, &Entry::copied(regions, span, text)) == text);
             None
         }
         Err(error) => Some(error.kind()),

@@ -118,9 +118,12 @@ impl<A: Allocator + Clone> TextList<A> {
         ensures same_account { OnErr result (self.new.account ≡ self.old.account) }
         ensures same_copied { OnErr result (self.new.copied ≡ self.old.copied) }
     {
+        if !Entry::admits(text.len()) {
+            return Err(LassoError::new(LassoErrorKind::FailedAllocation));
+        }
         self.entries.reserve(1)?;
         let span = self.arena.store_str(text)?;
-        let entry = Entry::copied(self.arena.regions(), span);
+        let entry = Entry::copied(self.arena.regions(), span, text);
         self.entries.push_reserved(entry);
         Ok(())
     }
@@ -231,6 +234,9 @@ impl<A: Allocator> TextList<A> {
         ensures refused { IfErr result (λ error. error ≡ FailedAllocation) }
         ensures same_texts { OnErr result (self.new.texts ≡ self.old.texts) }
     {
+        if !Entry::admits(text.len()) {
+            return Err(LassoError::new(LassoErrorKind::FailedAllocation));
+        }
         self.entries.reserve(1)?;
         self.entries.push_reserved(Entry::lasting(text));
         Ok(())

@@ -1,7 +1,7 @@
 //! The search through the slots of a table: from the slot that a hash names to the last one, and then
 //! from the first.
-ghost use Rattle.std.specs.Prelude.{◌≡◌, ◌<◌, ◌≤◌, ◌^◌, length, None, IfSome, IfNone, bytes_eq};
-ghost use Rattle.lasso_parts.specs.Index.{slot, used, home, tag_of, IsFull, Reaches};
+ghost use Rattle.std.specs.Prelude.{◌≡◌, ◌≢◌, ℕ, ◌<◌, ◌≤◌, ◌^◌, length, Some, None, IfSome, IfNone, bytes_eq, slice_get};
+ghost use Rattle.lasso_parts.specs.Index.{slot, used, home, tag_of, Holds, IsFull, Reaches};
 ghost use Rattle.lasso_parts.specs.IndexTable.{AllInList, HaveTag};
 ghost use Rattle.lasso_parts.specs.Scan.{Tells};
 
@@ -49,8 +49,9 @@ pub fn tag_of(hash: u64) -> u8
 }
 
 // Looks for the text in the slots from the first index up to the last, which is not among them. A slot with
-// another tag than the text's is passed over: neither its key nor that key's text is read. The first slot is looked at
-// alone, as each one that tells something is; behind it the others are passed over sixteen at a time. It goes into its
+// another tag than the text's is passed over: neither its key nor that key's text is read. The first slot is asked by itself
+// whether it has the text, where a text that is there mostly is found; whether it is empty is asked by groups of sixteen only, as of all others, so
+// that for a text which is missing no branch depends on how full the table is. It goes into its
 // caller, as `locate` does: a search mostly ends after a few slots, and a call would cost about as much.
 #[inline(always)]
 pub fn scan_slots<K: Key, A: Allocator, T: Texts>(
@@ -65,28 +66,57 @@ pub fn scan_slots<K: Key, A: Allocator, T: Texts>(
     requires tagged { HaveTag (T.list texts.now) text.now tag slots.now }
     requires filled { 0 < tag }
     requires range { to ≤ length slots.now.slots }
+    requires ordered { from ≤ to }
     ensures { Tells (T.list texts.now) text.now slots.now.slots from to result }
 {
     let tags = slots.tags();
-    let mut j = from;
+    if from < to {
+        if let Some(position) = found_at(slots, texts, text, tag, from) {
+            return Scan::Found(position);
+        }
+    }
+    let mut j = passed_over(tags, from, to, tag);
     while j < to {
         let found = tags[j];
-        if found == tag {
-            let position = slots.key(j).into_usize();
-            if is_same(texts.text_at(position), text) {
-                return Scan::Found(position);
-            }
-        } else if found == 0 {
+        if found == 0 {
             return Scan::Ended(j);
+        }
+        if let Some(position) = found_at(slots, texts, text, tag, j) {
+            return Scan::Found(position);
         }
         j = passed_over(tags, j + 1, to, tag);
     }
     Scan::Passed
 }
 
-// Whether both texts are the same. It stays out of line, so that a search makes nothing ready to compare before a
-// slot has the text's tag.
-#[inline(never)]
+// The position that the slot shows, where its tag is the one given and its text the one looked for.
+#[inline(always)]
+fn found_at<K: Key, A: Allocator, T: Texts>(
+    slots: &KeySlots<K, A>,
+    texts: &T,
+    text: &str,
+    tag: u8,
+    j: usize,
+) -> Option<usize>
+    requires in_list { AllInList (T.list texts.now) slots.now.slots }
+    requires tagged { HaveTag (T.list texts.now) text.now tag slots.now }
+    requires filled { 0 < tag }
+    requires inside { j < length slots.now.slots }
+    ensures found { IfSome result (λ n. Holds slots.now.slots n × (slice_get (T.list texts.now) n ≡ Some text.now)) }
+    ensures missing { IfNone result ((n : ℕ) → slot slots.now.slots j ≡ Some n → slice_get (T.list texts.now) n ≢ Some text.now) }
+{
+    if slots.tags()[j] != tag {
+        return None;
+    }
+    let position = slots.key(j).into_usize();
+    if is_same(texts.text_at(position), text) {
+        return Some(position);
+    }
+    None
+}
+
+// Whether both texts are the same.
+#[inline(always)]
 fn is_same(one: &str, other: &str) -> bool
     ensures { result ≡ bytes_eq one.now other.now }
 {
