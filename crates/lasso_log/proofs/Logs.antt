@@ -5,11 +5,11 @@ use prog.Atomic.{either}
 use Rattle.logbook.specs.Pages.{Cell, cell, Nib, no_nib, may_write, step, View, Moves}
 use Rattle.lasso_log.specs.History.{Totals, IsLegal}
 use Rattle.lasso_log.specs.Notes.{NoteView, history, opening_of, first_note, notes_of, IsOpened, ticket_of, Since, IsWord, IsWordWith}
-use Rattle.lasso_log.specs.Book.{KeepsRule, LogKeepsRule, Peeks, Fetches, Adds, Moving, May, Lets, Moved, IsIn, Reads, shown_of}
+use Rattle.lasso_log.specs.Book.{IsUsed, KeepsRule, LogKeepsRule, Peeks, Fetches, Adds, Moving, May, Lets, Moved, IsIn, Reads, shown_of}
 use Rattle.lasso_log.proofs.Histories.{prefix_tail, prefix_trans, prefix_self}
 use Rattle.lasso_log.proofs.Tickets.{still, grown, next_ticket}
 use Rattle.lasso_log.proofs.Words.{word_later}
-use Rattle.lasso_log.proofs.Steps.{peek_moves, fetch_moves, add_moves, stands}
+use Rattle.lasso_log.proofs.Steps.{peek_moves, fetch_moves, fetch_used, add_moves, stands}
 
 -- a longer log has the same opening, and more notes
 pub tails : (xs ys : List NoteView) → IsOpened xs → IsPrefix xs ys → IsOpened ys × (opening_of xs ≡ opening_of ys) × IsPrefix (notes_of xs) (notes_of ys)
@@ -43,6 +43,10 @@ module _ {Key : Type 0} (keys : ℕ → Option Key) where
   pub fetch_opened : (log : List NoteView) (e : NoteView) (s : Option ℕ) → IsOpened log → Moves (LogKeepsRule keys) shown_of (Moved e) 0 (log, (no_nib, s)) (λ n. either (n == 0) 0 n) (Fetches keys (step 0 0 0 e) (log, (no_nib, s)))
   fetch_opened [] e s o = absurd o
   fetch_opened (f ∷ log) e s o = fetch_moves keys f log e s
+
+  pub fetch_used_opened : (log : List NoteView) (e : NoteView) (s : Option ℕ) (k : ℕ) → IsOpened log → IsUsed k (notes_of log) → Moves (LogKeepsRule keys) shown_of (Moved e) k (log, (no_nib, s)) (λ n. either (n == 0) 0 n) (Fetches keys (step k 0 0 e) (log, (no_nib, s)))
+  fetch_used_opened [] e s k o used = absurd o
+  fetch_used_opened (f ∷ log) e s k o used = fetch_used keys f log e s k used
 
   -- what a pass knows of `b`, where its ticket was out at the later log `c`
   pub still_opened : (a b c : List NoteView) (p t : ℕ) → IsOpened a → IsPrefix a b → IsPrefix b c → t ≡ ticket_of p (notes_of a) → ((cells : List Cell) × LogKeepsRule keys cells c × ((cell cells t).1 ≡ false))

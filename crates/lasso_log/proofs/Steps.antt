@@ -7,10 +7,10 @@ use prog.Atomic.{either}
 use Rattle.logbook.specs.Pages.{Cell, cell, keeps, gives, adds, Nib, no_nib, may_write, Away, step, Moves, Goes}
 use Rattle.lasso_log.specs.History.{Totals, counted, MayFollow, IsLegal}
 use Rattle.lasso_log.specs.Notes.{NoteView, history, state, ticket_of, worded, words_of, first_words, IsWord, IsWordWith}
-use Rattle.lasso_log.specs.Book.{IsHome, Words, Apart, KeepsRule, LogKeepsRule, Peeks, Fetches, Adds, Bumps, Moving, May, Lets, Moved, IsShort, shown_of}
+use Rattle.lasso_log.specs.Book.{IsHome, Words, Apart, KeepsRule, LogKeepsRule, Peeks, Fetches, Adds, Bumps, Moving, May, Lets, Moved, IsShort, IsUsed, shown_of}
 use Rattle.lasso_log.proofs.Histories.{history_append, state_past, prefix_tail, prefix_self, prefix_trans}
 use Rattle.lasso_log.proofs.Legal.{legal_push}
-use Rattle.lasso_log.proofs.Tickets.{by_cases, not_both, used_still, used_more, chained_more, still}
+use Rattle.lasso_log.proofs.Tickets.{by_cases, not_both, used_still, used_more, used_home, used_later, chained_more, still}
 use Rattle.lasso_log.proofs.Words.{words_get, words_more, words_append, word_later}
 
 untouched : (cells : List Cell) (k n : ℕ) → cell cells k ≡ (n, true) → set cells k (n, true) ≡ cells
@@ -89,6 +89,21 @@ module _ {Key : Type 0} (keys : ℕ → Option Key) where
       let all : (p ∷ log) ++ [] ≡ p ∷ log = append-nil (p ∷ log) in
       let more : LogKeepsRule keys (cells ++ (0, false) ∷ []) ((p ∷ log) ++ []) = subst (LogKeepsRule keys (cells ++ (0, false) ∷ [])) (sym all) (with_ticket cells p.opening log kept) in (
         home_bound cells 0 home,
+        home,
+        (adds, [], s, tt, subst (λ (ds : List Cell). LogKeepsRule keys (ds ++ (0, false) ∷ []) ((p ∷ log) ++ [])) (sym same) more, inl (refl, ap shown_of all), (length cells, refl, (cells ++ (0, false) ∷ [], more))),
+      )
+
+  -- or by one of a used ticket's word with itself
+  pub fetch_used : (o : NoteView) (v : List NoteView) (e : NoteView) (s : Option ℕ) (k : ℕ) → IsUsed k v → Moves (LogKeepsRule keys) shown_of (Moved e) k (o ∷ v, (no_nib, s)) (λ n. either (n == 0) 0 n) (Fetches keys (step k 0 0 e) (o ∷ v, (no_nib, s)))
+  fetch_used o v e s k used cells [] kept begins away = absurd kept
+  fetch_used o v e s k used cells (p ∷ log) kept begins away =
+      let home : IsHome cells k = used_home cells log k kept.used (used_later v log k (prefix_tail o p v log begins).1 used) in
+      let m : ℕ = (cell cells k).0 in
+      let at : cell cells k ≡ (m, true) = ap (λ (b : Bool). (m, b)) home in
+      let same : set cells k (either (m == 0) 0 m, true) ≡ cells = ap (λ (n : ℕ). set cells k (n, true)) (zero_stays m) ∙ untouched cells k m at in
+      let all : (p ∷ log) ++ [] ≡ p ∷ log = append-nil (p ∷ log) in
+      let more : LogKeepsRule keys (cells ++ (0, false) ∷ []) ((p ∷ log) ++ []) = subst (LogKeepsRule keys (cells ++ (0, false) ∷ [])) (sym all) (with_ticket cells p.opening log kept) in (
+        home_bound cells k home,
         home,
         (adds, [], s, tt, subst (λ (ds : List Cell). LogKeepsRule keys (ds ++ (0, false) ∷ []) ((p ∷ log) ++ [])) (sym same) more, inl (refl, ap shown_of all), (length cells, refl, (cells ++ (0, false) ∷ [], more))),
       )

@@ -1,6 +1,6 @@
 -- Whose events a history has. Each event uses the ticket that its pass then has, and a used ticket is at home.
 -- So a pass whose ticket is out has made no event past what it has seen: the first one would have used that ticket.
-use Rattle.std.proofs.Common.{◌≡◌, ℕ, ◌==◌, Bool, true, false, List, [], ◌∷◌, ◌++◌, if◌then◌else◌, refl, ap, sym, ◌∙◌, subst, arith, append_assoc, Option}
+use Rattle.std.proofs.Common.{◌≡◌, ℕ, ◌==◌, Bool, true, false, List, [], ◌∷◌, ◌++◌, if◌then◌else◌, refl, ap, sym, ◌∙◌, subst, arith, append_assoc, inl, inr, Option}
 use Rattle.std.proofs.lemmas.List.{append-nil}
 use Rattle.std.proofs.lemmas.Bool.Decides.{nat_tests}
 use mathlib.Core.List.{IsPrefix}
@@ -8,7 +8,7 @@ use Rattle.logbook.specs.Pages.{Cell, cell}
 use Rattle.lasso_log.specs.History.{Event, Totals}
 use Rattle.lasso_log.specs.Calls.{events_of}
 use Rattle.lasso_log.specs.Notes.{NoteView, history, Since, ticket_after, ticket_of, Chained}
-use Rattle.lasso_log.specs.Book.{IsHome, Used, KeepsRule}
+use Rattle.lasso_log.specs.Book.{IsHome, Used, IsUsed, KeepsRule}
 use Rattle.lasso_log.proofs.Histories.{own_append}
 
 pub not_both : {X : Type 0} (b : Bool) → b ≡ true → b ≡ false → X
@@ -51,6 +51,24 @@ used_more cells (f ∷ v) e u h = (u.0, used_more cells v e u.1 h)
 pub used_still : (cells after : List Cell) (v : List NoteView) → ((k : ℕ) → IsHome cells k → IsHome after k) → Used cells v → Used after v
 used_still cells after [] still u = tt
 used_still cells after (e ∷ v) still u = (still e.ticket u.0, used_still cells after v still u.1)
+
+-- a ticket that was used is at home, and stays used
+pub used_home : (cells : List Cell) (v : List NoteView) (k : ℕ) → Used cells v → IsUsed k v → IsHome cells k
+used_home cells [] k u is = absurd is
+used_home cells (e ∷ v) k u (inl at) = subst (IsHome cells) at u.0
+used_home cells (e ∷ v) k u (inr is) = used_home cells v k u.1 is
+
+used_in : (v rest : List NoteView) (k : ℕ) → IsUsed k v → IsUsed k (v ++ rest)
+used_in [] rest k is = absurd is
+used_in (e ∷ v) rest k (inl at) = inl at
+used_in (e ∷ v) rest k (inr is) = inr (used_in v rest k is)
+
+pub used_later : (v log : List NoteView) (k : ℕ) → IsPrefix v log → IsUsed k v → IsUsed k log
+used_later v log k p is = subst (IsUsed k) p.1 (used_in v p.0 k is)
+
+pub used_last : (v : List NoteView) (e : NoteView) (k : ℕ) → e.ticket ≡ k → IsUsed k (v ++ e ∷ [])
+used_last [] e k at = inl at
+used_last (f ∷ v) e k at = inr (used_last v e k at)
 
 -- while the ticket of a pass is out, no other event of the pass comes
 none_of : (cells : List Cell) (p : ℕ) (v rest : List NoteView) → Chained v rest → Used cells rest → (cell cells (ticket_of p v)).1 ≡ false

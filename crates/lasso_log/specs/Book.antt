@@ -17,6 +17,11 @@ abbrev pub Used : List Cell → List NoteView → Type 0
 Used cells [] = Unit {0}
 Used cells (e ∷ es) = IsHome cells e.ticket × Used cells es
 
+-- one of the notes used up this ticket
+abbrev pub IsUsed : ℕ → List NoteView → Type 0
+IsUsed k [] = ⊥
+IsUsed k (e ∷ es) = (e.ticket ≡ k) ⊎ IsUsed k es
+
 -- the cells of these words are at home with their values
 abbrev pub Words : List Cell → List (ℕ × ℕ) → Type 0
 Words cells [] = Unit {0}
@@ -92,9 +97,9 @@ pub record IsAdded {Key : Type 0} (keys : ℕ → Option Key) (s : Step NoteView
 abbrev pub Adds : {Key : Type 0} → (ℕ → Option Key) → Step NoteView → View NoteView ℕ → ℕ → View NoteView ℕ → Type 0
 Adds keys s v found w = IsAdded keys s v found w
 
--- the word and its pen are of this book, and the word isn't at home yet
+-- the word and its pen are of this book, and the word isn't at home yet and has 0
 abbrev pub IsTicket : Book → Named → Pen → Type 0
-IsTicket b word pen = (word ≡ word_of b pen.nib.key) × (pen.book ≡ b) × (pen.nib.right ≡ may_write)
+IsTicket b word pen = (word ≡ word_of b pen.nib.key) × (pen.book ≡ b) × (pen.nib.right ≡ may_write) × (pen.nib.value ≡ 0)
 
 -- the words after an event that moves the one at this position, and maybe makes its ticket one more
 abbrev pub Bumps : List (ℕ × ℕ) → List (ℕ × ℕ) → ℕ → ℕ → ℕ → ℕ → Type 0

@@ -11,7 +11,7 @@ use crate::chunks::taking::{right_taken, take_bytes};
 use crate::log::note::Note;
 use crate::log::pass::Pass;
 use crate::log::rule::{Add, LogRule, Shared};
-use crate::log::ticket::BytesAsked;
+use crate::log::ticket::{BytesAsked, fetched_by};
 use crate::log::words::Log;
 use crate::shared_arena::bucket::SharedBucket;
 use crate::shared_arena::rights::Free;
@@ -55,7 +55,6 @@ impl<K: Key> Log<K> {
         let mut seen = self.seen.again();
         seen.learn(&bucket.seen);
         seen.learn(&pass.seen);
-        pass.ticket.set(0);
         let about = BytesAsked {
             bucket: bucket.position,
             bytes,
@@ -87,7 +86,8 @@ impl<K: Key> Log<K> {
             return None;
         }
         let right = right_taken(offer.into_gain());
-        let next = std::mem::replace(&mut pass.next, self.ticket());
+        let fresh = fetched_by(&pass.ticket.word, &seen);
+        let next = std::mem::replace(&mut pass.next, fresh);
         let used = std::mem::replace(&mut pass.ticket, next);
         pass.seen = seen;
         drop(used);

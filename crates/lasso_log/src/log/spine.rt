@@ -25,6 +25,10 @@ use std::alloc::Global;
 use std::marker::Model;
 use std::sync::Wait;
 
+// At most so many texts are on their way at a time, each with its shard held. Of a text's own and the sixteen before it at least one
+// looked at the length when it was at least sixteen less than that text's position.
+const AHEAD: u64 = 16;
+
 /// The length of the list in a history that was seen, as the texts of the opening and those appended, and how many
 /// slots past it are kept for texts to come; and the turns. It lies under a lock. Contracts see the slots kept, the interner, and what
 /// the spine has seen of the list and of the turns.
@@ -111,6 +115,19 @@ impl<K: Key> Spine<K> {
 }
 
 impl<K: Key> Log<K> {
+    /// Makes the cells of the texts to come, so far past the length at one step that each holder of one of the sixteen shards finds the
+    /// cell of its own text made, whatever the others append meanwhile. No spine is taken. It is refused for want of memory alone.
+    pub fn make_ahead(&self, alloc: Global, pass: &mut Pass<K>) -> LassoResult<()>
+        requires { pass.old.of ≡ self.now }
+        ensures same { IsSamePass pass.new pass.old }
+        ensures since { Since pass.old.number pass.old.notes pass.new.notes [] }
+        ensures refused { IfErr result (λ error. error ≡ FailedAllocation) }
+    {
+        let position = self.len(pass).saturating_add(AHEAD);
+        self.memory.chunks.make_chunk(alloc, position)?;
+        Ok(())
+    }
+
     /// Keeps one slot more for a text to come, until it is appended or given back. It is refused for want of memory
     /// alone, which is told of position 2^64 - 1 too, and nothing changes then.
     pub fn reserve_next(&self, alloc: Global, spine: &mut Spine<K>) -> LassoResult<KeptSlot<K>>

@@ -4,7 +4,8 @@ ghost use base.Fml.{Incl};
 ghost use Rattle.lasso_log.specs.History.{Append};
 ghost use Rattle.lasso_log.specs.Eras.{life};
 ghost use Rattle.logbook.specs.Pages.{may_write, nib};
-ghost use Rattle.lasso_log.specs.Book.{word_of};
+ghost use Rattle.lasso_log.specs.Book.{word_of, IsTicket, IsUsed};
+ghost use Rattle.lasso_log.specs.Notes.{IsOpened, notes_of};
 ghost use Rattle.lasso_log.specs.Chunks.{IsCellAt, era_named, first_number};
 ghost use Rattle.lasso_log.specs.Events.{event_of, note_of, ready};
 
@@ -12,7 +13,7 @@ use crate::chunks::Chunk;
 use crate::chunks::facts::hand_in;
 use crate::chunks::rule::NoGain;
 use crate::log::note::{Change, Note};
-use crate::log::rule::{Add, LogRule, StoredText};
+use crate::log::rule::{Add, Fetch, LogRule, Nothing, StoredText};
 use boxcar::slot::Written;
 use boxcar::tag::{Names, Tag};
 use lasso_parts::keys::Key;
@@ -34,6 +35,25 @@ impl<K: Key> Ticket<K> {
     {
         self.word.store(&mut self.pen, value);
     }
+}
+
+/// A new ticket, by an exchange of a used ticket's word with itself. Who used that ticket has its word for itself, so that no
+/// other thread waits for it.
+pub fn fetched_by<K: Key>(
+    used: &Word<Note, u64, LogRule<K>>,
+    seen: &Seen<Note, u64, LogRule<K>>,
+) -> Ticket<K>
+    requires opened { IsOpened seen.now.log }
+    requires word { used.now ≡ word_of seen.now.book used.now.key }
+    requires used { IsUsed used.now.key (notes_of seen.now.log) }
+    ensures { IsTicket seen.now.book result.word result.pen }
+{
+    let mut seen = seen.again();
+    let mut offer: Offer<Note, u64, LogRule<K>, NoGain> = seen.plain::<NoGain, (), Nothing>(&());
+    let mut pen = seen.no_pen();
+    used.compare_exchange::<Fetch<K>, NoGain>(0, 0, &mut seen, &mut offer, &mut pen);
+    let word = Word::tracked(0, &mut pen);
+    Ticket { word, pen }
 }
 
 /// The number of a ticket.

@@ -58,7 +58,7 @@ impl<K: Key> Log<K> {
         None
     }
 
-    /// Takes bytes, at least one, in a bucket that is in the list, with no spine, and gives the right to fill them. Where it is `None` no
+    /// Takes bytes, at least one, in a bucket that is in the list, the newest before the others, with no spine, and gives the right to fill them. Where it is `None` no
     /// event is added, and nothing is known of the room. It takes no memory. It waits where another thread takes bytes at the same time.
     #[tactic(auto, using(crate::proofs::Tickets::since_trans))]
     pub fn reserve_anywhere<R: Wait>(
@@ -76,6 +76,12 @@ impl<K: Key> Log<K> {
         ensures none { IfNone result (Since pass.old.number pass.old.notes pass.new.notes []) }
         ensures legal { IsLegal K.key_at self.now.opening (seen pass.new) }
     {
+        if let Some(newest) = list.newest() {
+            self.share_opening(newest);
+            if let Some(range) = newest.try_reserve(rt, self, pass, bytes) {
+                return Some(range);
+            }
+        }
         let first = list.first();
         self.share_opening(first);
         if let Some(range) = first.try_reserve(rt, self, pass, bytes) {

@@ -16,7 +16,7 @@ use crate::log::memory::TextMemory;
 use crate::log::note::{Change, Note};
 use crate::log::pass::Pass;
 use crate::log::rule::{Add, Fetch, LogRule, Nothing, Peek, StoredText};
-use crate::log::ticket::{ByKey, CellProof, Proposal, Ticket, offered};
+use crate::log::ticket::{ByKey, CellProof, Proposal, Ticket, fetched_by, offered};
 use boxcar::tag::Tag;
 use lasso_parts::keys::Key;
 use logbook::{Offer, Seen, Word};
@@ -26,7 +26,11 @@ use std::marker::Model;
 /// that the texts lie in, the number of texts at the opening, and the log as it was then. A contract sees which
 /// interner it is of.
 pub struct Log<K: Key> {
+    // Nothing is read in `before` and `behind`. They keep the word that every append moves on a line of memory of its own, so that
+    // looks at the other fields do not wait for it.
+    pub(super) before: [u64; 8],
     pub(super) head: Word<Note, u64, LogRule<K>>,
+    pub(super) behind: [u64; 8],
     pub(super) turns: Word<Note, u64, LogRule<K>>,
     pub(super) memory: TextMemory,
     pub(super) first: u64,
@@ -53,7 +57,9 @@ impl<K: Key> Model for Log<K> {
 impl<K: Key> Drop for Log<K> {
     fn drop(self) {
         let Log {
+            before: _,
             head: _,
+            behind: _,
             turns: _,
             memory: _,
             first: _,
@@ -149,7 +155,6 @@ impl<K: Key> Log<K> {
         let mut seen = self.seen.again();
         seen.learn(given);
         seen.learn(&pass.seen);
-        pass.ticket.set(0);
         let proposal = Proposal {
             change,
             position: numbers.position,
@@ -169,7 +174,8 @@ impl<K: Key> Log<K> {
         if found != numbers.expected {
             return None;
         }
-        let next = std::mem::replace(&mut pass.next, self.ticket());
+        let fresh = fetched_by(&pass.ticket.word, &seen);
+        let next = std::mem::replace(&mut pass.next, fresh);
         let used = std::mem::replace(&mut pass.ticket, next);
         pass.seen = seen;
         Some(used.word)

@@ -97,6 +97,18 @@ impl<K: Key> BucketList<K> {
         &self.first
     }
 
+    /// The bucket that came in last, as far as is counted, where there is a later one than the first. It has more room than the
+    /// others, save where it was made for one text alone or for what the limit left.
+    pub fn newest(&self) -> Option<&SharedBucket<K>>
+        ensures { IfSome result (λ b. names_with_book b.now.of ≡ self.now) }
+    {
+        let count = self.cells.count();
+        if count == 0 {
+            return None;
+        }
+        self.cells.get(count - 1)
+    }
+
     /// The later buckets, each beside its number among them.
     pub fn later(&self) -> boxcar::Iter<'_, SharedBucket<K>, Global, OfInterner>
         ensures { (result.vec.now.tag ≡ self.now) × (result.index ≡ 0) }

@@ -43,7 +43,7 @@ impl<K: Key, S: BuildHasher + Drop> Shards<K, S> {
             return Ok(key);
         }
         match self.make_room(rt, shard, pass, number_of(hash)) {
-            Ok(slot) => self.put_last(rt, shard, pass, slot, hash, Piece::lasting(text)),
+            Ok(()) => self.put_last(rt, shard, pass, hash, Piece::lasting(text)),
             Err(error) => Err(error),
         }
     }
@@ -67,16 +67,13 @@ impl<K: Key, S: BuildHasher + Drop> Shards<K, S> {
         if let Some(key) = self.find(shard, pass, hash, text) {
             return Ok(key);
         }
-        let slot = match self.make_room(rt, shard, pass, number_of(hash)) {
-            Ok(slot) => slot,
+        match self.make_room(rt, shard, pass, number_of(hash)) {
+            Ok(()) => {}
             Err(error) => return Err(error),
-        };
+        }
         match self.store(rt, shard, pass, hash, text) {
-            Ok(piece) => self.put_last(rt, shard, pass, slot, hash, piece),
-            Err(error) => {
-                self.give_back(rt, slot);
-                Err(error)
-            }
+            Ok(piece) => self.put_last(rt, shard, pass, hash, piece),
+            Err(error) => Err(error),
         }
     }
 
@@ -96,6 +93,24 @@ impl<K: Key, S: BuildHasher + Drop> Shards<K, S> {
         if let Some(key) = self.peek(rt, pass, hash, text) {
             return Ok(key);
         }
+        self.intern_static_new(rt, pass, hash, text)
+    }
+
+    // Interns such a text that was not found beside other readers. It stays out of line, so that a text that is there makes nothing ready for
+    // one that is not.
+    #[inline(never)]
+    fn intern_static_new<R: Wait>(
+        &self,
+        rt: &R,
+        pass: &mut Pass<K>,
+        hash: u64,
+        text: &'static str,
+    ) -> LassoResult<K>
+        requires of { pass.old.of ≡ self.now.log }
+        requires hashed { hash ≡ text_hash S.build_hasher S.Hasher.write S.Hasher.finish self.now.hasher text.now }
+        ensures same { IsSamePass pass.new pass.old }
+        ensures call { IsCall K.key_at self.now.log.opening (seen pass.old) (seen pass.new) pass.old.number (Intern Static text.now) (Interned result) }
+    {
         let (guard, mut shard) = self.lock(number_of(hash)).take(rt);
         let reply = self.intern_static_held(rt, &mut shard, pass, hash, text);
         guard.give(rt, shard);
@@ -114,6 +129,24 @@ impl<K: Key, S: BuildHasher + Drop> Shards<K, S> {
         if let Some(key) = self.peek(rt, pass, hash, text) {
             return Ok(key);
         }
+        self.intern_copied_new(rt, pass, hash, text)
+    }
+
+    // Interns such a text that was not found beside other readers. It stays out of line, so that a text that is there makes nothing ready for
+    // one that is not.
+    #[inline(never)]
+    fn intern_copied_new<R: Wait>(
+        &self,
+        rt: &R,
+        pass: &mut Pass<K>,
+        hash: u64,
+        text: &str,
+    ) -> LassoResult<K>
+        requires of { pass.old.of ≡ self.now.log }
+        requires hashed { hash ≡ text_hash S.build_hasher S.Hasher.write S.Hasher.finish self.now.hasher text.now }
+        ensures same { IsSamePass pass.new pass.old }
+        ensures call { IsCall K.key_at self.now.log.opening (seen pass.old) (seen pass.new) pass.old.number (Intern Copied text.now) (Interned result) }
+    {
         let (guard, mut shard) = self.lock(number_of(hash)).take(rt);
         let reply = self.intern_copied_held(rt, &mut shard, pass, hash, text);
         guard.give(rt, shard);

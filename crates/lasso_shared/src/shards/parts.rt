@@ -27,7 +27,9 @@ impl<K: Key, S: BuildHasher + Drop> Shards<K, S> {
             log,
             hasher,
             shards: _,
+            before: _,
             spine: _,
+            behind: _,
             buckets: _,
             alloc,
         } = self;

@@ -1,9 +1,9 @@
 //! Putting a new text last, while its shard is held.
 //!
-//! Room is made in the index, and a slot of the log is kept. The key type is asked, the text is appended, and its position is entered
-//! into the index. The spine is let go between these, and the shard is held: so what was looked up stays, what was stored is not
-//! stored again, and a retry looks at numbers alone.
-ghost use Rattle.std.specs.Prelude.{◌≡◌, ◌<◌, ◌-◌, [], IfOk, IfErr, OnOk};
+//! Room is made in the index and in the log. Then, in one hold of the spine, a slot of the log is kept, the key type is asked, and the
+//! text is appended; its position is entered into the index. The shard is held throughout: so what was looked up stays, what was stored is
+//! not stored again, and a retry looks at numbers alone.
+ghost use Rattle.std.specs.Prelude.{◌≡◌, ◌<◌, ◌-◌, [], IfErr, OnOk, OnErr};
 ghost use base.Fml.{Incl};
 ghost use mathlib.Core.List.{IsPrefix};
 ghost use Rattle.lasso_parts.specs.declared.util.LassoErrorKind.TheVariants.{FailedAllocation};
@@ -43,71 +43,40 @@ impl<K: Key, S: BuildHasher + Drop> Shards<K, S> {
         Ok(())
     }
 
-    // Keeps a slot once the shard is whole for what the pass has then seen. Want of memory keeps none.
-    fn keep_slot<R: Wait>(
-        &self,
-        rt: &R,
-        shard: &Shard<K, S>,
-        pass: &mut Pass<K>,
-        number: usize,
-    ) -> LassoResult<KeptSlot<K>>
-        requires of { (pass.old.of ≡ self.now.log) × (number < 16) }
-        requires held { IsShard (text_hash S.build_hasher S.Hasher.write S.Hasher.finish self.now.hasher) number self.now.log shard.now.known shard.now.index shard.now.count }
-        requires begins { IsPrefix shard.now.known.notes pass.old.notes }
-        ensures same { IsSamePass pass.new pass.old }
-        ensures since { Since pass.old.number pass.old.notes pass.new.notes [] }
-        ensures whole { IsWholeShard (text_hash S.build_hasher S.Hasher.write S.Hasher.finish self.now.hasher) number self.now.log shard.now.known.notes pass.new.notes }
-        ensures slot { IfOk result (λ slot. slot ≡ self.now.log) }
-        ensures refused { IfErr result (λ error. error ≡ FailedAllocation) }
-    {
-        for _ in rt.forever() {
-            let (guard, mut held) = self.spine.take(rt);
-            if self.is_whole(&held.tally, shard, pass, number) {
-                let slot = self.log.reserve_next(self.alloc, &mut held.tally.spine);
-                guard.give(rt, held);
-                return slot;
-            }
-            guard.give(rt, held);
-        }
-        unreachable!()
-    }
-
-    // Makes room in the shard's index, and keeps a slot; the shard is whole for what the pass has then seen. Want of memory keeps no slot, and
-    // the shard has the texts that it had.
+    // Makes room in the shard's index, and cells for the texts to come, with no spine. After want of memory the shard has the texts that it
+    // had, and is whole for what the pass has then seen.
     pub(super) fn make_room<R: Wait>(
         &self,
         rt: &R,
         shard: &mut Shard<K, S>,
         pass: &mut Pass<K>,
         number: usize,
-    ) -> LassoResult<KeptSlot<K>>
+    ) -> LassoResult<()>
         requires of { (pass.old.of ≡ self.now.log) × (number < 16) }
         requires held { IsShard (text_hash S.build_hasher S.Hasher.write S.Hasher.finish self.now.hasher) number self.now.log shard.old.known shard.old.index shard.old.count }
         requires begins { IsPrefix shard.old.known.notes pass.old.notes }
         ensures same { IsSamePass pass.new pass.old }
         ensures since { Since pass.old.number pass.old.notes pass.new.notes [] }
+        ensures begins { IsPrefix shard.old.known.notes pass.new.notes }
         ensures held { IsShard (text_hash S.build_hasher S.Hasher.write S.Hasher.finish self.now.hasher) number self.now.log shard.new.known shard.new.index shard.new.count }
         ensures known { shard.new.known ≡ shard.old.known }
-        ensures whole { IsWholeShard (text_hash S.build_hasher S.Hasher.write S.Hasher.finish self.now.hasher) number self.now.log shard.old.known.notes pass.new.notes }
-        ensures room { IfOk result (λ slot. (slot ≡ self.now.log) × (0 < room shard.new.index.slots)) }
+        ensures whole { OnErr result (IsWholeShard (text_hash S.build_hasher S.Hasher.write S.Hasher.finish self.now.hasher) number self.now.log shard.old.known.notes pass.new.notes) }
+        ensures room { OnOk result (0 < room shard.new.index.slots) }
         ensures refused { IfErr result (λ error. error ≡ FailedAllocation) }
     {
         match self.grow(shard, pass, number) {
-            Ok(()) => self.keep_slot(rt, shard, pass, number),
+            Ok(()) => match self.log.make_ahead(self.alloc, pass) {
+                Ok(()) => Ok(()),
+                Err(error) => {
+                    self.see_whole(rt, shard, pass, number);
+                    Err(error)
+                }
+            },
             Err(error) => {
                 self.see_whole(rt, shard, pass, number);
                 Err(error)
             }
         }
-    }
-
-    // Gives a slot back.
-    pub(super) fn give_back<R: Wait>(&self, rt: &R, slot: KeptSlot<K>)
-        requires { slot ≡ self.now.log }
-    {
-        let (guard, mut held) = self.spine.take(rt);
-        held.tally.spine.give_back(slot);
-        guard.give(rt, held);
     }
 
     // Puts the text last, where the shard is whole for what the pass has seen, and the spine has seen that list. Where the key
@@ -157,11 +126,10 @@ impl<K: Key, S: BuildHasher + Drop> Shards<K, S> {
         rt: &R,
         shard: &mut Shard<K, S>,
         pass: &mut Pass<K>,
-        slot: KeptSlot<K>,
         hash: u64,
         text: Piece,
     ) -> LassoResult<K>
-        requires of { (pass.old.of ≡ self.now.log) × (slot ≡ self.now.log) }
+        requires of { pass.old.of ≡ self.now.log }
         requires lasts { Incl (life (era_named self.now.log.chunks)) text.until }
         requires hashed { hash ≡ text_hash S.build_hasher S.Hasher.write S.Hasher.finish self.now.hasher text.text }
         requires held { IsShard (text_hash S.build_hasher S.Hasher.write S.Hasher.finish self.now.hasher) (shard_of hash) self.now.log shard.old.known shard.old.index shard.old.count }
@@ -174,10 +142,13 @@ impl<K: Key, S: BuildHasher + Drop> Shards<K, S> {
     {
         for _ in rt.forever() {
             let (guard, mut held) = self.spine.take(rt);
-            if self.is_whole(&held.tally, shard, pass, number_of(hash)) {
-                let reply = self.append_at(rt, &mut held.tally, shard, pass, slot, hash, text);
-                guard.give(rt, held);
-                return reply;
+            let tally: &mut Tally<K, S> = &mut held.tally;
+            if self.is_whole(tally, shard, pass, number_of(hash)) {
+                if let Ok(slot) = self.log.reserve_next(self.alloc, &mut tally.spine) {
+                    let reply = self.append_at(rt, tally, shard, pass, slot, hash, text);
+                    guard.give(rt, held);
+                    return reply;
+                }
             }
             guard.give(rt, held);
         }

@@ -22,7 +22,7 @@ returns-in-Err-clause-call g c =
     let log = c.args.self.now.log in
     let is : is_in hash_of c.number_of.result t ≡ true = rw c.number_of.ensures.0 (is_home hash_of c.args.hash t c.requires.hashed) in
     let lacks : Lacks (list_of log c.make_room.new.pass.notes) t =
-    exact_lacks hash_of c.number_of.result log c.args.shard.now.known.notes c.make_room.new.pass.notes c.make_room.ensures.whole t is c.requires.held.exact.distinct c.in_default.ensures.missing in
+    exact_lacks hash_of c.number_of.result log c.args.shard.now.known.notes c.make_room.new.pass.notes c.in-Err.ensures.whole t is c.requires.held.exact.distinct c.in_default.ensures.missing in
     rw c.in-Err.ensures.refused (called_wanting g.K.Key.key_at log c.args.pass.now.number Copied c.args.pass.now.notes c.make_room.new.pass.notes t since lacks)
 
 pub returns-in-Ok-store-clause-call : goal.returns-in-Ok-store-clause-call

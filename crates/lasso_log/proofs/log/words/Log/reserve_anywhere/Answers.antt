@@ -5,10 +5,10 @@ use Rattle.lasso_log.specs.SharedBuckets.{SharedView, IsNoteOf}
 use Rattle.lasso_log.proofs.Tickets.{since_trans}
 use Rattle.lasso_log.proofs.log.words.Log.reserve_anywhere.Goals as goal
 
-pub returns-in-Some-try_reserve-clause-event : goal.returns-in-Some-try_reserve-clause-event
-returns-in-Some-try_reserve-clause-event g c =
+pub returns-in-Some-try_reserve-3-clause-event : goal.returns-in-Some-try_reserve-3-clause-event
+returns-in-Some-try_reserve-3-clause-event g c =
     let p = c.args.pass.now.number in let i = c.loop-bucket.invariant in let b : SharedView = c.in-Some-2.bucket.now in
-    let after : List NoteView = c.try_reserve-in-loop-bucket.new.pass.notes in let own = Reserve b.position c.args.bytes ∷ [] in let e = c.in-Some-try_reserve.ensures in (
+    let after : List NoteView = c.try_reserve-in-loop-bucket.new.pass.notes in let own = Reserve b.position c.args.bytes ∷ [] in let e = c.in-Some-try_reserve-3.ensures in (
       b,
       c.share_opening-in-loop-bucket.ensures,
       record {
