@@ -100,7 +100,7 @@ decoding_gives_texts_lem list more texts decoded codes are =
     let stand = stand_longer list more texts codes (codes_stand list texts codes are) in
     (λ decodes. map_some_same decoded texts (sym decodes ∙ stand), λ same. subst (λ ts. StandFor (list ++ more) codes ts) (sym same) stand)
 
-map_some_at : {X Y : Type 0} (f : X → Option Y) (xs : List X) (ys : List Y) (n : ℕ) (x : X) (y : Y) → map f xs ≡ map Some ys → slice_get xs n ≡ Some x → slice_get ys n ≡ Some y → f x ≡ Some y
+pub map_some_at : {X Y : Type 0} (f : X → Option Y) (xs : List X) (ys : List Y) (n : ℕ) (x : X) (y : Y) → map f xs ≡ map Some ys → slice_get xs n ≡ Some x → slice_get ys n ≡ Some y → f x ≡ Some y
 map_some_at f [] ys n x y e here there = cc
 map_some_at f (x' ∷ xs) [] n x y e here there = cc
 map_some_at f (x' ∷ xs) (y' ∷ ys) zero x y e here there = cc

@@ -4,3 +4,4 @@ pub mod Coded
 pub mod Encoded
 pub mod EncodedLines
 pub mod Shared
+pub mod PartLists

@@ -3,3 +3,4 @@ pub mod Codes
 pub mod Encoding
 pub mod Faults
 pub mod Sharing
+pub mod Parts

@@ -1,5 +1,5 @@
 //! The codes of one interner in another.
-ghost use Rattle.std.specs.Prelude.{◌≡◌, ℕ, Ok, OnOk, IfOk, IfErr, IsSomeAnd, slice_get, take};
+ghost use Rattle.std.specs.Prelude.{◌≡◌, ℕ, [], Ok, OnOk, IfOk, IfErr, IsSomeAnd, slice_get, take, length};
 ghost use Rattle.lasso_single.specs.Filling.{extend};
 ghost use Rattle.lasso_columns.specs.Codes.{AreCodes, StandFor};
 ghost use Rattle.lasso_columns.specs.Encoding.{spur_at, IsRefused};
@@ -34,11 +34,27 @@ pub fn merge<S: BuildHasher, A: Allocator + Clone, T: BuildHasher, B: Allocator>
     ensures refused { IfErr result (λ error. (n : ℕ) × extend spur_at into.old (take n from.now) (Ok tt) into.new × IsSomeAnd (slice_get from.now n) (λ text. IsRefused into.new text error)) }
 {
     let mut codes = Vec::new(alloc);
+    put_behind(into, from, &mut codes)?;
+    Ok(codes)
+}
+
+// Interns the texts of the list in order, and puts the codes that they then have behind those that are there: `encode`, of texts that a reader lends.
+pub(crate) fn put_behind<S: BuildHasher, A: Allocator + Clone, T: BuildHasher, B: Allocator>(
+    into: &mut Rodeo<Spur, S, A>,
+    from: &RodeoReader<Spur, T, B>,
+    codes: &mut Vec<u32>,
+) -> LassoResult<()>
+    requires { codes.old.items ≡ [] }
+    ensures list { extend spur_at into.old (take (length codes.new.items) from.now) (Ok tt) into.new }
+    ensures codes { AreCodes into.new.texts (take (length codes.new.items) from.now) codes.new.items }
+    ensures whole { OnOk result (length codes.new.items ≡ length from.now) }
+    ensures refused { IfErr result (λ error. IsSomeAnd (slice_get from.now (length codes.new.items)) (λ text. IsRefused into.new text error)) }
+{
     let count = from.len();
     // Where there is no memory for the codes of all texts, each asks for its own.
     let _ = codes.reserve(count);
     for position in 0..count {
-        encode_text(into, from.text_at(position), &mut codes)?;
+        encode_text(into, from.text_at(position), codes)?;
     }
-    Ok(codes)
+    Ok(())
 }
