@@ -22,6 +22,9 @@
  * malloc, realloc and free are one allocator, whose blocks are aligned to each power of two up to 16 that divides their
  * size, as to 8 for 24 bytes.
  *
+ * lasso_encode hashes texts with a fixed seed. Whoever chooses the texts can make them collide: each search then takes time
+ * linear in the number of distinct texts, and a call time quadratic in it.
+ *
  * What a call writes and answers is proved. What the caller owes is not, nor what is said here of threads and of memory.
  */
 #ifndef LASSO_H

@@ -2,7 +2,8 @@
 //!
 //! A text is of one shard, by its hash. A shard's index is exact for a history that the shard has seen. So it is for each history that
 //! begins with that one and has no more texts of the shard, which the spine's number of them tells. Who holds a shard's lock
-//! may take the spine's; who holds the spine's takes no shard.
+//! may take the spine's; who holds the spine's takes no shard. Who adds a bucket holds the spine's and takes a third, that of what
+//! is owned of the buckets (`holdings` of the log's memory), under which no other is taken.
 ghost use Rattle.std.specs.Prelude.{◌≡◌, ◌<◌, ℕ, length, Some, slice_get};
 ghost use Rattle.lasso_log.specs.SharedBuckets.{names_with_book};
 ghost use Rattle.lasso_log.specs.Views.{InternerId};
