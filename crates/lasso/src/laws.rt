@@ -8,5 +8,5 @@ pub use lasso_parts::laws::{
 pub use lasso_shared::laws::{
     answered_keys_resolve, calls_tell_keys, charge_refuses_exactly_past_limit,
     keys_are_equal_where_texts_are, legal_histories_hold, passes_share_keys, resolved_texts_stay,
-    seen_texts_keep_keys, worked_calls_are_calls, wrong_calls_are_none,
+    seen_texts_keep_keys, worked_calls_are_calls, wrong_calls_are_none, wrong_plain_calls_are_none,
 };

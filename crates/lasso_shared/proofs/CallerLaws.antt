@@ -41,10 +41,10 @@ position_grows texts more text n at =
     (λ within. ap (λ t. bytes_eq t text) (get_or_append_left texts more [] n here.0) ∙ here.1) in
     ap (λ b. cond b (Some (position_or_len (λ t. bytes_eq t text) (texts ++ more))) None) (lt-ltb _ _ (subst (λ k. k < length (texts ++ more)) (sym first) long)) ∙ ap Some first
 
-position_past : (texts later : List Text) (text : Text) (n : ℕ) → IsPrefix texts later → position_of texts text ≡ Some n → position_of later text ≡ Some n
+pub position_past : (texts later : List Text) (text : Text) (n : ℕ) → IsPrefix texts later → position_of texts text ≡ Some n → position_of later text ≡ Some n
 position_past texts later text n more at = subst (λ (ts : List Text). position_of ts text ≡ Some n) more.1 (position_grows texts more.0 text n at)
 
-read_past : (texts later : List Text) (text : Text) (n : ℕ) → IsPrefix texts later → slice_get texts n ≡ Some text → slice_get later n ≡ Some text
+pub read_past : (texts later : List Text) (text : Text) (n : ℕ) → IsPrefix texts later → slice_get texts n ≡ Some text → slice_get later n ≡ Some text
 read_past texts later text n more at = subst (λ (ts : List Text). slice_get ts n ≡ Some text) more.1 (get_front texts more.0 n text at)
 
 -- the list of a longer history is longer

@@ -2,6 +2,7 @@ pub mod Machine
 pub mod Runs
 pub mod Example
 pub mod ExampleCalls
+pub mod ExamplePlain
 pub mod CallerLaws
 pub mod Json
 pub mod Shards

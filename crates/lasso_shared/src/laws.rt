@@ -1,6 +1,7 @@
 //! Laws of the shared history, each as the contract of a function that does nothing.
 
 ghost use Rattle.lasso_shared.specs.ExampleCalls.{AreCalls, AreNoCalls};
+ghost use Rattle.lasso_shared.specs.ExamplePlain.{AreNoPlainCalls};
 ghost use Rattle.lasso_log.specs.Laws.{EachHistoryHolds, ChargeRefusesExactlyPastLimit};
 
 mod callers;
@@ -34,4 +35,10 @@ pub fn worked_calls_are_calls()
 /// there is no ground, and others. Nor may an interner open with a text that stands twice, or without a key for each text.
 pub fn wrong_calls_are_none()
     ensures { AreNoCalls }
+{}
+
+/// Wrong plain calls are none either, whatever history explains them: a length, a usage or a list that is smaller than the opening's; a
+/// text of the opening that is not found, gets another key or is refused; a static text refused by the limit; and others.
+pub fn wrong_plain_calls_are_none()
+    ensures { AreNoPlainCalls }
 {}
