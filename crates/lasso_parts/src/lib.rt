@@ -11,4 +11,5 @@ pub mod iter;
 pub mod json;
 pub mod keys;
 pub mod laws;
+pub mod short;
 pub mod util;
