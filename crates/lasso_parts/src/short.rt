@@ -1,5 +1,5 @@
 //! Short texts, which stand in an array.
-ghost use Rattle.std.specs.Prelude.{◌≡◌, ◌≤◌, ◌<◌, length, IfSome, IfNone};
+ghost use Rattle.std.specs.Prelude.{◌≡◌, ◌≤◌, ◌<◌, ◌*◌, length, take, IfSome, IfNone};
 
 use std::marker::Model;
 use std::str::from_utf8_unchecked;
@@ -32,12 +32,16 @@ impl ShortText {
         ensures short { IfSome result (λ s. s ≡ text.now) }
         ensures longer { IfNone result (SHORT < length text.now) }
     {
+        let text = text.as_bytes();
         let len = text.len();
-        if SHORT < len {
-            return None;
-        }
-        let mut bytes = [0; SHORT];
-        bytes[..len].copy_from_slice(text.as_bytes());
+        let bytes = match len {
+            8..=SHORT => by_ends::<8>(text),
+            4..=7 => by_ends::<4>(text),
+            2..=3 => by_ends::<2>(text),
+            1 => by_ends::<1>(text),
+            0 => [0; SHORT],
+            _ => return None,
+        };
         Some(ShortText {
             len: len as u8,
             bytes,
@@ -51,4 +55,19 @@ impl ShortText {
     {
         unsafe { from_utf8_unchecked(&self.bytes[..self.len as usize]) }
     }
+}
+
+// A text at the front of an array. Its first N bytes and its last N are all of it, and each is one move.
+#[inline(always)]
+fn by_ends<const N: usize>(text: &[u8]) -> [u8; SHORT]
+    requires ends { N ≤ length text.now }
+    requires all { length text.now ≤ 2 * N }
+    requires short { length text.now ≤ SHORT }
+    ensures { take (length text.now) result ≡ text.now }
+{
+    let last = text.len() - N;
+    let mut bytes = [0; SHORT];
+    bytes[..N].copy_from_slice(&text[..N]);
+    bytes[last..text.len()].copy_from_slice(&text[last..]);
+    bytes
 }

@@ -8,6 +8,7 @@ ghost use Rattle.lasso_parts.specs.Scan.{Tells};
 use crate::index::groups::passed_over;
 use crate::index::key_slots::KeySlots;
 use crate::index::lists::Texts;
+use crate::index::same::is_same;
 use crate::keys::Key;
 use std::alloc::Allocator;
 
@@ -113,14 +114,6 @@ fn found_at<K: Key, A: Allocator, T: Texts>(
         return Some(position);
     }
     None
-}
-
-// Whether both texts are the same.
-#[inline(always)]
-fn is_same(one: &str, other: &str) -> bool
-    ensures { result ≡ bytes_eq one.now other.now }
-{
-    one == other
 }
 
 // The first empty slot from the first index up to the last, which is not among them.
