@@ -4,8 +4,9 @@
 -- span, and the regions keep the texts of spans, and where they lie. The list of the texts that are too long for an
 -- entry keeps each at its place. So the texts of a list stay, and one entry more at the end of the list appends its
 -- text.
-use Rattle.std.proofs.Common.{◌≡◌, ◌∙◌, List, [], ◌∷◌, ◌++◌, get_or, ap, refl, sym, subst, arith}
+use Rattle.std.proofs.Common.{◌≡◌, ◌∙◌, ℕ, List, [], ◌∷◌, ◌++◌, length, get_or, ap, refl, sym, subst, arith}
 use Rattle.std.proofs.lemmas.List.{map-append, get_or_append_left, length-append}
+use Rattle.std.proofs.Math.Seq.{get_or-append_seam}
 use Rattle.std.proofs.lemmas.List.Elements.{All-head, All-tail, All-same, All-push, All-weaker}
 use denote.RawPtr.{Ptr}
 use Rattle.lasso_parts.specs.Texts.{Text}
@@ -68,3 +69,16 @@ module _ (earlier later : List Extent) (vast more : List LentText) (entries grow
   texts_pushed text is =
       ap (texts_of later more) e ∙ map-append (entry_text later more) entries (entry ∷ []) ∙ ap (λ (ts : List Text). ts ++ entry_text later more entry ∷ []) (texts_kept earlier later vast more entries keeps places all)
       ∙ ap (λ (t : Text). texts_of earlier vast entries ++ t ∷ []) is
+
+-- the place at the end of the list, once it has one text more
+module _ (vast more : List LentText) (t : LentText) (entry : EntryView) (index : ℕ) (grown : more ≡ vast ++ t ∷ []) (last : index ≡ length vast) (is : entry ≡ Listed index) where
+  at_last : get_or more index no_text ≡ t
+  at_last = ap (λ (k : ℕ). get_or more k no_text) last ∙ ap (λ (ts : List LentText). get_or ts (length vast) no_text) grown ∙ get_or-append_seam vast t [] no_text
+
+  -- leads to that text
+  pub listed_there : (regions : List Extent) → IsLent regions t → IsThere regions more entry
+  listed_there regions lent = subst (IsThere regions more) (sym is) (omega (arith, last, ap length grown, length-append vast (t ∷ [])), subst (IsLent regions) (sym at_last) lent)
+
+  -- and stands for it
+  pub listed_text : (regions : List Extent) → entry_text regions more entry ≡ lent_bytes regions t
+  listed_text regions = ap (entry_text regions more) is ∙ ap (lent_bytes regions) at_last
