@@ -4,11 +4,12 @@ ghost use Rattle.lasso_parts.specs.Entries.{entry_text, source_len, IsThere, Ins
 
 mod loan;
 pub mod long;
+pub mod short;
 
 use crate::bucket::region::Region;
-use crate::short::ShortText;
 use loan::Loan;
 use long::LongText;
+use short::ShortText;
 use std::marker::{Model, Send, Sync};
 use std::mem::size_of;
 use std::str::from_utf8_unchecked;

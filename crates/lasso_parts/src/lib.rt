@@ -11,5 +11,4 @@ pub mod iter;
 pub mod json;
 pub mod keys;
 pub mod laws;
-pub mod short;
 pub mod util;

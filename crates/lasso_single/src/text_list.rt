@@ -12,11 +12,11 @@ use crate::copying::{CopyTarget, copy_all};
 use crate::room::one_bucket;
 use lasso_parts::arena::Arena;
 use lasso_parts::entries::long::{LongText, is_vast};
+use lasso_parts::entries::short::ShortText;
 use lasso_parts::entries::{Entry, text_of};
 use lasso_parts::index::Texts;
 use lasso_parts::iter::{Iter, Strings};
 use lasso_parts::keys::Key;
-use lasso_parts::short::ShortText;
 use lasso_parts::util::{Capacity, LassoError, LassoErrorKind, LassoResult, MemoryLimits};
 use std::alloc::Allocator;
 use std::marker::Model;
@@ -53,11 +53,8 @@ impl<A: Allocator> Texts for TextList<A> {
 
     #[inline]
     fn text_at(&self, position: usize) -> &str {
-        text_of(
-            self.arena.regions(),
-            self.vast.as_slice(),
-            &self.entries[position],
-        )
+        let regions = self.arena.regions();
+        text_of(regions, self.vast.as_slice(), &self.entries[position])
     }
 }
 
@@ -219,22 +216,16 @@ impl<A: Allocator> TextList<A> {
         requires { Fits K.key_at (length self.now.texts) }
         ensures { result ≡ enumerate_from 0 self.now.texts }
     {
-        Iter::new(
-            self.entries.as_slice(),
-            self.arena.regions(),
-            self.vast.as_slice(),
-        )
+        let regions = self.arena.regions();
+        Iter::new(self.entries.as_slice(), regions, self.vast.as_slice())
     }
 
     /// A walk over the texts.
     pub(crate) fn strings<K: Key>(&self) -> Strings<'_, K>
         ensures { result ≡ self.now.texts }
     {
-        Strings::new(
-            self.entries.as_slice(),
-            self.arena.regions(),
-            self.vast.as_slice(),
-        )
+        let regions = self.arena.regions();
+        Strings::new(self.entries.as_slice(), regions, self.vast.as_slice())
     }
 
     /// Whether another list has the same texts in the same order.

@@ -1,7 +1,7 @@
 use Rattle.std.proofs.Common.{◌∙◌, ◌-◌, length, arith}
 use Rattle.std.proofs.lemmas.List.{take_rest}
 use Rattle.lasso_parts.proofs.Ends.{written_first}
-use Rattle.lasso_parts.proofs.short.by_ends.Goals as goal
+use Rattle.lasso_parts.proofs.entries.short.by_ends.Goals as goal
 
 pub returns : goal.returns
 returns g c =
