@@ -20,7 +20,7 @@ use Rattle.core.specs.contracts.slots.Slots as row
 use Rattle.std_alloc.proofs.SendSync.{FreesAnywhere, quiet, lies, seen}
 use Rattle.lasso_parts.specs.Cells.{bytes_type}
 use Rattle.lasso_parts.specs.Loans.{lent_for_ever}
-use Rattle.lasso_parts.specs.Entries.{Source, Copied, Static, Kept}
+use Rattle.lasso_parts.specs.Entries.{Source, Copied, Static}
 use Rattle.lasso_parts.specs.contracts.bucket.cells.Cells as cells
 use Rattle.lasso_parts.specs.contracts.bucket.cells.Cells.TheInside as fields
 use Rattle.lasso_parts.specs.contracts.bucket.cells.Deed as deed
@@ -88,11 +88,10 @@ module _ (A : RattleType) (heap : Ghosts A.Denot) where
 
 lent_keyless : (source : Source) (p : Ptr) → Keyless (lent_for_ever source p)
 lent_keyless (Copied span) p = tt
-lent_keyless (Kept text) p = tt
 lent_keyless (Static text) p = ((array_sync u8 0 byte_sync).shared text (block_of p) (count_of p) []).1
 
 pub loan_send : IsSend loan.the_row
-loan_send = owning_send loan.the_type tt (λ d. lent_keyless d.entry.source d.entry.at) (λ k x w. tt)
+loan_send = owning_send loan.the_type tt (λ d. lent_keyless d.text.source d.text.at) (λ k x w. tt)
 
 pub loan_sync : IsSync loan.the_row
-loan_sync = let O = loan.the_type in record { shared = λ d b o κ. ((struct_sync (owning.shape O) tt).shared (owning.to O d) b o κ, lent_keyless d.entry.source d.entry.at) }
+loan_sync = let O = loan.the_type in record { shared = λ d b o κ. ((struct_sync (owning.shape O) tt).shared (owning.to O d) b o κ, lent_keyless d.text.source d.text.at) }

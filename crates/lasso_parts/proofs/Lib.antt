@@ -13,6 +13,7 @@ pub mod Wasted
 pub mod WastedSince
 pub mod EntryTexts
 pub mod Walks
+mod Ends
 mod PlacesLent
 pub mod TextsLent
 pub mod RowCalls

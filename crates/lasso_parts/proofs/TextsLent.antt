@@ -29,14 +29,13 @@ use Rattle.lasso_parts.specs.Arena.{region_at, text_at}
 use Rattle.lasso_parts.specs.Bucket.{Extent}
 use Rattle.lasso_parts.specs.Cells.{AreFilled, LeadsToBlock}
 use Rattle.lasso_parts.specs.Loans.{lent}
-use Rattle.lasso_parts.specs.Entries.{Source, EntryView, Copied, Static, Kept, AreWordsOf, IsThere, IsWhole, LiesAt, source_len, source_text, entry_text}
+use Rattle.lasso_parts.specs.Entries.{Source, LentText, Copied, Static, AreWordsOf, IsLent, IsWhole, LiesAt, source_len, source_text, lent_bytes}
 use Rattle.lasso_parts.specs.contracts.bucket.region.Region.{the_row as Part}
 use Rattle.lasso_parts.proofs.PlacesLent.{run_lent}
 
 -- a loan may be had twice, and for a shorter time
 pub lent_laws : (source : Source) (p : Ptr) → ShrLaws (lent source p)
 lent_laws (Copied span) p = nothing_shr_laws
-lent_laws (Kept text) p = nothing_shr_laws
 lent_laws (Static text) p = elements_shr_laws u8 (uint_row_laws w8) text (block_of p) (count_of p)
 
 -- a run of the first bytes is a run of all
@@ -96,13 +95,12 @@ module _ {M : Type 1} {𝓤 : Ura M} (𝓛 : Logic 𝓤) (κ : Lft) where
       (one_lent n rs rb (ro + (mem Part).size) start len (omega arith) fits)
 
   -- what the loan and the regions lend of the bytes of an entry's text
-  pub text_lent : (regions : List Extent) (e : EntryView) (ptr : Ptr) (len rb ro : ℕ) → IsThere regions e → AreWordsOf e ptr len
-      → ent 𝓤 (sem 𝓛 (fsep (lent e.source e.at []) (elements_shared Part regions rb ro κ))) (sem 𝓛 (fsep (flt len (2 ^ 63)) (elements_shared u8 (entry_text regions e) (block_of e.at) (count_of e.at) κ)))
+  pub text_lent : (regions : List Extent) (e : LentText) (ptr : Ptr) (len rb ro : ℕ) → IsLent regions e → AreWordsOf e ptr len
+      → ent 𝓤 (sem 𝓛 (fsep (lent e.source e.at []) (elements_shared Part regions rb ro κ))) (sem 𝓛 (fsep (flt len (2 ^ 63)) (elements_shared u8 (lent_bytes regions e) (block_of e.at) (count_of e.at) κ)))
   text_lent regions e ptr len rb ro there kept = by_source e.source e.at there kept.block kept.count kept.whole
     where
       by_source : (s : Source) (at : Ptr) → LiesAt regions at s → LeadsToBlock at → len ≡ source_len s → IsWhole s
           → ent 𝓤 (sem 𝓛 (fsep (lent s at []) (elements_shared Part regions rb ro κ))) (sem 𝓛 (fsep (flt len (2 ^ 63)) (elements_shared u8 (source_text regions s) (block_of at) (count_of at) κ)))
-      by_source (Kept text) at lies block count whole = absurd whole
       by_source (Static text) at lies block count whole =
           qed 𝓛 (‵ (elements_shared u8 text (block_of at) (count_of at) []) ∷ ‵ (elements_shared Part regions rb ro κ) ∷ []) ∵
           keep ! (0 ∷ []) $ use1 𝓛 (‵ (elements_shared u8 text (block_of at) (count_of at) κ))
@@ -118,12 +116,11 @@ module _ {M : Type 1} {𝓤 : Ura M} (𝓛 : Logic 𝓤) (κ : Lft) where
           rewrite ! 0 (λ (o : ℕ). ‵ (fsep (flt len (2 ^ 63)) (elements_shared u8 (text_at regions span) (block_of at) o κ))) (sym on.1) refl $ done !
 
 -- an entry's text has so many bytes
-pub text_len : (regions : List Extent) (e : EntryView) (ptr : Ptr) (len : ℕ) → IsThere regions e → AreWordsOf e ptr len → length (entry_text regions e) ≡ len
+pub text_len : (regions : List Extent) (e : LentText) (ptr : Ptr) (len : ℕ) → IsLent regions e → AreWordsOf e ptr len → length (lent_bytes regions e) ≡ len
 text_len regions e ptr len there kept = by_source e.source e.at there kept.count
   where
     by_source : (s : Source) (at : Ptr) → LiesAt regions at s → len ≡ source_len s → length (source_text regions s) ≡ len
     by_source (Static text) at lies count = sym count
-    by_source (Kept text) at lies count = sym count
     by_source (Copied span) at lies count =
         let bytes : List ℕ = (region_at regions span.region).bytes in
         let part : span.start + span.len - span.start ≡ span.len = omega arith in

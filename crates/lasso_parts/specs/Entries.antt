@@ -1,67 +1,92 @@
--- The entries of a list of texts, and the texts that they stand for among the regions of an arena.
-use Rattle.std.specs.Prelude.{◌≡◌, ℕ, ◌^◌, ◌<◌, List, length, map, All, IsUtf8}
-use denote.RawPtr.{Ptr}
+-- The entries of a list of texts, and the texts that they stand for: an entry has a short text itself, or leads to
+-- a text outside it. A text that is too long for an entry's words is named in a list of its own, and the entry
+-- names its place there.
+use Rattle.std.specs.Prelude.{◌≡◌, ℕ, ◌^◌, ◌<◌, List, [], length, map, get_or, All, IsUtf8}
+use denote.RawPtr.{Ptr, null_ptr}
 use Rattle.lasso_parts.specs.Texts.{Text}
 use Rattle.lasso_parts.specs.Bucket.{Extent}
 use Rattle.lasso_parts.specs.Cells.{LeadsToBlock}
 use Rattle.lasso_parts.specs.Arena.{text_at, address_of, IsStored}
 use Rattle.lasso_parts.specs.declared.arena.Span.{Span}
 
--- whose memory the bytes of a text are
+-- whose memory the bytes of a text outside the entries are
 pub data Source : Type 0 where
   -- an arena's, which copied the text to this span
   Copied : Span → Source
   -- the program's: these bytes are never freed
   Static : Text → Source
-  -- the entry's own: these bytes stand in it
-  Kept : Text → Source
 
--- an entry: where the first byte of its text lies, and whose memory that is
-pub record EntryView : Type 0 where
+-- a text outside the entries: where its first byte lies, and whose memory that is
+pub record LentText : Type 0 where
   pub at : Ptr
   pub source : Source
 
 abbrev pub source_text : List Extent → Source → Text
 source_text regions (Copied span) = text_at regions span
 source_text regions (Static text) = text
-source_text regions (Kept text) = text
 
 abbrev pub source_len : Source → ℕ
 source_len (Copied span) = span.len
 source_len (Static text) = length text
-source_len (Kept text) = length text
 
 -- a text that was copied is stored among these regions, at this address
 abbrev pub LiesAt : List Extent → Ptr → Source → Type 0
 LiesAt regions at (Copied span) = IsStored regions span × (at ≡ address_of regions span)
 LiesAt regions at (Static text) = Unit {0}
-LiesAt regions at (Kept text) = Unit {0}
 
--- the bytes of a static text are UTF-8, and fewer than 2 ^ 63; an address leads to no text that an entry has itself
+-- the bytes of a static text are UTF-8, and fewer than 2 ^ 63
 abbrev pub IsWhole : Source → Type 0
 IsWhole (Copied span) = Unit {0}
 IsWhole (Static text) = (length text < 2 ^ 63) × IsUtf8 text
-IsWhole (Kept text) = ⊥
 
--- these are the address and the length of a text that stands elsewhere: where its text lies, which is not null, and how many bytes it has
-pub record AreWordsOf (e : EntryView) (at : Ptr) (len : ℕ) : Type 0 where
-  pub address : at ≡ e.at
-  pub block : LeadsToBlock e.at
-  pub count : len ≡ source_len e.source
-  pub whole : IsWhole e.source
+-- these are the two words of a text outside the entries: where it lies, which is not null, and how many bytes it has
+pub record AreWordsOf (t : LentText) (at : Ptr) (len : ℕ) : Type 0 where
+  pub address : at ≡ t.at
+  pub block : LeadsToBlock t.at
+  pub count : len ≡ source_len t.source
+  pub whole : IsWhole t.source
+
+-- the bytes of such a text
+abbrev pub lent_bytes : List Extent → LentText → Text
+lent_bytes regions t = source_text regions t.source
+
+-- a copied text is stored among these regions, at its address; a static text is always there
+abbrev pub IsLent : List Extent → LentText → Type 0
+IsLent regions t = LiesAt regions t.at t.source
+
+-- an entry
+pub data EntryView : Type 0 where
+  -- has the text itself
+  Inside : Text → EntryView
+  -- leads to it
+  Outside : LentText → EntryView
+  -- names its place in the list of the texts that are too long for an entry
+  Listed : ℕ → EntryView
+
+-- what stands at a place where the list has no text
+abbrev pub no_text : LentText
+no_text = record { at = null_ptr; source = Static [] }
 
 -- the text of an entry
-abbrev pub entry_text : List Extent → EntryView → Text
-entry_text regions e = source_text regions e.source
+abbrev pub entry_text : List Extent → List LentText → EntryView → Text
+entry_text regions vast (Inside text) = text
+entry_text regions vast (Outside t) = lent_bytes regions t
+entry_text regions vast (Listed k) = lent_bytes regions (get_or vast k no_text)
 
--- a copied text is stored among these regions, at the entry's address; any other text is always there
-abbrev pub IsThere : List Extent → EntryView → Type 0
-IsThere regions e = LiesAt regions e.at e.source
+-- the entry leads to its text, among these regions and in this list; a text that it has itself is always there
+abbrev pub IsThere : List Extent → List LentText → EntryView → Type 0
+IsThere regions vast (Inside text) = Unit {0}
+IsThere regions vast (Outside t) = IsLent regions t
+IsThere regions vast (Listed k) = (k < length vast) × IsLent regions (get_or vast k no_text)
 
 -- so for each entry of a list
-abbrev pub AllThere : List Extent → List EntryView → Type 0
-AllThere regions entries = All (IsThere regions) entries
+abbrev pub AllThere : List Extent → List LentText → List EntryView → Type 0
+AllThere regions vast entries = All (IsThere regions vast) entries
 
 -- the texts of a list of entries
-abbrev pub texts_of : List Extent → List EntryView → List Text
-texts_of regions entries = map (entry_text regions) entries
+abbrev pub texts_of : List Extent → List LentText → List EntryView → List Text
+texts_of regions vast entries = map (entry_text regions vast) entries
+
+-- the later list of texts outside the entries has those of the earlier one, at the same places
+abbrev pub KeepsPlaces : List LentText → List LentText → Type 0
+KeepsPlaces earlier later = (k : ℕ) → k < length earlier → (k < length later) × (get_or later k no_text ≡ get_or earlier k no_text)

@@ -19,6 +19,7 @@ pub mod Places
 pub mod Waste
 pub mod Cells
 pub mod Entries
+pub mod Short
 pub mod Loans
 pub mod Json
 pub mod JsonErrors

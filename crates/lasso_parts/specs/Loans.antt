@@ -4,13 +4,12 @@ use base.Fml.{Lft, Fml, ftrue}
 use denote.Builtin.{u8}
 use denote.RawPtr.{Ptr, block_of, count_of}
 use denote.Slice.{elements_shared}
-use Rattle.lasso_parts.specs.Entries.{Source, Copied, Static, Kept}
+use Rattle.lasso_parts.specs.Entries.{Source, Copied, Static}
 
--- nothing of a text that an arena copied or an entry has itself; of another a `&` to each of its bytes, of which the first lies at p, at
+-- nothing of a text that an arena copied; of another a `&` to each of its bytes, of which the first lies at p, at
 -- the lifetime κ
 abbrev pub lent : Source → Ptr → Lft → Fml
 lent (Copied span) p κ = ftrue
-lent (Kept text) p κ = ftrue
 lent (Static text) p κ = elements_shared u8 text (block_of p) (count_of p) κ
 
 -- the same for the lifetime that never ends

@@ -10,6 +10,7 @@ mod hashing;
 pub mod key_slots;
 mod lists;
 mod probe;
+mod same;
 mod table;
 mod vacancy;
 

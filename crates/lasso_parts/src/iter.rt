@@ -8,6 +8,7 @@ ghost use Rattle.lasso_parts.specs.Entries.{AllThere, texts_of};
 ghost use Rattle.lasso_parts.specs.Texts.{Fits};
 
 use crate::bucket::region::Region;
+use crate::entries::long::LongText;
 use crate::entries::{Entry, text_of};
 use crate::keys::Key;
 use std::alloc::AllocError;
@@ -19,6 +20,7 @@ use std::marker::{Model, PhantomData};
 pub struct Strings<'a, K: Key> {
     entries: &'a [Entry],
     regions: &'a [Region],
+    vast: &'a [LongText],
     keys: PhantomData<K>,
 }
 
@@ -29,20 +31,21 @@ impl<'a, K: Key> Model for Strings<'a, K> {
 
     ghost Value = { List Text };
 
-    ghost view = { λ s. texts_of s.regions.now s.entries.now };
+    ghost view = { λ s. texts_of s.regions.now s.vast.now s.entries.now };
 
-    ghost invariant = { λ s. AllThere s.regions.now s.entries.now };
+    ghost invariant = { λ s. AllThere s.regions.now s.vast.now s.entries.now };
 }
 
 impl<'a, K: Key> Strings<'a, K> {
     /// A walk over the texts of all the entries. Each must be there among the regions.
-    pub fn new(entries: &'a [Entry], regions: &'a [Region]) -> Self
-        requires { AllThere regions.now entries.now }
-        ensures { result ≡ texts_of regions.now entries.now }
+    pub fn new(entries: &'a [Entry], regions: &'a [Region], vast: &'a [LongText]) -> Self
+        requires { AllThere regions.now vast.now entries.now }
+        ensures { result ≡ texts_of regions.now vast.now entries.now }
     {
         Strings {
             entries,
             regions,
+            vast,
             keys: PhantomData,
         }
     }
@@ -62,7 +65,7 @@ impl<'a, K: Key> Strings<'a, K> {
     {
         let entries = self.entries;
         if n < entries.len() {
-            let text = text_of(self.regions, &entries[n]);
+            let text = text_of(self.regions, self.vast, &entries[n]);
             let (_, rest) = entries.split_at(n + 1);
             self.entries = rest;
             Some(text)
@@ -90,7 +93,7 @@ impl<'a, K: Key> Strings<'a, K> {
         if n < entries.len() {
             let at = entries.len() - 1 - n;
             self.entries = &entries[..at];
-            Some(text_of(self.regions, &entries[at]))
+            Some(text_of(self.regions, self.vast, &entries[at]))
         } else {
             self.entries = &[];
             None
@@ -111,7 +114,7 @@ impl<'a, K: Key> Iterator for Strings<'a, K> {
             return None;
         }
         self.entries = &entries[1..];
-        Some(text_of(self.regions, &entries[0]))
+        Some(text_of(self.regions, self.vast, &entries[0]))
     }
 
     fn size_hint(&self) -> (usize, Option<usize>)
@@ -134,7 +137,7 @@ impl<'a, K: Key> DoubleEndedIterator for Strings<'a, K> {
         }
         let last = entries.len() - 1;
         self.entries = &entries[..last];
-        Some(text_of(self.regions, &entries[last]))
+        Some(text_of(self.regions, self.vast, &entries[last]))
     }
 }
 
@@ -155,6 +158,7 @@ impl<'a, K: Key> Clone for Strings<'a, K> {
         Ok(Strings {
             entries: self.entries,
             regions: self.regions,
+            vast: self.vast,
             keys: PhantomData,
         })
     }
@@ -191,13 +195,13 @@ impl<'a, K: Key> Model for Iter<'a, K> {
 impl<'a, K: Key> Iter<'a, K> {
     /// A walk over the texts of all the entries, numbered from 0. Each entry must be there among the
     /// regions, and each of the numbers must have a key.
-    pub fn new(entries: &'a [Entry], regions: &'a [Region]) -> Self
-        requires there { AllThere regions.now entries.now }
+    pub fn new(entries: &'a [Entry], regions: &'a [Region], vast: &'a [LongText]) -> Self
+        requires there { AllThere regions.now vast.now entries.now }
         requires fits { Fits K.key_at (length entries.now) }
-        ensures { result ≡ enumerate_from 0 (texts_of regions.now entries.now) }
+        ensures { result ≡ enumerate_from 0 (texts_of regions.now vast.now entries.now) }
     {
         Iter {
-            strings: Strings::new(entries, regions),
+            strings: Strings::new(entries, regions, vast),
             first: 0,
         }
     }

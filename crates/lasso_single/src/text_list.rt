@@ -11,6 +11,8 @@ ghost use Rattle.lasso_parts.specs.declared.util.LassoErrorKind.TheVariants.{Fai
 use crate::copying::{CopyTarget, copy_all};
 use crate::room::one_bucket;
 use lasso_parts::arena::Arena;
+use lasso_parts::entries::long::{LongText, is_vast};
+use lasso_parts::entries::short::ShortText;
 use lasso_parts::entries::{Entry, text_of};
 use lasso_parts::index::Texts;
 use lasso_parts::iter::{Iter, Strings};
@@ -27,6 +29,7 @@ use std::marker::Model;
 #[derive(Drop)]
 pub(crate) struct TextList<A: Allocator> {
     entries: Vec<Entry, A>,
+    vast: Vec<LongText, A>,
     arena: Arena<A>,
     is_cleared: bool,
 }
@@ -40,9 +43,9 @@ impl<A: Allocator> Model for TextList<A> {
 
     ghost Value = { InternerView };
 
-    ghost view = { λ l. record { texts = texts_of l.arena.all l.entries.items; account = account_of l.arena; first = first_of l.arena; copied = copied_of l.arena; most = l.arena.most; is_cleared = l.is_cleared } };
+    ghost view = { λ l. record { texts = texts_of l.arena.all l.vast.items l.entries.items; account = account_of l.arena; first = first_of l.arena; copied = copied_of l.arena; most = l.arena.most; is_cleared = l.is_cleared } };
 
-    ghost invariant = { λ l. AllThere l.arena.all l.entries.items × (l.is_cleared ≡ false → IsThrifty (first_of l.arena) (copied_of l.arena) (account_of l.arena)) };
+    ghost invariant = { λ l. AllThere l.arena.all l.vast.items l.entries.items × (l.is_cleared ≡ false → IsThrifty (first_of l.arena) (copied_of l.arena) (account_of l.arena)) };
 }
 
 impl<A: Allocator> Texts for TextList<A> {
@@ -50,7 +53,8 @@ impl<A: Allocator> Texts for TextList<A> {
 
     #[inline]
     fn text_at(&self, position: usize) -> &str {
-        text_of(self.arena.regions(), &self.entries[position])
+        let regions = self.arena.regions();
+        text_of(regions, self.vast.as_slice(), &self.entries[position])
     }
 }
 
@@ -79,9 +83,11 @@ impl<A: Allocator + Clone> TextList<A> {
         ensures refused { IfErr result (λ error. error ≡ FailedAllocation) }
     {
         let entries = Vec::with_capacity(alloc.clone()?, capacity.strings())?;
+        let vast = Vec::new(alloc.clone()?);
         let arena = Arena::new(alloc, capacity.bytes(), limits.max_memory_usage())?;
         Ok(TextList {
             entries,
+            vast,
             arena,
             is_cleared: false,
         })
@@ -118,13 +124,40 @@ impl<A: Allocator + Clone> TextList<A> {
         ensures same_account { OnErr result (self.new.account ≡ self.old.account) }
         ensures same_copied { OnErr result (self.new.copied ≡ self.old.copied) }
     {
-        if !Entry::admits(text.len()) {
-            return Err(LassoError::new(LassoErrorKind::FailedAllocation));
+        if let Some(short) = ShortText::of(text) {
+            self.entries.reserve(1)?;
+            self.arena.store_str(text)?;
+            self.entries.push_reserved(Entry::inside(short));
+            return Ok(());
         }
+        self.push_long(text)
+    }
+
+    // Copies a text that is not short to the end of the list.
+    fn push_long(&mut self, text: &str) -> LassoResult<()>
+        requires { IsSome (store self.old.first self.old.account (length text.now)) }
+        ensures texts { OnOk result (self.new.texts ≡ self.old.texts ++ text.now ∷ []) }
+        ensures account { OnOk result (store self.old.first self.old.account (length text.now) ≡ Some self.new.account) }
+        ensures copied { OnOk result (self.new.copied ≡ self.old.copied + length text.now) }
+        ensures origin { KeepsOrigin self.old self.new }
+        ensures refused { IfErr result (λ error. error ≡ FailedAllocation) }
+        ensures same_texts { OnErr result (self.new.texts ≡ self.old.texts) }
+        ensures same_account { OnErr result (self.new.account ≡ self.old.account) }
+        ensures same_copied { OnErr result (self.new.copied ≡ self.old.copied) }
+    {
         self.entries.reserve(1)?;
+        if is_vast(text.len()) {
+            self.vast.reserve(1)?;
+            let span = self.arena.store_str(text)?;
+            let long = LongText::copied(self.arena.regions(), span);
+            let index = self.vast.len();
+            self.vast.push_reserved(long);
+            self.entries.push_reserved(Entry::listed(index));
+            return Ok(());
+        }
         let span = self.arena.store_str(text)?;
-        let entry = Entry::copied(self.arena.regions(), span, text);
-        self.entries.push_reserved(entry);
+        let long = LongText::copied(self.arena.regions(), span);
+        self.entries.push_reserved(Entry::outside(long));
         Ok(())
     }
 }
@@ -183,14 +216,16 @@ impl<A: Allocator> TextList<A> {
         requires { Fits K.key_at (length self.now.texts) }
         ensures { result ≡ enumerate_from 0 self.now.texts }
     {
-        Iter::new(self.entries.as_slice(), self.arena.regions())
+        let regions = self.arena.regions();
+        Iter::new(self.entries.as_slice(), regions, self.vast.as_slice())
     }
 
     /// A walk over the texts.
     pub(crate) fn strings<K: Key>(&self) -> Strings<'_, K>
         ensures { result ≡ self.now.texts }
     {
-        Strings::new(self.entries.as_slice(), self.arena.regions())
+        let regions = self.arena.regions();
+        Strings::new(self.entries.as_slice(), regions, self.vast.as_slice())
     }
 
     /// Whether another list has the same texts in the same order.
@@ -234,11 +269,20 @@ impl<A: Allocator> TextList<A> {
         ensures refused { IfErr result (λ error. error ≡ FailedAllocation) }
         ensures same_texts { OnErr result (self.new.texts ≡ self.old.texts) }
     {
-        if !Entry::admits(text.len()) {
-            return Err(LassoError::new(LassoErrorKind::FailedAllocation));
-        }
         self.entries.reserve(1)?;
-        self.entries.push_reserved(Entry::lasting(text));
+        if let Some(short) = ShortText::of(text) {
+            self.entries.push_reserved(Entry::inside(short));
+            return Ok(());
+        }
+        let long = LongText::lasting(text);
+        if is_vast(text.len()) {
+            self.vast.reserve(1)?;
+            let index = self.vast.len();
+            self.vast.push_reserved(long);
+            self.entries.push_reserved(Entry::listed(index));
+            return Ok(());
+        }
+        self.entries.push_reserved(Entry::outside(long));
         Ok(())
     }
 
@@ -264,6 +308,7 @@ impl<A: Allocator> TextList<A> {
     {
         self.is_cleared = true;
         self.entries.clear();
+        self.vast.clear();
         self.arena.clear();
     }
 }

@@ -1,6 +1,6 @@
 //! The places of a block of bytes: how they are had of an allocator, read, written and given back.
 //! Beside this file `region.rt` passes a pointer on, and `entries.rt` and `entries/loan.rt` keep one and read by it.
-ghost use Rattle.std.specs.Prelude.{◌≡◌, ℕ, ◌+◌, ◌^◌, ◌<◌, ◌≤◌, ◌++◌, length, take, drop, slice_range, IfOk};
+ghost use Rattle.std.specs.Prelude.{◌≡◌, ℕ, ◌+◌, ◌*◌, ◌^◌, ◌<◌, ◌≤◌, ◌++◌, length, take, drop, slice_range, IfOk};
 ghost use base.Fml.{ftrue};
 ghost use denote.RawPtr.{Ptr, ◌+ₚ◌};
 ghost use Rattle.core.specs.Mem.Slots.{slots_items, slots_ptr, slots_len, SamePlaces};
@@ -125,7 +125,29 @@ impl Cells {
         ensures before { SameBefore self.old self.new start }
         ensures places { SamePlaces self.old self.new }
     {
-        self.slots.copy_in(start, bytes);
+        match bytes.len() {
+            8..=16 => self.write_ends::<8>(start, bytes),
+            4..=7 => self.write_ends::<4>(start, bytes),
+            2..=3 => self.write_ends::<2>(start, bytes),
+            _ => self.slots.copy_in(start, bytes),
+        }
+    }
+
+    // Copies the bytes to the places from `start` on. Their first N and their last N are all of them, and each is
+    // one move.
+    #[inline(always)]
+    fn write_ends<const N: usize>(&mut self, start: usize, bytes: &[u8])
+        requires room { start + length bytes.now ≤ slots_len self.old }
+        requires ends { N ≤ length bytes.now }
+        requires all { length bytes.now ≤ 2 * N }
+        ensures items { slots_items self.new ≡ take start (slots_items self.old) ++ bytes.now ++ drop (start + length bytes.now) (slots_items self.old) }
+        ensures written { AreFilled self.new start (start + length bytes.now) }
+        ensures before { SameBefore self.old self.new start }
+        ensures places { SamePlaces self.old self.new }
+    {
+        let last = bytes.len() - N;
+        self.slots.copy_in(start, &bytes[..N]);
+        self.slots.copy_in(start + last, &bytes[last..]);
     }
 
     /// Where the place at `start` lies, or where the places end.

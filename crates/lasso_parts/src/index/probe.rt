@@ -8,6 +8,7 @@ ghost use Rattle.lasso_parts.specs.Scan.{Tells};
 use crate::index::groups::passed_over;
 use crate::index::key_slots::KeySlots;
 use crate::index::lists::Texts;
+use crate::index::same::is_same;
 use crate::keys::Key;
 use std::alloc::Allocator;
 
@@ -49,10 +50,11 @@ pub fn tag_of(hash: u64) -> u8
 }
 
 // Looks for the text in the slots from the first index up to the last, which is not among them. A slot with
-// another tag than the text's is passed over: neither its key nor that key's text is read. The first slot is asked by itself
-// whether it has the text, where a text that is there mostly is found; whether it is empty is asked by groups of sixteen only, as of all others, so
-// that for a text which is missing no branch depends on how full the table is. It goes into its
-// caller, as `locate` does: a search mostly ends after a few slots, and a call would cost about as much.
+// another tag than the text's is passed over: neither its key nor that key's text is read. The first slot is
+// asked only whether it has the text, since a text that is there mostly stands in it. Whether a slot is empty is
+// asked of groups of sixteen, the first slot included, so that no branch of a search for an absent text depends on
+// how full the table is. It goes into its caller, as `locate` does: a search mostly ends after a few slots, and a
+// call would cost about as much.
 #[inline(always)]
 pub fn scan_slots<K: Key, A: Allocator, T: Texts>(
     slots: &KeySlots<K, A>,
@@ -81,7 +83,7 @@ pub fn scan_slots<K: Key, A: Allocator, T: Texts>(
         if found == 0 {
             return Scan::Ended(j);
         }
-        if let Some(position) = found_at(slots, texts, text, tag, j) {
+        if let Some(position) = found_further(slots, texts, text, tag, j) {
             return Scan::Found(position);
         }
         j = passed_over(tags, j + 1, to, tag);
@@ -89,7 +91,7 @@ pub fn scan_slots<K: Key, A: Allocator, T: Texts>(
     Scan::Passed
 }
 
-// The position that the slot shows, where its tag is the one given and its text the one looked for.
+// The position of the slot's key, where the slot has the tag and its key the text that is looked for.
 #[inline(always)]
 fn found_at<K: Key, A: Allocator, T: Texts>(
     slots: &KeySlots<K, A>,
@@ -115,12 +117,24 @@ fn found_at<K: Key, A: Allocator, T: Texts>(
     None
 }
 
-// Whether both texts are the same.
-#[inline(always)]
-fn is_same(one: &str, other: &str) -> bool
-    ensures { result ≡ bytes_eq one.now other.now }
+// The same of a later slot, out of line: few searches come so far, and the comparison goes into each place that
+// calls `found_at`.
+#[inline(never)]
+fn found_further<K: Key, A: Allocator, T: Texts>(
+    slots: &KeySlots<K, A>,
+    texts: &T,
+    text: &str,
+    tag: u8,
+    j: usize,
+) -> Option<usize>
+    requires in_list { AllInList (T.list texts.now) slots.now.slots }
+    requires tagged { HaveTag (T.list texts.now) text.now tag slots.now }
+    requires filled { 0 < tag }
+    requires inside { j < length slots.now.slots }
+    ensures found { IfSome result (λ n. Holds slots.now.slots n × (slice_get (T.list texts.now) n ≡ Some text.now)) }
+    ensures missing { IfNone result ((n : ℕ) → slot slots.now.slots j ≡ Some n → slice_get (T.list texts.now) n ≢ Some text.now) }
 {
-    one == other
+    found_at(slots, texts, text, tag, j)
 }
 
 // The first empty slot from the first index up to the last, which is not among them.

@@ -6,7 +6,7 @@ use Rattle.lasso_single.proofs.text_list.TextList.clear.Goals as goal
 
 pub returns-clause-usage : goal.returns-clause-usage
 returns-clause-usage g c =
-    let left = ap usage_of c.clear-2.ensures.kept in
+    let left = ap usage_of c.clear-3.ensures.kept in
     let less = usage_kept c.self.inside.arena.all in
     let was = ap (λ (i : InternerView). i.account.usage) c.self.view_is in
     omega (arith, left, less, was)

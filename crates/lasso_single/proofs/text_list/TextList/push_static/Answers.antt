@@ -1,11 +1,21 @@
-use Rattle.std.proofs.Common.{◌∙◌, List, [], ◌∷◌, ◌++◌, ap}
-use Rattle.std.proofs.lemmas.List.Elements.{All-same, All-push}
-use Rattle.lasso_parts.specs.Bucket.{Extent}
-use Rattle.lasso_parts.specs.Entries.{EntryView, IsThere}
+-- A text of the program that is too long for an entry goes to the end of the list of such texts, and its entry to the
+-- end of the entries. The regions stay as they are.
+use Rattle.std.proofs.Common.{◌∙◌, List, [], ◌∷◌, ◌++◌, length, ap}
+use Rattle.lasso_parts.specs.Entries.{EntryView, LentText}
+use Rattle.lasso_parts.proofs.Regions.{kept_same}
+use Rattle.lasso_parts.proofs.EntryTexts.{texts_pushed, places_push, listed_text}
+use Rattle.lasso_single.specs.Interner.{InternerView}
 use Rattle.lasso_single.proofs.text_list.TextList.push_static.Goals as goal
 
-pub invariant_of-self-2 : goal.invariant_of-self-2
-invariant_of-self-2 g c =
-    let regions : List Extent = c.self.inside.arena.all in
-    let grown = c.push_reserved.ensures.items ∙ ap (λ (xs : List EntryView). xs ++ c.lasting.result ∷ []) c.in_ok-reserve.ensures.items in
-    (All-same (IsThere regions) _ _ grown (All-push (IsThere regions) c.self.inside.entries.items c.lasting.result c.self.invariant.0 (c.lasting.ensures.there regions)), c.self.invariant.1)
+pub returns-then-is_vast-clause-texts : goal.returns-then-is_vast-clause-texts
+returns-then-is_vast-clause-texts g c =
+    let i = c.self.inside in
+    let regions = i.arena.all in
+    let long = c.lasting-long.result in
+    let vast = c.push_reserved-then-is_vast.new.self.items in
+    let more = c.push_reserved-then-is_vast.ensures.items ∙ ap (λ (ts : List LentText). ts ++ long ∷ []) c.in_ok-reserve-2.ensures.items in
+    let grown = c.push_reserved-then-is_vast-2.ensures.items ∙ ap (λ (xs : List EntryView). xs ++ c.listed.result ∷ []) c.in_ok-reserve.ensures.items in
+    let last = c.len-index.ensures ∙ c.reserve-then-is_vast.new.self.ok.0 ∙ ap length c.in_ok-reserve-2.ensures.items in
+    let text = listed_text i.vast.items vast long c.listed.result c.len-index.result more last c.listed.ensures regions ∙ c.lasting-long.ensures.bytes regions in
+    texts_pushed regions regions i.vast.items vast i.entries.items c.push_reserved-then-is_vast-2.new.self.items c.listed.result c.self.invariant.0 (kept_same regions) (places_push i.vast.items vast long more) grown c.args.text.now text
+    ∙ ap (λ (h : InternerView). h.texts ++ c.args.text.now ∷ []) c.self.view_is

@@ -19,10 +19,10 @@ use Rattle.lasso_parts.proofs.entries.loan.Loan.TheLaw.Statement.{statement}
 
 -- what a loan holds, at any lifetime
 abbrev Lent : Loan → Lft → Fml
-Lent d = lent d.entry.source d.entry.at
+Lent d = lent d.text.source d.text.at
 
 laws : (d : Loan) → ShrLaws (Lent d)
-laws d = lent_laws d.entry.source d.entry.at
+laws d = lent_laws d.text.source d.text.at
 
 pub shares : statement
 shares =

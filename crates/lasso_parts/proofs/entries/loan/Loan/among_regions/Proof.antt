@@ -35,7 +35,7 @@ among_regions_spec 𝓤 𝓛 𝓜 𝓡 wired =
     (λ κs. ((λ p. ptr_val p ∷ []), (uint_vals w64, (uint_vals w64, (uint_vals w64, tt))))) (λ κs. ((λ p vs told. told), (uint_Tells w64, (uint_Tells w64, (uint_Tells w64, tt))))) (λ κs qs bounds a _ are.
     let at : Ptr = a.0 in let region : ℕ = a.1.0 in let start : ℕ = a.1.1.0 in let len : ℕ = a.1.1.1.0 in
     let y : W.Ghost = ((κs, qs, bounds, a, (ptr_val at ∷ [], (uint_vals w64 region, (uint_vals w64 start, (uint_vals w64 len, tt))))), tt) in
-    let loan : Kept.Denot = record { entry = record { at = at; source = Copied (record { region = region; start = start; len = len }) } } in
+    let loan : Kept.Denot = record { text = record { at = at; source = Copied (record { region = region; start = start; len = len }) } } in
     qed 𝓛 ((‵ ftrue ⊛ ‵ (owns (types_at f.ended.signature.params κs) a y.0.4)) ∷ ‵ ftrue ∷ []) ∵
     only ! [] $
     enter ! _ _ _ _ _ $ alloc_all ! (λ l. pass_all ! refl (Ptr-Good at, ((tt, record { fits = are.1.0.1 }), ((tt, record { fits = are.1.1.0.1 }), ((tt, record { fits = are.1.1.1.0.1 }), tt)))) $

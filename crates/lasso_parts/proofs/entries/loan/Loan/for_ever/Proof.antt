@@ -45,7 +45,7 @@ for_ever_spec 𝓤 𝓛 𝓜 𝓡 wired =
     f.Key.name code.function (code.unfolded 𝓤 𝓛.H 𝓜 𝓡 wired) (λ κs. (shr_slice_vals, tt)) (λ κs. ((λ x vs told. told.0.0), tt)) (λ κs qs bounds a _ are.
     let bytes : List ℕ = a.0.now in let b : ℕ = a.0.ref_ptr.0 in let o : ℕ = a.0.ref_ptr.1 in
     let y : W.Ghost = ((κs, qs, bounds, a, (shr_slice_vals a.0, tt)), tt) in
-    let loan : Kept.Denot = record { entry = record { at = block_ptr b o; source = Static bytes } } in
+    let loan : Kept.Denot = record { text = record { at = block_ptr b o; source = Static bytes } } in
     qed 𝓛 ((‵ ftrue ⊛ ‵ (owns (types_at f.ended.signature.params κs) a y.0.4)) ∷ raw (fact 𝓤 (IsUtf8 bytes)) ∷ []) ∵
     move ! (1 ∷ []) $ heard ! (IsUtf8 bytes) (λ is_text.
     only ! (0 ∷ []) $ split ! $ move ! (1 ∷ []) $ fsplit ! $ fsplit ! $ let_go ! $ unhide ! $

@@ -26,7 +26,7 @@ use denote.Steps.{heard, nothing}
 use denote.Triple.Walked.{Stays, stay_dropped, Goes-dropped, walk_of, says, ends_at}
 use Rattle.std.proofs.raw_atomic.Walks.{proved}
 use Rattle.lasso_parts.specs.Bucket.{Extent}
-use Rattle.lasso_parts.specs.Entries.{EntryView, IsThere, AreWordsOf, entry_text}
+use Rattle.lasso_parts.specs.Entries.{LentText, IsLent, AreWordsOf, lent_bytes}
 use Rattle.lasso_parts.specs.contracts.bucket.region.Region.{the_row as Part}
 use Rattle.lasso_parts.specs.contracts.entries.loan.Loan.{the_row as Kept}
 use Rattle.lasso_parts.specs.contracts.entries.loan.Loan.read as f
@@ -53,11 +53,11 @@ read_spec 𝓤 𝓛 𝓜 𝓡 wired =
     f.Key.name code.function (code.unfolded 𝓤 H 𝓜 𝓡 wired)
     (λ κs. (shr_vals, (shr_slice_vals, ((λ p. ptr_val p ∷ []), (uint_vals w64, tt)))))
     (λ κs. (shr_Tells (named 0) κs.0 Kept, ((λ x vs told. told.0.0), ((λ p vs told. told), (uint_Tells w64, tt))))) (λ κs qs bounds a _ are.
-    let κ : Lft = κs.0 in let q : Share = qs.0 in let e : EntryView = a.0.now.entry in let regions : List Extent = a.1.0.now in let ptr : Ptr = a.1.1.0 in let len : ℕ = a.1.1.1.0 in
+    let κ : Lft = κs.0 in let q : Share = qs.0 in let e : LentText = a.0.now.text in let regions : List Extent = a.1.0.now in let ptr : Ptr = a.1.1.0 in let len : ℕ = a.1.1.1.0 in
     let rb : ℕ = a.1.0.ref_ptr.0 in let ro : ℕ = a.1.0.ref_ptr.1 in
-    let bytes : List ℕ = entry_text regions e in let b : ℕ = block_of e.at in let o : ℕ = count_of e.at in let fits = are.1.1.1.0.1 in
+    let bytes : List ℕ = lent_bytes regions e in let b : ℕ = block_of e.at in let o : ℕ = count_of e.at in let fits = are.1.1.1.0.1 in
     let y : W.Ghost = ((κs, qs, bounds, a, (shr_vals a.0, (shr_slice_vals a.1.0, (ptr_val ptr ∷ [], (uint_vals w64 len, tt))))), tt) in
-    let Asked : Type 0 = IsThere regions e × AreWordsOf e ptr len in
+    let Asked : Type 0 = IsLent regions e × AreWordsOf e ptr len in
     qed 𝓛 (((‵ (flft κ q) ⊛ ‵ ftrue) ⊛ ‵ (owns (types_at f.ended.signature.params κs) a y.0.4)) ∷ raw (fact 𝓤 Asked) ∷ []) ∵
     move ! (1 ∷ []) $ heard ! Asked (λ asked. split ! $ split ! $ move ! (2 ∷ []) $ fsplit ! $ fsplit ! $ let_go ! $ unhide ! $ fsplit ! $ let_go ! $ move ! (1 ∷ []) $ fsplit ! $ fsplit ! $ let_go ! $ unhide ! $
     keep ! (2 ∷ 0 ∷ 3 ∷ []) $ fjoin ! $

@@ -1,0 +1,10 @@
+use Rattle.std.proofs.Common.{◌∙◌, ◌-◌, length, arith}
+use Rattle.std.proofs.lemmas.List.{take_rest}
+use Rattle.lasso_parts.proofs.Ends.{written_first}
+use Rattle.lasso_parts.proofs.entries.short.by_ends.Goals as goal
+
+pub returns : goal.returns
+returns g c =
+    let t = c.args.text.now in
+    let last = length t - g.row.N in
+    written_first t _ _ _ g.row.N last _ (omega (arith, c.requires.ends)) (omega (arith, c.requires.all)) c.copy_from_slice.ensures.after (c.copy_from_slice-2.ensures.after ∙ take_rest t last)
