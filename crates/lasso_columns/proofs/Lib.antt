@@ -5,3 +5,4 @@ pub mod Encoded
 pub mod EncodedLines
 pub mod Shared
 pub mod PartLists
+pub mod Rewritten

@@ -2,9 +2,9 @@
 --
 -- A text that an interner has changes nothing. So interning the distinct texts of a list, in the order in which they first stand there,
 -- leaves what interning the list leaves; and where that stops at a text, interning the list stops where this text first stands.
-use Rattle.std.proofs.Common.{ℕ, zero, suc, ◌≡◌, ◌+◌, ◌-◌, ◌<◌, ◌≤◌, List, [], ◌∷◌, ◌++◌, map, take, length, Bool, true, false, cond, is_some, Option, Some, None, Bor, Result, Ok, Err, MatchResult, IfSome, IfErr, OnOk, IsSomeAnd, refl, sym, ap, subst, ◌∙◌, arith, append_assoc, get_or, drop, min, length-append}
+use Rattle.std.proofs.Common.{ℕ, zero, suc, ◌≡◌, ◌+◌, ◌-◌, ◌<◌, ◌≤◌, List, [], ◌∷◌, ◌++◌, map, take, length, Bool, true, false, cond, is_some, is_err, Option, Some, None, Bor, Result, Ok, Err, MatchResult, IfSome, IfErr, OnOk, IsSomeAnd, refl, sym, ap, subst, ◌∙◌, arith, append_assoc, get_or, drop, min, length-append}
 use Rattle.std.specs.Prelude.{slice_get, All}
-use Rattle.std.proofs.lemmas.List.{append-nil, take-map, drop-map, take_all, length-take, length_push, take-append-drop}
+use Rattle.std.proofs.lemmas.List.{append-nil, take-map, drop-map, take_all, length-map, length-take, length_push, take-append-drop}
 use Rattle.std.proofs.Math.Seq.{take-add}
 use Rattle.std.proofs.lemmas.List.Elements.{All-push}
 use Rattle.std.proofs.lemmas.Option.{slice_get_within, get_or_from_slice_get}
@@ -193,7 +193,7 @@ rewritten_are into from more (t ∷ texts) (c ∷ codes) merged (r ∷ rewritten
     let others : map (position_of into) (take (length rewritten) texts) ≡ map Some rewritten = rewritten_are into from more texts codes merged rewritten (cc) merges (cc) in
     cc
 
--- ---- a part whose list was put behind another
+-- ---- a part whose list was interned
 
 module _ (texts list : List Text) (part merged before after : List ℕ) (old new : InternerView) (encoded : IsEncoded texts list part) (list_put : extend spur_at old (take (length merged) list) accepted new) (merges : AreCodes new.texts (take (length merged) list) merged) (put : AddsRewritten merged part before after) where
   stops : Stops (length merged) part (length put.0)
@@ -235,29 +235,27 @@ module _ (texts list : List Text) (part merged before after : List ℕ) (old new
 -- ---- a part
 
 -- what encoding the texts with an interner that had none leaves
-pub part_is : (made new : InternerView) (texts : List Text) (before after : List ℕ) → made.texts ≡ [] → before ≡ [] → length after ≡ length before + length texts → extend spur_at made (encoded_texts before after texts) accepted new → AddsCodes new.texts (encoded_texts before after texts) before after → IsEncoded texts new.texts after
-part_is made new texts before after none empty long list codes =
-    let all : encoded_texts before after texts ≡ texts = take_all (length after - length before) texts (omega (arith, long)) in
-    let left : new.texts ≡ new_texts [] texts =
-    list_extended made new texts (subst (λ (ts : List Text). extend spur_at made ts accepted new) all list) ∙ ap (λ (ts : List Text). ts ++ new_texts ts texts) none in
-    let are : after ≡ codes.0 = codes.1 ∙ ap (λ (cs : List ℕ). cs ++ codes.0) empty in
-    (left, subst (λ (cs : List ℕ). AreCodes new.texts texts cs) (sym are) (subst (λ (ts : List Text). AreCodes new.texts ts codes.0) all codes.2))
+pub part_is : (made new : InternerView) (texts : List Text) (before after : List ℕ) → made.texts ≡ [] → before ≡ [] → Encoded made texts before new after → IsEncoded texts new.texts after
+part_is made new texts before after none empty whole =
+    let left : new.texts ≡ new_texts [] texts = list_extended made new texts whole.list ∙ ap (λ (ts : List Text). ts ++ new_texts ts texts) none in
+    let are : after ≡ whole.codes.0 = whole.codes.1 ∙ ap (λ (cs : List ℕ). cs ++ whole.codes.0) empty in
+    (left, subst (λ (cs : List ℕ). AreCodes new.texts texts cs) (sym are) whole.codes.2)
 
--- ---- a list that is put behind another
+-- ---- a list whose texts are interned in another
 
 take_taken : {X : Type 0} (n : ℕ) (xs : List X) → take (length (take n xs)) xs ≡ take n xs
 take_taken zero xs = refl
 take_taken (suc n) [] = refl
 take_taken (suc n) (x ∷ xs) = ap (λ ys. x ∷ ys) (take_taken n xs)
 
--- so many texts were put behind, and these are their codes
-pub record Behind (old new : InternerView) (from : List Text) (n : ℕ) (added : List ℕ) : Type 0 where
+-- the first n texts were interned, and these are their codes
+pub record ListEncoded (old new : InternerView) (from : List Text) (n : ℕ) (added : List ℕ) : Type 0 where
   pub long : length added ≡ min n (length from)
   pub list : extend spur_at old (take (length added) from) accepted new
   pub codes : AreCodes new.texts (take (length added) from) added
 
-pub is_behind : (old new : InternerView) (from : List Text) (n : ℕ) (before after : List ℕ) → before ≡ [] → Encoded old (take n from) before new after → Behind old new from n after
-is_behind old new from n before after none so_far =
+pub list_encoded : (old new : InternerView) (from : List Text) (n : ℕ) (before after : List ℕ) → before ≡ [] → Encoded old (take n from) before new after → ListEncoded old new from n after
+list_encoded old new from n before after none so_far =
     let long : length after ≡ length (take n from) = omega (arith, encoded_length old new (take n from) before after so_far, ap length none) in
     let same : take n from ≡ take (length after) from = sym (take_taken n from) ∙ ap (λ k. take k from) (sym long) in
     let are : after ≡ so_far.codes.0 = so_far.codes.1 ∙ ap (λ (cs : List ℕ). cs ++ so_far.codes.0) none in
@@ -267,39 +265,20 @@ is_behind old new from n before after none so_far =
       codes = subst (λ (ts : List Text). AreCodes new.texts ts after) same (subst (λ (cs : List ℕ). AreCodes new.texts (take n from) cs) (sym are) so_far.codes.2);
     }
 
-pub behind_next : (old new : InternerView) (from : List Text) (n : ℕ) (codes : List ℕ) → Behind old new from n codes → (text : Text) → slice_get from n ≡ Some text → (P : Text → Type 0) → P text → IsSomeAnd (slice_get from (length codes)) P
-behind_next old new from n codes b text at P holds =
+pub list_next : (old new : InternerView) (from : List Text) (n : ℕ) (codes : List ℕ) → ListEncoded old new from n codes → (text : Text) → slice_get from n ≡ Some text → (P : Text → Type 0) → P text → IsSomeAnd (slice_get from (length codes)) P
+list_next old new from n codes b text at P holds =
     let here : length codes ≡ n = omega (arith, b.long, slice_get_within from n text at) in
     subst (λ o. IsSomeAnd o P) (sym (ap (λ k. slice_get from k) here ∙ at)) holds
-
--- ---- codes that are rewritten
-
-take_one_more : {X : Type 0} (xs : List X) (i : ℕ) (x : X) → slice_get xs i ≡ Some x → take (i + 1) xs ≡ take i xs ++ x ∷ []
-take_one_more [] i x e = absurd (cc)
-take_one_more (y ∷ xs) zero x e = let same : y ≡ x = cc in ap (λ z. z ∷ []) same
-take_one_more (y ∷ xs) (suc i) x e =
-    let more : suc i + 1 ≡ suc (i + 1) = omega arith in ap (λ n. take n (y ∷ xs)) more ∙ ap (λ ys. y ∷ ys) (take_one_more xs i x e)
-
-abbrev pub Rewritten : List ℕ → List ℕ → List ℕ → List ℕ → ℕ → Type 0
-Rewritten merged codes before after i = (rewritten : List ℕ) × (after ≡ before ++ rewritten) × (length rewritten ≡ i) × (map (slice_get merged) (take i codes) ≡ map Some rewritten)
-
-pub rewritten_push : (merged codes before mid after : List ℕ) (i code put : ℕ) → Rewritten merged codes before mid i → slice_get codes i ≡ Some code → slice_get merged code ≡ Some put → after ≡ mid ++ put ∷ [] → Rewritten merged codes before after (i + 1)
-rewritten_push merged codes before mid after i code put so_far at there is = (
-  so_far.0 ++ put ∷ [],
-  is ∙ ap (λ cs. cs ++ put ∷ []) so_far.1 ∙ append_assoc before so_far.0 (put ∷ []),
-  length_push so_far.0 put ∙ ap (λ n. n + 1) so_far.2,
-  ap (map (slice_get merged)) (take_one_more codes i code at) ∙ map_some_push (slice_get merged) (take i codes) so_far.0 code put so_far.3 there,
-)
-
-pub rewritten_end : (merged codes before after : List ℕ) (i : ℕ) → Rewritten merged codes before after i → IfSome (slice_get codes i) (λ code. slice_get merged code ≡ None) → AddsRewritten merged codes before after
-rewritten_end merged codes before after i so_far next =
-    (so_far.0, so_far.1, subst (λ n. map (slice_get merged) (take n codes) ≡ map Some so_far.0) (sym so_far.2) so_far.3, subst (λ n. IfSome (slice_get codes n) (λ code. slice_get merged code ≡ None)) (sym so_far.2) next)
 
 -- ---- parts one after another
 
 pub on_ok_then : {T E : Type 0} (P Q : Type 0) (r : Result T E) → OnOk r P → (P → Q) → OnOk r Q
 on_ok_then P Q (Ok x) holds then = then holds
 on_ok_then P Q (Err e) holds then = tt
+
+pub on_not_err : {T E : Type 0} (P : Type 0) (r : Result T E) → OnOk r P → is_err r ≡ false → P
+on_not_err P (Ok x) holds fine = holds
+on_not_err P (Err e) holds fine = absurd (cc)
 
 pub if_err_then : {T E : Type 0} (P Q : E → Type 0) (r : Result T E) → IfErr r P → ((e : E) → P e → Q e) → IfErr r Q
 if_err_then P Q (Ok x) holds then = tt
@@ -324,6 +303,25 @@ encoded_join old mid new front back before middle after so_far list codes = reco
         map_some_both (position_of new.texts) front back so_far.codes.0 codes.0 stay codes.2,
       );
 }
+
+-- a part whose first texts were encoded, and then the others
+pub part_of_two : (made mid new : InternerView) (texts front back : List (Bor Text)) (n : ℕ) (before middle after : List ℕ) → front ≡ take n texts → back ≡ drop n texts → made.texts ≡ [] → before ≡ [] → length middle ≡ length before + length front → length after ≡ length middle + length back → extend spur_at made (encoded_texts before middle (map (λ (t : Bor Text). t.now) front)) accepted mid → AddsCodes mid.texts (encoded_texts before middle (map (λ (t : Bor Text). t.now) front)) before middle → extend spur_at mid (encoded_texts middle after (map (λ (t : Bor Text). t.now) back)) accepted new → AddsCodes new.texts (encoded_texts middle after (map (λ (t : Bor Text). t.now) back)) middle after → IsEncoded (map (λ (t : Bor Text). t.now) texts) new.texts after
+part_of_two made mid new texts front back n before middle after front_is back_is none empty long longer list codes list' codes' =
+    let now = λ (t : Bor Text). t.now in
+    let all : encoded_texts before middle (map now front) ≡ map now front = take_all (length middle - length before) (map now front) (omega (arith, long, length-map front now)) in
+    let all' : encoded_texts middle after (map now back) ≡ map now back = take_all (length after - length middle) (map now back) (omega (arith, longer, length-map back now)) in
+    let first : Encoded made (map now front) before mid middle =
+    record {
+      list = subst (λ (ts : List Text). extend spur_at made ts accepted mid) all list;
+      codes = subst (λ (ts : List Text). AddsCodes mid.texts ts before middle) all codes;
+    } in
+    let both : Encoded made (map now front ++ map now back) before new after =
+    encoded_join made mid new (map now front) (map now back) before middle after first (subst (λ (ts : List Text). extend spur_at mid ts accepted new) all' list') (subst (λ (ts : List Text). AddsCodes new.texts ts middle after) all' codes') in
+    let joined : map now front ++ map now back ≡ map now texts =
+    ap (λ ts. map now ts ++ map now back) front_is ∙ ap (λ ts. map now (take n texts) ++ map now ts) back_is
+    ∙ ap (λ (ts : List Text). ts ++ map now (drop n texts)) (sym (take-map now n texts)) ∙ ap (λ (ts : List Text). take n (map now texts) ++ ts) (sym (drop-map now n texts))
+    ∙ take-append-drop n (map now texts) in
+    part_is made new (map now texts) before after none empty (subst (λ (ts : List Text). Encoded made ts before new after) joined both)
 
 drop_at : {X : Type 0} (xs : List X) (k : ℕ) (x : X) → slice_get xs k ≡ Some x → drop k xs ≡ x ∷ drop (suc k) xs
 drop_at [] k x e = absurd (cc)

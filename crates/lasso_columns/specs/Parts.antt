@@ -3,7 +3,7 @@ use Rattle.std.specs.Prelude.{◌≡◌, ℕ, List, [], ◌∷◌, ◌++◌, con
 use Rattle.lasso_parts.specs.Texts.{Text, position_of}
 use Rattle.lasso_columns.specs.Codes.{AreCodes}
 
--- those of the texts that the list has not, each once, in the order in which they first stand there
+-- the texts that the list lacks, each once, in the order of their first places
 abbrev pub new_texts : List Text → List Text → List Text
 new_texts list [] = []
 new_texts list (text ∷ texts) = cond (is_some (position_of list text)) (new_texts list texts) (text ∷ new_texts (list ++ text ∷ []) texts)
@@ -12,8 +12,8 @@ new_texts list (text ∷ texts) = cond (is_some (position_of list text)) (new_te
 abbrev pub IsEncoded : List Text → List Text → List ℕ → Type 0
 IsEncoded texts list codes = (list ≡ new_texts [] texts) × AreCodes list texts codes
 
--- the codes were rewritten up to the first for which there is no other, and put behind those that were there
+-- the codes were rewritten by the table, up to the first that it lacks, and appended
 abbrev pub AddsRewritten : List ℕ → List ℕ → List ℕ → List ℕ → Type 0
-AddsRewritten merged codes before after =
-    (rewritten : List ℕ) × (after ≡ before ++ rewritten) × (map (slice_get merged) (take (length rewritten) codes) ≡ map Some rewritten)
-    × IfSome (slice_get codes (length rewritten)) (λ code. slice_get merged code ≡ None)
+AddsRewritten table codes before after =
+    (rewritten : List ℕ) × (after ≡ before ++ rewritten) × (map (slice_get table) (take (length rewritten) codes) ≡ map Some rewritten)
+    × IfSome (slice_get codes (length rewritten)) (λ code. slice_get table code ≡ None)

@@ -34,12 +34,12 @@ pub fn merge<S: BuildHasher, A: Allocator + Clone, T: BuildHasher, B: Allocator>
     ensures refused { IfErr result (λ error. (n : ℕ) × extend spur_at into.old (take n from.now) (Ok tt) into.new × IsSomeAnd (slice_get from.now n) (λ text. IsRefused into.new text error)) }
 {
     let mut codes = Vec::new(alloc);
-    put_behind(into, from, &mut codes)?;
+    encode_list(into, from, &mut codes)?;
     Ok(codes)
 }
 
-// Interns the texts of the list in order, and puts the codes that they then have behind those that are there: `encode`, of texts that a reader lends.
-pub(crate) fn put_behind<S: BuildHasher, A: Allocator + Clone, T: BuildHasher, B: Allocator>(
+// Interns the texts of the reader in order, and puts the codes that they then have into `codes`, which is empty before.
+pub(crate) fn encode_list<S: BuildHasher, A: Allocator + Clone, T: BuildHasher, B: Allocator>(
     into: &mut Rodeo<Spur, S, A>,
     from: &RodeoReader<Spur, T, B>,
     codes: &mut Vec<u32>,

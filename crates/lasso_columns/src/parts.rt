@@ -1,20 +1,34 @@
 //! Texts to codes in parts, each by a thread with an interner of its own.
-ghost use Rattle.std.specs.Prelude.{◌≡◌, ◌+◌, ◌≤◌, Ok, OnOk, IfOk, IfErr, length, map, vec_len, vec_capacity};
+ghost use Rattle.std.specs.Prelude.{◌≡◌, ℕ, ◌+◌, ◌<◌, ◌≤◌, Ok, OnOk, IfErr, IfSome, All, length, map, slice_get, slice_index, vec_len, vec_capacity};
+ghost use Rattle.std.specs.List.{AllWithin};
 ghost use Rattle.lasso_single.specs.Filling.{extend};
 ghost use Rattle.lasso_columns.specs.Codes.{AddsCodes};
 ghost use Rattle.lasso_columns.specs.Encoding.{spur_at, encoded_texts, IsNextRefused};
 ghost use Rattle.lasso_columns.specs.Parts.{IsEncoded, AddsRewritten};
 
 use crate::encoding::encode;
-use crate::merging::put_behind;
+use crate::merging::encode_list;
 use lasso::{LassoResult, Rodeo, Spur, SpurRodeoReader};
 use std::alloc::{Allocator, Global};
 use std::hash::BuildHasher;
-use std::thread::{Threads, map_chunks};
+use std::thread::{Threads, for_each_mut, map_chunks};
 
-/// Does what `encode` does, by at most so many threads: each encodes a part of the texts by an interner of its own, and then the
-/// distinct texts of the parts are interned in their order. So the codes and the list are those of `encode`. 0 workers count as
-/// one; where a thread can't be started, or has not the memory, the caller does its work.
+// The most texts that a part encodes before it may give up.
+const LONGEST_SAMPLE: usize = 65_536;
+
+// How many codes are worth a thread: to rewrite these takes about as long as to start one.
+const CODES_A_THREAD: usize = 65_536;
+
+/// Does what `encode` does, with up to `workers` threads, and returns what `encode` returns: the same codes and the same list,
+/// whatever the number of threads. Each thread encodes a part of the texts with an interner of its own. Then the caller interns
+/// the distinct texts of each part, in the order of the parts, and the codes are rewritten.
+///
+/// It pays where most texts repeat within their part. A part whose first texts are mostly new gives up, and the caller
+/// encodes it as `encode` does; so does a part that runs out of memory. With one worker, or none, it is `encode`. It keeps a
+/// dictionary and a code of 4 bytes a text for each part until it returns. For an interner that other threads use meanwhile
+/// there is `encode_shared`.
+///
+/// The first text that is refused ends it, as in `encode`: the texts before it are interned and have their codes.
 ///
 /// ```rust
 /// let mut rodeo: SpurRodeo = Rodeo::default(rt.alloc())?;
@@ -34,11 +48,14 @@ pub fn encode_in_parts<R: AllocGlobal + Threads + Sync, S: BuildHasher, A: Alloc
     ensures whole { OnOk result (vec_len codes.new ≡ vec_len codes.old + length texts.now) }
     ensures refused { IfErr result (IsNextRefused rodeo.new codes.old.items codes.new.items (map (λ t. t.now) texts.now)) }
 {
+    if workers < 2 {
+        return encode(rodeo, texts, codes);
+    }
     // Where there is no memory for the codes of all texts, each part asks for its own.
     let _ = codes.reserve(texts.len());
-    let size = texts.len().div_ceil(workers.max(1)).max(1);
-    let work = move |_: usize, part: &[&str]| -> LassoResult<Part>
-        ensures { IfOk result (λ encoded. IsEncoded (map (λ t. t.now) part.entry.now) encoded.list encoded.codes.items) }
+    let size = texts.len().div_ceil(workers).max(1);
+    let work = move |_: usize, part: &[&str]| -> Option<Part>
+        ensures { IfSome result (λ encoded. IsEncoded (map (λ t. t.now) part.entry.now) encoded.list encoded.codes.items) }
     { encode_part(rt.alloc(), part) };
     let Ok(parts) = map_chunks(rt, rt.alloc(), texts, size, &work) else {
         return encode(rodeo, texts, codes);
@@ -47,7 +64,7 @@ pub fn encode_in_parts<R: AllocGlobal + Threads + Sync, S: BuildHasher, A: Alloc
     for part in 0..parts.len() {
         let count = size.min(texts.len() - start);
         let here = &texts[start..start + count];
-        put_part(rt.alloc(), rodeo, here, &parts[part], codes)?;
+        put_part(rt, rodeo, here, &parts[part], codes, workers)?;
         start += count;
     }
     Ok(())
@@ -60,56 +77,104 @@ struct Part {
     codes: Vec<u32>,
 }
 
-// Encodes the texts by an interner of their own.
-fn encode_part(alloc: Global, texts: &[&str]) -> LassoResult<Part>
-    ensures { IfOk result (λ encoded. IsEncoded (map (λ t. t.now) texts.now) encoded.list encoded.codes.items) }
+// Encodes the texts with an interner of their own. `None` where memory runs out, or where more than half of the first texts are
+// new: the caller would then intern most texts again.
+fn encode_part(alloc: Global, texts: &[&str]) -> Option<Part>
+    ensures { IfSome result (λ encoded. IsEncoded (map (λ t. t.now) texts.now) encoded.list encoded.codes.items) }
 {
-    let mut rodeo = Rodeo::default(alloc)?;
+    let Ok(mut rodeo) = Rodeo::default(alloc) else {
+        return None;
+    };
     let mut codes = Vec::new(alloc);
-    encode(&mut rodeo, texts, &mut codes)?;
-    Ok(Part {
+    let sample = LONGEST_SAMPLE.min(texts.len() / 8);
+    if encode(&mut rodeo, &texts[..sample], &mut codes).is_err() || rodeo.len() > sample / 2 {
+        return None;
+    }
+    if encode(&mut rodeo, &texts[sample..], &mut codes).is_err() {
+        return None;
+    }
+    Some(Part {
         list: rodeo.into_reader(),
         codes,
     })
 }
 
-// Does what `encode` does with the texts, which were encoded as a part unless that was refused.
-fn put_part<S: BuildHasher, A: Allocator + Clone>(
-    alloc: Global,
+// Does what `encode` does with the texts, which are those of the part where there is one.
+fn put_part<R: AllocGlobal + Threads + Sync, S: BuildHasher, A: Allocator + Clone>(
+    rt: &R,
     rodeo: &mut Rodeo<Spur, S, A>,
     texts: &[&str],
-    part: &LassoResult<Part>,
+    part: &Option<Part>,
     codes: &mut Vec<u32>,
+    workers: usize,
 ) -> LassoResult<()>
-    requires { IfOk part.now (λ encoded. IsEncoded (map (λ t. t.now) texts.now) encoded.list encoded.codes.items) }
+    requires workers { 0 < workers }
+    requires encoded { IfSome part.now (λ encoded. IsEncoded (map (λ t. t.now) texts.now) encoded.list encoded.codes.items) }
     ensures list { extend spur_at rodeo.old (encoded_texts codes.old.items codes.new.items (map (λ t. t.now) texts.now)) (Ok tt) rodeo.new }
     ensures codes { AddsCodes rodeo.new.texts (encoded_texts codes.old.items codes.new.items (map (λ t. t.now) texts.now)) codes.old.items codes.new.items }
     ensures whole { OnOk result (vec_len codes.new ≡ vec_len codes.old + length texts.now) }
     ensures refused { IfErr result (IsNextRefused rodeo.new codes.old.items codes.new.items (map (λ t. t.now) texts.now)) }
 {
-    let Ok(part) = part else {
+    let Some(part) = part else {
         return encode(rodeo, texts, codes);
     };
     // There is room for all codes before a text is interned.
     if codes.reserve(part.codes.len()).is_err() {
         return encode(rodeo, texts, codes);
     }
-    let mut merged = Vec::new(alloc);
-    let outcome = put_behind(rodeo, &part.list, &mut merged);
-    rewrite(&part.codes, &merged, codes);
+    let mut table = Vec::new(rt.alloc());
+    let outcome = encode_list(rodeo, &part.list, &mut table);
+    append_rewritten(rt, codes, &part.codes, part.list.len(), &table, workers);
     outcome
 }
 
-// Puts what the codes are rewritten to behind those that are there, up to the first that has no other.
-fn rewrite(part: &[u32], merged: &[u32], codes: &mut Vec<u32>)
-    requires { vec_len codes.old + length part.now ≤ vec_capacity codes.old }
-    ensures { AddsRewritten merged.now part.now codes.old.items codes.new.items }
+// Appends the codes of a list of `len` texts, rewritten by the table: it has the new code of each text, or of the first ones only.
+// Stops at the first code that the table lacks. There must be room for all. Up to `workers` threads rewrite.
+fn append_rewritten<R: Threads + Sync>(
+    rt: &R,
+    codes: &mut Vec<u32>,
+    part: &[u32],
+    len: usize,
+    table: &[u32],
+    workers: usize,
+)
+    requires workers { 0 < workers }
+    requires inside { All (λ code. code < len) part.now }
+    requires room { vec_len codes.old + length part.now ≤ vec_capacity codes.old }
+    ensures { AddsRewritten table.now part.now codes.old.items codes.new.items }
 {
-    for code in part {
-        let at = *code as usize;
-        if at >= merged.len() {
-            return;
-        }
-        codes.push_reserved(merged[at]);
+    let kept = known(part, len, table.len());
+    let before = codes.len();
+    let Ok(()) = codes.extend_from_slice(&part[..kept]) else {
+        unreachable!();
+    };
+    let threads = workers.min(kept / CODES_A_THREAD + 1);
+    rewrite(rt, codes.slice_mut(before..), table, threads);
+}
+
+// Gives each code the one that the table has for it.
+fn rewrite<R: Threads + Sync>(rt: &R, codes: &mut [u32], table: &[u32], threads: usize)
+    requires threads { 0 < threads }
+    requires inside { All (λ code. code < length table.now) codes.old }
+    ensures { (k : ℕ) → k < length codes.old → slice_index codes.new k ≡ slice_index table.now (slice_index codes.old k) }
+{
+    for_each_mut(rt, codes, threads, &|_, code| *code = table[*code as usize]);
+}
+
+// How many of the codes stand before the first that is `bound` or more. All are below `len`.
+fn known(codes: &[u32], len: usize, bound: usize) -> usize
+    requires { All (λ code. code < len) codes.now }
+    ensures within { result ≤ length codes.now }
+    ensures below { AllWithin (λ code. code < bound) codes.now 0 result }
+    ensures next { IfSome (slice_get codes.now result) (λ code. bound ≤ code) }
+{
+    if bound >= len {
+        return codes.len();
     }
+    for position in 0..codes.len() {
+        if codes[position] as usize >= bound {
+            return position;
+        }
+    }
+    codes.len()
 }

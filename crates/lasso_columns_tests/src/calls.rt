@@ -1,6 +1,10 @@
 //! The calls that the tests make, each in a function of no contract: what a call leaves is looked at, and nothing of it is known before.
-use lasso::{LassoResult, Rodeo, SpurRodeo, SpurRodeoReader, SpurThreadedRodeo, ThreadedRodeo};
+use lasso::{
+    FixedState, LassoResult, Rodeo, Spur, SpurRodeo, SpurRodeoReader, SpurThreadedRodeo,
+    ThreadedRodeo,
+};
 use lasso_columns::{DecodeError, LineError};
+use std::alloc::Allocator;
 use std::sync::Wait;
 use std::test::Fail;
 use std::thread::Threads;
@@ -24,6 +28,16 @@ pub(super) fn encode(
     codes: &mut Vec<u32>,
 ) -> LassoResult<()> {
     lasso_columns::encode(rodeo, texts, codes)
+}
+
+pub(super) fn encode_in_parts<R: AllocGlobal + Threads + Sync, A: Allocator + Clone>(
+    rt: &R,
+    rodeo: &mut Rodeo<Spur, FixedState, A>,
+    texts: &[&str],
+    codes: &mut Vec<u32>,
+    workers: usize,
+) -> LassoResult<()> {
+    lasso_columns::encode_in_parts(rt, rodeo, texts, codes, workers)
 }
 
 pub(super) fn encode_lines(

@@ -1,6 +1,6 @@
 //! The examples in the documents of the calls, in tests.
 use lasso::{Rodeo, SpurRodeo, SpurThreadedRodeo, ThreadedRodeo};
-use lasso_columns::{decode, encode, encode_lines, encode_shared, merge};
+use lasso_columns::{decode, encode, encode_in_parts, encode_lines, encode_shared, merge};
 use std::test::Fail;
 
 #[test]
@@ -8,6 +8,15 @@ fn texts_encoded(rt: HostRuntime) -> Result<(), Fail> {
     let mut rodeo: SpurRodeo = Rodeo::default(rt.alloc())?;
     let mut codes = Vec::new(rt.alloc());
     encode(&mut rodeo, &["red", "green", "red"], &mut codes)?;
+    assert!(rt; codes.as_slice() == [0, 1, 0].as_slice());
+    Ok(())
+}
+
+#[test]
+fn texts_encoded_in_parts(rt: HostRuntime) -> Result<(), Fail> {
+    let mut rodeo: SpurRodeo = Rodeo::default(rt.alloc())?;
+    let mut codes = Vec::new(rt.alloc());
+    encode_in_parts(&rt, &mut rodeo, &["red", "green", "red"], &mut codes, 2)?;
     assert!(rt; codes.as_slice() == [0, 1, 0].as_slice());
     Ok(())
 }

@@ -1,5 +1,5 @@
 //! Tests of `lasso_columns` by its public calls: whole columns, with values worked by hand, columns that several threads encode,
-//! and the examples in the documents.
+//! together or in parts, and the examples in the documents.
 #![tactic(auto)]
 
 #[cfg(test)]
@@ -9,5 +9,9 @@ mod columns;
 #[cfg(test)]
 mod examples;
 pub mod limited;
+#[cfg(test)]
+mod numbered;
+#[cfg(test)]
+mod parts;
 #[cfg(test)]
 mod shared;

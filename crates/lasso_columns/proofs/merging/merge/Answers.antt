@@ -7,5 +7,5 @@ use Rattle.lasso_columns.proofs.merging.merge.Goals as goal
 
 pub returns-clause-texts : goal.returns-clause-texts
 returns-clause-texts g c =
-    let put = c.in_ok-put_behind.ensures in
-    codes_stand _ _ _ (subst (λ (ts : List Text). AreCodes c.put_behind.new.into.texts ts c.put_behind.new.codes.items) (take_all _ c.args.from.now (omega (arith, put.whole))) put.codes)
+    let put = c.in_ok-encode_list.ensures in
+    codes_stand _ _ _ (subst (λ (ts : List Text). AreCodes c.encode_list.new.into.texts ts c.encode_list.new.codes.items) (take_all _ c.args.from.now (omega (arith, put.whole))) put.codes)

@@ -1,6 +1,6 @@
 use Rattle.std.proofs.Common.{take}
 use Rattle.lasso_columns.proofs.Encoded.{Encoded}
-use Rattle.lasso_columns.proofs.merging.put_behind.Given as goal
+use Rattle.lasso_columns.proofs.merging.encode_list.Given as goal
 
 -- the texts before the position were encoded
 abbrev pub invariant-loop-position : goal.invariant-loop-position
