@@ -43,7 +43,7 @@ impl<K: Key, S: BuildHasher + Drop> Shards<K, S> {
             return Ok(key);
         }
         match self.make_room(rt, shard, pass, number_of(hash)) {
-            Ok(()) => self.put_last(rt, shard, pass, hash, Piece::lasting(text)),
+            Ok(ahead) => self.put_last(rt, shard, pass, ahead, hash, Piece::lasting(text)),
             Err(error) => Err(error),
         }
     }
@@ -67,12 +67,12 @@ impl<K: Key, S: BuildHasher + Drop> Shards<K, S> {
         if let Some(key) = self.find(shard, pass, hash, text) {
             return Ok(key);
         }
-        match self.make_room(rt, shard, pass, number_of(hash)) {
-            Ok(()) => {}
+        let ahead = match self.make_room(rt, shard, pass, number_of(hash)) {
+            Ok(ahead) => ahead,
             Err(error) => return Err(error),
-        }
+        };
         match self.store(rt, shard, pass, hash, text) {
-            Ok(piece) => self.put_last(rt, shard, pass, hash, piece),
+            Ok(piece) => self.put_last(rt, shard, pass, ahead, hash, piece),
             Err(error) => Err(error),
         }
     }
@@ -96,8 +96,7 @@ impl<K: Key, S: BuildHasher + Drop> Shards<K, S> {
         self.intern_static_new(rt, pass, hash, text)
     }
 
-    // Interns such a text that was not found beside other readers. It stays out of line, so that a text that is there makes nothing ready for
-    // one that is not.
+    // Interns a static text that the first look-up did not find. It stays out of line, so that present texts set up nothing for it.
     #[inline(never)]
     fn intern_static_new<R: Wait>(
         &self,
@@ -132,8 +131,7 @@ impl<K: Key, S: BuildHasher + Drop> Shards<K, S> {
         self.intern_copied_new(rt, pass, hash, text)
     }
 
-    // Interns such a text that was not found beside other readers. It stays out of line, so that a text that is there makes nothing ready for
-    // one that is not.
+    // Interns a copied text that the first look-up did not find. It stays out of line, so that present texts set up nothing for it.
     #[inline(never)]
     fn intern_copied_new<R: Wait>(
         &self,

@@ -5,6 +5,7 @@ use Rattle.lasso_log.specs.Notes.{NoteView, Since, notes_of, ticket_of, opening_
 use Rattle.lasso_log.specs.Book.{LogKeepsRule, Reads}
 use Rattle.lasso_log.specs.Chunks.{first_number}
 use Rattle.lasso_log.proofs.Logs.{peek_opened, read_value, still_opened, tails, legal_opened}
+use Rattle.lasso_log.proofs.Tickets.{used_word_later}
 use Rattle.lasso_log.proofs.log.words.Log.load.Given.{Over}
 use Rattle.lasso_log.proofs.log.words.Log.load.Goals as goal
 
@@ -32,7 +33,7 @@ invariant_of-pass g c =
     let e = c.load-found.ensures in
     let t = tails c.pass.inside.seen.log c.load-found.new.seen.log i.3 e.5 in
     let legal = legal_opened g.K.Key.key_at c.pass.inside.seen.log c.load-found.new.seen.log i.3 e.5 (e.6.1.0, e.6.1.1) in
-    rw (e.0, c.look.ensures.2, c.look.ensures.3) (i.0, i.1, i.2 ∙ sym (facts g c).1, t.0, rw (← t.1) legal, rw (← t.1) i.5)
+    rw (e.0, c.look.ensures.2, c.look.ensures.3) (i.0, used_word_later c.pass.inside.seen.book (notes_of c.pass.inside.seen.log) (notes_of c.load-found.new.seen.log) c.pass.inside.used t.2 i.1, i.2 ∙ sym (facts g c).1, t.0, rw (← t.1) legal, rw (← t.1) i.5)
 
 pub returns-clause-since : goal.returns-clause-since
 returns-clause-since g c = rw (← c.pass.view_is) (facts g c).0
