@@ -1,16 +1,19 @@
 //! The steps of the log: a look at a word, the fetching of a ticket, and the exchange that adds an event. Used by the
 //! readings of the log and by its spine.
-ghost use Rattle.std.specs.Prelude.{◌≡◌, ◌+◌, ◌<◌, ◌^◌, [], ℕ, length, MatchBool, MatchOption};
+ghost use Rattle.std.specs.Prelude.{◌≡◌, ◌+◌, ◌<◌, ◌^◌, [], ℕ, List, length, MatchBool, MatchOption};
+ghost use mathlib.Core.List.{IsPrefix};
+ghost use Rattle.logbook.specs.Pages.{Cell, cell};
 ghost use Rattle.lasso_log.specs.History.{Append};
 ghost use Rattle.lasso_log.specs.Notes.{Since, IsWord, IsOpened, opening_of, notes_of};
-ghost use Rattle.lasso_log.specs.Book.{word_of, IsTicket, Moving, May, IsDone, Reads};
+ghost use Rattle.lasso_log.specs.Book.{word_of, IsTicket, LogKeepsRule, Moving, May, IsDone, Reads};
 ghost use base.Fml.{Incl};
 ghost use Rattle.lasso_log.specs.Eras.{life};
 ghost use Rattle.lasso_log.specs.Chunks.{IsCellAt, era_named};
-ghost use Rattle.lasso_log.specs.Views.{InternerId, IsSamePass};
+ghost use Rattle.lasso_log.specs.Views.{InternerId, KnownView, IsSamePass};
 ghost use Rattle.lasso_log.specs.Events.{event_of, IsQuiet};
 
 use crate::chunks::rule::NoGain;
+use crate::log::known::Known;
 use crate::log::look::look;
 use crate::log::memory::TextMemory;
 use crate::log::note::{Change, Note};
@@ -122,7 +125,39 @@ impl<K: Key> Log<K> {
         }
     }
 
-    // What a word that the pass knows has at one step. `word_index` says which word it is.
+    // What a word has at one step, which the log that was seen then reaches. `word_index` says which word it is.
+    fn load_seen(
+        word: &Word<Note, u64, LogRule<K>>,
+        word_index: u64,
+        seen: &mut Seen<Note, u64, LogRule<K>>,
+    ) -> u64
+        requires word { word.now ≡ word_of seen.old.book word.now.key }
+        requires known { IsOpened seen.old.log × IsWord (notes_of seen.old.log) word_index word.now.key }
+        ensures { (seen.new.book ≡ seen.old.book) × (seen.new.names ≡ seen.old.names) × IsPrefix seen.old.log seen.new.log × ((cells : List Cell) × LogKeepsRule K.key_at cells seen.new.log × ((cell cells word.now.key).0 ≡ result)) }
+    {
+        let _ = word_index;
+        let mut offer: Offer<Note, u64, LogRule<K>, NoGain> = seen.plain::<NoGain, (), Nothing>(
+            &(),
+        );
+        word.load::<Peek<K>, NoGain>(seen, &mut offer)
+    }
+
+    // What a word that the history knows has at one step, which it then has seen.
+    pub(super) fn load_known(
+        &self,
+        word: &Word<Note, u64, LogRule<K>>,
+        word_index: u64,
+        known: &mut Known<K>,
+    ) -> u64
+        requires of { (known.old.of ≡ self.now) × (word.now ≡ word_of self.now.book word.now.key) }
+        requires known { IsWord known.old.notes word_index word.now.key }
+        ensures same { known.new.of ≡ known.old.of }
+        ensures reply { Reads K.key_at known.old.of.opening known.new.notes word_index word.now.key result }
+    {
+        Self::load_seen(word, word_index, &mut known.seen)
+    }
+
+    // The same by a pass, which adds no event.
     pub(crate) fn load(
         &self,
         word: &Word<Note, u64, LogRule<K>>,
@@ -135,10 +170,7 @@ impl<K: Key> Log<K> {
         ensures since { Since pass.old.number pass.old.notes pass.new.notes [] }
         ensures reply { Reads K.key_at pass.old.of.opening pass.new.notes word_index word.now.key result }
     {
-        let mut offer: Offer<Note, u64, LogRule<K>, NoGain> = pass
-            .seen
-            .plain::<NoGain, (), Nothing>(&());
-        let found = word.load::<Peek<K>, NoGain>(&mut pass.seen, &mut offer);
+        let found = Self::load_seen(word, word_index, &mut pass.seen);
         let mut later = pass.seen.again();
         look(&mut later, &mut pass.ticket.pen);
         found
