@@ -7,7 +7,7 @@ ghost use Rattle.std.specs.Prelude.{◌≡◌};
 ghost use Rattle.lasso_parts.specs.Hashing.{text_hash};
 ghost use Rattle.lasso_log.specs.Pieces.{PieceView};
 ghost use Rattle.lasso_log.specs.Replies.{Copied, Static, Intern, Interned};
-ghost use Rattle.lasso_log.specs.Calls.{IsCall};
+ghost use Rattle.lasso_log.specs.Calls.{IsCall, IsPlainCall};
 ghost use Rattle.lasso_log.specs.Views.{PassView, InternerId, IsSamePass, seen};
 ghost use Rattle.lasso_shared.specs.Shards.{IsShard, shard_of};
 
@@ -116,6 +116,20 @@ impl<K: Key, S: BuildHasher + Drop> Shards<K, S> {
         reply
     }
 
+    /// The same without a pass. A present text is found in the history that its shard has seen; for an absent one a pass is made.
+    pub fn intern_static_once<R: Wait>(&self, rt: &R, text: &'static str) -> LassoResult<K>
+        ensures call { IsPlainCall K.key_at self.now.log.opening (Intern Static text.now) (Interned result) }
+    {
+        let hash = hash_text(&self.hasher, text);
+        if let Some(key) = self.glance(rt, hash, text) {
+            return Ok(key);
+        }
+        let mut pass = self.log.pass();
+        let reply = self.intern_static_new(rt, &mut pass, hash, text);
+        pass.show_legal();
+        reply
+    }
+
     /// The key of the text, of which a copy goes last in the list if it is not there. A new text is refused where the memory limit leaves
     /// no room for its bytes, for want of memory, or where the key type has no key for its position. In the last case its bytes may stay
     /// taken; else no event is added.
@@ -129,6 +143,20 @@ impl<K: Key, S: BuildHasher + Drop> Shards<K, S> {
             return Ok(key);
         }
         self.intern_copied_new(rt, pass, hash, text)
+    }
+
+    /// The same without a pass, as `intern_static_once` is.
+    pub fn intern_copied_once<R: Wait>(&self, rt: &R, text: &str) -> LassoResult<K>
+        ensures call { IsPlainCall K.key_at self.now.log.opening (Intern Copied text.now) (Interned result) }
+    {
+        let hash = hash_text(&self.hasher, text);
+        if let Some(key) = self.glance(rt, hash, text) {
+            return Ok(key);
+        }
+        let mut pass = self.log.pass();
+        let reply = self.intern_copied_new(rt, &mut pass, hash, text);
+        pass.show_legal();
+        reply
     }
 
     // Interns a copied text that the first look-up did not find. It stays out of line, so that present texts set up nothing for it.
