@@ -1,5 +1,6 @@
 /* Refuses one of a program's requests for memory: of those made since its main began, the one whose number, counted from 1, stands in
-   the environment as REFUSE. It then writes a line to descriptor 3. A number of 0, or none, refuses nothing.
+   the environment as REFUSE. It then writes a line to descriptor 3. A number of 0, or none, refuses nothing. Where MANY stands in the
+   environment, so many requests in a row are refused, that one and those after it.
 
    Where LEFT stands in the environment, the file of that name gets the line `<n> blocks, <m> bytes` at the program's exit: what the
    program's own code has asked for since its main began and has not given back. What the loader and the C library ask for by themselves,
@@ -31,7 +32,7 @@ void __libc_free(void *);
 static main_function *program_main;
 static atomic_bool counting;
 static atomic_ulong requests;
-static unsigned long refused;
+static unsigned long refused, many;
 
 /* Where the program's own code lies. */
 static uintptr_t code_start = UINTPTR_MAX, code_end;
@@ -121,10 +122,14 @@ static unsigned long number(const char *name)
     return digits ? strtoul(digits, NULL, 10) : 0;
 }
 
-/* Whether this request is the one to refuse. */
+/* Whether this request is one to refuse. */
 static int is_refused(void)
 {
-    if (!atomic_load(&counting) || atomic_fetch_add(&requests, 1) + 1 != refused)
+    unsigned long request;
+    if (!atomic_load(&counting))
+        return 0;
+    request = atomic_fetch_add(&requests, 1) + 1;
+    if (!refused || request < refused || request - refused >= many)
         return 0;
     (void)!write(3, "refused\n", 8);
     errno = ENOMEM;
@@ -196,6 +201,7 @@ static int see_code(struct dl_phdr_info *shown, size_t size, void *nothing)
 static int begin(int count, char **words, char **environment)
 {
     refused = number("REFUSE");
+    many = number("MANY") ? number("MANY") : 1;
     alarm((unsigned)number("HALT"));
     dl_iterate_phdr(see_code, NULL);
     atomic_store(&counting, 1);

@@ -1,14 +1,14 @@
 -- Whose events a history has. Each event uses the ticket that its pass then has, and a used ticket is at home.
 -- So a pass whose ticket is out has made no event past what it has seen: the first one would have used that ticket.
-use Rattle.std.proofs.Common.{◌≡◌, ℕ, ◌==◌, Bool, true, false, List, [], ◌∷◌, ◌++◌, if◌then◌else◌, refl, ap, sym, ◌∙◌, subst, arith, append_assoc, inl, inr, Option}
+use Rattle.std.proofs.Common.{◌≡◌, ℕ, ◌==◌, Bool, true, false, List, [], ◌∷◌, ◌++◌, if◌then◌else◌, refl, ap, sym, ◌∙◌, subst, arith, append_assoc, inl, inr, Option, None, Some, IfSome}
 use Rattle.std.proofs.lemmas.List.{append-nil}
 use Rattle.std.proofs.lemmas.Bool.Decides.{nat_tests}
 use mathlib.Core.List.{IsPrefix}
-use Rattle.logbook.specs.Pages.{Cell, cell}
+use Rattle.logbook.specs.Pages.{Cell, cell, Book, Named}
 use Rattle.lasso_log.specs.History.{Event, Totals}
 use Rattle.lasso_log.specs.Calls.{events_of}
 use Rattle.lasso_log.specs.Notes.{NoteView, history, Since, ticket_after, ticket_of, Chained}
-use Rattle.lasso_log.specs.Book.{IsHome, Used, IsUsed, KeepsRule}
+use Rattle.lasso_log.specs.Book.{IsHome, Used, IsUsed, IsUsedWord, KeepsRule}
 use Rattle.lasso_log.proofs.Histories.{own_append}
 
 pub not_both : {X : Type 0} (b : Bool) → b ≡ true → b ≡ false → X
@@ -65,6 +65,11 @@ used_in (e ∷ v) rest k (inr is) = inr (used_in v rest k is)
 
 pub used_later : (v log : List NoteView) (k : ℕ) → IsPrefix v log → IsUsed k v → IsUsed k log
 used_later v log k p is = subst (IsUsed k) p.1 (used_in v p.0 k is)
+
+-- and so does the word of one that a pass keeps
+pub used_word_later : (b : Book) (v log : List NoteView) (word : Option Named) → IsPrefix v log → IfSome word (IsUsedWord b v) → IfSome word (IsUsedWord b log)
+used_word_later b v log None p u = u
+used_word_later b v log (Some word) p u = (u.0, used_later v log word.key p u.1)
 
 pub used_last : (v : List NoteView) (e : NoteView) (k : ℕ) → e.ticket ≡ k → IsUsed k (v ++ e ∷ [])
 used_last [] e k at = inl at

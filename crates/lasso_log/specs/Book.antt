@@ -22,6 +22,14 @@ abbrev pub IsUsed : ℕ → List NoteView → Type 0
 IsUsed k [] = ⊥
 IsUsed k (e ∷ es) = (e.ticket ≡ k) ⊎ IsUsed k es
 
+-- the word of the cell with this key
+abbrev pub word_of : Book → ℕ → Named
+word_of b k = record { tracked = true; key = k; book = b }
+
+-- the word of a ticket of this book that one of the notes used up
+abbrev pub IsUsedWord : Book → List NoteView → Named → Type 0
+IsUsedWord b notes word = (word ≡ word_of b word.key) × IsUsed word.key notes
+
 -- the cells of these words are at home with their values
 abbrev pub Words : List Cell → List (ℕ × ℕ) → Type 0
 Words cells [] = Unit {0}
@@ -59,9 +67,6 @@ LogKeepsRule keys cells (first ∷ notes) = KeepsRule keys cells first.opening n
 -- what the book's keepers see of a log
 abbrev pub shown_of : List NoteView → List NoteView
 shown_of log = shown_note (texts_in log) (lent_in log)
-
-abbrev pub word_of : Book → ℕ → Named
-word_of b k = record { tracked = true; key = k; book = b }
 
 -- the word of the list's length, and that of the turns
 abbrev pub head_of : Book → Named

@@ -183,13 +183,42 @@ impl<T: HasText + Drop> Chunks<T> {
     ) -> Result<Option<Written<Chunk<T>>>, AllocError>
         ensures { IfOk result (λ r. IfSome r (λ chunk. chunk.of ≡ chunk_named self.now position)) }
     {
-        let (number, _) = chunk_and_offset(position);
-        let cell = &self.chunks[number];
-        if let Some(chunk) = cell.witness() {
+        if let Some(chunk) = self.find_chunk(position) {
             return Ok(Some(chunk));
         }
+        let (number, _) = chunk_and_offset(position);
         let chunk = new_chunk(alloc, length_of(number))?;
-        Ok(cell.set_written(chunk).ok())
+        Ok(self.chunks[number].set_written(chunk).ok())
+    }
+
+    /// What shows that the chunk of a position is made, or `None` where it is not. It takes no memory and does not wait.
+    pub fn find_chunk(&self, position: u64) -> Option<Written<Chunk<T>>>
+        ensures { IfSome result (λ chunk. chunk.of ≡ chunk_named self.now position) }
+    {
+        let (number, _) = chunk_and_offset(position);
+        self.chunks[number].witness()
+    }
+
+    /// Makes the chunk of a position, if it is not there, and gives what shows that it is. Out of memory, the chunks are as they
+    /// were. It waits where another thread is putting the chunk in just now, and takes no memory then.
+    pub fn make_chunk_or_wait<R: Wait>(
+        &self,
+        rt: &R,
+        alloc: Global,
+        position: u64,
+    ) -> Result<Written<Chunk<T>>, AllocError>
+        ensures { IfOk result (λ chunk. chunk.of ≡ chunk_named self.now position) }
+    {
+        if let Some(chunk) = self.make_chunk(alloc, position)? {
+            return Ok(chunk);
+        }
+        for _ in rt.forever() {
+            if let Some(chunk) = self.find_chunk(position) {
+                return Ok(chunk);
+            }
+            std::hint::spin_loop();
+        }
+        unreachable!()
     }
 
     /// Makes the chunks of the first `count` positions, where they are not there: the longest first, so that a count that no memory

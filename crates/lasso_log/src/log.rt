@@ -1,6 +1,7 @@
 //! The history that the passes of a shared interner see: a log that only grows, with the words of the
 //! interner and the list of its texts under one rule.
 mod apart;
+pub mod cells_ahead;
 mod charges;
 mod charging;
 pub mod kept_slot;
@@ -21,6 +22,7 @@ pub mod turns;
 mod walks;
 pub mod words;
 
+pub use cells_ahead::CellsAhead;
 pub use kept_slot::KeptSlot;
 pub use known::Known;
 pub use opening::{NewLog, Opened, OpeningTexts};

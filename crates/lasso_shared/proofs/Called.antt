@@ -1,5 +1,6 @@
 -- Calls of a pass, from what it had seen and has seen: a reply that is explained at the end of it.
-use Rattle.std.proofs.Common.{◌≡◌, ℕ, List, [], ◌∷◌, ◌++◌, length, slice_get, Option, Result, Ok, Err, inl, inr, refl, ap, sym, ◌∙◌, subst, append_assoc, append-nil}
+use Rattle.std.proofs.Common.{◌≡◌, ◌≤◌, ◌+◌, ◌==◌, suc, if◌then◌else◌, false, arith, ℕ, List, [], ◌∷◌, ◌++◌, length, slice_get, Option, Result, Ok, Err, inl, inr, refl, ap, sym, ◌∙◌, subst, append_assoc, append-nil}
+use Rattle.std.proofs.lemmas.Bool.Decides.{nat_tests}
 use Rattle.std.specs.Prelude.{Bool, nat_eq, nat_lt, is_some}
 use Rattle.lasso_parts.specs.Texts.{Text, Fits, position_of, key_of}
 use Rattle.lasso_parts.specs.declared.util.LassoErrorKind.TheVariants.{FailedAllocation}
@@ -70,6 +71,21 @@ module _ {K : Type 0} (key_at : ℕ → Option K) (o : Totals) (p : ℕ) where
   serialized before after (Err error) s = explained_last before after [] Serialize (Listed (Err FailedAllocation)) s refl (inr refl) refl
 
 -- ---- plain calls
+
+-- a number above those of all passes that made an event
+abbrev pub unused : History → ℕ
+unused [] = 0
+unused (e ∷ es) = suc (e.0 + unused es)
+
+none_above : (h : History) (p : ℕ) → unused h ≤ p → events_of p h ≡ []
+none_above [] p above = refl
+none_above (e ∷ es) p above =
+    let other : (e.0 == p) ≡ false = grind (arith, nat_tests) in
+    ap (λ (b : Bool). if b then e.1 ∷ events_of p es else events_of p es) other ∙ none_above es p (omega (arith, above))
+
+-- a pass of that number has seen the history, and added no event
+pub seen_alone : (notes : List NoteView) → Since (unused (history notes)) [] notes []
+seen_alone notes = record { rest = notes; begins = refl; events = none_above (history notes) (unused (history notes)) (omega arith) }
 
 -- the call of a pass that had seen nothing
 pub plain : {K : Type 0} (key_at : ℕ → Option K) (o : Totals) (p : ℕ) (before after : List NoteView) (q : Question) (r : Reply K) → before ≡ [] → IsCall key_at o (history before) (history after) p q r → IsLegal key_at o (history after) → IsPlainCall key_at o q r

@@ -33,10 +33,10 @@ pub struct Shards<K: Key, S: BuildHasher + Drop> {
     pub log: Log<K>,
     pub hasher: S,
     shards: Vec<TaggedRwLock<Shard<K, S>>>,
-    // Nothing is read in these. They keep the spine's lock on a line of memory of its own.
-    before: [u64; 8],
+    // The padding is never read. It keeps the spine's lock on a cache line of its own.
+    padding_before: [u64; 8],
     pub spine: TaggedMutex<BoxedTally<K, S>>,
-    behind: [u64; 8],
+    padding_after: [u64; 8],
     pub buckets: BucketList<K>,
     alloc: Global,
     ghost all: { length shards.items ≡ 16 },

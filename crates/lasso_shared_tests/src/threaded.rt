@@ -13,6 +13,7 @@ mod gaps;
 mod json;
 mod limits;
 mod looking;
+mod memory;
 mod passes;
 mod walking;
 

@@ -131,6 +131,7 @@ impl<K: Key> Log<K> {
             site,
             right,
         } = bucket;
+        let next = self.next_ticket(pass);
         let mut seen = self.seen.again();
         seen.learn(&turns.seen);
         seen.learn(&pass.seen);
@@ -142,14 +143,13 @@ impl<K: Key> Log<K> {
             site: &site,
             number: &pass.number,
             ticket: &pass.ticket,
-            next: &pass.next,
+            next: &next,
         };
         let offer = add_bucket::<_, _, _, _, BucketAsked<'_, K>, Add<K>>(&seen, &about, right);
         let pen = std::mem::replace(&mut pass.ticket.pen, seen.no_pen());
         let before = pass.seen.again();
         let bid = Bid { seen, offer, pen };
         let after = self.offer(rt, turns.turns, &before, &given, bid);
-        let next = std::mem::replace(&mut pass.next, self.ticket());
         let used = std::mem::replace(&mut pass.ticket, next);
         pass.seen = after;
         SharedBucket {

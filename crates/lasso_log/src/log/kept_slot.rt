@@ -6,7 +6,7 @@ use crate::log::known::Known;
 use lasso_parts::keys::Key;
 use std::marker::Model;
 
-/// A slot that `Log::reserve_next` kept. It ends by `Log::append` or by `Spine::give_back`, and by nothing else. It has no
+/// A slot that `Log::reserve_next` or `Log::reserve_ahead` kept. It ends by `Log::append` or by `Spine::give_back`, and by nothing else. It has no
 /// bytes. A contract sees which interner it is of.
 pub struct KeptSlot<K: Key> {
     known: Known<K>,

@@ -1,8 +1,8 @@
 //! A history that was seen, beside what was read off it. Used by the shards, whose indexes are exact for one.
-ghost use Rattle.std.specs.Prelude.{◌≡◌, []};
+ghost use Rattle.std.specs.Prelude.{◌≡◌, ◌<◌, [], length};
 ghost use mathlib.Core.List.{IsPrefix};
-ghost use Rattle.lasso_log.specs.History.{IsLegal};
-ghost use Rattle.lasso_log.specs.Notes.{Since};
+ghost use Rattle.lasso_log.specs.History.{IsLegal, IsOpening};
+ghost use Rattle.lasso_log.specs.Notes.{Since, history, opening_of, notes_of, IsOpened};
 ghost use Rattle.lasso_log.specs.Views.{InternerId, KnownView, IsSamePass, seen};
 
 use crate::log::note::Note;
@@ -16,7 +16,7 @@ use std::marker::Model;
 /// A history of one interner that was seen. It has no bytes. A contract sees the interner and the notes.
 #[derive(Drop)]
 pub struct Known<K: Key> {
-    seen: Seen<Note, u64, LogRule<K>>,
+    pub(super) seen: Seen<Note, u64, LogRule<K>>,
 }
 
 impl<K: Key> Model for Known<K> {
@@ -30,6 +30,25 @@ impl<K: Key> Model for Known<K> {
     ghost view = { λ k. record { of = interner_id k.seen.book k.seen.names (opening_of k.seen.log); notes = notes_of k.seen.log } };
 
     ghost invariant = { λ k. IsOpened k.seen.log };
+}
+
+impl<K: Key> Known<K> {
+    /// Does nothing. Contracts learn that it is a legal history of what an interner may begin with.
+    pub fn show_legal(&self)
+        ensures opening { IsOpening K.key_at self.now.of.opening }
+        ensures legal { IsLegal K.key_at self.now.of.opening (history self.now.notes) }
+    {
+        let mut both = self.seen.again();
+        both.learn(&self.seen);
+    }
+
+    // The log that it has seen.
+    pub(super) fn copy_seen(&self) -> Seen<Note, u64, LogRule<K>>
+        ensures of { (result.book ≡ self.now.of.book) × (result.names ≡ self.now.of.chunks) × (opening_of result.log ≡ self.now.of.opening) }
+        ensures log { IsOpened result.log × (notes_of result.log ≡ self.now.notes) }
+    {
+        self.seen.again()
+    }
 }
 
 impl<K: Key> Log<K> {

@@ -252,9 +252,9 @@ impl<K: Key> Log<K> {
         };
         let first = len;
         let log = Log {
-            before: [0; 8],
+            padding_before: [0; 8],
             head,
-            behind: [0; 8],
+            padding_after: [0; 8],
             turns,
             memory,
             first,

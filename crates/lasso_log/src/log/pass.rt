@@ -11,23 +11,25 @@ use crate::log::rule::LogRule;
 use crate::log::ticket::Ticket;
 use boxcar::tag::Tag;
 use lasso_parts::keys::Key;
-use logbook::Seen;
+use logbook::{Seen, Word};
 use std::marker::Model;
 
 /// What its holder has seen of the history of one interner. A contract sees its number, its interner and the
-/// notes that it has seen. It has no bytes but those of its tickets.
+/// notes that it has seen. It has no bytes but those of its tickets' words.
 pub struct Pass<K: Key> {
     pub(super) seen: Seen<Note, u64, LogRule<K>>,
+    // The ticket of its next event.
     pub(super) ticket: Ticket<K>,
-    pub(super) next: Ticket<K>,
+    // The word of a ticket that it used, if it used one. No other thread exchanges it.
+    pub(super) used: Option<Word<Note, u64, LogRule<K>>>,
     pub(super) number: Tag,
 }
 
 impl<K: Key> Model for Pass<K> {
-    ghost use Rattle.std.specs.Prelude.{◌≡◌};
+    ghost use Rattle.std.specs.Prelude.{◌≡◌, IfSome};
     ghost use Rattle.lasso_log.specs.History.{IsLegal, IsOpening};
     ghost use Rattle.lasso_log.specs.Notes.{opening_of, notes_of, history, IsOpened, ticket_of};
-    ghost use Rattle.lasso_log.specs.Book.{IsTicket};
+    ghost use Rattle.lasso_log.specs.Book.{IsTicket, IsUsedWord};
     ghost use Rattle.lasso_log.specs.Views.{PassView, pass_view_coded, interner_id};
     ghost use Rattle.lasso_log.specs.Chunks.{first_number};
 
@@ -37,7 +39,7 @@ impl<K: Key> Model for Pass<K> {
 
     ghost view = { λ p. record { number = first_number p.number.numbers; of = interner_id p.seen.book p.seen.names (opening_of p.seen.log); notes = notes_of p.seen.log } };
 
-    ghost invariant = { λ p. IsTicket p.seen.book p.ticket.word p.ticket.pen × IsTicket p.seen.book p.next.word p.next.pen × (p.ticket.pen.nib.key ≡ ticket_of (first_number p.number.numbers) (notes_of p.seen.log)) × IsOpened p.seen.log × IsLegal K.key_at (opening_of p.seen.log) (history (notes_of p.seen.log)) × IsOpening K.key_at (opening_of p.seen.log) };
+    ghost invariant = { λ p. IsTicket p.seen.book p.ticket.word p.ticket.pen × IfSome p.used (IsUsedWord p.seen.book (notes_of p.seen.log)) × (p.ticket.pen.nib.key ≡ ticket_of (first_number p.number.numbers) (notes_of p.seen.log)) × IsOpened p.seen.log × IsLegal K.key_at (opening_of p.seen.log) (history (notes_of p.seen.log)) × IsOpening K.key_at (opening_of p.seen.log) };
 }
 
 // One call, so that proofs of callers see nothing of the fields where a pass is let go.
@@ -46,7 +48,7 @@ impl<K: Key> Drop for Pass<K> {
         let Pass {
             seen: _,
             ticket: _,
-            next: _,
+            used: _,
             number: _,
         } = self;
     }

@@ -11,7 +11,7 @@ use crate::chunks::taking::{right_taken, take_bytes};
 use crate::log::note::Note;
 use crate::log::pass::Pass;
 use crate::log::rule::{Add, LogRule, Shared};
-use crate::log::ticket::{BytesAsked, fetched_by};
+use crate::log::ticket::BytesAsked;
 use crate::log::words::Log;
 use crate::shared_arena::bucket::SharedBucket;
 use crate::shared_arena::rights::Free;
@@ -52,6 +52,7 @@ impl<K: Key> Log<K> {
         ensures note { IfSome result (λ r. IsNoteOf pass.old.number pass.new.notes (Reserve bucket.now.position bytes) bucket.now.site) }
         ensures taken { IfSome result (λ r. HasTaken (state self.now.opening pass.new.notes) bucket.now.position (bucket.now.base + expected + bytes)) }
     {
+        let next = self.next_ticket(pass);
         let mut seen = self.seen.again();
         seen.learn(&bucket.seen);
         seen.learn(&pass.seen);
@@ -63,7 +64,7 @@ impl<K: Key> Log<K> {
             site: &bucket.site,
             number: &pass.number,
             ticket: &pass.ticket,
-            next: &pass.next,
+            next: &next,
         };
         let mut offer: Offer<Note, u64, LogRule<K>, BytesTaken<Shared<K>>> = take_bytes::<
             _,
@@ -86,11 +87,9 @@ impl<K: Key> Log<K> {
             return None;
         }
         let right = right_taken(offer.into_gain());
-        let fresh = fetched_by(&pass.ticket.word, &seen);
-        let next = std::mem::replace(&mut pass.next, fresh);
         let used = std::mem::replace(&mut pass.ticket, next);
+        pass.used = Some(used.word);
         pass.seen = seen;
-        drop(used);
         Some(right)
     }
 }

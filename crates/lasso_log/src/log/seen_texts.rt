@@ -1,7 +1,8 @@
 //! The list of a history that was seen, as an index and a walk read it. Used by the interner that threads share.
 ghost use Rattle.std.specs.Prelude.{◌≡◌, ◌<◌, Some, length, slice_get};
-ghost use Rattle.lasso_log.specs.Views.{PassView, InternerId, list_of};
+ghost use Rattle.lasso_log.specs.Views.{PassView, InternerId, KnownView, list_of};
 
+use crate::log::known::Known;
 use crate::log::note::Note;
 use crate::log::pass::Pass;
 use crate::log::rule::LogRule;
@@ -11,7 +12,7 @@ use lasso_parts::keys::Key;
 use logbook::Seen;
 use std::marker::Model;
 
-/// The list that a pass had seen. A contract sees its texts.
+/// The list of a history that was seen. A contract sees its texts.
 #[derive(Drop)]
 pub struct SeenTexts<'a, K: Key> {
     log: &'a Log<K>,
@@ -61,6 +62,17 @@ impl<K: Key> Log<K> {
         SeenTexts {
             log: self,
             seen: pass.copy_seen(),
+        }
+    }
+
+    /// The list of a history that was seen. It takes no step.
+    pub fn known_texts(&self, known: &Known<K>) -> SeenTexts<'_, K>
+        requires { known.now.of ≡ self.now }
+        ensures { result ≡ list_of known.now.of known.now.notes }
+    {
+        SeenTexts {
+            log: self,
+            seen: known.copy_seen(),
         }
     }
 }

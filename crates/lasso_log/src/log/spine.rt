@@ -1,5 +1,5 @@
 //! The spine: the numbers of the list and of the turns, which one thread at a time has, and the slots that it keeps.
-ghost use Rattle.std.specs.Prelude.{◌≡◌, ◌+◌, ◌-◌, ◌∷◌, ◌++◌, [], length, OnOk, OnErr, IfOk, IfErr, MatchBool};
+ghost use Rattle.std.specs.Prelude.{◌≡◌, ◌+◌, ◌-◌, ◌∷◌, ◌++◌, [], length, OnOk, OnErr, IfOk, IfErr, IfSome, IfNone, MatchBool};
 ghost use mathlib.Core.List.{IsPrefix};
 ghost use Rattle.lasso_parts.specs.declared.util.LassoErrorKind.TheVariants.{FailedAllocation};
 ghost use Rattle.lasso_parts.specs.Texts.{Fits};
@@ -10,6 +10,7 @@ ghost use base.Fml.{Incl};
 ghost use Rattle.lasso_log.specs.Eras.{life};
 ghost use Rattle.lasso_log.specs.Chunks.{IsCellAt, era_named};
 
+use crate::log::cells_ahead::CellsAhead;
 use crate::log::kept_slot::KeptSlot;
 use crate::log::note::{Change, Note};
 use crate::log::pass::Pass;
@@ -24,10 +25,6 @@ use logbook::Seen;
 use std::alloc::Global;
 use std::marker::Model;
 use std::sync::Wait;
-
-// At most so many texts are on their way at a time, each with its shard held. Of a text's own and the sixteen before it at least one
-// looked at the length when it was at least sixteen less than that text's position.
-const AHEAD: u64 = 16;
 
 /// The length of the list in a history that was seen, as the texts of the opening and those appended, and how many
 /// slots past it are kept for texts to come; and the turns. It lies under a lock. Contracts see the slots kept, the interner, and what
@@ -115,19 +112,6 @@ impl<K: Key> Spine<K> {
 }
 
 impl<K: Key> Log<K> {
-    /// Makes the cells of the texts to come, so far past the length at one step that each holder of one of the sixteen shards finds the
-    /// cell of its own text made, whatever the others append meanwhile. No spine is taken. It is refused for want of memory alone.
-    pub fn make_ahead(&self, alloc: Global, pass: &mut Pass<K>) -> LassoResult<()>
-        requires { pass.old.of ≡ self.now }
-        ensures same { IsSamePass pass.new pass.old }
-        ensures since { Since pass.old.number pass.old.notes pass.new.notes [] }
-        ensures refused { IfErr result (λ error. error ≡ FailedAllocation) }
-    {
-        let position = self.len(pass).saturating_add(AHEAD);
-        self.memory.chunks.make_chunk(alloc, position)?;
-        Ok(())
-    }
-
     /// Keeps one slot more for a text to come, until it is appended or given back. It is refused for want of memory
     /// alone, which is told of position 2^64 - 1 too, and nothing changes then.
     pub fn reserve_next(&self, alloc: Global, spine: &mut Spine<K>) -> LassoResult<KeptSlot<K>>
@@ -148,7 +132,27 @@ impl<K: Key> Log<K> {
         Ok(KeptSlot::new(self.known()))
     }
 
-    /// Puts the text last, in a slot that `reserve_next` kept. The text must lie where it is as long as the interner's era. The list of
+    /// The same by a caller that has shown that cells are made ahead. `None` where the next slot's cell is not among them, and
+    /// nothing changes then. It takes no memory and does not wait.
+    pub fn reserve_ahead(&self, spine: &mut Spine<K>, ahead: &CellsAhead<K>) -> Option<KeptSlot<K>>
+        requires { (spine.old.of ≡ self.now) × (ahead.now.of ≡ self.now) }
+        ensures slot { IfSome result (λ slot. slot ≡ self.now) }
+        ensures kept { IfSome result (λ slot. spine.new.kept ≡ spine.old.kept + 1) }
+        ensures same { IsSameSpine spine.new spine.old }
+        ensures turns { spine.new.turns ≡ spine.old.turns }
+        ensures unchanged { IfNone result (spine.new.kept ≡ spine.old.kept) }
+    {
+        let _ = ahead;
+        let position = spine.first + spine.appended + spine.kept;
+        if position == u64::MAX {
+            return None;
+        }
+        self.memory.chunks.find_chunk(position)?;
+        spine.kept += 1;
+        Some(KeptSlot::new(self.known()))
+    }
+
+    /// Puts the text last, in a slot that was kept. The text must lie where it is as long as the interner's era. The list of
     /// the spine must lack it, and have a key for its length. The text's cell is filled before the length moves. It waits where the length isn't the
     /// spine's, where the spine keeps no slot, where the chunk of its position isn't made, and where the cell is filled.
     pub fn append<R: Wait>(
@@ -232,7 +236,7 @@ impl<K: Key> Log<K> {
             return false;
         }
         let appended = spine.appended;
-        let Some(word) = self.exchange(
+        let done = self.exchange(
             &self.head,
             Exchange {
                 word_index: 0,
@@ -243,10 +247,10 @@ impl<K: Key> Log<K> {
             Some(cell_proof),
             &spine.seen,
             pass,
-        ) else {
+        );
+        if !done {
             return false;
-        };
-        drop(word);
+        }
         spine.seen = pass.copy_seen();
         spine.appended = appended + 1;
         spine.kept -= 1;

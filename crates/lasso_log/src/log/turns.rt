@@ -112,10 +112,9 @@ impl<K: Key> Log<K> {
             position: 0,
         };
         let change = Change::Limit { limit };
-        let Some(word) = self.exchange(&self.turns, numbers, change, None, &turns.seen, pass) else {
+        if !self.exchange(&self.turns, numbers, change, None, &turns.seen, pass) {
             return false;
-        };
-        drop(word);
+        }
         turns.turns = expected + 1;
         turns.limit = limit;
         turns.seen = pass.copy_seen();

@@ -1,16 +1,19 @@
 //! The steps of the log: a look at a word, the fetching of a ticket, and the exchange that adds an event. Used by the
 //! readings of the log and by its spine.
-ghost use Rattle.std.specs.Prelude.{◌≡◌, ◌+◌, ◌<◌, ◌^◌, [], ℕ, length, MatchOption};
+ghost use Rattle.std.specs.Prelude.{◌≡◌, ◌+◌, ◌<◌, ◌^◌, [], ℕ, List, length, MatchBool, MatchOption};
+ghost use mathlib.Core.List.{IsPrefix};
+ghost use Rattle.logbook.specs.Pages.{Cell, cell};
 ghost use Rattle.lasso_log.specs.History.{Append};
 ghost use Rattle.lasso_log.specs.Notes.{Since, IsWord, IsOpened, opening_of, notes_of};
-ghost use Rattle.lasso_log.specs.Book.{word_of, IsTicket, Moving, May, IsDone, Reads};
+ghost use Rattle.lasso_log.specs.Book.{word_of, IsTicket, LogKeepsRule, Moving, May, IsDone, Reads};
 ghost use base.Fml.{Incl};
 ghost use Rattle.lasso_log.specs.Eras.{life};
 ghost use Rattle.lasso_log.specs.Chunks.{IsCellAt, era_named};
-ghost use Rattle.lasso_log.specs.Views.{InternerId, IsSamePass};
+ghost use Rattle.lasso_log.specs.Views.{InternerId, KnownView, IsSamePass};
 ghost use Rattle.lasso_log.specs.Events.{event_of, IsQuiet};
 
 use crate::chunks::rule::NoGain;
+use crate::log::known::Known;
 use crate::log::look::look;
 use crate::log::memory::TextMemory;
 use crate::log::note::{Change, Note};
@@ -26,11 +29,11 @@ use std::marker::Model;
 /// that the texts lie in, the number of texts at the opening, and the log as it was then. A contract sees which
 /// interner it is of.
 pub struct Log<K: Key> {
-    // Nothing is read in `before` and `behind`. They keep the word that every append moves on a line of memory of its own, so that
-    // looks at the other fields do not wait for it.
-    pub(super) before: [u64; 8],
+    // The padding is never read. It keeps the word that every append moves on a cache line of its own, so that reading the other
+    // fields does not wait for that word.
+    pub(super) padding_before: [u64; 8],
     pub(super) head: Word<Note, u64, LogRule<K>>,
-    pub(super) behind: [u64; 8],
+    pub(super) padding_after: [u64; 8],
     pub(super) turns: Word<Note, u64, LogRule<K>>,
     pub(super) memory: TextMemory,
     pub(super) first: u64,
@@ -57,9 +60,9 @@ impl<K: Key> Model for Log<K> {
 impl<K: Key> Drop for Log<K> {
     fn drop(self) {
         let Log {
-            before: _,
+            padding_before: _,
             head: _,
-            behind: _,
+            padding_after: _,
             turns: _,
             memory: _,
             first: _,
@@ -105,12 +108,56 @@ impl<K: Key> Log<K> {
         Pass {
             seen: self.seen.again(),
             ticket,
-            next: self.ticket(),
+            used: None,
             number,
         }
     }
 
-    // What a word that the pass knows has at one step. `word_index` says which word it is.
+    // The ticket that the pass has after its next event. It is fetched by the word of a ticket that the pass used, which no other
+    // thread exchanges; a pass that has used none fetches it by the length word.
+    pub(super) fn next_ticket(&self, pass: &Pass<K>) -> Ticket<K>
+        requires { pass.now.of ≡ self.now }
+        ensures { IsTicket self.now.book result.word result.pen }
+    {
+        match &pass.used {
+            Some(word) => fetched_by(word, &pass.seen),
+            None => self.ticket(),
+        }
+    }
+
+    // What a word has at one step, which the log that was seen then reaches. `word_index` says which word it is.
+    fn load_seen(
+        word: &Word<Note, u64, LogRule<K>>,
+        word_index: u64,
+        seen: &mut Seen<Note, u64, LogRule<K>>,
+    ) -> u64
+        requires word { word.now ≡ word_of seen.old.book word.now.key }
+        requires known { IsOpened seen.old.log × IsWord (notes_of seen.old.log) word_index word.now.key }
+        ensures { (seen.new.book ≡ seen.old.book) × (seen.new.names ≡ seen.old.names) × IsPrefix seen.old.log seen.new.log × ((cells : List Cell) × LogKeepsRule K.key_at cells seen.new.log × ((cell cells word.now.key).0 ≡ result)) }
+    {
+        let _ = word_index;
+        let mut offer: Offer<Note, u64, LogRule<K>, NoGain> = seen.plain::<NoGain, (), Nothing>(
+            &(),
+        );
+        word.load::<Peek<K>, NoGain>(seen, &mut offer)
+    }
+
+    // What a word that the history knows has at one step, which it then has seen.
+    pub(super) fn load_known(
+        &self,
+        word: &Word<Note, u64, LogRule<K>>,
+        word_index: u64,
+        known: &mut Known<K>,
+    ) -> u64
+        requires of { (known.old.of ≡ self.now) × (word.now ≡ word_of self.now.book word.now.key) }
+        requires known { IsWord known.old.notes word_index word.now.key }
+        ensures same { known.new.of ≡ known.old.of }
+        ensures reply { Reads K.key_at known.old.of.opening known.new.notes word_index word.now.key result }
+    {
+        Self::load_seen(word, word_index, &mut known.seen)
+    }
+
+    // The same by a pass, which adds no event.
     pub(crate) fn load(
         &self,
         word: &Word<Note, u64, LogRule<K>>,
@@ -123,18 +170,15 @@ impl<K: Key> Log<K> {
         ensures since { Since pass.old.number pass.old.notes pass.new.notes [] }
         ensures reply { Reads K.key_at pass.old.of.opening pass.new.notes word_index word.now.key result }
     {
-        let mut offer: Offer<Note, u64, LogRule<K>, NoGain> = pass
-            .seen
-            .plain::<NoGain, (), Nothing>(&());
-        let found = word.load::<Peek<K>, NoGain>(&mut pass.seen, &mut offer);
+        let found = Self::load_seen(word, word_index, &mut pass.seen);
         let mut later = pass.seen.again();
         look(&mut later, &mut pass.ticket.pen);
         found
     }
 
-    // Adds an event where the word still has the value that is expected, which then is one more, and gives the word that the
-    // used ticket has become. `given` is a log that was seen, in which the event may follow while the word has this value;
-    // `cell_proof` shows that an appended text is in the cell of its position.
+    // Adds an event where the word still has the value that is expected, which then is one more. Else nothing changes. `given` is
+    // a log that was seen, in which the event may follow while the word has this value; `cell_proof` shows that an appended text
+    // is in the cell of its position.
     pub(super) fn exchange(
         &self,
         word: &Word<Note, u64, LogRule<K>>,
@@ -143,15 +187,16 @@ impl<K: Key> Log<K> {
         cell_proof: Option<CellProof>,
         given: &Seen<Note, u64, LogRule<K>>,
         pass: &mut Pass<K>,
-    ) -> Option<Word<Note, u64, LogRule<K>>>
+    ) -> bool
         requires of { (pass.old.of ≡ self.now) × (given.now.book ≡ self.now.book) × (word.now ≡ word_of self.now.book word.now.key) }
         requires sum { numbers.expected + 1 < 2 ^ 64 }
         requires known { IsOpened given.now.log × (opening_of given.now.log ≡ self.now.opening) × IsWord (notes_of given.now.log) numbers.word_index word.now.key }
         requires may { ((ticket : ℕ) → Moving ticket (event_of change) numbers.word_index 1 0) × May K.key_at self.now.opening (notes_of given.now.log) numbers.word_index word.now.key numbers.expected (event_of change) }
         requires cell_proof { MatchOption cell_proof (IsQuiet (event_of change)) (λ f. IsCellAt self.now.chunks numbers.position f.0.of f.0.value.items f.1.of × (event_of change ≡ Append f.1.value.text) × Incl (life (era_named self.now.chunks)) f.1.value.until × (numbers.word_index ≡ 0) × (word.now.key ≡ 0) × (numbers.position ≡ length self.now.opening.texts + numbers.expected)) }
         ensures same { IsSamePass pass.new pass.old }
-        ensures done { MatchOption result (pass.new ≡ pass.old) (λ w. (w ≡ word_of self.now.book w.key) × IsDone K.key_at self.now.opening pass.old.number pass.old.notes (notes_of given.now.log) pass.new.notes (event_of change.entry) numbers.word_index word.now.key numbers.expected w.key) }
+        ensures done { MatchBool result ((ticket : ℕ) × IsDone K.key_at self.now.opening pass.old.number pass.old.notes (notes_of given.now.log) pass.new.notes (event_of change.entry) numbers.word_index word.now.key numbers.expected ticket) (pass.new ≡ pass.old) }
     {
+        let next = self.next_ticket(pass);
         let mut seen = self.seen.again();
         seen.learn(given);
         seen.learn(&pass.seen);
@@ -160,7 +205,7 @@ impl<K: Key> Log<K> {
             position: numbers.position,
             number: &pass.number,
             ticket: &pass.ticket,
-            next: &pass.next,
+            next: &next,
         };
         let known = seen.again();
         let mut offer = offered(known, proposal, cell_proof);
@@ -172,12 +217,11 @@ impl<K: Key> Log<K> {
             &mut pass.ticket.pen,
         );
         if found != numbers.expected {
-            return None;
+            return false;
         }
-        let fresh = fetched_by(&pass.ticket.word, &seen);
-        let next = std::mem::replace(&mut pass.next, fresh);
         let used = std::mem::replace(&mut pass.ticket, next);
+        pass.used = Some(used.word);
         pass.seen = seen;
-        Some(used.word)
+        true
     }
 }

@@ -7,7 +7,7 @@ ghost use Rattle.std.specs.Prelude.{◌≡◌};
 ghost use Rattle.lasso_parts.specs.Hashing.{text_hash};
 ghost use Rattle.lasso_log.specs.Pieces.{PieceView};
 ghost use Rattle.lasso_log.specs.Replies.{Copied, Static, Intern, Interned};
-ghost use Rattle.lasso_log.specs.Calls.{IsCall};
+ghost use Rattle.lasso_log.specs.Calls.{IsCall, IsPlainCall};
 ghost use Rattle.lasso_log.specs.Views.{PassView, InternerId, IsSamePass, seen};
 ghost use Rattle.lasso_shared.specs.Shards.{IsShard, shard_of};
 
@@ -43,7 +43,7 @@ impl<K: Key, S: BuildHasher + Drop> Shards<K, S> {
             return Ok(key);
         }
         match self.make_room(rt, shard, pass, number_of(hash)) {
-            Ok(()) => self.put_last(rt, shard, pass, hash, Piece::lasting(text)),
+            Ok(ahead) => self.put_last(rt, shard, pass, ahead, hash, Piece::lasting(text)),
             Err(error) => Err(error),
         }
     }
@@ -67,12 +67,12 @@ impl<K: Key, S: BuildHasher + Drop> Shards<K, S> {
         if let Some(key) = self.find(shard, pass, hash, text) {
             return Ok(key);
         }
-        match self.make_room(rt, shard, pass, number_of(hash)) {
-            Ok(()) => {}
+        let ahead = match self.make_room(rt, shard, pass, number_of(hash)) {
+            Ok(ahead) => ahead,
             Err(error) => return Err(error),
-        }
+        };
         match self.store(rt, shard, pass, hash, text) {
-            Ok(piece) => self.put_last(rt, shard, pass, hash, piece),
+            Ok(piece) => self.put_last(rt, shard, pass, ahead, hash, piece),
             Err(error) => Err(error),
         }
     }
@@ -96,8 +96,7 @@ impl<K: Key, S: BuildHasher + Drop> Shards<K, S> {
         self.intern_static_new(rt, pass, hash, text)
     }
 
-    // Interns such a text that was not found beside other readers. It stays out of line, so that a text that is there makes nothing ready for
-    // one that is not.
+    // Interns a static text that the first look-up did not find. It stays out of line, so that present texts set up nothing for it.
     #[inline(never)]
     fn intern_static_new<R: Wait>(
         &self,
@@ -117,6 +116,20 @@ impl<K: Key, S: BuildHasher + Drop> Shards<K, S> {
         reply
     }
 
+    /// The same without a pass. A present text is found in the history that its shard has seen; for an absent one a pass is made.
+    pub fn intern_static_once<R: Wait>(&self, rt: &R, text: &'static str) -> LassoResult<K>
+        ensures call { IsPlainCall K.key_at self.now.log.opening (Intern Static text.now) (Interned result) }
+    {
+        let hash = hash_text(&self.hasher, text);
+        if let Some(key) = self.glance(rt, hash, text) {
+            return Ok(key);
+        }
+        let mut pass = self.log.pass();
+        let reply = self.intern_static_new(rt, &mut pass, hash, text);
+        pass.show_legal();
+        reply
+    }
+
     /// The key of the text, of which a copy goes last in the list if it is not there. A new text is refused where the memory limit leaves
     /// no room for its bytes, for want of memory, or where the key type has no key for its position. In the last case its bytes may stay
     /// taken; else no event is added.
@@ -132,8 +145,21 @@ impl<K: Key, S: BuildHasher + Drop> Shards<K, S> {
         self.intern_copied_new(rt, pass, hash, text)
     }
 
-    // Interns such a text that was not found beside other readers. It stays out of line, so that a text that is there makes nothing ready for
-    // one that is not.
+    /// The same without a pass, as `intern_static_once` is.
+    pub fn intern_copied_once<R: Wait>(&self, rt: &R, text: &str) -> LassoResult<K>
+        ensures call { IsPlainCall K.key_at self.now.log.opening (Intern Copied text.now) (Interned result) }
+    {
+        let hash = hash_text(&self.hasher, text);
+        if let Some(key) = self.glance(rt, hash, text) {
+            return Ok(key);
+        }
+        let mut pass = self.log.pass();
+        let reply = self.intern_copied_new(rt, &mut pass, hash, text);
+        pass.show_legal();
+        reply
+    }
+
+    // Interns a copied text that the first look-up did not find. It stays out of line, so that present texts set up nothing for it.
     #[inline(never)]
     fn intern_copied_new<R: Wait>(
         &self,

@@ -1,61 +1,70 @@
 //! Looking a text up: in a shard that is read, and in one that is held.
-ghost use Rattle.std.specs.Prelude.{◌≡◌, ◌<◌, [], true, length, Some, IfSome, IfNone};
+ghost use Rattle.std.specs.Prelude.{◌≡◌, ◌<◌, List, [], true, length, Some, IfSome, IfNone};
 ghost use mathlib.Core.List.{IsPrefix};
 ghost use Rattle.lasso_parts.specs.Hashing.{text_hash};
 ghost use Rattle.lasso_parts.specs.Texts.{position_of, key_of};
-ghost use Rattle.lasso_log.specs.History.{Lacks};
-ghost use Rattle.lasso_log.specs.Notes.{Since};
+ghost use Rattle.lasso_log.specs.History.{IsLegal, Lacks};
+ghost use Rattle.lasso_log.specs.Notes.{NoteView, Since, history};
 ghost use Rattle.lasso_log.specs.Replies.{Get, Found};
-ghost use Rattle.lasso_log.specs.Calls.{IsCall};
-ghost use Rattle.lasso_log.specs.Views.{PassView, InternerId, IsSamePass, list_of, seen};
+ghost use Rattle.lasso_log.specs.Calls.{IsCall, IsPlainCall};
+ghost use Rattle.lasso_log.specs.Views.{PassView, InternerId, KnownView, IsSamePass, list_of, seen};
 ghost use Rattle.lasso_shared.specs.Shards.{IsShard, IsTally, IsWholeShard, shard_of};
 
 use crate::shards::Shards;
 use crate::shards::shard::{Shard, Tally};
 use crate::shards::tag::number_of;
-use lasso_log::log::Pass;
+use lasso_log::log::{Known, Pass};
 use lasso_parts::index::hash_text;
 use lasso_parts::keys::Key;
 use std::hash::BuildHasher;
 use std::sync::Wait;
 
-// The key of a text's position in the list that the pass has seen.
-fn key_at<K: Key>(pass: &Pass<K>, position: usize) -> K
-    requires { position < length (list_of pass.now.of pass.now.notes) }
+// The key of a text's position in the list of a history that was seen.
+fn key_at<K: Key>(known: &Known<K>, position: usize) -> K
+    requires { position < length (list_of known.now.of known.now.notes) }
     ensures { K.key_at position ≡ Some result }
 {
-    pass.show_legal();
+    known.show_legal();
     K::try_from_usize(position).unwrap()
 }
 
 impl<K: Key, S: BuildHasher + Drop> Shards<K, S> {
-    // The position of the text in the history that the pass has then seen, where the shard's index has it. Else the list of
-    // the shard's own history lacks it. The pass learns that history.
+    // The position of the text in a history that begins with the shard's own, where the shard's index has it. Else the list of the
+    // shard's own history lacks it.
     fn find_position(
         &self,
         shard: &Shard<K, S>,
-        pass: &mut Pass<K>,
+        known: &Known<K>,
         hash: u64,
         text: &str,
     ) -> Option<usize>
-        requires of { pass.old.of ≡ self.now.log }
+        requires of { known.now.of ≡ self.now.log }
+        requires begins { IsPrefix shard.now.known.notes known.now.notes }
         requires hashed { hash ≡ text_hash S.build_hasher S.Hasher.write S.Hasher.finish self.now.hasher text.now }
         requires held { IsShard (text_hash S.build_hasher S.Hasher.write S.Hasher.finish self.now.hasher) (shard_of hash) self.now.log shard.now.known shard.now.index shard.now.count }
-        ensures same { IsSamePass pass.new pass.old }
-        ensures since { Since pass.old.number pass.old.notes pass.new.notes [] }
-        ensures begins { IsPrefix shard.now.known.notes pass.new.notes }
-        ensures found { IfSome result (λ n. (position_of (list_of self.now.log pass.new.notes) text.now ≡ Some n) × (n < length (list_of self.now.log pass.new.notes))) }
+        ensures found { IfSome result (λ n. (position_of (list_of self.now.log known.now.notes) text.now ≡ Some n) × (n < length (list_of self.now.log known.now.notes))) }
         ensures missing { IfNone result (Lacks (list_of self.now.log shard.now.known.notes) text.now) }
     {
-        pass.recall(&shard.known);
-        pass.show_legal();
-        let seen_texts = self.log.seen_texts(pass);
-        shard
-            .index
-            .find_hashed(&seen_texts, &self.hasher, hash, text)
+        known.show_legal();
+        let texts = self.log.known_texts(known);
+        shard.index.find_hashed(&texts, &self.hasher, hash, text)
     }
 
-    // The same, with the key of the position.
+    // The key of the text, where the shard's index has it. Else the list of the shard's own history, which is legal, lacks it.
+    fn find_key(&self, shard: &Shard<K, S>, hash: u64, text: &str) -> Option<K>
+        requires hashed { hash ≡ text_hash S.build_hasher S.Hasher.write S.Hasher.finish self.now.hasher text.now }
+        requires held { IsShard (text_hash S.build_hasher S.Hasher.write S.Hasher.finish self.now.hasher) (shard_of hash) self.now.log shard.now.known shard.now.index shard.now.count }
+        ensures found { IfSome result (λ k. IsLegal K.key_at self.now.log.opening (history shard.now.known.notes) × (key_of K.key_at (list_of self.now.log shard.now.known.notes) text.now ≡ Some k)) }
+        ensures missing { IfNone result (Lacks (list_of self.now.log shard.now.known.notes) text.now) }
+    {
+        shard.known.show_legal();
+        match self.find_position(shard, &shard.known, hash, text) {
+            Some(position) => Some(key_at(&shard.known, position)),
+            None => None,
+        }
+    }
+
+    // The same in the history that the pass has then seen. The pass learns the shard's own.
     pub(super) fn find(
         &self,
         shard: &Shard<K, S>,
@@ -72,8 +81,10 @@ impl<K: Key, S: BuildHasher + Drop> Shards<K, S> {
         ensures found { IfSome result (λ k. key_of K.key_at (list_of self.now.log pass.new.notes) text.now ≡ Some k) }
         ensures missing { IfNone result (Lacks (list_of self.now.log shard.now.known.notes) text.now) }
     {
-        match self.find_position(shard, pass, hash, text) {
-            Some(position) => Some(key_at(pass, position)),
+        pass.recall(&shard.known);
+        let known = pass.known();
+        match self.find_position(shard, &known, hash, text) {
+            Some(position) => Some(key_at(&known, position)),
             None => None,
         }
     }
@@ -130,6 +141,28 @@ impl<K: Key, S: BuildHasher + Drop> Shards<K, S> {
         unreachable!()
     }
 
+    // Compares the shard likewise. A text that the list of its own history lacks is in none that the pass has then seen.
+    fn see_absent<R: Wait>(
+        &self,
+        rt: &R,
+        shard: &Shard<K, S>,
+        pass: &mut Pass<K>,
+        hash: u64,
+        text: &str,
+    )
+        requires of { pass.old.of ≡ self.now.log }
+        requires hashed { hash ≡ text_hash S.build_hasher S.Hasher.write S.Hasher.finish self.now.hasher text.now }
+        requires held { IsShard (text_hash S.build_hasher S.Hasher.write S.Hasher.finish self.now.hasher) (shard_of hash) self.now.log shard.now.known shard.now.index shard.now.count }
+        requires begins { IsPrefix shard.now.known.notes pass.old.notes }
+        requires missing { Lacks (list_of self.now.log shard.now.known.notes) text.now }
+        ensures same { IsSamePass pass.new pass.old }
+        ensures since { Since pass.old.number pass.old.notes pass.new.notes [] }
+        ensures lacks { Lacks (list_of self.now.log pass.new.notes) text.now }
+    {
+        let _ = text;
+        self.see_whole(rt, shard, pass, number_of(hash));
+    }
+
     // The key of the text, where the shard's index has it. It is looked up beside other readers.
     pub(super) fn peek<R: Wait>(
         &self,
@@ -146,6 +179,17 @@ impl<K: Key, S: BuildHasher + Drop> Shards<K, S> {
     {
         let guard = self.lock(number_of(hash)).read(rt);
         let found = self.find(guard.get(), pass, hash, text);
+        guard.leave();
+        found
+    }
+
+    // The key of the text, where the shard's index has it, without a pass. It is looked up beside other readers.
+    pub(super) fn glance<R: Wait>(&self, rt: &R, hash: u64, text: &str) -> Option<K>
+        requires hashed { hash ≡ text_hash S.build_hasher S.Hasher.write S.Hasher.finish self.now.hasher text.now }
+        ensures told { IfSome result (λ k. (notes : List NoteView) × IsLegal K.key_at self.now.log.opening (history notes) × (key_of K.key_at (list_of self.now.log notes) text.now ≡ Some k)) }
+    {
+        let guard = self.lock(number_of(hash)).read(rt);
+        let found = self.find_key(guard.get(), hash, text);
         guard.leave();
         found
     }
@@ -169,7 +213,26 @@ impl<K: Key, S: BuildHasher + Drop> Shards<K, S> {
         if let Some(key) = self.find(shard, pass, hash, text) {
             return Some(key);
         }
-        self.see_whole(rt, shard, pass, number_of(hash));
+        self.see_absent(rt, shard, pass, hash, text);
+        None
+    }
+
+    /// The same without a pass. A present text is found in the history that its shard has seen; for an absent one a pass is made.
+    pub fn get_once<R: Wait>(&self, rt: &R, text: &str) -> Option<K>
+        ensures call { IsPlainCall K.key_at self.now.log.opening (Get text.now) (Found result) }
+    {
+        let hash = hash_text(&self.hasher, text);
+        let guard = self.lock(number_of(hash)).read(rt);
+        let shard: &Shard<K, S> = guard.get();
+        if let Some(key) = self.find_key(shard, hash, text) {
+            guard.leave();
+            return Some(key);
+        }
+        let mut pass = self.log.pass();
+        pass.recall(&shard.known);
+        self.see_absent(rt, shard, &mut pass, hash, text);
+        guard.leave();
+        pass.show_legal();
         None
     }
 

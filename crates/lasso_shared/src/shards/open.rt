@@ -86,9 +86,9 @@ impl<K: Key, S: BuildHasher + Drop> Shards<K, S> {
             log,
             hasher,
             shards: locks,
-            before: [0; 8],
+            padding_before: [0; 8],
             spine,
-            behind: [0; 8],
+            padding_after: [0; 8],
             buckets,
             alloc,
         })

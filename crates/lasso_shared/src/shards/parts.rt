@@ -27,9 +27,9 @@ impl<K: Key, S: BuildHasher + Drop> Shards<K, S> {
             log,
             hasher,
             shards: _,
-            before: _,
+            padding_before: _,
             spine: _,
-            behind: _,
+            padding_after: _,
             buckets: _,
             alloc,
         } = self;

@@ -1,9 +1,10 @@
 //! Putting a new text last, while its shard is held.
 //!
-//! Room is made in the index and in the log. Then, in one hold of the spine, a slot of the log is kept, the key type is asked, and the
-//! text is appended; its position is entered into the index. The shard is held throughout: so what was looked up stays, what was stored is
-//! not stored again, and a retry looks at numbers alone.
-ghost use Rattle.std.specs.Prelude.{◌≡◌, ◌<◌, ◌-◌, [], IfErr, OnOk, OnErr};
+//! Memory is asked for first: room in the index, and cells of the log ahead of its length. Then the bytes of a copied text are
+//! stored. Then, in one hold of the spine, a slot is kept among those cells, the key type is asked, and the text is appended. Its
+//! position goes into the index. The shard is held throughout: so what was looked up stays, what was stored is not stored again,
+//! and a retry compares numbers alone and asks for no memory.
+ghost use Rattle.std.specs.Prelude.{◌≡◌, ◌<◌, ◌-◌, [], IfOk, IfErr, OnOk, OnErr};
 ghost use base.Fml.{Incl};
 ghost use mathlib.Core.List.{IsPrefix};
 ghost use Rattle.lasso_parts.specs.declared.util.LassoErrorKind.TheVariants.{FailedAllocation};
@@ -15,12 +16,12 @@ ghost use Rattle.lasso_log.specs.History.{Lacks};
 ghost use Rattle.lasso_log.specs.Notes.{Since};
 ghost use Rattle.lasso_log.specs.Pieces.{PieceView};
 ghost use Rattle.lasso_shared.specs.Shards.{IsShard, IsTally, IsWholeShard, PutsLast, shard_of};
-ghost use Rattle.lasso_log.specs.Views.{PassView, InternerId, IsSamePass, list_of};
+ghost use Rattle.lasso_log.specs.Views.{PassView, InternerId, KnownView, IsSamePass, list_of};
 
 use crate::shards::Shards;
 use crate::shards::shard::{Shard, Tally};
 use crate::shards::tag::number_of;
-use lasso_log::log::{KeptSlot, Pass};
+use lasso_log::log::{CellsAhead, KeptSlot, Pass};
 use lasso_log::shared_arena::piece::Piece;
 use lasso_parts::keys::Key;
 use lasso_parts::util::{LassoError, LassoErrorKind, LassoResult};
@@ -28,30 +29,56 @@ use std::hash::BuildHasher;
 use std::sync::Wait;
 
 impl<K: Key, S: BuildHasher + Drop> Shards<K, S> {
-    // Makes room in the shard's index. After want of memory the shard has the texts that it had.
-    fn grow(&self, shard: &mut Shard<K, S>, pass: &Pass<K>, number: usize) -> LassoResult<()>
-        requires of { pass.now.of ≡ self.now.log }
+    // Returns the cells of the log ahead of its length. Where they are not made yet the spine is held, so that one thread makes them.
+    fn cells_ahead<R: Wait>(&self, rt: &R, pass: &mut Pass<K>) -> LassoResult<CellsAhead<K>>
+        requires { pass.old.of ≡ self.now.log }
+        ensures same { IsSamePass pass.new pass.old }
+        ensures since { Since pass.old.number pass.old.notes pass.new.notes [] }
+        ensures ahead { IfOk result (λ a. (a.of ≡ self.now.log) × (a.notes ≡ pass.new.notes)) }
+        ensures refused { IfErr result (λ error. error ≡ FailedAllocation) }
+    {
+        if let Some(ahead) = self.log.find_ahead(pass) {
+            return Ok(ahead);
+        }
+        let (guard, held) = self.spine.take(rt);
+        let made = self.log.make_ahead(rt, self.alloc, pass);
+        guard.give(rt, held);
+        made
+    }
+
+    // Makes room in the shard's index and in the log. Out of memory, the shard has the texts that it had.
+    fn grow<R: Wait>(
+        &self,
+        rt: &R,
+        shard: &mut Shard<K, S>,
+        pass: &mut Pass<K>,
+        number: usize,
+    ) -> LassoResult<CellsAhead<K>>
+        requires of { pass.old.of ≡ self.now.log }
         requires held { IsShard (text_hash S.build_hasher S.Hasher.write S.Hasher.finish self.now.hasher) number self.now.log shard.old.known shard.old.index shard.old.count }
-        requires begins { IsPrefix shard.old.known.notes pass.now.notes }
+        requires begins { IsPrefix shard.old.known.notes pass.old.notes }
+        ensures same { IsSamePass pass.new pass.old }
+        ensures since { Since pass.old.number pass.old.notes pass.new.notes [] }
+        ensures begins { IsPrefix shard.old.known.notes pass.new.notes }
         ensures held { IsShard (text_hash S.build_hasher S.Hasher.write S.Hasher.finish self.now.hasher) number self.now.log shard.new.known shard.new.index shard.new.count }
         ensures known { shard.new.known ≡ shard.old.known }
         ensures room { OnOk result (0 < room shard.new.index.slots) }
+        ensures ahead { IfOk result (λ a. (a.of ≡ self.now.log) × (a.notes ≡ pass.new.notes)) }
         ensures refused { IfErr result (λ error. error ≡ FailedAllocation) }
     {
         let seen_texts = self.log.seen_texts(pass);
         shard.index.reserve_one(&seen_texts, &self.hasher)?;
-        Ok(())
+        self.cells_ahead(rt, pass)
     }
 
-    // Makes room in the shard's index, and cells for the texts to come, with no spine. After want of memory the shard has the texts that it
-    // had, and is whole for what the pass has then seen.
+    // The same; out of memory, the shard is also whole for what the pass has then seen.
     pub(super) fn make_room<R: Wait>(
         &self,
         rt: &R,
         shard: &mut Shard<K, S>,
         pass: &mut Pass<K>,
         number: usize,
-    ) -> LassoResult<()>
+    ) -> LassoResult<CellsAhead<K>>
         requires of { (pass.old.of ≡ self.now.log) × (number < 16) }
         requires held { IsShard (text_hash S.build_hasher S.Hasher.write S.Hasher.finish self.now.hasher) number self.now.log shard.old.known shard.old.index shard.old.count }
         requires begins { IsPrefix shard.old.known.notes pass.old.notes }
@@ -62,16 +89,11 @@ impl<K: Key, S: BuildHasher + Drop> Shards<K, S> {
         ensures known { shard.new.known ≡ shard.old.known }
         ensures whole { OnErr result (IsWholeShard (text_hash S.build_hasher S.Hasher.write S.Hasher.finish self.now.hasher) number self.now.log shard.old.known.notes pass.new.notes) }
         ensures room { OnOk result (0 < room shard.new.index.slots) }
+        ensures ahead { IfOk result (λ a. (a.of ≡ self.now.log) × (a.notes ≡ pass.new.notes)) }
         ensures refused { IfErr result (λ error. error ≡ FailedAllocation) }
     {
-        match self.grow(shard, pass, number) {
-            Ok(()) => match self.log.make_ahead(self.alloc, pass) {
-                Ok(()) => Ok(()),
-                Err(error) => {
-                    self.see_whole(rt, shard, pass, number);
-                    Err(error)
-                }
-            },
+        match self.grow(rt, shard, pass, number) {
+            Ok(ahead) => Ok(ahead),
             Err(error) => {
                 self.see_whole(rt, shard, pass, number);
                 Err(error)
@@ -120,16 +142,18 @@ impl<K: Key, S: BuildHasher + Drop> Shards<K, S> {
         Ok(key)
     }
 
-    // Puts the text last, once the shard is whole for what the pass has then seen.
+    // Puts the text last, once the shard is whole for what the pass has then seen. The caller has made cells ahead, so the loop asks for no
+    // memory. It tries again where the text's cell is not among those, which does not come about while each caller holds a shard.
     pub(super) fn put_last<R: Wait>(
         &self,
         rt: &R,
         shard: &mut Shard<K, S>,
         pass: &mut Pass<K>,
+        ahead: CellsAhead<K>,
         hash: u64,
         text: Piece,
     ) -> LassoResult<K>
-        requires of { pass.old.of ≡ self.now.log }
+        requires of { (pass.old.of ≡ self.now.log) × (ahead.of ≡ self.now.log) }
         requires lasts { Incl (life (era_named self.now.log.chunks)) text.until }
         requires hashed { hash ≡ text_hash S.build_hasher S.Hasher.write S.Hasher.finish self.now.hasher text.text }
         requires held { IsShard (text_hash S.build_hasher S.Hasher.write S.Hasher.finish self.now.hasher) (shard_of hash) self.now.log shard.old.known shard.old.index shard.old.count }
@@ -144,7 +168,7 @@ impl<K: Key, S: BuildHasher + Drop> Shards<K, S> {
             let (guard, mut held) = self.spine.take(rt);
             let tally: &mut Tally<K, S> = &mut held.tally;
             if self.is_whole(tally, shard, pass, number_of(hash)) {
-                if let Ok(slot) = self.log.reserve_next(self.alloc, &mut tally.spine) {
+                if let Some(slot) = self.log.reserve_ahead(&mut tally.spine, &ahead) {
                     let reply = self.append_at(rt, tally, shard, pass, slot, hash, text);
                     guard.give(rt, held);
                     return reply;

@@ -1,5 +1,6 @@
-//! Plain calls of an interner that threads share: each is the call of a new pass, which is gone afterwards. So a clause explains each
-//! reply by a legal history of its own; what holds across calls is said by the calls with a pass, and tested of these.
+//! Plain calls of an interner that threads share. Each is the call of some new pass, which is gone afterwards. So a clause explains
+//! each reply by a legal history of its own; what holds across calls is said by the calls with a pass, and tested of these. A call
+//! that adds no event needs no pass at all: there is always a number that no event of the history has.
 ghost use Rattle.std.specs.Prelude.{◌≡◌, ◌≤◌, ℕ, Ok, option_map};
 ghost use Rattle.lasso_log.specs.History.{IsOpening};
 ghost use Rattle.lasso_log.specs.Replies.{Copied, Static, Intern, Get, Contains, ContainsKey, Resolve, Len, IsEmpty, Usage, MaxUsage, SetLimit, Interned, Found, Flag, Resolved, Number, Done};
@@ -14,6 +15,13 @@ use std::hash::BuildHasher;
 use std::sync::Wait;
 
 impl<K: Key, S: BuildHasher + Drop> ThreadedRodeo<K, S> {
+    // Does nothing. Contracts learn that its opening is one that an interner may begin with.
+    fn show_opening(&self)
+        ensures { IsOpening K.key_at self.now.opening }
+    {
+        self.shards.log.known().show_legal();
+    }
+
     /// The key of the text, of which a copy goes last in the list if it is not there. A new one may be refused for want of memory; else it
     /// is where no bucket has room for its bytes and the memory limit leaves none, or else where the key type has no key for its
     /// position, and its bytes stay taken then. A refusal by the limit or for want of memory adds no event. It waits for those who write
@@ -28,8 +36,8 @@ impl<K: Key, S: BuildHasher + Drop> ThreadedRodeo<K, S> {
         ensures call { IsPlainCall K.key_at self.now.opening (Intern Copied text.now) (Interned result) }
         ensures opening { IsOpening K.key_at self.now.opening }
     {
-        let mut pass = self.pass();
-        self.try_get_or_intern_as(rt, &mut pass, text)
+        self.show_opening();
+        self.shards.intern_copied_once(rt, text)
     }
 
     /// The same call as `try_get_or_intern`.
@@ -63,8 +71,8 @@ impl<K: Key, S: BuildHasher + Drop> ThreadedRodeo<K, S> {
         ensures call { IsPlainCall K.key_at self.now.opening (Intern Static text.now) (Interned result) }
         ensures opening { IsOpening K.key_at self.now.opening }
     {
-        let mut pass = self.pass();
-        self.try_get_or_intern_static_as(rt, &mut pass, text)
+        self.show_opening();
+        self.shards.intern_static_once(rt, text)
     }
 
     /// The same call as `try_get_or_intern_static`.
@@ -96,8 +104,8 @@ impl<K: Key, S: BuildHasher + Drop> ThreadedRodeo<K, S> {
         ensures call { IsPlainCall K.key_at self.now.opening (Get text.now) (Found result) }
         ensures opening { IsOpening K.key_at self.now.opening }
     {
-        let mut pass = self.pass();
-        self.get_as(rt, &mut pass, text)
+        self.show_opening();
+        self.shards.get_once(rt, text)
     }
 
     /// Whether the text is in the list. It takes no memory, and waits as `get` does.
@@ -128,8 +136,10 @@ impl<K: Key, S: BuildHasher + Drop> ThreadedRodeo<K, S> {
         ensures call { IsPlainCall K.key_at self.now.opening (ContainsKey (K.number key)) (Flag result) }
         ensures opening { IsOpening K.key_at self.now.opening }
     {
-        let mut pass = self.pass();
-        self.contains_key_as(&mut pass, key)
+        let mut known = self.shards.log.known();
+        let len = self.shards.log.len_known(&mut known);
+        known.show_legal();
+        (key.into_usize() as u64) < len
     }
 
     /// The key's text, or `None` where the key stands for no text yet. It is lent as long as the interner. It takes no
@@ -146,8 +156,13 @@ impl<K: Key, S: BuildHasher + Drop> ThreadedRodeo<K, S> {
         ensures call { IsPlainCall K.key_at self.now.opening (Resolve (K.number key)) (Resolved (option_map (λ t. t.now) result)) }
         ensures opening { IsOpening K.key_at self.now.opening }
     {
-        let mut pass = self.pass();
-        self.try_resolve_as(&mut pass, key)
+        let mut known = self.shards.log.known();
+        let found = self
+            .shards
+            .log
+            .read_known(key.into_usize() as u64, &mut known);
+        known.show_legal();
+        found
     }
 
     /// The same call as `try_resolve`.
@@ -177,8 +192,10 @@ impl<K: Key, S: BuildHasher + Drop> ThreadedRodeo<K, S> {
         ensures call { IsPlainCall K.key_at self.now.opening Len (Number result) }
         ensures opening { IsOpening K.key_at self.now.opening }
     {
-        let mut pass = self.pass();
-        self.len_as(&mut pass)
+        let mut known = self.shards.log.known();
+        let len = self.shards.log.len_known(&mut known);
+        known.show_legal();
+        len as usize
     }
 
     /// Whether there is no text. It takes no memory and does not wait.

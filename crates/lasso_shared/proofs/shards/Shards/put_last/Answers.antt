@@ -4,8 +4,8 @@ use Rattle.lasso_shared.proofs.Stored.{puts_later}
 use Rattle.lasso_shared.proofs.Whole.{since_both}
 use Rattle.lasso_shared.proofs.shards.Shards.put_last.Goals as goal
 
-pub returns-in-Ok-clause-put : goal.returns-in-Ok-clause-put
-returns-in-Ok-clause-put g c =
+pub returns-in-Some-reserve_ahead-clause-put : goal.returns-in-Some-reserve_ahead-clause-put
+returns-in-Some-reserve_ahead-clause-put g c =
     let i = c.loop.invariant in
     let p = c.args.pass.now.number in
     let w = c.is_whole.ensures in

@@ -1,8 +1,8 @@
-use Rattle.std.proofs.Common.{◌≡◌, ◌≢◌, ◌+◌, ◌≤◌, ◌<◌, ◌^◌, ℕ, Some, List, [], ◌∷◌, length, sym, ap, ◌∙◌, subst, arith}
+use Rattle.std.proofs.Common.{◌≡◌, ◌≢◌, ◌+◌, ◌≤◌, ◌<◌, ◌^◌, ℕ, Some, IfSome, List, [], ◌∷◌, length, sym, ap, ◌∙◌, subst, arith}
 use mathlib.Core.List.{IsPrefix}
 use Rattle.logbook.specs.Pages.{Nib}
 use Rattle.lasso_log.specs.Buckets.{bucket_size, doubling_after}
-use Rattle.lasso_log.specs.Book.{IsDone, May, Moving, Lets, word_of}
+use Rattle.lasso_log.specs.Book.{IsDone, IsUsedWord, May, Moving, Lets, word_of}
 use Rattle.lasso_log.specs.Chunks.{first_number, era_named}
 use Rattle.lasso_log.specs.Events.{bucket_at}
 use Rattle.lasso_log.specs.History.{Event, Charge, Totals}
@@ -13,6 +13,7 @@ use Rattle.lasso_log.specs.Views.{TurnsView}
 use Rattle.lasso_log.proofs.Histories.{prefix_self, prefix_trans}
 use Rattle.lasso_log.proofs.Logs.{tails, firsts, opening_first}
 use Rattle.lasso_log.proofs.NewBuckets.{stands_last, lets_charge}
+use Rattle.lasso_log.proofs.Tickets.{used_word_later}
 use Rattle.lasso_log.proofs.TurnWords.{has_turns, lacks_later, same_turn, may_charge, moving_charge, charge_turned}
 use Rattle.lasso_log.proofs.log.words.Log.add_new.Goals as goal
 
@@ -52,6 +53,24 @@ offer-after-requires-clause-bid g c =
       may = rw (given, opened, event) may;
       lets = rw given lets;
     }
+
+pub invariant_of-pass : goal.invariant_of-pass
+invariant_of-pass g c =
+    let i = c.pass.invariant in let offer = c.add_bucket-offer.ensures in let e = c.add_bucket-offer.result.ask in let fact = c.offer-after.ensures.done in let same = c.offer-after.ensures.same in
+    let a = c.pass.inside.seen.log in let v = c.learn-2.new.self.log in let after = c.offer-after.result.log in
+    let before : c.again-before.result.log ≡ a = ap (λ s. s.log) c.again-before.ensures in
+    let book : c.offer-after.result.book ≡ c.args.self.now.book = same.0 ∙ (c.learn-2.ensures.0 ∙ (c.learn.ensures.0 ∙ (ap (λ y. y.book) c.again-seen.ensures ∙ ap (λ y. y.book) c.self.view_is))) in
+    let mine : c.pass.inside.seen.book ≡ c.offer-after.result.book = ap (λ s. s.of.book) c.pass.view_is ∙ (ap (λ x. x.book) c.requires.of.0 ∙ sym book) in
+    let by : e.by ≡ first_number c.pass.inside.number.numbers = ap (λ (w : NoteView). w.by) offer.1 in
+    let past = tails a after i.3 (prefix_trans a v after c.learn-2.ensures.3 same.2) in
+    let used = used_word_later c.pass.inside.seen.book (notes_of a) (notes_of after) c.pass.inside.used past.2 i.1 in (
+      rw (c.replace-used.ensures.after, book) c.next_ticket-next.ensures,
+      subst (λ b. IfSome c.pass.inside.used (IsUsedWord b (notes_of after))) mine used,
+      rw (c.replace-used.ensures.after, sym by) (sym (fact.ticket ∙ ap (λ (w : NoteView). w.next) offer.1)),
+      fact.opened,
+      rw fact.opening fact.legal,
+      rw (← past.1) i.5,
+    )
 
 pub invariant_of-result : goal.invariant_of-result
 invariant_of-result g c =

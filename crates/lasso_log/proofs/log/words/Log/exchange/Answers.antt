@@ -32,19 +32,19 @@ compare_exchange-found-requires g c =
     let may : May g.K.Key.key_at (opening_of gl) (notes_of gl) c.args.numbers.word_index c.args.word.now.key c.args.numbers.expected e.event = rw (c.requires.known.1, event) c.requires.may.1 in
     let opening : (first_note gl).opening ≡ c.args.self.now.opening = sym (opening_first gl) ∙ c.requires.known.1 in
     let lets : Lets g.K.Key.key_at (first_note gl) (notes_of gl) c.args.numbers.word_index c.args.word.now.key c.args.numbers.expected e c.offered-offer.result.state =
-    rw (offer.1, offer.2) (lets_cell_proof g.K.Key.key_at (first_note gl) (notes_of gl) (note_of (first_number c.pass.inside.number.numbers) (event_of c.args.change) c.args.numbers.position c.pass.inside.ticket.pen.nib.key c.pass.inside.next.pen.nib.key) c.args.numbers.word_index c.args.word.now.key c.args.numbers.expected c.args.cell_proof
+    rw (offer.1, offer.2) (lets_cell_proof g.K.Key.key_at (first_note gl) (notes_of gl) (note_of (first_number c.pass.inside.number.numbers) (event_of c.args.change) c.args.numbers.position c.pass.inside.ticket.pen.nib.key c.next_ticket-next.result.pen.nib.key) c.args.numbers.word_index c.args.word.now.key c.args.numbers.expected c.args.cell_proof
     (λ f. f.1.value.text) (λ f. IsCellAt c.args.self.now.chunks c.args.numbers.position f.0.of f.0.value.items f.1.of) (λ f. Incl (life (era_named c.args.self.now.chunks)) f.1.value.until) refl (rw opening c.requires.cell_proof)) in (
       ap (λ w. w.tracked) c.requires.of.2,
       c.learn-2.ensures.0 ∙ (self ∙ word),
-      (i.0.1 ∙ (ap (λ s. s.of.book) c.pass.view_is ∙ (ap (λ o. o.book) c.requires.of.0 ∙ word))),
+      i.0.1 ∙ (ap (λ s. s.of.book) c.pass.view_is ∙ (ap (λ o. o.book) c.requires.of.0 ∙ word)),
       offer.0 ∙ ap (λ s. s.names) c.again-known.ensures,
       add_opened g.K.Key.key_at a gl v c.pass.inside.ticket.pen.nib e c.offered-offer.result.state c.args.numbers.word_index c.args.word.now.key c.args.numbers.expected 1 i.3 c.learn-2.ensures.3 c.requires.known.0 begun i.0.2
-          (ap (λ (w : NoteView). w.ticket) offer.1) ((i.2 ∙ ap (λ (p : ℕ). ticket_of p (notes_of a)) (sym by))) c.requires.known.2 moving may lets,
+          (ap (λ (w : NoteView). w.ticket) offer.1) (i.2 ∙ ap (λ (p : ℕ). ticket_of p (notes_of a)) (sym by)) c.requires.known.2 moving may lets,
     )
 
-early : (g : Over) (c : goal.After-seen-5-1 g) → c.compare_exchange-found.result ≡ c.args.numbers.expected
+facts : (g : Over) (c : goal.After-drop-offer-2 g)
     → IsIn g.K.Key.key_at (opening_of c.pass.inside.seen.log) c.pass.inside.seen.log c.args.given.now.log c.compare_exchange-found.new.seen.log c.offered-offer.result.ask c.args.numbers.word_index c.args.word.now.key c.args.numbers.expected
-early g c here =
+facts g c =
     let i = c.pass.invariant in
     let offer = c.offered-offer.ensures.offer in
     let e = c.offered-offer.result.ask in
@@ -55,46 +55,34 @@ early g c here =
     let begun : IsPrefix gl v = prefix_trans gl c.learn.new.self.log v c.learn.ensures.3 c.learn-2.ensures.2 in
     added g.K.Key.key_at a gl v c.pass.inside.ticket.pen.nib e c.args.numbers.word_index c.args.word.now.key c.args.numbers.expected (c.args.numbers.expected + 1) c.compare_exchange-found.result c.offered-offer.result.state
     (c.compare_exchange-found.new.seen.log, (c.compare_exchange-found.new.pen.nib, c.compare_exchange-found.new.offer.state)) i.3 c.learn-2.ensures.3 c.requires.known.0 begun
-    ((i.2 ∙ ap (λ (p : ℕ). ticket_of p (notes_of a)) (sym by))) c.requires.known.2 here c.compare_exchange-found.ensures.7
-
-facts : (g : Over) (c : goal.After-drop-offer-2 g) → c.compare_exchange-found.result ≡ c.args.numbers.expected
-    → IsIn g.K.Key.key_at (opening_of c.pass.inside.seen.log) c.pass.inside.seen.log c.args.given.now.log c.compare_exchange-found.new.seen.log c.offered-offer.result.ask c.args.numbers.word_index c.args.word.now.key c.args.numbers.expected
-facts g c here =
-    let i = c.pass.invariant in
-    let offer = c.offered-offer.ensures.offer in
-    let e = c.offered-offer.result.ask in
-    let gl = c.args.given.now.log in
-    let a = c.pass.inside.seen.log in
-    let v = c.learn-2.new.self.log in
-    let by : e.by ≡ first_number c.pass.inside.number.numbers = ap (λ (w : NoteView). w.by) offer.1 in
-    let begun : IsPrefix gl v = prefix_trans gl c.learn.new.self.log v c.learn.ensures.3 c.learn-2.ensures.2 in
-    added g.K.Key.key_at a gl v c.pass.inside.ticket.pen.nib e c.args.numbers.word_index c.args.word.now.key c.args.numbers.expected (c.args.numbers.expected + 1) c.compare_exchange-found.result c.offered-offer.result.state
-    (c.compare_exchange-found.new.seen.log, (c.compare_exchange-found.new.pen.nib, c.compare_exchange-found.new.offer.state)) i.3 c.learn-2.ensures.3 c.requires.known.0 begun
-    ((i.2 ∙ ap (λ (p : ℕ). ticket_of p (notes_of a)) (sym by))) c.requires.known.2 here c.compare_exchange-found.ensures.7
-
-pub fetched_by-fresh-requires-clause-used : goal.fetched_by-fresh-requires-clause-used
-fetched_by-fresh-requires-clause-used g c =
-    let f = early g c c.if-found-numbers.false in
-    let key : c.pass.inside.ticket.word.key ≡ c.pass.inside.ticket.pen.nib.key = ap (λ w. w.key) c.pass.invariant.0.0 in
-    let ticket : f.done.note.ticket ≡ c.pass.inside.ticket.word.key = f.done.ticket ∙ (ap (λ (w : NoteView). w.ticket) c.offered-offer.ensures.offer.1 ∙ (sym key)) in
-    subst (IsUsed c.pass.inside.ticket.word.key) (sym f.done.last) (used_last f.done.mid f.done.note c.pass.inside.ticket.word.key ticket)
+    (i.2 ∙ ap (λ (p : ℕ). ticket_of p (notes_of a)) (sym by)) c.requires.known.2 c.if-found-numbers.false c.compare_exchange-found.ensures.7
 
 pub invariant_of-pass-2 : goal.invariant_of-pass-2
 invariant_of-pass-2 g c =
-    let f = facts g c c.if-found-numbers.false in
+    let f = facts g c in
     let i = c.pass.invariant in
     let offer = c.offered-offer.ensures.offer in
     let e = c.offered-offer.result.ask in
-    let next = c.replace-next.ensures in
     let used = c.replace-used.ensures in
+    let key : ℕ = c.replace-used.result.word.key in
+    let book = c.compare_exchange-found.new.seen.book in
     let by : e.by ≡ first_number c.pass.inside.number.numbers = ap (λ (w : NoteView). w.by) offer.1 in
-    let self : c.compare_exchange-found.new.seen.book ≡ c.args.self.now.book = c.compare_exchange-found.ensures.0 ∙ (c.learn-2.ensures.0 ∙ (c.learn.ensures.0 ∙ (ap (λ s. s.book) c.again-seen.ensures ∙ ap (λ o. o.book) c.self.view_is))) in
-    let mine : c.compare_exchange-found.new.seen.book ≡ c.pass.inside.seen.book = self ∙ sym (ap (λ s. s.of.book) c.pass.view_is ∙ ap (λ o. o.book) c.requires.of.0) in
-    (rw (used.after, next.value, mine) i.1, rw next.after c.fetched_by-fresh.ensures, rw (used.after, next.value, sym by) (sym (f.ticket ∙ ap (λ (w : NoteView). w.next) offer.1)), f.opened, rw f.opening f.legal, rw f.opening i.5)
+    let self : book ≡ c.args.self.now.book = c.compare_exchange-found.ensures.0 ∙ (c.learn-2.ensures.0 ∙ (c.learn.ensures.0 ∙ (ap (λ s. s.book) c.again-seen.ensures ∙ ap (λ o. o.book) c.self.view_is))) in
+    let mine : book ≡ c.pass.inside.seen.book = self ∙ sym (ap (λ s. s.of.book) c.pass.view_is ∙ ap (λ o. o.book) c.requires.of.0) in
+    let word : c.replace-used.result.word ≡ word_of c.pass.inside.seen.book c.pass.inside.ticket.pen.nib.key = ap (λ t. t.word) used.value ∙ i.0.0 in
+    let own : key ≡ c.pass.inside.ticket.pen.nib.key = ap (λ w. w.key) word in
+    let ticket : f.done.note.ticket ≡ key = f.done.ticket ∙ (ap (λ (w : NoteView). w.ticket) offer.1 ∙ sym own) in (
+      rw (used.after, self) c.next_ticket-next.ensures,
+      (word ∙ (ap (λ b. word_of b c.pass.inside.ticket.pen.nib.key) (sym mine) ∙ ap (word_of book) (sym own)), subst (IsUsed key) (sym f.done.last) (used_last f.done.mid f.done.note key ticket)),
+      rw (used.after, sym by) (sym (f.ticket ∙ ap (λ (w : NoteView). w.next) offer.1)),
+      f.opened,
+      rw f.opening f.legal,
+      rw f.opening i.5,
+    )
 
 pub returns-clause-done : goal.returns-clause-done
 returns-clause-done g c =
-    let f = facts g c c.if-found-numbers.false in
+    let f = facts g c in
     let i = c.pass.invariant in
     let offer = c.offered-offer.ensures.offer in
     let e = c.offered-offer.result.ask in
@@ -102,16 +90,9 @@ returns-clause-done g c =
     let event : e.event ≡ event_of c.args.change = ap (λ (w : NoteView). w.event) offer.1 in
     let opening : opening_of c.pass.inside.seen.log ≡ c.args.self.now.opening = ap (λ s. s.of.opening) c.pass.view_is ∙ ap (λ o. o.opening) c.requires.of.0 in
     let notes : notes_of c.pass.inside.seen.log ≡ c.args.pass.now.notes = ap (λ s. s.notes) c.pass.view_is in
-    let word : c.replace-used.result.word ≡ word_of c.pass.inside.seen.book c.pass.inside.ticket.pen.nib.key = ap (λ t. t.word) c.replace-used.ensures.value ∙ (i.0.0) in
-    let book : c.pass.inside.seen.book ≡ c.args.self.now.book = ap (λ s. s.of.book) c.pass.view_is ∙ ap (λ o. o.book) c.requires.of.0 in
-    let key : c.replace-used.result.word.key ≡ c.pass.inside.ticket.pen.nib.key = ap (λ w. w.key) word in
-    let ticket : e.ticket ≡ c.replace-used.result.word.key = ap (λ (w : NoteView). w.ticket) offer.1 ∙ (sym key) in
     let done1 : IsDone g.K.Key.key_at c.args.self.now.opening e.by (notes_of c.pass.inside.seen.log) (notes_of c.args.given.now.log) (notes_of c.compare_exchange-found.new.seen.log) e.event c.args.numbers.word_index c.args.word.now.key c.args.numbers.expected e.ticket =
     subst (λ (o : Totals). IsDone g.K.Key.key_at o e.by (notes_of c.pass.inside.seen.log) (notes_of c.args.given.now.log) (notes_of c.compare_exchange-found.new.seen.log) e.event c.args.numbers.word_index c.args.word.now.key c.args.numbers.expected e.ticket) opening f.done in
     let done2 : IsDone g.K.Key.key_at c.args.self.now.opening c.args.pass.now.number c.args.pass.now.notes (notes_of c.args.given.now.log) (notes_of c.compare_exchange-found.new.seen.log) e.event c.args.numbers.word_index c.args.word.now.key c.args.numbers.expected e.ticket =
     subst (λ (p : ℕ). IsDone g.K.Key.key_at c.args.self.now.opening p c.args.pass.now.notes (notes_of c.args.given.now.log) (notes_of c.compare_exchange-found.new.seen.log) e.event c.args.numbers.word_index c.args.word.now.key c.args.numbers.expected e.ticket) by
-    (subst (λ (l : List NoteView). IsDone g.K.Key.key_at c.args.self.now.opening e.by l (notes_of c.args.given.now.log) (notes_of c.compare_exchange-found.new.seen.log) e.event c.args.numbers.word_index c.args.word.now.key c.args.numbers.expected e.ticket) notes done1) in (
-      word ∙ (ap (λ b. word_of b c.pass.inside.ticket.pen.nib.key) book ∙ ap (word_of c.args.self.now.book) (sym key)),
-      subst (λ (t : ℕ). IsDone g.K.Key.key_at c.args.self.now.opening c.args.pass.now.number c.args.pass.now.notes (notes_of c.args.given.now.log) (notes_of c.compare_exchange-found.new.seen.log) (event_of c.args.change) c.args.numbers.word_index c.args.word.now.key c.args.numbers.expected t) ticket
-          (subst (λ (x : Event). IsDone g.K.Key.key_at c.args.self.now.opening c.args.pass.now.number c.args.pass.now.notes (notes_of c.args.given.now.log) (notes_of c.compare_exchange-found.new.seen.log) x c.args.numbers.word_index c.args.word.now.key c.args.numbers.expected e.ticket) event done2),
-    )
+    (subst (λ (l : List NoteView). IsDone g.K.Key.key_at c.args.self.now.opening e.by l (notes_of c.args.given.now.log) (notes_of c.compare_exchange-found.new.seen.log) e.event c.args.numbers.word_index c.args.word.now.key c.args.numbers.expected e.ticket) notes done1) in
+    (e.ticket, subst (λ (x : Event). IsDone g.K.Key.key_at c.args.self.now.opening c.args.pass.now.number c.args.pass.now.notes (notes_of c.args.given.now.log) (notes_of c.compare_exchange-found.new.seen.log) x c.args.numbers.word_index c.args.word.now.key c.args.numbers.expected e.ticket) event done2)

@@ -2,7 +2,7 @@ use Rattle.std.proofs.Common.{◌≡◌, ◌+◌, ◌≤◌, ℕ, suc, List, [],
 use mathlib.Core.List.{IsPrefix}
 use Rattle.lasso_log.specs.History.{Event, Reserve, Totals}
 use Rattle.lasso_log.specs.Notes.{NoteView, Since, first_note, notes_of, opening_of, ticket_of, bucket_in, state}
-use Rattle.lasso_log.specs.Book.{Moving, May, Lets, IsIn, IsUsed}
+use Rattle.lasso_log.specs.Book.{Moving, May, Lets, IsIn, IsUsed, word_of}
 use Rattle.lasso_log.specs.Chunks.{first_number}
 use Rattle.lasso_log.specs.Events.{event_bytes}
 use Rattle.lasso_log.specs.LentBuckets.{IsRightTo}
@@ -32,49 +32,40 @@ compare_exchange-found-requires g c =
     rw offer.3 (lets_reserve g.K.Key.key_at (first_note gl) (notes_of gl) b.position key b.base b.size n old b.site.numbers at c.requires.some fits e event (ap (λ (w : NoteView). w.lent) offer.1)) in (
       ap (λ w. w.tracked) c.bucket.invariant.own,
       c.learn-2.ensures.0 ∙ (self ∙ word),
-      (i.0.1 ∙ (ap (λ s. s.of.book) c.pass.view_is ∙ (ap (λ o. o.book) c.requires.of.0 ∙ word))),
+      i.0.1 ∙ (ap (λ s. s.of.book) c.pass.view_is ∙ (ap (λ o. o.book) c.requires.of.0 ∙ word)),
       offer.0,
       add_opened g.K.Key.key_at a gl v c.pass.inside.ticket.pen.nib e c.take_bytes-offer.result.state index key old n i.3 c.learn-2.ensures.3 c.bucket.invariant.opened begun i.0.2
-          (ap (λ (w : NoteView). w.ticket) offer.1) ((i.2 ∙ ap (λ (p : ℕ). ticket_of p (notes_of a)) (sym by))) (at.value, at.stands.word) moving may lets,
+          (ap (λ (w : NoteView). w.ticket) offer.1) (i.2 ∙ ap (λ (p : ℕ). ticket_of p (notes_of a)) (sym by)) (at.value, at.stands.word) moving may lets,
     )
 
-early : (g : Over) (c : goal.After-seen-5-1 g) → c.compare_exchange-found.result ≡ c.args.expected
+facts : (g : Over) (c : goal.After-drop-used g)
     → IsIn g.K.Key.key_at (opening_of c.pass.inside.seen.log) c.pass.inside.seen.log c.bucket.inside.seen.log c.compare_exchange-found.new.seen.log c.take_bytes-offer.result.ask (suc (suc c.bucket.inside.position)) c.bucket.inside.word.key c.args.expected
-early g c here =
+facts g c =
     let i = c.pass.invariant in let offer = c.take_bytes-offer.ensures in let e = c.take_bytes-offer.result.ask in let at = c.bucket.invariant.stands in
     let gl = c.bucket.inside.seen.log in let a = c.pass.inside.seen.log in let v = c.learn-2.new.self.log in
     let by : e.by ≡ first_number c.pass.inside.number.numbers = ap (λ (w : NoteView). w.by) offer.1 in
     let begun : IsPrefix gl v = prefix_trans gl c.learn.new.self.log v c.learn.ensures.3 c.learn-2.ensures.2 in
     added g.K.Key.key_at a gl v c.pass.inside.ticket.pen.nib e (suc (suc c.bucket.inside.position)) c.bucket.inside.word.key c.args.expected (c.args.expected + c.args.bytes) c.compare_exchange-found.result c.take_bytes-offer.result.state
     (c.compare_exchange-found.new.seen.log, (c.compare_exchange-found.new.pen.nib, c.compare_exchange-found.new.offer.state)) i.3 c.learn-2.ensures.3 c.bucket.invariant.opened begun
-    ((i.2 ∙ ap (λ (p : ℕ). ticket_of p (notes_of a)) (sym by))) (at.value, at.stands.word) here c.compare_exchange-found.ensures.7
-
-facts : (g : Over) (c : goal.After-drop g) → c.compare_exchange-found.result ≡ c.args.expected
-    → IsIn g.K.Key.key_at (opening_of c.pass.inside.seen.log) c.pass.inside.seen.log c.bucket.inside.seen.log c.compare_exchange-found.new.seen.log c.take_bytes-offer.result.ask (suc (suc c.bucket.inside.position)) c.bucket.inside.word.key c.args.expected
-facts g c here =
-    let i = c.pass.invariant in let offer = c.take_bytes-offer.ensures in let e = c.take_bytes-offer.result.ask in let at = c.bucket.invariant.stands in
-    let gl = c.bucket.inside.seen.log in let a = c.pass.inside.seen.log in let v = c.learn-2.new.self.log in
-    let by : e.by ≡ first_number c.pass.inside.number.numbers = ap (λ (w : NoteView). w.by) offer.1 in
-    let begun : IsPrefix gl v = prefix_trans gl c.learn.new.self.log v c.learn.ensures.3 c.learn-2.ensures.2 in
-    added g.K.Key.key_at a gl v c.pass.inside.ticket.pen.nib e (suc (suc c.bucket.inside.position)) c.bucket.inside.word.key c.args.expected (c.args.expected + c.args.bytes) c.compare_exchange-found.result c.take_bytes-offer.result.state
-    (c.compare_exchange-found.new.seen.log, (c.compare_exchange-found.new.pen.nib, c.compare_exchange-found.new.offer.state)) i.3 c.learn-2.ensures.3 c.bucket.invariant.opened begun
-    ((i.2 ∙ ap (λ (p : ℕ). ticket_of p (notes_of a)) (sym by))) (at.value, at.stands.word) here c.compare_exchange-found.ensures.7
-
-pub fetched_by-fresh-requires-clause-used : goal.fetched_by-fresh-requires-clause-used
-fetched_by-fresh-requires-clause-used g c =
-    let f = early g c c.if-found-expected.false in
-    let key : c.pass.inside.ticket.word.key ≡ c.pass.inside.ticket.pen.nib.key = ap (λ w. w.key) c.pass.invariant.0.0 in
-    let ticket : f.done.note.ticket ≡ c.pass.inside.ticket.word.key = f.done.ticket ∙ (ap (λ (w : NoteView). w.ticket) c.take_bytes-offer.ensures.1 ∙ (sym key)) in
-    subst (IsUsed c.pass.inside.ticket.word.key) (sym f.done.last) (used_last f.done.mid f.done.note c.pass.inside.ticket.word.key ticket)
+    (i.2 ∙ ap (λ (p : ℕ). ticket_of p (notes_of a)) (sym by)) (at.value, at.stands.word) c.if-found-expected.false c.compare_exchange-found.ensures.7
 
 pub invariant_of-pass-2 : goal.invariant_of-pass-2
 invariant_of-pass-2 g c =
-    let f = facts g c c.if-found-expected.false in let i = c.pass.invariant in let offer = c.take_bytes-offer.ensures in let e = c.take_bytes-offer.result.ask in
-    let next = c.replace-next.ensures in let used = c.replace-used.ensures in
+    let f = facts g c in let i = c.pass.invariant in let offer = c.take_bytes-offer.ensures in let e = c.take_bytes-offer.result.ask in
+    let used = c.replace-used.ensures in let key : ℕ = c.replace-used.result.word.key in let book = c.compare_exchange-found.new.seen.book in
     let by : e.by ≡ first_number c.pass.inside.number.numbers = ap (λ (w : NoteView). w.by) offer.1 in
-    let self : c.compare_exchange-found.new.seen.book ≡ c.args.self.now.book = c.compare_exchange-found.ensures.0 ∙ (c.learn-2.ensures.0 ∙ (c.learn.ensures.0 ∙ (ap (λ s. s.book) c.again-seen.ensures ∙ ap (λ o. o.book) c.self.view_is))) in
-    let mine : c.compare_exchange-found.new.seen.book ≡ c.pass.inside.seen.book = self ∙ sym (ap (λ s. s.of.book) c.pass.view_is ∙ ap (λ o. o.book) c.requires.of.0) in
-    (rw (used.after, next.value, mine) i.1, rw next.after c.fetched_by-fresh.ensures, rw (used.after, next.value, sym by) (sym (f.ticket ∙ ap (λ (w : NoteView). w.next) offer.1)), f.opened, rw f.opening f.legal, rw f.opening i.5)
+    let self : book ≡ c.args.self.now.book = c.compare_exchange-found.ensures.0 ∙ (c.learn-2.ensures.0 ∙ (c.learn.ensures.0 ∙ (ap (λ s. s.book) c.again-seen.ensures ∙ ap (λ o. o.book) c.self.view_is))) in
+    let mine : book ≡ c.pass.inside.seen.book = self ∙ sym (ap (λ s. s.of.book) c.pass.view_is ∙ ap (λ o. o.book) c.requires.of.0) in
+    let word : c.replace-used.result.word ≡ word_of c.pass.inside.seen.book c.pass.inside.ticket.pen.nib.key = ap (λ t. t.word) used.value ∙ i.0.0 in
+    let own : key ≡ c.pass.inside.ticket.pen.nib.key = ap (λ w. w.key) word in
+    let ticket : f.done.note.ticket ≡ key = f.done.ticket ∙ (ap (λ (w : NoteView). w.ticket) offer.1 ∙ sym own) in (
+      rw (used.after, self) c.next_ticket-next.ensures,
+      (word ∙ (ap (λ b. word_of b c.pass.inside.ticket.pen.nib.key) (sym mine) ∙ ap (word_of book) (sym own)), subst (IsUsed key) (sym f.done.last) (used_last f.done.mid f.done.note key ticket)),
+      rw (used.after, sym by) (sym (f.ticket ∙ ap (λ (w : NoteView). w.next) offer.1)),
+      f.opened,
+      rw f.opening f.legal,
+      rw f.opening i.5,
+    )
 
 pub returns-clause-right : goal.returns-clause-right
 returns-clause-right g c =
@@ -90,12 +81,12 @@ returns-clause-event g c =
     let event : e.event ≡ Reserve c.args.bucket.now.position c.args.bytes = ap (λ (w : NoteView). w.event) offer.1 ∙ ap (λ (s : SharedView). Reserve s.position c.args.bytes) c.bucket.view_is in
     let notes : notes_of c.pass.inside.seen.log ≡ c.args.pass.now.notes = ap (λ s. s.notes) c.pass.view_is in
     subst (λ (x : Event). Since c.args.pass.now.number c.args.pass.now.notes after (x ∷ [])) event
-    (subst (λ (p : ℕ). Since p c.args.pass.now.notes after (e.event ∷ [])) by (subst (λ (l : List NoteView). Since e.by l after (e.event ∷ [])) notes (facts g c c.if-found-expected.false).done.since))
+    (subst (λ (p : ℕ). Since p c.args.pass.now.notes after (e.event ∷ [])) by (subst (λ (l : List NoteView). Since e.by l after (e.event ∷ [])) notes (facts g c).done.since))
 
 pub returns-clause-taken : goal.returns-clause-taken
 returns-clause-taken g c =
     let offer = c.take_bytes-offer.ensures in let e = c.take_bytes-offer.result.ask in let b = c.bucket.inside in let gl = b.seen.log in let after = notes_of c.compare_exchange-found.new.seen.log in
-    let d = (facts g c c.if-found-expected.false).done in
+    let d = (facts g c).done in
     let event : d.note.event ≡ Reserve b.position c.args.bytes = d.is ∙ ap (λ (w : NoteView). w.event) offer.1 in
     let opening : (first_note gl).opening ≡ c.args.self.now.opening = sym (opening_first gl) ∙ (ap (λ s. s.of.opening) c.bucket.view_is ∙ ap (λ o. o.opening) c.requires.of.1) in
     subst (λ (s : SharedView). HasTaken (state c.args.self.now.opening after) s.position (s.base + c.args.expected + c.args.bytes)) c.bucket.view_is
@@ -104,7 +95,7 @@ returns-clause-taken g c =
 
 pub returns-clause-note : goal.returns-clause-note
 returns-clause-note g c =
-    let f = facts g c c.if-found-expected.false in let d = f.done in let made = f.note ∙ c.take_bytes-offer.ensures.1 in record {
+    let f = facts g c in let d = f.done in let made = f.note ∙ c.take_bytes-offer.ensures.1 in record {
       before = d.mid;
       note = d.note;
       last = d.last;

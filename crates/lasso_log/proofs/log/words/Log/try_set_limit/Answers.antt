@@ -26,10 +26,10 @@ invariant_of-turns g c =
     let i = c.turns.inside in let o : Totals = c.args.self.now.opening in let v = notes_of i.seen.log in let after = c.exchange.new.pass.notes in let s = c.copy_seen.ensures in
     let first : opening_of i.seen.log ≡ o = ap (λ t. t.of.opening) c.turns.view_is ∙ ap (λ of. of.opening) c.requires.1 in
     let turned : IsTurned g.K.Key.key_at o v i.turns i.doubling i.usage i.limit i.count = subst (λ (t : Totals). IsTurned g.K.Key.key_at t v i.turns i.doubling i.usage i.limit i.count) first c.turns.invariant.1 in
-    let done : IsDone g.K.Key.key_at o c.args.pass.now.number c.args.pass.now.notes v after (Limit c.args.limit) 1 1 i.turns c.in-Some.word.key =
-    subst (λ (k : ℕ). IsDone g.K.Key.key_at o c.args.pass.now.number c.args.pass.now.notes v after (Limit c.args.limit) 1 k i.turns c.in-Some.word.key) (ap (λ w. w.key) c.self.invariant.6) c.in-Some.ensures.done.1 in
+    let done : IsDone g.K.Key.key_at o c.args.pass.now.number c.args.pass.now.notes v after (Limit c.args.limit) 1 1 i.turns c.if-not-exchange.ensures.done.0 =
+    subst (λ (k : ℕ). IsDone g.K.Key.key_at o c.args.pass.now.number c.args.pass.now.notes v after (Limit c.args.limit) 1 k i.turns c.if-not-exchange.ensures.done.0) (ap (λ w. w.key) c.self.invariant.6) c.if-not-exchange.ensures.done.1 in
     let opening : opening_of c.copy_seen.result.log ≡ o = s.of.2 ∙ (ap (λ of. of.opening) c.exchange.ensures.same.1 ∙ ap (λ of. of.opening) c.requires.0) in
-    (s.log.0, rw (opening, s.log.1) (limit_turned g.K.Key.key_at o c.args.pass.now.number c.args.pass.now.notes v after v c.args.limit i.turns c.in-Some.word.key i.doubling i.usage i.limit i.count done (prefix_self v) turned), c.ranges.limit.fits)
+    (s.log.0, rw (opening, s.log.1) (limit_turned g.K.Key.key_at o c.args.pass.now.number c.args.pass.now.notes v after v c.args.limit i.turns c.if-not-exchange.ensures.done.0 i.doubling i.usage i.limit i.count done (prefix_self v) turned), c.ranges.limit.fits)
 
 pub returns-clause-done : goal.returns-clause-done
-returns-clause-done g c = (c.in-Some.ensures.done.1.since, c.copy_seen.ensures.log.1, refl, ap (λ t. t.count) c.turns.view_is, ap (λ t. t.usage) c.turns.view_is, ap (λ t. t.doubling) c.turns.view_is)
+returns-clause-done g c = (c.if-not-exchange.ensures.done.1.since, c.copy_seen.ensures.log.1, refl, ap (λ t. t.count) c.turns.view_is, ap (λ t. t.usage) c.turns.view_is, ap (λ t. t.doubling) c.turns.view_is)

@@ -1,0 +1,98 @@
+//! Cells that are made ahead of the list's length. Used by whoever interns a text.
+ghost use Rattle.std.specs.Prelude.{◌≡◌, [], IfOk, IfErr, IfSome};
+ghost use Rattle.lasso_parts.specs.declared.util.LassoErrorKind.TheVariants.{FailedAllocation};
+ghost use Rattle.lasso_log.specs.Notes.{Since};
+ghost use Rattle.lasso_log.specs.Views.{PassView, InternerId, KnownView, IsSamePass};
+
+use crate::chunks::Chunk;
+use crate::log::known::Known;
+use crate::log::pass::Pass;
+use crate::log::rule::StoredText;
+use crate::log::words::Log;
+use boxcar::slot::Written;
+use lasso_parts::keys::Key;
+use lasso_parts::util::{LassoError, LassoErrorKind, LassoResult};
+use std::alloc::Global;
+use std::marker::Model;
+use std::sync::Wait;
+
+// Sixteen cells are looked for, from the length on. The last one lies this far past the first.
+const AHEAD: u64 = 15;
+
+/// What shows that the cells of the next sixteen positions are made, past the list of a history that was seen. Each lies in the
+/// chunk of the first of them or in that of the last. It has no bytes. A contract sees the interner and the history's notes.
+///
+/// Where at most sixteen threads at a time intern a text, and each of them looks at the length anew for each text, a text finds the
+/// chunk of its position made. Say that its thread looked when the position was further ahead than the last cell it asked for. Then the
+/// sixteen texts before it were all appended since that look. When the first of them was appended, at most fifteen threads besides
+/// its own were under way, this one among them. So of the fifteen others at least one text was looked for after that step, and the cells
+/// that its thread asked for reach past this text's position.
+#[derive(Drop)]
+pub struct CellsAhead<K: Key> {
+    known: Known<K>,
+    first: Written<Chunk<StoredText>>,
+    last: Written<Chunk<StoredText>>,
+}
+
+impl<K: Key> Model for CellsAhead<K> {
+    ghost use Rattle.std.specs.Prelude.{◌≡◌, ◌+◌, length};
+    ghost use Rattle.lasso_log.specs.Chunks.{chunk_named};
+    ghost use Rattle.lasso_log.specs.Views.{KnownView, known_view_coded, list_of};
+
+    ghost Value = { KnownView };
+
+    ghost coded = { known_view_coded };
+
+    ghost view = { λ a. a.known };
+
+    ghost invariant = { λ a. (a.first.of ≡ chunk_named a.known.of.chunks (length (list_of a.known.of a.known.notes))) × (a.last.of ≡ chunk_named a.known.of.chunks (length (list_of a.known.of a.known.notes) + 15)) };
+}
+
+impl<K: Key> Log<K> {
+    /// What shows that the cells of the next sixteen positions are made, at one step, or `None` where one is not. It takes no
+    /// memory and does not wait.
+    pub fn find_ahead(&self, pass: &mut Pass<K>) -> Option<CellsAhead<K>>
+        requires { pass.old.of ≡ self.now }
+        ensures same { IsSamePass pass.new pass.old }
+        ensures since { Since pass.old.number pass.old.notes pass.new.notes [] }
+        ensures ahead { IfSome result (λ a. (a.of ≡ self.now) × (a.notes ≡ pass.new.notes)) }
+    {
+        let len = self.len(pass);
+        let end = len.checked_add(AHEAD)?;
+        let first = self.memory.chunks.find_chunk(len)?;
+        let last = self.memory.chunks.find_chunk(end)?;
+        Some(CellsAhead {
+            known: pass.known(),
+            first,
+            last,
+        })
+    }
+
+    /// Makes the cells of the next sixteen positions, at one step, where they are not made, and gives what shows that they are. It
+    /// fails out of memory alone (`FailedAllocation`), which it also returns where a position would be 2^64 or more. It waits where
+    /// another thread makes them at the same time.
+    pub fn make_ahead<R: Wait>(
+        &self,
+        rt: &R,
+        alloc: Global,
+        pass: &mut Pass<K>,
+    ) -> LassoResult<CellsAhead<K>>
+        requires { pass.old.of ≡ self.now }
+        ensures same { IsSamePass pass.new pass.old }
+        ensures since { Since pass.old.number pass.old.notes pass.new.notes [] }
+        ensures ahead { IfOk result (λ a. (a.of ≡ self.now) × (a.notes ≡ pass.new.notes)) }
+        ensures refused { IfErr result (λ error. error ≡ FailedAllocation) }
+    {
+        let len = self.len(pass);
+        let Some(end) = len.checked_add(AHEAD) else {
+            return Err(LassoError::new(LassoErrorKind::FailedAllocation));
+        };
+        let first = self.memory.chunks.make_chunk_or_wait(rt, alloc, len)?;
+        let last = self.memory.chunks.make_chunk_or_wait(rt, alloc, end)?;
+        Ok(CellsAhead {
+            known: pass.known(),
+            first,
+            last,
+        })
+    }
+}
