@@ -1,0 +1,1 @@
+//! A slot's claims, one after another and by threads.
