@@ -3,7 +3,7 @@ ghost use Rattle.std.specs.Prelude.{◌≡◌, IfOk, IfErr};
 ghost use Rattle.lasso_parts.specs.declared.util.LassoErrorKind.TheVariants.{FailedAllocation};
 
 use crate::shards::tag::ShardTag;
-use counted_slot::Fits;
+use lasso_slot::Fits;
 use lasso_log::log::{Known, Spine};
 use lasso_parts::index::Index;
 use lasso_parts::keys::Key;
