@@ -25,8 +25,8 @@ const LOOKS: u32 = 100;
 
 /// A value that one thread at a time has. Where the value must be spent the lock must be, by `into_inner`.
 pub struct TaggedMutex<X: Fits> {
-    queue: Mutex<()>,
     slot: Slot<Option<X>>,
+    queue: Mutex<()>,
 }
 
 impl<X: Fits> Model for TaggedMutex<X> {
@@ -65,8 +65,8 @@ impl<X: Fits> TaggedMutex<X> {
         ensures { result ≡ tag.now }
     {
         TaggedMutex {
-            queue: Mutex::new(()),
             slot: Slot::new(Some(value), tag),
+            queue: Mutex::new(()),
         }
     }
 
@@ -107,7 +107,7 @@ impl<X: Fits> TaggedMutex<X> {
     pub fn into_inner(self) -> Option<X>
         ensures { IfSome result (λ x. X.fits self x) }
     {
-        let TaggedMutex { queue, slot } = self;
+        let TaggedMutex { slot, queue } = self;
         drop(queue);
         slot.into_inner()
     }
@@ -126,8 +126,10 @@ impl<'a, X: Fits> TaggedMutexGuard<'a, X> {
 /// A value that many threads read at once, or one has.
 #[derive(Drop)]
 pub struct TaggedRwLock<X: Fits + Drop> {
-    queue: Mutex<()>,
     slot: Slot<Option<X>>,
+    queue: Mutex<()>,
+    // Nothing is read in these. They keep the locks of a row on lines of memory of their own, where the value is a pointer.
+    apart: [u64; 5],
 }
 
 impl<X: Fits + Drop> Model for TaggedRwLock<X> {
@@ -177,8 +179,9 @@ impl<X: Fits + Drop> TaggedRwLock<X> {
         ensures { result ≡ tag.now }
     {
         TaggedRwLock {
-            queue: Mutex::new(()),
             slot: Slot::new(Some(value), tag),
+            queue: Mutex::new(()),
+            apart: [0; 5],
         }
     }
 
