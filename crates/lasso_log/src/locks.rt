@@ -129,7 +129,7 @@ pub struct TaggedRwLock<X: Fits + Drop> {
     slot: Slot<Option<X>>,
     queue: Mutex<()>,
     // Nothing is read in these. They keep the locks of a row on lines of memory of their own, where the value is a pointer.
-    apart: [u64; 5],
+    apart: [u64; 4],
 }
 
 impl<X: Fits + Drop> Model for TaggedRwLock<X> {
@@ -181,7 +181,7 @@ impl<X: Fits + Drop> TaggedRwLock<X> {
         TaggedRwLock {
             slot: Slot::new(Some(value), tag),
             queue: Mutex::new(()),
-            apart: [0; 5],
+            apart: [0; 4],
         }
     }
 
