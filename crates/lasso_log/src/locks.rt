@@ -8,28 +8,25 @@
 //! the value can't be let go but by giving a value back. No lock is poisoned: a panic under one ends the
 //! process, where the runtime is the host's.
 //!
-//! The slot's word says who may come: it has `FREE` or `PRESENT` while the value is there, with the number of its readers, `MARKED` while
-//! a writer waits for those, and `OUT` while a holder has the value. Who finds a lock taken looks a few times more, and then stands in its queue,
-//! whose first looks on and lets other threads run between.
-ghost use Rattle.std.specs.Prelude.{◌≡◌, ◌⊎◌, true, Some, IfSome};
+//! Locking a lock that nobody has is one locked step, and so is unlocking it. A thread that finds a lock locked goes out of line: it looks
+//! a few times more, and then joins the lock's queue, whose first looks on and lets other threads run between.
+ghost use Rattle.std.specs.Prelude.{◌≡◌, true, Some, IfSome};
 ghost use Rattle.lasso_log.specs.Locks.{has_value};
+ghost use Rattle.lasso_slot.specs.Words.{shared, whole};
 
-use counted_slot::{Claim, Counted, FREE, Fits, MARKED, MOST_READERS, ONE_READER, PRESENT, TAKEN};
+use lasso_slot::{Claim, Fits, Slot};
 use std::hint::spin_loop;
 use std::marker::Model;
 use std::sync::{Mutex, Wait};
 use std::thread::yield_now;
-
-// The word of a slot whose value a holder has: a writer may come to put it back, and nobody else comes by this word.
-const OUT: u64 = 0x1_0000_0000;
 
 // How often a thread looks before it stands in a queue. What a holder does takes about as long, and less than going to sleep.
 const LOOKS: u32 = 100;
 
 /// A value that one thread at a time has. Where the value must be spent the lock must be, by `into_inner`.
 pub struct TaggedMutex<X: Fits> {
+    slot: Slot<Option<X>>,
     queue: Mutex<()>,
-    slot: Counted<Option<X>>,
 }
 
 impl<X: Fits> Model for TaggedMutex<X> {
@@ -43,7 +40,8 @@ impl<X: Fits> Model for TaggedMutex<X> {
 /// What a holder has beside the value that it took. It ends by `give` and by nothing else. A contract sees the
 /// lock's tag.
 pub struct TaggedMutexGuard<'a, X: Fits> {
-    lock: &'a TaggedMutex<X>,
+    claim: Claim<'a, Option<X>>,
+    ghost right: { claim.right ≡ whole },
 }
 
 impl<'a, X: Fits> Model for TaggedMutexGuard<'a, X> {
@@ -51,7 +49,7 @@ impl<'a, X: Fits> Model for TaggedMutexGuard<'a, X> {
 
     ghost coded = { X.Tag.code };
 
-    ghost view = { λ t. t.lock.now };
+    ghost view = { λ t. t.claim.tag };
 }
 
 impl<X: Fits + Drop> Drop for TaggedMutex<X> {
@@ -67,8 +65,8 @@ impl<X: Fits> TaggedMutex<X> {
         ensures { result ≡ tag.now }
     {
         TaggedMutex {
+            slot: Slot::new(Some(value), tag),
             queue: Mutex::new(()),
-            slot: Counted::new(Some(value), tag),
         }
     }
 
@@ -76,16 +74,27 @@ impl<X: Fits> TaggedMutex<X> {
     pub fn take<R: Wait>(&self, rt: &R) -> (TaggedMutexGuard<'_, X>, X)
         ensures { (result.0 ≡ self.now) × X.fits self.now result.1 }
     {
+        match pull_free(&self.slot) {
+            Some((claim, value)) => (TaggedMutexGuard { claim }, value),
+            None => self.wait(rt),
+        }
+    }
+
+    // The same, where somebody else had the lock.
+    #[inline(never)]
+    fn wait<R: Wait>(&self, rt: &R) -> (TaggedMutexGuard<'_, X>, X)
+        ensures { (result.0 ≡ self.now) × X.fits self.now result.1 }
+    {
         for _ in 0..LOOKS {
-            if let Some(value) = pull(&self.slot) {
-                return (TaggedMutexGuard { lock: self }, value);
+            if let Some((claim, value)) = pull(&self.slot) {
+                return (TaggedMutexGuard { claim }, value);
             }
             spin_loop();
         }
         let _first = self.queue.lock(rt);
         for _ in rt.forever() {
-            if let Some(value) = pull(&self.slot) {
-                return (TaggedMutexGuard { lock: self }, value);
+            if let Some((claim, value)) = pull(&self.slot) {
+                return (TaggedMutexGuard { claim }, value);
             }
             yield_now();
         }
@@ -98,7 +107,7 @@ impl<X: Fits> TaggedMutex<X> {
     pub fn into_inner(self) -> Option<X>
         ensures { IfSome result (λ x. X.fits self x) }
     {
-        let TaggedMutex { queue, slot } = self;
+        let TaggedMutex { slot, queue } = self;
         drop(queue);
         slot.into_inner()
     }
@@ -109,16 +118,18 @@ impl<'a, X: Fits> TaggedMutexGuard<'a, X> {
     pub fn give<R: Wait>(self, rt: &R, value: X)
         requires { X.fits self value }
     {
-        let TaggedMutexGuard { lock } = self;
-        push(&lock.slot, rt, value, FREE);
+        let TaggedMutexGuard { claim } = self;
+        push(claim, rt, value);
     }
 }
 
 /// A value that many threads read at once, or one has.
 #[derive(Drop)]
 pub struct TaggedRwLock<X: Fits + Drop> {
+    slot: Slot<Option<X>>,
     queue: Mutex<()>,
-    slot: Counted<Option<X>>,
+    // Nothing is read in these. They keep the locks of a row on lines of memory of their own, where the value is a pointer.
+    apart: [u64; 4],
 }
 
 impl<X: Fits + Drop> Model for TaggedRwLock<X> {
@@ -132,7 +143,7 @@ impl<X: Fits + Drop> Model for TaggedRwLock<X> {
 /// A reader's hold of a value. It ends by `leave`.
 pub struct TaggedRwLockReadGuard<'a, X: Fits + Drop> {
     claim: Claim<'a, Option<X>>,
-    ghost right: { claim.right ≡ 1 },
+    ghost right: { claim.right ≡ shared },
     ghost there: { has_value claim.value ≡ true },
 }
 
@@ -149,7 +160,8 @@ impl<'a, X: Fits + Drop> Model for TaggedRwLockReadGuard<'a, X> {
 /// What a writer has beside the value that it took. It ends by `give` and by nothing else. A contract sees the
 /// lock's tag.
 pub struct TaggedRwLockWriteGuard<'a, X: Fits + Drop> {
-    lock: &'a TaggedRwLock<X>,
+    claim: Claim<'a, Option<X>>,
+    ghost right: { claim.right ≡ whole },
 }
 
 impl<'a, X: Fits + Drop> Model for TaggedRwLockWriteGuard<'a, X> {
@@ -157,7 +169,7 @@ impl<'a, X: Fits + Drop> Model for TaggedRwLockWriteGuard<'a, X> {
 
     ghost coded = { X.Tag.code };
 
-    ghost view = { λ c. c.lock.now };
+    ghost view = { λ c. c.claim.tag };
 }
 
 impl<X: Fits + Drop> TaggedRwLock<X> {
@@ -167,13 +179,25 @@ impl<X: Fits + Drop> TaggedRwLock<X> {
         ensures { result ≡ tag.now }
     {
         TaggedRwLock {
+            slot: Slot::new(Some(value), tag),
             queue: Mutex::new(()),
-            slot: Counted::new(Some(value), tag),
+            apart: [0; 4],
         }
     }
 
     /// Takes the lock to read, beside other readers. No reader comes while a writer that stands in the queue waits for those that are there.
     pub fn read<R: Wait>(&self, rt: &R) -> TaggedRwLockReadGuard<'_, X>
+        ensures { result.tag ≡ self.now }
+    {
+        match self.try_read() {
+            Some(guard) => guard,
+            None => self.wait_to_read(rt),
+        }
+    }
+
+    // The same, where a writer had the lock or another reader was faster.
+    #[inline(never)]
+    fn wait_to_read<R: Wait>(&self, rt: &R) -> TaggedRwLockReadGuard<'_, X>
         ensures { result.tag ≡ self.now }
     {
         for _ in 0..LOOKS {
@@ -187,10 +211,6 @@ impl<X: Fits + Drop> TaggedRwLock<X> {
             if let Some(guard) = self.try_read() {
                 return guard;
             }
-            // Nobody has read or changed the value yet.
-            if let Some(value) = pull(&self.slot) {
-                push(&self.slot, rt, value, PRESENT);
-            }
             yield_now();
         }
         unreachable!()
@@ -200,7 +220,7 @@ impl<X: Fits + Drop> TaggedRwLock<X> {
     fn try_read(&self) -> Option<TaggedRwLockReadGuard<'_, X>>
         ensures { IfSome result (λ r. r.tag ≡ self.now) }
     {
-        let claim = enter(&self.slot)?;
+        let claim = self.slot.try_shared()?;
         if claim.get().is_some() {
             return Some(TaggedRwLockReadGuard { claim });
         }
@@ -212,18 +232,29 @@ impl<X: Fits + Drop> TaggedRwLock<X> {
     pub fn take<R: Wait>(&self, rt: &R) -> (TaggedRwLockWriteGuard<'_, X>, X)
         ensures { (result.0 ≡ self.now) × X.fits self.now result.1 }
     {
+        match pull_free(&self.slot) {
+            Some((claim, value)) => (TaggedRwLockWriteGuard { claim }, value),
+            None => self.wait_to_write(rt),
+        }
+    }
+
+    // The same, where somebody else had the lock.
+    #[inline(never)]
+    fn wait_to_write<R: Wait>(&self, rt: &R) -> (TaggedRwLockWriteGuard<'_, X>, X)
+        ensures { (result.0 ≡ self.now) × X.fits self.now result.1 }
+    {
         for _ in 0..LOOKS {
-            if let Some(value) = pull(&self.slot) {
-                return (TaggedRwLockWriteGuard { lock: self }, value);
+            if let Some((claim, value)) = pull(&self.slot) {
+                return (TaggedRwLockWriteGuard { claim }, value);
             }
             spin_loop();
         }
         let _first = self.queue.lock(rt);
         for _ in rt.forever() {
-            if let Some(value) = pull(&self.slot) {
-                return (TaggedRwLockWriteGuard { lock: self }, value);
+            if let Some((claim, value)) = pull(&self.slot) {
+                return (TaggedRwLockWriteGuard { claim }, value);
             }
-            keep_readers_out(&self.slot);
+            self.slot.keep_readers_out();
             yield_now();
         }
         unreachable!()
@@ -235,8 +266,8 @@ impl<'a, X: Fits + Drop> TaggedRwLockWriteGuard<'a, X> {
     pub fn give<R: Wait>(self, rt: &R, value: X)
         requires { X.fits self value }
     {
-        let TaggedRwLockWriteGuard { lock } = self;
-        push(&lock.slot, rt, value, PRESENT);
+        let TaggedRwLockWriteGuard { claim } = self;
+        push(claim, rt, value);
     }
 }
 
@@ -254,69 +285,55 @@ impl<'a, X: Fits + Drop> TaggedRwLockReadGuard<'a, X> {
     /// Ends the reading.
     pub fn leave(self) {
         let TaggedRwLockReadGuard { claim } = self;
-        let _was = claim.leave();
+        claim.leave();
     }
 }
 
-// Takes the value out, where it is there and nobody reads it.
-fn pull<X: Fits>(slot: &Counted<Option<X>>) -> Option<X>
-    ensures { IfSome result (λ x. X.fits slot.now x) }
+// Takes the value out, where nobody has the slot and nobody waits for it. It doesn't look first.
+fn pull_free<X: Fits>(slot: &Slot<Option<X>>) -> Option<(Claim<'_, Option<X>>, X)>
+    ensures { IfSome result (λ r. (r.0.right ≡ whole) × (r.0.tag ≡ slot.now) × X.fits slot.now r.1) }
 {
-    let word = slot.load();
-    if word > MARKED {
-        return None;
-    }
-    let (found, claim) = slot.turn(word, TAKEN);
-    if found == word {
-        claim.put(None, OUT)
-    } else {
-        claim.done();
-        None
-    }
+    emptied(slot.try_free()?)
 }
 
-// Puts the value back into the slot that it was taken out of, and leaves it with this word. It waits where the slot has a value.
-fn push<X: Fits, R: Wait>(slot: &Counted<Option<X>>, rt: &R, value: X, word: u64)
-    requires { ((word ≡ 0) ⊎ (word ≡ 1)) × X.fits slot.now value }
+// Takes the value out, where nobody has the slot. It looks first.
+fn pull<X: Fits>(slot: &Slot<Option<X>>) -> Option<(Claim<'_, Option<X>>, X)>
+    ensures { IfSome result (λ r. (r.0.right ≡ whole) × (r.0.tag ≡ slot.now) × X.fits slot.now r.1) }
 {
-    let mut value = value;
-    for _ in rt.forever() {
-        let (found, claim) = slot.turn(OUT, TAKEN);
-        if found == OUT {
-            let Some(other) = claim.put(Some(value), word) else {
-                return;
-            };
-            value = other;
-        } else {
-            claim.done();
+    emptied(slot.try_whole()?)
+}
+
+// The value of a slot that is claimed whole, which keeps everybody else out until the value is back.
+fn emptied<X: Fits>(claim: Claim<'_, Option<X>>) -> Option<(Claim<'_, Option<X>>, X)>
+    requires { claim.right ≡ whole }
+    ensures { IfSome result (λ r. (r.0.right ≡ whole) × (r.0.tag ≡ claim.entry.tag) × X.fits claim.entry.tag r.1) }
+{
+    let (claim, value) = claim.swap(None);
+    match value {
+        Some(value) => Some((claim, value)),
+        None => {
+            claim.give_back();
+            None
         }
-        spin_loop();
+    }
+}
+
+// Puts the value back into the slot that it was taken out of, which then is free.
+fn push<X: Fits, R: Wait>(claim: Claim<'_, Option<X>>, rt: &R, value: X)
+    requires { (claim.right ≡ whole) × X.fits claim.tag value }
+{
+    let (claim, other) = claim.swap(Some(value));
+    claim.give_back();
+    if let Some(other) = other {
+        keep(rt, other);
+    }
+}
+
+// Keeps a value that lay in a slot beside the one that was taken out. There is none, but no type says so, and a value need not be droppable.
+#[inline(never)]
+fn keep<X, R: Wait>(rt: &R, _other: X) {
+    for _ in rt.forever() {
+        yield_now();
     }
     unreachable!()
-}
-
-// Marks the value that is read, so that no reader comes before a writer.
-fn keep_readers_out<X: Fits>(slot: &Counted<Option<X>>) {
-    let word = slot.load();
-    if word % 4 == PRESENT {
-        let (_found, claim) = slot.turn(word, word + 1);
-        claim.done();
-    }
-}
-
-// Counts one reader more, where readers may come and the count does not end.
-fn enter<X: Fits + Drop>(slot: &Counted<Option<X>>) -> Option<Claim<'_, Option<X>>>
-    ensures { IfSome result (λ c. (c.right ≡ 1) × (c.tag ≡ slot.now)) }
-{
-    let word = slot.load();
-    if word % 4 != PRESENT || word % 0x1_0000_0000 / 4 >= MOST_READERS {
-        return None;
-    }
-    let (found, claim) = slot.turn(word, word + ONE_READER);
-    if found == word {
-        Some(claim)
-    } else {
-        claim.done();
-        None
-    }
 }

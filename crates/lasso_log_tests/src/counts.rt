@@ -2,7 +2,7 @@
 
 ghost use Rattle.std.specs.Prelude.{◌≡◌, ◌≤◌};
 
-use counted_slot::Fits;
+use lasso_slot::Fits;
 use lasso_log::locks::TaggedMutex;
 use std::sync::Wait;
 

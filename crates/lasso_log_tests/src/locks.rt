@@ -3,7 +3,7 @@
 ghost use Rattle.std.specs.Prelude.{◌≡◌, ◌≤◌};
 
 use crate::counts::{Count, count_in, count_up};
-use counted_slot::Fits;
+use lasso_slot::Fits;
 use lasso_log::locks::{TaggedMutex, TaggedRwLock};
 use std::sync::Wait;
 use std::test::*;

@@ -19,7 +19,7 @@ pub mod shard;
 mod store;
 pub mod tag;
 
-use crate::shards::shard::{BoxedTally, Shard};
+use crate::shards::shard::{BoxedShard, BoxedTally};
 use lasso_log::locks::{TaggedMutex, TaggedRwLock};
 use lasso_log::log::Log;
 use lasso_log::shared_arena::bucket_list::BucketList;
@@ -32,7 +32,7 @@ use std::hash::BuildHasher;
 pub struct Shards<K: Key, S: BuildHasher + Drop> {
     pub log: Log<K>,
     pub hasher: S,
-    shards: Vec<TaggedRwLock<Shard<K, S>>>,
+    shards: Vec<TaggedRwLock<BoxedShard<K, S>>>,
     // The padding is never read. It keeps the spine's lock on a cache line of its own.
     padding_before: [u64; 8],
     pub spine: TaggedMutex<BoxedTally<K, S>>,
@@ -49,7 +49,7 @@ pub struct Shards<K: Key, S: BuildHasher + Drop> {
 impl<K: Key, S: BuildHasher + Drop> Shards<K, S> {
     /// The lock round the shard of this number, below 16. While a caller holds it for writing, calls about the shard's texts wait; while one
     /// holds it for reading, texts that are there are found beside it.
-    pub fn lock(&self, number: usize) -> &TaggedRwLock<Shard<K, S>>
+    pub fn lock(&self, number: usize) -> &TaggedRwLock<BoxedShard<K, S>>
         requires { number < 16 }
         ensures { (result.now.log ≡ self.now.log) × (result.now.hasher ≡ self.now.hasher) × (result.now.number ≡ number) }
     {

@@ -9,9 +9,9 @@ ghost use Rattle.lasso_log.specs.SharedBuckets.{IsOfEra};
 use crate::shared_arena::era::{Ended, Era};
 use crate::shared_arena::rights::{Free, Owed, lend};
 use boxcar::tag::{Names, Tag};
-use counted_slot::Fits;
 use lasso_parts::bucket::cells::{Cells, Deed, allocate, deallocate};
 use lasso_parts::util::{LassoError, LassoErrorKind, LassoResult};
+use lasso_slot::Fits;
 use std::alloc::Global;
 use std::marker::{Model, Send, Sync};
 

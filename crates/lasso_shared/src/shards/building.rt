@@ -9,7 +9,7 @@ ghost use Rattle.lasso_parts.specs.declared.util.LassoErrorKind.TheVariants.{Fai
 ghost use Rattle.lasso_log.specs.Views.{list_of};
 ghost use Rattle.lasso_shared.specs.Shards.{Counts, IsShard};
 
-use crate::shards::shard::Shard;
+use crate::shards::shard::{BoxedShard, Shard};
 use crate::shards::tag::{SHARDS, ShardTag, number_of};
 use lasso_log::locks::TaggedRwLock;
 use lasso_parts::index::{Index, Texts, hash_text};
@@ -22,7 +22,7 @@ use std::marker::PhantomData;
 /// The locks of the shards, in the order of their numbers, and how many texts each shard has.
 #[derive(Drop)]
 pub(super) struct NewShards<K: Key, S: BuildHasher + Drop> {
-    pub(super) locks: Vec<TaggedRwLock<Shard<K, S>>>,
+    pub(super) locks: Vec<TaggedRwLock<BoxedShard<K, S>>>,
     pub(super) counts: [u64; 16],
 }
 
@@ -45,7 +45,7 @@ impl<K: Key, S: BuildHasher + Drop> ShardTag<K, S> {
             self.number = number;
             let shard = self.shard(alloc, hashes.as_slice())?;
             counts[number] = shard.count;
-            locks.push_reserved(TaggedRwLock::new(shard, self));
+            locks.push_reserved(TaggedRwLock::new(BoxedShard::around(alloc, shard)?, self));
         }
         Ok(NewShards { locks, counts })
     }

@@ -111,7 +111,7 @@ impl<K: Key, S: BuildHasher + Drop> Shards<K, S> {
         ensures call { IsCall K.key_at self.now.log.opening (seen pass.old) (seen pass.new) pass.old.number (Intern Static text.now) (Interned result) }
     {
         let (guard, mut shard) = self.lock(number_of(hash)).take(rt);
-        let reply = self.intern_static_held(rt, &mut shard, pass, hash, text);
+        let reply = self.intern_static_held(rt, &mut shard.shard, pass, hash, text);
         guard.give(rt, shard);
         reply
     }
@@ -174,7 +174,7 @@ impl<K: Key, S: BuildHasher + Drop> Shards<K, S> {
         ensures call { IsCall K.key_at self.now.log.opening (seen pass.old) (seen pass.new) pass.old.number (Intern Copied text.now) (Interned result) }
     {
         let (guard, mut shard) = self.lock(number_of(hash)).take(rt);
-        let reply = self.intern_copied_held(rt, &mut shard, pass, hash, text);
+        let reply = self.intern_copied_held(rt, &mut shard.shard, pass, hash, text);
         guard.give(rt, shard);
         reply
     }

@@ -178,7 +178,7 @@ impl<K: Key, S: BuildHasher + Drop> Shards<K, S> {
         ensures found { IfSome result (λ k. key_of K.key_at (list_of self.now.log pass.new.notes) text.now ≡ Some k) }
     {
         let guard = self.lock(number_of(hash)).read(rt);
-        let found = self.find(guard.get(), pass, hash, text);
+        let found = self.find(&guard.get().shard, pass, hash, text);
         guard.leave();
         found
     }
@@ -245,7 +245,7 @@ impl<K: Key, S: BuildHasher + Drop> Shards<K, S> {
     {
         let hash = hash_text(&self.hasher, text);
         let guard = self.lock(number_of(hash)).read(rt);
-        let found = self.look_up(rt, guard.get(), pass, hash, text);
+        let found = self.look_up(rt, &guard.get().shard, pass, hash, text);
         guard.leave();
         found
     }

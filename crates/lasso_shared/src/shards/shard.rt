@@ -3,7 +3,7 @@ ghost use Rattle.std.specs.Prelude.{◌≡◌, IfOk, IfErr};
 ghost use Rattle.lasso_parts.specs.declared.util.LassoErrorKind.TheVariants.{FailedAllocation};
 
 use crate::shards::tag::ShardTag;
-use counted_slot::Fits;
+use lasso_slot::Fits;
 use lasso_log::log::{Known, Spine};
 use lasso_parts::index::Index;
 use lasso_parts::keys::Key;
@@ -21,13 +21,31 @@ pub struct Shard<K: Key, S: BuildHasher + Drop> {
     pub(super) of: PhantomData<S>,
 }
 
-impl<K: Key, S: BuildHasher + Drop> Fits for Shard<K, S> {
+/// What a shard's lock keeps: a box, so that locking moves a pointer and not the shard.
+#[derive(Drop)]
+pub struct BoxedShard<K: Key, S: BuildHasher + Drop> {
+    pub shard: Box<Shard<K, S>>,
+}
+
+impl<K: Key, S: BuildHasher + Drop> BoxedShard<K, S> {
+    // A box with this shard. Its only error is `FailedAllocation`.
+    pub(super) fn around(alloc: Global, shard: Shard<K, S>) -> LassoResult<Self>
+        ensures shard { IfOk result (λ b. b.shard.value ≡ shard) }
+        ensures refused { IfErr result (λ error. error ≡ FailedAllocation) }
+    {
+        Ok(BoxedShard {
+            shard: Box::new(alloc, shard)?,
+        })
+    }
+}
+
+impl<K: Key, S: BuildHasher + Drop> Fits for BoxedShard<K, S> {
     type Tag = ShardTag<K, S>;
 
     ghost use Rattle.lasso_parts.specs.Hashing.{text_hash};
     ghost use Rattle.lasso_shared.specs.Shards.{IsShard};
 
-    ghost fits = { λ tag s. IsShard (text_hash S.build_hasher S.Hasher.write S.Hasher.finish tag.hasher) tag.number tag.log s.known s.index s.count };
+    ghost fits = { λ tag b. IsShard (text_hash S.build_hasher S.Hasher.write S.Hasher.finish tag.hasher) tag.number tag.log b.shard.value.known b.shard.value.index b.shard.value.count };
 }
 
 /// The spine, and how many texts each shard has in the history that the spine has seen.

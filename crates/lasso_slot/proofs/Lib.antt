@@ -1,0 +1,5 @@
+pub mod Claims
+pub mod Lending
+pub mod Lots
+pub mod Steps
+pub mod Walks

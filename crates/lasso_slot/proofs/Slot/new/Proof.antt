@@ -1,0 +1,35 @@
+-- `new`: the word 0 and the value, side by side. Assumes `Logic`.
+use Rattle.lasso_slot.proofs.Walks.{◌≡◌, ◌≢◌, ℕ, ◌+◌, ◌^◌, ◌<◌, ◌&&◌, T, List, [], ◌∷◌, ◌++◌, sym, refl, ap, ◌∙◌, subst, lit<, w64, Option, Some, and_tt, dcons, dnil, a_type, named, Val, vunit, vint, vptr, vstruct, vcons, vnil, of_list, has_ty, WT, inst_fn, full_share, SProp, ent, sep, wand, emp, ex, id⊢, via, apply∗, guard_i, Lft, Share, Fml, ftrue, fsep, fex, feq, flft, fbor, finv, Incl-refl, before, WpFn, sem, lfts, ‵, raw, ◌⊛◌, some, given, later, mean, at_ret, ◌$◌, ◌∵◌, !, qed, by, move, keep, drop, split, split3, join, fsplit, fsplit3, fjoin, fjoin3, fpick, fpack, pick, learn, use0, use1, use2, use3, await, rewrite, feq_i, feq_l, flt_i, flt_l, suffices, stop, fld, hop, load, addr, lit, unit_lit, of_opd, no_more, and_then, first, blocks, exec, assigns, look_raw, store_raw, Calls-last, returns, enter, alloc_all, pass_all, free_all, look_at, get, get_in, through, sets, sets_last, lands_last, is, env, agg, sub, whole, look_in, bor_open, obor_close, tables, fact, fact_i, fact_use, ◌⊑◌, ⊑_meet, yes, no, RattleType, Valss, owns, types_at, plain, named_lft, Ptr, InBlock, block_ptr, ptr_val, block_of, count_of, at_block, nothing, peeks, heard, looks, shuts, unhide, Is, shows, Typed, part_at, cell_at, hidden_shr, shared_of, param, layout, bounded, param_laws, RefOf, u64, unit, shr_vals, shr_Tells, uint_vals, uint_Tells, shortens, lent_out, within, alive, Stays, stay_dropped, walk_of, Goes-dropped, tail, El, lawful, Good, one, proved, proved_at, leaves, fm, seq_cst, found, finds, loads, subs, exchanges, Returned, Reached, reaches}
+use Rattle.std.proofs.Common.{true}
+use Rattle.lasso_slot.specs.Words.{IsTurn, IsWeight, Gains}
+use Rattle.lasso_slot.specs.Slots.{Id, offset, cell, visible, kept_word, known, right_to, claim_owns, claim_shares}
+use Rattle.lasso_slot.specs.contracts.Slot as slot
+use Rattle.lasso_slot.specs.contracts.Slot.TheInside as inside
+use Rattle.lasso_slot.specs.contracts.Claim as claim
+use Rattle.lasso_slot.proofs.Claims.{claim_val, claim_typed, Fields, fields_are, fields_made, fields_open, claim_placed, claim_shown}
+use Rattle.lasso_slot.specs.contracts.Slot.new as f
+use Rattle.lasso_slot.proofs.Slot.new.Statement.{statement}
+use Rattle.lasso_slot.proofs.Slot.new.Code as code
+
+pub new_spec : {M : Type 1} → statement M
+new_spec 𝓤 𝓛 𝓜 𝓡 wired X Y L _ g d _ =
+    let H = 𝓛.H in let 𝓣 = tables 𝓤 H 𝓜 𝓡 𝓡.env in let R : RattleType = param 0 X in let G : RattleType = param 1 Y in let E : El = record { row = X; laws = L } in let ended = f.ended X Y g d in let c = f.clauses X Y g d 𝓛 𝓜.mem 𝓡.returns in
+    let inst = bounded (a_type ∷ a_type ∷ []) (X, (Y, tt)) (dcons d dnil) in let fn = inst_fn inst code.function in let F : RattleType = inside.the_row R G g in let D = denote.Struct.Declared.shape (inside.the_type R G g) in
+    let item = plain (λ _. R) in let about = RefOf (0 ∷ []) tt (plain (λ _. G)) (λ _. tt) in let stays : Stays ended.signature.params ended.kept = (stay_dropped item no, (stay_dropped about yes, tt)) in
+    proved_at 𝓛 ended stays c 𝓜 𝓡 (Goes-dropped 𝓛 3 item no (λ κs x w. refl), (Goes-dropped 𝓛 3 about yes (λ κs x w. refl), tt)) (f.Key.name inst) fn (code.unfolded 𝓤 H 𝓜 𝓡 wired (X, (Y, tt)) d) (λ z are.
+    let x : X.Denot = z.0.3.0 in let tag : Y.Denot = z.0.3.1.0.now in let fits = g.fits tag in let place : Val = vptr z.0.3.1.0.ref_ptr.0 z.0.3.1.0.ref_ptr.1 in
+    let got = one E z.0.4.0 ((lawful E 𝓛).typed x z.0.4.0 are.0) in let vx : Val = got.0 in let fx : Good E vx = got.2 in let v : Val = vstruct (vcons (vint w64 0) (vcons vx vnil)) in
+    let typed : T (has_ty (layout X) vx && true) × WT v = (and_tt (has_ty (layout X) vx) fx.0, (record { fits = lit< tt }, (fx.1, tt))) in
+    let Post : Val → SProp 𝓤 = (walk_of 𝓛 ended stays c).post z in let Run : List Val → SProp 𝓤 = λ ws. WpFn 𝓤 H 𝓣.C 𝓣.Λ fn ws Post in
+    qed 𝓛 ((raw (alive 𝓛 ended.signature z.0.0 z.0.1) ⊛ ‵ (owns (types_at ended.signature.params z.0.0) z.0.3 z.0.4)) ∷ raw (fact 𝓤 _) ∷ raw (fact 𝓤 _) ∷ raw (fact 𝓤 (fits x)) ∷ []) ∵
+    keep ! (3 ∷ 0 ∷ []) $ heard ! (fits x) (λ fit. split ! $ move ! (1 ∷ []) $ fsplit ! $ keep ! (0 ∷ 2 ∷ []) $
+    -- what the slot owns, of the value and the fact
+    rewrite ! 0 (λ (ws : List Val). ‵ (R.own_val x ws)) got.1 refl $ nothing ! $ move ! (1 ∷ 0 ∷ []) $ flt_i ! 0 (2 ^ 64) (lit< tt) $ feq_i ! (List Val) (vint w64 0 ∷ []) (vint w64 0 ∷ []) refl $ fjoin ! $ fjoin3 ! $
+    feq_i ! (List Val) (v ∷ []) (v ∷ []) refl $ fjoin ! $ fpack ! (Valss (u64 ∷ R ∷ [])) (within D (0, (x, tt)) (v ∷ [])) (vint w64 0 ∷ [], (vx ∷ [], tt)) $
+    nothing ! $ fpack ! (fits x) (λ _. ftrue) fit $ move ! (1 ∷ 0 ∷ []) $ fjoin ! $
+    fpack ! (ℕ × X.Denot) (λ s. fsep (F.own_val (record { word = s.0; value = s.1 }) (v ∷ [])) (fex (fits s.1) (λ _. ftrue))) (0, x) $ nothing ! $ fpack ! (Typed F.mir (v ∷ [])) (λ _. ftrue) (typed, tt) $ fjoin ! $
+    suffices ! (Run (vx ∷ place ∷ [])) (subst (λ (ws : List Val). ent 𝓤 (Run (vx ∷ place ∷ [])) (Run ws)) (sym (λ i. got.1 i ++ (are.1.0.0 i ++ []))) (id⊢ 𝓤 (Run (vx ∷ place ∷ [])))) $
+    enter ! 𝓣.C 𝓣.Λ fn (vx ∷ place ∷ []) Post $ alloc_all ! (λ l. pass_all ! refl (fx, ((tt, tt), tt)) $ sets ! (of_opd ! (get ! refl)) refl fx $
+    sets ! (agg ! (and_then ! (lit ! tt) (and_then ! (get ! refl) (no_more !)))) refl typed $
+    use0 𝓛 (raw (fact 𝓤 (tag ≡ tag))) (fact_i 𝓤 (tag ≡ tag) (emp 𝓤) refl) $ nothing ! $ nothing ! $ fjoin ! $ nothing ! $ fjoin ! $
+    returns ! (look_at ! 0 refl) $ free_all ! refl $ keep ! (3 ∷ 0 ∷ 2 ∷ 1 ∷ []) $ by ! (leaves 𝓛 ended stays c z v tag (tt, (tt, tt)) (tt, (tt, tt))))))

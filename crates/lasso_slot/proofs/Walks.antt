@@ -1,0 +1,68 @@
+-- The names that the walks cite, passed on from one place, and how each walk reaches a slot's invariant. Assumes `Logic`.
+-- Whoever holds a `&` to the slot, or a claim, knows that the slot's lifetime α ends no earlier than its own. So a token of its own buys one of α,
+-- and gets it back for that one.
+pub use Rattle.std.proofs.Common.{◌≡◌, ◌≢◌, ℕ, ◌+◌, ◌^◌, ◌<◌, ◌&&◌, T, List, [], ◌∷◌, ◌++◌, sym, refl, ap, ◌∙◌, subst, lit<, w64, Option, Some}
+pub use Rattle.std.proofs.ResultValues.{and_tt}
+pub use mir.Syntax.{dcons, dnil, a_type, named}
+pub use mir.Val.{Val, vunit, vint, vptr, vstruct, vcons, vnil, of_list, has_ty, WT}
+pub use mir.MapTy.{inst_fn}
+pub use base.Fraction.{full_share}
+pub use base.Share
+pub use base.Logic.{SProp, ent, sep, wand, emp, ex, id⊢, via, apply∗, guard_i}
+pub use base.Fml.{Lft, Share, Fml, ftrue, fsep, fex, feq, flft, fbor, finv, Incl-refl}
+pub use base.Before.{before}
+pub use prog.Wp.{WpFn}
+pub use types.Logic.{sem, lfts}
+pub use types.Kit.{‵, raw, ◌⊛◌, some, given, later, mean, at_ret, ◌$◌, ◌∵◌, !, qed, by, move, keep, drop, split, split3, join, fsplit, fsplit3, fjoin, fjoin3, fpick, fpack, pick, learn, use0, use1, use2, use3, await, updating, now, done, rewrite, feq_i, feq_l, flt_i, flt_l, suffices}
+pub use types.Run.{stop, fld, hop, load, addr, lit, unit_lit, of_opd, no_more, and_then, first, blocks, exec, assigns, look_raw, store_raw, Calls-last, returns, enter}
+pub use types.ByLocal.{alloc_all, pass_all, free_all, look_at, get, get_in, through, sets, sets_last, lands_last, is, env}
+pub use types.Part.{agg, sub, whole, look_in}
+pub use types.Tokens.{bor_open, obor_close}
+pub use contract.Running.{Running, tables}
+pub use contract.Monad.{fact, fact_i, fact_use}
+pub use contract.BorrowLft.{◌⊑◌, ⊑_meet}
+pub use denote.Exit.{yes, no}
+pub use denote.RattleType.{RattleType, Valss, owns}
+pub use denote.Signature.{types_at, plain, named_lft}
+pub use denote.RawPtr.{Ptr, InBlock, block_ptr, ptr_val, block_of, count_of, at_block}
+pub use denote.Steps.{nothing, peeks, heard, looks, shuts}
+pub use denote.Opens.{unhide}
+pub use denote.Laws.{Is, shows, Typed}
+pub use denote.Memory.{part_at, cell_at, hidden_shr, shared_of}
+pub use denote.Param.{param, layout, bounded}
+pub use denote.Param.Laws.{param_laws}
+pub use denote.Builtin.{RefOf, u64, unit}
+pub use denote.Ref.{shr_vals, shr_Tells}
+pub use denote.Plain.{uint_vals, uint_Tells}
+pub use denote.SharingLaws.{shortens}
+pub use denote.Struct.Lending.{lent_out}
+pub use denote.Struct.Struct.{within}
+pub use denote.Triple.Entry.{alive}
+pub use denote.Triple.Walked.{Stays, stay_dropped, walk_of, Goes-dropped}
+pub use Rattle.core.proofs.atomic.Steps.{tail}
+pub use Rattle.core.proofs.mem.Param.{El, lawful, Good, one}
+pub use Rattle.atomic_table.proofs.Walks.{proved, proved_at, leaves}
+pub use Rattle.atomic_table.proofs.Calls.{fm, seq_cst, found, finds, loads, subs, exchanges}
+use Rattle.lasso_slot.specs.Slots.{Id, kept_word, known}
+use contract.Shared.{Lends-one}
+use prog.Model.{Model}
+use seplogic.Ra.Ura.{Ura}
+use types.Logic.{Logic}
+use types.Na.{before_dup}
+
+module _ {M : Type 1} {𝓤 : Ura M} (𝓛 : Logic 𝓤) (𝓜 : Model 𝓤 𝓛.H) (𝓡 : Running 𝓤 𝓛.H 𝓜) (R : RattleType) (fits : R.Denot → Type 0) (b o : ℕ) (t : Id) (κ : Lft) (q : Share) where
+  open 𝓛 use {H, A}
+
+  -- the way back from a token of α to that of κ
+  abbrev pub Returned : Share → SProp 𝓤
+  Returned s = wand 𝓤 (A.lft t.0 s) (H.⇛ (A.lft κ q))
+
+  abbrev pub Reached : Share → SProp 𝓤
+  Reached s = sep 𝓤 (sep 𝓤 (A.inv (fbor t.0 (kept_word R fits b o t))) (A.lft t.0 s)) (sep 𝓤 (Returned s) (sem 𝓛 (known R fits b o t κ)))
+
+  pub reaches : ent 𝓤 (sep 𝓤 (sem 𝓛 (known R fits b o t κ)) (A.lft κ q)) (H.⇛ (ex 𝓤 Reached))
+  reaches = let I : Fml = fbor t.0 (kept_word R fits b o t) in
+      qed 𝓛 (‵ (known R fits b o t κ) ∷ ‵ (flft κ q) ∷ []) ∵ updating ! $ fsplit ! $ use1 𝓛 (‵ (before κ t.0) ⊛ ‵ (before κ t.0)) (before_dup 𝓛 κ t.0) $ split ! $ move ! (0 ∷ 3 ∷ []) $
+      use2 𝓛 (later (some (λ (s : Share). ‵ (flft t.0 s) ⊛ raw (Returned s)))) (Lends-one 𝓛 𝓜 𝓡 κ t.0 q) $ await ! tt $ pick ! (λ s. split ! $ move ! (3 ∷ []) $
+      use1 𝓛 (‵ (finv I) ⊛ ‵ (finv I)) (𝓛.invs.inv_dup I) $ split ! $ move ! (4 ∷ 1 ∷ []) $ fjoin ! $ move ! (3 ∷ 0 ∷ []) $ join ! $ move ! (1 ∷ 2 ∷ []) $ join ! $
+      now ! $ types.Kit.show ! Reached s $ done !)

@@ -1,0 +1,238 @@
+//! A slot: one value in place, beside a word that says who may use it.
+//!
+//! A thread claims the whole slot, and then may exchange the value, or claims it shared with other readers, and then may read it.
+//! A claim changes the word in one locked step, and is given back in one. The slot keeps a fact about its value, `Fits`, by a tag that is
+//! fixed when the slot is made. Nobody waits here: a claim is refused where somebody else is in the way.
+//!
+//! The word counts the readers in its low 32 bits. `MARKED` keeps further readers out while somebody waits for the whole slot, and `TAKEN`
+//! says that somebody has it.
+#![tactic(auto)]
+
+ghost use Rattle.std.specs.Prelude.{◌≡◌, ◌≢◌, ℕ, Option, Some, IfSome};
+ghost use Rattle.std.specs.Coded.{coded_option};
+ghost use Rattle.lasso_slot.specs.Words.{IsTurn, IsWeight, Gains, shared, whole};
+ghost use Rattle.lasso_slot.specs.Slots.{slot_owns, slot_shares, claim_owns, claim_shares};
+
+use atomic_table::exchange;
+use std::marker::{Brand, Model, Move, Owns, PhantomData};
+use std::sync::atomic::Ordering::SeqCst;
+use std::sync::atomic::raw;
+
+#[cfg(test)]
+mod tests;
+
+// Nobody has a claim, and nobody waits.
+const FREE: u64 = 0;
+
+const ONE_READER: u64 = 1;
+
+const MOST_READERS: u64 = 0xffff_ffff;
+
+const MARKED: u64 = 0x1_0000_0000;
+
+const TAKEN: u64 = 0x2_0000_0000;
+
+/// A fact about each value of a slot, by the tag that the slot was made with.
+pub trait Fits {
+    type Tag;
+
+    ghost fits: { Self.Tag → Self → Type 0 };
+}
+
+impl<X: Fits> Fits for Option<X> {
+    type Tag = X::Tag;
+
+    ghost fits = { λ tag x. IfSome x (X.fits tag) };
+}
+
+/// A value and its word. A contract sees the slot's tag.
+pub struct Slot<X: Fits> {
+    word: u64,
+    value: X,
+}
+
+impl<X: Fits> Owns for Slot<X> {
+    ghost Value = { X.Tag };
+
+    ghost coded = { X.Tag.code };
+
+    ghost shr_at = { λ tag p κ. slot_shares X.row (X.fits tag) p κ };
+}
+
+impl<X: Fits> Move for Slot<X> {
+    ghost own_val = { λ tag vs. slot_owns X.row (X.fits tag) (λ n x. Fields.own_val (record { word = n; value = x }) vs) };
+}
+
+/// What a thread may do with a slot: `right` is `whole`, `shared`, or 0 for nothing. A claim can't be dropped: it ends by `give_back`.
+pub struct Claim<'a, X: Fits> {
+    slot: *const Slot<X>,
+    marker: PhantomData<&'a X>,
+    pub ghost tag: { X.Tag } by { X.Tag.code },
+    pub ghost right: { ℕ },
+    pub ghost value: { Option X } by { coded_option X.code },
+}
+
+impl<'a, X: Fits> Model for Claim<'a, X> {
+    ghost also_owns = { λ c. claim_owns 'a X.row (X.fits c.tag) c.slot c.right c.value };
+
+    ghost also_shares = { λ c _ κ. claim_shares 'a X.row (X.fits c.tag) c.slot c.right c.value κ };
+}
+
+impl<X: Fits> Slot<X> {
+    /// A slot with this value, which nobody has claimed.
+    pub fn new(value: X, tag: &X::Tag) -> Slot<X>
+        requires { X.fits tag.now value }
+        ensures { result ≡ tag.now }
+    {
+        let _ = tag;
+        Slot { word: 0, value }
+    }
+
+    /// The value of a slot that nobody shares any more.
+    pub fn into_inner(self) -> X
+        ensures { X.fits self result }
+    {
+        let Self { word: _, value } = self;
+        value
+    }
+
+    /// Claims the whole slot if nobody has a claim and nobody waits. It doesn't look first, so it takes one step.
+    pub fn try_free(&self) -> Option<Claim<'_, X>>
+        ensures { IfSome result (λ c. (c.right ≡ whole) × (c.tag ≡ self.now)) }
+    {
+        self.change(FREE, TAKEN)
+    }
+
+    /// Claims the whole slot if nobody has a claim. It looks first, and changes nothing where somebody has one.
+    pub fn try_whole(&self) -> Option<Claim<'_, X>>
+        ensures { IfSome result (λ c. (c.right ≡ whole) × (c.tag ≡ self.now)) }
+    {
+        let word = self.look();
+        if word == FREE || word == MARKED {
+            self.change(word, TAKEN)
+        } else {
+            None
+        }
+    }
+
+    /// Claims the slot beside other readers, if nobody has it whole or waits for that.
+    pub fn try_shared(&self) -> Option<Claim<'_, X>>
+        ensures { IfSome result (λ c. (c.right ≡ shared) × (c.tag ≡ self.now)) }
+    {
+        let word = self.look();
+        if word < MOST_READERS {
+            self.change(word, word + ONE_READER)
+        } else {
+            None
+        }
+    }
+
+    /// Marks a slot that others read, so that no further reader comes until somebody has had it whole.
+    pub fn keep_readers_out(&self) {
+        let word = self.look();
+        if word < MARKED {
+            let (_found, claim) = self.turn(word, word + MARKED);
+            claim.done();
+        }
+    }
+
+    // The claim that a change of the word from `old` to `new` gains, if the word is `old`.
+    fn change(&self, old: u64, new: u64) -> Option<Claim<'_, X>>
+        requires { IsTurn old new }
+        ensures { IfSome result (λ c. Gains old new c.right × (c.tag ≡ self.now)) }
+    {
+        let (found, claim) = self.turn(old, new);
+        if found == old {
+            Some(claim)
+        } else {
+            claim.done();
+            None
+        }
+    }
+
+    // The word, which other threads may change at any time.
+    fn look(&self) -> u64 {
+        unsafe { raw::load::<Brand>(&raw const self.word, SeqCst) }
+    }
+
+    // Changes the word from `old` to `new` in one step. Returns the word that it found, with the claim that it gained.
+    fn turn(&self, old: u64, new: u64) -> (u64, Claim<'_, X>)
+        requires { IsTurn old new }
+        ensures { (result.0 ≡ old → Gains old new result.1.right) × (result.0 ≢ old → result.1.right ≡ 0) × (result.1.tag ≡ self.now) }
+    {
+        let found = unsafe { exchange::<Brand>(&raw const self.word, old, new) };
+        let claim = Claim {
+            slot: self,
+            marker: PhantomData,
+        };
+        (found, claim)
+    }
+}
+
+impl<'a, X: Fits> Claim<'a, X> {
+    /// The value, which no thread changes while somebody shares it.
+    pub fn get(&self) -> &X
+        requires { self.now.right ≡ shared }
+        ensures { (Some result.now ≡ self.now.value) × X.fits self.now.tag result.now }
+    {
+        unsafe { &(*self.slot).value }
+    }
+
+    /// Puts `value` into the slot, and returns the value that was there.
+    pub fn swap(self, value: X) -> (Claim<'a, X>, X)
+        requires { (self.right ≡ whole) × X.fits self.tag value }
+        ensures { (result.0.right ≡ whole) × (result.0.tag ≡ self.entry.tag) × X.fits self.entry.tag result.1 }
+    {
+        let Claim { slot, marker: _ } = self;
+        let old = unsafe {
+            let at = &raw const (*slot).value as *mut X;
+            let old = at.read();
+            at.write(value);
+            old
+        };
+        let claim = Claim {
+            slot,
+            marker: PhantomData,
+        };
+        (claim, old)
+    }
+
+    /// Ends a claim of the whole slot.
+    pub fn give_back(self)
+        requires { self.right ≡ whole }
+    {
+        self.lower(TAKEN);
+    }
+
+    /// Ends a reader's claim.
+    pub fn leave(self)
+        requires { self.right ≡ shared }
+    {
+        self.lower(ONE_READER);
+    }
+
+    // Ends a claim with nothing.
+    fn done(self)
+        requires { self.right ≡ 0 }
+    {
+        let Claim { slot: _, marker: _ } = self;
+    }
+
+    // Takes what the claim added to the word off it again, in one step.
+    fn lower(self, by: u64)
+        requires { IsWeight self.right by }
+    {
+        let Claim { slot, marker: _ } = self;
+        unsafe { raw::fetch_sub::<Brand>(&raw const (*slot).word, by, SeqCst) };
+    }
+}
+
+impl<X: Fits + Drop> Drop for Slot<X> {
+    fn drop(self) {
+        drop(self.into_inner());
+    }
+}
+
+unsafe impl<X: Fits + Send> Send for Slot<X> {}
+
+unsafe impl<X: Fits + Send + Sync> Sync for Slot<X> {}
