@@ -1,6 +1,8 @@
 //! What an arena accepts, what it refuses, and the bytes that its regions then take.
 
 use lasso_parts::arena::Arena;
+use lasso_parts::entries::long::{LongText, is_vast};
+use lasso_parts::entries::short::ShortText;
 use lasso_parts::entries::{Entry, text_of};
 use lasso_parts::util::LassoErrorKind;
 use std::alloc::Global;
@@ -47,7 +49,15 @@ fn store(rt: &impl Abort, arena: &mut Arena<Global>, text: &str) -> Option<Lasso
         Ok(span) => {
             let regions = arena.regions();
             assert!(rt; arena.text(span) == text);
-            assert!(rt; text_of(regions, &Entry::copied(regions, span, text)) == text);
+            if let Some(short) = ShortText::of(text) {
+                assert!(rt; text_of(regions, &[], &Entry::inside(short)) == text);
+            }
+            if !is_vast(span.len) {
+                let entry = Entry::outside(LongText::copied(regions, span));
+                assert!(rt; text_of(regions, &[], &entry) == text);
+            }
+            let vast = [LongText::copied(regions, span)];
+            assert!(rt; text_of(regions, &vast, &Entry::listed(0)) == text);
             None
         }
         Err(error) => Some(error.kind()),

@@ -110,6 +110,42 @@ fn constant_hash(rt: HostRuntime) -> Result<(), Fail> {
     Ok(())
 }
 
+// Texts of each length that is compared in a way of its own, which differ in one byte.
+static NEAR: [&str; 19] = [
+    "abc",
+    "abd",
+    "abcd",
+    "abce",
+    "bbcd",
+    "abcdefg",
+    "abcdefh",
+    "abcxefg",
+    "abcdefgh",
+    "abcdefgi",
+    "abcdefghijkl",
+    "abcdefghijkm",
+    "bbcdefghijkl",
+    "abcdefghijklmnop",
+    "abcdefghijklmnoq",
+    "abcdefghxjklmnop",
+    "abcdefghijklmnopq",
+    "abcdefghijklmnopr",
+    "bbcdefghijklmnopq",
+];
+
+#[test]
+fn near_texts_are_told_apart(rt: HostRuntime) -> Result<(), Fail> {
+    let mut words = Entered::new(Index::new(rt.alloc()), SameState::new(), NEAR.as_slice());
+    for n in 0..NEAR.len() {
+        assert!(rt; words.find(NEAR[n]) == None);
+        words.enter(n)?;
+    }
+    for n in 0..NEAR.len() {
+        assert!(rt; words.find(NEAR[n]) == Some(n));
+    }
+    Ok(())
+}
+
 #[test]
 fn hashed_again(rt: HostRuntime) -> Result<(), Fail> {
     let asked = Cell::new(0u64);

@@ -14,4 +14,6 @@ mod json;
 #[cfg(test)]
 mod keys;
 #[cfg(test)]
+mod short;
+#[cfg(test)]
 mod util;

@@ -83,6 +83,43 @@ fn a_new_list_has_the_first_bucket(rt: HostRuntime) -> Result<(), Fail> {
     Ok(())
 }
 
+// How often a test looks for a bucket. `find` would wait for ever for one that got lost.
+const TURNS: u32 = 1000;
+
+// Whether a walk finds a later bucket of so many bytes.
+fn is_there(list: &BucketList<Spur>, bytes: u64) -> bool {
+    for _ in 0..TURNS {
+        for (_, bucket) in list.later() {
+            if bucket.capacity() == bytes {
+                return true;
+            }
+        }
+    }
+    false
+}
+
+#[test]
+fn a_new_bucket_is_in_the_list(rt: HostRuntime) -> Result<(), Fail> {
+    let alloc = rt.alloc();
+    let (log, mut spine, list) = opens(alloc, 4, u64::MAX)?;
+    let mut pass = log.pass();
+    assert!(rt; !is_there(&list, 8));
+    stores(&rt, alloc, &log, &list, &mut spine, &mut pass, "abcde")?;
+    assert!(rt; is_there(&list, 8));
+    stores(
+        &rt,
+        alloc,
+        &log,
+        &list,
+        &mut spine,
+        &mut pass,
+        "0123456789abcdef",
+    )?;
+    assert!(rt; is_there(&list, 16));
+    assert!(rt; list.len() == 3);
+    Ok(())
+}
+
 #[test]
 fn a_walk_finds_each_bucket(rt: HostRuntime) -> Result<(), Fail> {
     let alloc = rt.alloc();

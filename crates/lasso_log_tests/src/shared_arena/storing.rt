@@ -6,7 +6,7 @@ ghost use Rattle.lasso_log.specs.Views.{InternerId, PassView, SpineView};
 use lasso_log::log::{Log, NewLog, OpeningTexts, Pass, Spine};
 use lasso_log::shared_arena::bucket_list::BucketList;
 use lasso_parts::keys::Spur;
-use lasso_parts::util::LassoResult;
+use lasso_parts::util::{LassoError, LassoErrorKind, LassoResult};
 use std::alloc::Global;
 use std::sync::Wait;
 
@@ -34,7 +34,8 @@ pub(super) fn opens(
     Ok((log, spine, list))
 }
 
-// Copies the text into a bucket that has room for it, or else into a new one.
+// Copies the text into a bucket that has room for it, or else into a new one. A new one that is not in the list then is told as
+// out of memory: a later walk with the spine would wait for it for ever.
 pub(super) fn stores<R: Wait>(
     rt: &R,
     alloc: Global,
@@ -54,6 +55,9 @@ pub(super) fn stores<R: Wait>(
         None => log.charge(rt, alloc, list, spine, pass, bytes)?,
     };
     drop(range.fill(log.era(), text));
+    if (list.len() as u64) < spine.buckets() {
+        return Err(LassoError::new(LassoErrorKind::FailedAllocation));
+    }
     Ok(())
 }
 

@@ -3,7 +3,7 @@ use super::Two;
 use crate::calls::{Shared, answered, contains, found, len, limit, limited, made, resolved, usage};
 use lasso_parts::util::{FixedState, LassoErrorKind, LassoResult};
 use lasso_shared::threaded::ThreadedRodeo;
-use std::alloc::Global;
+use std::alloc::{AllocError, Global};
 use std::sync::Wait;
 use std::test::*;
 use std::thread::join;
@@ -21,6 +21,51 @@ fn extend_by_three<R: Wait>(rt: &R, shared: &Shared, items: [&'static str; 3]) -
 // Interns four items.
 fn extend_by_four<R: Wait>(rt: &R, shared: &Shared, items: [&'static str; 4]) -> LassoResult<()> {
     shared.extend(rt, items)
+}
+
+// So many texts of five digits, in order.
+fn numbered(alloc: Global, count: u32) -> Result<Vec<String>, AllocError> {
+    let mut texts = Vec::new(alloc);
+    for number in 0..count {
+        texts.push(format!(in alloc; "{number:05}")?)?;
+    }
+    Ok(texts)
+}
+
+// Interns all of them.
+fn extend_by_all<R: Wait>(rt: &R, shared: &Shared, items: &[&str]) -> LassoResult<()> {
+    shared.extend(rt, items.iter().copied())
+}
+
+// An interner of all of them.
+fn of_all<R: Wait>(rt: &R, alloc: Global, items: &[&str]) -> LassoResult<Shared> {
+    ThreadedRodeo::from_iter(alloc, rt, items.iter().copied())
+}
+
+// Whether each of them stands at its position, and no other text is there.
+fn stand_in_order(shared: &Shared, items: &[&str]) -> Result<bool, Fail> {
+    let mut all = len(shared) == items.len();
+    for (position, item) in items.iter().enumerate() {
+        if resolved(shared, position)? != Some(*item) {
+            all = false;
+        }
+    }
+    Ok(all)
+}
+
+#[test]
+fn no_item_of_many_is_dropped(rt: HostRuntime) -> Result<(), Fail> {
+    let texts = numbered(rt.alloc(), 5000)?;
+    let mut items: Vec<&str> = Vec::new(rt.alloc());
+    for text in texts.iter() {
+        items.push(text.as_str())?;
+    }
+    let shared = made(rt.alloc())?;
+    extend_by_all(&rt, &shared, &items)?;
+    assert!(rt; stand_in_order(&shared, &items)?);
+    let whole = of_all(&rt, rt.alloc(), &items)?;
+    assert!(rt; stand_in_order(&whole, &items)?);
+    Ok(())
 }
 
 #[test]
