@@ -1,4 +1,6 @@
 //! A column at a time: how long it takes to encode the lines of an input, to decode their codes, and to merge two dictionaries.
+ghost use Rattle.std.specs.Prelude.{◌<◌};
+
 use crate::timing::tenths_a_call;
 use anyhow::{Result, ensure};
 use lasso::{Key, Rodeo, Spur, SpurRodeo, SpurRodeoReader, SpurThreadedRodeo, ThreadedRodeo};
@@ -68,7 +70,7 @@ pub fn time_columns<R: AllocGlobal + Clock + Threads + Wait + Sync>(
         private_alone: time_quarters_alone(rt, &lines)?,
         private_together: time_quarters_together(rt, &lines)?,
     };
-    for at in 0..WORKERS.len() {
+    for at in 0..3usize {
         timings.encode_in_parts[at] = time_in_parts(rt, &lines, &codes, WORKERS[at])?;
     }
     for at in 0..MOST_THREADS {
@@ -219,7 +221,9 @@ fn time_quarters_together<R: AllocGlobal + Clock + Threads + Sync>(
 }
 
 // How many lines a quarter has.
-fn quarter_of(lines: &[&str]) -> usize {
+fn quarter_of(lines: &[&str]) -> usize
+    ensures { 0 < result }
+{
     lines.len().div_ceil(MOST_THREADS).max(1)
 }
 

@@ -124,7 +124,10 @@ pub fn best_frozen_timings<R: AllocGlobal + Clock>(
 }
 
 /// Times each freezing once, and resolving in several passes, of which the least counts. It fails as `best_frozen_timings` does.
-pub fn frozen_round<R: AllocGlobal + Clock>(rt: &R, sample: &FrozenSample) -> Result<FrozenTimings> {
+pub fn frozen_round<R: AllocGlobal + Clock>(
+    rt: &R,
+    sample: &FrozenSample,
+) -> Result<FrozenTimings> {
     let mut pool = RodeoPool::new(rt.alloc())?;
     intern_all(&mut pool, &sample.texts)?;
     let start = Instant::now(rt)?;

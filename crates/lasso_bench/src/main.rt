@@ -258,10 +258,20 @@ fn print_codes<R: AllocGlobal + Clock + Input + Print + Threads + Wait + Sync>(
         println!(rt; "{call} {whole}.{tenth}")?;
     }
     for before in 0..MOST_THREADS {
-        print_call(rt, "encode_shared", before + 1, timings.encode_shared[before])?;
+        print_call(
+            rt,
+            "encode_shared",
+            before + 1,
+            timings.encode_shared[before],
+        )?;
     }
-    for at in 0..WORKERS.len() {
-        print_call(rt, "encode_in_parts", WORKERS[at], timings.encode_in_parts[at])?;
+    for at in 0..3usize {
+        print_call(
+            rt,
+            "encode_in_parts",
+            WORKERS[at],
+            timings.encode_in_parts[at],
+        )?;
     }
     print_call(rt, "private", 1, timings.private_alone)?;
     print_call(rt, "private", MOST_THREADS, timings.private_together)
