@@ -43,6 +43,27 @@ peaks() {
     done
 }
 
+# How many locked instructions a program executes while it interns each line of a file.
+locked() {
+    valgrind --tool=callgrind --dump-instr=yes --compress-strings=no --compress-pos=no --callgrind-out-file="$OUT/callgrind" $1 \
+        < "$2" > /dev/null 2> "$OUT/callgrind.log"
+    python3 bench/locked.py "$OUT/callgrind"
+    rm -f "$OUT/callgrind"
+}
+
+# How many locked instructions a new text takes in each program: those over the tenth of `distinct` less those over one line, by the other
+# lines. The goal stands behind ours.
+print_locked() {
+    local program command
+    for program in ours $RIVALS; do
+        command="$INTERNERS $program fill"
+        [ "$program" != ours ] || command="$OURS_SHARED fill"
+        echo "$program $(locked "$command" "$OUT/inputs/distinct.tenth") $(locked "$command" "$OUT/inputs/one")"
+    done | awk -v lines="$(wc -l < "$OUT/inputs/distinct.tenth")" '
+        { printf "%s%s %.2f%s", NR == 1 ? "locked operations of a new text: " : ", ", $1, ($2 - $3) / (lines - 1), NR == 1 ? " (goal 12)" : "" }
+        END { print "" }'
+}
+
 # The table of interners that threads share: the least of all rounds counts. Of the tenth of `distinct`, whose rounds are short and more, new
 # texts alone are printed.
 measure_interners() {
@@ -55,4 +76,5 @@ measure_interners() {
         rounds_of_interners "$OUT/inputs/$name" "$ROUNDS" > "$OUT/interners-$name"
         { cat "$OUT/interners-$name"; peaks "$OUT/inputs/$name" whole; peaks "$OUT/inputs/one" empty; } | python3 bench/interners.py "$name"
     done
+    print_locked
 }
