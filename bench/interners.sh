@@ -52,7 +52,7 @@ locked() {
 }
 
 # How many locked instructions a new text takes in each program: those over the tenth of `distinct` less those over one line, by the other
-# lines. The goal stands behind ours.
+# lines. The goal follows ours.
 print_locked() {
     local program command
     for program in ours $RIVALS; do
@@ -60,7 +60,10 @@ print_locked() {
         [ "$program" != ours ] || command="$OURS_SHARED fill"
         echo "$program $(locked "$command" "$OUT/inputs/distinct.tenth") $(locked "$command" "$OUT/inputs/one")"
     done | awk -v lines="$(wc -l < "$OUT/inputs/distinct.tenth")" '
-        { printf "%s%s %.2f%s", NR == 1 ? "locked operations of a new text: " : ", ", $1, ($2 - $3) / (lines - 1), NR == 1 ? " (goal 12)" : "" }
+        {
+            counted = NF == 3 ? sprintf("%.2f", ($2 - $3) / (lines - 1)) : "not counted"
+            printf "%s%s %s%s", NR == 1 ? "locked operations of a new text: " : ", ", $1, counted, NR == 1 ? " (goal 12)" : ""
+        }
         END { print "" }'
 }
 

@@ -1,5 +1,5 @@
-//! One round of single calls of a pool of texts, over the same texts in the same order as in `lasso_bench round`. Each program
-//! that times calls includes this file.
+//! One round of single calls of a pool of texts, over the same texts in the same order as in `lasso_bench round`. The programs
+//! that time calls share this file.
 use crate::opaque::black_box;
 use std::time::Instant;
 
@@ -27,7 +27,7 @@ pub fn numbered(number: u32) -> String {
     format!("text {number}")
 }
 
-// The number at a position of an order that jumps. No product of a count's positions and the stride has more than 64 bits.
+// The number at a position of an order that jumps.
 fn jumped(position: u32, count: u32) -> u32 {
     (u64::from(position) * u64::from(STRIDE) % u64::from(count)) as u32
 }
@@ -57,7 +57,7 @@ fn resolve_all<T: Texts>(pool: &T, keys: &[u32]) -> usize {
     sum
 }
 
-// Prints the nanoseconds of a call of the work, which has to answer this.
+// Prints the nanoseconds of a call of the work, which has to return `wanted`.
 fn time(count: u32, call: &str, wanted: usize, work: impl FnOnce() -> usize) {
     let start = Instant::now();
     let answer = work();

@@ -24,7 +24,7 @@ impl Bucket {
         Box::new(Bucket { start, size, taken: AtomicUsize::new(0) })
     }
 
-    // The address of so many bytes that nobody else has, or `None` where they have no room.
+    // The address of bytes that nobody else has, or `None` where there is no room.
     #[inline]
     fn take(&self, bytes: usize) -> Option<*mut u8> {
         let at = self.taken.fetch_add(bytes, Ordering::Relaxed);
@@ -70,7 +70,7 @@ impl Arena {
         }
     }
 
-    /// The address of so many bytes that nobody else has.
+    /// The address of bytes that nobody else has.
     #[inline]
     pub fn take(&self, bytes: usize) -> *mut u8 {
         loop {

@@ -1,28 +1,28 @@
-//! One list of texts without gaps, to which threads append at once while others read. A text is in its cell before it is
-//! counted, so every position below the count has its text.
+//! One list of texts without gaps. Threads append to it and read it at once. A text is in its cell before it is counted, so
+//! every position below the count has its text.
 use crate::measured::Measured;
 use std::alloc::{alloc_zeroed, dealloc, handle_alloc_error, Layout};
 use std::ptr;
 use std::sync::atomic::{AtomicPtr, AtomicUsize, Ordering};
 use std::sync::Mutex;
 
-// The first row has so many cells, each further one twice as many as the row before it.
+// The cells of the first row. Each further row has twice as many as the one before.
 const FIRST: usize = 1024;
 
-// Enough rows for every position of 32 bits.
+// Rows enough for every position of 32 bits.
 const ROWS: usize = 23;
 
 // The address of a text in the arena, or null.
 type Cell = AtomicPtr<u8>;
 
-// The count and the lock change with each text, so they share a line of the cache with nothing that readers need.
+// What changes with each text, on a line of the cache of its own: readers of the rows don't wait for it.
 #[repr(align(64))]
 struct End {
     count: AtomicUsize,
     lock: Mutex<()>,
 }
 
-/// A list whose end is `LOCKED` while a text is appended; without the lock a thread claims the next cell, and whoever sees
+/// A list whose end is `LOCKED` while a text is appended. Without the lock a thread claims the next cell, and whoever sees
 /// that cell filled counts it.
 pub struct Dense<const LOCKED: bool> {
     rows: [AtomicPtr<Cell>; ROWS],
@@ -104,7 +104,7 @@ impl<const LOCKED: bool> Dense<LOCKED> {
         if first.is_null() {
             first = self.make_row(row);
         }
-        // A row has so many cells, and lives as long as the list.
+        // The row has the cell, and lives as long as the list.
         unsafe { &*first.add(at) }
     }
 

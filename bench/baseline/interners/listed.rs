@@ -16,8 +16,8 @@ struct Shard {
     keys: RwLock<HashMap<u32, (), ()>>,
 }
 
-/// A text is copied into the arena, put into its cell of the list, counted there, and then put into its table, whose lock is
-/// held until then. The end of the list is `LOCKED` meanwhile or not.
+/// A new text is copied into the arena, put into its cell of the list and counted, and then its position is put into its
+/// table, whose lock is held all the time. The end of the list is `LOCKED` while the text is put there, or not.
 pub struct Listed<const LOCKED: bool> {
     shards: [Shard; 16],
     list: Dense<LOCKED>,
@@ -38,7 +38,7 @@ impl<const LOCKED: bool> Listed<LOCKED> {
         &self.shards[(hash << 7 >> 60) as usize]
     }
 
-    // The key of a text that was not there just now.
+    // The key of a text that was absent just now.
     fn add(&self, hash: u64, text: &str) -> u32 {
         let mut keys = self.shard(hash).keys.write().unwrap();
         match keys.raw_entry_mut().from_hash(hash, |key| self.list.text(*key) == text) {
