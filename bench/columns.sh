@@ -2,7 +2,7 @@
 
 COLUMNS_OURS=$PWD/crates/lasso_bench/out/lasso_bench
 COLUMNS=$OUT/best/release/columns
-COLUMN_NAMES="zipf distinct few ten large"
+COLUMN_NAMES="zipf distinct few ten large long"
 COLUMN_ROUNDS=3
 PANDAS=
 
@@ -27,7 +27,7 @@ prepare_columns() {
 rounds_of_columns() {
     local round hash
     for ((round = 0; round < COLUMN_ROUNDS; round++)); do
-        "$COLUMNS_OURS" columns < "$1" | sed 's/^encode_shared /encode_shared_/; s/^/ours /'
+        "$COLUMNS_OURS" columns < "$1" | sed -E 's/^(encode_shared|encode_in_parts|private) /\1_/; s/^/ours /'
         for hash in $HASHES; do
             "$COLUMNS" "$hash" < "$1" | sed 's/^/rust /'
         done
@@ -36,22 +36,34 @@ rounds_of_columns() {
     done
 }
 
-# Of such lines the least of each: ours, Rust's best and pandas, with the ratios of ours to both.
+# Of such lines the least of each: ours, Rust's best and pandas, with the ratios of ours to both. `faster` compares ours with the lesser of
+# `encode` and `encode_again`, and the private work of four threads with that of one; its goal stands beside it.
 table_of_columns() {
     awk -v input="$1" '
+        BEGIN {
+            goal["ten"] = goal["large"] = "2.70"; goal["few"] = "2.30"; goal["zipf"] = "1.60"
+            goal["distinct"] = goal["long"] = "0.87"
+        }
         { key = $1 " " $2; if (!(key in least) || $3 < least[key]) least[key] = $3 }
         function beside(ours, key) {
             if (key in least) printf "%10.1f%7s", least[key], ours == "" ? "-" : sprintf("%.2f", ours / least[key])
             else printf "%10s%7s", "-", "-"
         }
+        function faster(call, ours) {
+            if (call == "private_4") return sprintf("%8.2f", least["ours private_1"] / ours)
+            if (call !~ /^encode_(shared|in_parts)/) return ""
+            return sprintf("%8.2f", (least["ours encode"] < least["ours encode_again"] ? least["ours encode"] : least["ours encode_again"]) / ours)
+        }
         END {
-            calls = split("encode encode_lines decode merge encode_shared_1 encode_shared_2 encode_shared_3 encode_shared_4", call)
+            calls = split("encode encode_lines decode merge encode_again encode_in_parts_1 encode_in_parts_2 encode_in_parts_4 " \
+                "private_1 private_4 encode_shared_1 encode_shared_2 encode_shared_3 encode_shared_4", call)
             for (c = 1; c <= calls; c++) {
                 ours = least["ours " call[c]]
                 printf "%-10s%-18s%10s", input, call[c], ours == "" ? "-" : sprintf("%.1f", ours)
                 beside(ours, "rust " call[c])
                 beside(ours, "pandas " (call[c] ~ /^encode/ ? "encode" : call[c]))
-                print ""
+                if (ours != "") printf "%s", faster(call[c], ours)
+                print (call[c] == "encode_in_parts_4" ? sprintf("%7s", goal[input]) : "")
             }
         }'
 }
@@ -59,7 +71,7 @@ table_of_columns() {
 measure_columns() {
     local name
     prepare_columns
-    printf '%-10s%-18s%10s%10s%7s%10s%7s\n' input call ours rust ratio pandas ratio
+    printf '%-10s%-18s%10s%10s%7s%10s%7s%8s%7s\n' input call ours rust ratio pandas ratio faster goal
     for name in $COLUMN_NAMES; do
         rounds_of_columns "$OUT/inputs/$name" | table_of_columns "$name"
     done

@@ -46,9 +46,10 @@ peaks_of_workers() {
     done
 }
 
-# Of such lines the least of each: ours, that with one map, that with sixteen, the ratios, and ours by ours with one thread.
+# Of such lines the least of each: ours, that with one map, that with sixteen, the ratios, ours by ours with one thread, and the goal of that.
 table_of_workers() {
     awk -v input="$1" -v what="$2" -v form="%.$3f" '
+        BEGIN { goal["zipf"] = goal["long"] = goal["few"] = "1.00"; goal["distinct"] = "0.60" }
         { key = $1 " " $2; if (!(key in least) || $3 < least[key]) least[key] = $3 }
         END {
             threads = split("1 2 4", number)
@@ -56,8 +57,9 @@ table_of_workers() {
                 ours = least["lasso_lines " number[t]]
                 one = least["one " number[t]]
                 sixteen = least["sixteen " number[t]]
-                printf "%-10s%-12s%3s%12s%12s%7.2f%12s%7.2f%9.2f\n", input, what, number[t], sprintf(form, ours), sprintf(form, one), ours / one,
+                printf "%-10s%-12s%3s%12s%12s%7.2f%12s%7.2f%9.2f", input, what, number[t], sprintf(form, ours), sprintf(form, one), ours / one,
                     sprintf(form, sixteen), ours / sixteen, ours / least["lasso_lines 1"]
+                print (what == "seconds" && number[t] == 4 ? sprintf("%7s", goal[input]) : "")
             }
         }'
 }
@@ -65,7 +67,7 @@ table_of_workers() {
 measure_workers() {
     local name
     rustc -O --edition 2021 -o "$WORKERS" bench/baseline/workers.rs
-    printf '%-10s%-12s%3s%12s%12s%7s%12s%7s%9s\n' input measure thr lasso_lines "one map" ratio "16 maps" ratio "of 1 thr"
+    printf '%-10s%-12s%3s%12s%12s%7s%12s%7s%9s%7s\n' input measure thr lasso_lines "one map" ratio "16 maps" ratio "of 1 thr" goal
     for name in $NAMES; do
         compare_workers "$OUT/inputs/$name"
         rounds_of_workers "$OUT/inputs/$name" | table_of_workers "$name" seconds 2

@@ -24,20 +24,14 @@ impl Bucket {
         Box::new(Bucket { start, size, taken: AtomicUsize::new(0) })
     }
 
-    // A copy of the text, or `None` where it has no room.
+    // The address of bytes that nobody else has, or `None` where there is no room.
     #[inline]
-    fn store(&self, text: &str) -> Option<&'static str> {
-        let at = self.taken.fetch_add(text.len(), Ordering::Relaxed);
-        if at + text.len() > self.size {
+    fn take(&self, bytes: usize) -> Option<*mut u8> {
+        let at = self.taken.fetch_add(bytes, Ordering::Relaxed);
+        if at + bytes > self.size {
             return None;
         }
-        // The bytes from `at` on are in the bucket, and nobody else has them. The text lives as long as the arena, and only
-        // the maps beside it read it.
-        unsafe {
-            let to = self.start.add(at);
-            ptr::copy_nonoverlapping(text.as_ptr(), to, text.len());
-            Some(str::from_utf8_unchecked(slice::from_raw_parts(to, text.len())))
-        }
+        Some(unsafe { self.start.add(at) })
     }
 }
 
@@ -68,13 +62,24 @@ impl Arena {
     /// A copy of the text.
     #[inline]
     pub fn store(&self, text: &str) -> &'static str {
+        let to = self.take(text.len());
+        // The text lives as long as the arena, and only what is beside it reads it.
+        unsafe {
+            ptr::copy_nonoverlapping(text.as_ptr(), to, text.len());
+            str::from_utf8_unchecked(slice::from_raw_parts(to, text.len()))
+        }
+    }
+
+    /// The address of bytes that nobody else has.
+    #[inline]
+    pub fn take(&self, bytes: usize) -> *mut u8 {
         loop {
             let current = self.current.load(Ordering::Acquire);
             // A bucket lives as long as the arena.
-            if let Some(copy) = unsafe { (*current).store(text) } {
-                return copy;
+            if let Some(start) = unsafe { (*current).take(bytes) } {
+                return start;
             }
-            self.grow(current, text.len());
+            self.grow(current, bytes);
         }
     }
 

@@ -1,13 +1,19 @@
 //! Interners that threads share, over the lines of standard input: the same work as `lasso_bench interners` and `lasso_bench fill`.
-//! The first word says which interner, `maps` (two maps of `dashmap`) or `locked` (a map and a list of std behind one lock), and
-//! the second what to do: `round` prints the nanoseconds that a call takes each thread in one round, `fill` interns each line as
-//! it is read, and prints how many texts there are.
+//! The first word says which interner: `maps` (two maps of `dashmap`), `locked` (a map and a list of std behind one lock), `list` (one
+//! list behind one plain lock) or `lockless` (the same list without that lock). The second says what to do: `round` prints the
+//! nanoseconds that a call takes each thread in one round, `fill` interns each line as it is read, and prints how many texts there are.
 #[cfg(feature = "maps")]
 mod arena;
+#[cfg(feature = "maps")]
+mod dense;
 mod lines;
+#[cfg(feature = "maps")]
+mod listed;
 mod locked;
 #[cfg(feature = "maps")]
 mod maps;
+#[cfg(feature = "maps")]
+mod measured;
 #[path = "../opaque.rs"]
 mod opaque;
 
@@ -18,6 +24,8 @@ use std::thread;
 use std::time::{Duration, Instant};
 
 const THREADS: [usize; 3] = [1, 2, 4];
+
+const USAGE: &str = "usage: interners maps|locked|list|lockless round|fill";
 
 /// An interner that threads share.
 pub trait Interner: Sync {
@@ -124,7 +132,7 @@ fn run<I: Interner>(what: &str, input: BufReader<StdinLock>) -> io::Result<()> {
     match what {
         "round" => round::<I>(&Lines::read(input)?),
         "fill" => println!("{}", fill::<I>(input)?),
-        _ => return Err(io::Error::new(io::ErrorKind::Other, "usage: interners maps|locked round|fill")),
+        _ => return Err(io::Error::new(io::ErrorKind::Other, USAGE)),
     }
     Ok(())
 }
@@ -135,7 +143,11 @@ fn main() -> io::Result<()> {
     match words.iter().map(String::as_str).collect::<Vec<_>>().as_slice() {
         #[cfg(feature = "maps")]
         ["maps", what] => run::<maps::Maps>(what, input),
+        #[cfg(feature = "maps")]
+        ["list", what] => run::<listed::Listed<true>>(what, input),
+        #[cfg(feature = "maps")]
+        ["lockless", what] => run::<listed::Listed<false>>(what, input),
         ["locked", what] => run::<locked::Locked>(what, input),
-        _ => Err(io::Error::new(io::ErrorKind::Other, "usage: interners maps|locked round|fill")),
+        _ => Err(io::Error::new(io::ErrorKind::Other, USAGE)),
     }
 }

@@ -1,18 +1,23 @@
 //! A column at a time: how long it takes to encode the lines of an input, to decode their codes, and to merge two dictionaries.
+ghost use Rattle.std.specs.Prelude.{◌<◌};
+
 use crate::timing::tenths_a_call;
 use anyhow::{Result, ensure};
 use lasso::{Key, Rodeo, Spur, SpurRodeo, SpurRodeoReader, SpurThreadedRodeo, ThreadedRodeo};
 use lasso_columns::lines::first_line;
-use lasso_columns::{decode, encode, encode_lines, encode_shared, merge};
+use lasso_columns::{decode, encode, encode_in_parts, encode_lines, encode_shared, merge};
 use std::alloc::Global;
 use std::rt::Clock;
 use std::str::from_utf8;
 use std::sync::Wait;
-use std::thread::Threads;
+use std::thread::{Threads, map_chunks};
 use std::time::Instant;
 
 /// The greatest number of threads that encode together.
 pub const MOST_THREADS: usize = 4;
+
+/// How many workers encode in parts.
+pub const WORKERS: [usize; 3] = [1, 2, 4];
 
 /// How long each call took, in tenths of a nanosecond a text.
 #[derive(Clone, Copy, Debug)]
@@ -27,6 +32,14 @@ pub struct ColumnTimings {
     pub merge: u64,
     /// To encode texts by one thread, by two, and so on.
     pub encode_shared: [u64; MOST_THREADS],
+    /// To encode texts that were cut before, once more, when the memory of earlier calls was freed.
+    pub encode_again: u64,
+    /// To encode texts in parts by so many workers.
+    pub encode_in_parts: [u64; 3],
+    /// To encode each quarter of the texts into an interner of its own, one after another.
+    pub private_alone: u64,
+    /// The same by four threads, each with a quarter.
+    pub private_together: u64,
 }
 
 /// What each call took in one round over the lines of the bytes. It fails where the clock does, for want of memory, where a line is no
@@ -52,7 +65,14 @@ pub fn time_columns<R: AllocGlobal + Clock + Threads + Wait + Sync>(
         decode: decoding,
         merge: merging,
         encode_shared: [0; MOST_THREADS],
+        encode_again: time_again(rt, &lines, &codes)?,
+        encode_in_parts: [0; 3],
+        private_alone: time_quarters_alone(rt, &lines)?,
+        private_together: time_quarters_together(rt, &lines)?,
     };
+    for at in 0..3usize {
+        timings.encode_in_parts[at] = time_in_parts(rt, &lines, &codes, WORKERS[at])?;
+    }
     for at in 0..MOST_THREADS {
         timings.encode_shared[at] = time_shared(rt, &lines, at + 1)?;
     }
@@ -141,4 +161,77 @@ fn time_shared<R: AllocGlobal + Clock + Threads + Wait + Sync>(
     let has_texts = have_texts(&rodeo.into_reader(rt)?, &codes, lines);
     ensure!(has_texts, "a code has another text");
     Ok(tenths_a_call(elapsed, codes.len()))
+}
+
+// Encodes the lines, which have these codes.
+fn time_again<R: AllocGlobal + Clock>(rt: &R, lines: &[&str], codes: &[u32]) -> Result<u64> {
+    let mut rodeo: SpurRodeo = Rodeo::default(rt.alloc())?;
+    let mut again = Vec::new(rt.alloc());
+    let start = Instant::now(rt)?;
+    encode(&mut rodeo, lines, &mut again)?;
+    let elapsed = start.elapsed(rt)?;
+    ensure!(again.as_slice() == codes, "a line has another code");
+    Ok(tenths_a_call(elapsed, codes.len()))
+}
+
+// Encodes the lines, which have these codes, in parts by so many workers.
+fn time_in_parts<R: AllocGlobal + Clock + Threads + Sync>(
+    rt: &R,
+    lines: &[&str],
+    codes: &[u32],
+    workers: usize,
+) -> Result<u64> {
+    let mut rodeo: SpurRodeo = Rodeo::default(rt.alloc())?;
+    let mut again = Vec::new(rt.alloc());
+    let start = Instant::now(rt)?;
+    encode_in_parts(rt, &mut rodeo, lines, &mut again, workers)?;
+    let elapsed = start.elapsed(rt)?;
+    ensure!(again.as_slice() == codes, "a line has another code");
+    Ok(tenths_a_call(elapsed, codes.len()))
+}
+
+// Encodes each quarter of the lines into an interner of its own, one after another.
+fn time_quarters_alone<R: AllocGlobal + Clock>(rt: &R, lines: &[&str]) -> Result<u64> {
+    let start = Instant::now(rt)?;
+    for quarter in lines.chunks(quarter_of(lines)) {
+        ensure!(is_encoded(rt.alloc(), quarter), "a quarter was refused");
+    }
+    Ok(tenths_a_call(start.elapsed(rt)?, lines.len()))
+}
+
+// Has a thread for each quarter of the lines encode it into an interner of its own.
+fn time_quarters_together<R: AllocGlobal + Clock + Threads + Sync>(
+    rt: &R,
+    lines: &[&str],
+) -> Result<u64> {
+    let start = Instant::now(rt)?;
+    let encoded = map_chunks(
+        rt,
+        rt.alloc(),
+        lines,
+        quarter_of(lines),
+        &|_, quarter| is_encoded(rt.alloc(), quarter),
+    )?;
+    let elapsed = start.elapsed(rt)?;
+    ensure!(
+        encoded.iter().all(|is_encoded| *is_encoded),
+        "a quarter was refused"
+    );
+    Ok(tenths_a_call(elapsed, lines.len()))
+}
+
+// How many lines a quarter has.
+fn quarter_of(lines: &[&str]) -> usize
+    ensures { 0 < result }
+{
+    lines.len().div_ceil(MOST_THREADS).max(1)
+}
+
+// Whether the texts could be encoded into an interner of their own.
+fn is_encoded(alloc: Global, texts: &[&str]) -> bool {
+    let Ok(mut rodeo) = SpurRodeo::default(alloc) else {
+        return false;
+    };
+    let mut codes = Vec::new(alloc);
+    encode(&mut rodeo, texts, &mut codes).is_ok()
 }

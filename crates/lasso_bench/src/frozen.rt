@@ -116,15 +116,18 @@ pub fn best_frozen_timings<R: AllocGlobal + Clock>(
     rt: &R,
     sample: &FrozenSample,
 ) -> Result<FrozenTimings> {
-    let mut best = round(rt, sample)?;
+    let mut best = frozen_round(rt, sample)?;
     for _ in 1..ROUNDS {
-        best = best.least(round(rt, sample)?);
+        best = best.least(frozen_round(rt, sample)?);
     }
     Ok(best)
 }
 
-// Times each freezing once, and resolving in several passes.
-fn round<R: AllocGlobal + Clock>(rt: &R, sample: &FrozenSample) -> Result<FrozenTimings> {
+/// Times each freezing once, and resolving in several passes, of which the least counts. It fails as `best_frozen_timings` does.
+pub fn frozen_round<R: AllocGlobal + Clock>(
+    rt: &R,
+    sample: &FrozenSample,
+) -> Result<FrozenTimings> {
     let mut pool = RodeoPool::new(rt.alloc())?;
     intern_all(&mut pool, &sample.texts)?;
     let start = Instant::now(rt)?;

@@ -1,6 +1,6 @@
 //! Times the interner beside a map and a set of the standard kind, the log of a shared one beside another list that
 //! threads share, and the shared one: with the word `measure` it prints the nanoseconds of a call of the first, with
-//! `round` those of one round of the interner alone, with `refill` those of an interner that is cleared and filled
+//! `round` those of one round of the interner and its frozen forms alone, with `refill` those of an interner that is cleared and filled
 //! again, with `shared` those of a call of the lists that are shared, with `interners` those of one round of the
 //! interner that threads share, over the lines of standard input; with `walks` those of walks over it and of freezing it; with `columns` those of encoding and decoding them; with
 //! `fill` it interns these lines as they come and prints how many texts there are; with `soak` and a number of seconds it has threads make
@@ -29,9 +29,9 @@ mod walks;
 
 use anyhow::{Result, bail};
 use calls::{Plain, WithPass, fill};
-use columns::{MOST_THREADS, time_columns};
+use columns::{MOST_THREADS, WORKERS, time_columns};
 use copying::{COPIES, best_copy_timings};
-use frozen::{FrozenSample, best_frozen_timings};
+use frozen::{FrozenSample, best_frozen_timings, frozen_round};
 use interners::{time_filled, time_filling};
 use lines::Lines;
 use pools::{MapPool, RodeoPool, SetPool};
@@ -98,23 +98,34 @@ fn print_table<R: AllocGlobal + Clock + Print>(rt: &R) -> Result<()> {
     print_frozen(rt, MANY_TEXTS)
 }
 
-// Times one round of the interner for each count of texts, and prints a line for each operation: the count, what was
-// done, and the time.
+// Times one round of single calls for each count of texts.
 fn print_rounds<R: AllocGlobal + Clock + Print>(rt: &R) -> Result<()> {
-    for count in [TEXTS, MANY_TEXTS] {
-        let sample = Sample::new(rt.alloc(), count)?;
-        let timings = round::<RodeoPool, R>(rt, &sample)?;
-        let lines = [
-            ("new", timings.intern_new),
-            ("hit", timings.intern_present),
-            ("miss", timings.get_missing),
-            ("resolve", timings.resolve),
-        ];
-        for (operation, tenths) in lines {
-            let whole = tenths / 10;
-            let tenth = tenths % 10;
-            println!(rt; "{count} {operation} {whole}.{tenth}")?;
-        }
+    print_round(rt, 10_000)?;
+    print_round(rt, 90_000)?;
+    print_round(rt, TEXTS)?;
+    print_round(rt, MANY_TEXTS)
+}
+
+// Times one round of single calls over so many texts, and prints a line for each call: the count, the call, and the time.
+fn print_round<R: AllocGlobal + Clock + Print>(rt: &R, count: u32) -> Result<()>
+    requires { 0 < count }
+{
+    let sample = Sample::new(rt.alloc(), count)?;
+    let timings = round::<RodeoPool, R>(rt, &sample)?;
+    let sample = FrozenSample::new(rt.alloc(), count)?;
+    let frozen = frozen_round(rt, &sample)?;
+    let calls = [
+        ("new", timings.intern_new),
+        ("present", timings.intern_present),
+        ("absent", timings.get_missing),
+        ("try_resolve", timings.resolve),
+        ("reader", frozen.reader_resolve),
+        ("resolver", frozen.resolver_resolve),
+    ];
+    for (call, tenths) in calls {
+        let whole = tenths / 10;
+        let tenth = tenths % 10;
+        println!(rt; "{count} {call} {whole}.{tenth}")?;
     }
     Ok(())
 }
@@ -201,11 +212,16 @@ fn print_interners<R: AllocGlobal + Clock + Input + Print + Threads + Wait + Syn
 // Prints a line for each number of threads, with the time of a call, which is given in tenths of a nanosecond.
 fn print_calls(rt: &impl Print, call: &str, tenths: [u64; 3]) -> Result<()> {
     for at in 0..3usize {
-        let threads = THREADS[at];
-        let whole = tenths[at] / 10;
-        let tenth = tenths[at] % 10;
-        println!(rt; "{call} {threads} {whole}.{tenth}")?;
+        print_call(rt, call, THREADS[at], tenths[at])?;
     }
+    Ok(())
+}
+
+// Prints the time of a call with so many threads, which is given in tenths of a nanosecond.
+fn print_call(rt: &impl Print, call: &str, threads: usize, tenths: u64) -> Result<()> {
+    let whole = tenths / 10;
+    let tenth = tenths % 10;
+    println!(rt; "{call} {threads} {whole}.{tenth}")?;
     Ok(())
 }
 
@@ -234,6 +250,7 @@ fn print_codes<R: AllocGlobal + Clock + Input + Print + Threads + Wait + Sync>(
         ("encode_lines", timings.encode_lines),
         ("decode", timings.decode),
         ("merge", timings.merge),
+        ("encode_again", timings.encode_again),
     ];
     for (call, tenths) in calls {
         let whole = tenths / 10;
@@ -241,11 +258,23 @@ fn print_codes<R: AllocGlobal + Clock + Input + Print + Threads + Wait + Sync>(
         println!(rt; "{call} {whole}.{tenth}")?;
     }
     for before in 0..MOST_THREADS {
-        let whole = timings.encode_shared[before] / 10;
-        let tenth = timings.encode_shared[before] % 10;
-        println!(rt; "encode_shared {} {whole}.{tenth}", before + 1)?;
+        print_call(
+            rt,
+            "encode_shared",
+            before + 1,
+            timings.encode_shared[before],
+        )?;
     }
-    Ok(())
+    for at in 0..3usize {
+        print_call(
+            rt,
+            "encode_in_parts",
+            WORKERS[at],
+            timings.encode_in_parts[at],
+        )?;
+    }
+    print_call(rt, "private", 1, timings.private_alone)?;
+    print_call(rt, "private", MOST_THREADS, timings.private_together)
 }
 
 // Interns the lines of standard input in an interner that threads share, and prints how many texts there are.

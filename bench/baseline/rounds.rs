@@ -1,0 +1,82 @@
+//! One round of single calls of a pool of texts, over the same texts in the same order as in `lasso_bench round`. The programs
+//! that time calls share this file.
+use crate::opaque::black_box;
+use std::time::Instant;
+
+/// How many texts there are.
+pub const COUNTS: [u32; 4] = [10_000, 90_000, 100_000, 1_000_000];
+
+const STRIDE: u32 = 7919;
+
+/// A pool of distinct texts. A text's key is its position.
+pub trait Texts {
+    fn new() -> Self;
+
+    /// The key of the text, which joins the pool if it is absent.
+    fn intern(&mut self, text: &str) -> u32;
+
+    /// The key of the text, or `None` where it is absent.
+    fn get(&self, text: &str) -> Option<u32>;
+
+    /// The last byte of the key's text, or `None` where there is none.
+    fn last_byte(&self, key: u32) -> Option<u8>;
+}
+
+/// The text of this number.
+pub fn numbered(number: u32) -> String {
+    format!("text {number}")
+}
+
+// The number at a position of an order that jumps.
+fn jumped(position: u32, count: u32) -> u32 {
+    (u64::from(position) * u64::from(STRIDE) % u64::from(count)) as u32
+}
+
+#[inline(never)]
+fn intern_all<T: Texts>(pool: &mut T, texts: &[String]) -> usize {
+    let mut sum = 0usize;
+    for text in texts {
+        sum = sum.wrapping_add(pool.intern(text) as usize);
+    }
+    sum
+}
+
+#[inline(never)]
+fn count_absent<T: Texts>(pool: &T, texts: &[String]) -> usize {
+    texts.iter().filter(|text| pool.get(text).is_none()).count()
+}
+
+#[inline(never)]
+fn resolve_all<T: Texts>(pool: &T, keys: &[u32]) -> usize {
+    let mut sum = 0usize;
+    for key in keys {
+        if let Some(last) = pool.last_byte(*key) {
+            sum = sum.wrapping_add(usize::from(last));
+        }
+    }
+    sum
+}
+
+// Prints the nanoseconds of a call of the work, which has to return `wanted`.
+fn time(count: u32, call: &str, wanted: usize, work: impl FnOnce() -> usize) {
+    let start = Instant::now();
+    let answer = work();
+    let elapsed = start.elapsed();
+    assert_eq!(answer, wanted);
+    println!("{count} {call} {:.1}", elapsed.as_secs_f64() * 1e9 / f64::from(count));
+}
+
+/// Prints for each call the count of texts, the call, and the nanoseconds that it takes.
+pub fn round<T: Texts>(count: u32) {
+    let texts: Vec<String> = (0..count).map(numbered).collect();
+    let again: Vec<String> = (0..count).map(|position| numbered(jumped(position, count))).collect();
+    let absent: Vec<String> = (count..2 * count).map(numbered).collect();
+    let positions = (0..count as usize).sum();
+    let last_bytes = again.iter().map(|text| usize::from(*text.as_bytes().last().unwrap())).sum();
+    let mut pool = T::new();
+    time(count, "new", positions, || intern_all(black_box(&mut pool), black_box(&texts)));
+    time(count, "present", positions, || intern_all(black_box(&mut pool), black_box(&again)));
+    time(count, "absent", absent.len(), || count_absent(black_box(&pool), black_box(&absent)));
+    let keys: Vec<u32> = again.iter().filter_map(|text| pool.get(text)).collect();
+    time(count, "try_resolve", last_bytes, || resolve_all(black_box(&pool), black_box(&keys)));
+}

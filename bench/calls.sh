@@ -1,0 +1,36 @@
+# The table of single calls, beside the best that Rust has and std. A part of bench/run, which names the folders and builds the best.
+
+OURS_CALLS=$PWD/crates/lasso_bench/out/lasso_bench
+CALLS=$OUT/best/release/calls
+STANDARD_CALLS=$OUT/calls-std
+CALL_ROUNDS=15
+
+# Takes real-time priority for what is timed, where that may be done, and says which it is.
+take_priority() {
+    PRIORITY="chrt -f 10"
+    if $PRIORITY true 2> "$OUT/chrt.log"; then
+        echo "single calls run at real-time priority ($PRIORITY)"
+    else
+        PRIORITY=
+        echo "single calls run at normal priority: chrt -f 10 is not allowed here ($(head -n 1 "$OUT/chrt.log"))"
+    fi
+}
+
+# All rounds, each program in turn: lines of a name, a count of texts, a call and nanoseconds.
+rounds_of_calls() {
+    local round hash
+    for ((round = 0; round < CALL_ROUNDS; round++)); do
+        $PRIORITY "$OURS_CALLS" round | sed 's/^/ours /'
+        $PRIORITY "$STANDARD_CALLS" | sed 's/^/std /'
+        for hash in $HASHES; do
+            $PRIORITY "$CALLS" "$hash" | sed "s/^/$hash /"
+        done
+    done
+}
+
+measure_calls() {
+    rustc -O --edition 2021 -o "$STANDARD_CALLS" bench/baseline/calls.rs
+    take_priority
+    rounds_of_calls > "$OUT/calls"
+    python3 bench/calls.py < "$OUT/calls"
+}
