@@ -189,7 +189,7 @@ impl<K: Key, S: BuildHasher + Drop> Shards<K, S> {
         ensures told { IfSome result (λ k. (notes : List NoteView) × IsLegal K.key_at self.now.log.opening (history notes) × (key_of K.key_at (list_of self.now.log notes) text.now ≡ Some k)) }
     {
         let guard = self.lock(number_of(hash)).read(rt);
-        let found = self.find_key(guard.get(), hash, text);
+        let found = self.find_key(&guard.get().shard, hash, text);
         guard.leave();
         found
     }
@@ -223,7 +223,7 @@ impl<K: Key, S: BuildHasher + Drop> Shards<K, S> {
     {
         let hash = hash_text(&self.hasher, text);
         let guard = self.lock(number_of(hash)).read(rt);
-        let shard: &Shard<K, S> = guard.get();
+        let shard: &Shard<K, S> = &guard.get().shard;
         if let Some(key) = self.find_key(shard, hash, text) {
             guard.leave();
             return Some(key);
