@@ -291,7 +291,7 @@ extend_append old mid new (text ∷ front) back h h' =
     let interns : InternsIn spur_at old text (Ok first.0) h.1 = subst (λ (r : Result ℕ LassoError). InternsIn spur_at old text r h.1) first.1 h.2 in
     (Ok first.0, h.1, interns, extend_append h.1 mid new front back first.2 h')
 
--- those of a part that were encoded behind the parts before
+-- the texts of a part that were encoded after those of the parts before it
 pub encoded_join : (old mid new : InternerView) (front back : List Text) (before middle after : List ℕ) → Encoded old front before mid middle → extend spur_at mid back accepted new → AddsCodes new.texts back middle after → Encoded old (front ++ back) before new after
 encoded_join old mid new front back before middle after so_far list codes = record {
   list = extend_append old mid new front back so_far.list list;
@@ -328,7 +328,7 @@ drop_at [] k x e = absurd (cc)
 drop_at (y ∷ xs) zero x e = let same : y ≡ x = cc in ap (λ z. z ∷ xs) same
 drop_at (y ∷ xs) (suc k) x e = drop_at xs k x e
 
--- the texts before a part, the part and what is behind it
+-- the texts before a part, the part, and the texts after it
 module _ (texts part : List (Bor Text)) (start count : ℕ) (is : part ≡ take count (drop start texts)) where
   abbrev pub all_texts : List Text
   all_texts = map (λ (t : Bor Text). t.now) texts
@@ -336,25 +336,25 @@ module _ (texts part : List (Bor Text)) (start count : ℕ) (is : part ≡ take 
   abbrev pub texts_here : List Text
   texts_here = map (λ (t : Bor Text). t.now) part
 
-  abbrev pub texts_behind : List Text
-  texts_behind = drop count (drop start all_texts)
+  abbrev pub texts_after : List Text
+  texts_after = drop count (drop start all_texts)
 
   here_is : texts_here ≡ take count (drop start all_texts)
   here_is =
       ap (map (λ (t : Bor Text). t.now)) is ∙ sym (take-map (λ (t : Bor Text). t.now) count (drop start texts)) ∙ ap (take count) (sym (drop-map (λ (t : Bor Text). t.now) start texts))
 
-  pub texts_are : all_texts ≡ take start all_texts ++ (texts_here ++ texts_behind)
+  pub texts_are : all_texts ≡ take start all_texts ++ (texts_here ++ texts_after)
   texts_are =
       sym (take-append-drop start all_texts)
-      ∙ ap (λ (ts : List Text). take start all_texts ++ ts) (sym (take-append-drop count (drop start all_texts)) ∙ ap (λ (ts : List Text). ts ++ texts_behind) (sym here_is))
+      ∙ ap (λ (ts : List Text). take start all_texts ++ ts) (sym (take-append-drop count (drop start all_texts)) ∙ ap (λ (ts : List Text). ts ++ texts_after) (sym here_is))
 
   -- split where a part was left
-  pub texts_split_at : (k : ℕ) → all_texts ≡ (take start all_texts ++ take k texts_here) ++ (drop k texts_here ++ texts_behind)
+  pub texts_split_at : (k : ℕ) → all_texts ≡ (take start all_texts ++ take k texts_here) ++ (drop k texts_here ++ texts_after)
   texts_split_at k =
       texts_are
-      ∙ ap (λ (ts : List Text). take start all_texts ++ (ts ++ texts_behind)) (sym (take-append-drop k texts_here))
-      ∙ ap (λ (ts : List Text). take start all_texts ++ ts) (append_assoc (take k texts_here) (drop k texts_here) texts_behind)
-      ∙ sym (append_assoc (take start all_texts) (take k texts_here) (drop k texts_here ++ texts_behind))
+      ∙ ap (λ (ts : List Text). take start all_texts ++ (ts ++ texts_after)) (sym (take-append-drop k texts_here))
+      ∙ ap (λ (ts : List Text). take start all_texts ++ ts) (append_assoc (take k texts_here) (drop k texts_here) texts_after)
+      ∙ sym (append_assoc (take start all_texts) (take k texts_here) (drop k texts_here ++ texts_after))
 
   pub texts_more_here : take (start + count) all_texts ≡ take start all_texts ++ texts_here
   texts_more_here = take-add start count all_texts ∙ ap (λ (ts : List Text). take start all_texts ++ ts) (sym here_is)
@@ -362,8 +362,8 @@ module _ (texts part : List (Bor Text)) (start count : ℕ) (is : part ≡ take 
   next_of : (old new : InternerView) (before after : List ℕ) (k : ℕ) → Encoded old (take start all_texts ++ take k texts_here) before new after → (P : Text → Type 0) (o : Option Text) → slice_get texts_here k ≡ o → IsSomeAnd o P → IsSomeAnd (slice_get all_texts (length after - length before)) P
   next_of old new before after k so_far P None e holds = absurd (holds)
   next_of old new before after k so_far P (Some text) e holds =
-      let split = texts_split_at k ∙ ap (λ (ts : List Text). (take start all_texts ++ take k texts_here) ++ (ts ++ texts_behind)) (drop_at texts_here k text e) in
-      next_at all_texts (take start all_texts ++ take k texts_here) text (drop (suc k) texts_here ++ texts_behind) split old new before after so_far P holds
+      let split = texts_split_at k ∙ ap (λ (ts : List Text). (take start all_texts ++ take k texts_here) ++ (ts ++ texts_after)) (drop_at texts_here k text e) in
+      next_at all_texts (take start all_texts ++ take k texts_here) text (drop (suc k) texts_here ++ texts_after) split old new before after so_far P holds
 
   -- the text of the part that was refused is the next of all
   pub next_here : (old new : InternerView) (before after : List ℕ) (k : ℕ) → Encoded old (take start all_texts ++ take k texts_here) before new after → (P : Text → Type 0) → IsSomeAnd (slice_get texts_here k) P → IsSomeAnd (slice_get all_texts (length after - length before)) P

@@ -38,8 +38,7 @@ adds_rewritten : (table codes before after rewritten : List ℕ) (n : ℕ) → n
 adds_rewritten table codes before after rewritten n within is long each next =
     let kept : length (take n codes) ≡ n = length-take-le n codes within in
     let all : map (slice_get table) (take n codes) ≡ map Some rewritten =
-    each_rewritten table (take n codes) rewritten (omega (arith, kept, long)) (λ k small. each k (omega (arith, kept, small))) in
-    (
+    each_rewritten table (take n codes) rewritten (omega (arith, kept, long)) (λ k small. each k (omega (arith, kept, small))) in (
       rewritten,
       is,
       subst (λ m. map (slice_get table) (take m codes) ≡ map Some rewritten) (sym long) all,

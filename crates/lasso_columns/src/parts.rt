@@ -19,16 +19,18 @@ const LONGEST_SAMPLE: usize = 65_536;
 // How many codes are worth a thread: to rewrite these takes about as long as to start one.
 const CODES_A_THREAD: usize = 65_536;
 
-/// Does what `encode` does, with up to `workers` threads, and returns what `encode` returns: the same codes and the same list,
-/// whatever the number of threads. Each thread encodes a part of the texts with an interner of its own. Then the caller interns
-/// the distinct texts of each part, in the order of the parts, and the codes are rewritten.
+/// Does what `encode` does, with up to `workers` threads, and returns what `encode` returns: the same codes
+/// and the same list, whatever the number of threads. Each thread encodes a part of the texts with an
+/// interner of its own. Then the caller interns the distinct texts of each part, in the order of the parts,
+/// and the codes are rewritten.
 ///
-/// It pays where most texts repeat within their part. A part whose first texts are mostly new gives up, and the caller
-/// encodes it as `encode` does; so does a part that runs out of memory. With one worker, or none, it is `encode`. It keeps a
-/// dictionary and a code of 4 bytes a text for each part until it returns. For an interner that other threads use meanwhile
-/// there is `encode_shared`.
+/// It pays where most texts repeat within their part. A part whose first texts are mostly new gives up, and
+/// the caller encodes it as `encode` does; so does a part that runs out of memory. With one worker, or none,
+/// it is `encode`. It keeps a dictionary and a code of 4 bytes a text for each part until it returns. For an
+/// interner that other threads use meanwhile there is `encode_shared`.
 ///
-/// The first text that is refused ends it, as in `encode`: the texts before it are interned and have their codes.
+/// The first text that is refused ends it, as in `encode`: the texts before it are interned and have their
+/// codes.
 ///
 /// ```rust
 /// let mut rodeo: SpurRodeo = Rodeo::default(rt.alloc())?;
@@ -77,8 +79,8 @@ struct Part {
     codes: Vec<u32>,
 }
 
-// Encodes the texts with an interner of their own. `None` where memory runs out, or where more than half of the first texts are
-// new: the caller would then intern most texts again.
+// Encodes the texts with an interner of their own. `None` where memory runs out, or where more than half of
+// the first texts are new: the caller would then intern most texts again.
 fn encode_part(alloc: Global, texts: &[&str]) -> Option<Part>
     ensures { IfSome result (λ encoded. IsEncoded (map (λ t. t.now) texts.now) encoded.list encoded.codes.items) }
 {
@@ -128,8 +130,9 @@ fn put_part<R: AllocGlobal + Threads + Sync, S: BuildHasher, A: Allocator + Clon
     outcome
 }
 
-// Appends the codes of a list of `len` texts, rewritten by the table: it has the new code of each text, or of the first ones only.
-// Stops at the first code that the table lacks. There must be room for all. Up to `workers` threads rewrite.
+// Appends the codes of a list of `len` texts, rewritten by the table: it has the new code of each text, or of
+// the first ones only. Stops at the first code that the table lacks. There must be room for all. Up to
+// `workers` threads rewrite.
 fn append_rewritten<R: Threads + Sync>(
     rt: &R,
     codes: &mut Vec<u32>,

@@ -16,6 +16,9 @@ use std::thread::{Threads, map_chunks};
 /// that they then have in the interner's list, and keep. So codes of equal texts are equal. 0 workers count as one; where a
 /// thread can't be started, the caller does its work.
 ///
+/// It serves where other threads use the interner meanwhile. For a column alone `encode_in_parts` is faster, and gives the codes
+/// of one thread.
+///
 /// Each worker stops at the first of its texts that is refused, and the refusal of the first of these workers is the answer. No code is
 /// added then, nor where there is no memory for the codes, and the texts that were interned stay.
 ///

@@ -1,4 +1,5 @@
-//! Columns that are encoded in parts: whatever the number of workers, what comes out is what the numbers tell.
+//! Columns that are encoded in parts: whatever the number of workers, what comes out is what the numbers
+//! tell.
 use crate::calls::{encode_in_parts, interner};
 use crate::columns::limit_refuses;
 use crate::numbered::{codes_of, distinct, mixed, printed, repeated};
@@ -80,14 +81,15 @@ fn parts_that_give_up_keep_their_place(rt: HostRuntime) -> Result<(), Fail> {
     encode_all(&rt, &numbers)
 }
 
-// An interner for so many texts of five bytes, and no more.
+// An interner with room for this number of texts of five bytes, and no more.
 fn interner_for(alloc: Global, texts: usize) -> LassoResult<SpurRodeo> {
     let bytes = texts.min(1000) * 5;
     let capacity = Capacity::for_bytes(bytes);
     Rodeo::with_capacity_and_memory_limits(alloc, capacity, MemoryLimits::new(bytes))
 }
 
-// The limit refuses the first text whose code would be `most`. The texts before it are there, and have their codes.
+// The limit refuses the first text whose code would be `most`. The texts before it are there, and have their
+// codes.
 fn limit_ends<R: AllocGlobal + Threads + Sync + Abort>(
     rt: &R,
     numbers: &[u32],
@@ -174,7 +176,8 @@ fn long_parts_are_rewritten(rt: HostRuntime) -> Result<(), Fail> {
     Ok(())
 }
 
-// Each request of the caller's interner is refused once. What is left then is a beginning, and the rest is encoded by a second call.
+// Each request of the caller's interner is refused once. What is left then is a beginning, and the rest is
+// encoded by a second call.
 #[test]
 fn a_refused_request_leaves_a_beginning(rt: HostRuntime) -> Result<(), Fail> {
     let numbers = repeated(rt.alloc())?;
