@@ -159,36 +159,32 @@ fn greatest_numbers_of_8_bits(rt: HostRuntime) -> Result<(), Fail> {
     Ok(())
 }
 
+// Gives the text this number in the object, and adds it first where it is absent.
+fn put(alloc: Global, value: &mut Value, text: &str, number: u64) -> Result<(), Fail> {
+    if let Value::Object(members) = value {
+        let name = format!(in alloc; "{text}")?;
+        members.insert(name, Value::Number(Number::from(number)))?;
+    }
+    Ok(())
+}
+
+// Keys of 16 bits end after 65535 texts. One object of so many texts serves all rows, since it takes longer to make than to read.
 #[test]
 fn greatest_numbers_of_16_bits(rt: HostRuntime) -> Result<(), Fail> {
-    let rows = [
-        (1, 65535, None, None),
-        (1, 65536, Some(JsonError::TooMany(65535)), None),
-        (
-            65535,
-            65536,
-            Some(JsonError::Taken(65534)),
-            Some(JsonError::Taken(65534)),
-        ),
-        (65536, 65535, NO_POSITION, NO_POSITION),
-        (
-            65536,
-            65536,
-            Some(JsonError::TooMany(0)),
-            Some(JsonError::Taken(65535)),
-        ),
-        (4294967295, 65536, NO_POSITION, NO_POSITION),
-    ];
-    for (first, count, mini, spur) in rows {
-        assert!(rt;
-            wrong_after::<MiniSpur>(rt.alloc(), first, count)? == mini,
-            "{first}"
-        );
-        assert!(rt;
-            wrong_after::<Spur>(rt.alloc(), first, count)? == spur,
-            "{first}"
-        );
-    }
+    let alloc = rt.alloc();
+    let mut value = numbered_after(alloc, 1, 65535)?;
+    assert!(rt; fault::<MiniSpur>(alloc, &value) == None);
+    put(alloc, &mut value, "00000", 65536)?;
+    assert!(rt; fault::<MiniSpur>(alloc, &value) == NO_POSITION);
+    put(alloc, &mut value, "65535", 65536)?;
+    assert!(rt; fault::<MiniSpur>(alloc, &value) == Some(JsonError::TooMany(0)));
+    assert!(rt; fault::<Spur>(alloc, &value) == Some(JsonError::Taken(65535)));
+    put(alloc, &mut value, "00000", 65535)?;
+    assert!(rt; fault::<MiniSpur>(alloc, &value) == Some(JsonError::Taken(65534)));
+    put(alloc, &mut value, "00000", 1)?;
+    assert!(rt; fault::<MiniSpur>(alloc, &value) == Some(JsonError::TooMany(65535)));
+    put(alloc, &mut value, "00000", 4294967295)?;
+    assert!(rt; fault::<Spur>(alloc, &value) == NO_POSITION);
     Ok(())
 }
 
