@@ -12,7 +12,7 @@ pub returns-in-Some : goal.returns-in-Some
 returns-in-Some g c =
     let found = c.in-Some.ensures.found in
     let o = c.args.self.now.log.opening in
-    let notes = c.get-shard.result.now.known.notes in
+    let notes = c.deref-shard.result.now.known.notes in
     let p = unused (history notes) in record {
       call = plain g.K.Key.key_at o p [] notes (Get c.args.text.now) (Found (Some c.in-Some.key)) refl
           (got g.K.Key.key_at o p [] notes c.args.text.now (Some c.in-Some.key) (seen_alone notes) (sym found.1)) found.0;
