@@ -191,7 +191,8 @@ impl<T: HasText + Drop> Chunks<T> {
         Ok(self.chunks[number].set_written(chunk).ok())
     }
 
-    /// What shows that the chunk of a position is made, or `None` where it is not. It takes no memory and does not wait.
+    /// Shows that the chunk of a position is made. Returns `None` where it is not. It takes no memory and
+    /// does not wait.
     pub fn find_chunk(&self, position: u64) -> Option<Written<Chunk<T>>>
         ensures { IfSome result (λ chunk. chunk.of ≡ chunk_named self.now position) }
     {
@@ -199,8 +200,8 @@ impl<T: HasText + Drop> Chunks<T> {
         self.chunks[number].witness()
     }
 
-    /// Makes the chunk of a position, if it is not there, and gives what shows that it is. Out of memory, the chunks are as they
-    /// were. It waits where another thread is putting the chunk in just now, and takes no memory then.
+    /// Makes the chunk of a position, where it is not made, and shows that it is. Out of memory, the chunks
+    /// are as they were. It waits while another thread is putting the chunk in, and takes no memory then.
     pub fn make_chunk_or_wait<R: Wait>(
         &self,
         rt: &R,

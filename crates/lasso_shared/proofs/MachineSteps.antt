@@ -4,7 +4,7 @@
 -- asked for, and that the list lacks the text comes from the state. The events of a step are what it does to the list, the
 -- buckets, the usage and the limit; so the events of a run add up to what the run leaves.
 use mathlib.Core.List.{IsPrefix}
-use Rattle.std.proofs.Common.{◌≡◌, ◌≢◌, ℕ, ◌+◌, ◌<◌, ◌≤◌, List, [], ◌∷◌, ◌++◌, map, length, Option, Some, None, IsSome, is_some, IfSome, option_and_then, Err, refl, sym, ap, ◌∙◌, subst, ⊎_elim, inl, arith, append-nil, append_assoc}
+use Rattle.std.proofs.Common.{◌≡◌, ◌≢◌, ℕ, ◌+◌, ◌<◌, ◌≤◌, List, [], ◌∷◌, ◌++◌, length, Option, Some, None, IsSome, is_some, IfSome, option_and_then, Err, refl, sym, ap, ◌∙◌, subst, ⊎_elim, inl, arith, append-nil, append_assoc}
 use Rattle.std.proofs.lemmas.Option.{none-some}
 use Rattle.std.proofs.lemmas.List.{map-append}
 use Rattle.std.proofs.lemmas.List.Elements.{All-push}

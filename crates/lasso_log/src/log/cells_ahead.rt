@@ -16,17 +16,17 @@ use std::alloc::Global;
 use std::marker::Model;
 use std::sync::Wait;
 
-// Sixteen cells are looked for, from the length on. The last one lies this far past the first.
+// Sixteen cells are asked for, from the length on. The last one lies this far past the first.
 const AHEAD: u64 = 15;
 
-/// What shows that the cells of the next sixteen positions are made, past the list of a history that was seen. Each lies in the
-/// chunk of the first of them or in that of the last. It has no bytes. A contract sees the interner and the history's notes.
+/// Shows that the cells of the next sixteen positions are made, past the list of a history that was seen:
+/// each lies in the chunk of the first of them or in that of the last. It has no bytes. A contract sees the
+/// interner and the history's notes.
 ///
-/// Where at most sixteen threads at a time intern a text, and each of them looks at the length anew for each text, a text finds the
-/// chunk of its position made. Say that its thread looked when the position was further ahead than the last cell it asked for. Then the
-/// sixteen texts before it were all appended since that look. When the first of them was appended, at most fifteen threads besides
-/// its own were under way, this one among them. So of the fifteen others at least one text was looked for after that step, and the cells
-/// that its thread asked for reach past this text's position.
+/// Where at most sixteen threads at a time intern a text, and each asks for these cells anew for each text,
+/// each text finds its cell made. If its own look was too early for that, the sixteen texts before it came
+/// after that look. When the first of these came, at most fourteen other threads had asked already and not
+/// yet appended. So one of the next fifteen asked after that, and its cells reach to this text.
 #[derive(Drop)]
 pub struct CellsAhead<K: Key> {
     known: Known<K>,
@@ -49,8 +49,8 @@ impl<K: Key> Model for CellsAhead<K> {
 }
 
 impl<K: Key> Log<K> {
-    /// What shows that the cells of the next sixteen positions are made, at one step, or `None` where one is not. It takes no
-    /// memory and does not wait.
+    /// Shows that the cells of the next sixteen positions are made, at one step. Returns `None` where one is
+    /// not. It takes no memory and does not wait.
     pub fn find_ahead(&self, pass: &mut Pass<K>) -> Option<CellsAhead<K>>
         requires { pass.old.of ≡ self.now }
         ensures same { IsSamePass pass.new pass.old }
@@ -68,9 +68,9 @@ impl<K: Key> Log<K> {
         })
     }
 
-    /// Makes the cells of the next sixteen positions, at one step, where they are not made, and gives what shows that they are. It
-    /// fails out of memory alone (`FailedAllocation`), which it also returns where a position would be 2^64 or more. It waits where
-    /// another thread makes them at the same time.
+    /// Makes the cells of the next sixteen positions, at one step, where they are not made, and shows that
+    /// they are. It fails only out of memory (`FailedAllocation`), which it also returns where a position
+    /// would be 2^64 or more. It waits where another thread makes them at the same time.
     pub fn make_ahead<R: Wait>(
         &self,
         rt: &R,

@@ -6,8 +6,8 @@ use crate::log::known::Known;
 use lasso_parts::keys::Key;
 use std::marker::Model;
 
-/// A slot that `Log::reserve_next` or `Log::reserve_ahead` kept. It ends by `Log::append` or by `Spine::give_back`, and by nothing else. It has no
-/// bytes. A contract sees which interner it is of.
+/// A slot that `Log::reserve_next` or `Log::reserve_ahead` kept. It ends by `Log::append` or by
+/// `Spine::give_back`, and by nothing else. It has no bytes. A contract sees which interner it is of.
 pub struct KeptSlot<K: Key> {
     known: Known<K>,
 }

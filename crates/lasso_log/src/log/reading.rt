@@ -25,8 +25,8 @@ impl<K: Key> Log<K> {
         self.first + appended
     }
 
-    /// The text at the position, of the list as it is at one step, or `None` past its end. It is lent as long as
-    /// the log. It takes no memory and does not wait.
+    /// The text at the position, of the list as it is at one step, or `None` past its end. It is lent as long
+    /// as the log. It takes no memory and does not wait.
     pub fn read(&self, position: u64, pass: &mut Pass<K>) -> Option<&str>
         requires { pass.old.of ≡ self.now }
         ensures same { IsSamePass pass.new pass.old }
@@ -41,7 +41,8 @@ impl<K: Key> Log<K> {
         Some(self.lend(&mut seen, position))
     }
 
-    /// The number of texts at one step, of the history that `known` then is. It takes no memory and does not wait.
+    /// The number of texts at one step, of the history that `known` then is. It takes no memory and does not
+    /// wait.
     pub fn len_known(&self, known: &mut Known<K>) -> u64
         requires { known.old.of ≡ self.now }
         ensures same { known.new.of ≡ known.old.of }
@@ -51,8 +52,8 @@ impl<K: Key> Log<K> {
         self.first + appended
     }
 
-    /// The text at the position, of the list of the history that `known` then is, or `None` past its end. It is lent as long as
-    /// the log. It takes no memory and does not wait.
+    /// The text at the position, of the list of the history that `known` then is, or `None` past its end. It
+    /// is lent as long as the log. It takes no memory and does not wait.
     pub fn read_known(&self, position: u64, known: &mut Known<K>) -> Option<&str>
         requires { known.old.of ≡ self.now }
         ensures same { known.new.of ≡ known.old.of }

@@ -132,8 +132,8 @@ impl<K: Key> Log<K> {
         Ok(KeptSlot::new(self.known()))
     }
 
-    /// The same by a caller that has shown that cells are made ahead. `None` where the next slot's cell is not among them, and
-    /// nothing changes then. It takes no memory and does not wait.
+    /// Keeps one slot more likewise, for a caller that has made cells ahead. Returns `None` where the slot's
+    /// cell is not made, and nothing changes then. It takes no memory and does not wait.
     pub fn reserve_ahead(&self, spine: &mut Spine<K>, ahead: &CellsAhead<K>) -> Option<KeptSlot<K>>
         requires { (spine.old.of ≡ self.now) × (ahead.now.of ≡ self.now) }
         ensures slot { IfSome result (λ slot. slot ≡ self.now) }
@@ -152,9 +152,10 @@ impl<K: Key> Log<K> {
         Some(KeptSlot::new(self.known()))
     }
 
-    /// Puts the text last, in a slot that was kept. The text must lie where it is as long as the interner's era. The list of
-    /// the spine must lack it, and have a key for its length. The text's cell is filled before the length moves. It waits where the length isn't the
-    /// spine's, where the spine keeps no slot, where the chunk of its position isn't made, and where the cell is filled.
+    /// Puts the text last, in a slot that was kept. The text must lie where it is as long as the interner's
+    /// era. The list of the spine must lack it, and have a key for its length. The text's cell is filled
+    /// before the length moves. It waits where the length isn't the spine's, where the spine keeps no slot,
+    /// where the chunk of its position isn't made, and where the cell is filled.
     pub fn append<R: Wait>(
         &self,
         rt: &R,

@@ -37,8 +37,8 @@ impl<K: Key> Ticket<K> {
     }
 }
 
-/// Fetches a new ticket by an exchange of a used ticket's word with itself. Only the pass that used that ticket has its word, so
-/// no other thread waits for this exchange.
+/// Fetches a new ticket by an exchange of a used ticket's word with itself. Only the pass that used that
+/// ticket has its word, so no other thread waits for this exchange.
 pub fn fetched_by<K: Key>(
     used: &Word<Note, u64, LogRule<K>>,
     seen: &Seen<Note, u64, LogRule<K>>,

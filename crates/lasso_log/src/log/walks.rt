@@ -58,8 +58,9 @@ impl<K: Key> Log<K> {
         None
     }
 
-    /// Takes bytes, at least one, in a bucket that is in the list, the newest before the others, with no spine, and gives the right to fill them. Where it is `None` no
-    /// event is added, and nothing is known of the room. It takes no memory. It waits where another thread takes bytes at the same time.
+    /// Takes bytes, at least one, in a bucket of the list, the newest first, without the spine, and gives the
+    /// right to fill them. Where it returns `None` no event is added, and nothing is known of the room. It
+    /// takes no memory. It waits where another thread takes bytes at the same time.
     #[tactic(auto, using(crate::proofs::Tickets::since_trans))]
     pub fn reserve_anywhere<R: Wait>(
         &self,

@@ -29,8 +29,8 @@ use std::marker::Model;
 /// that the texts lie in, the number of texts at the opening, and the log as it was then. A contract sees which
 /// interner it is of.
 pub struct Log<K: Key> {
-    // The padding is never read. It keeps the word that every append moves on a cache line of its own, so that reading the other
-    // fields does not wait for that word.
+    // The padding is never read. It keeps the word that every append moves on a cache line of its own, so
+    // that reading the other fields does not wait for that word.
     pub(super) padding_before: [u64; 8],
     pub(super) head: Word<Note, u64, LogRule<K>>,
     pub(super) padding_after: [u64; 8],
@@ -113,8 +113,8 @@ impl<K: Key> Log<K> {
         }
     }
 
-    // The ticket that the pass has after its next event. It is fetched by the word of a ticket that the pass used, which no other
-    // thread exchanges; a pass that has used none fetches it by the length word.
+    // The ticket that the pass has after its next event. It is fetched by the word of a ticket that the pass
+    // used, which no other thread exchanges; a pass that has used none fetches it by the length word.
     pub(super) fn next_ticket(&self, pass: &Pass<K>) -> Ticket<K>
         requires { pass.now.of ≡ self.now }
         ensures { IsTicket self.now.book result.word result.pen }
@@ -125,7 +125,8 @@ impl<K: Key> Log<K> {
         }
     }
 
-    // What a word has at one step, which the log that was seen then reaches. `word_index` says which word it is.
+    // What a word has at one step, which the log that was seen then reaches. `word_index` says which word it
+    // is.
     fn load_seen(
         word: &Word<Note, u64, LogRule<K>>,
         word_index: u64,
@@ -176,9 +177,9 @@ impl<K: Key> Log<K> {
         found
     }
 
-    // Adds an event where the word still has the value that is expected, which then is one more. Else nothing changes. `given` is
-    // a log that was seen, in which the event may follow while the word has this value; `cell_proof` shows that an appended text
-    // is in the cell of its position.
+    // Adds an event where the word still has the value that is expected, which then is one more. Else nothing
+    // changes. `given` is a log that was seen, in which the event may follow while the word has this value;
+    // `cell_proof` shows that an appended text is in the cell of its position.
     pub(super) fn exchange(
         &self,
         word: &Word<Note, u64, LogRule<K>>,

@@ -97,8 +97,8 @@ impl<K: Key> BucketList<K> {
         &self.first
     }
 
-    /// The bucket that came in last, as far as is counted, where there is a later one than the first. It has more room than the
-    /// others, save where it was made for one text alone or for what the limit left.
+    /// The bucket that was added last. Returns `None` where there is only the first one, or where the last
+    /// one is still being put in. It mostly has the most room.
     pub fn newest(&self) -> Option<&SharedBucket<K>>
         ensures { IfSome result (λ b. names_with_book b.now.of ≡ self.now) }
     {

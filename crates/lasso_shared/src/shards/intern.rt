@@ -96,7 +96,8 @@ impl<K: Key, S: BuildHasher + Drop> Shards<K, S> {
         self.intern_static_new(rt, pass, hash, text)
     }
 
-    // Interns a static text that the first look-up did not find. It stays out of line, so that present texts set up nothing for it.
+    // Interns a static text that the first look-up did not find. It stays out of line, so that present texts
+    // set up nothing for it.
     #[inline(never)]
     fn intern_static_new<R: Wait>(
         &self,
@@ -116,7 +117,8 @@ impl<K: Key, S: BuildHasher + Drop> Shards<K, S> {
         reply
     }
 
-    /// The same without a pass. A present text is found in the history that its shard has seen; for an absent one a pass is made.
+    /// The same without a pass. A present text is found in the history that its shard has seen; for an absent
+    /// one a pass is made.
     pub fn intern_static_once<R: Wait>(&self, rt: &R, text: &'static str) -> LassoResult<K>
         ensures call { IsPlainCall K.key_at self.now.log.opening (Intern Static text.now) (Interned result) }
     {
@@ -159,7 +161,8 @@ impl<K: Key, S: BuildHasher + Drop> Shards<K, S> {
         reply
     }
 
-    // Interns a copied text that the first look-up did not find. It stays out of line, so that present texts set up nothing for it.
+    // Interns a copied text that the first look-up did not find. It stays out of line, so that present texts
+    // set up nothing for it.
     #[inline(never)]
     fn intern_copied_new<R: Wait>(
         &self,

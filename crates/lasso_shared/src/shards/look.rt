@@ -29,8 +29,8 @@ fn key_at<K: Key>(known: &Known<K>, position: usize) -> K
 }
 
 impl<K: Key, S: BuildHasher + Drop> Shards<K, S> {
-    // The position of the text in a history that begins with the shard's own, where the shard's index has it. Else the list of the
-    // shard's own history lacks it.
+    // The position of the text in a history that begins with the shard's own, where the shard's index has it.
+    // Else the list of the shard's own history lacks it.
     fn find_position(
         &self,
         shard: &Shard<K, S>,
@@ -50,7 +50,8 @@ impl<K: Key, S: BuildHasher + Drop> Shards<K, S> {
         shard.index.find_hashed(&texts, &self.hasher, hash, text)
     }
 
-    // The key of the text, where the shard's index has it. Else the list of the shard's own history, which is legal, lacks it.
+    // The key of the text, where the shard's index has it. Else the list of the shard's own history, which is
+    // legal, lacks it.
     fn find_key(&self, shard: &Shard<K, S>, hash: u64, text: &str) -> Option<K>
         requires hashed { hash ≡ text_hash S.build_hasher S.Hasher.write S.Hasher.finish self.now.hasher text.now }
         requires held { IsShard (text_hash S.build_hasher S.Hasher.write S.Hasher.finish self.now.hasher) (shard_of hash) self.now.log shard.now.known shard.now.index shard.now.count }
@@ -141,7 +142,8 @@ impl<K: Key, S: BuildHasher + Drop> Shards<K, S> {
         unreachable!()
     }
 
-    // Compares the shard likewise. A text that the list of its own history lacks is in none that the pass has then seen.
+    // Compares the shard likewise. A text that the list of its own history lacks is in none that the pass has
+    // then seen.
     fn see_absent<R: Wait>(
         &self,
         rt: &R,
@@ -183,7 +185,8 @@ impl<K: Key, S: BuildHasher + Drop> Shards<K, S> {
         found
     }
 
-    // The key of the text, where the shard's index has it, without a pass. It is looked up beside other readers.
+    // The key of the text, where the shard's index has it, without a pass. It is looked up beside other
+    // readers.
     pub(super) fn glance<R: Wait>(&self, rt: &R, hash: u64, text: &str) -> Option<K>
         requires hashed { hash ≡ text_hash S.build_hasher S.Hasher.write S.Hasher.finish self.now.hasher text.now }
         ensures told { IfSome result (λ k. (notes : List NoteView) × IsLegal K.key_at self.now.log.opening (history notes) × (key_of K.key_at (list_of self.now.log notes) text.now ≡ Some k)) }
@@ -217,7 +220,8 @@ impl<K: Key, S: BuildHasher + Drop> Shards<K, S> {
         None
     }
 
-    /// The same without a pass. A present text is found in the history that its shard has seen; for an absent one a pass is made.
+    /// The same without a pass. A present text is found in the history that its shard has seen; for an absent
+    /// one a pass is made.
     pub fn get_once<R: Wait>(&self, rt: &R, text: &str) -> Option<K>
         ensures call { IsPlainCall K.key_at self.now.log.opening (Get text.now) (Found result) }
     {

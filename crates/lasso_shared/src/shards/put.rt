@@ -1,9 +1,10 @@
 //! Putting a new text last, while its shard is held.
 //!
-//! Memory is asked for first: room in the index, and cells of the log ahead of its length. Then the bytes of a copied text are
-//! stored. Then, in one hold of the spine, a slot is kept among those cells, the key type is asked, and the text is appended. Its
-//! position goes into the index. The shard is held throughout: so what was looked up stays, what was stored is not stored again,
-//! and a retry compares numbers alone and asks for no memory.
+//! Memory is asked for first: room in the index, and cells of the log ahead of its length. Then the bytes of
+//! a copied text are stored. Then, in one hold of the spine, a slot is kept among those cells, the key type
+//! is asked, and the text is appended. Its position goes into the index. The shard is held throughout: so
+//! what was looked up stays, what was stored is not stored again, and a retry compares numbers alone and asks
+//! for no memory.
 ghost use Rattle.std.specs.Prelude.{◌≡◌, ◌<◌, ◌-◌, [], IfOk, IfErr, OnOk, OnErr};
 ghost use base.Fml.{Incl};
 ghost use mathlib.Core.List.{IsPrefix};
@@ -29,7 +30,8 @@ use std::hash::BuildHasher;
 use std::sync::Wait;
 
 impl<K: Key, S: BuildHasher + Drop> Shards<K, S> {
-    // Returns the cells of the log ahead of its length. Where they are not made yet the spine is held, so that one thread makes them.
+    // Returns the cells of the log ahead of its length. Where they are not made yet the spine is held, so
+    // that one thread makes them.
     fn cells_ahead<R: Wait>(&self, rt: &R, pass: &mut Pass<K>) -> LassoResult<CellsAhead<K>>
         requires { pass.old.of ≡ self.now.log }
         ensures same { IsSamePass pass.new pass.old }
@@ -142,8 +144,9 @@ impl<K: Key, S: BuildHasher + Drop> Shards<K, S> {
         Ok(key)
     }
 
-    // Puts the text last, once the shard is whole for what the pass has then seen. The caller has made cells ahead, so the loop asks for no
-    // memory. It tries again where the text's cell is not among those, which does not come about while each caller holds a shard.
+    // Puts the text last, once the shard is whole for what the pass has then seen. The caller has made cells
+    // ahead, so the loop asks for no memory. It tries again where the text's cell is not made, which cannot
+    // happen while each caller holds a shard and made its cells in that hold.
     pub(super) fn put_last<R: Wait>(
         &self,
         rt: &R,

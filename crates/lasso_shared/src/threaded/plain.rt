@@ -1,6 +1,7 @@
-//! Plain calls of an interner that threads share. Each is the call of some new pass, which is gone afterwards. So a clause explains
-//! each reply by a legal history of its own; what holds across calls is said by the calls with a pass, and tested of these. A call
-//! that adds no event needs no pass at all: there is always a number that no event of the history has.
+//! Plain calls of an interner that threads share. Each is the call of some new pass, which is gone
+//! afterwards. So a clause explains each reply by a legal history of its own; what holds across calls is said
+//! by the calls with a pass, and tested of these. A call that adds no event needs no pass at all: there is
+//! always a number that no event of the history has.
 ghost use Rattle.std.specs.Prelude.{◌≡◌, ◌≤◌, ℕ, Ok, option_map};
 ghost use Rattle.lasso_log.specs.History.{IsOpening};
 ghost use Rattle.lasso_log.specs.Replies.{Copied, Static, Intern, Get, Contains, ContainsKey, Resolve, Len, IsEmpty, Usage, MaxUsage, SetLimit, Interned, Found, Flag, Resolved, Number, Done};

@@ -1,5 +1,5 @@
-//! Texts that are interned while memory is out. `bench/refused-tests` refuses the requests for memory; where none is refused, each text
-//! is interned at the first call.
+//! Texts that are interned while memory is out. `bench/refused-tests` refuses the requests for memory; where
+//! none is refused, each text is interned at the first call.
 
 use crate::calls::{Shared, answered, contains, copied, kept, len, limited, text_at, usage};
 use lasso_parts::util::LassoErrorKind;
@@ -23,8 +23,8 @@ enum Way {
     Static,
 }
 
-// Interns an absent text, again and again while memory is out, and gives its number. `None` where a call failed otherwise, or where
-// one that was out of memory left the text, another length or another usage.
+// Interns an absent text, again and again while memory is out, and gives its number. `None` where a call
+// failed otherwise, or where one that was out of memory left the text, another length or another usage.
 fn interned_at_last<R: Wait>(
     rt: &R,
     shared: &Shared,

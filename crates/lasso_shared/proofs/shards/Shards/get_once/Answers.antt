@@ -1,7 +1,7 @@
-use Rattle.std.proofs.Common.{◌≡◌, ◌∙◌, List, None, Some, [], ap, refl, subst, sym}
+use Rattle.std.proofs.Common.{◌≡◌, ◌∙◌, None, Some, [], ap, refl, subst, sym}
 use Rattle.std.specs.Prelude.{option_and_then}
 use Rattle.lasso_log.specs.History.{IsLegal}
-use Rattle.lasso_log.specs.Notes.{NoteView, Since, history}
+use Rattle.lasso_log.specs.Notes.{Since, history}
 use Rattle.lasso_log.specs.Replies.{Get, Found}
 use Rattle.lasso_log.specs.Views.{InternerId}
 use Rattle.lasso_shared.proofs.Called.{plain, got, unused, seen_alone}

@@ -1,4 +1,3 @@
-use Rattle.std.proofs.Common.{◌∙◌}
 use Rattle.lasso_shared.proofs.Whole.{since_both}
 use Rattle.lasso_shared.proofs.shards.Shards.make_room.Goals as goal
 

@@ -1,5 +1,4 @@
 use Rattle.std.proofs.Common.{◌≡◌, ◌++◌, sym, ap, ◌∙◌, subst}
-use mathlib.Core.List.{IsPrefix}
 use Rattle.lasso_log.specs.History.{History, IsLegal}
 use Rattle.lasso_log.specs.Notes.{history, notes_of, opening_of}
 use Rattle.lasso_log.specs.Views.{KnownView}

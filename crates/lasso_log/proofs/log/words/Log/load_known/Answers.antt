@@ -1,8 +1,7 @@
-use Rattle.std.proofs.Common.{◌≡◌, sym, ◌∙◌, ap}
+use Rattle.std.proofs.Common.{sym, ◌∙◌, ap}
 use Rattle.lasso_log.specs.Notes.{notes_of, opening_of, IsWord}
 use Rattle.lasso_log.specs.Book.{Reads, word_of}
-use Rattle.lasso_log.specs.Views.{interner_id}
-use Rattle.lasso_log.proofs.Logs.{read_value, tails}
+use Rattle.lasso_log.proofs.Logs.{read_value}
 use Rattle.lasso_log.proofs.log.words.Log.load_known.Goals as goal
 
 pub load_seen-requires-clause-word : goal.load_seen-requires-clause-word

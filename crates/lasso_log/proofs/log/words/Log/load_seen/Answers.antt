@@ -1,4 +1,4 @@
-use Rattle.std.proofs.Common.{◌≡◌, sym, ap}
+use Rattle.std.proofs.Common.{sym, ap}
 use Rattle.lasso_log.proofs.Logs.{peek_opened}
 use Rattle.lasso_log.proofs.log.words.Log.load_seen.Goals as goal
 

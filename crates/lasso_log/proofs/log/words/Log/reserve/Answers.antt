@@ -1,11 +1,9 @@
-use Rattle.std.proofs.Common.{ℕ, zero, suc, ◌+◌, ◌<◌, List, [], ◌∷◌, ◌∙◌, subst, arith}
-use mathlib.Core.Logic.{inl, inr}
-use mathlib.Core.List.{IsPrefix}
+use Rattle.std.proofs.Common.{ℕ, ◌<◌, List, [], ◌∷◌, ◌∙◌, subst, arith}
 use Rattle.lasso_log.specs.History.{Reserve}
 use Rattle.lasso_log.specs.Notes.{NoteView, Since, state}
 use Rattle.lasso_log.specs.SharedBuckets.{SharedView, LacksRoom, IsNoteOf}
 use Rattle.lasso_log.proofs.Tickets.{since_trans}
-use Rattle.lasso_log.proofs.TurnWords.{lacks_later, lacks_one_more}
+use Rattle.lasso_log.proofs.TurnWords.{lacks_one_more}
 use Rattle.lasso_log.proofs.log.words.Log.reserve.Goals as goal
 
 pub returns-in-Some-clause-event : goal.returns-in-Some-clause-event

@@ -1,6 +1,4 @@
 use Rattle.std.proofs.Common.{◌≡◌}
-use Rattle.lasso_log.specs.SharedBuckets.{SharedView, names_with_book}
-use Rattle.lasso_log.specs.Views.{InternerId}
 use Rattle.lasso_log.proofs.shared_arena.bucket_list.BucketList.push_front.Given as goal
 
 -- the bucket that is left to put in
