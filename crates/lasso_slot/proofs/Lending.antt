@@ -4,17 +4,17 @@
 -- the token of `a` is spent, so `a` is over, and the right is due.
 -- A reader sees the value for the meet of `a` and α. While its claim is borrowed for ν, its share of the token of `a` is borrowed for ν too, so
 -- `a` lasts as long as ν, and so does α, since the claim's own lifetime ends no later. So what is seen lasts for ν.
-use Rattle.std.proofs.Common.{◌≡◌, ℕ, zero, suc, ◌+◌, [], ◌∷◌, ◌++◌, Option, Some, None}
+use Rattle.std.proofs.Common.{ℕ, zero, suc, ◌+◌, [], ◌∷◌, ◌++◌, Option, Some, None}
 use seplogic.Ra.Ura.{Ura}
 use base.Fraction.{full_share}
 use base.FractionLaws.{Counts}
-use base.Logic.{SProp, ent, sep, wand, emp, upd, upd_i, id⊢, never_e, apply∗}
-use base.Fml.{Lft, Share, Incl, Incl-refl, Incl-trans, Fml, ftrue, ffalse, fsep, fseps, fex, fwand, fupd, fdead, fbor, flft, flent, finv, fshr_bor}
+use base.Logic.{SProp, ent, sep, wand, emp, upd_i, id⊢, never_e, apply∗}
+use base.Fml.{Lft, Share, Incl, Incl-trans, Fml, ftrue, ffalse, fsep, fseps, fex, fwand, fupd, fdead, fbor, flft, finv}
 use base.Before.{before}
 use contract.BorrowLft.{meet_⊑_left, meet_⊑_right, ⊑_meet}
 use ghost.Rules.{Toks, span}
 use types.Logic.{Logic, sem, lfts}
-use types.Kit.{‵, raw, ◌⊛◌, some, later, ◌$◌, ◌∵◌, !, qed, by, move, keep, drop, use0, use1, use2, split, join, fsplit, fsplit3, fjoin, fjoin3, fpick, fpack, pick, assume, suffices, await, updating, now, done}
+use types.Kit.{‵, raw, ◌⊛◌, some, later, ◌$◌, ◌∵◌, !, qed, by, move, keep, use0, use1, use2, split, join, fsplit, fsplit3, fjoin, fjoin3, fpick, fpack, pick, assume, suffices, await, updating, now, done}
 use types.Tokens.{lft_new, lft_end, lent_back, bor_open, obor_alter, bor_fracture, one_token}
 use types.Na.{before_dup, before_shorten}
 use denote.RattleType.{RattleType, RowLaws}
@@ -27,7 +27,7 @@ use denote.SharingLaws.{beside_shr_laws, contraction, shortens, nothing_shr_laws
 use denote.Steps.{nothing}
 use denote.Struct.Lending.{Lends, Lends-false, Lends-nothing}
 use Rattle.core.proofs.cell.Borrows.{by_one}
-use Rattle.lasso_slot.specs.Slots.{fact, named_as, lots_at, lot, Id, offset, cell, visible, due, kept_word, known, reading, reading_some, visible_some, claim_owns, claim_shares}
+use Rattle.lasso_slot.specs.Slots.{fact, named_as, lot, Id, offset, cell, visible, due, kept_word, known, reading, claim_owns, claim_shares}
 use Rattle.lasso_slot.proofs.Lots.{lots_in}
 
 pub visible_laws : (R : RattleType) (fits : R.Denot → Type 0) → RowLaws R → (b o : ℕ) (x : R.Denot) → ShrLaws (visible R fits b o x)

@@ -2,7 +2,7 @@
 -- A lot of v is a share e of the name γ at v, with the same share of the token that v stands for. Shares are counted in 2 ^ 63 parts, so two
 -- counts that add up give two shares that do. Two lots of one name agree on v, since the name is one thing at a time; a lot beside all of
 -- them is a share too many. Whoever has all lots has the name whole, may set it to another v, and has the token whole.
-use Rattle.std.proofs.Common.{◌≡◌, ℕ, zero, suc, ◌+◌, ◌-◌, ◌^◌, ◌<◌, ◌≤◌, [], ◌∷◌, refl, sym, arith}
+use Rattle.std.proofs.Common.{◌≡◌, ℕ, zero, suc, ◌+◌, ◌-◌, ◌^◌, ◌<◌, ◌≤◌, [], ◌∷◌, arith}
 use mathlib.Mathlib.Data.Part.{◌∈◌}
 use seplogic.Ra.Ura.{Ura}
 use seplogic.Ra.Constructions.Prod
@@ -13,9 +13,9 @@ use base.FractionLaws.{Counts, counts_some, Counts-op, Counts-all, not-OpDef-ful
 use base.Stored.{coded_ℕ}
 use base.SetCodes.{coded, SetCoded-set}
 use base.Logic.{SProp, ent, sep, guard, guard_i, upd, upd_i}
-use base.Fml.{GName, Share, Fml, ftrue, fex, flft}
+use base.Fml.{GName, Share, Fml, ftrue, fex}
 use types.Logic.{Logic, sem}
-use types.Kit.{‵, raw, ◌⊛◌, given, ◌$◌, ◌∵◌, !, qed, by, move, keep, drop, split, join, fsplit, fjoin, fpick, fpack, learn, check, settle, suffices, use1, use2, rewrite, done}
+use types.Kit.{‵, raw, ◌⊛◌, given, ◌$◌, ◌∵◌, !, qed, by, move, keep, drop, split, fsplit, fjoin, fpick, fpack, learn, check, settle, suffices, use1, use2, done}
 use types.Owned.{own_glued, own_sum, own_join, own_step}
 use denote.Steps.{nothing}
 use Rattle.lasso_slot.specs.Slots.{naming, named_as, token, lots_at, lots, lot, all_but}

@@ -3,20 +3,19 @@
 -- it and the token go to the claim. A change that gains a reader takes one lot out. A claim that comes back brings its lot, which says what state the
 -- slot is in: a reader's is put to the others, and with that of the whole claim the name is whole again and goes to the token that the value was
 -- lent for meanwhile. The word of a slot that was shared before may be any number; one from `taken` on is never free again, and is safe.
-use Rattle.std.proofs.Common.{◌≢◌, ◌≡◌, ℕ, zero, suc, ◌+◌, ◌-◌, ◌%◌, ◌^◌, ◌<◌, ◌≤◌, eqb, Bool, [], ◌∷◌, sym, refl, ap, subst, arith, eq-eqb, ne_eqb, w64, Option, Some, None}
-use Rattle.std.specs.Prelude.{pred, ◌⊎◌}
+use Rattle.std.proofs.Common.{◌≢◌, ◌≡◌, ℕ, zero, suc, ◌+◌, ◌-◌, ◌%◌, ◌^◌, ◌<◌, ◌≤◌, eqb, Bool, [], ◌∷◌, sym, refl, subst, arith, eq-eqb, ne_eqb, w64, Option, Some, None}
 use mathlib.Core.Logic.{dite, inl, inr}
 use native.Mathlib.Decide.{ℕ_discrete, dec_le}
 use seplogic.Ra.Ura.{Ura}
 use mir.Syntax.{ty_int}
 use mir.Val.{vint, has_ty, WT}
 use base.Fraction.{full_share}
-use base.Logic.{SProp, ent, sep, ex, upd, upd_i, via, never_e}
-use base.Fml.{Lft, Share, Incl, Fml, ftrue, fsep, fex, fbor, finv, flft}
+use base.Logic.{SProp, ent, sep, ex, upd, upd_i, never_e}
+use base.Fml.{Lft, Share, Incl, Fml, ftrue, fsep, fex, fbor, flft}
 use ghost.Rules.{Toks, span}
 use prog.Atomic.{either}
 use types.Logic.{Logic, sem, lfts}
-use types.Kit.{‵, raw, ◌⊛◌, given, later, ◌$◌, ◌∵◌, !, qed, by, move, keep, drop, split, join, fsplit, fsplit3, fjoin, fjoin3, fpick, fpack, learn, show, frame, each, assume, suffices, settle, use1, use2, rewrite, updating, await, now, done}
+use types.Kit.{‵, raw, ◌⊛◌, given, later, ◌$◌, ◌∵◌, !, qed, by, move, keep, drop, split, fsplit, fsplit3, fjoin, fjoin3, fpick, fpack, learn, show, frame, each, assume, suffices, settle, use1, use2, rewrite, updating, await, now, done}
 use denote.RattleType.{RattleType, RowLaws}
 use denote.RawPtr.{block_ptr}
 use denote.Shares.{Shares}
@@ -24,10 +23,10 @@ use denote.SharingLaws.{contraction}
 use denote.Steps.{nothing}
 use Rattle.core.specs.Sync.RawAtomic.{asks, always, word}
 use Rattle.core.proofs.raw_atomic.Asked.{borrowed, Lies, Again}
-use Rattle.lasso_slot.specs.Words.{shared, whole, taken, readers, IsTurn, Gains, IsWeight}
-use Rattle.lasso_slot.specs.Slots.{fact, token, lot, all_but, Id, Stage, out, lent, cell, visible, due, stage, staged, kept_word, reading, reading_some, having, right_to}
+use Rattle.lasso_slot.specs.Words.{taken, readers, IsTurn, Gains, IsWeight}
+use Rattle.lasso_slot.specs.Slots.{fact, lot, all_but, Id, Stage, out, lent, cell, visible, due, stage, staged, kept_word, reading, reading_some, having, right_to}
 use Rattle.lasso_slot.proofs.Lots.{lot_out, lot_in, lots_agree, too_many, renamed}
-use Rattle.lasso_slot.proofs.Lending.{visible_laws, Lent, Begun, lends, ended}
+use Rattle.lasso_slot.proofs.Lending.{visible_laws, Begun, lends, ended}
 
 module _ {M : Type 1} {𝓤 : Ura M} (𝓛 : Logic 𝓤) (R : RattleType) (fits : R.Denot → Type 0) (b o : ℕ) (t : Id) where
   open 𝓛 use {H, A}

@@ -1,7 +1,7 @@
 -- The names that the walks cite, passed on from one place, and how each walk reaches a slot's invariant. Assumes `Logic`.
 -- Whoever holds a `&` to the slot, or a claim, knows that the slot's lifetime α ends no earlier than its own. So a token of its own buys one of α,
 -- and gets it back for that one.
-pub use Rattle.std.proofs.Common.{◌≡◌, ◌≢◌, ℕ, ◌+◌, ◌^◌, ◌<◌, ◌&&◌, T, List, [], ◌∷◌, ◌++◌, sym, refl, ap, ◌∙◌, subst, lit<, w64, Option, Some}
+pub use Rattle.std.proofs.Common.{◌≡◌, ◌≢◌, ℕ, ◌+◌, ◌^◌, ◌&&◌, T, List, [], ◌∷◌, ◌++◌, sym, refl, ap, ◌∙◌, subst, lit<, w64, Option, Some}
 pub use Rattle.std.proofs.ResultValues.{and_tt}
 pub use mir.Syntax.{dcons, dnil, a_type, named}
 pub use mir.Val.{Val, vunit, vint, vptr, vstruct, vcons, vnil, of_list, has_ty, WT}
@@ -12,7 +12,7 @@ pub use base.Logic.{SProp, ent, sep, wand, emp, ex, id⊢, via, apply∗, guard_
 pub use base.Fml.{Lft, Share, Fml, ftrue, fsep, fex, feq, flft, fbor, finv, Incl-refl}
 pub use base.Before.{before}
 pub use prog.Wp.{WpFn}
-pub use types.Logic.{sem, lfts}
+pub use types.Logic.{sem}
 pub use types.Kit.{‵, raw, ◌⊛◌, some, given, later, mean, at_ret, ◌$◌, ◌∵◌, !, qed, by, move, keep, drop, split, split3, join, fsplit, fsplit3, fjoin, fjoin3, fpick, fpack, pick, learn, use0, use1, use2, use3, await, updating, now, done, rewrite, feq_i, feq_l, flt_i, flt_l, suffices}
 pub use types.Run.{stop, fld, hop, load, addr, lit, unit_lit, of_opd, no_more, and_then, first, blocks, exec, assigns, look_raw, store_raw, Calls-last, returns, enter}
 pub use types.ByLocal.{alloc_all, pass_all, free_all, look_at, get, get_in, through, sets, sets_last, lands_last, is, env}
@@ -28,10 +28,10 @@ pub use denote.RawPtr.{Ptr, InBlock, block_ptr, ptr_val, block_of, count_of, at_
 pub use denote.Steps.{nothing, peeks, heard, looks, shuts}
 pub use denote.Opens.{unhide}
 pub use denote.Laws.{Is, shows, Typed}
-pub use denote.Memory.{part_at, cell_at, hidden_shr, shared_of}
+pub use denote.Memory.{cell_at, hidden_shr, shared_of}
 pub use denote.Param.{param, layout, bounded}
 pub use denote.Param.Laws.{param_laws}
-pub use denote.Builtin.{RefOf, u64, unit}
+pub use denote.Builtin.{RefOf, u64}
 pub use denote.Ref.{shr_vals, shr_Tells}
 pub use denote.Plain.{uint_vals, uint_Tells}
 pub use denote.SharingLaws.{shortens}

@@ -3,11 +3,11 @@ ghost use Rattle.std.specs.Prelude.{◌≡◌, IfOk, IfErr};
 ghost use Rattle.lasso_parts.specs.declared.util.LassoErrorKind.TheVariants.{FailedAllocation};
 
 use crate::shards::tag::ShardTag;
-use lasso_slot::Fits;
 use lasso_log::log::{Known, Spine};
 use lasso_parts::index::Index;
 use lasso_parts::keys::Key;
 use lasso_parts::util::LassoResult;
+use lasso_slot::Fits;
 use std::alloc::Global;
 use std::hash::BuildHasher;
 use std::marker::PhantomData;

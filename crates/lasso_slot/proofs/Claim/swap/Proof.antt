@@ -1,11 +1,8 @@
 -- `swap`: who has the whole slot opens its borrow, reads the value and writes the other, and closes the borrow over that one. Assumes `Logic`.
-use Rattle.lasso_slot.proofs.Walks.{◌≡◌, ◌≢◌, ℕ, ◌+◌, ◌^◌, ◌<◌, ◌&&◌, T, List, [], ◌∷◌, ◌++◌, sym, refl, ap, ◌∙◌, subst, lit<, w64, Option, Some, and_tt, dcons, dnil, a_type, named, Val, vunit, vint, vptr, vstruct, vcons, vnil, of_list, has_ty, WT, inst_fn, full_share, SProp, ent, sep, wand, emp, ex, id⊢, via, apply∗, guard_i, Lft, Share, Fml, ftrue, fsep, fex, feq, flft, fbor, finv, Incl-refl, before, WpFn, sem, lfts, ‵, raw, ◌⊛◌, some, given, later, mean, at_ret, ◌$◌, ◌∵◌, !, qed, by, move, keep, drop, split, split3, join, fsplit, fsplit3, fjoin, fjoin3, fpick, fpack, pick, learn, use0, use1, use2, use3, await, rewrite, feq_i, feq_l, flt_i, flt_l, suffices, stop, fld, hop, load, addr, lit, unit_lit, of_opd, no_more, and_then, first, blocks, exec, assigns, look_raw, store_raw, Calls-last, returns, enter, alloc_all, pass_all, free_all, look_at, get, get_in, through, sets, sets_last, lands_last, is, env, agg, sub, whole, look_in, bor_open, obor_close, tables, fact, fact_i, fact_use, ◌⊑◌, ⊑_meet, yes, no, RattleType, Valss, owns, types_at, plain, named_lft, Ptr, InBlock, block_ptr, ptr_val, block_of, count_of, at_block, nothing, peeks, heard, looks, shuts, unhide, Is, shows, Typed, part_at, cell_at, hidden_shr, shared_of, param, layout, bounded, param_laws, RefOf, u64, unit, shr_vals, shr_Tells, uint_vals, uint_Tells, shortens, lent_out, within, alive, Stays, stay_dropped, walk_of, Goes-dropped, tail, El, lawful, Good, one, proved, proved_at, leaves, fm, seq_cst, found, finds, loads, subs, exchanges, Returned, Reached, reaches}
-use Rattle.lasso_slot.specs.Words.{IsTurn, IsWeight, Gains}
-use Rattle.lasso_slot.specs.Slots.{Id, offset, cell, visible, kept_word, known, right_to, claim_owns, claim_shares}
-use Rattle.lasso_slot.specs.contracts.Slot as slot
-use Rattle.lasso_slot.specs.contracts.Slot.TheInside as inside
+use Rattle.lasso_slot.proofs.Walks.{◌≡◌, ℕ, ◌+◌, List, [], ◌∷◌, ◌++◌, sym, refl, ap, subst, Option, and_tt, dcons, dnil, a_type, Val, vstruct, vcons, vnil, of_list, has_ty, inst_fn, full_share, SProp, ent, emp, apply∗, guard_i, Lft, Share, Fml, ftrue, fsep, feq, flft, fbor, finv, WpFn, sem, ‵, raw, ◌⊛◌, some, given, later, at_ret, ◌$◌, ◌∵◌, !, qed, by, move, keep, drop, split, split3, join, fsplit, fsplit3, fjoin, fjoin3, fpick, fpack, pick, learn, use0, use1, use2, await, rewrite, feq_i, stop, fld, load, addr, of_opd, no_more, and_then, first, blocks, exec, assigns, look_raw, store_raw, returns, enter, alloc_all, pass_all, free_all, look_at, get, get_in, through, sets, sets_last, is, env, agg, sub, whole, bor_open, obor_close, tables, fact, fact_i, fact_use, no, RattleType, Valss, owns, types_at, plain, named_lft, Ptr, InBlock, block_ptr, ptr_val, block_of, count_of, at_block, nothing, peeks, heard, Is, shows, cell_at, param, layout, bounded, Stays, stay_dropped, walk_of, Goes-dropped, tail, El, lawful, Good, one, proved_at, leaves, Returned, reaches}
+use Rattle.lasso_slot.specs.Slots.{Id, offset, cell, kept_word, known, right_to, claim_owns}
 use Rattle.lasso_slot.specs.contracts.Claim as claim
-use Rattle.lasso_slot.proofs.Claims.{claim_val, claim_typed, Fields, fields_are, fields_made, fields_open, claim_placed, claim_shown}
+use Rattle.lasso_slot.proofs.Claims.{claim_val, claim_typed, Fields, fields_are, fields_made, claim_placed}
 use denote.Memory.{part_of}
 use Rattle.lasso_slot.proofs.Lending.{into_cell}
 use Rattle.lasso_slot.specs.contracts.Claim.swap as f

@@ -1,20 +1,19 @@
 -- A `&` to a slot is made of a borrow of it, whatever its word is. Assumes `Logic`.
 -- The borrow is cut into one of the word and one of the value. The value is lent for a first lifetime, a name begins with all lots of nothing, and the
 -- borrow of the word becomes one of the word with what stands beside it. That one goes into an invariant, which every `&` has.
-use Rattle.std.proofs.Common.{◌≡◌, ℕ, zero, ◌+◌, ◌^◌, List, [], ◌∷◌, ◌++◌, sym, subst, arith}
+use Rattle.std.proofs.Common.{◌≡◌, ℕ, zero, ◌+◌, ◌^◌, List, [], ◌∷◌, ◌++◌, sym, subst}
 use seplogic.Ra.Ura.{Ura}
 use mir.Syntax.{Ty}
 use mir.Val.{Val}
-use base.Share
 use base.Fraction.{full_share}
 use base.FractionLaws.{Counts-all}
-use base.Logic.{SProp, ent, sep, wand, ex, emp, all_e, upd, upd_i, via, apply∗, id⊢}
+use base.Logic.{SProp, ent, sep, wand, ex, emp, all_e, upd_i, via, apply∗, id⊢}
 use base.Fml.{Lft, GName, Share, Incl, Fml, ftrue, fsep, fseps, fex, fwand, fupd, fdead, fbor, flft, finv, Incl-refl, Incl-trans}
 use base.Before.{before}
 use contract.BorrowLft.{meet_⊑_left}
 use ghost.Rules.{Toks, span}
 use types.Logic.{Logic, sem, lfts}
-use types.Kit.{‵, raw, ◌⊛◌, some, later, ◌$◌, ◌∵◌, !, qed, by, move, keep, drop, use0, use1, use2, split, split3, join, fsplit, fsplit3, fjoin, fjoin3, fpick, fpack, pick, assume, suffices, await, updating, now, done}
+use types.Kit.{‵, raw, ◌⊛◌, some, later, ◌$◌, ◌∵◌, !, qed, by, move, keep, use0, use1, use2, split, split3, join, fsplit, fsplit3, fjoin, fjoin3, fpick, fpack, pick, assume, suffices, await, updating, now, done}
 use types.Tokens.{bor_open, obor_alter}
 use types.Na.{before-Incl}
 use types.Owned.{basic, own_new}
@@ -36,7 +35,7 @@ use denote.Struct.Lending.{Law}
 use Rattle.core.specs.Sync.RawAtomic.{word}
 use Rattle.core.proofs.cell.Borrows.{flag, by_one}
 use Rattle.core.proofs.tally.Steps.{word_out, word_in}
-use Rattle.lasso_slot.specs.Slots.{fact, naming, named_as, lots_at, all_but, Id, offset, cell, staged, kept_word, known, slot_shares}
+use Rattle.lasso_slot.specs.Slots.{fact, naming, named_as, all_but, Id, offset, cell, staged, kept_word, known, slot_shares}
 use Rattle.lasso_slot.specs.declared.Fits.{Ghosts}
 use Rattle.lasso_slot.specs.contracts.Slot as S
 use Rattle.lasso_slot.proofs.Slot.TheLaw.Statement.{statement}

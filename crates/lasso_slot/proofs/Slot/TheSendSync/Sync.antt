@@ -1,5 +1,5 @@
 -- A slot may be shared by threads where its value may be read by several and go from one to another: what stands beside the word names no thread.
-use Rattle.std.proofs.Common.{ℕ, suc, ◌+◌, ◌∷◌}
+use Rattle.std.proofs.Common.{ℕ, ◌+◌, ◌∷◌}
 use base.Fraction.{full_share}
 use base.Shift.{Keyless}
 use denote.RattleType.{RattleType}

@@ -1,6 +1,6 @@
 -- `look`: one load, which changes nothing. Assumes `Logic`.
-use Rattle.lasso_slot.proofs.Walks.{ℕ, ◌^◌, ◌+◌, List, [], ◌∷◌, refl, lit<, w64, dcons, dnil, a_type, named, Val, vint, vptr, inst_fn, SProp, via, apply∗, Lft, Share, Fml, ftrue, fsep, flft, finv, fbor, sem, ‵, raw, ◌⊛◌, some, later, mean, at_ret, ◌$◌, ◌∵◌, !, qed, by, move, keep, drop, split, split3, join, fsplit, fjoin, fpick, pick, use2, use3, await, feq_i, flt_i, stop, fld, addr, lit, of_opd, no_more, and_then, first, blocks, exec, Calls-last, returns, enter, alloc_all, pass_all, free_all, look_at, get, through, sets, lands_last, env, agg, tables, yes, RattleType, owns, types_at, plain, block_ptr, nothing, unhide, param, bounded, RefOf, u64, shr_vals, shr_Tells, Stays, stay_dropped, walk_of, Goes-dropped, tail, proved, leaves, fm, seq_cst, found, finds, loads, Returned, Reached, reaches}
-use Rattle.lasso_slot.specs.Slots.{Id, kept_word, known}
+use Rattle.lasso_slot.proofs.Walks.{ℕ, ◌^◌, ◌+◌, List, [], ◌∷◌, refl, lit<, w64, dcons, dnil, a_type, named, Val, vint, vptr, inst_fn, SProp, via, apply∗, Lft, Share, Fml, ftrue, fsep, flft, finv, fbor, ‵, raw, ◌⊛◌, some, later, mean, at_ret, ◌$◌, ◌∵◌, !, qed, by, move, keep, split, split3, join, fsplit, fjoin, fpick, pick, use2, use3, await, feq_i, flt_i, stop, fld, addr, lit, of_opd, no_more, and_then, first, blocks, exec, Calls-last, returns, enter, alloc_all, pass_all, free_all, look_at, get, through, sets, lands_last, env, agg, tables, yes, RattleType, owns, types_at, plain, block_ptr, nothing, unhide, param, bounded, RefOf, shr_vals, shr_Tells, Stays, stay_dropped, walk_of, Goes-dropped, tail, proved, leaves, fm, seq_cst, found, finds, loads, Returned, reaches}
+use Rattle.lasso_slot.specs.Slots.{kept_word, known}
 use Rattle.lasso_slot.specs.contracts.Slot as slot
 use Rattle.lasso_slot.specs.contracts.Slot.look as f
 use Rattle.lasso_slot.proofs.Slot.look.Statement.{statement}
