@@ -83,7 +83,7 @@ fn parts_that_give_up_keep_their_place(rt: HostRuntime) -> Result<(), Fail> {
 
 // An interner with room for this number of texts of five bytes, and no more.
 fn interner_for(alloc: Global, texts: usize) -> LassoResult<SpurRodeo> {
-    let bytes = texts.min(1000) * 5;
+    let bytes = texts.clamp(1, 1000) * 5;
     let capacity = Capacity::for_bytes(bytes);
     Rodeo::with_capacity_and_memory_limits(alloc, capacity, MemoryLimits::new(bytes))
 }
