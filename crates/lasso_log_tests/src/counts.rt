@@ -2,8 +2,8 @@
 
 ghost use Rattle.std.specs.Prelude.{◌≡◌, ◌≤◌};
 
-use lasso_slot::Fits;
 use lasso_log::locks::TaggedMutex;
+use lasso_slot::Fits;
 use std::sync::Wait;
 
 /// A number up to the lock's tag.

@@ -3,8 +3,8 @@
 ghost use Rattle.std.specs.Prelude.{◌≡◌, ◌≤◌};
 
 use crate::counts::{Count, count_in, count_up};
-use lasso_slot::Fits;
 use lasso_log::locks::{TaggedMutex, TaggedRwLock};
+use lasso_slot::Fits;
 use std::sync::Wait;
 use std::test::*;
 use std::thread::join;
