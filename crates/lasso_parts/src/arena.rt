@@ -188,6 +188,7 @@ impl<A: Allocator + Clone> Arena<A> {
     /// that the limit refuses is refused before any memory is asked for; else it is refused for want of
     /// memory alone, and only where it needs a new region. A refusal changes nothing: no region, no byte of
     /// one, nor the current region, the spares, the doubling size or the limit.
+    #[inline(always)]
     pub fn store_str(&mut self, text: &str) -> LassoResult<Span>
         ensures account { IsOk result → store (first_of self.old) (account_of self.old) (length text.now) ≡ Some (account_of self.new) }
         ensures first { first_of self.new ≡ first_of self.old }

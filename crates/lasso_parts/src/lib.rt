@@ -5,6 +5,7 @@
 
 pub mod arena;
 pub mod bucket;
+mod chunks;
 pub mod entries;
 pub mod index;
 pub mod iter;

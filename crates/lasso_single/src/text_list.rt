@@ -134,6 +134,7 @@ impl<A: Allocator + Clone> TextList<A> {
     }
 
     // Copies a text that is not short to the end of the list.
+    #[inline(never)]
     fn push_long(&mut self, text: &str) -> LassoResult<()>
         requires { IsSome (store self.old.first self.old.account (length text.now)) }
         ensures texts { OnOk result (self.new.texts ≡ self.old.texts ++ text.now ∷ []) }

@@ -77,6 +77,7 @@ impl<A: Allocator> OwnedRegions<A> {
     }
 
     /// Copies a text to the end of a region that has room for it, and answers where it begins.
+    #[inline(always)]
     pub(crate) fn push_text(&mut self, at: usize, text: &str) -> usize
         requires in_bounds { at < length self.old }
         requires room { length (region_at self.old at).bytes + length text.now ≤ (region_at self.old at).capacity }

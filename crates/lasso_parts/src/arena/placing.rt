@@ -28,6 +28,7 @@ impl<A: Allocator> Arena<A> {
     }
 
     // The position of the smallest spare that has n bytes.
+    #[inline(never)]
     fn spare_for(&self, n: usize) -> Option<usize>
         ensures found { IfSome result (λ at. IsSpareAt self.now n at × (spare_for (first_of self.now) (account_of self.now) n ≡ Some (region_at self.now.all at).capacity)) }
         ensures missing { IsNone result → HasNoSpare (account_of self.now) n × (spare_for (first_of self.now) (account_of self.now) n ≡ None) }
@@ -40,6 +41,7 @@ impl<A: Allocator> Arena<A> {
     }
 
     // The new region that n bytes get. No sum is made that can wrap.
+    #[inline(never)]
     fn new_for(&self, n: usize) -> Placement
         requires needed { NeedsNew self.now n }
         requires no_spare { spare_for (first_of self.now) (account_of self.now) n ≡ None }

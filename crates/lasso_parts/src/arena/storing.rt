@@ -12,7 +12,7 @@ use std::alloc::Allocator;
 
 impl<A: Allocator> Arena<A> {
     /// Copies a text to the end of the current region.
-    #[inline]
+    #[inline(always)]
     pub(super) fn store_in_current(&mut self, text: &str) -> Span
         requires some { 0 < length text.now }
         requires placement { IsPlacementFor self.old (length text.now) Current }
@@ -29,6 +29,7 @@ impl<A: Allocator> Arena<A> {
     }
 
     /// Copies a text into the spare at that position, which becomes the current region.
+    #[inline(never)]
     pub(super) fn store_in_spare(&mut self, at: usize, text: &str) -> Span
         requires some { 0 < length text.now }
         requires placement { IsPlacementFor self.old (length text.now) (Spare at) }
@@ -49,6 +50,7 @@ impl<A: Allocator> Arena<A> {
 
 impl<A: Allocator + Clone> Arena<A> {
     /// Copies a text into a new region of just its bytes, which does not become the current one.
+    #[inline(never)]
     pub(super) fn store_in_exact(&mut self, text: &str) -> LassoResult<Span>
         requires some { 0 < length text.now }
         requires placement { IsPlacementFor self.old (length text.now) Exact }
@@ -70,6 +72,7 @@ impl<A: Allocator + Clone> Arena<A> {
     }
 
     /// Copies a text into a new region of what the limit leaves, which becomes the current one.
+    #[inline(never)]
     pub(super) fn store_in_remnant(&mut self, size: usize, text: &str) -> LassoResult<Span>
         requires some { 0 < length text.now }
         requires placement { IsPlacementFor self.old (length text.now) (Remnant size) }
@@ -92,6 +95,7 @@ impl<A: Allocator + Clone> Arena<A> {
 
     /// Copies a text into a new region of twice the doubling size, which becomes the current one, and its size
     /// the doubling size.
+    #[inline(never)]
     pub(super) fn store_in_doubled(&mut self, size: usize, text: &str) -> LassoResult<Span>
         requires some { 0 < length text.now }
         requires placement { IsPlacementFor self.old (length text.now) (Doubled size) }

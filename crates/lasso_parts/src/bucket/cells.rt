@@ -6,6 +6,7 @@ ghost use denote.RawPtr.{Ptr, ◌+ₚ◌};
 ghost use Rattle.core.specs.Mem.Slots.{slots_items, slots_ptr, slots_len, SamePlaces};
 ghost use Rattle.lasso_parts.specs.Cells.{LeadsToBlock, deed_owns, AreFilled, SameBefore};
 
+use crate::chunks::{first, last};
 use core::slots::Slots;
 use std::alloc::{AllocError, Allocator};
 use std::marker::{Model, PhantomData, Send, Sync};
@@ -117,7 +118,7 @@ impl Cells {
     }
 
     /// Copies the bytes to the places from `start` on.
-    #[inline]
+    #[inline(always)]
     pub(crate) fn write(&mut self, start: usize, bytes: &[u8])
         requires { start + length bytes.now ≤ slots_len self.old }
         ensures items { slots_items self.new ≡ take start (slots_items self.old) ++ bytes.now ++ drop (start + length bytes.now) (slots_items self.old) }
@@ -125,16 +126,20 @@ impl Cells {
         ensures before { SameBefore self.old self.new start }
         ensures places { SamePlaces self.old self.new }
     {
-        match bytes.len() {
-            8..=16 => self.write_ends::<8>(start, bytes),
-            4..=7 => self.write_ends::<4>(start, bytes),
-            2..=3 => self.write_ends::<2>(start, bytes),
-            _ => self.slots.copy_in(start, bytes),
+        let len = bytes.len();
+        if len > 16 || len < 2 {
+            self.slots.copy_in(start, bytes)
+        } else if len >= 8 {
+            self.write_ends::<8>(start, bytes)
+        } else if len >= 4 {
+            self.write_ends::<4>(start, bytes)
+        } else {
+            self.write_ends::<2>(start, bytes)
         }
     }
 
     // Copies the bytes to the places from `start` on. Their first N and their last N are all of them, and each is
-    // one move.
+    // one move. Both are read first, so that neither move is tested for whether bytes and places overlap.
     #[inline(always)]
     fn write_ends<const N: usize>(&mut self, start: usize, bytes: &[u8])
         requires room { start + length bytes.now ≤ slots_len self.old }
@@ -145,9 +150,10 @@ impl Cells {
         ensures before { SameBefore self.old self.new start }
         ensures places { SamePlaces self.old self.new }
     {
-        let last = bytes.len() - N;
-        self.slots.copy_in(start, &bytes[..N]);
-        self.slots.copy_in(start + last, &bytes[last..]);
+        let rest = bytes.len() - N;
+        let (head, tail) = (*first::<N>(bytes), *last::<N>(bytes));
+        self.slots.copy_in(start, &head);
+        self.slots.copy_in(start + rest, &tail);
     }
 
     /// Where the place at `start` lies, or where the places end.

@@ -96,7 +96,7 @@ impl Region {
     }
 
     /// Copies the bytes in behind those that are there, and answers where they start.
-    #[inline]
+    #[inline(always)]
     pub(crate) fn push_slice(&mut self, bytes: &[u8]) -> usize
         requires { length self.old.bytes + length bytes.now ≤ self.old.capacity }
         ensures start { result ≡ length self.old.bytes }

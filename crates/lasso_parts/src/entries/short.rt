@@ -34,13 +34,19 @@ impl ShortText {
     {
         let text = text.as_bytes();
         let len = text.len();
-        let bytes = match len {
-            8..=SHORT => by_ends::<8>(text),
-            4..=7 => by_ends::<4>(text),
-            2..=3 => by_ends::<2>(text),
-            1 => by_ends::<1>(text),
-            0 => [0; SHORT],
-            _ => return None,
+        if len > SHORT {
+            return None;
+        }
+        let bytes = if len >= 8 {
+            by_ends::<8>(text)
+        } else if len >= 4 {
+            by_ends::<4>(text)
+        } else if len >= 2 {
+            by_ends::<2>(text)
+        } else if len == 1 {
+            by_ends::<1>(text)
+        } else {
+            [0; SHORT]
         };
         Some(ShortText {
             len: len as u8,

@@ -1,5 +1,7 @@
 //! Whether two texts are the same. Those of at most sixteen bytes are compared by their ends, each in one step.
-ghost use Rattle.std.specs.Prelude.{◌≡◌, ◌≤◌, ◌*◌, ◌-◌, length, take, drop, bytes_eq};
+ghost use Rattle.std.specs.Prelude.{◌≡◌, ◌≤◌, ◌*◌, length, bytes_eq};
+
+use crate::chunks::{first, last};
 
 /// Whether both texts are the same.
 #[inline(always)]
@@ -27,28 +29,4 @@ fn have_same_ends<const N: usize>(one: &[u8], other: &[u8]) -> bool
     ensures { result ≡ bytes_eq one.now other.now }
 {
     first::<N>(one) == first::<N>(other) && last::<N>(one) == last::<N>(other)
-}
-
-// The first N bytes.
-#[inline(always)]
-fn first<const N: usize>(bytes: &[u8]) -> &[u8; N]
-    requires { N ≤ length bytes.now }
-    ensures { result.now ≡ take N bytes.now }
-{
-    match bytes.first_chunk::<N>() {
-        Some(chunk) => chunk,
-        None => unreachable!(),
-    }
-}
-
-// The last N bytes.
-#[inline(always)]
-fn last<const N: usize>(bytes: &[u8]) -> &[u8; N]
-    requires { N ≤ length bytes.now }
-    ensures { result.now ≡ drop (length bytes.now - N) bytes.now }
-{
-    match bytes.last_chunk::<N>() {
-        Some(chunk) => chunk,
-        None => unreachable!(),
-    }
 }

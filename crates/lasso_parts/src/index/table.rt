@@ -147,6 +147,7 @@ pub fn rebuilt<K: Key, A: Allocator + Clone, T: Texts, S: BuildHasher>(
 }
 
 // The keys of the first positions of the list in a new table of so many slots.
+#[inline(never)]
 pub fn rebuilt_in_order<K: Key, A: Allocator + Clone, T: Texts, S: BuildHasher>(
     alloc: A,
     count: usize,
