@@ -1,0 +1,78 @@
+-- The texts at the positions that are marked.
+--
+-- A mark keeps the text at its position, and the others are left out. So what is kept stands at a marked position, and each text at one
+-- is kept; and of a distinct list no text is kept twice.
+use Rattle.std.proofs.Common.{ℕ, zero, suc, ◌≡◌, ◌+◌, ◌<◌, List, [], ◌∷◌, ◌++◌, length, get_or, Bool, true, false, cond, Some, refl, sym, ap, subst, ◌∙◌, drop, drop-cons, add-one, arith, ◌⊎◌, inl, inr}
+use Rattle.std.specs.Prelude.{Contains, slice_get}
+use Rattle.std.specs.List.{IsDistinct, AllByRecursion}
+use Rattle.std.specs.Str.{bytes_eq}
+use Rattle.std.proofs.lemmas.Option.{slice_get_within, get_or_from_slice_get}
+use Rattle.lasso_parts.specs.Texts.{Text}
+
+-- the texts that are marked
+abbrev pub chosen : List Bool → List Text → List Text
+chosen [] texts = []
+chosen (mark ∷ marks) [] = []
+chosen (mark ∷ marks) (text ∷ texts) = cond mark (text ∷ chosen marks texts) (chosen marks texts)
+
+abbrev pub IsMarked : List Bool → List Text → Text → Type 0
+IsMarked marks texts text = (k : ℕ) × (get_or marks k false ≡ true) × (slice_get texts k ≡ Some text)
+
+pub none_marked : (marks : List Bool) → chosen marks [] ≡ []
+none_marked [] = refl
+none_marked (mark ∷ marks) = refl
+
+later_marked : (mark : Bool) (marks : List Bool) (first : Text) (texts : List Text) (text : Text) → IsMarked marks texts text → IsMarked (mark ∷ marks) (first ∷ texts) text
+later_marked mark marks first texts text (k, is, there) = (suc k, is, there)
+
+here_or_later : (x : Text) (xs : List Text) (text : Text) → Contains (x ∷ xs) text → (x ≡ text) ⊎ Contains xs text
+here_or_later x xs text (zero, small, is) = inl is
+here_or_later x xs text (suc k, small, is) = inr (k, omega arith, is)
+
+later_contained : (x : Text) (xs : List Text) (text : Text) → Contains xs text → Contains (x ∷ xs) text
+later_contained x xs text (k, small, is) = (suc k, omega arith, is)
+
+-- what is kept is marked
+pub chosen_marked : (marks : List Bool) (texts : List Text) (text : Text) → Contains (chosen marks texts) text → IsMarked marks texts text
+chosen_marked [] texts text there = absurd (omega (arith, there.1))
+chosen_marked (mark ∷ marks) [] text there = absurd (omega (arith, there.1))
+chosen_marked (false ∷ marks) (first ∷ texts) text there = later_marked false marks first texts text (chosen_marked marks texts text there)
+chosen_marked (true ∷ marks) (first ∷ texts) text there = elim (here_or_later first (chosen marks texts) text there) [
+  | inl is ↦ (0, refl, ap (λ (t : Text). Some t) is)
+  | inr later ↦ later_marked true marks first texts text (chosen_marked marks texts text later)
+]
+
+-- what is marked is kept
+pub marked_chosen : (marks : List Bool) (texts : List Text) (text : Text) (k : ℕ) → get_or marks k false ≡ true → slice_get texts k ≡ Some text → Contains (chosen marks texts) text
+marked_chosen [] texts text k is there = cc
+marked_chosen (mark ∷ marks) [] text k is there = cc
+marked_chosen (true ∷ marks) (first ∷ texts) text zero is there = (0, omega arith, cc)
+marked_chosen (false ∷ marks) (first ∷ texts) text zero is there = cc
+marked_chosen (true ∷ marks) (first ∷ texts) text (suc k) is there = later_contained first (chosen marks texts) text (marked_chosen marks texts text k is there)
+marked_chosen (false ∷ marks) (first ∷ texts) text (suc k) is there = marked_chosen marks texts text k is there
+
+all_chosen : (P : Text → Type 0) (marks : List Bool) (texts : List Text) → AllByRecursion P texts → AllByRecursion P (chosen marks texts)
+all_chosen P [] texts all = tt
+all_chosen P (mark ∷ marks) [] all = tt
+all_chosen P (true ∷ marks) (text ∷ texts) all = (all.0, all_chosen P marks texts all.1)
+all_chosen P (false ∷ marks) (text ∷ texts) all = all_chosen P marks texts all.1
+
+-- texts that are apart stay so
+pub distinct_chosen : (marks : List Bool) (texts : List Text) → IsDistinct bytes_eq texts → IsDistinct bytes_eq (chosen marks texts)
+unfolding IsDistinct
+distinct_chosen [] texts apart = tt
+distinct_chosen (mark ∷ marks) [] apart = tt
+distinct_chosen (true ∷ marks) (text ∷ texts) apart = (all_chosen (λ other. bytes_eq text other ≡ false) marks texts apart.0, distinct_chosen marks texts apart.1)
+distinct_chosen (false ∷ marks) (text ∷ texts) apart = distinct_chosen marks texts apart.1
+
+-- ---- one mark after another
+
+first_marked : (mark : Bool) (marks : List Bool) (text : Text) (texts : List Text) → chosen (mark ∷ marks) (text ∷ texts) ≡ cond mark (text ∷ []) [] ++ chosen marks texts
+first_marked true marks text texts = refl
+first_marked false marks text texts = refl
+
+-- the text of the mark at a position, and those after it
+pub chosen_next : (marks : List Bool) (k : ℕ) (mark : Bool) (text : Text) (rest strings : List Text) → k < length marks → mark ≡ get_or marks k mark → strings ≡ text ∷ rest → chosen (drop k marks) strings ≡ cond mark (text ∷ []) [] ++ chosen (drop (k + 1) marks) rest
+chosen_next marks k mark text rest strings small is ahead =
+    let here : drop k marks ≡ mark ∷ drop (k + 1) marks = drop-cons marks k mark small ∙ ap (λ m. m ∷ drop (suc k) marks) (sym is) ∙ ap (λ n. mark ∷ drop n marks) (sym (add-one k)) in
+    ap (λ ms. chosen ms strings) here ∙ ap (λ ts. chosen (mark ∷ drop (k + 1) marks) ts) ahead ∙ first_marked mark (drop (k + 1) marks) text rest
