@@ -2,12 +2,13 @@
 --
 -- A mark keeps the text at its position, and the others are left out. So what is kept stands at a marked position, and each text at one
 -- is kept; and of a distinct list no text is kept twice.
-use Rattle.std.proofs.Common.{ℕ, zero, suc, ◌≡◌, ◌+◌, ◌<◌, List, [], ◌∷◌, ◌++◌, length, get_or, Bool, true, false, cond, Some, refl, sym, ap, subst, ◌∙◌, drop, drop-cons, add-one, arith, ◌⊎◌, inl, inr}
+use Rattle.std.proofs.Common.{ℕ, zero, suc, ◌≡◌, ◌+◌, ◌<◌, List, [], ◌∷◌, ◌++◌, length, get_or, Bool, true, false, cond, Some, refl, sym, ap, subst, ◌∙◌, drop, drop-cons, add-one, replicate, arith, ◌⊎◌, inl, inr}
 use Rattle.std.specs.Prelude.{Contains, slice_get}
 use Rattle.std.specs.List.{IsDistinct, AllByRecursion}
 use Rattle.std.specs.Str.{bytes_eq}
-use Rattle.std.proofs.lemmas.Option.{slice_get_within, get_or_from_slice_get}
+use Rattle.std.proofs.lemmas.List.Elements.{Contains-push, Contains-push_cases, Contains-append_left}
 use Rattle.lasso_parts.specs.Texts.{Text}
+use Rattle.lasso_lines.proofs.Fronts.{Compared, lower, same, higher, compared}
 
 -- the texts that are marked
 abbrev pub chosen : List Bool → List Text → List Text
@@ -76,3 +77,47 @@ pub chosen_next : (marks : List Bool) (k : ℕ) (mark : Bool) (text : Text) (res
 chosen_next marks k mark text rest strings small is ahead =
     let here : drop k marks ≡ mark ∷ drop (k + 1) marks = drop-cons marks k mark small ∙ ap (λ m. m ∷ drop (suc k) marks) (sym is) ∙ ap (λ n. mark ∷ drop n marks) (sym (add-one k)) in
     ap (λ ms. chosen ms strings) here ∙ ap (λ ts. chosen (mark ∷ drop (k + 1) marks) ts) ahead ∙ first_marked mark (drop (k + 1) marks) text rest
+
+-- ---- marking positions one after another
+
+-- the codes are marked, where the marks reach, and nothing else
+pub record AreMarks (marks : List Bool) (codes : List ℕ) : Type 0 where
+  pub marked : (p : ℕ) → p < length marks → Contains codes p → get_or marks p false ≡ true
+  pub only : (p : ℕ) → get_or marks p false ≡ true → Contains codes p
+
+-- one position was marked
+pub record IsMarkedAt (old new : List Bool) (at : ℕ) : Type 0 where
+  pub long : length new ≡ length old
+  pub here : at < length old → get_or new at false ≡ true
+  pub others : (p : ℕ) → ¬ (p ≡ at) → get_or new p false ≡ get_or old p false
+
+module _ (old new : List Bool) (codes : List ℕ) (at : ℕ) (marks : AreMarks old codes) (step : IsMarkedAt old new at) where
+  still_marked : (p : ℕ) → p < length new → Contains codes p ⊎ (at ≡ p) → Compared p at → get_or new p false ≡ true
+  still_marked p small there (same is) = subst (λ k. get_or new k false ≡ true) (sym is) (step.here (omega (arith, step.long)))
+  still_marked p small (inl there) (lower below) = step.others p (λ e. omega arith) ∙ marks.marked p (omega (arith, step.long)) there
+  still_marked p small (inr is) (lower below) = absurd (omega arith)
+  still_marked p small (inl there) (higher above) = step.others p (λ e. omega arith) ∙ marks.marked p (omega (arith, step.long)) there
+  still_marked p small (inr is) (higher above) = absurd (omega arith)
+
+  only_marked : (p : ℕ) → get_or new p false ≡ true → Compared p at → Contains (codes ++ at ∷ []) p
+  only_marked p is (same equal) = subst (λ k. Contains (codes ++ at ∷ []) k) (sym equal) (Contains-push codes at)
+  only_marked p is (lower below) = Contains-append_left codes (at ∷ []) p (marks.only p (sym (step.others p (λ e. omega arith)) ∙ is))
+  only_marked p is (higher above) = Contains-append_left codes (at ∷ []) p (marks.only p (sym (step.others p (λ e. omega arith)) ∙ is))
+
+  pub marks_more : AreMarks new (codes ++ at ∷ [])
+  marks_more = record {
+    marked = λ p small there. still_marked p small (Contains-push_cases codes at p there) (compared p at);
+    only = λ p is. only_marked p is (compared p at);
+  }
+
+-- no position is marked at first
+pub no_marks : (len : ℕ) → AreMarks (replicate len false) []
+no_marks len = record {
+  marked = λ p small there. absurd (omega (arith, there.1));
+  only = λ p is. absurd (none len p is);
+}
+  where
+    none : (len p : ℕ) → get_or (replicate len false) p false ≡ true → ⊥
+    none zero p is = cc
+    none (suc len) zero is = cc
+    none (suc len) (suc p) is = none len p is

@@ -105,4 +105,4 @@ pub one_more_digit : (number at digit : ℕ) → at < 8 → number < 2 ^ (8 * at
 one_more_digit number at digit few small byte =
     let sum : 8 * (at + 1) ≡ 8 * at + 8 = omega arith in
     let next : 2 ^ (8 * (at + 1)) ≡ 2 ^ (8 * at) * 256 = ap (λ k. 2 ^ k) sum ∙ pow-add 2 (8 * at) 8 in
-    let top : 2 ^ (8 * (at + 1)) ≤ 2 ^ 64 = pow_mono (omega arith) in (omega arith, omega arith)
+    let top : 2 ^ (8 * (at + 1)) ≤ 2 ^ 64 = pow_mono {i = 8 * (at + 1)} {j = 64} (omega arith) in (omega arith, omega arith)

@@ -70,9 +70,9 @@ pub chosen_named : (list : List Text) (codes : List ℕ) (marks : List Bool) →
 chosen_named list codes marks long marked apart = record {
   distinct = distinct_chosen marks list apart;
   each = λ text. (
-      (λ there.
-          let at = chosen_marked marks list text there in
-          (at.0, (marked at.0 (slice_get_within list at.0 text at.2)).0 at.1, at.2)),
-      (λ named. marked_chosen marks list text named.0 ((marked named.0 (slice_get_within list named.0 text named.2)).1 named.1) named.2),
-    );
+    (λ there.
+        let at = chosen_marked marks list text there in
+        (at.0, (marked at.0 (slice_get_within list at.0 text at.2)).0 at.1, at.2)),
+    (λ named. marked_chosen marks list text named.0 ((marked named.0 (slice_get_within list named.0 text named.2)).1 named.1) named.2),
+  );
 }

@@ -1,7 +1,7 @@
 -- A list of which each part was put in another order.
 --
 -- The parts follow one another. So the first parts, put together, are in another order too, and as many parts as the list has are all of it.
-use Rattle.std.proofs.Common.{ℕ, zero, suc, ◌≡◌, ◌+◌, ◌*◌, ◌<◌, ◌≤◌, List, [], ◌∷◌, ◌++◌, length, take, drop, Bool, true, false, refl, sym, ap, subst, ◌∙◌, arith, add-one, mul-le-mul_left, mul-one, ◌⊎◌, inl, inr}
+use Rattle.std.proofs.Common.{ℕ, zero, suc, ◌≡◌, ◌+◌, ◌*◌, ◌<◌, ◌≤◌, List, [], ◌∷◌, ◌++◌, length, take, drop, Bool, true, false, refl, sym, ap, subst, ◌∙◌, append-nil, arith, add-one, mul-le-mul_left, mul-one, ◌⊎◌, inl, inr}
 use Rattle.std.specs.Prelude.{IsPermutation}
 use Rattle.std.specs.Fork.{slice_chunk}
 use Rattle.std.proofs.Math.Seq.{take-add}
@@ -42,8 +42,14 @@ module _ {X : Type 0} (size : ℕ) (xs ys : List X) (long : length ys ≡ length
   -- so the whole list is
   pub parts_move : 0 < size → IsPermutation xs ys
   parts_move some =
-      let enough : length xs ≤ length xs * size = omega (arith, add-one, mul-le-mul_left {m = 1} {n = size} (length xs) some, mul-one (length xs)) in
+      let enough : length xs ≤ length xs * size = omega (append-nil, arith, add-one, mul-le-mul_left {m = 1} {n = size} (length xs) some, mul-one (length xs)) in
       let moved = first_parts (length xs) in
       let whole : take (length xs * size) xs ≡ xs = take_all (length xs * size) xs enough in
       let whole' : take (length xs * size) ys ≡ ys = take_all (length xs * size) ys (omega arith) in
       subst (λ zs. IsPermutation xs zs) whole' (subst (λ zs. IsPermutation zs (take (length xs * size) ys)) whole moved)
+
+-- a slice that a vector's elements were lent as, and that is as long as before, is all of them again
+pub lent_back : {X : Type 0} (n : ℕ) (xs ys : List X) → n ≡ length ys → length xs ≡ length ys → take n (xs ++ drop (length xs) ys) ≡ xs
+lent_back n xs ys whole long =
+    let none : drop (length xs) ys ≡ [] = drop_all (length xs) ys (omega arith) in
+    ap (λ zs. take n (xs ++ zs)) none ∙ ap (take n) (append-nil xs) ∙ take_all n xs (omega arith)

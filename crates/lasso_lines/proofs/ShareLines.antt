@@ -69,7 +69,7 @@ gathered_none list lines workers = record {
 }
 
 module _ (before known after lines : List Text) (workers done : ℕ) (codes more : List ℕ) (begins : IsPrefix before after) (knows : IsPrefix known after) (gathered : Gathered before lines workers done codes) (has : HasCodes known lines done workers more) where
-  its_lines : List Text
+  abbrev its_lines : List Text
   its_lines = share lines done workers has.0
 
   reached_more : (i : ℕ) → i < length lines → i % workers < done + 1 → ((i % workers < done) ⊎ (done ≤ i % workers)) → Contains (gathered.texts ++ its_lines) (line_at lines i)
@@ -101,10 +101,13 @@ gathered_past before after lines workers done codes begins gathered = record {
 pub gathered_all : (list lines : List Text) (workers done : ℕ) (codes : List ℕ) → 0 < workers → workers ≤ done → Gathered list lines workers done codes → AreCodesOf list lines codes
 gathered_all list lines workers done codes some all gathered = (
   gathered.texts,
-  (λ text. (gathered.inside text, λ there.
-      let at : line_at lines there.0 ≡ text = get_or_default lines there.0 [] text there.1 ∙ there.2 in
-      let mine : there.0 % workers < done = omega (arith, mod_below there.0 workers some) in
-      subst (λ t. Contains gathered.texts t) at (gathered.reached there.0 there.1 mine))),
+  (λ text. (
+    gathered.inside text,
+    λ there.
+        let at : line_at lines there.0 ≡ text = get_or_default lines there.0 [] text there.1 ∙ there.2 in
+        let mine : there.0 % workers < done = omega (arith, mod_below there.0 workers some) in
+        subst (λ t. Contains gathered.texts t) at (gathered.reached there.0 there.1 mine),
+  )),
   gathered.coded,
 )
 

@@ -52,7 +52,10 @@ fn sort_parts<R: Threads + Sync>(rt: &R, texts: &mut [Fronted<'_>], threads: usi
     ensures { IsPermutation texts.old texts.new }
 {
     let size = texts.len().div_ceil(threads.max(1)).max(1);
-    for_each_chunk_mut(rt, texts, size, &|_, part: &mut [Fronted<'_>]| sort_part(part));
+    let work = move |_: usize, part: &mut [Fronted<'_>]|
+        ensures { IsPermutation part.entry.now part.exit.now }
+    { sort_part(part) };
+    for_each_chunk_mut(rt, texts, size, &work);
 }
 
 // Sorts one part.

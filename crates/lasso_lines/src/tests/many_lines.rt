@@ -68,7 +68,14 @@ fn workers_write_many_lines_in_order(rt: HostRuntime) -> Result<(), Fail> {
     for workers in [1usize, 4, 7] {
         let mut reader = MemoryReader::new(&input);
         let mut writer = MemoryWriter::new(rt.alloc());
-        let ended = run_workers(&rt, &mut reader, &mut writer, no_limit(), workers, &OpenGate);
+        let ended = run_workers(
+            &rt,
+            &mut reader,
+            &mut writer,
+            no_limit(),
+            workers,
+            &OpenGate,
+        );
         assert!(rt; ended == Ok(()));
         assert!(rt; writer.into_bytes() == output);
     }

@@ -24,5 +24,5 @@ pub returns-clause-lines : goal.returns-clause-lines
 returns-clause-lines g c =
     let rest = c.loop-at.rest.now in
     let before = map (λ (t : Bor Text). t.now) c.loop-at.lines.items in
-    let last : lines_of rest ≡ rest ∷ [] = lines_last rest (grind (arith, common_steps)) c.in-None.ensures in
+    let last : lines_of rest ≡ rest ∷ [] = lines_last rest (grind (arith, common_steps)) c.in_default.ensures in
     c.in_ok-push_line-2.ensures.line ∙ ap (λ (ls : List Text). before ++ ls) (sym last) ∙ c.loop-at.invariant

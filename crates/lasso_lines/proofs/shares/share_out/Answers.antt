@@ -1,4 +1,4 @@
-use Rattle.std.proofs.Common.{ℕ, ◌≡◌, ◌+◌, ◌<◌, ◌≤◌, ◌++◌, ◌∙◌, ⊥, List, Bor, Vec, None, Ok, map, length, ap, sym, subst, arith}
+use Rattle.std.proofs.Common.{ℕ, ◌≡◌, ◌+◌, ◌<◌, ◌≤◌, ◌++◌, ◌∙◌, List, Bor, Vec, None, Ok, map, length, ap, refl, sym, subst, arith}
 use mathlib.Core.List.{IsPrefix}
 use Rattle.std.specs.Prelude.{MatchResult}
 use Rattle.lasso_parts.specs.Texts.{Text}
@@ -7,6 +7,15 @@ use Rattle.lasso_log.proofs.Lengths.{texts_past}
 use Rattle.lasso_lines.specs.Shares.{IsShareOf, HasCodes}
 use Rattle.lasso_lines.proofs.ShareLines.{Gathered, gathered_none, gathered_worker, gathered_all}
 use Rattle.lasso_lines.proofs.shares.share_out.Goals as goal
+
+pub loop-share-init : goal.loop-share-init
+loop-share-init g c =
+    let lines = map (λ (t : Bor Text). t.now) c.args.lines.now in
+    let list = list_of c.args.rodeo.now c.args.pass.now.notes in
+    record {
+      same = (refl, refl);
+      gathered = λ none. subst (λ (cs : List ℕ). Gathered list lines c.args.workers 0 cs) (sym c.new-codes.ensures.items) (gathered_none list lines c.args.workers);
+    }
 
 pub loop-share-preserved : goal.loop-share-preserved
 loop-share-preserved g c =
@@ -29,8 +38,8 @@ loop-share-preserved g c =
           (c.loop-share.invariant.gathered added.0) gave.1 added.1;
     }
 
-pub returns-in-None-clause-codes : goal.returns-in-None-clause-codes
-returns-in-None-clause-codes g c =
+pub returns-clause-codes : goal.returns-clause-codes
+returns-clause-codes g c =
     let lines = map (λ (t : Bor Text). t.now) c.args.lines.now in
     gathered_all (list_of c.args.rodeo.now c.loop-share.pass.notes) lines c.args.workers c.loop-share.share c.loop-share.codes.items c.requires.some
     (omega (arith, c.loop-share-test.false, c.len-share-end.ensures, c.in-Ok.ensures.len)) (c.loop-share.invariant.gathered c.in-None.is)
