@@ -2,4 +2,5 @@
 //! contracts that rest on those of its calls.
 mod any;
 mod saving;
+mod spurs;
 mod symbols;

@@ -31,3 +31,5 @@ mod shared_lists;
 mod shared_plain;
 #[cfg(test)]
 mod walks;
+#[cfg(test)]
+mod words;

@@ -17,6 +17,7 @@ mod looking;
 mod makers;
 mod plain;
 mod walking;
+mod words;
 
 use crate::shards::Shards;
 use lasso_log::log::Pass;

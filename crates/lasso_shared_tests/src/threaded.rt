@@ -15,6 +15,7 @@ mod limits;
 mod looking;
 mod passes;
 mod walking;
+mod words;
 
 use crate::calls::{
     Shared, hashed, kept_as, len_as, made, pass_of, seen_by, stands_for, text_at_as,

@@ -10,8 +10,10 @@ mod filling;
 mod freezing;
 mod interning;
 mod json;
+mod lists;
 mod makers;
 mod walking;
+mod words;
 
 use crate::text_list::TextList;
 use lasso_parts::index::{Index, Texts};

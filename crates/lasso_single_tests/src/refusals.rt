@@ -7,6 +7,7 @@ mod filling;
 mod makers;
 mod runs;
 mod values;
+mod words;
 
 use crate::fixtures::Gap;
 use crate::refusing::Refusing;

@@ -6,7 +6,9 @@ mod clears;
 mod clones;
 mod filling;
 mod hashing;
+mod lists;
 mod walks;
+mod words;
 
 use crate::fixtures::{Gap, SameState};
 use lasso_parts::keys::{Key, MicroSpur, Spur};

@@ -1,0 +1,9 @@
+-- What the intern call of the names says: its key resolves to the name, and each name from before stays.
+use Rattle.lasso.proofs.CallingSpurs.{spur_answer_resolves, spur_texts_stay}
+use Rattle.lasso_examples.proofs.calling.spurs.SpurTable.declare.Goals as goal
+
+pub returns-clause-named : goal.returns-clause-named
+returns-clause-named c = spur_answer_resolves _ _ c.args.name.now _ c.try_get_or_intern.ensures
+
+pub returns-clause-kept : goal.returns-clause-kept
+returns-clause-kept c = spur_texts_stay _ _ c.args.name.now _ c.try_get_or_intern.ensures
