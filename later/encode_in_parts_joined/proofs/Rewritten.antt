@@ -1,0 +1,86 @@
+-- Codes that are rewritten by a table.
+--
+-- A part's codes are positions in its own list, so each lies below the list's length. Where the table has a new code for each of the
+-- first texts of that list, the codes before the first that is too great are rewritten one by one, and each is found in the table.
+use Rattle.std.proofs.Common.{ℕ, zero, suc, ◌≡◌, ◌+◌, ◌-◌, ◌<◌, ◌≤◌, List, [], ◌∷◌, ◌++◌, map, take, drop, length, Some, Option, None, IfSome, refl, sym, ap, subst, ◌∙◌, arith, get_or}
+use Rattle.std.specs.List.{AllWithin}
+use Rattle.std.specs.Prelude.{slice_get, All}
+use Rattle.std.proofs.lemmas.List.{append-nil, length-append, get_or-take, length-take-le, take_all}
+use Rattle.std.proofs.Math.ListN.{drop_of_length-le}
+use Rattle.std.proofs.Math.Seq.{take-append_seam, drop-append_seam}
+use Rattle.std.proofs.lemmas.Option.{slice_get-get_or, slice_get_within, slice_get_past}
+use Rattle.lasso_parts.specs.Texts.{Text}
+use Rattle.lasso_columns.proofs.Coded.{codes_stand}
+use Rattle.lasso_columns.specs.Codes.{AreCodes, StandFor}
+use Rattle.lasso_columns.specs.Parts.{AddsRewritten}
+
+inside_at : (list texts : List Text) (codes : List ℕ) → StandFor list codes texts → (k d : ℕ) → k < length codes → get_or codes k d < length list
+inside_at list texts [] stand k d small = absurd (omega (arith, small))
+inside_at list [] (c ∷ codes) stand k d small = absurd (cc)
+inside_at list (t ∷ texts) (c ∷ codes) stand zero d small = slice_get_within list c t (cc)
+inside_at list (t ∷ texts) (c ∷ codes) stand (suc k) d small = inside_at list texts codes (cc) k d (omega (arith, small))
+
+-- codes are positions in their list
+pub codes_inside : (list texts : List Text) (codes : List ℕ) → AreCodes list texts codes → All (λ c. c < length list) codes
+codes_inside list texts codes are k d small = inside_at list texts codes (codes_stand list texts codes are) k d small
+
+each_rewritten : (table codes rewritten : List ℕ) → length rewritten ≡ length codes → ((k : ℕ) → k < length codes → slice_get table (get_or codes k 0) ≡ Some (get_or rewritten k 0)) → map (slice_get table) codes ≡ map Some rewritten
+each_rewritten table [] [] long each = refl
+each_rewritten table [] (r ∷ rs) long each = absurd (omega (arith, long))
+each_rewritten table (c ∷ cs) [] long each = absurd (omega (arith, long))
+each_rewritten table (c ∷ cs) (r ∷ rs) long each =
+    let here : slice_get table c ≡ Some r = each 0 (omega arith) in
+    let others : map (slice_get table) cs ≡ map Some rs = each_rewritten table cs rs (omega (arith, long)) (λ k small. each (suc k) (omega (arith, small))) in
+    cc
+
+-- the first codes were rewritten one by one, and the next one is not in the table
+adds_rewritten : (table codes before after rewritten : List ℕ) (n : ℕ) → n ≤ length codes → after ≡ before ++ rewritten → length rewritten ≡ n → ((k : ℕ) → k < n → slice_get table (get_or (take n codes) k 0) ≡ Some (get_or rewritten k 0)) → IfSome (slice_get codes n) (λ code. length table ≤ code) → AddsRewritten table codes before after
+adds_rewritten table codes before after rewritten n within is long each next =
+    let kept : length (take n codes) ≡ n = length-take-le n codes within in
+    let all : map (slice_get table) (take n codes) ≡ map Some rewritten =
+    each_rewritten table (take n codes) rewritten (omega (arith, kept, long)) (λ k small. each k (omega (arith, kept, small))) in
+    (
+      rewritten,
+      is,
+      subst (λ m. map (slice_get table) (take m codes) ≡ map Some rewritten) (sym long) all,
+      subst (λ m. IfSome (slice_get codes m) (λ code. slice_get table code ≡ None)) (sym long) (not_there (slice_get codes n) next),
+    )
+  where
+    not_there : (o : Option ℕ) → IfSome o (λ code. length table ≤ code) → IfSome o (λ code. slice_get table code ≡ None)
+    not_there None past = tt
+    not_there (Some code) past = slice_get_past table code past
+
+-- what a list is when its end, which was appended, was written
+end_written : (before added written mid : List ℕ) (m n : ℕ) → m ≡ length before → mid ≡ before ++ added → n ≡ length mid → length written ≡ length added → take n ((take m mid ++ (written ++ drop (length written) (drop m mid))) ++ drop (length (take m mid ++ (written ++ drop (length written) (drop m mid)))) mid) ≡ before ++ written
+end_written before added written mid m n start is long same =
+    let front : take m mid ≡ before = ap (λ k. take k mid) start ∙ ap (take (length before)) is ∙ take-append_seam before added in
+    let end : drop m mid ≡ added = ap (λ k. drop k mid) start ∙ ap (drop (length before)) is ∙ drop-append_seam before added in
+    let none : drop (length written) (drop m mid) ≡ [] = ap (drop (length written)) end ∙ drop_of_length-le added (omega (arith, same)) in
+    let whole : take m mid ++ (written ++ drop (length written) (drop m mid)) ≡ before ++ written =
+    ap (λ (xs : List ℕ). xs ++ (written ++ drop (length written) (drop m mid))) front ∙ ap (λ (xs : List ℕ). before ++ (written ++ xs)) none ∙ ap (λ (xs : List ℕ). before ++ xs) (append-nil written) in
+    let total : length (before ++ written) ≡ length mid = omega (arith, length-append before written, length-append before added, ap length is, same) in
+    let past : drop (length (before ++ written)) mid ≡ [] = drop_of_length-le mid (omega (arith, total)) in
+    ap (λ (xs : List ℕ). take n (xs ++ drop (length xs) mid)) whole ∙ ap (λ (xs : List ℕ). take n ((before ++ written) ++ xs)) past ∙ ap (take n) (append-nil (before ++ written))
+    ∙ take_all n (before ++ written) (omega (arith, long, total))
+
+-- the first n codes were appended, and then each was rewritten
+module _ (table codes before mid : List ℕ) (start total n : ℕ) (within : n ≤ length codes) (begins : start ≡ length before) (is : mid ≡ before ++ take n codes) (long : total ≡ length mid) (below : AllWithin (λ code. code < length table) codes 0 n) where
+  kept : length (take n codes) ≡ n
+  kept = length-take-le n codes within
+
+  end_is : take (total - start) (drop start mid) ≡ take n codes
+  end_is =
+      let end : drop start mid ≡ take n codes = ap (λ k. drop k mid) begins ∙ ap (drop (length before)) is ∙ drop-append_seam before (take n codes) in
+      ap (take (total - start)) end ∙ take_all (total - start) (take n codes) (omega (arith, begins, long, ap length is, length-append before (take n codes)))
+
+  low : (k : ℕ) (d : ℕ) → k < n → get_or (take n codes) k d < length table
+  low k d small = subst (λ c. c < length table) (sym (get_or-take n codes k d small)) (below k d (omega arith) small)
+
+  pub end_rewritten : (old written : List ℕ) → old ≡ take (total - start) (drop start mid) → length written ≡ length old → ((k : ℕ) → k < length old → get_or written k 0 ≡ get_or table (get_or old k 0) 0) → IfSome (slice_get codes n) (λ code. length table ≤ code) → AddsRewritten table codes before (take total ((take start mid ++ (written ++ drop (length written) (drop start mid))) ++ drop (length (take start mid ++ (written ++ drop (length written) (drop start mid)))) mid))
+  end_rewritten old written was same each next =
+      let old_is : old ≡ take n codes = was ∙ end_is in
+      let whole : length written ≡ n = same ∙ ap length old_is ∙ kept in
+      let here : (k : ℕ) → k < n → slice_get table (get_or (take n codes) k 0) ≡ Some (get_or written k 0) = λ k small.
+      slice_get-get_or table (get_or (take n codes) k 0) 0 (low k 0 small)
+      ∙ ap (λ c. Some c) (sym (each k (omega (arith, small, same, whole)) ∙ ap (λ xs. get_or table (get_or xs k 0) 0) old_is)) in
+      adds_rewritten table codes before _ written n within (end_written before (take n codes) written mid start total begins is long (omega (arith, whole, kept))) whole here next

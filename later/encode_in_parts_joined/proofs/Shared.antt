@@ -1,0 +1,117 @@
+-- Texts whose codes a pass has seen.
+--
+-- A key that a pass was answered is the text's key in the list that it has then seen, so its code is the text's position there. Lists that
+-- passes see only grow. So codes stay, also in what a pass has seen that learned what another had: the codes of all workers
+-- are those of one list.
+use Rattle.std.proofs.Common.{ℕ, zero, suc, one-mul, Bor, Result, Err, MatchResult, inl, inr, append_assoc, ◌≡◌, ◌+◌, ◌-◌, ◌*◌, ◌<◌, ◌≤◌, List, [], ◌∷◌, ◌++◌, length, take, drop, map, min, ◌/◌, ◌%◌, Option, Some, None, Ok, sym, ap, subst, ◌∙◌, arith}
+use Rattle.std.specs.Prelude.{Contains, option_and_then}
+use Rattle.std.proofs.Math.Nat.{mul-le-mul_right}
+use Rattle.std.proofs.Math.Seq.{take-add}
+use Rattle.std.proofs.lemmas.List.{take-map, drop-map, take-append-drop}
+use Rattle.std.proofs.lemmas.List.Elements.{Contains-append_left, Contains-append_right}
+use mathlib.Core.List.{IsPrefix}
+use Rattle.lasso_parts.specs.Texts.{Text, position_of, key_of}
+use Rattle.lasso_parts.specs.declared.util.LassoErrorKind.{LassoErrorKind}
+use Rattle.lasso_log.specs.History.{History, Totals, totals}
+use Rattle.lasso_log.specs.Replies.{Copied, Intern, Interned}
+use Rattle.lasso_log.specs.Calls.{IsCall}
+use Rattle.lasso_log.specs.Notes.{NoteView, history}
+use Rattle.lasso_log.specs.Views.{InternerId, list_of}
+use Rattle.lasso_log.proofs.Histories.{history_append}
+use Rattle.lasso_log.proofs.Legal.{totals_append, list_grows}
+use Rattle.lasso_log.proofs.Lengths.{texts_past}
+use Rattle.lasso_shared.proofs.CallerLaws.{tells_keys}
+use Rattle.lasso_columns.proofs.Coded.{codes_longer, map_some_push, map_some_both}
+use Rattle.lasso_columns.proofs.Encoded.{position_of_key}
+use Rattle.lasso_columns.specs.Codes.{AreCodes}
+use Rattle.lasso_columns.specs.Encoding.{spur_at}
+use Rattle.lasso_columns.specs.Sharing.{IsRefusalIn}
+
+found_at : (o : Option ℕ) (key : ℕ) → option_and_then spur_at o ≡ Some key → o ≡ Some (key - 1)
+found_at None key has = cc
+found_at (Some n) key has = ap Some (position_of_key n key has)
+
+-- codes are those of any list that theirs begins
+pub codes_past : (list later texts : List Text) (codes : List ℕ) → IsPrefix list later → AreCodes list texts codes → AreCodes later texts codes
+codes_past list later texts codes more are = subst (λ (ts : List Text). AreCodes ts texts codes) more.1 (codes_longer list more.0 texts codes are)
+
+grown : (o : Totals) (before past after : History) → before ++ past ≡ after → IsPrefix (totals o before).texts (totals o after).texts
+grown o before past after is =
+    subst (λ (s : Totals). IsPrefix (totals o before).texts s.texts) (sym (totals_append o before past) ∙ ap (totals o) is) (list_grows (totals o before) past)
+
+-- one text more, by a call of the pass
+pub shared_push : (o : Totals) (before after : History) (pass : ℕ) (texts : List Text) (text : Text) (codes : List ℕ) (key : ℕ) → AreCodes (totals o before).texts texts codes → IsCall spur_at o before after pass (Intern Copied text) (Interned (Ok key)) → AreCodes (totals o after).texts (texts ++ text ∷ []) (codes ++ (key - 1) ∷ [])
+shared_push o before after pass texts text codes key are call =
+    let list = (totals o after).texts in
+    let has : key_of spur_at list text ≡ Some key = (tells_keys spur_at o before after pass).interned Copied text key call in
+    let kept = codes_past (totals o before).texts list texts codes (grown o before call.past after call.begins) are in
+    map_some_push (position_of list) texts codes text (key - 1) kept (found_at (position_of list text) key has)
+
+-- what a pass has seen that learned what another has
+pub shared_join : (of : InternerId) (before known after : List NoteView) (texts more : List Text) (codes codes' : List ℕ) → IsPrefix before after → IsPrefix known after → AreCodes (list_of of before) texts codes → AreCodes (list_of of known) more codes' → AreCodes (list_of of after) (texts ++ more) (codes ++ codes')
+shared_join of before known after texts more codes codes' begins knows are are' =
+    map_some_both (position_of (list_of of after)) texts more codes codes'
+    (codes_past (list_of of before) (list_of of after) texts codes (texts_past of.opening before after begins) are)
+    (codes_past (list_of of known) (list_of of after) more codes' (texts_past of.opening known after knows) are')
+
+-- ---- refusals
+
+-- a call of the pass is refused
+pub shared_refused : (o : Totals) (before after : History) (pass : ℕ) (texts : List Text) (text : Text) (error : LassoErrorKind) → Contains texts text → IsCall {K = ℕ} spur_at o before after pass (Intern Copied text) (Interned (Err error)) → IsRefusalIn o after texts error
+shared_refused o before after pass texts text error there call =
+    let why = call.explained in
+    inr (text, before ++ why.0, why.1, there, append_assoc before why.0 why.1 ∙ ap (λ past. before ++ past) why.2 ∙ call.begins, why.4)
+
+-- what explains a refusal of one of some texts explains it of one of more texts, in any history that theirs begins
+pub refused_more : (o : Totals) (known after : List NoteView) (texts more : List Text) (error : LassoErrorKind) → IsPrefix known after → ((text : Text) → Contains texts text → Contains more text) → IsRefusalIn o (history known) texts error → IsRefusalIn o (history after) more error
+refused_more o known after texts more error knows all (inl e) = inl e
+refused_more o known after texts more error knows all (inr why) =
+    let whole : why.1 ++ (why.2 ++ history knows.0) ≡ history after =
+    sym (append_assoc why.1 why.2 (history knows.0)) ∙ ap (λ past. past ++ history knows.0) why.4 ∙ sym (history_append known knows.0) ∙ ap history knows.1 in
+    inr (why.0, why.1, why.2 ++ history knows.0, all why.0 why.3, whole, why.5)
+
+-- ---- the texts of the workers
+
+-- the parts up to a number, and the one of that number
+pub parts_more : {X : Type 0} (xs : List X) (n size : ℕ) → take ((n + 1) * size) xs ≡ take (n * size) xs ++ take size (drop (n * size) xs)
+parts_more xs n size = let sum : (n + 1) * size ≡ n * size + size = omega arith in ap (λ k. take k xs) sum ∙ take-add (n * size) size xs
+
+-- and they are those of the slice
+pub part_texts : (texts : List (Bor Text)) (part : List (Bor Text)) (n size : ℕ) → part ≡ take size (drop (n * size) texts) → take (n * size) (map (λ t. t.now) texts) ++ map (λ t. t.now) part ≡ take ((n + 1) * size) (map (λ t. t.now) texts)
+part_texts texts part n size is =
+    let all = map (λ (t : Bor Text). t.now) texts in
+    let here : map (λ (t : Bor Text). t.now) part ≡ take size (drop (n * size) all) =
+    ap (map (λ (t : Bor Text). t.now)) is ∙ sym (take-map (λ (t : Bor Text). t.now) size (drop (n * size) texts)) ∙ ap (take size) (sym (drop-map (λ (t : Bor Text). t.now) (n * size) texts)) in
+    ap (λ (ts : List Text). take (n * size) all ++ ts) here ∙ sym (parts_more all n size)
+
+-- a text of a part is one of the slice
+pub part_contained : (texts : List (Bor Text)) (part : List (Bor Text)) (n size : ℕ) (text : Text) → part ≡ take size (drop (n * size) texts) → Contains (map (λ t. t.now) part) text → Contains (map (λ t. t.now) texts) text
+part_contained texts part n size text is there =
+    let now = λ (t : Bor Text). t.now in
+    let all = map now texts in
+    let reached : Contains (take ((n + 1) * size) all) text =
+    subst (λ ts. Contains ts text) (part_texts texts part n size is) (Contains-append_right (take (n * size) all) (map now part) text there) in
+    subst (λ ts. Contains ts text) (take-append-drop ((n + 1) * size) all) (Contains-append_left (take ((n + 1) * size) all) (drop ((n + 1) * size) all) text reached)
+
+last_part : (r size : ℕ) → r < size → r ≤ min 1 r * size
+last_part zero size small = omega arith
+last_part (suc r) size small = let one : min 1 (suc r) ≡ 1 = omega arith in let whole : min 1 (suc r) * size ≡ size = ap (λ n. n * size) one ∙ one-mul size in omega (arith, whole)
+
+reach : (q r length size n : ℕ) → size * q + r ≡ length → r < size → q + min 1 r ≤ n → length ≤ n * size
+reach q r length size n is small many =
+    let enough : (q + min 1 r) * size ≤ n * size = mul-le-mul_right size many in
+    let last : r ≤ min 1 r * size = last_part r size small in
+    omega (arith, enough, last, is)
+
+-- as many parts of a size as there are reach the end
+pub parts_reach : (length size n : ℕ) → 0 < size → length / size + min 1 (length % size) ≤ n → length ≤ n * size
+parts_reach length size n some many = reach (length / size) (length % size) length size n (omega arith) (omega arith) many
+
+-- what holds of a result that is there, or of its error
+pub ok_at : {T E : Type 0} (P : T → Type 0) (Q : E → Type 0) (r : Result T E) (x : T) → MatchResult r P Q → r ≡ Ok x → P x
+ok_at P Q (Ok y) x holds is = let one : y ≡ x = cc in subst P one holds
+ok_at P Q (Err e) x holds is = absurd (cc)
+
+pub err_at : {T E : Type 0} (P : T → Type 0) (Q : E → Type 0) (r : Result T E) (e : E) → MatchResult r P Q → r ≡ Err e → Q e
+err_at P Q (Ok y) e holds is = absurd (cc)
+err_at P Q (Err f) e holds is = let one : f ≡ e = cc in subst Q one holds

@@ -1,0 +1,7 @@
+use Rattle.std.proofs.Common.{map, take}
+use Rattle.lasso_columns.proofs.Encoded.{Encoded}
+use Rattle.lasso_columns.proofs.encoding.encode.Given as goal
+
+-- the texts before the index were encoded
+abbrev pub invariant-loop-text : goal.invariant-loop-text
+invariant-loop-text g l = Encoded l.fn.rodeo (take l.text-index (map (λ t. t.now) l.texts)) l.fn.codes.items l.rodeo l.codes.items

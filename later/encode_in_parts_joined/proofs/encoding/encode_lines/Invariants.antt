@@ -1,0 +1,13 @@
+use Rattle.std.proofs.Common.{◌+◌, ◌≤◌, length}
+use Rattle.lasso_columns.proofs.EncodedLines.{LinesSoFar}
+use Rattle.lasso_columns.proofs.encoding.encode_lines.Given as goal
+
+-- the lines before the rest were encoded, and there are no more of them than bytes before it
+abbrev pub invariant-loop-line : goal.invariant-loop-line
+invariant-loop-line g l = record {
+  lines : LinesSoFar l.fn.rodeo l.bytes l.fn.codes.items l.number l.rest l.rodeo l.codes.items;
+  fits : l.number + length l.rest ≤ length l.bytes;
+}
+
+abbrev pub decreases-loop-line : goal.decreases-loop-line
+decreases-loop-line g l = length l.rest

@@ -1,0 +1,10 @@
+use Rattle.std.proofs.Common.{◌≡◌, ◌*◌, length, map, min, take}
+use Rattle.lasso_columns.proofs.Encoded.{Encoded}
+use Rattle.lasso_columns.proofs.parts.put_parts.Given as goal
+
+-- the texts of the parts before were encoded
+abbrev pub invariant-loop-part : goal.invariant-loop-part
+invariant-loop-part g l = record {
+  start : l.start ≡ min (l.part * l.size) (length l.texts);
+  encoded : Encoded l.fn.rodeo (take l.start (map (λ t. t.now) l.texts)) l.fn.codes.items l.rodeo l.codes.items;
+}

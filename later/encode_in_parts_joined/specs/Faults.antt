@@ -1,0 +1,34 @@
+-- The faults of lines and of codes: when they come, and what they print.
+use Rattle.std.specs.Prelude.{ℕ, ◌≡◌, ◌+◌, ◌-◌, ◌<◌, List, ◌++◌, length, None, Some, IsSomeAnd, slice_get, codes, decimal}
+use Rattle.std.specs.Str.{IsUtf8}
+use Rattle.lasso_parts.specs.Errors.{error_text}
+use Rattle.lasso_parts.specs.Texts.{Text}
+use Rattle.lasso_single.specs.Interner.{InternerView}
+use Rattle.lasso_columns.specs.Encoding.{IsRefused}
+use Rattle.lasso_columns.specs.declared.faults.LineError.{LineError}
+use Rattle.lasso_columns.specs.declared.faults.LineError.TheVariants.{Refused, NotText}
+use Rattle.lasso_columns.specs.declared.faults.DecodeError.{DecodeError}
+use Rattle.lasso_columns.specs.declared.faults.DecodeError.TheVariants.{NoText, NoMemory}
+
+abbrev pub line_error_text : LineError → List ℕ
+line_error_text (Refused line error) = codes "line " ++ (decimal line ++ (codes ": " ++ error_text error))
+line_error_text (NotText line) = codes "line " ++ (decimal line ++ codes ": not UTF-8")
+
+abbrev pub decode_error_text : DecodeError → List ℕ
+decode_error_text (NoText position code) = codes "Code " ++ (decimal code ++ (codes " at position " ++ (decimal position ++ codes " has no text")))
+decode_error_text NoMemory = codes "Failed to allocate memory"
+
+-- the line of this number is refused, or it is not UTF-8
+abbrev pub IsFaultOf : InternerView → Text → ℕ → LineError → Type 0
+IsFaultOf now line number (Refused at error) = (at ≡ number) × IsUtf8 line × IsRefused now line error
+IsFaultOf now line number (NotText at) = (at ≡ number) × ¬ (IsUtf8 line)
+
+-- the fault is that of the line behind those that were encoded; lines are numbered from 1
+abbrev pub IsNextFault : InternerView → List ℕ → List ℕ → List Text → LineError → Type 0
+IsNextFault now before after lines fault =
+    let n = length after - length before in IsSomeAnd (slice_get lines n) (λ line. IsFaultOf now line (n + 1) fault)
+
+-- why the code at this position was not decoded: the list has no such position, or it has and memory was wanting
+abbrev pub IsFaultAt : List Text → List ℕ → ℕ → DecodeError → Type 0
+IsFaultAt list codes n (NoText position code) = (position ≡ n) × (slice_get codes n ≡ Some code) × (slice_get list code ≡ None)
+IsFaultAt list codes n NoMemory = IsSomeAnd (slice_get codes n) (λ code. code < length list)

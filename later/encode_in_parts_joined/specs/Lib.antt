@@ -1,0 +1,6 @@
+pub mod Lines
+pub mod Codes
+pub mod Encoding
+pub mod Faults
+pub mod Sharing
+pub mod Parts

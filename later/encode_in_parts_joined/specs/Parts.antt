@@ -1,0 +1,19 @@
+-- Texts that are encoded in parts, each with a list of its own.
+use Rattle.std.specs.Prelude.{◌≡◌, ℕ, List, [], ◌∷◌, ◌++◌, cond, is_some, length, map, take, None, Some, IfSome, slice_get}
+use Rattle.lasso_parts.specs.Texts.{Text, position_of}
+use Rattle.lasso_columns.specs.Codes.{AreCodes}
+
+-- the texts that the list lacks, each once, in the order of their first places
+abbrev pub new_texts : List Text → List Text → List Text
+new_texts list [] = []
+new_texts list (text ∷ texts) = cond (is_some (position_of list text)) (new_texts list texts) (text ∷ new_texts (list ++ text ∷ []) texts)
+
+-- the list is that of the distinct texts, and these are their codes in it
+abbrev pub IsEncoded : List Text → List Text → List ℕ → Type 0
+IsEncoded texts list codes = (list ≡ new_texts [] texts) × AreCodes list texts codes
+
+-- the codes were rewritten by the table, up to the first that it lacks, and appended
+abbrev pub AddsRewritten : List ℕ → List ℕ → List ℕ → List ℕ → Type 0
+AddsRewritten table codes before after =
+    (rewritten : List ℕ) × (after ≡ before ++ rewritten) × (map (slice_get table) (take (length rewritten) codes) ≡ map Some rewritten)
+    × IfSome (slice_get codes (length rewritten)) (λ code. slice_get table code ≡ None)

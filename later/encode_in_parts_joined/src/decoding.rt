@@ -1,0 +1,47 @@
+//! Codes to texts.
+ghost use Rattle.std.specs.Prelude.{◌≡◌, ◌+◌, ◌-◌, OnOk, IfErr, length, take, vec_len};
+ghost use Rattle.lasso_columns.specs.Codes.{AddsTexts};
+ghost use Rattle.lasso_columns.specs.Faults.{IsFaultAt};
+
+use crate::faults::DecodeError;
+use lasso::index::Texts;
+use lasso::{RodeoReader, Spur};
+use std::alloc::Allocator;
+use std::hash::BuildHasher;
+
+/// Puts the texts that the codes stand for behind those that are there. They are lent by the reader.
+///
+/// The first code that stands for no text ends it, and so does want of memory. The texts of the codes before it are put behind
+/// the others, and no code after it is read; so the number of texts tells which code it is.
+///
+/// ```rust
+/// let mut rodeo: SpurRodeo = Rodeo::default(rt.alloc())?;
+/// rodeo.extend(["red", "green"])?;
+/// let reader = rodeo.into_reader();
+/// let mut texts = Vec::new(rt.alloc());
+/// decode(&reader, &[1, 0, 1], &mut texts)?;
+/// assert!(rt; texts.as_slice() == ["green", "red", "green"].as_slice());
+/// ```
+pub fn decode<'r, S: BuildHasher, A: Allocator>(
+    reader: &'r RodeoReader<Spur, S, A>,
+    codes: &[u32],
+    out: &mut Vec<&'r str>,
+) -> Result<(), DecodeError>
+    ensures texts { AddsTexts reader.now (take (vec_len out.new - vec_len out.old) codes.now) out.old.items out.new.items }
+    ensures whole { OnOk result (vec_len out.new ≡ vec_len out.old + length codes.now) }
+    ensures fault { IfErr result (IsFaultAt reader.now codes.now (vec_len out.new - vec_len out.old)) }
+{
+    // Where there is no memory for the texts of all codes, each asks for its own.
+    let _ = out.reserve(codes.len());
+    let count = reader.len();
+    for position in 0..codes.len() {
+        let code = codes[position];
+        if code as usize >= count {
+            return Err(DecodeError::NoText { position, code });
+        }
+        if out.push(reader.text_at(code as usize)).is_err() {
+            return Err(DecodeError::NoMemory);
+        }
+    }
+    Ok(())
+}

@@ -1,0 +1,118 @@
+//! Texts to codes.
+ghost use Rattle.std.specs.Prelude.{◌≡◌, ℕ, ◌+◌, ◌<◌, ◌^◌, ◌∷◌, ◌++◌, [], Some, Ok, OnOk, IfErr, MatchResult, All, IsUtf8, length, map, vec_len};
+ghost use Rattle.lasso_parts.specs.Texts.{position_of};
+ghost use Rattle.lasso_single.specs.Filling.{extend};
+ghost use Rattle.lasso_single.specs.Intern.{InternsIn};
+ghost use Rattle.lasso_columns.specs.Codes.{AddsCodes};
+ghost use Rattle.lasso_columns.specs.Encoding.{spur_at, encoded_texts, IsRefused, IsNextRefused};
+ghost use Rattle.lasso_columns.specs.Faults.{IsFaultOf, IsNextFault};
+ghost use Rattle.lasso_columns.specs.Lines.{lines_of};
+
+use crate::faults::LineError;
+use crate::lines::first_line;
+use lasso::{LassoResult, Rodeo, Spur};
+use std::alloc::Allocator;
+use std::hash::BuildHasher;
+use std::str::from_utf8;
+
+/// Interns the texts in order, and puts their codes behind those that are there: the positions that they then have
+/// in the interner's list, and keep.
+///
+/// The first text that is refused ends it, for want of keys, for the memory limit, or for want of memory for the text or for its
+/// code. The texts before it are interned and have their codes, and no text after it is taken; so the number of codes tells
+/// which text it is.
+///
+/// ```rust
+/// let mut rodeo: SpurRodeo = Rodeo::default(rt.alloc())?;
+/// let mut codes = Vec::new(rt.alloc());
+/// encode(&mut rodeo, &["red", "green", "red"], &mut codes)?;
+/// assert!(rt; codes.as_slice() == [0, 1, 0].as_slice());
+/// ```
+pub fn encode<S: BuildHasher, A: Allocator + Clone>(
+    rodeo: &mut Rodeo<Spur, S, A>,
+    texts: &[&str],
+    codes: &mut Vec<u32>,
+) -> LassoResult<()>
+    ensures list { extend spur_at rodeo.old (encoded_texts codes.old.items codes.new.items (map (λ t. t.now) texts.now)) (Ok tt) rodeo.new }
+    ensures codes { AddsCodes rodeo.new.texts (encoded_texts codes.old.items codes.new.items (map (λ t. t.now) texts.now)) codes.old.items codes.new.items }
+    ensures whole { OnOk result (vec_len codes.new ≡ vec_len codes.old + length texts.now) }
+    ensures refused { IfErr result (IsNextRefused rodeo.new codes.old.items codes.new.items (map (λ t. t.now) texts.now)) }
+{
+    // Where there is no memory for the codes of all texts, each asks for its own.
+    let _ = codes.reserve(texts.len());
+    for text in texts {
+        encode_text(rodeo, text, codes)?;
+    }
+    Ok(())
+}
+
+/// Encodes the lines of the bytes, as `encode` does with texts. Each line feed ends a line and is no part of it, and bytes
+/// behind the last one are a line too.
+///
+/// The first line that is refused or is not UTF-8 ends it, and the error has its number, counted from 1. The lines before it are
+/// interned and have their codes, and no line after it is taken.
+///
+/// ```rust
+/// let mut rodeo: SpurRodeo = Rodeo::default(rt.alloc())?;
+/// let mut codes = Vec::new(rt.alloc());
+/// encode_lines(&mut rodeo, b"to be\nor not\nto be\n", &mut codes)?;
+/// assert!(rt; codes.as_slice() == [0, 1, 0].as_slice());
+/// ```
+pub fn encode_lines<S: BuildHasher, A: Allocator + Clone>(
+    rodeo: &mut Rodeo<Spur, S, A>,
+    bytes: &[u8],
+    codes: &mut Vec<u32>,
+) -> Result<(), LineError>
+    ensures list { extend spur_at rodeo.old (encoded_texts codes.old.items codes.new.items (lines_of bytes.now)) (Ok tt) rodeo.new }
+    ensures codes { AddsCodes rodeo.new.texts (encoded_texts codes.old.items codes.new.items (lines_of bytes.now)) codes.old.items codes.new.items }
+    ensures texts { All IsUtf8 (encoded_texts codes.old.items codes.new.items (lines_of bytes.now)) }
+    ensures whole { OnOk result (vec_len codes.new ≡ vec_len codes.old + length (lines_of bytes.now)) }
+    ensures fault { IfErr result (IsNextFault rodeo.new codes.old.items codes.new.items (lines_of bytes.now)) }
+{
+    let mut number = 0;
+    let mut rest = bytes;
+    while let Some((line, behind)) = first_line(rest) {
+        number += 1;
+        encode_line(rodeo, line, number, codes)?;
+        rest = behind;
+    }
+    Ok(())
+}
+
+// Interns the line of this number and puts its code behind the others.
+fn encode_line<S: BuildHasher, A: Allocator + Clone>(
+    rodeo: &mut Rodeo<Spur, S, A>,
+    line: &[u8],
+    number: usize,
+    codes: &mut Vec<u32>,
+) -> Result<(), LineError>
+    ensures { MatchResult result
+        (λ _. IsUtf8 line.now × ((key : ℕ) × InternsIn {K = ℕ} spur_at rodeo.old line.now (Ok key) rodeo.new)
+        × ((code : ℕ) × (position_of rodeo.new.texts line.now ≡ Some code) × (codes.new.items ≡ codes.old.items ++ code ∷ [])))
+        (λ error. (rodeo.new ≡ rodeo.old) × (codes.new.items ≡ codes.old.items) × IsFaultOf rodeo.old line.now number error) }
+{
+    let Ok(text) = from_utf8(line) else {
+        return Err(LineError::NotText(number));
+    };
+    match encode_text(rodeo, text, codes) {
+        Ok(()) => Ok(()),
+        Err(error) => Err(LineError::Refused(number, error)),
+    }
+}
+
+// Interns the text and puts its code behind the others. There is room for the code before the text is interned.
+pub(crate) fn encode_text<S: BuildHasher, A: Allocator + Clone>(
+    rodeo: &mut Rodeo<Spur, S, A>,
+    text: &str,
+    codes: &mut Vec<u32>,
+) -> LassoResult<()>
+    ensures { MatchResult result
+        (λ _. ((key : ℕ) × InternsIn {K = ℕ} spur_at rodeo.old text.now (Ok key) rodeo.new)
+        × ((code : ℕ) × (position_of rodeo.new.texts text.now ≡ Some code) × (codes.new.items ≡ codes.old.items ++ code ∷ [])))
+        (λ error. (rodeo.new ≡ rodeo.old) × (codes.new.items ≡ codes.old.items) × IsRefused rodeo.old text.now error) }
+{
+    codes.reserve(1)?;
+    let key = rodeo.try_get_or_intern(text)?;
+    codes.push(key.into_inner() - 1)?;
+    Ok(())
+}

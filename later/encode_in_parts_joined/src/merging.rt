@@ -1,0 +1,60 @@
+//! The codes of one interner in another.
+ghost use Rattle.std.specs.Prelude.{◌≡◌, ℕ, [], Ok, OnOk, IfOk, IfErr, IsSomeAnd, slice_get, take, length};
+ghost use Rattle.lasso_single.specs.Filling.{extend};
+ghost use Rattle.lasso_columns.specs.Codes.{AreCodes, StandFor};
+ghost use Rattle.lasso_columns.specs.Encoding.{spur_at, IsRefused};
+
+use crate::encoding::encode_text;
+use lasso::index::Texts;
+use lasso::{LassoResult, Rodeo, RodeoReader, Spur};
+use std::alloc::{Allocator, Global};
+use std::hash::BuildHasher;
+
+/// Interns the texts of one interner in another, in order, and answers the code that each has there: for the code n of `from` the
+/// number at position n. So columns of both are joined by rewriting codes alone.
+///
+/// The first text that is refused ends it, as in `encode`, and is the answer. The texts before it stay in `into`.
+///
+/// ```rust
+/// let mut into: SpurRodeo = Rodeo::default(rt.alloc())?;
+/// into.extend(["red", "green"])?;
+/// let mut from: SpurRodeo = Rodeo::default(rt.alloc())?;
+/// from.extend(["blue", "green"])?;
+/// let merged = merge(rt.alloc(), &mut into, &from.into_reader())?;
+/// assert!(rt; merged.as_slice() == [2, 1].as_slice());
+/// ```
+pub fn merge<S: BuildHasher, A: Allocator + Clone, T: BuildHasher, B: Allocator>(
+    alloc: Global,
+    into: &mut Rodeo<Spur, S, A>,
+    from: &RodeoReader<Spur, T, B>,
+) -> LassoResult<Vec<u32>>
+    ensures list { OnOk result (extend spur_at into.old from.now (Ok tt) into.new) }
+    ensures codes { IfOk result (λ codes. AreCodes into.new.texts from.now codes.items) }
+    ensures texts { IfOk result (λ codes. StandFor into.new.texts codes.items from.now) }
+    ensures refused { IfErr result (λ error. (n : ℕ) × extend spur_at into.old (take n from.now) (Ok tt) into.new × IsSomeAnd (slice_get from.now n) (λ text. IsRefused into.new text error)) }
+{
+    let mut codes = Vec::new(alloc);
+    encode_list(into, from, &mut codes)?;
+    Ok(codes)
+}
+
+// Interns the texts of the reader in order, and puts the codes that they then have into `codes`, which is empty before.
+pub(crate) fn encode_list<S: BuildHasher, A: Allocator + Clone, T: BuildHasher, B: Allocator>(
+    into: &mut Rodeo<Spur, S, A>,
+    from: &RodeoReader<Spur, T, B>,
+    codes: &mut Vec<u32>,
+) -> LassoResult<()>
+    requires { codes.old.items ≡ [] }
+    ensures list { extend spur_at into.old (take (length codes.new.items) from.now) (Ok tt) into.new }
+    ensures codes { AreCodes into.new.texts (take (length codes.new.items) from.now) codes.new.items }
+    ensures whole { OnOk result (length codes.new.items ≡ length from.now) }
+    ensures refused { IfErr result (λ error. IsSomeAnd (slice_get from.now (length codes.new.items)) (λ text. IsRefused into.new text error)) }
+{
+    let count = from.len();
+    // Where there is no memory for the codes of all texts, each asks for its own.
+    let _ = codes.reserve(count);
+    for position in 0..count {
+        encode_text(into, from.text_at(position), codes)?;
+    }
+    Ok(())
+}

@@ -1,0 +1,245 @@
+//! Texts to codes in parts, each by a thread with an interner of its own.
+ghost use Rattle.std.specs.Prelude.{◌≡◌, ℕ, ◌+◌, ◌*◌, ◌/◌, ◌%◌, ◌<◌, ◌≤◌, Ok, OnOk, IfErr, IfSome, All, drop, length, map, min, slice_get, slice_index, slice_index_or, take, vec_len, vec_capacity};
+ghost use Rattle.std.specs.List.{AllWithin};
+ghost use Rattle.lasso_single.specs.Filling.{extend};
+ghost use Rattle.lasso_columns.specs.Codes.{AddsCodes};
+ghost use Rattle.lasso_columns.specs.Encoding.{spur_at, encoded_texts, IsNextRefused};
+ghost use Rattle.lasso_columns.specs.Parts.{IsEncoded, AddsRewritten};
+
+use crate::encoding::encode;
+use crate::merging::encode_list;
+use lasso::{LassoResult, Rodeo, Spur, SpurRodeoReader};
+use std::alloc::{Allocator, Global};
+use std::hash::BuildHasher;
+use std::thread::{Threads, for_each_mut, join_mut, map_chunks};
+
+// The most texts that a part encodes before it may give up.
+const LONGEST_SAMPLE: usize = 65_536;
+
+// How many codes are worth a thread: to rewrite these takes about as long as to start one.
+const CODES_A_THREAD: usize = 65_536;
+
+/// Does what `encode` does, with up to `workers` threads, and returns what `encode` returns: the same codes and the same list,
+/// whatever the number of threads. Each thread encodes a part of the texts with an interner of its own. Then the caller interns
+/// the distinct texts of each part, in the order of the parts, and the codes are rewritten.
+///
+/// It pays where most texts repeat within their part. A part whose first texts are mostly new gives up, and the caller
+/// encodes it as `encode` does; so does a part that runs out of memory. With one worker, or none, it is `encode`. It keeps a
+/// dictionary and a code of 4 bytes a text for each part until it returns. For an interner that other threads use meanwhile
+/// there is `encode_shared`.
+///
+/// The first text that is refused ends it, as in `encode`: the texts before it are interned and have their codes.
+///
+/// ```rust
+/// let mut rodeo: SpurRodeo = Rodeo::default(rt.alloc())?;
+/// let mut codes = Vec::new(rt.alloc());
+/// encode_in_parts(&rt, &mut rodeo, &["red", "green", "red"], &mut codes, 2)?;
+/// assert!(rt; codes.as_slice() == [0, 1, 0].as_slice());
+/// ```
+pub fn encode_in_parts<R: AllocGlobal + Threads + Sync, S: BuildHasher, A: Allocator + Clone>(
+    rt: &R,
+    rodeo: &mut Rodeo<Spur, S, A>,
+    texts: &[&str],
+    codes: &mut Vec<u32>,
+    workers: usize,
+) -> LassoResult<()>
+    ensures list { extend spur_at rodeo.old (encoded_texts codes.old.items codes.new.items (map (λ t. t.now) texts.now)) (Ok tt) rodeo.new }
+    ensures codes { AddsCodes rodeo.new.texts (encoded_texts codes.old.items codes.new.items (map (λ t. t.now) texts.now)) codes.old.items codes.new.items }
+    ensures whole { OnOk result (vec_len codes.new ≡ vec_len codes.old + length texts.now) }
+    ensures refused { IfErr result (IsNextRefused rodeo.new codes.old.items codes.new.items (map (λ t. t.now) texts.now)) }
+{
+    // Where there is no memory for the codes of all texts, each part asks for its own.
+    let _ = codes.reserve(texts.len());
+    let workers = workers.max(1);
+    let size = texts.len().div_ceil(workers).max(1);
+    let (here, rest) = texts.split_at(size.min(texts.len()));
+    if rest.is_empty() {
+        return encode(rodeo, here, codes);
+    }
+    let (parts, outcome) = encode_beside(rt, rodeo, here, codes, rest, size);
+    outcome?;
+    match parts {
+        Some(parts) => put_parts(rt, rodeo, rest, &parts, size, codes, workers),
+        None => encode(rodeo, rest, codes),
+    }
+}
+
+// Encodes the texts that come first in this thread, and meanwhile the others in parts.
+fn encode_beside<R: AllocGlobal + Threads + Sync, S: BuildHasher, A: Allocator + Clone>(
+    rt: &R,
+    rodeo: &mut Rodeo<Spur, S, A>,
+    texts: &[&str],
+    codes: &mut Vec<u32>,
+    rest: &[&str],
+    size: usize,
+) -> (Option<Vec<Option<Part>>>, LassoResult<()>)
+    requires { 0 < size }
+    ensures count { IfSome result.0 (λ parts. vec_len parts ≡ length rest.now / size + min 1 (length rest.now % size)) }
+    ensures encoded { IfSome result.0 (λ parts. (n : ℕ) (d : _) → n < vec_len parts → IfSome (slice_index_or parts.items n d) (λ encoded. IsEncoded (take size (drop (n * size) (map (λ t. t.now) rest.now))) encoded.list encoded.codes.items)) }
+    ensures list { extend spur_at rodeo.old (encoded_texts codes.old.items codes.new.items (map (λ t. t.now) texts.now)) (Ok tt) rodeo.new }
+    ensures codes { AddsCodes rodeo.new.texts (encoded_texts codes.old.items codes.new.items (map (λ t. t.now) texts.now)) codes.old.items codes.new.items }
+    ensures whole { OnOk result.1 (vec_len codes.new ≡ vec_len codes.old + length texts.now) }
+    ensures refused { IfErr result.1 (IsNextRefused rodeo.new codes.old.items codes.new.items (map (λ t. t.now) texts.now)) }
+{
+    join_mut(
+        rt,
+        &mut ||
+            requires { 0 < size }
+        { encode_parts(rt, rest, size) },
+        &mut || encode(rodeo, texts, codes),
+    )
+}
+
+// Encodes the texts in parts of so many, each by a thread of its own. `None` where memory runs out.
+fn encode_parts<R: AllocGlobal + Threads + Sync>(
+    rt: &R,
+    texts: &[&str],
+    size: usize,
+) -> Option<Vec<Option<Part>>>
+    requires { 0 < size }
+    ensures count { IfSome result (λ parts. vec_len parts ≡ length texts.now / size + min 1 (length texts.now % size)) }
+    ensures encoded { IfSome result (λ parts. (n : ℕ) (d : _) → n < vec_len parts → IfSome (slice_index_or parts.items n d) (λ encoded. IsEncoded (take size (drop (n * size) (map (λ t. t.now) texts.now))) encoded.list encoded.codes.items)) }
+{
+    let work = move |_: usize, part: &[&str]| -> Option<Part>
+        ensures { IfSome result (λ encoded. IsEncoded (map (λ t. t.now) part.entry.now) encoded.list encoded.codes.items) }
+    { encode_part(rt.alloc(), part) };
+    map_chunks(rt, rt.alloc(), texts, size, &work).ok()
+}
+
+// The distinct texts of a part, and the codes of all its texts among them.
+#[derive(Drop)]
+struct Part {
+    list: SpurRodeoReader,
+    codes: Vec<u32>,
+}
+
+// Encodes the texts with an interner of their own. `None` where memory runs out, or where more than half of the first texts are
+// new: the caller would then intern most texts again.
+fn encode_part(alloc: Global, texts: &[&str]) -> Option<Part>
+    ensures { IfSome result (λ encoded. IsEncoded (map (λ t. t.now) texts.now) encoded.list encoded.codes.items) }
+{
+    let Ok(mut rodeo) = Rodeo::default(alloc) else {
+        return None;
+    };
+    let mut codes = Vec::new(alloc);
+    let sample = LONGEST_SAMPLE.min(texts.len() / 8);
+    if encode(&mut rodeo, &texts[..sample], &mut codes).is_err() || rodeo.len() > sample / 2 {
+        return None;
+    }
+    if encode(&mut rodeo, &texts[sample..], &mut codes).is_err() {
+        return None;
+    }
+    Some(Part {
+        list: rodeo.into_reader(),
+        codes,
+    })
+}
+
+// Does what `encode` does with the texts, which were encoded in parts of `size` texts.
+fn put_parts<R: AllocGlobal + Threads + Sync, S: BuildHasher, A: Allocator + Clone>(
+    rt: &R,
+    rodeo: &mut Rodeo<Spur, S, A>,
+    texts: &[&str],
+    parts: &[Option<Part>],
+    size: usize,
+    codes: &mut Vec<u32>,
+    workers: usize,
+) -> LassoResult<()>
+    requires size { 0 < size }
+    requires workers { 0 < workers }
+    requires count { length parts.now ≡ length texts.now / size + min 1 (length texts.now % size) }
+    requires encoded { (n : ℕ) (d : _) → n < length parts.now → IfSome (slice_index_or parts.now n d) (λ encoded. IsEncoded (take size (drop (n * size) (map (λ t. t.now) texts.now))) encoded.list encoded.codes.items) }
+    ensures list { extend spur_at rodeo.old (encoded_texts codes.old.items codes.new.items (map (λ t. t.now) texts.now)) (Ok tt) rodeo.new }
+    ensures codes { AddsCodes rodeo.new.texts (encoded_texts codes.old.items codes.new.items (map (λ t. t.now) texts.now)) codes.old.items codes.new.items }
+    ensures whole { OnOk result (vec_len codes.new ≡ vec_len codes.old + length texts.now) }
+    ensures refused { IfErr result (IsNextRefused rodeo.new codes.old.items codes.new.items (map (λ t. t.now) texts.now)) }
+{
+    let mut start = 0;
+    for part in 0..parts.len() {
+        let count = size.min(texts.len() - start);
+        let here = &texts[start..start + count];
+        put_part(rt, rodeo, here, &parts[part], codes, workers)?;
+        start += count;
+    }
+    Ok(())
+}
+
+// Does what `encode` does with the texts, which are those of the part where there is one.
+fn put_part<R: AllocGlobal + Threads + Sync, S: BuildHasher, A: Allocator + Clone>(
+    rt: &R,
+    rodeo: &mut Rodeo<Spur, S, A>,
+    texts: &[&str],
+    part: &Option<Part>,
+    codes: &mut Vec<u32>,
+    workers: usize,
+) -> LassoResult<()>
+    requires workers { 0 < workers }
+    requires encoded { IfSome part.now (λ encoded. IsEncoded (map (λ t. t.now) texts.now) encoded.list encoded.codes.items) }
+    ensures list { extend spur_at rodeo.old (encoded_texts codes.old.items codes.new.items (map (λ t. t.now) texts.now)) (Ok tt) rodeo.new }
+    ensures codes { AddsCodes rodeo.new.texts (encoded_texts codes.old.items codes.new.items (map (λ t. t.now) texts.now)) codes.old.items codes.new.items }
+    ensures whole { OnOk result (vec_len codes.new ≡ vec_len codes.old + length texts.now) }
+    ensures refused { IfErr result (IsNextRefused rodeo.new codes.old.items codes.new.items (map (λ t. t.now) texts.now)) }
+{
+    let Some(part) = part else {
+        return encode(rodeo, texts, codes);
+    };
+    // There is room for all codes before a text is interned.
+    if codes.reserve(part.codes.len()).is_err() {
+        return encode(rodeo, texts, codes);
+    }
+    let mut table = Vec::new(rt.alloc());
+    let outcome = encode_list(rodeo, &part.list, &mut table);
+    append_rewritten(rt, codes, &part.codes, part.list.len(), &table, workers);
+    outcome
+}
+
+// Appends the codes of a list of `len` texts, rewritten by the table: it has the new code of each text, or of the first ones only.
+// Stops at the first code that the table lacks. There must be room for all. Up to `workers` threads rewrite.
+fn append_rewritten<R: Threads + Sync>(
+    rt: &R,
+    codes: &mut Vec<u32>,
+    part: &[u32],
+    len: usize,
+    table: &[u32],
+    workers: usize,
+)
+    requires workers { 0 < workers }
+    requires inside { All (λ code. code < len) part.now }
+    requires room { vec_len codes.old + length part.now ≤ vec_capacity codes.old }
+    ensures { AddsRewritten table.now part.now codes.old.items codes.new.items }
+{
+    let kept = known(part, len, table.len());
+    let before = codes.len();
+    let Ok(()) = codes.extend_from_slice(&part[..kept]) else {
+        unreachable!();
+    };
+    let threads = workers.min(kept / CODES_A_THREAD + 1);
+    rewrite(rt, codes.slice_mut(before..), table, threads);
+}
+
+// Gives each code the one that the table has for it.
+fn rewrite<R: Threads + Sync>(rt: &R, codes: &mut [u32], table: &[u32], threads: usize)
+    requires threads { 0 < threads }
+    requires inside { All (λ code. code < length table.now) codes.old }
+    ensures { (k : ℕ) → k < length codes.old → slice_index codes.new k ≡ slice_index table.now (slice_index codes.old k) }
+{
+    for_each_mut(rt, codes, threads, &|_, code| *code = table[*code as usize]);
+}
+
+// How many of the codes stand before the first that is `bound` or more. All are below `len`.
+fn known(codes: &[u32], len: usize, bound: usize) -> usize
+    requires { All (λ code. code < len) codes.now }
+    ensures within { result ≤ length codes.now }
+    ensures below { AllWithin (λ code. code < bound) codes.now 0 result }
+    ensures next { IfSome (slice_get codes.now result) (λ code. bound ≤ code) }
+{
+    if bound >= len {
+        return codes.len();
+    }
+    for position in 0..codes.len() {
+        if codes[position] as usize >= bound {
+            return position;
+        }
+    }
+    codes.len()
+}

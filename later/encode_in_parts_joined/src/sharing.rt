@@ -1,0 +1,121 @@
+//! Texts to codes by many threads.
+ghost use Rattle.std.specs.Prelude.{◌≡◌, [], OnOk, OnErr, IfOk, IfErr, map};
+ghost use Rattle.lasso_log.specs.History.{History, IsLegal};
+ghost use Rattle.lasso_log.specs.Notes.{Since};
+ghost use Rattle.lasso_log.specs.Views.{PassView, InternerId, IsSamePass, list_of, seen};
+ghost use Rattle.lasso_columns.specs.Codes.{AreCodes, AddsCodes};
+ghost use Rattle.lasso_columns.specs.Encoding.{spur_at};
+ghost use Rattle.lasso_columns.specs.Sharing.{AddsSharedCodes, IsPartOf, IsRefusalIn};
+
+use lasso::log::{Known, Pass};
+use lasso::{LassoError, LassoResult, Spur, SpurThreadedRodeo};
+use std::sync::Wait;
+use std::thread::{Threads, map_chunks};
+
+/// Interns the texts by at most so many threads, and puts their codes behind those that are there, in the order of the texts: the positions
+/// that they then have in the interner's list, and keep. So codes of equal texts are equal. 0 workers count as one; where a
+/// thread can't be started, the caller does its work.
+///
+/// Each worker stops at the first of its texts that is refused, and the refusal of the first of these workers is the answer. No code is
+/// added then, nor where there is no memory for the codes, and the texts that were interned stay.
+///
+/// ```rust
+/// let rodeo: SpurThreadedRodeo = ThreadedRodeo::default(rt.alloc())?;
+/// let mut codes = Vec::new(rt.alloc());
+/// encode_shared(&rt, &rodeo, &["red", "green", "red"], &mut codes, 2)?;
+/// assert!(rt; codes.first() == codes.last());
+/// assert!(rt; rodeo.len() == 2);
+/// ```
+pub fn encode_shared<R: AllocGlobal + Threads + Wait + Sync>(
+    rt: &R,
+    rodeo: &SpurThreadedRodeo,
+    texts: &[&str],
+    codes: &mut Vec<u32>,
+    workers: usize,
+) -> LassoResult<()>
+    ensures codes { OnOk result (AddsSharedCodes rodeo.now.opening (map (λ t. t.now) texts.now) codes.old.items codes.new.items) }
+    ensures refused { OnErr result (codes.new.items ≡ codes.old.items) }
+    ensures reason { IfErr result (λ error. (past : History) × IsLegal spur_at rodeo.now.opening past × IsRefusalIn rodeo.now.opening past (map (λ t. t.now) texts.now) error) }
+{
+    let mut pass = rodeo.pass();
+    pass.show_legal();
+    encode_shared_as(rt, rodeo, &mut pass, texts, codes, workers)
+}
+
+/// The same with a pass, which has then seen what the workers did: the codes are the positions of the texts in the list that it
+/// has seen. The call adds no event to the pass itself. After a refusal the pass has seen what the workers up to the refused one
+/// did, and so what explains it, or for want of memory maybe no more than before.
+pub fn encode_shared_as<R: AllocGlobal + Threads + Wait + Sync>(
+    rt: &R,
+    rodeo: &SpurThreadedRodeo,
+    pass: &mut Pass<Spur>,
+    texts: &[&str],
+    codes: &mut Vec<u32>,
+    workers: usize,
+) -> LassoResult<()>
+    requires { pass.old.of ≡ rodeo.now }
+    ensures same { IsSamePass pass.new pass.old }
+    ensures since { Since pass.old.number pass.old.notes pass.new.notes [] }
+    ensures codes { OnOk result (AddsCodes (list_of rodeo.now pass.new.notes) (map (λ t. t.now) texts.now) codes.old.items codes.new.items) }
+    ensures refused { OnErr result (codes.new.items ≡ codes.old.items) }
+    ensures reason { IfErr result (λ error. IsRefusalIn rodeo.now.opening (seen pass.new) (map (λ t. t.now) texts.now) error) }
+    ensures legal { IsLegal spur_at rodeo.now.opening (seen pass.new) }
+{
+    pass.show_legal();
+    let size = texts.len().div_ceil(workers.max(1)).max(1);
+    let work = move |_: usize, part: &[&str]| -> Part
+        ensures { IsPartOf rodeo.entry.now (map (λ t. t.now) part.entry.now) result.known result.codes }
+    { encode_part(rt, rodeo, part) };
+    let parts = map_chunks(rt, rt.alloc(), texts, size, &work)?;
+    let mut added = Vec::new(rt.alloc());
+    for part in 0..parts.len() {
+        let done = &parts[part];
+        pass.recall(&done.known);
+        match &done.codes {
+            Ok(part_codes) => added.extend_from_slice(part_codes)?,
+            Err(error) => return Err(LassoError::new(error.kind())),
+        }
+    }
+    codes.extend_from_slice(&added)?;
+    Ok(())
+}
+
+// What a worker gives back: what its pass has seen of the interner, and the codes of its texts, or why one of them was refused.
+#[derive(Drop)]
+struct Part {
+    known: Known<Spur>,
+    codes: LassoResult<Vec<u32>>,
+}
+
+// Interns the texts by a pass of its own.
+fn encode_part<R: AllocGlobal + Wait>(rt: &R, rodeo: &SpurThreadedRodeo, texts: &[&str]) -> Part
+    ensures { IsPartOf rodeo.now (map (λ t. t.now) texts.now) result.known result.codes }
+{
+    let mut pass = rodeo.pass();
+    let codes = encode_by(rt, rodeo, &mut pass, texts);
+    Part {
+        known: pass.known(),
+        codes,
+    }
+}
+
+// The codes of the texts, which it interns by the pass.
+fn encode_by<R: AllocGlobal + Wait>(
+    rt: &R,
+    rodeo: &SpurThreadedRodeo,
+    pass: &mut Pass<Spur>,
+    texts: &[&str],
+) -> LassoResult<Vec<u32>>
+    requires { pass.old.of ≡ rodeo.now }
+    ensures of { pass.new.of ≡ rodeo.now }
+    ensures codes { IfOk result (λ codes. AreCodes (list_of rodeo.now pass.new.notes) (map (λ t. t.now) texts.now) codes.items) }
+    ensures reason { IfErr result (λ error. IsRefusalIn rodeo.now.opening (seen pass.new) (map (λ t. t.now) texts.now) error) }
+{
+    let mut codes = Vec::new(rt.alloc());
+    codes.reserve(texts.len())?;
+    for text in texts {
+        let key = rodeo.try_get_or_intern_as(rt, pass, text)?;
+        codes.push(key.into_inner() - 1)?;
+    }
+    Ok(codes)
+}
