@@ -14,6 +14,7 @@ pub mod WastedSince
 pub mod EntryTexts
 pub mod Walks
 mod Ends
+mod ReadNumbers
 mod PlacesLent
 pub mod TextsLent
 pub mod RowCalls

@@ -104,7 +104,9 @@ pub fn text_of<'a>(regions: &'a [Region], vast: &'a [LongText], entry: &'a Entry
     requires { IsThere regions.now vast.now entry.now }
     ensures { result.now ≡ entry_text regions.now vast.now entry.now }
 {
+    // In this order of the arms, the compiled code tests first whether the entry has its text itself.
     match &entry.place {
+        Place::Vast { index } => vast[*index].text(regions),
         Place::Here(text) => text.as_str(),
         Place::There {
             high,
@@ -115,7 +117,6 @@ pub fn text_of<'a>(regions: &'a [Region], vast: &'a [LongText], entry: &'a Entry
             let len = (*high as usize) << 32 | *low as usize;
             unsafe { from_utf8_unchecked(loan.read(regions, *ptr, len)) }
         }
-        Place::Vast { index } => vast[*index].text(regions),
     }
 }
 
