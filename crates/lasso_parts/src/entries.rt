@@ -104,9 +104,7 @@ pub fn text_of<'a>(regions: &'a [Region], vast: &'a [LongText], entry: &'a Entry
     requires { IsThere regions.now vast.now entry.now }
     ensures { result.now ≡ entry_text regions.now vast.now entry.now }
 {
-    // In this order of the arms, the compiled code tests first whether the entry has its text itself.
     match &entry.place {
-        Place::Vast { index } => vast[*index].text(regions),
         Place::Here(text) => text.as_str(),
         Place::There {
             high,
@@ -117,7 +115,18 @@ pub fn text_of<'a>(regions: &'a [Region], vast: &'a [LongText], entry: &'a Entry
             let len = (*high as usize) << 32 | *low as usize;
             unsafe { from_utf8_unchecked(loan.read(regions, *ptr, len)) }
         }
+        Place::Vast { index } => listed_text(regions, vast, *index),
     }
+}
+
+// The text at an index of the list beside the entries. Almost no list has one.
+#[cold]
+#[inline(never)]
+fn listed_text<'a>(regions: &'a [Region], vast: &'a [LongText], index: usize) -> &'a str
+    requires { IsThere regions.now vast.now (Listed index) }
+    ensures { result.now ≡ entry_text regions.now vast.now (Listed index) }
+{
+    vast[index].text(regions)
 }
 
 fn crosses<T: Send + Sync>(_: &T) {}
