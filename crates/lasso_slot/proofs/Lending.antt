@@ -2,19 +2,20 @@
 -- To lend the value, a lifetime `a` begins, and the borrow for α becomes a borrow for the meet of `a` and α, with the right to the longer one
 -- once `a` has ended. The shorter borrow is shared by the law of the value's type, and never changes while it is. To have the value whole,
 -- the token of `a` is spent, so `a` is over, and the right is due.
+-- What is borrowed may change its form while the borrow is open: it is closed over any formula that makes the first one again (`closes_over`).
 -- A reader sees the value for the meet of `a` and α. While its claim is borrowed for ν, its share of the token of `a` is borrowed for ν too, so
 -- `a` lasts as long as ν, and so does α, since the claim's own lifetime ends no later. So what is seen lasts for ν.
 use Rattle.std.proofs.Common.{ℕ, zero, suc, ◌+◌, [], ◌∷◌, ◌++◌, Option, Some, None}
 use seplogic.Ra.Ura.{Ura}
 use base.Fraction.{full_share}
 use base.FractionLaws.{Counts}
-use base.Logic.{SProp, ent, sep, wand, emp, upd_i, id⊢, never_e, apply∗, via}
-use base.Fml.{Lft, Share, Incl, Incl-trans, Fml, ftrue, ffalse, fsep, fseps, fex, fwand, fupd, fdead, fbor, flft, finv}
+use base.Logic.{SProp, ent, sep, wand, emp, upd_i, id⊢, never_e, apply∗, fst∗, via}
+use base.Fml.{Lft, Share, Incl, Incl-trans, Fml, ftrue, ffalse, fsep, fseps, fex, fwand, fupd, fdead, fbor, fobor, flft, finv}
 use base.Before.{before}
 use contract.BorrowLft.{meet_⊑_left, meet_⊑_right, ⊑_meet}
 use ghost.Rules.{Toks, span}
 use types.Logic.{Logic, sem, lfts}
-use types.Kit.{‵, raw, ◌⊛◌, some, later, ◌$◌, ◌∵◌, !, qed, by, move, keep, use0, use1, use2, split, join, fsplit, fsplit3, fjoin, fjoin3, fpick, fpack, pick, assume, suffices, await, updating, now, done}
+use types.Kit.{‵, raw, ◌⊛◌, some, later, ◌$◌, ◌∵◌, !, qed, by, move, keep, drop, use0, use1, use2, split, join, fsplit, fsplit3, fjoin, fjoin3, fpick, fpack, pick, assume, suffices, await, updating, now, done}
 use types.Tokens.{lft_new, lft_end, lent_back, bor_open, obor_alter, bor_fracture, one_token}
 use types.Na.{before_dup, before_shorten}
 use denote.RattleType.{RattleType, RowLaws}
@@ -60,6 +61,16 @@ module _ {M : Type 1} {𝓤 : Ura M} (𝓛 : Logic 𝓤) where
 
   infix 26 ◌⊢◌
   infixr 35 ◌∗◌
+  -- An open borrow of P is closed as one of Q, where Q makes a P again whenever the lifetime has ended.
+  makes_again : (κ : Lft) (P Q : Fml) → ⟦ Q ⟧ ⊢ ⟦ P ⟧ → emp 𝓤 ⊢ ⟦ fwand (fsep (fdead κ) (fseps (Q ∷ []))) (fupd P) ⟧
+  unfolding fseps
+  makes_again κ P Q again = qed 𝓛 [] ∵ assume ! (‵ (fsep (fdead κ) (fsep Q ftrue))) $ fsplit3 ! $ keep ! (1 ∷ []) $ use1 𝓛 (‵ P) again $ by ! (upd_i 𝓤 ⟦ P ⟧)
+
+  pub closes_over : (κ : Lft) (q : Share) (P Q : Fml) → ⟦ Q ⟧ ⊢ ⟦ P ⟧ → ⟦ fobor κ q P ⟧ ∗ ⟦ Q ⟧ ⊢ H.⇛ (A.bor κ Q ∗ A.lft κ q)
+  unfolding fseps
+  closes_over κ q P Q again = qed 𝓛 (‵ (fobor κ q P) ∷ ‵ Q ∷ []) ∵ updating ! $ move ! (1 ∷ []) $ nothing ! $ move ! (1 ∷ 0 ∷ []) $ fjoin ! $
+      use0 𝓛 (‵ (fwand (fsep (fdead κ) (fseps (Q ∷ []))) (fupd P))) (makes_again κ P Q again) $ move ! (2 ∷ 1 ∷ 0 ∷ []) $ obor_alter ! tt (Q ∷ []) $ use1 𝓛 (‵ (fbor κ Q)) (fst∗ 𝓤 (A.bor κ Q) (emp 𝓤)) $ now ! $ done !
+
   module _ (R : RattleType) (fits : R.Denot → Type 0) (b o : ℕ) where
     abbrev C : Fml
     C = content R fits b o
@@ -70,19 +81,14 @@ module _ {M : Type 1} {𝓤 : Ura M} (𝓛 : Logic 𝓤) where
     pub stored_fits : (x : R.Denot) → fits x → ⟦ Stored x ⟧ ⊢ ⟦ C ⟧
     stored_fits x fit = qed 𝓛 (‵ (Stored x) ∷ []) ∵ nothing ! $ fpack ! (fits x) (λ _. ftrue) fit $ fjoin ! $ fpack ! R.Denot (λ y. fsep (holds (fits y)) (Stored y)) x $ done !
 
-    one_back : (κ : Lft) (x : R.Denot) → fits x → emp 𝓤 ⊢ ⟦ fwand (fsep (fdead κ) (fseps (Stored x ∷ []))) (fupd C) ⟧
-    unfolding fseps
-    one_back κ x fit = qed 𝓛 [] ∵ assume ! (‵ (fsep (fdead κ) (fsep (Stored x) ftrue))) $ suffices ! ⟦ C ⟧ (upd_i 𝓤 ⟦ C ⟧) $ fsplit3 ! $ keep ! (1 ∷ []) $ by ! (stored_fits x fit)
-
     -- a borrow of the content is one of the value that is there
     abbrev One : Lft → Fml
     One κ = fex R.Denot (λ x. fex (fits x) (λ _. fbor κ (Stored x)))
 
     narrowed : (κ : Lft) (q : Share) → A.bor κ C ∗ A.lft κ q ⊢ H.⇛ (⟦ One κ ⟧ ∗ A.lft κ q)
-    unfolding fseps
-    narrowed κ q = qed 𝓛 (‵ (fbor κ C) ∷ ‵ (flft κ q) ∷ []) ∵ updating ! $ bor_open ! tt $ move ! (1 ∷ []) $ fpick ! (λ x. fsplit ! $ fpick ! (λ fit. move ! (1 ∷ 0 ∷ []) $ fjoin ! $
-        use0 𝓛 (‵ (fwand (fsep (fdead κ) (fseps (Stored x ∷ []))) (fupd C))) (one_back κ x fit) $ move ! (2 ∷ 1 ∷ 0 ∷ []) $ obor_alter ! tt (Stored x ∷ []) $
-        use1 𝓛 (‵ (fbor κ (Stored x)) ⊛ ‵ ftrue) (id⊢ 𝓤 _) $ split ! $ fpack ! (fits x) (λ _. fbor κ (Stored x)) fit $ fpack ! R.Denot (λ y. fex (fits y) (λ _. fbor κ (Stored y))) x $ now ! $ keep ! (0 ∷ 2 ∷ []) $ done !))
+    narrowed κ q = qed 𝓛 (‵ (fbor κ C) ∷ ‵ (flft κ q) ∷ []) ∵ updating ! $ bor_open ! tt $ move ! (1 ∷ []) $ fpick ! (λ x. fsplit ! $ fpick ! (λ fit. drop ! $ move ! (1 ∷ 0 ∷ []) $
+        use2 𝓛 (later (‵ (fbor κ (Stored x)) ⊛ ‵ (flft κ q))) (closes_over κ q C (Stored x) (stored_fits x fit)) $ await ! tt $ split ! $
+        fpack ! (fits x) (λ _. fbor κ (Stored x)) fit $ fpack ! R.Denot (λ y. fex (fits y) (λ _. fbor κ (Stored y))) x $ now ! $ done !))
 
     module _ (t : Keeping) where
       abbrev α : Lft

@@ -1,20 +1,21 @@
 -- A `&` to a slot is made of a borrow of it, whatever its word is. Assumes `Logic`.
--- The borrow is cut into one of the word and one of the value. The value is lent for a first lifetime, a name begins with all lots of nothing, and the
--- borrow of the word becomes one of the word with what stands beside it. That one goes into an invariant, which every `&` has.
+-- The borrow is cut into one of the word and one of the value. The value is lent for a first lifetime, and a name begins with all lots of nothing. The
+-- borrow of the word is opened, and closed over the word with what stands beside it, of which the word is a part (`standing`). An invariant with that
+-- borrow may be known to everybody (`known_to_all`), and is what each `&` holds.
 use Rattle.std.proofs.Common.{◌≡◌, ℕ, zero, ◌+◌, ◌^◌, List, [], ◌∷◌, ◌++◌, sym, subst}
 use seplogic.Ra.Ura.{Ura}
 use mir.Syntax.{Ty}
 use mir.Val.{Val}
 use base.Fraction.{full_share}
 use base.FractionLaws.{Counts-all}
-use base.Logic.{SProp, ent, sep, wand, ex, emp, all_e, upd_i, via, apply∗, id⊢}
-use base.Fml.{Lft, GName, Share, Incl, Fml, ftrue, fsep, fseps, fex, fwand, fupd, fdead, fbor, flft, finv, Incl-refl, Incl-trans}
+use base.Logic.{SProp, ent, sep, wand, ex, all_e, via, apply∗}
+use base.Fml.{Lft, GName, Share, Incl, Fml, ftrue, fsep, fex, fbor, flft, finv, Incl-refl, Incl-trans}
 use base.Before.{before}
 use contract.BorrowLft.{meet_⊑_left}
 use ghost.Rules.{Toks, span}
 use types.Logic.{Logic, sem, lfts}
-use types.Kit.{‵, raw, ◌⊛◌, some, later, ◌$◌, ◌∵◌, !, qed, by, move, keep, use0, use1, use2, split, split3, join, fsplit, fsplit3, fjoin, fjoin3, fpick, fpack, pick, assume, suffices, await, updating, now, done}
-use types.Tokens.{bor_open, obor_alter}
+use types.Kit.{‵, raw, ◌⊛◌, some, later, ◌$◌, ◌∵◌, !, qed, by, move, keep, use0, use1, use2, split, split3, join, fsplit, fjoin, fjoin3, fpick, fpack, pick, await, updating, now, done}
+use types.Tokens.{bor_open}
 use types.Na.{before-Incl}
 use types.Owned.{basic, own_new}
 use denote.RattleType.{RattleType, Denots}
@@ -40,7 +41,7 @@ use Rattle.lasso_slot.specs.declared.Fits.{Ghosts}
 use Rattle.lasso_slot.specs.contracts.Slot as S
 use Rattle.lasso_slot.proofs.Slot.TheLaw.Statement.{statement}
 use Rattle.lasso_slot.proofs.Lots.{lots_in}
-use Rattle.lasso_slot.proofs.Lending.{Begun, lends}
+use Rattle.lasso_slot.proofs.Lending.{Begun, lends, closes_over}
 use Rattle.lasso_slot.proofs.Steps.{begins}
 
 module _ {M : Type 1} {𝓤 : Ura M} (𝓛 : Logic 𝓤) (m : Member) (G : RattleType) (g : Ghosts m.row.Denot G.Denot) (tag : G.Denot) (L : Lawful 𝓛 (row_of m)) (b o : ℕ) (κ : Lft) where
@@ -121,18 +122,15 @@ module _ {M : Type 1} {𝓤 : Ura M} (𝓛 : Logic 𝓤) (m : Member) (G : Rattl
     abbrev Given : Pr
     Given = A.bor κ Word ∗ ⟦ all_but 0 γ 0 ⟧ ∗ ⟦ Begun 𝓛 R fits b o t ⟧
 
-    word_again : emp 𝓤 ⊢ ⟦ fwand (fsep (fdead κ) (fseps (I ∷ []))) (fupd Word) ⟧
-    unfolding fseps
-    word_again = qed 𝓛 [] ∵ assume ! (‵ (fsep (fdead κ) (fsep I ftrue))) $ suffices ! ⟦ Word ⟧ (upd_i 𝓤 ⟦ Word ⟧) $ fsplit3 ! $ keep ! (1 ∷ []) $ fpick ! (λ n. fsplit ! $ keep ! (0 ∷ []) $ fpack ! ℕ (word b (o + 0)) n $ done !)
+    word_there : ⟦ I ⟧ ⊢ ⟦ Word ⟧
+    word_there = qed 𝓛 (‵ I ∷ []) ∵ fpick ! (λ n. fsplit ! $ keep ! (0 ∷ []) $ fpack ! ℕ (word b (o + 0)) n $ done !)
 
     -- the borrow of the word becomes one of the word with what stands beside it
     standing : (q : Share) → Given ∗ A.lft κ q ⊢ H.⇛ (A.bor κ I ∗ A.lft κ q)
-    unfolding fseps
     standing q = qed 𝓛 ((‵ (fbor κ Word) ⊛ ‵ (all_but 0 γ 0) ⊛ ‵ (Begun 𝓛 R fits b o t)) ∷ ‵ (flft κ q) ∷ []) ∵ updating ! $ split3 ! $ move ! (0 ∷ 3 ∷ []) $ bor_open ! tt $ move ! (1 ∷ []) $ fpick ! (λ n.
         move ! (2 ∷ 3 ∷ []) $ use2 𝓛 (later (‵ (staged R fits b o t n))) (via 𝓤 _ (begins 𝓛 R fits b o t n) (basic 𝓛 ⟦ staged R fits b o t n ⟧)) $ await ! tt $ move ! (1 ∷ 0 ∷ []) $ fjoin ! $
-        fpack ! ℕ (λ w. fsep (word b (o + 0) w) (staged R fits b o t w)) n $ nothing ! $ move ! (1 ∷ 0 ∷ []) $ fjoin ! $
-        use0 𝓛 (‵ (fwand (fsep (fdead κ) (fseps (I ∷ []))) (fupd Word))) word_again $ move ! (2 ∷ 1 ∷ 0 ∷ []) $ obor_alter ! tt (I ∷ []) $
-        use1 𝓛 (‵ (fbor κ I) ⊛ ‵ ftrue) (id⊢ 𝓤 _) $ split ! $ now ! $ keep ! (0 ∷ 2 ∷ []) $ done !)
+        fpack ! ℕ (λ w. fsep (word b (o + 0) w) (staged R fits b o t w)) n $ move ! (1 ∷ 0 ∷ []) $
+        use2 𝓛 (later (‵ (fbor κ I) ⊛ ‵ (flft κ q))) (closes_over 𝓛 κ q Word I word_there) $ await ! tt $ split ! $ now ! $ done !)
 
     -- an invariant with that borrow is what every `&` knows
     known_to_all : A.bor κ I ⊢ H.⇛ ⟦ shared_slot R fits (block_ptr b o) κ ⟧
