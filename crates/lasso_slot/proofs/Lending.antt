@@ -2,19 +2,20 @@
 -- To lend the value, a lifetime `a` begins, and the borrow for α becomes a borrow for the meet of `a` and α, with the right to the longer one
 -- once `a` has ended. The shorter borrow is shared by the law of the value's type, and never changes while it is. To have the value whole,
 -- the token of `a` is spent, so `a` is over, and the right is due.
+-- What is borrowed may change its form while the borrow is open: it is closed over any formula that makes the first one again (`closes_over`).
 -- A reader sees the value for the meet of `a` and α. While its claim is borrowed for ν, its share of the token of `a` is borrowed for ν too, so
 -- `a` lasts as long as ν, and so does α, since the claim's own lifetime ends no later. So what is seen lasts for ν.
 use Rattle.std.proofs.Common.{ℕ, zero, suc, ◌+◌, [], ◌∷◌, ◌++◌, Option, Some, None}
 use seplogic.Ra.Ura.{Ura}
 use base.Fraction.{full_share}
 use base.FractionLaws.{Counts}
-use base.Logic.{SProp, ent, sep, wand, emp, upd_i, id⊢, never_e, apply∗}
-use base.Fml.{Lft, Share, Incl, Incl-trans, Fml, ftrue, ffalse, fsep, fseps, fex, fwand, fupd, fdead, fbor, flft, finv}
+use base.Logic.{SProp, ent, sep, wand, emp, upd_i, id⊢, never_e, apply∗, fst∗, via}
+use base.Fml.{Lft, Share, Incl, Incl-trans, Fml, ftrue, ffalse, fsep, fseps, fex, fwand, fupd, fdead, fbor, fobor, flft, finv}
 use base.Before.{before}
 use contract.BorrowLft.{meet_⊑_left, meet_⊑_right, ⊑_meet}
 use ghost.Rules.{Toks, span}
 use types.Logic.{Logic, sem, lfts}
-use types.Kit.{‵, raw, ◌⊛◌, some, later, ◌$◌, ◌∵◌, !, qed, by, move, keep, use0, use1, use2, split, join, fsplit, fsplit3, fjoin, fjoin3, fpick, fpack, pick, assume, suffices, await, updating, now, done}
+use types.Kit.{‵, raw, ◌⊛◌, some, later, ◌$◌, ◌∵◌, !, qed, by, move, keep, drop, use0, use1, use2, split, join, fsplit, fsplit3, fjoin, fjoin3, fpick, fpack, pick, assume, suffices, await, updating, now, done}
 use types.Tokens.{lft_new, lft_end, lent_back, bor_open, obor_alter, bor_fracture, one_token}
 use types.Na.{before_dup, before_shorten}
 use denote.RattleType.{RattleType, RowLaws}
@@ -27,18 +28,21 @@ use denote.SharingLaws.{beside_shr_laws, contraction, shortens, nothing_shr_laws
 use denote.Steps.{nothing}
 use denote.Struct.Lending.{Lends, Lends-false, Lends-nothing}
 use Rattle.core.proofs.cell.Borrows.{by_one}
-use Rattle.lasso_slot.specs.Slots.{fact, named_as, lot, Id, offset, cell, visible, due, kept_word, known, reading, claim_owns, claim_shares}
+use Rattle.lasso_slot.specs.Slots.{holds, named_as, lot, Keeping, value_at, content, visible, due, kept_word, known, reading, visible_by, claimed, lent_claim}
 use Rattle.lasso_slot.proofs.Lots.{lots_in}
 
 pub visible_laws : (R : RattleType) (fits : R.Denot → Type 0) → RowLaws R → (b o : ℕ) (x : R.Denot) → ShrLaws (visible R fits b o x)
-visible_laws R fits L b o x = beside_shr_laws (said (fact (fits x))) (shared_of R x b (o + offset R)) (said_shr_laws (fact (fits x)) (λ _. tt)) (L x b (o + offset R))
+visible_laws R fits L b o x = beside_shr_laws (said (holds (fits x))) (shared_of R x b (o + value_at R)) (said_shr_laws (holds (fits x)) (λ _. tt)) (L x b (o + value_at R))
 
-pub claim_laws : (β : Lft) (R : RattleType) (fits : R.Denot → Type 0) → RowLaws R → (p : Ptr) (right : ℕ) (v : Option R.Denot) → ShrLaws (claim_shares β R fits p right v)
-claim_laws β R fits L null_ptr right v = said_shr_laws ffalse tt
-claim_laws β R fits L (block_ptr b o) zero v = nothing_shr_laws
-claim_laws β R fits L (block_ptr b o) (suc (suc k)) v = nothing_shr_laws
-claim_laws β R fits L (block_ptr b o) (suc zero) (Some x) = within_shr_laws β (visible R fits b o x) (visible_laws R fits L b o x)
-claim_laws β R fits L (block_ptr b o) (suc zero) None = said_shr_laws ffalse tt
+by_right : (R : RattleType) (fits : R.Denot → Type 0) → RowLaws R → (b o right : ℕ) (v : Option R.Denot) (β : Lft) → ShrLaws (visible_by R fits b o right v β)
+by_right R fits L b o zero v β = nothing_shr_laws
+by_right R fits L b o (suc zero) None β = said_shr_laws ffalse tt
+by_right R fits L b o (suc zero) (Some x) β = within_shr_laws β (visible R fits b o x) (visible_laws R fits L b o x)
+by_right R fits L b o (suc (suc k)) v β = nothing_shr_laws
+
+pub claim_laws : (R : RattleType) (fits : R.Denot → Type 0) → RowLaws R → (β : Lft) (p : Ptr) (right : ℕ) (v : Option R.Denot) → ShrLaws (lent_claim R fits β p right v)
+claim_laws R fits L β null_ptr right v = said_shr_laws ffalse tt
+claim_laws R fits L β (block_ptr b o) right v = by_right R fits L b o right v β
 
 module _ {M : Type 1} {𝓤 : Ura M} (𝓛 : Logic 𝓤) where
   open 𝓛 use {H, A}
@@ -57,31 +61,36 @@ module _ {M : Type 1} {𝓤 : Ura M} (𝓛 : Logic 𝓤) where
 
   infix 26 ◌⊢◌
   infixr 35 ◌∗◌
+  -- An open borrow of P is closed as one of Q, where Q makes a P again whenever the lifetime has ended.
+  makes_again : (κ : Lft) (P Q : Fml) → ⟦ Q ⟧ ⊢ ⟦ P ⟧ → emp 𝓤 ⊢ ⟦ fwand (fsep (fdead κ) (fseps (Q ∷ []))) (fupd P) ⟧
+  unfolding fseps
+  makes_again κ P Q again = qed 𝓛 [] ∵ assume ! (‵ (fsep (fdead κ) (fsep Q ftrue))) $ fsplit3 ! $ keep ! (1 ∷ []) $ use1 𝓛 (‵ P) again $ by ! (upd_i 𝓤 ⟦ P ⟧)
+
+  pub closes_over : (κ : Lft) (q : Share) (P Q : Fml) → ⟦ Q ⟧ ⊢ ⟦ P ⟧ → ⟦ fobor κ q P ⟧ ∗ ⟦ Q ⟧ ⊢ H.⇛ (A.bor κ Q ∗ A.lft κ q)
+  unfolding fseps
+  closes_over κ q P Q again = qed 𝓛 (‵ (fobor κ q P) ∷ ‵ Q ∷ []) ∵ updating ! $ move ! (1 ∷ []) $ nothing ! $ move ! (1 ∷ 0 ∷ []) $ fjoin ! $
+      use0 𝓛 (‵ (fwand (fsep (fdead κ) (fseps (Q ∷ []))) (fupd P))) (makes_again κ P Q again) $ move ! (2 ∷ 1 ∷ 0 ∷ []) $ obor_alter ! tt (Q ∷ []) $ use1 𝓛 (‵ (fbor κ Q)) (fst∗ 𝓤 (A.bor κ Q) (emp 𝓤)) $ now ! $ done !
+
   module _ (R : RattleType) (fits : R.Denot → Type 0) (b o : ℕ) where
     abbrev C : Fml
-    C = cell R fits b o
+    C = content R fits b o
 
-    abbrev At : R.Denot → Fml
-    At x = part_at R full_share x b (o + offset R)
+    abbrev Stored : R.Denot → Fml
+    Stored x = part_at R full_share x b (o + value_at R)
 
-    pub into_cell : (x : R.Denot) → fits x → ⟦ At x ⟧ ⊢ ⟦ C ⟧
-    into_cell x fit = qed 𝓛 (‵ (At x) ∷ []) ∵ nothing ! $ fpack ! (fits x) (λ _. ftrue) fit $ move ! (1 ∷ 0 ∷ []) $ fjoin ! $ fpack ! R.Denot (λ y. fsep (At y) (fact (fits y))) x $ done !
+    pub stored_fits : (x : R.Denot) → fits x → ⟦ Stored x ⟧ ⊢ ⟦ C ⟧
+    stored_fits x fit = qed 𝓛 (‵ (Stored x) ∷ []) ∵ nothing ! $ fpack ! (fits x) (λ _. ftrue) fit $ fjoin ! $ fpack ! R.Denot (λ y. fsep (holds (fits y)) (Stored y)) x $ done !
 
-    one_back : (κ : Lft) (x : R.Denot) → fits x → emp 𝓤 ⊢ ⟦ fwand (fsep (fdead κ) (fseps (At x ∷ []))) (fupd C) ⟧
-    unfolding fseps
-    one_back κ x fit = qed 𝓛 [] ∵ assume ! (‵ (fsep (fdead κ) (fsep (At x) ftrue))) $ suffices ! ⟦ C ⟧ (upd_i 𝓤 ⟦ C ⟧) $ fsplit3 ! $ keep ! (1 ∷ []) $ by ! (into_cell x fit)
-
-    -- a borrow of the cell is one of the value that is there
+    -- a borrow of the content is one of the value that is there
     abbrev One : Lft → Fml
-    One κ = fex R.Denot (λ x. fex (fits x) (λ _. fbor κ (At x)))
+    One κ = fex R.Denot (λ x. fex (fits x) (λ _. fbor κ (Stored x)))
 
     narrowed : (κ : Lft) (q : Share) → A.bor κ C ∗ A.lft κ q ⊢ H.⇛ (⟦ One κ ⟧ ∗ A.lft κ q)
-    unfolding fseps
-    narrowed κ q = qed 𝓛 (‵ (fbor κ C) ∷ ‵ (flft κ q) ∷ []) ∵ updating ! $ bor_open ! tt $ move ! (1 ∷ []) $ fpick ! (λ x. fsplit ! $ move ! (1 ∷ []) $ fpick ! (λ fit. move ! (1 ∷ 0 ∷ []) $ fjoin ! $
-        use0 𝓛 (‵ (fwand (fsep (fdead κ) (fseps (At x ∷ []))) (fupd C))) (one_back κ x fit) $ move ! (2 ∷ 1 ∷ 0 ∷ []) $ obor_alter ! tt (At x ∷ []) $
-        use1 𝓛 (‵ (fbor κ (At x)) ⊛ ‵ ftrue) (id⊢ 𝓤 _) $ split ! $ fpack ! (fits x) (λ _. fbor κ (At x)) fit $ fpack ! R.Denot (λ y. fex (fits y) (λ _. fbor κ (At y))) x $ now ! $ keep ! (0 ∷ 2 ∷ []) $ done !))
+    narrowed κ q = qed 𝓛 (‵ (fbor κ C) ∷ ‵ (flft κ q) ∷ []) ∵ updating ! $ bor_open ! tt $ move ! (1 ∷ []) $ fpick ! (λ x. fsplit ! $ fpick ! (λ fit. drop ! $ move ! (1 ∷ 0 ∷ []) $
+        use2 𝓛 (later (‵ (fbor κ (Stored x)) ⊛ ‵ (flft κ q))) (closes_over κ q C (Stored x) (stored_fits x fit)) $ await ! tt $ split ! $
+        fpack ! (fits x) (λ _. fbor κ (Stored x)) fit $ fpack ! R.Denot (λ y. fex (fits y) (λ _. fbor κ (Stored y))) x $ now ! $ done !))
 
-    module _ (t : Id) where
+    module _ (t : Keeping) where
       abbrev α : Lft
       α = t.0
 
@@ -93,7 +102,7 @@ module _ {M : Type 1} {𝓤 : Ura M} (𝓛 : Logic 𝓤) where
       Begun = fex (ℕ × R.Denot) Lent
 
       pub lends : (l : Lft) → Shares 𝓛 R l → (ts : Toks) → Incl (span ts) l → Incl (span ts) α → A.bor α C ∗ lfts 𝓛 ts ⊢ H.⇛ (⟦ Begun ⟧ ∗ lfts 𝓛 ts)
-      lends l shares ts inc sp = let e : ℕ = o + offset R in let μ : Lft = span ts in
+      lends l shares ts inc sp = let e : ℕ = o + value_at R in let μ : Lft = span ts in
           qed 𝓛 (‵ (fbor α C) ∷ raw (lfts 𝓛 ts) ∷ []) ∵ updating ! $ lft_new ! tt (λ a. let κ : Lft = a ∷ α in move ! (1 ∷ []) $
           use1 𝓛 (later (‵ (fbor κ C) ⊛ ‵ (due R fits b o t a))) (𝓛.more.bor_reborrow α κ C (meet_⊑_right (a ∷ []) α)) $ await ! tt $ split ! $ move ! (3 ∷ []) $
           use1 𝓛 (some (λ (q : Share). ‵ (flft μ q) ⊛ raw (wand 𝓤 (A.lft μ q) (lfts 𝓛 ts)))) (one_token 𝓛 ts) $ pick ! (λ q. split ! $
@@ -112,18 +121,18 @@ module _ {M : Type 1} {𝓤 : Ura M} (𝓛 : Logic 𝓤) where
 
     module _ (L : RowLaws R) (x : R.Denot) (β ν : Lft) (inc : Incl ν β) where
       abbrev Held : Fml
-      Held = claim_owns β R fits (block_ptr b o) 1 (Some x)
+      Held = claimed R fits β (block_ptr b o) 1 (Some x)
 
       abbrev V : Lft → Fml
       V = visible R fits b o x
 
       -- the claim, from all that it owns but a share of the token
-      held_again : (t : Id) (a : ℕ) (e : Share) → Counts 63 e 1 → (⟦ before β t.0 ⟧ ∗ A.inv (fbor t.0 (kept_word R fits b o t))) ∗ ⟦ named_as t.1 (suc a) e ⟧ ∗ ⟦ V (a ∷ t.0) ⟧
+      held_again : (t : Keeping) (a : ℕ) (e : Share) → Counts 63 e 1 → (⟦ before β t.0 ⟧ ∗ A.inv (fbor t.0 (kept_word R fits b o t))) ∗ ⟦ named_as t.1 (suc a) e ⟧ ∗ ⟦ V (a ∷ t.0) ⟧
           ⊢ ⟦ fwand (fsep (fdead ν) (fseps (flft (a ∷ []) e ∷ []))) (fupd Held) ⟧
       unfolding fseps
       held_again t a e c = qed 𝓛 ((‵ (before β t.0) ⊛ ‵ (finv (fbor t.0 (kept_word R fits b o t)))) ∷ ‵ (named_as t.1 (suc a) e) ∷ ‵ (V (a ∷ t.0)) ∷ []) ∵ assume ! (‵ (fsep (fdead ν) (fsep (flft (a ∷ []) e) ftrue))) $
           suffices ! ⟦ Held ⟧ (upd_i 𝓤 ⟦ Held ⟧) $ fsplit3 ! $ move ! (1 ∷ 4 ∷ []) $ fjoin ! $ use1 𝓛 (‵ (lot t.1 (suc a))) (lots_in 𝓛 t.1 (suc a) 1 e c) $ move ! (0 ∷ 4 ∷ []) $ fjoin ! $
-          fpack ! ℕ (λ u. fsep (lot t.1 (suc u)) (V (u ∷ t.0))) a $ move ! (3 ∷ []) $ split ! $ fjoin ! $ fjoin ! $ fpack ! Id (λ s. fsep (known R fits b o s β) (reading R fits b o s x)) t $ keep ! (0 ∷ []) $ done !
+          fpack ! ℕ (λ u. fsep (lot t.1 (suc u)) (V (u ∷ t.0))) a $ move ! (3 ∷ []) $ split ! $ fjoin ! $ fjoin ! $ fpack ! Keeping (λ s. fsep (known R fits b o s β) (reading R fits b o s x)) t $ keep ! (0 ∷ []) $ done !
 
       shows : (q : Share) → A.bor ν Held ∗ A.lft ν q ⊢ H.⇛ (⟦ V ν ⟧ ∗ A.lft ν q)
       unfolding fseps
@@ -144,15 +153,19 @@ module _ {M : Type 1} {𝓤 : Ura M} (𝓛 : Logic 𝓤) where
       pub shows_by : (ts : Toks) → Incl (span ts) ν → A.bor ν Held ∗ lfts 𝓛 ts ⊢ H.⇛ (⟦ V ν ⟧ ∗ lfts 𝓛 ts)
       shows_by ts sp = by_one 𝓛 ν ts sp (A.bor ν Held) ⟦ V ν ⟧ shows
 
-  never_lent : (β : Lft) (R : RattleType) (fits : R.Denot → Type 0) (b o : ℕ) (l : Lft) → Lends 𝓛 (claim_owns β R fits (block_ptr b o) 1 None) (λ _. ffalse) l
-  never_lent β R fits b o l κ ts inc sp = let P : Fml = claim_owns β R fits (block_ptr b o) 1 None in qed 𝓛 (‵ (fbor κ P) ∷ raw (lfts 𝓛 ts) ∷ []) ∵ updating ! $
+  never_lent : (β : Lft) (R : RattleType) (fits : R.Denot → Type 0) (b o : ℕ) (l : Lft) → Lends 𝓛 (claimed R fits β (block_ptr b o) 1 None) (λ _. ffalse) l
+  never_lent β R fits b o l κ ts inc sp = let P : Fml = claimed R fits β (block_ptr b o) 1 None in qed 𝓛 (‵ (fbor κ P) ∷ raw (lfts 𝓛 ts) ∷ []) ∵ updating ! $
       use2 𝓛 (later (‵ P ⊛ raw (wand 𝓤 ⟦ P ⟧ (H.⇛ (A.bor κ P ∗ lfts 𝓛 ts))))) (𝓛.more.bor_acc_by κ ts P sp) $ await ! tt $ split ! $ fpick ! (λ t. fsplit ! $ keep ! (1 ∷ []) $ by ! (never_e 𝓤 _))
 
-  pub claim_lends : (β : Lft) (R : RattleType) (fits : R.Denot → Type 0) → RowLaws R → (l : Lft) → Incl l β → (p : Ptr) (right : ℕ) (v : Option R.Denot) → Lends 𝓛 (claim_owns β R fits p right v) (claim_shares β R fits p right v) l
-  claim_lends β R fits L l le null_ptr right v = Lends-false 𝓛 (claim_shares β R fits null_ptr right v) l
-  claim_lends β R fits L l le (block_ptr b o) zero v = Lends-nothing 𝓛 (claim_owns β R fits (block_ptr b o) 0 v) l
-  claim_lends β R fits L l le (block_ptr b o) (suc (suc k)) v = Lends-nothing 𝓛 (claim_owns β R fits (block_ptr b o) (suc (suc k)) v) l
-  claim_lends β R fits L l le (block_ptr b o) (suc zero) None = never_lent β R fits b o l
-  claim_lends β R fits L l le (block_ptr b o) (suc zero) (Some x) = λ κ ts inc sp. let ν : Lft = κ ++ β in let P : Fml = claim_owns β R fits (block_ptr b o) 1 (Some x) in
-      qed 𝓛 (‵ (fbor κ P) ∷ raw (lfts 𝓛 ts) ∷ []) ∵ use1 𝓛 (‵ (fbor ν P)) (𝓛.bors.bor_shorten κ ν P (meet_⊑_left κ β)) $
-      by ! (shows_by R fits b o L x β ν (meet_⊑_right κ β) ts (⊑_meet (span ts) κ β sp (Incl-trans inc le)))
+  pub claim_lends : (R : RattleType) (fits : R.Denot → Type 0) → RowLaws R → (β l : Lft) → Incl l β → (p : Ptr) (right : ℕ) (v : Option R.Denot) → Lends 𝓛 (claimed R fits β p right v) (lent_claim R fits β p right v) l
+  claim_lends R fits L β l le null_ptr right v = Lends-false 𝓛 (lent_claim R fits β null_ptr right v) l
+  claim_lends R fits L β l le (block_ptr b o) zero v = Lends-nothing 𝓛 (claimed R fits β (block_ptr b o) 0 v) l
+  claim_lends R fits L β l le (block_ptr b o) (suc zero) None = never_lent β R fits b o l
+  claim_lends R fits L β l le (block_ptr b o) (suc zero) (Some x) = reader_lends
+    where
+      -- a claim that is borrowed for κ is borrowed for the meet of κ and β too, by which its value is seen
+      reader_lends : Lends 𝓛 (claimed R fits β (block_ptr b o) 1 (Some x)) (lent_claim R fits β (block_ptr b o) 1 (Some x)) l
+      reader_lends κ ts inc sp = let Reader : Fml = claimed R fits β (block_ptr b o) 1 (Some x) in via 𝓤 (A.bor (κ ++ β) Reader ∗ lfts 𝓛 ts)
+          (base.Logic.mono_l 𝓤 (lfts 𝓛 ts) (𝓛.bors.bor_shorten κ (κ ++ β) Reader (meet_⊑_left κ β)))
+          (shows_by R fits b o L x β (κ ++ β) (meet_⊑_right κ β) ts (⊑_meet (span ts) κ β sp (Incl-trans inc le)))
+  claim_lends R fits L β l le (block_ptr b o) (suc (suc k)) v = Lends-nothing 𝓛 (claimed R fits β (block_ptr b o) (suc (suc k)) v) l

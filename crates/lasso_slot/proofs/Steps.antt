@@ -3,7 +3,7 @@
 -- it and the token go to the claim. A change that gains a reader takes one lot out. A claim that comes back brings its lot, which says what state the
 -- slot is in: a reader's is put to the others, and with that of the whole claim the name is whole again and goes to the token that the value was
 -- lent for meanwhile. The word of a slot that was shared before may be any number; one from `taken` on is never free again, and is safe.
-use Rattle.std.proofs.Common.{◌≢◌, ◌≡◌, ℕ, zero, suc, ◌+◌, ◌-◌, ◌%◌, ◌^◌, ◌<◌, ◌≤◌, eqb, Bool, [], ◌∷◌, sym, refl, subst, arith, eq-eqb, ne_eqb, w64, Option, Some, None}
+use Rattle.std.proofs.Common.{◌≡◌, ℕ, zero, suc, ◌+◌, ◌-◌, ◌%◌, ◌^◌, ◌<◌, ◌≤◌, eqb, Bool, [], ◌∷◌, sym, refl, subst, arith, eq-eqb, ne_eqb, w64, Option, Some, None}
 use mathlib.Core.Logic.{dite, inl, inr}
 use native.Mathlib.Decide.{ℕ_discrete, dec_le}
 use seplogic.Ra.Ura.{Ura}
@@ -23,12 +23,12 @@ use denote.SharingLaws.{contraction}
 use denote.Steps.{nothing}
 use Rattle.core.specs.Sync.RawAtomic.{asks, always, word}
 use Rattle.core.proofs.raw_atomic.Asked.{borrowed, Lies, Again}
-use Rattle.lasso_slot.specs.Words.{taken, readers, IsTurn, Gains, IsWeight}
-use Rattle.lasso_slot.specs.Slots.{fact, lot, all_but, Id, Stage, out, lent, cell, visible, due, stage, staged, kept_word, reading, reading_some, having, right_to}
+use Rattle.lasso_slot.specs.Words.{taken, readers, IsTurn, Gains, Outcome, IsWeight}
+use Rattle.lasso_slot.specs.Slots.{holds, lot, all_but, Keeping, Stage, out, lent, content, visible, due, stage, staged, kept_word, reading, reading_some, having, entitled}
 use Rattle.lasso_slot.proofs.Lots.{lot_out, lot_in, lots_agree, too_many, renamed}
 use Rattle.lasso_slot.proofs.Lending.{visible_laws, Begun, lends, ended}
 
-module _ {M : Type 1} {𝓤 : Ura M} (𝓛 : Logic 𝓤) (R : RattleType) (fits : R.Denot → Type 0) (b o : ℕ) (t : Id) where
+module _ {M : Type 1} {𝓤 : Ura M} (𝓛 : Logic 𝓤) (R : RattleType) (fits : R.Denot → Type 0) (b o : ℕ) (t : Keeping) where
   open 𝓛 use {H, A}
 
   abbrev Pr : Type 2
@@ -81,11 +81,29 @@ module _ {M : Type 1} {𝓤 : Ura M} (𝓛 : Logic 𝓤) (R : RattleType) (fits 
   gain (suc zero) v = reading_some R fits b o t v
   gain (suc (suc k)) v = fsep (lot t.1 0) (fex ℕ (λ a. fsep (flft (a ∷ []) full_share) (due R fits b o t a)))
 
-  pub gains_right : (right : ℕ) (v : Option R.Denot) → ⟦ gain right v ⟧ ⊢ H.⇛ ⟦ right_to R fits b o t right v ⟧
+  gains_right : (right : ℕ) (v : Option R.Denot) → ⟦ gain right v ⟧ ⊢ H.⇛ ⟦ entitled R fits b o t right v ⟧
   gains_right zero v = 𝓛.laws.⇛_intro _
   gains_right (suc zero) v = 𝓛.laws.⇛_intro _
   gains_right (suc (suc k)) v = qed 𝓛 (‵ (gain (suc (suc k)) v) ∷ []) ∵ updating ! $ fsplit ! $ move ! (1 ∷ []) $ fpick ! (λ a. fsplit ! $
-      use2 𝓛 (later (‵ (fbor α (cell R fits b o)))) (ended 𝓛 R fits b o t a) $ await ! tt $ now ! $ move ! (1 ∷ 0 ∷ []) $ fjoin ! $ done !)
+      use2 𝓛 (later (‵ (fbor α (content R fits b o)))) (ended 𝓛 R fits b o t a) $ await ! tt $ now ! $ move ! (1 ∷ 0 ∷ []) $ fjoin ! $ done !)
+
+  -- what an attempt that found the word n has won, at first, and once the token is spent
+  module _ (old new : ℕ) where
+    abbrev won : ℕ → ℕ × Option R.Denot → Fml
+    won n g = fsep (holds (Outcome old new n g.0)) (gain g.0 g.1)
+
+    abbrev pub Won : ℕ → Fml
+    Won n = fex (ℕ × Option R.Denot) (won n)
+
+    abbrev has : ℕ → ℕ × Option R.Denot → Fml
+    has n g = fsep (holds (Outcome old new n g.0)) (entitled R fits b o t g.0 g.1)
+
+    abbrev pub Has : ℕ → Fml
+    Has n = fex (ℕ × Option R.Denot) (has n)
+
+    pub spends : (n : ℕ) → ⟦ Won n ⟧ ⊢ H.⇛ ⟦ Has n ⟧
+    spends n = qed 𝓛 (‵ (Won n) ∷ []) ∵ updating ! $ fpick ! (λ g. fsplit ! $ move ! (1 ∷ []) $ use1 𝓛 (later (‵ (entitled R fits b o t g.0 g.1))) (gains_right g.0 g.1) $ await ! tt $
+        move ! (1 ∷ 0 ∷ []) $ fjoin ! $ fpack ! (ℕ × Option R.Denot) (has n) g $ now ! $ done !)
 
   -- what a claim brings when it ends
   abbrev pub offer : ℕ → Fml
@@ -93,28 +111,31 @@ module _ {M : Type 1} {𝓤 : Ura M} (𝓛 : Logic 𝓤) (R : RattleType) (fits 
   offer (suc zero) = fex ℕ (λ a. lot t.1 (suc a))
   offer (suc (suc k)) = fsep (lot t.1 0) Fresh
 
-  pub offers : (l : Lft) → Shares 𝓛 R l → (ts : Toks) → Incl (span ts) l → Incl (span ts) α → (right : ℕ) (v : Option R.Denot) → ⟦ right_to R fits b o t right v ⟧ ∗ lfts 𝓛 ts ⊢ H.⇛ (⟦ offer right ⟧ ∗ lfts 𝓛 ts)
+  pub offers : (l : Lft) → Shares 𝓛 R l → (ts : Toks) → Incl (span ts) l → Incl (span ts) α → (right : ℕ) (v : Option R.Denot) → ⟦ entitled R fits b o t right v ⟧ ∗ lfts 𝓛 ts ⊢ H.⇛ (⟦ offer right ⟧ ∗ lfts 𝓛 ts)
   offers l shares ts inc sp zero v = 𝓛.laws.⇛_intro _
   offers l shares ts inc sp (suc zero) None = never_first
     where
-      never_first : ⟦ right_to R fits b o t 1 None ⟧ ∗ lfts 𝓛 ts ⊢ H.⇛ (⟦ offer 1 ⟧ ∗ lfts 𝓛 ts)
-      never_first = qed 𝓛 (‵ (right_to R fits b o t 1 None) ∷ raw (lfts 𝓛 ts) ∷ []) ∵ keep ! (0 ∷ []) $ by ! (never_e 𝓤 _)
+      never_first : ⟦ entitled R fits b o t 1 None ⟧ ∗ lfts 𝓛 ts ⊢ H.⇛ (⟦ offer 1 ⟧ ∗ lfts 𝓛 ts)
+      never_first = qed 𝓛 (‵ (entitled R fits b o t 1 None) ∷ raw (lfts 𝓛 ts) ∷ []) ∵ keep ! (0 ∷ []) $ by ! (never_e 𝓤 _)
   offers l shares ts inc sp (suc zero) (Some x) = qed 𝓛 (‵ (reading R fits b o t x) ∷ raw (lfts 𝓛 ts) ∷ []) ∵ updating ! $ fpick ! (λ a. fsplit ! $ fpack ! ℕ (λ c. lot t.1 (suc c)) a $ now ! $ keep ! (0 ∷ 2 ∷ []) $ done !)
   offers l shares ts inc sp (suc (suc k)) v = qed 𝓛 (‵ (having R fits b o t) ∷ raw (lfts 𝓛 ts) ∷ []) ∵ updating ! $ fsplit ! $ move ! (1 ∷ 2 ∷ []) $
       use2 𝓛 (later (‵ Fresh ⊛ raw (lfts 𝓛 ts))) (lends 𝓛 R fits b o t l shares ts inc sp) $ await ! tt $ split ! $ move ! (2 ∷ 0 ∷ []) $ fjoin ! $ now ! $ done !
 
   module _ (q : Share) where
-    stepped : (f : ℕ → ℕ) (after : ℕ → Fml) (K : Fml) → ((n : ℕ) → n < 2 ^ 64 → (p : Stage R.Denot) → ⟦ st n p ⟧ ∗ ⟦ K ⟧ ⊢ upd 𝓤 (⟦ St (f n) ⟧ ∗ ⟦ after n ⟧))
-        → A.inv (fbor α I) ∗ (A.lft α q ∗ ⟦ K ⟧) ⊢ asks 𝓛 (block_ptr b (o + 0)) f always (λ n. fsep (flft α q) (after n))
-    stepped f after K law = let e : ℕ = o + 0 in let Found : Pr = ex 𝓤 (Lies 𝓛 α q I b e f always after) in borrowed 𝓛 α q I b e f always after ⟦ K ⟧ (
+    -- a step on the word that takes K, and leaves `after n` where it found n
+    abbrev pub StepBy : (ℕ → ℕ) → Fml → (ℕ → Fml) → Type 1
+    StepBy f K after = A.inv (fbor α I) ∗ (A.lft α q ∗ ⟦ K ⟧) ⊢ asks 𝓛 (block_ptr b (o + 0)) f always (λ n. fsep (flft α q) (after n))
+
+    under_invariant : (f : ℕ → ℕ) (after : ℕ → Fml) (K : Fml) → ((n : ℕ) → n < 2 ^ 64 → (p : Stage R.Denot) → ⟦ st n p ⟧ ∗ ⟦ K ⟧ ⊢ upd 𝓤 (⟦ St (f n) ⟧ ∗ ⟦ after n ⟧)) → StepBy f K after
+    under_invariant f after K law = let e : ℕ = o + 0 in let Found : Pr = ex 𝓤 (Lies 𝓛 α q I b e f always after) in borrowed 𝓛 α q I b e f always after ⟦ K ⟧ (
         qed 𝓛 (‵ I ∷ ‵ K ∷ []) ∵ suffices ! Found (upd_i 𝓤 Found) $ fpick ! (λ n. fsplit ! $
         use1 𝓛 (given (lib.Dec.T (has_ty (ty_int w64) (vint w64 n)) × WT (vint w64 n)) (‵ (word b e n))) (𝓛.laws.at_wt full_share (ty_int w64) b e (vint w64 n)) $ learn ! (λ typed.
         show ! (Lies 𝓛 α q I b e f always after) n $ frame ! $ each ! (λ (_ : Unit {0}). Again 𝓛 α q I b e f always after n) (λ _. let Z : Pr = ⟦ I ⟧ ∗ ⟦ after n ⟧ in
         assume ! (‵ (word b e (f n))) $ move ! (1 ∷ []) $ fpick ! (λ p. move ! (0 ∷ 2 ∷ []) $ use2 𝓛 (raw (upd 𝓤 (⟦ St (f n) ⟧ ∗ ⟦ after n ⟧))) (law n typed.1.fits p) $
         settle 𝓛 Z (‵ (St (f n)) ⊛ ‵ (after n)) $ split ! $ suffices ! Z (upd_i 𝓤 Z) $ move ! (2 ∷ 0 ∷ []) $ fjoin ! $ fpack ! ℕ (λ w. fsep (word b e w) (St w)) (f n) $ done !)))))
 
-    pub looks : A.inv (fbor α I) ∗ (A.lft α q ∗ ⟦ ftrue ⟧) ⊢ asks 𝓛 (block_ptr b (o + 0)) (λ n. n) always (λ n. fsep (flft α q) ftrue)
-    looks = stepped (λ n. n) (λ _. ftrue) ftrue (λ n _ p. stays n p ftrue)
+    pub looks : StepBy (λ n. n) ftrue (λ _. ftrue)
+    looks = under_invariant (λ n. n) (λ _. ftrue) ftrue (λ n _ p. stays n p ftrue)
 
     -- a reader's lot comes back
     left : (a n : ℕ) → n < 2 ^ 64 → (p : Stage R.Denot) → ⟦ st n p ⟧ ∗ ⟦ lot t.1 (suc a) ⟧ ⊢ upd 𝓤 (⟦ St ((n + (2 ^ 64 - 1)) % 2 ^ 64) ⟧ ∗ ⟦ ftrue ⟧)
@@ -135,31 +156,35 @@ module _ {M : Type 1} {𝓤 : Ura M} (𝓛 : Logic 𝓤) (R : RattleType) (fits 
         qed 𝓛 (‵ (st n out) ∷ ‵ (offer 2) ∷ []) ∵ fsplit ! $ drop ! $ move ! (1 ∷ []) $ fsplit ! $ move ! (0 ∷ 2 ∷ []) $ use2 𝓛 (‵ (all_lots 0)) (lot_in 𝓛 t.1 0 0 (omega arith)) $
         use2 𝓛 (raw (upd 𝓤 ⟦ St w ⟧)) (begins w) $ settle 𝓛 Z (‵ (St w)) $ suffices ! Z (upd_i 𝓤 Z) $ nothing ! $ move ! (1 ∷ 0 ∷ []) $ done !
 
-    abbrev Lowers : ℕ → ℕ → Type 1
-    Lowers right by_ = A.inv (fbor α I) ∗ (A.lft α q ∗ ⟦ offer right ⟧) ⊢ asks 𝓛 (block_ptr b (o + 0)) (λ n. (n + (2 ^ 64 - by_)) % 2 ^ 64) always (λ n. fsep (flft α q) ftrue)
+    -- what a step does not need, F, is there after it
+    beside_step : (f : ℕ → ℕ) (K F : Fml) → ((n : ℕ) → n < 2 ^ 64 → (p : Stage R.Denot) → ⟦ st n p ⟧ ∗ ⟦ K ⟧ ⊢ upd 𝓤 (⟦ St (f n) ⟧ ∗ ⟦ ftrue ⟧)) → StepBy f (fsep K F) (λ _. F)
+    beside_step f K F law = under_invariant f (λ _. F) (fsep K F) (λ n low p. let Z : Pr = ⟦ St (f n) ⟧ ∗ ⟦ F ⟧ in
+        qed 𝓛 (‵ (st n p) ∷ ‵ (fsep K F) ∷ []) ∵ move ! (1 ∷ []) $ fsplit ! $ move ! (2 ∷ 0 ∷ []) $ use2 𝓛 (raw (upd 𝓤 (⟦ St (f n) ⟧ ∗ ⟦ ftrue ⟧))) (law n low p) $
+        settle 𝓛 Z (‵ (St (f n)) ⊛ ‵ ftrue) $ split ! $ suffices ! Z (upd_i 𝓤 Z) $ keep ! (0 ∷ 2 ∷ []) $ done !)
 
-    pub lowers : (right by_ : ℕ) → IsWeight right by_ → Lowers right by_
-    lowers right by_ (inl one) = subst (λ (r : ℕ). Lowers r by_) (sym one.0) (subst (Lowers 1) (sym one.1) (stepped (λ n. (n + (2 ^ 64 - 1)) % 2 ^ 64) (λ _. ftrue) (offer 1) (λ n low p.
-        qed 𝓛 (‵ (st n p) ∷ ‵ (offer 1) ∷ []) ∵ move ! (1 ∷ []) $ fpick ! (λ a. move ! (1 ∷ 0 ∷ []) $ by ! (left a n low p)))))
-    lowers right by_ (inr all) = subst (λ (r : ℕ). Lowers r by_) (sym all.0) (subst (Lowers 2) (sym all.1) (stepped (λ n. (n + (2 ^ 64 - 8589934592)) % 2 ^ 64) (λ _. ftrue) (offer 2) (λ n low p. given_back n p)))
+    module _ (F : Fml) where
+      abbrev Lowers : ℕ → ℕ → Type 1
+      Lowers right by_ = StepBy (λ n. (n + (2 ^ 64 - by_)) % 2 ^ 64) (fsep (offer right) F) (λ _. F)
+
+      reader_lowers : Lowers 1 1
+      reader_lowers = beside_step (λ n. (n + (2 ^ 64 - 1)) % 2 ^ 64) (offer 1) F (λ n low p.
+          qed 𝓛 (‵ (st n p) ∷ ‵ (offer 1) ∷ []) ∵ move ! (1 ∷ []) $ fpick ! (λ a. move ! (1 ∷ 0 ∷ []) $ by ! (left a n low p)))
+
+      pub lowers : (right by_ : ℕ) → IsWeight right by_ → Lowers right by_
+      lowers right by_ (inl one) = subst (λ (r : ℕ). Lowers r by_) (sym one.0) (subst (Lowers 1) (sym one.1) reader_lowers)
+      lowers right by_ (inr all) = subst (λ (r : ℕ). Lowers r by_) (sym all.0) (subst (Lowers 2) (sym all.1) (beside_step (λ n. (n + (2 ^ 64 - 8589934592)) % 2 ^ 64) (offer 2) F (λ n low p. given_back n p)))
 
     module _ (L : RowLaws R) (old new : ℕ) where
-      abbrev pub Told : ℕ → ℕ → Type 0
-      Told n right = (n ≡ old → Gains old new right) × (n ≢ old → right ≡ 0)
+      abbrev Got : ℕ → Fml
+      Got = Won old new
 
-      abbrev pub won : ℕ → ℕ × Option R.Denot → Fml
-      won n g = fsep (fact (Told n g.0)) (gain g.0 g.1)
+      wins : (p : Stage R.Denot) (right : ℕ) (v : Option R.Denot) → Gains old new right → ⟦ st new p ⟧ ∗ ⟦ gain right v ⟧ ⊢ upd 𝓤 (⟦ St new ⟧ ∗ ⟦ Got old ⟧)
+      wins p right v so = qed 𝓛 (‵ (st new p) ∷ ‵ (gain right v) ∷ []) ∵ move ! (1 ∷ []) $ nothing ! $ fpack ! (Outcome old new old right) (λ _. ftrue) ((λ _. so), (λ other. absurd (other refl))) $ fjoin ! $
+          fpack ! (ℕ × Option R.Denot) (won old new old) (right, v) $ move ! (1 ∷ 0 ∷ []) $ by ! (stays new p (Got old))
 
-      abbrev pub Won : ℕ → Fml
-      Won n = fex (ℕ × Option R.Denot) (won n)
-
-      wins : (p : Stage R.Denot) (right : ℕ) (v : Option R.Denot) → Gains old new right → ⟦ st new p ⟧ ∗ ⟦ gain right v ⟧ ⊢ upd 𝓤 (⟦ St new ⟧ ∗ ⟦ Won old ⟧)
-      wins p right v so = qed 𝓛 (‵ (st new p) ∷ ‵ (gain right v) ∷ []) ∵ move ! (1 ∷ []) $ nothing ! $ fpack ! (Told old right) (λ _. ftrue) ((λ _. so), (λ other. absurd (other refl))) $ fjoin ! $
-          fpack ! (ℕ × Option R.Denot) (won old) (right, v) $ move ! (1 ∷ 0 ∷ []) $ by ! (stays new p (Won old))
-
-      hit : IsTurn old new → (p : Stage R.Denot) → ⟦ st old p ⟧ ∗ ⟦ ftrue ⟧ ⊢ upd 𝓤 (⟦ St new ⟧ ∗ ⟦ Won old ⟧)
+      hit : IsTurn old new → (p : Stage R.Denot) → ⟦ st old p ⟧ ∗ ⟦ ftrue ⟧ ⊢ upd 𝓤 (⟦ St new ⟧ ∗ ⟦ Got old ⟧)
       hit asked out = qed 𝓛 (‵ (st old out) ∷ ‵ ftrue ∷ []) ∵ fsplit ! $ fpick ! (λ high. let low = asked.0 in absurd (omega arith))
-      hit (low, inl asked) (lent a m x) = let Z : Pr = ⟦ St new ⟧ ∗ ⟦ Won old ⟧ in qed 𝓛 (‵ (st old (lent a m x)) ∷ ‵ ftrue ∷ []) ∵ fsplit3 ! $ fpick ! (λ h. drop ! $ let few = h.1 in let none = asked.1 in let is = asked.0 in
+      hit (low, inl asked) (lent a m x) = let Z : Pr = ⟦ St new ⟧ ∗ ⟦ Got old ⟧ in qed 𝓛 (‵ (st old (lent a m x)) ∷ ‵ ftrue ∷ []) ∵ fsplit3 ! $ fpick ! (λ h. drop ! $ let few = h.1 in let none = asked.1 in let is = asked.0 in
           let nobody : m ≡ 0 = omega arith in rewrite ! 0 (λ (k : ℕ). ‵ (all_but k t.1 (suc a))) nobody refl $ move ! (0 ∷ 2 ∷ []) $
           use2 𝓛 (raw (upd 𝓤 (⟦ all_lots 0 ⟧ ∗ ⟦ flft (a ∷ []) full_share ⟧))) (renamed 𝓛 t.1 (suc a) 0) $ settle 𝓛 Z (‵ (all_lots 0) ⊛ ‵ (flft (a ∷ []) full_share)) $ split ! $
           use1 𝓛 (‵ (lot t.1 0) ⊛ ‵ (all_but 1 t.1 0)) (lot_out 𝓛 t.1 0 0 (omega arith)) $ split ! $
@@ -176,8 +201,8 @@ module _ {M : Type 1} {𝓤 : Ura M} (𝓛 : Logic 𝓤) (R : RattleType) (fits 
           nothing ! $ fpack ! ((new < taken) × (suc m ≤ readers new)) (λ _. ftrue) (less, omega arith) $ fjoin ! $ keep ! (0 ∷ 1 ∷ []) $
           by ! (wins (lent a (suc m) x) 1 (Some x) ((λ is. absurd (omega arith)), (λ _. omega arith)))))
 
-      pub turns : IsTurn old new → A.inv (fbor α I) ∗ (A.lft α q ∗ ⟦ ftrue ⟧) ⊢ asks 𝓛 (block_ptr b (o + 0)) (λ n. either (eqb n old) new n) always (λ n. fsep (flft α q) (Won n))
-      turns asked = stepped (λ n. either (eqb n old) new n) Won ftrue (λ n _ p. let Law : Bool → Type 1 = λ y. ⟦ st n p ⟧ ∗ ⟦ ftrue ⟧ ⊢ upd 𝓤 (⟦ St (either y new n) ⟧ ∗ ⟦ Won n ⟧) in dite (ℕ_discrete n old)
-          (λ e. subst Law (sym (eq-eqb n old e)) (subst (λ (k : ℕ). ⟦ st k p ⟧ ∗ ⟦ ftrue ⟧ ⊢ upd 𝓤 (⟦ St new ⟧ ∗ ⟦ Won k ⟧)) (sym e) (hit asked p)))
-          (λ miss. subst Law (sym (ne_eqb n old miss)) (qed 𝓛 (‵ (st n p) ∷ ‵ ftrue ∷ []) ∵ move ! (1 ∷ []) $ nothing ! $ fpack ! (Told n 0) (λ _. ftrue) ((λ e. absurd (miss e)), (λ _. refl)) $ fjoin ! $
-          fpack ! (ℕ × Option R.Denot) (won n) (0, None) $ move ! (1 ∷ 0 ∷ []) $ by ! (stays n p (Won n)))))
+      pub turns : IsTurn old new → StepBy (λ n. either (eqb n old) new n) ftrue Got
+      turns asked = under_invariant (λ n. either (eqb n old) new n) Got ftrue (λ n _ p. let Law : Bool → Type 1 = λ y. ⟦ st n p ⟧ ∗ ⟦ ftrue ⟧ ⊢ upd 𝓤 (⟦ St (either y new n) ⟧ ∗ ⟦ Got n ⟧) in dite (ℕ_discrete n old)
+          (λ e. subst Law (sym (eq-eqb n old e)) (subst (λ (k : ℕ). ⟦ st k p ⟧ ∗ ⟦ ftrue ⟧ ⊢ upd 𝓤 (⟦ St new ⟧ ∗ ⟦ Got k ⟧)) (sym e) (hit asked p)))
+          (λ miss. subst Law (sym (ne_eqb n old miss)) (qed 𝓛 (‵ (st n p) ∷ ‵ ftrue ∷ []) ∵ move ! (1 ∷ []) $ nothing ! $ fpack ! (Outcome old new n 0) (λ _. ftrue) ((λ e. absurd (miss e)), (λ _. refl)) $ fjoin ! $
+          fpack ! (ℕ × Option R.Denot) (won old new n) (0, None) $ move ! (1 ∷ 0 ∷ []) $ by ! (stays n p (Got n)))))

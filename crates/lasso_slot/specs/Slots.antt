@@ -6,7 +6,7 @@
 --     out       somebody has the value whole, and the invariant only keeps the lots of nothing but one, which is the claim's
 -- A lot is a part of one ghost name, which says of what it is: of nothing by 0, of the token of `a` by `a + 1`. So whoever brings a lot
 -- back learns which of the two the slot is in, and the name changes only where all lots are in one hand.
-use Rattle.std.specs.Prelude.{◌≡◌, ℕ, zero, suc, ◌+◌, ◌-◌, ◌^◌, ◌<◌, ◌≤◌, [], ◌∷◌, Option, Some, None}
+use Rattle.std.specs.Prelude.{ℕ, zero, suc, ◌+◌, ◌-◌, ◌<◌, ◌≤◌, [], ◌∷◌, Option, Some, None}
 use base.FractionLaws.{Counts}
 use base.Fraction.{full_share}
 use base.Stored.{coded_ℕ}
@@ -22,8 +22,9 @@ use denote.Sharing.{said, beside, some, ends, always, within, nothing}
 use Rattle.core.specs.Sync.RawAtomic.{word}
 use Rattle.lasso_slot.specs.Words.{taken, readers}
 
-abbrev pub fact : Type 0 → Fml
-fact φ = fex φ (λ _. ftrue)
+-- a fact, as a formula
+abbrev pub holds : Type 0 → Fml
+holds φ = fex φ (λ _. ftrue)
 
 abbrev pub naming : Algebra
 naming = both shares (agreed (coded coded_ℕ))
@@ -49,77 +50,88 @@ lot γ v = lots γ v 1
 abbrev pub all_but : ℕ → GName → ℕ → Fml
 all_but m γ v = lots γ v (9223372036854775808 - m)
 
--- α and γ
-abbrev pub Id : Type 0
-Id = Lft × GName
+-- the lifetime α that a slot is shared for, and the name γ of its lots
+abbrev pub Keeping : Type 0
+Keeping = Lft × GName
 
 pub data Stage (X : Type 0) : Type 0 where
   out : Stage X
   lent : ℕ → ℕ → X → Stage X
 
-abbrev pub offset : RattleType → ℕ
-offset R = up (align (lone R.mir)) 8
+-- the value lies after the word, at the first place that its type's alignment allows
+abbrev pub value_at : RattleType → ℕ
+value_at R = up (align (lone R.mir)) 8
 
-abbrev pub slot_owns : (R : RattleType) → (R.Denot → Type 0) → (ℕ → R.Denot → Fml) → Fml
-slot_owns R fits fields = fex (ℕ × R.Denot) (λ s. fsep (fields s.0 s.1) (fact (fits s.1)))
+-- What a pointer leads to, by its block and its place there. No slot is at the null pointer.
+abbrev pub at_place : Ptr → (ℕ → ℕ → Fml) → Fml
+at_place null_ptr P = ffalse
+at_place (block_ptr b o) P = P b o
 
-module _ (R : RattleType) (fits : R.Denot → Type 0) (b o : ℕ) where
-  abbrev pub cell : Fml
-  cell = fex R.Denot (λ x. fsep (part_at R full_share x b (o + offset R)) (fact (fits x)))
+abbrev pub lent_at : Ptr → (ℕ → ℕ → Lft → Fml) → Lft → Fml
+lent_at null_ptr P = said ffalse
+lent_at (block_ptr b o) P = P b o
 
-  abbrev pub visible : R.Denot → Lft → Fml
-  visible x = beside (said (fact (fits x))) (shared_of R x b (o + offset R))
+module _ (R : RattleType) (fits : R.Denot → Type 0) where
+  module _ (b o : ℕ) where
+    abbrev pub content : Fml
+    content = fex R.Denot (λ x. fsep (holds (fits x)) (part_at R full_share x b (o + value_at R)))
 
-  module _ (t : Id) where
-    -- the right to have the value whole again, once `a` has ended
-    abbrev pub due : ℕ → Fml
-    due a = flent (a ∷ t.0) (fbor t.0 cell)
+    abbrev pub visible : R.Denot → Lft → Fml
+    visible x = beside (said (holds (fits x))) (shared_of R x b (o + value_at R))
 
-    abbrev pub stage : ℕ → Stage R.Denot → Fml
-    stage w out = fsep (fact (taken ≤ w)) (all_but 1 t.1 0)
-    stage w (lent a m x) = fsep (fact ((w < taken) × (m ≤ readers w))) (fsep (all_but m t.1 (suc a)) (fsep (visible x (a ∷ t.0)) (due a)))
+    abbrev pub visible_some : Option R.Denot → Lft → Lft → Fml
+    visible_some None β = said ffalse
+    visible_some (Some x) β = within β (visible x)
 
-    abbrev pub staged : ℕ → Fml
-    staged w = fex (Stage R.Denot) (stage w)
+    -- what others see of a claim that is lent to them: a reader's value, and nothing of another claim
+    abbrev pub visible_by : ℕ → Option R.Denot → Lft → Lft → Fml
+    visible_by zero v β = nothing
+    visible_by (suc zero) v β = visible_some v β
+    visible_by (suc (suc k)) v β = nothing
 
-    abbrev pub kept_word : Fml
-    kept_word = fex ℕ (λ w. fsep (word b (o + 0) w) (staged w))
+    module _ (t : Keeping) where
+      -- the right to have the value whole again, once `a` has ended
+      abbrev pub due : ℕ → Fml
+      due a = flent (a ∷ t.0) (fbor t.0 content)
 
-    abbrev pub known : Lft → Fml
-    known = beside (ends t.0) (always (fbor t.0 kept_word))
+      abbrev pub stage : ℕ → Stage R.Denot → Fml
+      stage w out = fsep (holds (taken ≤ w)) (all_but 1 t.1 0)
+      stage w (lent a m x) = fsep (holds ((w < taken) × (m ≤ readers w))) (fsep (all_but m t.1 (suc a)) (fsep (visible x (a ∷ t.0)) (due a)))
 
-    abbrev pub reading : R.Denot → Fml
-    reading x = fex ℕ (λ a. fsep (lot t.1 (suc a)) (visible x (a ∷ t.0)))
+      abbrev pub staged : ℕ → Fml
+      staged w = fex (Stage R.Denot) (stage w)
 
-    abbrev pub reading_some : Option R.Denot → Fml
-    reading_some (Some x) = reading x
-    reading_some None = ffalse
+      abbrev pub kept_word : Fml
+      kept_word = fex ℕ (λ w. fsep (word b (o + 0) w) (staged w))
 
-    abbrev pub having : Fml
-    having = fsep (lot t.1 0) (fbor t.0 cell)
+      abbrev pub known : Lft → Fml
+      known = beside (ends t.0) (always (fbor t.0 kept_word))
 
-    abbrev pub right_to : ℕ → Option R.Denot → Fml
-    right_to zero v = ftrue
-    right_to (suc zero) v = reading_some v
-    right_to (suc (suc k)) v = having
+      abbrev pub reading : R.Denot → Fml
+      reading x = fex ℕ (λ a. fsep (lot t.1 (suc a)) (visible x (a ∷ t.0)))
 
-  abbrev pub visible_some : Lft → Option R.Denot → Lft → Fml
-  visible_some β (Some x) = within β (visible x)
-  visible_some β None = said ffalse
+      abbrev pub reading_some : Option R.Denot → Fml
+      reading_some None = ffalse
+      reading_some (Some x) = reading x
 
-  abbrev pub visible_by : Lft → ℕ → Option R.Denot → Lft → Fml
-  visible_by β zero v = nothing
-  visible_by β (suc zero) v = visible_some β v
-  visible_by β (suc (suc k)) v = nothing
+      abbrev pub having : Fml
+      having = fsep (lot t.1 0) (fbor t.0 content)
 
-abbrev pub slot_shares : (R : RattleType) → (R.Denot → Type 0) → Ptr → Lft → Fml
-slot_shares R fits (block_ptr b o) = some Id (known R fits b o)
-slot_shares R fits null_ptr = said ffalse
+      abbrev pub entitled : ℕ → Option R.Denot → Fml
+      entitled zero v = ftrue
+      entitled (suc zero) v = reading_some v
+      entitled (suc (suc k)) v = having
 
-abbrev pub claim_owns : Lft → (R : RattleType) → (R.Denot → Type 0) → Ptr → ℕ → Option R.Denot → Fml
-claim_owns β R fits (block_ptr b o) right v = fex Id (λ t. fsep (known R fits b o t β) (right_to R fits b o t right v))
-claim_owns β R fits null_ptr right v = ffalse
+  -- a slot that nobody shares: its fields, with a value that fits
+  abbrev pub owned_slot : (ℕ → R.Denot → Fml) → Fml
+  owned_slot fields = fex ℕ (λ w. fex R.Denot (λ x. fsep (holds (fits x)) (fields w x)))
 
-abbrev pub claim_shares : Lft → (R : RattleType) → (R.Denot → Type 0) → Ptr → ℕ → Option R.Denot → Lft → Fml
-claim_shares β R fits (block_ptr b o) right v = visible_by R fits b o β right v
-claim_shares β R fits null_ptr right v = said ffalse
+  abbrev pub shared_slot : Ptr → Lft → Fml
+  shared_slot p = lent_at p (λ b o. some Keeping (known b o))
+
+  module _ (β : Lft) (p : Ptr) (right : ℕ) (v : Option R.Denot) where
+    abbrev pub claimed : Fml
+    claimed = at_place p (λ b o. fex Keeping (λ t. fsep (known b o t β) (entitled b o t right v)))
+
+    abbrev pub lent_claim : Lft → Fml
+    lent_claim = lent_at p (λ b o. visible_by b o right v β)

@@ -1,6 +1,6 @@
 -- What the word of a slot says, and how it may change.
 -- The low 32 bits count the readers. From 2 ^ 32 on further readers stay out, and from `taken` on somebody has the slot whole.
-use Rattle.std.specs.Prelude.{◌≡◌, ◌⊎◌, ℕ, ◌+◌, ◌-◌, ◌%◌, ◌<◌, ◌≤◌}
+use Rattle.std.specs.Prelude.{◌≡◌, ◌≢◌, ◌⊎◌, ℕ, ◌+◌, ◌-◌, ◌%◌, ◌<◌, ◌≤◌}
 
 -- the rights of a claim; 0 is the right to nothing
 abbrev pub shared : ℕ
@@ -22,6 +22,10 @@ IsTurn old new = (old < taken) × (((new ≡ taken) × (readers old ≡ 0)) ⊎ 
 -- the right that such a change gains
 abbrev pub Gains : ℕ → ℕ → ℕ → Type 0
 Gains old new right = (new ≡ taken → right ≡ whole) × (new < taken → right ≡ readers new - readers old)
+
+-- what an attempt at such a change gains that found `word`
+abbrev pub Outcome : ℕ → ℕ → ℕ → ℕ → Type 0
+Outcome old new word right = (word ≡ old → Gains old new right) × (word ≢ old → right ≡ 0)
 
 -- what a claim with a right has added to the word
 abbrev pub IsWeight : ℕ → ℕ → Type 0

@@ -8,10 +8,10 @@
 //! says that somebody has it.
 #![tactic(auto)]
 
-ghost use Rattle.std.specs.Prelude.{◌≡◌, ◌≢◌, ℕ, Option, Some, IfSome};
+ghost use Rattle.std.specs.Prelude.{◌≡◌, ℕ, Option, Some, IfSome};
 ghost use Rattle.std.specs.Coded.{coded_option};
-ghost use Rattle.lasso_slot.specs.Words.{IsTurn, IsWeight, Gains, shared, whole};
-ghost use Rattle.lasso_slot.specs.Slots.{slot_owns, slot_shares, claim_owns, claim_shares};
+ghost use Rattle.lasso_slot.specs.Words.{IsTurn, IsWeight, Gains, Outcome, shared, whole};
+ghost use Rattle.lasso_slot.specs.Slots.{owned_slot, shared_slot, claimed, lent_claim};
 
 use atomic_table::exchange;
 use std::marker::{Brand, Model, Move, Owns, PhantomData};
@@ -47,8 +47,8 @@ impl<X: Fits> Fits for Option<X> {
 
 /// A value and its word. A contract sees the slot's tag.
 pub struct Slot<X: Fits> {
-    word: u64,
-    value: X,
+    state: u64,
+    content: X,
 }
 
 impl<X: Fits> Owns for Slot<X> {
@@ -56,26 +56,26 @@ impl<X: Fits> Owns for Slot<X> {
 
     ghost coded = { X.Tag.code };
 
-    ghost shr_at = { λ tag p κ. slot_shares X.row (X.fits tag) p κ };
+    ghost shr_at = { λ tag. shared_slot X.row (X.fits tag) };
 }
 
 impl<X: Fits> Move for Slot<X> {
-    ghost own_val = { λ tag vs. slot_owns X.row (X.fits tag) (λ n x. Fields.own_val (record { word = n; value = x }) vs) };
+    ghost own_val = { λ tag vs. owned_slot X.row (X.fits tag) (λ w x. Fields.own_val (record { state = w; content = x }) vs) };
 }
 
 /// What a thread may do with a slot: `right` is `whole`, `shared`, or 0 for nothing. A claim can't be dropped: it ends by `give_back`.
 pub struct Claim<'a, X: Fits> {
-    slot: *const Slot<X>,
-    marker: PhantomData<&'a X>,
-    pub ghost tag: { X.Tag } by { X.Tag.code },
+    place: *const Slot<X>,
+    borrow: PhantomData<&'a X>,
     pub ghost right: { ℕ },
+    pub ghost tag: { X.Tag } by { X.Tag.code },
     pub ghost value: { Option X } by { coded_option X.code },
 }
 
 impl<'a, X: Fits> Model for Claim<'a, X> {
-    ghost also_owns = { λ c. claim_owns 'a X.row (X.fits c.tag) c.slot c.right c.value };
+    ghost also_owns = { λ c. claimed X.row (X.fits c.tag) 'a c.place c.right c.value };
 
-    ghost also_shares = { λ c _ κ. claim_shares 'a X.row (X.fits c.tag) c.slot c.right c.value κ };
+    ghost also_shares = { λ c _. lent_claim X.row (X.fits c.tag) 'a c.place c.right c.value };
 }
 
 impl<X: Fits> Slot<X> {
@@ -85,15 +85,18 @@ impl<X: Fits> Slot<X> {
         ensures { result ≡ tag.now }
     {
         let _ = tag;
-        Slot { word: 0, value }
+        Slot {
+            state: FREE,
+            content: value,
+        }
     }
 
     /// The value of a slot that nobody shares any more.
     pub fn into_inner(self) -> X
         ensures { X.fits self result }
     {
-        let Self { word: _, value } = self;
-        value
+        let Slot { state: _, content } = self;
+        content
     }
 
     /// Claims the whole slot if nobody has a claim and nobody waits. It doesn't look first, so it takes one step.
@@ -131,7 +134,7 @@ impl<X: Fits> Slot<X> {
     pub fn keep_readers_out(&self) {
         let word = self.look();
         if word < MARKED {
-            let (_found, claim) = self.turn(word, word + MARKED);
+            let (claim, _found) = self.attempt(word, word + MARKED);
             claim.done();
         }
     }
@@ -141,7 +144,7 @@ impl<X: Fits> Slot<X> {
         requires { IsTurn old new }
         ensures { IfSome result (λ c. Gains old new c.right × (c.tag ≡ self.now)) }
     {
-        let (found, claim) = self.turn(old, new);
+        let (claim, found) = self.attempt(old, new);
         if found == old {
             Some(claim)
         } else {
@@ -152,20 +155,20 @@ impl<X: Fits> Slot<X> {
 
     // The word, which other threads may change at any time.
     fn look(&self) -> u64 {
-        unsafe { raw::load::<Brand>(&raw const self.word, SeqCst) }
+        unsafe { raw::load::<Brand>(&raw const self.state, SeqCst) }
     }
 
-    // Changes the word from `old` to `new` in one step. Returns the word that it found, with the claim that it gained.
-    fn turn(&self, old: u64, new: u64) -> (u64, Claim<'_, X>)
+    // Changes the word from `old` to `new` in one step. Returns the claim that it gained, with the word that it found.
+    fn attempt(&self, old: u64, new: u64) -> (Claim<'_, X>, u64)
         requires { IsTurn old new }
-        ensures { (result.0 ≡ old → Gains old new result.1.right) × (result.0 ≢ old → result.1.right ≡ 0) × (result.1.tag ≡ self.now) }
+        ensures { Outcome old new result.1 result.0.right × (result.0.tag ≡ self.now) }
     {
-        let found = unsafe { exchange::<Brand>(&raw const self.word, old, new) };
+        let found = unsafe { exchange::<Brand>(&raw const self.state, old, new) };
         let claim = Claim {
-            slot: self,
-            marker: PhantomData,
+            place: self,
+            borrow: PhantomData,
         };
-        (found, claim)
+        (claim, found)
     }
 }
 
@@ -175,7 +178,7 @@ impl<'a, X: Fits> Claim<'a, X> {
         requires { self.now.right ≡ shared }
         ensures { (Some result.now ≡ self.now.value) × X.fits self.now.tag result.now }
     {
-        unsafe { &(*self.slot).value }
+        unsafe { &(*self.place).content }
     }
 
     /// Puts `value` into the slot, and returns the value that was there.
@@ -183,16 +186,16 @@ impl<'a, X: Fits> Claim<'a, X> {
         requires { (self.right ≡ whole) × X.fits self.tag value }
         ensures { (result.0.right ≡ whole) × (result.0.tag ≡ self.entry.tag) × X.fits self.entry.tag result.1 }
     {
-        let Claim { slot, marker: _ } = self;
+        let Claim { place, borrow: _ } = self;
         let old = unsafe {
-            let at = &raw const (*slot).value as *mut X;
-            let old = at.read();
-            at.write(value);
+            let content = &raw const (*place).content as *mut X;
+            let old = content.read();
+            content.write(value);
             old
         };
         let claim = Claim {
-            slot,
-            marker: PhantomData,
+            place,
+            borrow: PhantomData,
         };
         (claim, old)
     }
@@ -215,15 +218,18 @@ impl<'a, X: Fits> Claim<'a, X> {
     fn done(self)
         requires { self.right ≡ 0 }
     {
-        let Claim { slot: _, marker: _ } = self;
+        let Claim {
+            place: _,
+            borrow: _,
+        } = self;
     }
 
     // Takes what the claim added to the word off it again, in one step.
     fn lower(self, by: u64)
         requires { IsWeight self.right by }
     {
-        let Claim { slot, marker: _ } = self;
-        unsafe { raw::fetch_sub::<Brand>(&raw const (*slot).word, by, SeqCst) };
+        let Claim { place, borrow: _ } = self;
+        unsafe { raw::fetch_sub::<Brand>(&raw const (*place).state, by, SeqCst) };
     }
 }
 

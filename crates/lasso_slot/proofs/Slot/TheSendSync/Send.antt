@@ -5,4 +5,4 @@ use Rattle.lasso_slot.specs.declared.Fits.{Ghosts}
 use Rattle.lasso_slot.specs.contracts.Slot.{the_row}
 
 pub send : (T G : RattleType) (g : Ghosts T.Denot G.Denot) → IsSend T → IsSend (the_row T G g)
-send T G g s = record { owned = λ tag vs. ((λ _. tt), λ x. ((λ vss. (tt, ((tt, tt), (s.owned x.1 vss.1.0, tt)))), λ _. tt)); leaving = λ κ tag w. tt }
+send T G g s = record { owned = λ tag vs. ((λ _. tt), λ w x. ((λ _. tt), λ vss. (tt, ((tt, tt), (s.owned x vss.1.0, tt))))); leaving = λ κ tag w. tt }
