@@ -34,7 +34,7 @@ pub struct ColumnTimings {
     pub encode_shared: [u64; MOST_THREADS],
     /// To encode texts that were cut before, once more, when the memory of earlier calls was freed.
     pub encode_again: u64,
-    /// To encode texts in parts by so many workers.
+    /// To encode texts in parts, with this number of workers.
     pub encode_in_parts: [u64; 3],
     /// To encode each quarter of the texts into an interner of its own, one after another.
     pub private_alone: u64,
@@ -174,7 +174,7 @@ fn time_again<R: AllocGlobal + Clock>(rt: &R, lines: &[&str], codes: &[u32]) -> 
     Ok(tenths_a_call(elapsed, codes.len()))
 }
 
-// Encodes the lines, which have these codes, in parts by so many workers.
+// Encodes the lines, which have these codes, in parts, with `workers` workers.
 fn time_in_parts<R: AllocGlobal + Clock + Threads + Sync>(
     rt: &R,
     lines: &[&str],

@@ -106,7 +106,7 @@ fn print_rounds<R: AllocGlobal + Clock + Print>(rt: &R) -> Result<()> {
     print_round(rt, MANY_TEXTS)
 }
 
-// Times one round of single calls over so many texts, and prints a line for each call: the count, the call, and the time.
+// Times one round of single calls over `count` texts. Prints a line for each call: the count, the call, and the time.
 fn print_round<R: AllocGlobal + Clock + Print>(rt: &R, count: u32) -> Result<()>
     requires { 0 < count }
 {
@@ -217,7 +217,7 @@ fn print_calls(rt: &impl Print, call: &str, tenths: [u64; 3]) -> Result<()> {
     Ok(())
 }
 
-// Prints the time of a call with so many threads, which is given in tenths of a nanosecond.
+// Prints the time of a call with `threads` threads, which is given in tenths of a nanosecond.
 fn print_call(rt: &impl Print, call: &str, threads: usize, tenths: u64) -> Result<()> {
     let whole = tenths / 10;
     let tenth = tenths % 10;

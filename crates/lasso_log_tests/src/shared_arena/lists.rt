@@ -86,7 +86,7 @@ fn a_new_list_has_the_first_bucket(rt: HostRuntime) -> Result<(), Fail> {
 // How often a test looks for a bucket. `find` would wait for ever for one that got lost.
 const TURNS: u32 = 1000;
 
-// Whether a walk finds a later bucket of so many bytes.
+// Whether a walk finds a later bucket of this size, in bytes.
 fn is_there(list: &BucketList<Spur>, bytes: u64) -> bool {
     for _ in 0..TURNS {
         for (_, bucket) in list.later() {
