@@ -9,13 +9,12 @@ use Rattle.std.proofs.lemmas.Option.{slice_get_within}
 use Rattle.serde_json.specs.Data.{Data, string, items_depth, depth}
 use Rattle.serde_json.specs.View.{items_of}
 use Rattle.lasso_parts.proofs.IndexLaws.{slice_get-append_left}
-use Rattle.lasso_parts.specs.Account.{Account, store}
-use Rattle.lasso_parts.specs.Held.{Held}
 use Rattle.lasso_parts.specs.Json.{json_array}
 use Rattle.lasso_parts.specs.Texts.{Text, position_of, key_of}
 use Rattle.lasso_parts.specs.declared.util.LassoError.{LassoError}
-use Rattle.lasso_single.specs.Intern.{InternsIn, with_text, stored_or_refused, keyed_or_refused, found_or_new}
+use Rattle.lasso_single.specs.Intern.{InternsIn}
 use Rattle.lasso_single.specs.Interner.{InternerView}
+use Rattle.lasso_single.proofs.KeyLists.{list_left, key_left}
 use Rattle.lasso.specs.Interning.{with_last, InternsAmong}
 use Rattle.lasso.proofs.Interned.{key_resolves, key_interned, twice}
 
@@ -27,30 +26,14 @@ position_kept_of false texts text n kept at = slice_get-append_left texts (text 
 pub position_kept : (texts : List Text) (text : Text) (n : ℕ) (kept : Text) → slice_get texts n ≡ Some kept → slice_get (with_last texts text) n ≡ Some kept
 position_kept texts text n kept at = position_kept_of (is_some (position_of texts text)) texts text n kept at
 
-stored_list : (held left : Held) (text : Text) (s : Option Account) → stored_or_refused held text s ≡ Ok left → left.texts ≡ held.texts ++ text ∷ []
-stored_list held left text None h = cc
-stored_list held left text (Some a) h = let same : with_text held text a ≡ left = cc in ap (λ (x : Held). x.texts) (sym same)
-
-keyed_list : {K : Type 0} (first : ℕ) (held left : Held) (text : Text) (o : Option K) → keyed_or_refused first held text o ≡ Ok left → left.texts ≡ held.texts ++ text ∷ []
-keyed_list first held left text None h = cc
-keyed_list first held left text (Some k) h = stored_list held left text (store first held.account (length text)) h
-
-interned_list : {K : Type 0} (key_at : ℕ → Option K) (first : ℕ) (held left : Held) (text : Text) (o : Option ℕ) → found_or_new key_at first held text o ≡ Ok left → left.texts ≡ cond (is_some o) held.texts (held.texts ++ text ∷ [])
-interned_list key_at first held left text None h = keyed_list first held left text (key_at (length held.texts)) h
-interned_list key_at first held left text (Some n) h = let same : held ≡ left = cc in ap (λ (x : Held). x.texts) (sym same)
-
 module _ {K : Type 0} (key_at : ℕ → Option K) where
   -- an intern call of a `Rodeo` leaves the list with the text
   pub list_interned : (old new : InternerView) (text : Text) (k : K) → InternsIn key_at old text (Ok k) new → new.texts ≡ with_last old.texts text
-  list_interned old new text k h =
-      let held : Held = record { texts = old.texts; account = old.account } in
-      let left : Held = record { texts = new.texts; account = new.account } in
-      interned_list key_at old.first held left text (position_of old.texts text) h.0.0
+  list_interned old new text k h = list_left key_at old new text k h
 
   -- so its key is the text's in that list
   pub key_answered : (old new : InternerView) (text : Text) (k : K) → InternsIn key_at old text (Ok k) new → key_of key_at new.texts text ≡ Some k
-  key_answered old new text k h =
-      key_interned key_at old.texts new.texts text k (h.0.1, ap (λ (ts : List Text). Some ts) (list_interned old new text k h))
+  key_answered old new text k h = key_left key_at old new text k h
 
   -- and each text from before keeps its position, whatever the call answers
   pub texts_stay : (old new : InternerView) (text : Text) (reply : Result K LassoError) → InternsIn key_at old text reply new → (n : ℕ) (kept : Text) → slice_get old.texts n ≡ Some kept → slice_get new.texts n ≡ Some kept

@@ -2,7 +2,7 @@
 --
 -- Once a text is in the list, it stands at its position there: where it was found, or else last. So its key is that
 -- of its position, the key resolves to it, and a second call finds it again and changes nothing.
-use Rattle.std.proofs.Common.{ℕ, ◌≡◌, List, length, Option, Some, None, Ok, Err, IfSome, refl, ap, subst}
+use Rattle.std.proofs.Common.{ℕ, ◌≡◌, List, Option, Some, None, Ok, Err, IfSome, refl, ap, subst}
 use Rattle.std.specs.Prelude.{slice_get, option_and_then}
 use Rattle.lasso_parts.proofs.TextLemmas.{position_here, position_last}
 use Rattle.lasso_parts.specs.Texts.{Text, position_of, key_of}

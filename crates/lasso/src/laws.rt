@@ -1,8 +1,11 @@
-//! The laws of the definitions that contracts speak of: of the account that an interner for one thread
-//! keeps, and of the histories of one that threads share, with what its callers can rely on. Each is the
+//! The laws of the definitions that contracts speak of: of keys, capacities and limits, of the account that an
+//! interner for one thread keeps, and of the histories of one that threads share, with what its callers can rely on. Each is the
 //! contract of a function that does nothing.
 pub use lasso_parts::laws::{
-    capacities_compare_texts_first, store_never_grows_past_limit, store_refuses_exactly_past_limit,
+    capacities_compare_by_both, capacities_compare_texts_first, large_spur_number,
+    large_spurs_compare_by_position, limits_compare_by_bytes, micro_spur_number,
+    micro_spurs_compare_by_position, mini_spur_number, mini_spurs_compare_by_position, spur_number,
+    spurs_compare_by_position, store_never_grows_past_limit, store_refuses_exactly_past_limit,
     store_serves_as_worked,
 };
 pub use lasso_shared::laws::{

@@ -70,6 +70,7 @@ pub use lasso_single::commands::{Command, Reply, run_commands};
 pub use lasso_single::reader::RodeoReader;
 pub use lasso_single::resolver::RodeoResolver;
 pub use lasso_single::rodeo::Rodeo;
+pub use lasso_single::words::{are_distinct, have_keys};
 use std::alloc::Global;
 
 /// A `Rodeo` with `Spur` keys, the hasher of fixed seed and the global allocator.

@@ -1,7 +1,7 @@
 //! Times the interner beside a map and a set of the standard kind, the log of a shared one beside another list that
 //! threads share, and the shared one: with the word `measure` it prints the nanoseconds of a call of the first, with
 //! `round` those of one round of the interner and its frozen forms alone, with `refill` those of an interner that is cleared and filled
-//! again, with `shared` those of a call of the lists that are shared, with `interners` those of one round of the
+//! again, with `collide` those of filling one with texts that collide, with `shared` those of a call of the lists that are shared, with `interners` those of one round of the
 //! interner that threads share, over the lines of standard input; with `walks` those of walks over it and of freezing it; with `columns` those of encoding and decoding them; with
 //! `fill` it interns these lines as they come and prints how many texts there are; with `soak` and a number of seconds it has threads make
 //! random calls for so long and checks what they answer; with `small` it does all of this over a few texts and prints what the calls
@@ -11,6 +11,7 @@
 ghost use Rattle.std.specs.Prelude.{◌<◌};
 
 mod calls;
+mod collide;
 mod columns;
 mod copying;
 mod frozen;
@@ -29,6 +30,7 @@ mod walks;
 
 use anyhow::{Result, bail};
 use calls::{Plain, WithPass, fill};
+use collide::time_collisions;
 use columns::{MOST_THREADS, WORKERS, time_columns};
 use copying::{COPIES, best_copy_timings};
 use frozen::{FrozenSample, best_frozen_timings, frozen_round};
@@ -70,6 +72,7 @@ fn main(rt: HostRuntime) -> Result<()> {
         [word] if word.as_str() == "measure" => print_table(&rt),
         [word] if word.as_str() == "round" => print_rounds(&rt),
         [word] if word.as_str() == "refill" => print_refills(&rt),
+        [word] if word.as_str() == "collide" => print_collisions(&rt),
         [word] if word.as_str() == "shared" => print_shared(&rt),
         [word] if word.as_str() == "interners" => print_interners(&rt),
         [word] if word.as_str() == "walks" => print_walks(&rt),
@@ -78,7 +81,7 @@ fn main(rt: HostRuntime) -> Result<()> {
         [word] if word.as_str() == "small" => print_small(&rt),
         [word, seconds] if word.as_str() == "soak" => print_soak(&rt, seconds.as_str()),
         _ => bail!(
-            "usage: lasso_bench [measure|round|refill|shared|interners|walks|columns|fill|small|soak SECONDS]"
+            "usage: lasso_bench [measure|round|refill|collide|shared|interners|walks|columns|fill|small|soak SECONDS]"
         ),
     }
 }
@@ -141,6 +144,17 @@ fn print_refills<R: AllocGlobal + Clock + Print>(rt: &R) -> Result<()> {
     println!(rt; "{:<18}{:<18}{:>9}", "name", "round", "ns a text")?;
     print_line(rt, "Rodeo", "clear and fill", timings.refilled)?;
     print_line(rt, "Rodeo", "new and fill", timings.anew)
+}
+
+// Times interners that are filled with texts which collide under the fixed seed, and prints a line for each hasher and count.
+fn print_collisions<R: AllocGlobal + Clock + Print>(rt: &R) -> Result<()> {
+    println!(rt; "{:<18}{:<18}{:>9}", "hasher", "texts", "ns a text")?;
+    for (count, name) in [(2500, "2500"), (5000, "5000"), (10_000, "10000")] {
+        let timings = time_collisions(rt, count)?;
+        print_line(rt, "fixed seed", name, timings.fixed)?;
+        print_line(rt, "keyed", name, timings.keyed)?;
+    }
+    Ok(())
 }
 
 // Times frozen interners of so many texts, and prints a line for each operation.

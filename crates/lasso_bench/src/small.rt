@@ -1,6 +1,7 @@
 //! Everything that is timed, once over a few texts: what the calls answer is printed, so that a stored run can be compared with it. Each
 //! timing fails by itself where an answer is wrong.
 use crate::calls::{Calls, Plain, WithPass, fill};
+use crate::collide::time_collisions;
 use crate::columns::time_columns;
 use crate::copying::best_copy_timings;
 use crate::frozen::{FrozenSample, FrozenTexts, best_frozen_timings, keys_at, resolve_all};
@@ -40,6 +41,7 @@ pub fn print_small<R: AllocGlobal + Clock + Print + Threads + Wait + Sync>(rt: &
     print_interners(rt)?;
     print_walks(rt)?;
     time_columns(rt, LINES.as_bytes())?;
+    time_collisions(rt, 100)?;
     print_verdicts(rt)?;
     print_random_calls(rt)
 }

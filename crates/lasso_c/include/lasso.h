@@ -1,6 +1,9 @@
 /*
  * lasso: each distinct text once, and a small number for each text.
  *
+ * lasso_encode and lasso_decode turn one column of texts into codes and back. lasso_new makes an interner that is held from call
+ * to call: it is fed text by text or batch by batch, asked, saved by lasso_dictionary, and let go by lasso_free.
+ *
  * Texts cross as Arrow lays out arrays of strings: one buffer of bytes, UTF-8 and with no end marks, beside a buffer of
  * offsets, counted in bytes from the buffer's first. Text k is what lies from offset k up to offset k + 1, so n texts have
  * n + 1 offsets. The first offset may lie above 0, as in an array that was cut. No offset at all stands for no text. An
@@ -8,28 +11,38 @@
  *
  * For every call:
  * - Each length counts elements, not bytes: bytes of a uint8_t array, numbers of an int32_t or uint32_t array.
- * - The caller owns all memory. No pointer is kept when a call returns, and nothing is to be freed.
- * - No pointer is NULL, also where its length is 0, and each is aligned for its elements. An array has at least as many
- *   elements as its length says, and at most 2^63 - 1 bytes.
- * - Arrays that are written overlap no other array of the call.
- * - A call that refuses, whose status is not LASSO_DONE, writes nothing but *report. One that is done writes what is said
- *   below to the front of each output, and leaves the rest of it as it was.
+ * - The caller owns all memory. No pointer is kept when a call returns.
+ * - A pointer is aligned for its elements. It may be NULL where its length is 0; report is never NULL. (NULL is turned into
+ *   another pointer by inline functions of this header. A caller that does without the header, as ctypes, never passes NULL.)
+ * - An array has at least as many elements as its length says, and at most 2^63 - 1 bytes.
+ * - Nothing that is written overlaps anything else that is passed, *report neither.
+ * - A call that refuses, whose status is not LASSO_DONE, writes nothing but *report, and leaves its interner as it was;
+ *   lasso_intern_batch alone keeps the texts before the refused one. One that is done writes what is said below to the front
+ *   of each output, and leaves the rest of it as it was.
  * - Calls may run in several threads at once. What all of them only read they may share, as two that decode from one
  *   dictionary. What a call writes, nothing else reads or writes meanwhile.
  * - No call is made in a signal handler, nor in the forked child of a process with threads.
  *
- * lasso_encode takes memory from malloc and realloc, and gives it back before it returns. The others take none. The program's
- * malloc, realloc and free are one allocator, whose blocks are aligned to each power of two up to 16 that divides their
+ * lasso_encode takes memory from malloc and realloc, and gives it back before it returns. lasso_new, lasso_intern and
+ * lasso_intern_batch take memory that lasso_free gives back. The others take none. The program's malloc, realloc and free are
+ * one allocator, whose blocks are aligned to each power of two up to 16 that divides their
  * size, as to 8 for 24 bytes.
  *
- * lasso_encode hashes texts with a fixed seed. Whoever chooses the texts can make them collide: each search then takes time
- * linear in the number of distinct texts, and a call time quadratic in it.
+ * Chosen collisions: texts are hashed with a fixed seed, so whoever chooses the texts can make them collide. Each search then
+ * takes time linear in the number of distinct texts, and interning n of them time quadratic in n.
  *
- * What a call writes and answers is proved. What the caller owes is not, nor what is said here of threads and of memory.
+ * To link: liblasso_c.a, and after it the toolchain's liblibc_c.a. "make c" builds the first, and prints where both lie:
+ *
+ *     cc -I crates/lasso_c/include program.c crates/lasso_c/out/liblasso_c.a "$(dirname "$(rt doc)")/c/liblibc_c.a"
+ *
+ * It also writes out/lasso.pc for pkg-config. The header is good for C from C99 on and for C++.
+ *
+ * What a call writes and returns is proved. What the caller owes is not, nor what is said here of threads and of memory.
  */
 #ifndef LASSO_H
 #define LASSO_H
 
+#include <stdbool.h>
 #include <stddef.h>
 #include <stdint.h>
 
@@ -48,7 +61,11 @@ enum lasso_status {
     LASSO_CODES_TOO_SHORT = 6,   /* fewer codes have room than there are texts */
     LASSO_OFFSETS_TOO_SHORT = 7, /* fewer offsets have room than the texts written and one more */
     LASSO_BYTES_TOO_SHORT = 8,   /* fewer bytes have room than the texts written have */
-    LASSO_NO_MEMORY = 9          /* malloc gave none; of lasso_encode alone */
+    LASSO_NO_MEMORY = 9,         /* out of memory: malloc or realloc gave none */
+    LASSO_LIMIT_REACHED = 10,    /* the interner's limit leaves no room for a text */
+    LASSO_NO_CODE_LEFT = 11,     /* the interner has 2^32 - 1 texts, one for each code */
+    LASSO_NO_INTERNER = 12,      /* the handle holds no interner */
+    LASSO_NO_SUCH_TEXT = 13      /* the interner does not have the text */
 };
 
 /*
@@ -59,7 +76,10 @@ enum lasso_status {
  * LASSO_OFFSETS_FALL to
  * LASSO_TOO_MANY_BYTES:    at is the first text or code at which it was refused, counted from 0, and 0 where the first offset is
  *                          past the bytes; texts and bytes are 0.
- * LASSO_NO_MEMORY:         all three are 0.
+ * LASSO_NO_MEMORY,
+ * LASSO_NO_INTERNER:       all three are 0.
+ *
+ * lasso_intern_batch says below what it tells instead.
  */
 struct lasso_report {
     size_t texts;
@@ -110,6 +130,8 @@ uint32_t lasso_encode(const uint8_t *bytes, size_t bytes_length,
  * Lengths of what is written may be greater. A call with bytes_length 0 and an offset for each code and one more tells how many
  * bytes it needs: LASSO_BYTES_TOO_SHORT and report->bytes, or LASSO_DONE where that is none.
  *
+ * The whole dictionary is checked at each call, also where the codes name a few of its texts: decode many codes by one call.
+ *
  * The first of these that is so is the status: what is wrong with the dictionary, as in lasso_encode, LASSO_NO_SUCH_CODE or
  * LASSO_TOO_MANY_BYTES of the first wrong code, LASSO_OFFSETS_TOO_SHORT, LASSO_BYTES_TOO_SHORT; else LASSO_DONE.
  */
@@ -121,6 +143,112 @@ uint32_t lasso_decode(const uint8_t *dictionary_bytes, size_t dictionary_bytes_l
                       struct lasso_report *report);
 
 /*
+ * A handle: memory of the caller's that holds an interner or none. Begin it as LASSO_NONE, which is all zero. Nothing but the calls
+ * below writes to it. One call at a time uses it, readings too, in whichever thread; a lock, or a thread's start or join, comes
+ * between calls of two threads. It may be moved as memcpy moves it, if the copy that is left is not passed to a call again.
+ */
+struct lasso {
+    void *at;
+    bool live;
+};
+#define LASSO_NONE {NULL, false}
+
+/* No limit. */
+#define LASSO_NO_LIMIT SIZE_MAX
+
+/*
+ * Makes an interner without texts, whose buckets of texts take at most limit bytes. The first bucket has 4,096 bytes whatever the
+ * limit. Codes are given from 0 on. An interner that the handle holds is let go, once the new one is made.
+ *
+ * Status: LASSO_DONE, or LASSO_NO_MEMORY, and the handle holds what it held.
+ */
+uint32_t lasso_new(struct lasso *lasso, size_t limit);
+
+/*
+ * Interns a text: an absent one is appended. *code is its code, which it keeps until lasso_clear, lasso_new or lasso_free.
+ *
+ * Status: LASSO_NOT_UTF8; LASSO_NO_INTERNER; for an absent text LASSO_NO_CODE_LEFT, LASSO_LIMIT_REACHED, LASSO_NO_MEMORY; else
+ * LASSO_DONE.
+ */
+uint32_t lasso_intern(struct lasso *lasso, const uint8_t *text, size_t text_length, uint32_t *code);
+
+/*
+ * Interns the texts of a layout in their order, and writes a code for each. It stops at the first text that is refused: the texts
+ * before it stay, and their codes are written. report->texts is how many texts were interned, report->bytes is 0, and report->at
+ * is the number of the refused text, from 0; it is 0 where no text was refused.
+ *
+ * bytes, offsets      the caller's, read: as in lasso_encode.
+ * codes               the caller's, written. codes_length counts codes, one for each text; it may be greater.
+ *
+ * Status: LASSO_NO_INTERNER; LASSO_CODES_TOO_SHORT, and no text is interned; else that of the first refused text:
+ * LASSO_OFFSETS_FALL, LASSO_OFFSET_PAST_BYTES, LASSO_NOT_UTF8, or as in lasso_intern; else LASSO_DONE.
+ */
+uint32_t lasso_intern_batch(struct lasso *lasso,
+                            const uint8_t *bytes, size_t bytes_length,
+                            const int32_t *offsets, size_t offsets_length,
+                            uint32_t *codes, size_t codes_length,
+                            struct lasso_report *report);
+
+/*
+ * Looks a text up, and appends nothing: *code is its code.
+ *
+ * Status: LASSO_NOT_UTF8, LASSO_NO_INTERNER, LASSO_NO_SUCH_TEXT, else LASSO_DONE.
+ */
+uint32_t lasso_get(struct lasso *lasso, const uint8_t *text, size_t text_length, uint32_t *code);
+
+/*
+ * Writes the text of a code as far as text_length bytes have room, with no end mark. *whole is how many bytes the whole text has.
+ *
+ * Status: LASSO_NO_INTERNER, LASSO_NO_SUCH_CODE, else LASSO_DONE, also where the text is cut.
+ */
+uint32_t lasso_resolve(struct lasso *lasso, uint32_t code, uint8_t *text, size_t text_length, size_t *whole);
+
+/*
+ * Writes the layout of the interner's texts from a code on, in the order of their codes. From 0 it is the whole dictionary, and
+ * from the number of texts that a reader has, what the reader lacks. From a code that has no text on it is the layout of no text.
+ *
+ * bytes               the caller's, written: the texts' bytes. bytes_length counts bytes.
+ * offsets             the caller's, written: positions in bytes, of which the first is 0. offsets_length counts offsets, one
+ *                     more than texts.
+ *
+ * Lengths may be greater. A call without room tells the sizes, as LASSO_.._TOO_SHORT does. To save an interner write its dictionary;
+ * to load it, pass the dictionary to lasso_intern_batch of a new interner: each text gets its code again.
+ *
+ * Status: LASSO_NO_INTERNER; LASSO_TOO_MANY_BYTES where the texts have more than 2^31 - 1 bytes, and report->at is 0;
+ * LASSO_OFFSETS_TOO_SHORT; LASSO_BYTES_TOO_SHORT; else LASSO_DONE.
+ */
+uint32_t lasso_dictionary(struct lasso *lasso, size_t from,
+                          uint8_t *bytes, size_t bytes_length,
+                          int32_t *offsets, size_t offsets_length,
+                          struct lasso_report *report);
+
+/* How many texts the interner has. 0 without an interner. */
+size_t lasso_len(struct lasso *lasso);
+
+/* How many bytes the interner's buckets of texts take. 0 without an interner. */
+size_t lasso_memory(struct lasso *lasso);
+
+/* How many bytes they may take. 0 without an interner. */
+size_t lasso_limit(struct lasso *lasso);
+
+/*
+ * Sets how many bytes the buckets may take. A limit below what they take is good: texts then have the room that is left in them.
+ *
+ * Status: LASSO_NO_INTERNER, else LASSO_DONE.
+ */
+uint32_t lasso_set_limit(struct lasso *lasso, size_t limit);
+
+/*
+ * Forgets every text. Codes begin from 0 again. The limit stays, and so do the buckets that are filled again.
+ *
+ * Status: LASSO_NO_INTERNER, else LASSO_DONE.
+ */
+uint32_t lasso_clear(struct lasso *lasso);
+
+/* Gives the interner's memory back, if there is an interner. The handle is as LASSO_NONE then, so a second call does nothing. */
+void lasso_free(struct lasso *lasso);
+
+/*
  * Writes what a status means, in ASCII and with no end mark, as far as there is room. It returns how many bytes the whole
  * text has. It serves any number: that of no status is "not a status".
  *
@@ -128,6 +256,99 @@ uint32_t lasso_decode(const uint8_t *dictionary_bytes, size_t dictionary_bytes_l
  * text                the caller's, written: as much of the meaning as fits. text_length counts bytes.
  */
 size_t lasso_status_text(uint32_t status, uint8_t *text, size_t text_length);
+
+/*
+ * The calls by their names, with NULL for an array of no elements. The library itself never gets NULL.
+ */
+static inline const void *lasso_read_from(const void *array, size_t length)
+{
+    static const uint64_t nowhere = 0;
+    return length == 0 ? &nowhere : array;
+}
+
+static inline void *lasso_write_to(void *array, size_t length)
+{
+    static uint64_t nowhere;
+    return length == 0 ? &nowhere : array;
+}
+
+static inline uint32_t lasso_encode_inline(const uint8_t *bytes, size_t bytes_length,
+                                           const int32_t *offsets, size_t offsets_length,
+                                           uint32_t *codes, size_t codes_length,
+                                           uint8_t *dictionary_bytes, size_t dictionary_bytes_length,
+                                           int32_t *dictionary_offsets, size_t dictionary_offsets_length,
+                                           struct lasso_report *report)
+{
+    return lasso_encode((const uint8_t *)lasso_read_from(bytes, bytes_length), bytes_length,
+                        (const int32_t *)lasso_read_from(offsets, offsets_length), offsets_length,
+                        (uint32_t *)lasso_write_to(codes, codes_length), codes_length,
+                        (uint8_t *)lasso_write_to(dictionary_bytes, dictionary_bytes_length), dictionary_bytes_length,
+                        (int32_t *)lasso_write_to(dictionary_offsets, dictionary_offsets_length), dictionary_offsets_length,
+                        report);
+}
+#define lasso_encode lasso_encode_inline
+
+static inline uint32_t lasso_decode_inline(const uint8_t *dictionary_bytes, size_t dictionary_bytes_length,
+                                           const int32_t *dictionary_offsets, size_t dictionary_offsets_length,
+                                           const uint32_t *codes, size_t codes_length,
+                                           uint8_t *bytes, size_t bytes_length,
+                                           int32_t *offsets, size_t offsets_length,
+                                           struct lasso_report *report)
+{
+    return lasso_decode((const uint8_t *)lasso_read_from(dictionary_bytes, dictionary_bytes_length), dictionary_bytes_length,
+                        (const int32_t *)lasso_read_from(dictionary_offsets, dictionary_offsets_length), dictionary_offsets_length,
+                        (const uint32_t *)lasso_read_from(codes, codes_length), codes_length,
+                        (uint8_t *)lasso_write_to(bytes, bytes_length), bytes_length,
+                        (int32_t *)lasso_write_to(offsets, offsets_length), offsets_length,
+                        report);
+}
+#define lasso_decode lasso_decode_inline
+
+static inline size_t lasso_status_text_inline(uint32_t status, uint8_t *text, size_t text_length)
+{
+    return lasso_status_text(status, (uint8_t *)lasso_write_to(text, text_length), text_length);
+}
+#define lasso_status_text lasso_status_text_inline
+
+static inline uint32_t lasso_intern_inline(struct lasso *lasso, const uint8_t *text, size_t text_length, uint32_t *code)
+{
+    return lasso_intern(lasso, (const uint8_t *)lasso_read_from(text, text_length), text_length, code);
+}
+#define lasso_intern lasso_intern_inline
+
+static inline uint32_t lasso_intern_batch_inline(struct lasso *lasso,
+                                                 const uint8_t *bytes, size_t bytes_length,
+                                                 const int32_t *offsets, size_t offsets_length,
+                                                 uint32_t *codes, size_t codes_length,
+                                                 struct lasso_report *report)
+{
+    return lasso_intern_batch(lasso, (const uint8_t *)lasso_read_from(bytes, bytes_length), bytes_length,
+                              (const int32_t *)lasso_read_from(offsets, offsets_length), offsets_length,
+                              (uint32_t *)lasso_write_to(codes, codes_length), codes_length, report);
+}
+#define lasso_intern_batch lasso_intern_batch_inline
+
+static inline uint32_t lasso_get_inline(struct lasso *lasso, const uint8_t *text, size_t text_length, uint32_t *code)
+{
+    return lasso_get(lasso, (const uint8_t *)lasso_read_from(text, text_length), text_length, code);
+}
+#define lasso_get lasso_get_inline
+
+static inline uint32_t lasso_resolve_inline(struct lasso *lasso, uint32_t code, uint8_t *text, size_t text_length, size_t *whole)
+{
+    return lasso_resolve(lasso, code, (uint8_t *)lasso_write_to(text, text_length), text_length, whole);
+}
+#define lasso_resolve lasso_resolve_inline
+
+static inline uint32_t lasso_dictionary_inline(struct lasso *lasso, size_t from,
+                                               uint8_t *bytes, size_t bytes_length,
+                                               int32_t *offsets, size_t offsets_length,
+                                               struct lasso_report *report)
+{
+    return lasso_dictionary(lasso, from, (uint8_t *)lasso_write_to(bytes, bytes_length), bytes_length,
+                            (int32_t *)lasso_write_to(offsets, offsets_length), offsets_length, report);
+}
+#define lasso_dictionary lasso_dictionary_inline
 
 #ifdef __cplusplus
 }

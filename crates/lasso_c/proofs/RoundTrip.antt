@@ -42,7 +42,7 @@ behind : (front text : List ℕ) (at : ℕ) → at ≡ length front → at + len
 behind front text at e = omega (arith, length-append front text)
 
 -- texts are cut out again where they lie
-texts_back : (front : List ℕ) (texts : List Text) (at : ℕ) → at ≡ length front → layout_texts (front ++ concat texts) (offsets_from at texts) ≡ texts
+pub texts_back : (front : List ℕ) (texts : List Text) (at : ℕ) → at ≡ length front → layout_texts (front ++ concat texts) (offsets_from at texts) ≡ texts
 texts_back front [] at e = refl
 texts_back front (text ∷ texts) at e =
     let end = at + length text in

@@ -1,9 +1,9 @@
--- What decoding makes of what was encoded.
-use Rattle.std.specs.Prelude.{ℕ, ◌≡◌, ◌<◌, ◌≤◌, List, length, None, Ok}
+-- What decoding makes of what was encoded, and loading of what was saved.
+use Rattle.std.specs.Prelude.{ℕ, ◌≡◌, ◌<◌, ◌≤◌, List, [], length, slice_get, None, Some, Ok}
 use Rattle.std.specs.List.{concat}
-use Rattle.lasso_parts.specs.Texts.{Text, IsDistinct}
+use Rattle.lasso_parts.specs.Texts.{Text, IsDistinct, position_of}
 use Rattle.lasso_c.specs.Layout.{layout_texts, layout_fault, offsets_from}
-use Rattle.lasso_c.specs.Encoding.{dictionary_of, codes_of, sizes_of}
+use Rattle.lasso_c.specs.Encoding.{with_all_new, dictionary_of, codes_of, sizes_of}
 use Rattle.lasso_c.specs.Decoding.{texts_named, decoding_outcome}
 
 pub record DecodesBack (dictionary texts : List Text) (codes : List ℕ) : Type 0 where
@@ -22,3 +22,15 @@ DecodingUndoesEncoding = (bytes offsets : List ℕ) → layout_fault bytes offse
     let texts = layout_texts bytes offsets in
     let dictionary = dictionary_of texts in
     DecodesBack dictionary texts (codes_of dictionary texts)
+
+pub record LoadsBack (texts : List Text) : Type 0 where
+  -- the layout that is written of the texts has them
+  pub saved : layout_texts (concat texts) (offsets_from 0 texts) ≡ texts
+  -- a new interner that interns them has them in this order
+  pub loaded : with_all_new [] texts ≡ texts
+  -- and gives each the code that it had
+  pub coded : (code : ℕ) (text : Text) → slice_get texts code ≡ Some text → position_of texts text ≡ Some code
+
+-- an interner's texts, saved and loaded, have the same codes again
+abbrev pub LoadingUndoesSaving : Type 0
+LoadingUndoesSaving = (texts : List Text) → IsDistinct texts → LoadsBack texts

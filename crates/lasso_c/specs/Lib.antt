@@ -2,4 +2,6 @@ pub mod Layout
 pub mod Status
 pub mod Decoding
 pub mod Encoding
+pub mod Handles
+pub mod Held
 pub mod Laws

@@ -3,20 +3,28 @@ use Rattle.std.specs.Prelude.{ℕ, ◌≡◌, List, nat_eq, if◌then◌else◌,
 use Rattle.lasso_c.specs.declared.refusal.Sizes.{Sizes}
 use Rattle.lasso_c.specs.declared.refusal.LassoReport.{LassoReport}
 use Rattle.lasso_c.specs.declared.refusal.Refusal.{Refusal}
-use Rattle.lasso_c.specs.declared.refusal.Refusal.TheVariants.{OffsetsFall, OffsetPastBytes, NotUtf8, NoSuchCode, TooManyBytes, CodesTooShort, OffsetsTooShort, BytesTooShort, NoMemory}
+use Rattle.lasso_c.specs.declared.refusal.Refusal.TheVariants.{OffsetsFall, OffsetPastBytes, NotUtf8, NoSuchCode, TooManyBytes, CodesTooShort, OffsetsTooShort, BytesTooShort, NoMemory, LimitReached, NoCodeLeft, NoInterner, NoSuchText}
 
--- 0 where the call was done, and a number of its own for each kind of refusal
+-- a number of its own for each kind of refusal
+abbrev pub refusal_status : Refusal → ℕ
+refusal_status (OffsetsFall _) = 1
+refusal_status (OffsetPastBytes _) = 2
+refusal_status (NotUtf8 _) = 3
+refusal_status (NoSuchCode _) = 4
+refusal_status (TooManyBytes _) = 5
+refusal_status (CodesTooShort _) = 6
+refusal_status (OffsetsTooShort _) = 7
+refusal_status (BytesTooShort _) = 8
+refusal_status NoMemory = 9
+refusal_status (LimitReached _) = 10
+refusal_status (NoCodeLeft _) = 11
+refusal_status NoInterner = 12
+refusal_status NoSuchText = 13
+
+-- 0 where the call was done, and else the number of the refusal
 abbrev pub outcome_status : Result Sizes Refusal → ℕ
 outcome_status (Ok _) = 0
-outcome_status (Err (OffsetsFall _)) = 1
-outcome_status (Err (OffsetPastBytes _)) = 2
-outcome_status (Err (NotUtf8 _)) = 3
-outcome_status (Err (NoSuchCode _)) = 4
-outcome_status (Err (TooManyBytes _)) = 5
-outcome_status (Err (CodesTooShort _)) = 6
-outcome_status (Err (OffsetsTooShort _)) = 7
-outcome_status (Err (BytesTooShort _)) = 8
-outcome_status (Err NoMemory) = 9
+outcome_status (Err refusal) = refusal_status refusal
 
 -- a report of sizes alone
 abbrev pub sizes_report : Sizes → LassoReport
@@ -38,6 +46,10 @@ outcome_report (Err (CodesTooShort sizes)) = sizes_report sizes
 outcome_report (Err (OffsetsTooShort sizes)) = sizes_report sizes
 outcome_report (Err (BytesTooShort sizes)) = sizes_report sizes
 outcome_report (Err NoMemory) = position_report 0
+outcome_report (Err (LimitReached at)) = position_report at
+outcome_report (Err (NoCodeLeft at)) = position_report at
+outcome_report (Err NoInterner) = position_report 0
+outcome_report (Err NoSuchText) = position_report 0
 
 -- a status and a report are those of how a call ended
 abbrev pub Reports : Result Sizes Refusal → ℕ → LassoReport → Type 0
@@ -56,4 +68,8 @@ status_text status =
     else if nat_eq status 7 then codes "there is no room for the offsets"
     else if nat_eq status 8 then codes "there is no room for the bytes"
     else if nat_eq status 9 then codes "there is no memory"
+    else if nat_eq status 10 then codes "the limit leaves no room for a text"
+    else if nat_eq status 11 then codes "there is a text for each code"
+    else if nat_eq status 12 then codes "there is no interner"
+    else if nat_eq status 13 then codes "the interner does not have the text"
     else codes "not a status"

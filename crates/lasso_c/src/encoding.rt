@@ -123,7 +123,7 @@ fn write_dictionary(dictionary: &Dictionary, bytes: &mut [u8], offsets: &mut [u3
 }
 
 // The text of a code of the dictionary.
-fn text_at_code(dictionary: &Dictionary, code: usize) -> &str
+pub(crate) fn text_at_code(dictionary: &Dictionary, code: usize) -> &str
     requires { code < length dictionary.now.texts }
     ensures { slice_get dictionary.now.texts code ≡ Some result.now }
 {

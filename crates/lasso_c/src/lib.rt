@@ -12,11 +12,17 @@ ghost use Rattle.lasso_c.specs.Decoding.{texts_named, decoding_outcome};
 ghost use Rattle.lasso_c.specs.Status.{Reports, status_text};
 ghost use Rattle.lasso_c.specs.declared.refusal.Refusal.TheVariants.{NoMemory};
 
+mod batches;
 mod decoding;
 mod encoding;
+pub mod handle;
+pub mod interner;
+#[cfg(test)]
+mod interner_tests;
 pub mod laws;
 mod layout;
 pub mod refusal;
+pub mod slot;
 #[cfg(test)]
 mod tests;
 

@@ -1,6 +1,6 @@
 //! How a call ends: the sizes of what it wrote, or why it was refused. What C sees of either is a status and a report.
-ghost use Rattle.std.specs.Prelude.{◌≡◌};
-ghost use Rattle.lasso_c.specs.Status.{Reports, status_text};
+ghost use Rattle.std.specs.Prelude.{◌≡◌, ◌<◌};
+ghost use Rattle.lasso_c.specs.Status.{Reports, refusal_status, status_text};
 ghost use Rattle.lasso_c.specs.declared.refusal.Refusal.TheVariants.{NoMemory};
 
 use lasso_parts::util::LassoError;
@@ -35,6 +35,14 @@ pub enum Refusal {
     BytesTooShort(Sizes),
     /// The allocator gave no memory.
     NoMemory,
+    /// The limit of the interner leaves no room for the text.
+    LimitReached(usize),
+    /// The interner has as many texts as there are codes.
+    NoCodeLeft(usize),
+    /// The handle holds no interner.
+    NoInterner,
+    /// The interner does not have the text.
+    NoSuchText,
 }
 
 impl From<AllocError> for Refusal {
@@ -89,9 +97,48 @@ pub(crate) fn tell(outcome: &Result<Sizes, Refusal>, report: &mut LassoReport) -
         Err(Refusal::OffsetsTooShort(sizes)) => (7, sizes.texts, sizes.bytes, 0),
         Err(Refusal::BytesTooShort(sizes)) => (8, sizes.texts, sizes.bytes, 0),
         Err(Refusal::NoMemory) => (9, 0, 0, 0),
+        Err(Refusal::LimitReached(at)) => (10, 0, 0, *at),
+        Err(Refusal::NoCodeLeft(at)) => (11, 0, 0, *at),
+        Err(Refusal::NoInterner) => (12, 0, 0, 0),
+        Err(Refusal::NoSuchText) => (13, 0, 0, 0),
     };
     *report = LassoReport { texts, bytes, at };
     status
+}
+
+// The report of a batch: how many of its texts were interned, and where one was refused, if one was.
+pub(crate) fn batch_report(texts: usize, at: usize) -> LassoReport
+    ensures texts { result.texts ≡ texts }
+    ensures bytes { result.bytes ≡ 0 }
+    ensures at { result.at ≡ at }
+{
+    LassoReport {
+        texts,
+        bytes: 0,
+        at,
+    }
+}
+
+// The status of a refusal.
+pub(crate) fn status_of(refusal: &Refusal) -> u32
+    ensures status { result ≡ refusal_status refusal.now }
+    ensures refused { 0 < result }
+{
+    match refusal {
+        Refusal::OffsetsFall(_) => 1,
+        Refusal::OffsetPastBytes(_) => 2,
+        Refusal::NotUtf8(_) => 3,
+        Refusal::NoSuchCode(_) => 4,
+        Refusal::TooManyBytes(_) => 5,
+        Refusal::CodesTooShort(_) => 6,
+        Refusal::OffsetsTooShort(_) => 7,
+        Refusal::BytesTooShort(_) => 8,
+        Refusal::NoMemory => 9,
+        Refusal::LimitReached(_) => 10,
+        Refusal::NoCodeLeft(_) => 11,
+        Refusal::NoInterner => 12,
+        Refusal::NoSuchText => 13,
+    }
 }
 
 // What a status means.
@@ -109,6 +156,10 @@ pub(crate) fn message_of(status: u32) -> &'static str
         7 => "there is no room for the offsets",
         8 => "there is no room for the bytes",
         9 => "there is no memory",
+        10 => "the limit leaves no room for a text",
+        11 => "there is a text for each code",
+        12 => "there is no interner",
+        13 => "the interner does not have the text",
         _ => "not a status",
     }
 }

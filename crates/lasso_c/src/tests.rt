@@ -207,6 +207,64 @@ fn counts_past_the_greatest_offset(rt: HostRuntime) -> Result<(), Fail> {
     Ok(())
 }
 
+const TEXTS: u32 = 1000;
+
+const DISTINCT: u32 = 250;
+
+// The number that the text at this position prints. 79 and 250 have no common factor, so 250 texts in a row have 250 numbers.
+fn number_at(position: u32) -> u32 {
+    position % DISTINCT * 79 % DISTINCT
+}
+
+// The bytes and the offsets of the texts at this many positions.
+fn printed<R: AllocGlobal>(rt: &R, count: u32) -> Result<(Vec<u8>, Vec<u32>), Fail> {
+    let mut bytes = Vec::new(rt.alloc());
+    let mut offsets = vec![in rt.alloc(); 0u32]?;
+    for position in 0..count {
+        let text = format!(in rt.alloc(); "{}", number_at(position))?;
+        bytes.extend_from_slice(text.as_bytes())?;
+        let Ok(end) = u32::try_from(bytes.len()) else {
+            return Err(Fail::from("too many bytes"));
+        };
+        offsets.push(end)?;
+    }
+    Ok((bytes, offsets))
+}
+
+// The first 250 texts are new, and the others come again in the same order.
+#[test]
+fn a_thousand_texts_are_encoded_and_decoded(rt: HostRuntime) -> Result<(), Fail> {
+    let (bytes, offsets) = printed(&rt, TEXTS)?;
+    let (new_bytes, new_offsets) = printed(&rt, DISTINCT)?;
+    let mut codes = vec![in rt.alloc(); 9u32; 1000]?;
+    let mut dictionary = vec![in rt.alloc(); 9u8; new_bytes.len()]?;
+    let mut ends = vec![in rt.alloc(); 9u32; 251]?;
+    let told = encode(
+        &rt,
+        &bytes,
+        &offsets,
+        &mut codes,
+        &mut dictionary,
+        &mut ends,
+    )?;
+    assert!(rt; told == (0, (250, new_bytes.len(), 0)));
+    assert!(rt; dictionary.as_slice() == new_bytes.as_slice());
+    assert!(rt; ends.as_slice() == new_offsets.as_slice());
+    let mut position = 0u32;
+    for code in &codes {
+        assert!(rt; *code == position % DISTINCT);
+        position = position.wrapping_add(1);
+    }
+
+    let mut back = vec![in rt.alloc(); 9u8; bytes.len()]?;
+    let mut back_ends = vec![in rt.alloc(); 9u32; 1001]?;
+    let told = decode(&dictionary, &ends, &codes, &mut back, &mut back_ends);
+    assert!(rt; told == (0, (1000, bytes.len(), 0)));
+    assert!(rt; back.as_slice() == bytes.as_slice());
+    assert!(rt; back_ends.as_slice() == offsets.as_slice());
+    Ok(())
+}
+
 // Writes what the status means, and answers how many bytes that has.
 fn status_text(status: u32, text: &mut [u8]) -> usize {
     lasso_status_text(status, text)

@@ -1,8 +1,8 @@
 -- What encoding texts answers and leaves.
-use Rattle.std.specs.Prelude.{ℕ, ◌≡◌, ◌-◌, ◌⊎◌, List, length, take, Option, Err, IsSomeAnd, slice_get}
+use Rattle.std.specs.Prelude.{ℕ, ◌≡◌, ◌-◌, ◌≤◌, ◌⊎◌, List, length, take, Option, None, Err, IsOk, IsSomeAnd, Vec, slice_get, vec_capacity, vec_len}
 use Rattle.lasso_parts.specs.Kept.{kept_at}
 use Rattle.lasso_parts.specs.Held.{Held}
-use Rattle.lasso_parts.specs.Texts.{Text}
+use Rattle.lasso_parts.specs.Texts.{Text, position_of}
 use Rattle.lasso_parts.specs.declared.util.LassoError.{LassoError}
 use Rattle.lasso_parts.specs.declared.util.LassoErrorKind.TheVariants.{FailedAllocation}
 use Rattle.lasso_single.specs.Intern.{interned}
@@ -26,3 +26,19 @@ IsRefused now text error =
 abbrev pub IsNextRefused : InternerView → List ℕ → List ℕ → List Text → LassoError → Type 0
 IsNextRefused now before after texts error =
     IsSomeAnd (slice_get texts (length after - length before)) (λ text. IsRefused now text error)
+
+-- the text is absent, and neither the keys nor the limit refuse it
+abbrev pub IsAdmitted : InternerView → Text → Type 0
+IsAdmitted now text =
+    (position_of now.texts text ≡ None) × IsOk (interned spur_at now.first (record { texts = now.texts; account = now.account }) text)
+
+-- When memory may be wanting, once these codes are there: they have no room for one more, or the text is absent and
+-- admitted. So a limit or the want of a key is told as such where there is room for a code, and a present text is not
+-- refused there.
+abbrev pub MayLackMemory : {A : Type 0} → InternerView → Vec ℕ A → Text → LassoError → Type 0
+MayLackMemory now codes text error = error ≡ FailedAllocation → (vec_capacity codes ≤ vec_len codes) ⊎ IsAdmitted now text
+
+-- the same of the text behind those that were encoded
+abbrev pub MayLackMemoryNext : {A : Type 0} → InternerView → List ℕ → Vec ℕ A → List Text → LassoError → Type 0
+MayLackMemoryNext now before codes texts error =
+    IsSomeAnd (slice_get texts (length codes.items - length before)) (λ text. MayLackMemory now codes text error)

@@ -4,7 +4,7 @@ ghost use Rattle.lasso_parts.specs.Texts.{position_of};
 ghost use Rattle.lasso_single.specs.Filling.{extend};
 ghost use Rattle.lasso_single.specs.Intern.{InternsIn};
 ghost use Rattle.lasso_columns.specs.Codes.{AddsCodes};
-ghost use Rattle.lasso_columns.specs.Encoding.{spur_at, encoded_texts, IsRefused, IsNextRefused};
+ghost use Rattle.lasso_columns.specs.Encoding.{spur_at, encoded_texts, IsRefused, IsNextRefused, MayLackMemory, MayLackMemoryNext};
 ghost use Rattle.lasso_columns.specs.Faults.{IsFaultOf, IsNextFault};
 ghost use Rattle.lasso_columns.specs.Lines.{lines_of};
 
@@ -18,9 +18,10 @@ use std::str::from_utf8;
 /// Interns the texts in order, and puts their codes behind those that are there: the positions that they then have
 /// in the interner's list, and keep.
 ///
-/// The first text that is refused ends it, for want of keys, for the memory limit, or for want of memory for the text or for its
-/// code. The texts before it are interned and have their codes, and no text after it is taken; so the number of codes tells
-/// which text it is.
+/// The first text that is refused ends it. The limit and the keys refuse a text as `Rodeo::try_get_or_intern` says. Out of memory
+/// (`FailedAllocation`) comes only where `codes` is full and can't grow, or for an absent text that neither the keys nor the limit
+/// refuse. So a present text is refused only where `codes` is full. The texts before the refused one are interned and have their
+/// codes, and no text after it is taken; so the number of codes tells which text it is.
 ///
 /// ```rust
 /// let mut rodeo: SpurRodeo = Rodeo::default(rt.alloc())?;
@@ -37,6 +38,7 @@ pub fn encode<S: BuildHasher, A: Allocator + Clone>(
     ensures codes { AddsCodes rodeo.new.texts (encoded_texts codes.old.items codes.new.items (map (λ t. t.now) texts.now)) codes.old.items codes.new.items }
     ensures whole { OnOk result (vec_len codes.new ≡ vec_len codes.old + length texts.now) }
     ensures refused { IfErr result (IsNextRefused rodeo.new codes.old.items codes.new.items (map (λ t. t.now) texts.now)) }
+    ensures memory { IfErr result (MayLackMemoryNext rodeo.new codes.old.items codes.new (map (λ t. t.now) texts.now)) }
 {
     // Where there is no memory for the codes of all texts, each asks for its own.
     let _ = codes.reserve(texts.len());
@@ -109,7 +111,7 @@ pub(crate) fn encode_text<S: BuildHasher, A: Allocator + Clone>(
     ensures { MatchResult result
         (λ _. ((key : ℕ) × InternsIn {K = ℕ} spur_at rodeo.old text.now (Ok key) rodeo.new)
         × ((code : ℕ) × (position_of rodeo.new.texts text.now ≡ Some code) × (codes.new.items ≡ codes.old.items ++ code ∷ [])))
-        (λ error. (rodeo.new ≡ rodeo.old) × (codes.new.items ≡ codes.old.items) × IsRefused rodeo.old text.now error) }
+        (λ error. (rodeo.new ≡ rodeo.old) × (codes.new.items ≡ codes.old.items) × IsRefused rodeo.old text.now error × MayLackMemory rodeo.old codes.new text.now error) }
 {
     codes.reserve(1)?;
     let key = rodeo.try_get_or_intern(text)?;

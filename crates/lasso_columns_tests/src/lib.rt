@@ -10,6 +10,8 @@ mod columns;
 mod examples;
 pub mod limited;
 #[cfg(test)]
+mod long_columns;
+#[cfg(test)]
 mod numbered;
 #[cfg(test)]
 mod parts;

@@ -13,7 +13,7 @@ const TWENTY: [&str; 20] = [
 ];
 
 // There is a code for each text, and it resolves to it.
-fn stand_for<R: Abort>(
+pub(super) fn stand_for<R: Abort>(
     rt: &R,
     rodeo: &SpurThreadedRodeo,
     codes: &[u32],

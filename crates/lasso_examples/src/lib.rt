@@ -12,6 +12,7 @@ mod front_page;
 mod frozen;
 #[cfg(test)]
 mod interfaces;
+pub mod keyed;
 #[cfg(test)]
 mod looking_up;
 #[cfg(test)]

@@ -3,8 +3,7 @@
 -- Where the search finds a line feed, the bytes are a line's end, the feed, and what is behind it. So a line that is
 -- answered leads from the bytes to those behind it, whatever comes after them, by the definition of the report. Where
 -- the search finds none, nothing is answered, and all bytes are held.
-use Rattle.std.proofs.Common.{ℕ, suc, zero, ◌≡◌, ◌+◌, ◌-◌, ◌<◌, ◌≤◌, ◌==◌, Ok, Err, true, List, [], ◌∷◌, ◌++◌, length, take, drop, Some, None, ap, sym, subst, ◌∙◌, refl, arith, append_assoc, add-one, length-drop}
-use Rattle.std.specs.List.{slice_index}
+use Rattle.std.proofs.Common.{ℕ, ◌≡◌, ◌+◌, ◌<◌, Ok, Err, List, [], ◌∷◌, ◌++◌, length, take, drop, Some, ap, sym, subst, ◌∙◌, refl, arith, append_assoc}
 use Rattle.memchr.specs.Find.{IsFirstByte, is_byte}
 use Rattle.lasso_lines.specs.Stretch.{LeadsTo, FailsWith}
 use Rattle.lasso_parts.specs.Held.{Held}
@@ -17,7 +16,6 @@ use Rattle.lasso_lines.specs.declared.fault.RunFault.{RunFault}
 use Rattle.lasso_lines.specs.declared.fault.RunFault.TheVariants.{Refused}
 use Rattle.lasso_lines.proofs.Ways.{ends_after, line_fails}
 use Rattle.lasso_lines.proofs.Lines.{lines_some}
-use Rattle.std.proofs.lemmas.Bool.Decides.{nat_tests}
 
 pub held_no_feed : (begun bytes held : List ℕ) → held ≡ begun ++ bytes → NoFeed begun → NoFeed bytes → NoFeed held
 held_no_feed begun bytes held is none none' = subst NoFeed (sym is) (no_feed_both begun bytes none none')

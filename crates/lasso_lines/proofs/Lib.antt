@@ -6,3 +6,12 @@ pub mod Numbers
 pub mod Settings
 pub mod Buffers
 pub mod Tested
+pub mod Fronts
+pub mod Sorted
+pub mod Chosen
+pub mod Parts
+pub mod ShareLines
+pub mod Listed
+pub mod Named
+pub mod Told
+pub mod InOrder

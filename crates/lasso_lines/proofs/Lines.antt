@@ -1,12 +1,11 @@
 -- The lines of bytes, and what answering one of them gives.
 --
 -- Bytes without a line feed are the last line, where nothing is behind them, unless there are none.
-use Rattle.std.proofs.Common.{ℕ, suc, zero, ◌≡◌, ◌-◌, ◌<◌, ◌==◌, ◌⊎◌, inl, inr, Bool, true, false, cond, List, [], ◌∷◌, ◌++◌, take, Some, Result, Ok, Err, decimal, ap, sym, subst, ◌∙◌, refl, arith}
-use Rattle.std.specs.List.{onto_first, slice_index}
+use Rattle.std.proofs.Common.{ℕ, ◌≡◌, ◌-◌, ◌⊎◌, inl, inr, Bool, true, false, cond, List, [], ◌∷◌, ◌++◌, Some, Result, Ok, Err, decimal, ap, sym, subst, ◌∙◌, refl}
+use Rattle.std.specs.List.{onto_first}
 use Rattle.std.specs.Str.{IsUtf8}
 use Rattle.std.proofs.lemmas.Str.{IsUtf8-from_is_utf8, is_utf8-from_IsUtf8}
 use Rattle.std.proofs.lemmas.Bool.{false_from_ne_true}
-use Rattle.std.proofs.lemmas.Option.{cond_some}
 use Rattle.lasso_parts.specs.declared.util.LassoError.{LassoError}
 use Rattle.lasso_parts.specs.declared.util.LassoErrorKind.TheVariants.{FailedAllocation}
 use Rattle.lasso_parts.specs.Held.{Held}

@@ -164,7 +164,7 @@ drop_front [] back = refl
 drop_front (x ∷ front) back = drop_front front back
 
 -- the bytes shown, and those that are left behind them
-all_shown : (shown left : List ℕ) → Begins shown left → left ≡ shown ++ drop (length shown) left
+pub all_shown : (shown left : List ℕ) → Begins shown left → left ≡ shown ++ drop (length shown) left
 all_shown shown left begins = begins.1 ∙ ap (λ bs. shown ++ bs) (sym (ap (λ bs. drop (length shown) bs) begins.1 ∙ drop_front shown begins.0))
 
 -- however the lines of the held and the left bytes end, so ends the whole input

@@ -1,5 +1,6 @@
 //! A whole input, and its lines.
-ghost use Rattle.std.specs.Prelude.{◌≡◌, ◌+◌, [], OnOk, IfErr};
+ghost use Rattle.std.specs.Prelude.{◌≡◌, ◌+◌, ◌++◌, ◌∷◌, ℕ, List, [], Some, OnOk, IfOk, IfErr, map};
+ghost use Rattle.lasso_columns.specs.Lines.{lines_of};
 ghost use Rattle.lasso_lines.specs.Stream.{Stays, Ended};
 ghost use Rattle.lasso_lines.specs.Answer.{IsInputFault, IsLineFault, failed_reads};
 
@@ -19,6 +20,7 @@ pub(crate) fn read_all<R: Wait, I: ByteReader>(
     ensures whole { OnOk result (Ended (I.left reader.old) (I.left reader.new)) }
     ensures reads { I.failures reader.new ≡ I.failures reader.old + failed_reads result }
     ensures faults { IfErr result IsInputFault }
+    ensures bytes { (left : List ℕ) → I.left reader.old ≡ Some left → OnOk result (input.new.items ≡ input.old.items ++ left) }
 {
     'parts: for _ in rt.forever() {
         let shown = reader.shown();
@@ -52,6 +54,7 @@ pub(crate) fn cut<'a, R: AllocGlobal + Wait>(
     input: &'a [u8],
 ) -> Result<Vec<&'a str>, RunFault>
     ensures faults { IfErr result IsLineFault }
+    ensures lines { IfOk result (λ lines. map (λ t. t.now) lines.items ≡ lines_of input.now) }
 {
     let mut lines = Vec::new(rt.alloc());
     let mut number = 1u64;
@@ -61,9 +64,10 @@ pub(crate) fn cut<'a, R: AllocGlobal + Wait>(
         number = next_number(rt, number);
         rest = behind(rest, at);
     }
-    if !rest.is_empty() {
-        push_line(&mut lines, rest, number)?;
+    if rest.is_empty() {
+        return Ok(lines);
     }
+    push_line(&mut lines, rest, number)?;
     Ok(lines)
 }
 
@@ -71,6 +75,7 @@ pub(crate) fn cut<'a, R: AllocGlobal + Wait>(
 #[inline]
 fn push_line<'a>(lines: &mut Vec<&'a str>, line: &'a [u8], number: u64) -> Result<(), RunFault>
     ensures faults { IfErr result IsLineFault }
+    ensures line { OnOk result (map (λ t. t.now) lines.new.items ≡ map (λ t. t.now) lines.old.items ++ line.now ∷ []) }
 {
     let Ok(text) = from_utf8(line) else {
         return Err(RunFault::NotText(number));

@@ -11,6 +11,8 @@ pub mod fault;
 pub mod memory;
 mod ordered;
 pub mod program;
+mod shares;
+mod sorting;
 pub mod standard;
 pub mod stream;
 mod stretches;

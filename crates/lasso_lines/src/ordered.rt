@@ -1,74 +1,124 @@
 //! The distinct lines, in the order of their bytes.
-ghost use Rattle.std.specs.Prelude.{◌≡◌, ◌+◌, [], Some, OnOk, IfErr, Err};
-ghost use Rattle.lasso_lines.specs.Stream.{OnlyGrows, Stays, written};
-ghost use Rattle.lasso_lines.specs.Answer.{IsAnswerFault, failed_writes};
+ghost use Rattle.std.specs.Prelude.{◌≡◌, ◌+◌, ◌++◌, ◌∷◌, [], true, false, ◌↔◌, ◌<◌, ℕ, Some, OnOk, IfOk, IfErr, Err, All, Contains, length, map, slice_index_or, vec_len, if◌then◌else◌};
+ghost use mathlib.Core.List.{IsPrefix};
+ghost use Rattle.lasso_log.specs.Views.{PassView, InternerId, list_of};
+ghost use Rattle.lasso_lines.specs.Stream.{Grows, OnlyGrows, Stays, written};
+ghost use Rattle.lasso_lines.specs.Answer.{IsAnswerFault, WritesAll, failed_writes};
+ghost use Rattle.lasso_lines.specs.Fronts.{IsFronted};
+ghost use Rattle.lasso_lines.specs.Ordered.{told, AreNamed, WritesNamed};
 ghost use Rattle.lasso_lines.specs.declared.fault.RunFault.TheVariants.{WriteFailed};
 
 use crate::answers::write_line;
 use crate::engine::flush_all;
 use crate::fault::RunFault;
+use crate::sorting::{Fronted, front_of, sort};
 use crate::stream::ByteWriter;
-use lasso::SpurThreadedRodeo;
-use std::thread::{Threads, for_each_chunk_mut};
+use lasso::log::Pass;
+use lasso::{Spur, SpurThreadedRodeo};
+use std::alloc::{AllocError, Global};
+use std::thread::Threads;
 
-// Writes the texts of the interner in the order of their bytes, each with a line feed behind it. So many threads sort them.
+// Writes the texts at these positions of the interner's list, each once, in the order of their bytes and with a line feed
+// after it. They are sorted by `threads` threads.
 pub(crate) fn write_in_order<R: AllocGlobal + Threads + Sync, O: ByteWriter>(
     rt: &R,
     rodeo: &SpurThreadedRodeo,
+    pass: &mut Pass<Spur>,
+    codes: &[u32],
     threads: usize,
     writer: &mut O,
 ) -> Result<(), RunFault>
+    requires { pass.old.of ≡ rodeo.now }
     ensures writes { O.failures writer.new ≡ O.failures writer.old + failed_writes result }
     ensures delivered { OnlyGrows (O.delivered writer.old) (O.delivered writer.new) }
     ensures all { OnOk result (O.pending writer.new ≡ Some []) }
     ensures refused { IfErr result (λ fault. ¬ (fault ≡ WriteFailed) → writer.new ≡ writer.old) }
     ensures faults { IfErr result IsAnswerFault }
+    ensures grows { IsPrefix (list_of rodeo.now pass.old.notes) (list_of rodeo.now pass.new.notes) }
+    ensures texts { OnOk result (Grows (written (O.delivered writer.old) (O.pending writer.old)) (written (O.delivered writer.new) (O.pending writer.new))
+        (WritesNamed (list_of rodeo.now pass.new.notes) codes.now)) }
 {
-    let mut texts = Vec::new(rt.alloc());
-    for text in rodeo.strings() {
-        if texts.push((front_of(text), text)).is_err() {
-            return Err(RunFault::no_memory(0));
-        }
-    }
+    let mut texts = collect(rt, rodeo, pass, codes)?;
     sort(rt, &mut texts, threads);
     write_texts(writer, &texts)?;
     flush_all(writer)
 }
 
-// A text behind its first bytes as a number. Such pairs have the order of the texts' bytes.
-type Fronted<'a> = (u64, &'a str);
-
-// The first eight bytes as a number, the first one highest, with zeros behind a shorter text. Where two such numbers differ the texts
-// have their order: a text that ends first begins the other, or differs from it before.
-fn front_of(text: &str) -> u64 {
-    let bytes = text.as_bytes();
-    let mut front = 0u64;
-    for at in 0..8usize {
-        let byte = bytes.get(at).copied().unwrap_or(0);
-        front = (front << 8) | u64::from(byte);
+// The texts at these positions of the interner's list, each once.
+fn collect<'a, R: AllocGlobal>(
+    rt: &R,
+    rodeo: &'a SpurThreadedRodeo,
+    pass: &mut Pass<Spur>,
+    codes: &[u32],
+) -> Result<Vec<Fronted<'a>>, RunFault>
+    requires { pass.old.of ≡ rodeo.now }
+    ensures faults { IfErr result IsAnswerFault }
+    ensures no_write { IfErr result (λ fault. ¬ (fault ≡ WriteFailed)) }
+    ensures grows { IsPrefix (list_of rodeo.now pass.old.notes) (list_of rodeo.now pass.new.notes) }
+    ensures texts { IfOk result (λ texts. AreNamed (list_of rodeo.now pass.new.notes) codes.now (map (λ p. p.1.now) texts.items)) }
+    ensures fronts { IfOk result (λ texts. All IsFronted texts.items) }
+{
+    let mut strings = rodeo.strings_as(pass);
+    let Ok(marks) = marks_of(rt.alloc(), codes, strings.len()) else {
+        return Err(RunFault::no_memory(0));
+    };
+    let mut texts = Vec::new(rt.alloc());
+    for is_marked in &marks {
+        let Some(text) = strings.next() else {
+            return Ok(texts);
+        };
+        take_marked(&mut texts, text, *is_marked)?;
     }
-    front
+    Ok(texts)
 }
 
-// Sorts the texts: each thread a part of them, and then the parts are merged. Where there is no memory to merge them, all are
-// sorted in place.
-fn sort<R: AllocGlobal + Threads + Sync>(rt: &R, texts: &mut Vec<Fronted<'_>>, threads: usize) {
-    let size = texts.len().div_ceil(threads.max(1)).max(1);
-    for_each_chunk_mut(
-        rt,
-        texts,
-        size,
-        &|_, part: &mut [Fronted<'_>]| part.sort_unstable(),
-    );
-    if threads > 1 && texts.sort().is_err() {
-        texts.sort_unstable();
+// Adds the text if it is marked.
+fn take_marked<'a>(
+    texts: &mut Vec<Fronted<'a>>,
+    text: &'a str,
+    is_marked: bool,
+) -> Result<(), RunFault>
+    ensures faults { IfErr result IsAnswerFault }
+    ensures no_write { IfErr result (λ fault. ¬ (fault ≡ WriteFailed)) }
+    ensures texts { OnOk result (map (λ p. p.1.now) texts.new.items ≡ map (λ p. p.1.now) texts.old.items ++ (if is_marked then text.now ∷ [] else [])) }
+    ensures fronts { All IsFronted texts.old.items → OnOk result (All IsFronted texts.new.items) }
+{
+    if !is_marked {
+        return Ok(());
+    }
+    match texts.push((front_of(text), text)) {
+        Ok(()) => Ok(()),
+        Err(_) => Err(RunFault::no_memory(0)),
     }
 }
 
-// Writes each text with a line feed behind it.
+// A list of this length that marks these positions.
+fn marks_of(alloc: Global, codes: &[u32], len: usize) -> Result<Vec<bool>, AllocError>
+    ensures { IfOk result (λ marks. (vec_len marks ≡ len) × ((p : ℕ) → p < len → (slice_index_or marks.items p false ≡ true) ↔ Contains codes.now p)) }
+{
+    let mut marks = vec![in alloc; false; len]?;
+    for code in codes {
+        mark(&mut marks, *code as usize);
+    }
+    Ok(marks)
+}
+
+// Marks the position, if the list has it.
+fn mark(marks: &mut [bool], at: usize)
+    ensures here { at < length marks.old → slice_index_or marks.new at false ≡ true }
+    ensures others { (p : ℕ) → ¬ (p ≡ at) → slice_index_or marks.new p false ≡ slice_index_or marks.old p false }
+{
+    if at < marks.len() {
+        marks[at] = true;
+    }
+}
+
+// Writes each text with a line feed after it.
 fn write_texts<O: ByteWriter>(writer: &mut O, texts: &[Fronted<'_>]) -> Result<(), RunFault>
     ensures writes { O.failures writer.new ≡ O.failures writer.old + failed_writes result }
     ensures delivered { OnlyGrows (O.delivered writer.old) (O.delivered writer.new) }
+    ensures texts { Grows (written (O.delivered writer.old) (O.pending writer.old)) (written (O.delivered writer.new) (O.pending writer.new))
+        (WritesAll (told (map (λ p. p.1.now) texts.now)) result) }
     ensures faults { IfErr result (λ fault. fault ≡ WriteFailed) }
 {
     'lines: for (_, text) in texts {

@@ -1,6 +1,7 @@
 //! Runs over small inputs, and the program's words. Readers and writers that fail, odd inputs, and those of someone who
 //! waits for answers, stand in files of their own.
 mod failing;
+mod many_lines;
 mod odd_inputs;
 mod waiting;
 mod workers;

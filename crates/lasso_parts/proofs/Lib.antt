@@ -1,4 +1,5 @@
 pub mod TextLemmas
+pub mod Spurs
 pub mod IndexLaws
 mod IndexSlots
 mod IndexTables

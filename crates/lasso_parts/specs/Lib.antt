@@ -5,6 +5,7 @@ pub mod Held
 pub mod Errors
 pub mod Sizes
 pub mod Kept
+pub mod Spurs
 pub mod Hashing
 pub mod Index
 pub mod IndexTable

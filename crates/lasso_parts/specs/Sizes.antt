@@ -1,5 +1,5 @@
 -- The first room of an interner.
-use Rattle.std.specs.Prelude.{ℕ}
+use Rattle.std.specs.Prelude.{ℕ, ◌==◌, ◌&&◌, Bool}
 use Rattle.std.specs.Ordering.{on, then_cmp, nat_cmp}
 use Rattle.std.specs.declared.cmp.Ordering.{Ordering}
 
@@ -11,3 +11,7 @@ pub record Sizes : Type 0 where
 -- less room for texts comes first, and where that is equal less room for bytes
 abbrev pub sizes_cmp : Sizes → Sizes → Ordering
 sizes_cmp = then_cmp (on (λ (s : Sizes). s.strings) nat_cmp) (on (λ (s : Sizes). s.bytes) nat_cmp)
+
+-- both are equal
+abbrev pub sizes_eq : Sizes → Sizes → Bool
+sizes_eq one other = (one.strings == other.strings) && (one.bytes == other.bytes)

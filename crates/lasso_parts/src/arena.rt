@@ -1,8 +1,10 @@
 //! The arena: buckets that texts are copied into, which grow in number under a limit on their bytes.
-ghost use Rattle.std.specs.Prelude.{◌≡◌, ◌+◌, ◌*◌, ◌<◌, ◌-◌, ◌^◌, ◌≤◌, ◌⊎◌, ◌↔◌, length, map, IfOk, IfErr, OnErr, IsOk, IsSome, IsTrue, Some, None, Err};
+ghost use Rattle.std.specs.Prelude.{◌≡◌, ◌+◌, ◌*◌, ◌<◌, ◌-◌, ◌^◌, ◌≤◌, ◌⊎◌, ◌↔◌, length, map, IfOk, IfErr, IfSome, OnErr, IsOk, IsSome, IsNone, IsTrue, Some, None, Err};
 ghost use Rattle.lasso_parts.specs.Account.{fresh, store, spare_for, clear, with_limit};
 ghost use Rattle.lasso_parts.specs.declared.util.LassoErrorKind.TheVariants.{MemoryLimitReached, FailedAllocation};
 
+mod debug;
+mod memory;
 mod owned;
 mod placing;
 mod storing;
@@ -108,7 +110,7 @@ impl<A: Allocator + Clone> Arena<A> {
 }
 
 impl<A: Allocator> Arena<A> {
-    ghost use Rattle.lasso_parts.specs.Arena.{account_of, copied_of, usage_of, first_of, most_of, IsStored, text_at, emptied};
+    ghost use Rattle.lasso_parts.specs.Arena.{account_of, copied_of, usage_of, first_of, most_of, IsStored, text_at, emptied, KeepsTexts};
     ghost use Rattle.lasso_parts.specs.Doubled.{kept_of};
 
     /// The bytes that all regions take. They are at most the first region's and eight times the most bytes
@@ -142,6 +144,26 @@ impl<A: Allocator> Arena<A> {
         ensures sums { IsTrue result ↔ (n ≤ (account_of self.now).room) ⊎ (IsSome (spare_for (first_of self.now) (account_of self.now) n) ⊎ ((account_of self.now).usage + n ≤ self.now.limit)) }
     {
         n == 0 || !matches!(self.placement_for(n), Placement::Refused)
+    }
+
+    /// Copies a text in as `store_str` does, where the current region has room for it, and returns where it lies.
+    /// `None`: there is no such room, or the text has no bytes, and nothing changes. It takes no memory.
+    #[inline(always)]
+    pub fn store_in_room(&mut self, text: &str) -> Option<Span>
+        ensures account { IsSome result → store (first_of self.old) (account_of self.old) (length text.now) ≡ Some (account_of self.new) }
+        ensures first { first_of self.new ≡ first_of self.old }
+        ensures stored { IfSome result (λ span. IsStored self.new.all span × (text_at self.new.all span ≡ text.now)) }
+        ensures kept { KeepsTexts self.old.all self.new.all }
+        ensures copied { IsSome result → copied_of self.new ≡ copied_of self.old + length text.now }
+        ensures most { self.new.most ≡ self.old.most }
+        ensures room { IsSome result ↔ (0 < length text.now) × (length text.now ≤ (account_of self.old).room) }
+        ensures none { IsNone result → self.new ≡ self.old }
+    {
+        let n = text.len();
+        if n == 0 || n > self.regions.as_slice()[self.current].free_elements() {
+            return None;
+        }
+        Some(self.store_in_current(text))
     }
 
     /// The text of a span that was handed out since the last `clear`.
@@ -188,7 +210,7 @@ impl<A: Allocator + Clone> Arena<A> {
     /// that the limit refuses is refused before any memory is asked for; else it is refused for want of
     /// memory alone, and only where it needs a new region. A refusal changes nothing: no region, no byte of
     /// one, nor the current region, the spares, the doubling size or the limit.
-    #[inline(always)]
+    #[inline(never)]
     pub fn store_str(&mut self, text: &str) -> LassoResult<Span>
         ensures account { IsOk result → store (first_of self.old) (account_of self.old) (length text.now) ≡ Some (account_of self.new) }
         ensures first { first_of self.new ≡ first_of self.old }

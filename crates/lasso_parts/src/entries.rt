@@ -1,5 +1,5 @@
 //! The entries of a list of texts.
-ghost use Rattle.std.specs.Prelude.{◌≡◌, ◌<◌, ◌^◌};
+ghost use Rattle.std.specs.Prelude.{◌≡◌, ◌<◌, ◌≤◌, ◌^◌, [], length};
 ghost use Rattle.lasso_parts.specs.Entries.{entry_text, source_len, IsThere, Inside, Outside, Listed};
 
 mod loan;
@@ -9,26 +9,25 @@ pub mod short;
 use crate::bucket::region::Region;
 use loan::Loan;
 use long::LongText;
-use short::ShortText;
+use short::{SHORT, ShortText};
 use std::marker::{Model, Send, Sync};
 use std::mem::size_of;
 use std::str::from_utf8_unchecked;
 
 /// An entry of a list of texts, of 16 bytes. It has a short text itself, or the address and the length of another. A
-/// text of 2^48 bytes or more, whose length has no room in it, stands in a list beside the entries, and the entry has
+/// text of 2^32 bytes or more, whose length has no room in it, stands in a list beside the entries, and the entry has
 /// its index there. Contracts see which of the three it is.
 #[derive(Drop)]
 pub struct Entry {
     place: Place,
 }
 
-// Where an entry has its text. The length of a text outside it stands in two parts.
+// Where an entry has its text.
 #[derive(Drop)]
 enum Place {
     Here(ShortText),
     There {
-        high: u16,
-        low: u32,
+        len: u32,
         ptr: *const u8,
         loan: Loan,
     },
@@ -70,17 +69,16 @@ impl Entry {
         }
     }
 
-    /// The entry that leads to a text outside it. The text must have fewer than 2^48 bytes.
+    /// The entry that leads to a text outside it. The text must have fewer than 2^32 bytes.
     #[inline]
     pub fn outside(text: LongText) -> Self
-        requires { source_len text.source < 2 ^ 48 }
+        requires { source_len text.source < 2 ^ 32 }
         ensures { result ≡ Outside text }
     {
         let LongText { ptr, len, loan } = text;
         Entry {
             place: Place::There {
-                high: (len >> 32) as u16,
-                low: (len & 0xffff_ffff) as u32,
+                len: len as u32,
                 ptr,
                 loan,
             },
@@ -95,9 +93,22 @@ impl Entry {
             place: Place::Vast { index },
         }
     }
+
+    /// Puts a text of at most 14 bytes in the entry, which must have the empty text itself.
+    #[inline(always)]
+    pub fn put(&mut self, text: &str)
+        requires short { length text.now ≤ SHORT }
+        requires empty { self.old ≡ Inside [] }
+        ensures { self.new ≡ Inside text.now }
+    {
+        match &mut self.place {
+            Place::Here(short) => short.put(text),
+            _ => unreachable!(),
+        }
+    }
 }
 
-/// The text of an entry, lent by the entry or the regions. Nothing is copied, and nothing tested. The texts of 2^48
+/// The text of an entry, lent by the entry or the regions. Nothing is copied, and nothing tested. The texts of 2^32
 /// bytes or more stand in the list `vast`.
 #[inline]
 pub fn text_of<'a>(regions: &'a [Region], vast: &'a [LongText], entry: &'a Entry) -> &'a str
@@ -106,15 +117,9 @@ pub fn text_of<'a>(regions: &'a [Region], vast: &'a [LongText], entry: &'a Entry
 {
     match &entry.place {
         Place::Here(text) => text.as_str(),
-        Place::There {
-            high,
-            low,
-            ptr,
-            loan,
-        } => {
-            let len = (*high as usize) << 32 | *low as usize;
-            unsafe { from_utf8_unchecked(loan.read(regions, *ptr, len)) }
-        }
+        Place::There { len, ptr, loan } => unsafe {
+            from_utf8_unchecked(loan.read(regions, *ptr, *len as usize))
+        },
         Place::Vast { index } => listed_text(regions, vast, *index),
     }
 }

@@ -9,6 +9,7 @@ mod groups;
 mod hashing;
 pub mod key_slots;
 mod lists;
+mod memory;
 mod probe;
 mod same;
 mod table;
@@ -241,9 +242,9 @@ impl<K: Key, A: Allocator> Index<K, A> {
         self.used = 0;
     }
 
-    // Whether there is room for one key more.
+    /// Whether there is room for one key more.
     #[inline]
-    fn has_room(&self) -> bool
+    pub fn has_room(&self) -> bool
         ensures { IsTrue result ↔ (0 < room self.now.slots) }
     {
         self.used < self.slots.len() / 4 * 3

@@ -7,6 +7,8 @@ ghost use Rattle.std.specs.List.{enumerate_from};
 ghost use Rattle.lasso_parts.specs.Entries.{AllThere, texts_of};
 ghost use Rattle.lasso_parts.specs.Texts.{Fits};
 
+mod debug;
+
 use crate::bucket::region::Region;
 use crate::entries::long::LongText;
 use crate::entries::{Entry, text_of};

@@ -4,7 +4,15 @@ ghost use Rattle.lasso_parts.specs.AccountSteps.{ServesAsWorked};
 ghost use Rattle.lasso_parts.specs.Sizes.{sizes_cmp};
 ghost use Rattle.std.specs.Prelude.{◌≡◌};
 
+mod orders;
+mod spurs;
+
 use crate::util::Capacity;
+pub use orders::{
+    capacities_compare_by_both, large_spurs_compare_by_position, limits_compare_by_bytes,
+    micro_spurs_compare_by_position, mini_spurs_compare_by_position, spurs_compare_by_position,
+};
+pub use spurs::{large_spur_number, micro_spur_number, mini_spur_number, spur_number};
 use std::cmp::Ord;
 
 /// A text is refused exactly where it is longer than the room of the current bucket, no spare bucket

@@ -12,4 +12,5 @@ pub mod iter;
 pub mod json;
 pub mod keys;
 pub mod laws;
+pub mod memory;
 pub mod util;

@@ -211,3 +211,18 @@ fn no_memory_has_the_greatest_number_of_bytes(rt: HostRuntime) {
         Err(error) => assert!(rt; error.kind() == LassoErrorKind::FailedAllocation),
     }
 }
+
+#[test]
+fn a_text_is_stored_in_room_alone(rt: HostRuntime) -> Result<(), Fail> {
+    let mut arena = Arena::new(rt.alloc(), 12, 100)?;
+    assert!(rt; arena.store_in_room("").is_none());
+    for (text, start) in [("a", 0), ("bc", 1), ("def", 3), ("ghij", 6)] {
+        let span = arena.store_in_room(text).ok_or("no room")?;
+        assert!(rt; span.start == start);
+        assert!(rt; arena.text(span) == text);
+    }
+    assert!(rt; arena.store_in_room("klm").is_none());
+    assert!(rt; arena.store_in_room("kl").is_some());
+    assert!(rt; arena.memory_usage() == 12);
+    Ok(())
+}

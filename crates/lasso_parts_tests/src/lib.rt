@@ -17,3 +17,5 @@ mod keys;
 mod short;
 #[cfg(test)]
 mod util;
+#[cfg(test)]
+mod values;

@@ -50,7 +50,33 @@ pub fn makers<R: AllocGlobal + Wait>(rt: &R, refused: &mut Refused) -> Result<()
         let start = State { texts: 0, usage };
         story.intern_steps(rt, refused, &interner, start)?;
     }
-    Ok(())
+    words(rt, refused)
+}
+
+// An interner that opens with two words, which take nothing of its bucket.
+fn words<R: AllocGlobal + Wait>(rt: &R, refused: &mut Refused) -> Result<(), Fault> {
+    let interner: Interner<Spur> = twice!(
+        refused,
+        Call::of("from_static"),
+        ThreadedRodeo::from_static(rt.alloc(), &["if", "else"]),
+        true
+    );
+    let two = State {
+        texts: 2,
+        usage: 4096,
+    };
+    let three = State {
+        texts: 3,
+        usage: 4096,
+    };
+    let story = Story {
+        bytes: 4096,
+        limit: usize::MAX,
+        way: Way::Copied,
+        list: &["if", "else", "a"],
+        steps: &[("else", Ok(1), two), ("a", Ok(2), three)],
+    };
+    story.intern_steps(rt, refused, &interner, two)
 }
 
 fn make(alloc: Global, maker: Maker) -> LassoResult<Interner<Spur>> {

@@ -2,6 +2,7 @@ pub mod Positions
 mod Ranges
 mod MachineGood
 mod MachineSteps
+mod MachineCalls
 pub mod Called
 pub mod CallerLaws
 pub mod Alike

@@ -5,6 +5,7 @@ use Rattle.lasso_parts.specs.declared.util.LassoErrorKind.TheVariants.{MemoryLim
 use Rattle.lasso_log.specs.History.{Event}
 use Rattle.lasso_log.specs.Replies.{Keeping, Copied, Static, Intern, Get, Resolve, Usage, MaxUsage, Iterate, Interned, Found, Resolved, Number, Pairs}
 use Rattle.lasso_shared.specs.Machine.{State, Call, Phase, Missing, Stored, Appended, Step, Take, Reserve, Charge, Append, Release, Refuse, Read, SetLimit}
+use Rattle.lasso_shared.specs.MachineCalls.{IsMachineCall}
 use Rattle.lasso_shared.specs.Runs.{IsStart, IsRun, run, run_history, replies}
 
 -- keys for three positions
@@ -92,11 +93,28 @@ readings = Read Iterate ∷ Read Usage ∷ Read MaxUsage ∷ []
 abbrev pub steps : List Step
 steps = two_calls (one_refused (keys_used_up readings))
 
+-- the later of the two calls, from its first step to its last, with steps of the other among its own
+abbrev pub later_call : List Step
+later_call =
+    Take 8 Copied bc
+    ∷ Reserve (call 7 Copied a Missing) 0
+    ∷ Charge (call 8 Copied bc Missing) 4
+    ∷ Append (call 8 Copied bc Stored)
+    ∷ Append (call 7 Copied a Stored)
+    ∷ Release (call 8 Copied bc (Appended 0)) 0
+    ∷ []
+
+-- the call that the limit refuses
+abbrev pub refused_call : List Step
+refused_call = Take 9 Copied ddd ∷ Refuse (call 9 Copied ddd Missing) MemoryLimitReached ∷ []
+
 -- the run and what it gives
 pub record IsWorked : Type 0 where
   pub starts : IsStart three_keys first_byte_shard empty
   pub runs : IsRun three_keys first_byte_shard empty steps
   pub texts : (run first_byte_shard empty steps).texts ≡ bc ∷ a ∷ ddd ∷ []
+  pub later : IsMachineCall three_keys first_byte_shard (run first_byte_shard empty (Take 7 Copied a ∷ [])) later_call 8 (Intern Copied bc) (Interned (Ok 0))
+  pub refused : IsMachineCall three_keys first_byte_shard (run first_byte_shard empty (two_calls [])) refused_call 9 (Intern Copied ddd) (Interned (Err MemoryLimitReached))
   pub doubling : (run first_byte_shard empty steps).doubling ≡ 4
   pub events : run_history steps ≡ (7, Event.Reserve 0 1) ∷ (8, Event.Charge 4 2) ∷ (8, Event.Append bc) ∷ (7, Event.Append a) ∷ (9, Event.Limit 100) ∷ (9, Event.Append ddd) ∷ []
   pub replies : replies three_keys first_byte_shard empty steps

@@ -1,5 +1,6 @@
 pub mod Machine
 pub mod Runs
+pub mod MachineCalls
 pub mod Example
 pub mod ExampleCalls
 pub mod ExamplePlain

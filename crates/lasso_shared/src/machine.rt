@@ -2,6 +2,7 @@
 
 ghost use Rattle.std.specs.Prelude.{ℕ, Option};
 ghost use Rattle.lasso_shared.specs.Example.{IsWorked};
+ghost use Rattle.lasso_shared.specs.MachineCalls.{EachCallIsACall};
 ghost use Rattle.lasso_shared.specs.Runs.{EachRunHolds};
 
 use lasso_parts::keys::Key;
@@ -17,6 +18,14 @@ pub fn all_runs()
 /// The same for each type of keys.
 pub fn all_runs_of<K: Key>()
     ensures { EachRunHolds K.key_at }
+{}
+
+/// Each call of the machine, from its first step to its last, is a *call* of its pass in the legal history of
+/// [`all_runs_of`]: its reply is that of the history at a step between the two, and its pass made exactly the events of
+/// that reply. So the machine is a model of what the contracts of the calls promise, where a pass makes one call at a
+/// time.
+pub fn machine_calls_are_calls<K: Key>()
+    ensures { EachCallIsACall K.key_at }
 {}
 
 /// There are such runs: one was worked by hand, with two calls at once, a bucket of doubled size,

@@ -8,6 +8,7 @@ ghost use Rattle.std.specs.Prelude.{◌≡◌, []};
 ghost use Rattle.lasso_log.specs.Views.{PassView, InternerId};
 
 mod comparing;
+mod debug;
 mod filling;
 mod freezing;
 mod interning;
@@ -17,6 +18,7 @@ mod looking;
 mod makers;
 mod plain;
 mod walking;
+mod words;
 
 use crate::shards::Shards;
 use lasso_log::log::Pass;

@@ -6,6 +6,7 @@ mod collisions;
 mod comparing;
 mod copied;
 mod crowd;
+mod debug;
 mod falling;
 mod filling;
 mod freezing;
@@ -15,7 +16,9 @@ mod limits;
 mod looking;
 mod memory;
 mod passes;
+mod unseen;
 mod walking;
+mod words;
 
 use crate::calls::{
     Shared, hashed, kept_as, len_as, made, pass_of, seen_by, stands_for, text_at_as,

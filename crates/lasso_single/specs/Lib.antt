@@ -5,3 +5,5 @@ pub mod Copies
 pub mod Filling
 pub mod Command
 pub mod Json
+pub mod KeyLists
+pub mod Words

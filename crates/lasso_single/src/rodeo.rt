@@ -6,12 +6,16 @@ ghost use Rattle.lasso_single.specs.Interner.{most_copied};
 mod changes;
 mod clones;
 mod copying;
+mod debug;
 mod filling;
 mod freezing;
 mod interning;
 mod json;
+mod lists;
 mod makers;
+mod memory;
 mod walking;
+mod words;
 
 use crate::text_list::TextList;
 use lasso_parts::index::{Index, Texts};

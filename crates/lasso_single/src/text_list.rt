@@ -1,6 +1,8 @@
 //! `TextList`: the texts of an interner in order, over the memory that holds them.
 ghost use Rattle.std.specs.Prelude.{◌≡◌, ◌+◌, ◌*◌, ◌^◌, ◌<◌, ◌≤◌, ◌++◌, [], ◌∷◌, true, false, length, IsTrue, ◌↔◌, IsSome, Some, Err, IfOk, IfErr, OnOk, OnErr, slice_get, option_map, map};
 ghost use Rattle.std.specs.List.{enumerate_from};
+ghost use Rattle.std.specs.Vec.{vec_len, vec_capacity};
+ghost use Rattle.lasso_parts.specs.Entries.{Inside};
 ghost use Rattle.lasso_parts.specs.Account.{fresh, store, clear, with_limit};
 ghost use Rattle.lasso_parts.specs.Texts.{Fits};
 ghost use Rattle.lasso_single.specs.Copies.{bytes_of, clone_size, read_of};
@@ -8,11 +10,13 @@ ghost use Rattle.lasso_single.specs.Equality.{texts_eq};
 ghost use Rattle.lasso_single.specs.Interner.{IsMadeWith, KeepsOrigin, most_copied};
 ghost use Rattle.lasso_parts.specs.declared.util.LassoErrorKind.TheVariants.{FailedAllocation};
 
+mod memory;
+
 use crate::copying::{CopyTarget, copy_all};
 use crate::room::one_bucket;
 use lasso_parts::arena::Arena;
 use lasso_parts::entries::long::{LongText, is_vast};
-use lasso_parts::entries::short::ShortText;
+use lasso_parts::entries::short::{SHORT, ShortText};
 use lasso_parts::entries::{Entry, text_of};
 use lasso_parts::index::Texts;
 use lasso_parts::iter::{Iter, Strings};
@@ -113,7 +117,27 @@ impl<A: Allocator + Clone> TextList<A> {
 
     /// Copies a text to the end of the list. The limit must admit it, so that it is refused for want of
     /// memory alone, and nothing changes then.
+    #[inline(always)]
     pub(crate) fn push_copied(&mut self, text: &str) -> LassoResult<()>
+        requires { IsSome (store self.old.first self.old.account (length text.now)) }
+        ensures texts { OnOk result (self.new.texts ≡ self.old.texts ++ text.now ∷ []) }
+        ensures account { OnOk result (store self.old.first self.old.account (length text.now) ≡ Some self.new.account) }
+        ensures copied { OnOk result (self.new.copied ≡ self.old.copied + length text.now) }
+        ensures origin { KeepsOrigin self.old self.new }
+        ensures refused { IfErr result (λ error. error ≡ FailedAllocation) }
+        ensures same_texts { OnErr result (self.new.texts ≡ self.old.texts) }
+        ensures same_account { OnErr result (self.new.account ≡ self.old.account) }
+        ensures same_copied { OnErr result (self.new.copied ≡ self.old.copied) }
+    {
+        if self.push_in_room(text) {
+            return Ok(());
+        }
+        self.push_growing(text)
+    }
+
+    // Copies a text to the end of the list where the list or a bucket may have to grow for it.
+    #[inline(never)]
+    fn push_growing(&mut self, text: &str) -> LassoResult<()>
         requires { IsSome (store self.old.first self.old.account (length text.now)) }
         ensures texts { OnOk result (self.new.texts ≡ self.old.texts ++ text.now ∷ []) }
         ensures account { OnOk result (store self.old.first self.old.account (length text.now) ≡ Some self.new.account) }
@@ -164,6 +188,31 @@ impl<A: Allocator + Clone> TextList<A> {
 }
 
 impl<A: Allocator> TextList<A> {
+    /// Copies a text to the end of the list where neither the list nor a bucket grows for it, and returns whether it
+    /// did. Else nothing changes. It takes no memory.
+    #[inline(always)]
+    pub(crate) fn push_in_room(&mut self, text: &str) -> bool
+        ensures texts { IsTrue result → self.new.texts ≡ self.old.texts ++ text.now ∷ [] }
+        ensures account { IsTrue result → store self.old.first self.old.account (length text.now) ≡ Some self.new.account }
+        ensures copied { IsTrue result → self.new.copied ≡ self.old.copied + length text.now }
+        ensures origin { KeepsOrigin self.old self.new }
+        ensures same { result ≡ false → self.new ≡ self.old }
+    {
+        if self.entries.len() == self.entries.capacity() || is_vast(text.len()) {
+            return false;
+        }
+        let Some(span) = self.arena.store_in_room(text) else {
+            return false;
+        };
+        if text.len() > SHORT {
+            let long = LongText::copied(self.arena.regions(), span);
+            self.entries.push_reserved(Entry::outside(long));
+            return true;
+        }
+        push_short(&mut self.entries, text);
+        true
+    }
+
     /// The number of texts.
     pub(crate) fn len(&self) -> usize
         ensures { result ≡ length self.now.texts }
@@ -312,4 +361,16 @@ impl<A: Allocator> TextList<A> {
         self.vast.clear();
         self.arena.clear();
     }
+}
+
+// Puts a short text at the end of the entries, which have room for one more.
+#[inline(always)]
+fn push_short<A: Allocator>(entries: &mut Vec<Entry, A>, text: &str)
+    requires room { vec_len entries.old < vec_capacity entries.old }
+    requires short { length text.now ≤ SHORT }
+    ensures { entries.new.items ≡ entries.old.items ++ Inside text.now ∷ [] }
+{
+    let last = entries.len();
+    entries.push_reserved(Entry::inside(ShortText::empty()));
+    entries[last].put(text);
 }

@@ -3,10 +3,12 @@
 ghost use Rattle.std.specs.Prelude.{◌<◌};
 
 mod copies;
+mod counts;
 mod filling;
 mod makers;
 mod runs;
 mod values;
+mod words;
 
 use crate::fixtures::Gap;
 use crate::refusing::Refusing;

@@ -4,9 +4,12 @@ ghost use Rattle.std.specs.Prelude.{◌<◌};
 mod changes;
 mod clears;
 mod clones;
+mod debug;
 mod filling;
 mod hashing;
+mod lists;
 mod walks;
+mod words;
 
 use crate::fixtures::{Gap, SameState};
 use lasso_parts::keys::{Key, MicroSpur, Spur};

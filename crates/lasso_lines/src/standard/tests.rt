@@ -14,7 +14,7 @@ const INPUT: &[u8] = b"b\na\nb";
 
 const OUTPUT: &[u8] = b"0 b\n1 a\n0 b\n2 texts, 4096 bytes\n";
 
-// Gives at most three bytes a call, and fails at each call once so many went well.
+// Gives at most three bytes a call, and fails at each call after its number of good ones.
 #[derive(Drop)]
 struct ShortRead<'a> {
     left: &'a [u8],

@@ -6,6 +6,8 @@ ghost use Rattle.lasso_parts.specs.Bucket.{block_of};
 ghost use Rattle.lasso_parts.specs.Doubled.{kept_of};
 ghost use Rattle.lasso_parts.specs.declared.util.LassoErrorKind.TheVariants.{FailedAllocation};
 
+mod memory;
+
 use crate::bucket::region::{Region, Right, close, open};
 use crate::util::LassoResult;
 use std::alloc::Allocator;

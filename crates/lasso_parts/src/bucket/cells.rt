@@ -127,14 +127,16 @@ impl Cells {
         ensures places { SamePlaces self.old self.new }
     {
         let len = bytes.len();
-        if len > 16 || len < 2 {
+        if len > 16 {
             self.slots.copy_in(start, bytes)
         } else if len >= 8 {
             self.write_ends::<8>(start, bytes)
         } else if len >= 4 {
             self.write_ends::<4>(start, bytes)
-        } else {
+        } else if len >= 2 {
             self.write_ends::<2>(start, bytes)
+        } else {
+            self.slots.copy_in(start, bytes)
         }
     }
 

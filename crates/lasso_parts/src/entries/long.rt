@@ -11,7 +11,7 @@ use std::marker::{Model, Send, Sync};
 use std::str::from_utf8_unchecked;
 
 // The fewest bytes of a text whose length is too great for an entry.
-const VAST: usize = 1 << 48;
+const VAST: usize = 1 << 32;
 
 /// A text outside the entries: where it lies and how many bytes it has. Contracts see the address and the source:
 /// the span that an arena copied the text to, or the text that the program keeps for as long as it runs.
@@ -39,7 +39,7 @@ unsafe impl Sync for LongText {}
 /// Whether a text of so many bytes is too long for an entry.
 #[inline]
 pub fn is_vast(len: usize) -> bool
-    ensures { IsTrue result ↔ (2 ^ 48 ≤ len) }
+    ensures { IsTrue result ↔ (2 ^ 32 ≤ len) }
 {
     VAST <= len
 }

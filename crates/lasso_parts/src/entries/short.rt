@@ -1,6 +1,7 @@
 //! Short texts, which stand in an array.
-ghost use Rattle.std.specs.Prelude.{◌≡◌, ◌≤◌, ◌<◌, ◌*◌, length, take, IfSome, IfNone};
+ghost use Rattle.std.specs.Prelude.{◌≡◌, ◌≤◌, ◌<◌, ◌*◌, [], length, take, IfSome, IfNone};
 
+use crate::chunks::{first, last};
 use std::marker::Model;
 use std::str::from_utf8_unchecked;
 
@@ -26,32 +27,49 @@ impl Model for ShortText {
 }
 
 impl ShortText {
+    /// The empty text.
+    #[inline]
+    pub fn empty() -> Self
+        ensures { result ≡ [] }
+    {
+        ShortText {
+            len: 0,
+            bytes: [0; SHORT],
+        }
+    }
+
     /// The text, where it is short.
     #[inline]
     pub fn of(text: &str) -> Option<Self>
         ensures short { IfSome result (λ s. s ≡ text.now) }
         ensures longer { IfNone result (SHORT < length text.now) }
     {
-        let text = text.as_bytes();
-        let len = text.len();
-        if len > SHORT {
+        if text.len() > SHORT {
             return None;
         }
-        let bytes = if len >= 8 {
-            by_ends::<8>(text)
+        let mut short = ShortText::empty();
+        short.put(text);
+        Some(short)
+    }
+
+    /// Puts a text of at most 14 bytes in place of this one.
+    #[inline(always)]
+    pub fn put(&mut self, text: &str)
+        requires { length text.now ≤ SHORT }
+        ensures { self.new ≡ text.now }
+    {
+        let text = text.as_bytes();
+        let len = text.len();
+        if len >= 8 {
+            put_ends::<8>(&mut self.bytes, text);
         } else if len >= 4 {
-            by_ends::<4>(text)
+            put_ends::<4>(&mut self.bytes, text);
         } else if len >= 2 {
-            by_ends::<2>(text)
+            put_ends::<2>(&mut self.bytes, text);
         } else if len == 1 {
-            by_ends::<1>(text)
-        } else {
-            [0; SHORT]
-        };
-        Some(ShortText {
-            len: len as u8,
-            bytes,
-        })
+            put_ends::<1>(&mut self.bytes, text);
+        }
+        self.len = len as u8;
     }
 
     /// The text.
@@ -63,17 +81,17 @@ impl ShortText {
     }
 }
 
-// A text at the front of an array. Its first N bytes and its last N are all of it, and each is one move.
+// Puts a text at the front of an array. Its first N bytes and its last N are all of it, and each is one move. Both are
+// read first, so that neither move is tested for whether they overlap.
 #[inline(always)]
-fn by_ends<const N: usize>(text: &[u8]) -> [u8; SHORT]
+fn put_ends<const N: usize>(bytes: &mut [u8; SHORT], text: &[u8])
     requires ends { N ≤ length text.now }
     requires all { length text.now ≤ 2 * N }
     requires short { length text.now ≤ SHORT }
-    ensures { take (length text.now) result ≡ text.now }
+    ensures { take (length text.now) bytes.new ≡ text.now }
 {
-    let last = text.len() - N;
-    let mut bytes = [0; SHORT];
-    bytes[..N].copy_from_slice(&text[..N]);
-    bytes[last..text.len()].copy_from_slice(&text[last..]);
-    bytes
+    let rest = text.len() - N;
+    let (head, tail) = (*first::<N>(text), *last::<N>(text));
+    bytes[..N].copy_from_slice(&head);
+    bytes[rest..text.len()].copy_from_slice(&tail);
 }

@@ -3,6 +3,8 @@ ghost use Rattle.std.specs.Prelude.{◌≡◌, ◌≢◌, ℕ, ◌<◌, ◌≤�
 ghost use Rattle.std.specs.Vec.{vec_capacity};
 ghost use Rattle.lasso_parts.specs.Index.{slot, Retags};
 
+mod memory;
+
 use crate::keys::Key;
 use std::alloc::{AllocError, Allocator};
 use std::marker::Model;

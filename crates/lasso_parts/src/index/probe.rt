@@ -77,13 +77,38 @@ pub fn scan_slots<K: Key, A: Allocator, T: Texts>(
             return Scan::Found(position);
         }
     }
-    let mut j = passed_over(tags, from, to, tag);
+    let j = passed_over(tags, from, to, tag);
+    if j < to && tags[j] == 0 {
+        return Scan::Ended(j);
+    }
+    scan_further(slots, texts, text, tag, j, to)
+}
+
+// The same from a later slot on, out of line: few searches come so far.
+#[inline(never)]
+fn scan_further<K: Key, A: Allocator, T: Texts>(
+    slots: &KeySlots<K, A>,
+    texts: &T,
+    text: &str,
+    tag: u8,
+    from: usize,
+    to: usize,
+) -> Scan
+    requires in_list { AllInList (T.list texts.now) slots.now.slots }
+    requires tagged { HaveTag (T.list texts.now) text.now tag slots.now }
+    requires filled { 0 < tag }
+    requires range { to ≤ length slots.now.slots }
+    requires ordered { from ≤ to }
+    ensures { Tells (T.list texts.now) text.now slots.now.slots from to result }
+{
+    let tags = slots.tags();
+    let mut j = from;
     while j < to {
         let found = tags[j];
         if found == 0 {
             return Scan::Ended(j);
         }
-        if let Some(position) = found_further(slots, texts, text, tag, j) {
+        if let Some(position) = found_at(slots, texts, text, tag, j) {
             return Scan::Found(position);
         }
         j = passed_over(tags, j + 1, to, tag);
@@ -115,26 +140,6 @@ fn found_at<K: Key, A: Allocator, T: Texts>(
         return Some(position);
     }
     None
-}
-
-// The same of a later slot, out of line: few searches come so far, and the comparison goes into each place that
-// calls `found_at`.
-#[inline(never)]
-fn found_further<K: Key, A: Allocator, T: Texts>(
-    slots: &KeySlots<K, A>,
-    texts: &T,
-    text: &str,
-    tag: u8,
-    j: usize,
-) -> Option<usize>
-    requires in_list { AllInList (T.list texts.now) slots.now.slots }
-    requires tagged { HaveTag (T.list texts.now) text.now tag slots.now }
-    requires filled { 0 < tag }
-    requires inside { j < length slots.now.slots }
-    ensures found { IfSome result (λ n. Holds slots.now.slots n × (slice_get (T.list texts.now) n ≡ Some text.now)) }
-    ensures missing { IfNone result ((n : ℕ) → slot slots.now.slots j ≡ Some n → slice_get (T.list texts.now) n ≢ Some text.now) }
-{
-    found_at(slots, texts, text, tag, j)
 }
 
 // The first empty slot from the first index up to the last, which is not among them.

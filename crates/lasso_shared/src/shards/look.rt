@@ -20,6 +20,7 @@ use std::hash::BuildHasher;
 use std::sync::Wait;
 
 // The key of a text's position in the list of a history that was seen.
+#[inline(always)]
 fn key_at<K: Key>(known: &Known<K>, position: usize) -> K
     requires { position < length (list_of known.now.of known.now.notes) }
     ensures { K.key_at position ≡ Some result }
@@ -31,6 +32,7 @@ fn key_at<K: Key>(known: &Known<K>, position: usize) -> K
 impl<K: Key, S: BuildHasher + Drop> Shards<K, S> {
     // The position of the text in a history that begins with the shard's own, where the shard's index has it.
     // Else the list of the shard's own history lacks it.
+    #[inline(always)]
     fn find_position(
         &self,
         shard: &Shard<K, S>,
@@ -52,6 +54,7 @@ impl<K: Key, S: BuildHasher + Drop> Shards<K, S> {
 
     // The key of the text, where the shard's index has it. Else the list of the shard's own history, which is
     // legal, lacks it.
+    #[inline(always)]
     fn find_key(&self, shard: &Shard<K, S>, hash: u64, text: &str) -> Option<K>
         requires hashed { hash ≡ text_hash S.build_hasher S.Hasher.write S.Hasher.finish self.now.hasher text.now }
         requires held { IsShard (text_hash S.build_hasher S.Hasher.write S.Hasher.finish self.now.hasher) (shard_of hash) self.now.log shard.now.known shard.now.index shard.now.count }
@@ -66,6 +69,7 @@ impl<K: Key, S: BuildHasher + Drop> Shards<K, S> {
     }
 
     // The same in the history that the pass has then seen. The pass learns the shard's own.
+    #[inline(always)]
     pub(super) fn find(
         &self,
         shard: &Shard<K, S>,
@@ -144,6 +148,7 @@ impl<K: Key, S: BuildHasher + Drop> Shards<K, S> {
 
     // Compares the shard likewise. A text that the list of its own history lacks is in none that the pass has
     // then seen.
+    #[inline(never)]
     fn see_absent<R: Wait>(
         &self,
         rt: &R,
@@ -166,6 +171,7 @@ impl<K: Key, S: BuildHasher + Drop> Shards<K, S> {
     }
 
     // The key of the text, where the shard's index has it. It is looked up beside other readers.
+    #[inline(always)]
     pub(super) fn peek<R: Wait>(
         &self,
         rt: &R,
@@ -187,6 +193,7 @@ impl<K: Key, S: BuildHasher + Drop> Shards<K, S> {
 
     // The key of the text, where the shard's index has it, without a pass. It is looked up beside other
     // readers.
+    #[inline(always)]
     pub(super) fn glance<R: Wait>(&self, rt: &R, hash: u64, text: &str) -> Option<K>
         requires hashed { hash ≡ text_hash S.build_hasher S.Hasher.write S.Hasher.finish self.now.hasher text.now }
         ensures told { IfSome result (λ k. (notes : List NoteView) × IsLegal K.key_at self.now.log.opening (history notes) × (key_of K.key_at (list_of self.now.log notes) text.now ≡ Some k)) }
@@ -198,6 +205,7 @@ impl<K: Key, S: BuildHasher + Drop> Shards<K, S> {
     }
 
     // The key of the text in the list that the pass has then seen, or none where that list lacks it. The shard is held.
+    #[inline(always)]
     fn look_up<R: Wait>(
         &self,
         rt: &R,

@@ -6,6 +6,8 @@ ghost use Rattle.lasso_single.specs.Copies.{bytes_of, clone_size};
 ghost use Rattle.lasso_log.specs.History.{opened};
 ghost use Rattle.lasso_log.specs.Openings.{OpeningView, opening_with};
 
+mod words;
+
 use crate::shards::Shards;
 use crate::shards::building::NewShards;
 use crate::shards::shard::BoxedTally;

@@ -8,6 +8,8 @@ ghost use Rattle.lasso_log.specs.Replies as replies;
 ghost use Rattle.lasso_log.specs.Calls.{IsCall};
 ghost use Rattle.lasso_log.specs.Views.{PassView, InternerId, IsSamePass, seen};
 
+mod debug;
+
 use crate::threaded::ThreadedRodeo;
 use lasso_log::log::Pass;
 use lasso_log::log::seen_texts::SeenTexts;

@@ -2,7 +2,7 @@ use Rattle.std.proofs.Common.{List, map, take, sym, subst}
 use Rattle.std.proofs.lemmas.List.{take-append-drop}
 use Rattle.std.proofs.lemmas.Result.{err_from_is_err_and}
 use Rattle.lasso_parts.specs.Texts.{Text}
-use Rattle.lasso_columns.specs.Encoding.{IsRefused}
+use Rattle.lasso_columns.specs.Encoding.{IsRefused, MayLackMemory}
 use Rattle.lasso_columns.proofs.Encoded.{Encoded, encoded_push, encoded_still, told_list, told_codes, next_at, texts_more, texts_split}
 use Rattle.lasso_columns.proofs.encoding.encode.Given.{Over}
 use Rattle.lasso_columns.proofs.encoding.encode.Goals as goal
@@ -26,6 +26,13 @@ returns-in_err-encode_text-clause-refused g c =
     let p = err_from_is_err_and c.from_residual.result c.from_residual.ensures.1 in
     let told = c.in_err-encode_text.ensures in
     let here = next_at _ _ _ _ (texts_split c.args.texts.now c.loop-text.text-index _ c.loop-text-test.true) _ _ _ _ (stopped g c) (λ text. IsRefused c.loop-text.rodeo text c.in_err-encode_text.field-0.0) told.2 in
+    rw (p.1, p.2, told.0) here
+
+pub returns-in_err-encode_text-clause-memory : goal.returns-in_err-encode_text-clause-memory
+returns-in_err-encode_text-clause-memory g c =
+    let p = err_from_is_err_and c.from_residual.result c.from_residual.ensures.1 in
+    let told = c.in_err-encode_text.ensures in
+    let here = next_at _ _ _ _ (texts_split c.args.texts.now c.loop-text.text-index _ c.loop-text-test.true) _ _ _ _ (stopped g c) (λ text. MayLackMemory c.loop-text.rodeo c.encode_text.new.codes text c.in_err-encode_text.field-0.0) told.3 in
     rw (p.1, p.2, told.0) here
 
 pub loop-text-preserved : goal.loop-text-preserved

@@ -1,12 +1,14 @@
-use Rattle.std.proofs.Common.{◌≡◌}
-use Rattle.lasso_lines.specs.Stream.{OnlyGrows}
+use Rattle.std.proofs.Common.{◌≡◌, map, take}
+use Rattle.lasso_lines.specs.Ordered.{told}
+use Rattle.lasso_lines.specs.Stream.{Grows, OnlyGrows, written}
 use Rattle.lasso_lines.proofs.ordered.write_texts.Given as goal
 
--- the writer has failed no call
+-- the texts before the index are written, and the writer has failed no call
 abbrev pub invariant-lines : goal.invariant-lines
 invariant-lines g l =
     let writer = g.O.ByteWriter in
     record {
       writes : writer.failures l.writer ≡ writer.failures l.fn.writer;
       delivered : OnlyGrows (writer.delivered l.fn.writer) (writer.delivered l.writer);
+      texts : Grows (written (writer.delivered l.fn.writer) (writer.pending l.fn.writer)) (written (writer.delivered l.writer) (writer.pending l.writer)) (λ part. part ≡ told (take l.text-index (map (λ p. p.1.now) l.texts)));
     }

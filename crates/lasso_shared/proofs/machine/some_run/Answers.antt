@@ -6,9 +6,11 @@ use Rattle.std.proofs.lemmas.List.Elements.{All-cons, All-nil}
 use Rattle.std.proofs.lemmas.Map.Keys.{IsDistinct-from_apart}
 use Rattle.std.specs.Str.{bytes_eq}
 use Rattle.lasso_log.specs.Buckets.{CountedBucket}
-use Rattle.lasso_shared.specs.Machine.{Step}
+use Rattle.lasso_parts.specs.declared.util.LassoErrorKind.TheVariants.{MemoryLimitReached}
+use Rattle.lasso_log.specs.Replies.{Copied, Intern}
+use Rattle.lasso_shared.specs.Machine.{Missing, Stored, Appended, Step, Reserve, Charge, Append, Release, Refuse}
 use Rattle.lasso_shared.specs.Runs.{IsStart, IsRun, IsFilled, run}
-use Rattle.lasso_shared.specs.Example.{three_keys, first_byte_shard, empty, two_calls, one_refused, keys_used_up, readings, steps}
+use Rattle.lasso_shared.specs.Example.{three_keys, first_byte_shard, empty, call, a, bc, ddd, two_calls, one_refused, keys_used_up, readings, steps}
 use Rattle.lasso_shared.proofs.machine.some_run.Goals as goal
 
 starts : IsStart three_keys first_byte_shard empty
@@ -107,4 +109,44 @@ runs : IsRun three_keys first_byte_shard empty steps
 runs = two_calls_run (one_refused (keys_used_up readings)) (one_refused_run (keys_used_up readings) (keys_used_up_run readings (tt, (tt, (tt, tt)))))
 
 pub returns : goal.returns
-returns c = record { starts = starts; runs = runs; texts = refl; doubling = refl; events = refl; replies = refl }
+returns c = record {
+  starts = starts;
+  runs = runs;
+  texts = refl;
+  later = inr
+      (record {
+        keeping = Copied;
+        text = bc;
+        between =
+            Reserve (call 7 Copied a Missing) 0
+            ∷ Charge (call 8 Copied bc Missing) 4
+            ∷ Append (call 8 Copied bc Stored)
+            ∷ Append (call 7 Copied a Stored)
+            ∷ [];
+        last = Release (call 8 Copied bc (Appended 0)) 0;
+        asked = Intern Copied bc;
+        whole = refl;
+        asks = refl;
+        missing = refl;
+        amid = (tt, (tt, (tt, (tt, tt))));
+        ends = refl;
+        replies = refl;
+      });
+  refused = inr
+      (record {
+        keeping = Copied;
+        text = ddd;
+        between = [];
+        last = Refuse (call 9 Copied ddd Missing) MemoryLimitReached;
+        asked = Intern Copied ddd;
+        whole = refl;
+        asks = refl;
+        missing = refl;
+        amid = tt;
+        ends = refl;
+        replies = refl;
+      });
+  doubling = refl;
+  events = refl;
+  replies = refl;
+}

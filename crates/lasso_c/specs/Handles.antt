@@ -1,0 +1,37 @@
+-- What a call on a handle is about: the list and the account of its interner, and why a text is refused.
+use Rattle.std.specs.Prelude.{ℕ, ◌≡◌, ◌⊎◌, List, [], length, drop, nat_lt, if◌then◌else◌, Option, None, Some, Result, Err}
+use Rattle.std.specs.List.{concat}
+use Rattle.lasso_parts.specs.Account.{Account}
+use Rattle.lasso_parts.specs.Texts.{Text}
+use Rattle.lasso_c.specs.Layout.{greatest_offset}
+use Rattle.lasso_c.specs.Encoding.{sizes_of}
+use Rattle.lasso_c.specs.Decoding.{fitting}
+use Rattle.lasso_c.specs.declared.refusal.Sizes.{Sizes}
+use Rattle.lasso_c.specs.declared.refusal.Refusal.{Refusal}
+use Rattle.lasso_c.specs.declared.refusal.Refusal.TheVariants.{LimitReached, NoCodeLeft, NoMemory, TooManyBytes, NoInterner}
+use Rattle.lasso_c.specs.declared.slot.Interner.{Interner}
+
+-- the texts of the interner, or none
+abbrev pub texts_in : Option Interner → List Text
+texts_in None = []
+texts_in (Some interner) = interner.rodeo.texts
+
+-- the account of the interner, if there is one
+abbrev pub account_in : Option Interner → Option Account
+account_in None = None
+account_in (Some interner) = Some interner.rodeo.account
+
+-- why an interner refuses a text of this number in a batch
+abbrev pub Refuses : ℕ → Refusal → Type 0
+Refuses at refusal = (refusal ≡ LimitReached at) ⊎ (refusal ≡ NoCodeLeft at) ⊎ (refusal ≡ NoMemory)
+
+-- how writing these texts ends, where there is room for so many offsets and bytes
+abbrev pub part_outcome : List Text → ℕ → ℕ → Result Sizes Refusal
+part_outcome texts offsets bytes =
+    if nat_lt greatest_offset (length (concat texts)) then Err (TooManyBytes 0)
+    else fitting (sizes_of texts) offsets bytes
+
+-- the same of the texts from a code on of the interner, if there is one
+abbrev pub dictionary_outcome : Option Interner → ℕ → ℕ → ℕ → Result Sizes Refusal
+dictionary_outcome None from offsets bytes = Err NoInterner
+dictionary_outcome (Some interner) from offsets bytes = part_outcome (drop from interner.rodeo.texts) offsets bytes

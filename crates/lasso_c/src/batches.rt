@@ -1,0 +1,173 @@
+//! Texts of a layout interned into a dictionary that has some already, and the texts of a dictionary from a code on.
+ghost use Rattle.std.specs.Prelude.{◌≡◌, ◌<◌, ◌≤◌, ◌+◌, None, Some, OnOk, IfOk, IfErr, IfSome, IsSome, length, slice_get, take, drop, is_ok, if◌then◌else◌};
+ghost use Rattle.std.specs.List.{concat};
+ghost use Rattle.lasso_parts.specs.Texts.{position_of};
+ghost use Rattle.lasso_c.specs.Layout.{greatest_offset, layout_texts, offsets_from, over};
+ghost use Rattle.lasso_c.specs.Encoding.{with_new, with_all_new, codes_of, sizes_of};
+ghost use Rattle.lasso_c.specs.Handles.{Refuses, part_outcome};
+
+use crate::encoding::{Dictionary, text_at_code};
+use crate::layout::{GREATEST_OFFSET, put_text, text_between};
+use crate::refusal::{Refusal, Sizes};
+use lasso_parts::keys::Key;
+use lasso_parts::util::LassoErrorKind;
+
+// How many texts of a batch were interned, and why no more.
+#[derive(Clone, Copy)]
+pub(crate) struct Progress {
+    pub(crate) done: usize,
+    pub(crate) outcome: Result<(), Refusal>,
+}
+
+// Interns the texts of the layout up to the first that is refused, and writes their codes.
+#[tactic(auto, using(crate::proofs::BatchSteps::layout_count, crate::proofs::BatchSteps::none_done))]
+pub(crate) fn intern_layout(
+    dictionary: &mut Dictionary,
+    bytes: &[u8],
+    offsets: &[u32],
+    codes: &mut [u32],
+) -> Progress
+    ensures texts { dictionary.new.texts ≡ with_all_new dictionary.old.texts (take result.done (layout_texts bytes.now offsets.now)) }
+    ensures codes { codes.new ≡ over (codes_of dictionary.new.texts (take result.done (layout_texts bytes.now offsets.now))) codes.old }
+    ensures whole { OnOk result.outcome (result.done ≡ length (layout_texts bytes.now offsets.now)) }
+    ensures within { result.done ≤ length (layout_texts bytes.now offsets.now) }
+{
+    if offsets.len() == 0 {
+        return Progress {
+            done: 0,
+            outcome: Ok(()),
+        };
+    }
+    let count = offsets.len() - 1;
+    if codes.len() < count {
+        let none = Sizes { texts: 0, bytes: 0 };
+        return Progress {
+            done: 0,
+            outcome: Err(Refusal::CodesTooShort(none)),
+        };
+    }
+    for at in 0..count {
+        let (from, to) = (offsets[at] as usize, offsets[at + 1] as usize);
+        let text = match text_between(bytes, at, from, to) {
+            Ok(text) => text,
+            Err(refusal) => return Progress {
+                done: at,
+                outcome: Err(refusal),
+            },
+        };
+        match code_in(dictionary, text, at) {
+            Ok(code) => codes[at] = code,
+            Err(refusal) => return Progress {
+                done: at,
+                outcome: Err(refusal),
+            },
+        }
+    }
+    Progress {
+        done: count,
+        outcome: Ok(()),
+    }
+}
+
+// The code of the text, which goes last in the dictionary if it is new. `at` is its number in a batch. Where the text is
+// refused nothing has changed.
+pub(crate) fn code_in(dictionary: &mut Dictionary, text: &str, at: usize) -> Result<u32, Refusal>
+    ensures texts { OnOk result (dictionary.new.texts ≡ with_new dictionary.old.texts text.now) }
+    ensures code { IfOk result (λ code. position_of dictionary.new.texts text.now ≡ Some code) }
+    ensures refused { IfErr result (λ refusal. Refuses at refusal) }
+    ensures kept { IfErr result (λ _. (dictionary.new.texts ≡ dictionary.old.texts) × (dictionary.new.account ≡ dictionary.old.account)) }
+{
+    match dictionary.try_get_or_intern(text) {
+        Ok(key) => Ok(key.into_inner() - 1),
+        Err(error) => match error.kind() {
+            LassoErrorKind::MemoryLimitReached => Err(Refusal::LimitReached(at)),
+            LassoErrorKind::KeySpaceExhaustion => Err(Refusal::NoCodeLeft(at)),
+            LassoErrorKind::FailedAllocation => Err(Refusal::NoMemory),
+        },
+    }
+}
+
+// Writes the texts from the code on, or nothing.
+pub(crate) fn write_from(
+    dictionary: &Dictionary,
+    from: usize,
+    bytes: &mut [u8],
+    offsets: &mut [u32],
+) -> Result<Sizes, Refusal>
+    ensures outcome { result ≡ part_outcome (drop from dictionary.now.texts) (length offsets.old) (length bytes.old) }
+    ensures bytes { bytes.new ≡ (if is_ok result then over (concat (drop from dictionary.now.texts)) bytes.old else bytes.old) }
+    ensures offsets { offsets.new ≡ (if is_ok result then over (offsets_from 0 (drop from dictionary.now.texts)) offsets.old else offsets.old) }
+{
+    let Some(sizes) = sizes_from(dictionary, from) else {
+        return Err(Refusal::TooManyBytes(0));
+    };
+    if sizes.texts >= offsets.len() {
+        return Err(Refusal::OffsetsTooShort(sizes));
+    }
+    if bytes.len() < sizes.bytes {
+        return Err(Refusal::BytesTooShort(sizes));
+    }
+    put_from(dictionary, from, bytes, offsets);
+    Ok(sizes)
+}
+
+// How many texts there are from the code on, and their bytes, unless these are more than offsets can tell.
+fn sizes_from(dictionary: &Dictionary, from: usize) -> Option<Sizes>
+    ensures sizes { IfSome result (λ sizes. sizes ≡ sizes_of (drop from dictionary.now.texts)) }
+    ensures small { IfSome result (λ sizes. sizes.bytes ≤ greatest_offset) }
+    ensures large { result ≡ None → greatest_offset < length (concat (drop from dictionary.now.texts)) }
+{
+    let mut bytes = 0;
+    let count = dictionary.len().saturating_sub(from);
+    for at in 0..count {
+        let text = text_at_code(dictionary, from + at);
+        if text.len() > GREATEST_OFFSET - bytes {
+            return None;
+        }
+        bytes += text.len();
+    }
+    Some(Sizes {
+        texts: count,
+        bytes,
+    })
+}
+
+// Writes the texts from the code on. There must be room.
+fn put_from(dictionary: &Dictionary, from: usize, bytes: &mut [u8], offsets: &mut [u32])
+    requires small { length (concat (drop from dictionary.now.texts)) ≤ greatest_offset }
+    requires bytes { length (concat (drop from dictionary.now.texts)) ≤ length bytes.old }
+    requires offsets { length (drop from dictionary.now.texts) < length offsets.old }
+    ensures bytes { bytes.new ≡ over (concat (drop from dictionary.now.texts)) bytes.old }
+    ensures offsets { offsets.new ≡ over (offsets_from 0 (drop from dictionary.now.texts)) offsets.old }
+{
+    let mut start = 0;
+    let count = dictionary.len().saturating_sub(from);
+    for at in 0..count {
+        let text = text_at_code(dictionary, from + at).as_bytes();
+        start = put_text(text, at, start, offsets, bytes);
+    }
+    offsets[count] = start as u32;
+}
+
+// Writes the text of the code as far as there is room, and how many bytes it has.
+pub(crate) fn copy_text(
+    dictionary: &Dictionary,
+    code: u32,
+    text: &mut [u8],
+    whole: &mut usize,
+) -> u32
+    ensures found { result ≡ 0 → IfSome (slice_get dictionary.now.texts code) (λ t. (whole.new ≡ length t) × (text.new ≡ over (take (length text.old) t) text.old)) }
+    ensures present { result ≡ 0 → IsSome (slice_get dictionary.now.texts code) }
+    ensures absent { ¬ (result ≡ 0) → (result ≡ 4) × (slice_get dictionary.now.texts code ≡ None) }
+    ensures kept { ¬ (result ≡ 0) → (whole.new ≡ whole.old) × (text.new ≡ text.old) }
+{
+    let code = code as usize;
+    if code >= dictionary.len() {
+        return 4;
+    }
+    let found = text_at_code(dictionary, code).as_bytes();
+    let room = found.len().min(text.len());
+    text[..room].copy_from_slice(&found[..room]);
+    *whole = found.len();
+    0
+}

@@ -1,0 +1,69 @@
+//! What C holds: an interner or none.
+ghost use Rattle.std.specs.Prelude.{◌≡◌, None, Some, is_some, option_map};
+
+use crate::slot::{Block, Interner, Slot};
+use std::alloc::Global;
+
+/// An interner, or none. All zero it is none.
+#[repr(C)]
+pub struct Lasso {
+    pub(crate) slot: Slot,
+    live: bool,
+    ghost agree: { live ≡ is_some slot.value },
+}
+
+impl Lasso {
+    // No interner.
+    pub(crate) fn none(alloc: Global) -> Lasso
+        ensures { result.slot.value ≡ None }
+    {
+        Lasso {
+            slot: Slot::none(alloc),
+            live: false,
+        }
+    }
+
+    // Takes the interner out.
+    pub(crate) fn take(&mut self, alloc: Global) -> Option<Box<Interner>>
+        ensures taken { option_map (λ b. b.value) result ≡ self.old.slot.value }
+        ensures left { self.new.slot.value ≡ None }
+    {
+        std::mem::replace(self, Lasso::none(alloc)).into_box()
+    }
+
+    // The interner, if there is one.
+    fn into_box(self) -> Option<Box<Interner>>
+        ensures { option_map (λ b. b.value) result ≡ self.slot.value }
+    {
+        let Lasso { slot, live } = self;
+        if live {
+            return Some(slot.into_box());
+        }
+        slot.end();
+        None
+    }
+
+    // Holds this interner, and lets go of one that was held.
+    pub(crate) fn put(&mut self, alloc: Global, interner: Box<Interner>)
+        ensures { self.new.slot.value ≡ Some interner.value }
+    {
+        *self = Lasso {
+            slot: Slot::of_block(alloc, Block::of(interner)),
+            live: true,
+        };
+    }
+}
+
+impl Drop for Lasso {
+    fn drop(self) {
+        let _interner = self.into_box();
+    }
+}
+
+/// That a handle may be passed from thread to thread: it may, since an interner may.
+pub fn handles_cross_threads() {
+    is_send::<Interner>();
+    is_send::<Lasso>();
+}
+
+fn is_send<T: Send>() {}

@@ -1,0 +1,272 @@
+//! Interners that C holds from call to call. `include/lasso.h` says the same of each call in C's words.
+//!
+//! A call takes the interner out of its handle, works on it, and puts it back, which needs no memory.
+ghost use Rattle.std.specs.Prelude.{◌≡◌, ◌⊎◌, ◌≤◌, [], None, Some, length, slice_get, take, drop, IfSome, IsSome};
+ghost use Rattle.std.specs.List.{concat};
+ghost use Rattle.lasso_parts.specs.Account.{clear, fresh, with_limit};
+ghost use Rattle.lasso_parts.specs.Texts.{position_of};
+ghost use Rattle.lasso_c.specs.Layout.{layout_texts, offsets_from, over};
+ghost use Rattle.lasso_c.specs.Encoding.{with_new, with_all_new, codes_of};
+ghost use Rattle.lasso_c.specs.Handles.{account_in, dictionary_outcome, texts_in};
+ghost use Rattle.lasso_c.specs.Status.{Reports};
+
+use crate::batches::{code_in, copy_text, intern_layout, write_from};
+use crate::handle::Lasso;
+use crate::refusal::{LassoReport, Refusal, batch_report, status_of, tell};
+use crate::slot::Interner;
+use lasso_parts::keys::Key;
+use lasso_parts::util::MemoryLimits;
+use lasso_single::rodeo::Rodeo;
+use std::alloc::Global;
+use std::str::from_utf8;
+
+/// Makes an interner whose buckets take at most `limit` bytes. Once it is made, one that the handle held is let go. It returns
+/// 9 out of memory, and the handle is as it was then.
+#[unsafe(no_mangle)]
+pub extern "C" fn lasso_new(alloc: Global, lasso: &mut Lasso, limit: usize) -> u32
+    ensures made { result ≡ 0 → IsSome lasso.new.slot.value }
+    ensures texts { result ≡ 0 → texts_in lasso.new.slot.value ≡ [] }
+    ensures account { result ≡ 0 → account_in lasso.new.slot.value ≡ Some (fresh 4096 limit) }
+    ensures refused { ¬ (result ≡ 0) → result ≡ 9 }
+    ensures kept { ¬ (result ≡ 0) → lasso.new.slot.value ≡ lasso.old.slot.value }
+{
+    let Ok(rodeo) = Rodeo::with_memory_limits(alloc, MemoryLimits::new(limit)) else {
+        return 9;
+    };
+    let Ok(interner) = Box::new(alloc, Interner { rodeo }) else {
+        return 9;
+    };
+    lasso.put(alloc, interner);
+    0
+}
+
+/// Interns a text, and writes its code. It returns 3 where the text is not UTF-8, 12 without an interner, and where the interner
+/// refuses the text 10 for its limit, 11 without a code, 9 out of memory. Nothing has changed then.
+#[unsafe(no_mangle)]
+pub extern "C" fn lasso_intern(alloc: Global, lasso: &mut Lasso, text: &[u8], code: &mut u32) -> u32
+    ensures texts { result ≡ 0 → texts_in lasso.new.slot.value ≡ with_new (texts_in lasso.old.slot.value) text.now }
+    ensures code { result ≡ 0 → position_of (texts_in lasso.new.slot.value) text.now ≡ Some code.new }
+    ensures status { (result ≡ 0) ⊎ (result ≡ 3) ⊎ (result ≡ 9) ⊎ (result ≡ 10) ⊎ (result ≡ 11) ⊎ (result ≡ 12) }
+    ensures none { result ≡ 12 → lasso.old.slot.value ≡ None }
+    ensures texts_kept { ¬ (result ≡ 0) → texts_in lasso.new.slot.value ≡ texts_in lasso.old.slot.value }
+    ensures account_kept { ¬ (result ≡ 0) → account_in lasso.new.slot.value ≡ account_in lasso.old.slot.value }
+    ensures code_kept { ¬ (result ≡ 0) → code.new ≡ code.old }
+{
+    let Ok(text) = from_utf8(text) else {
+        return 3;
+    };
+    let Some(mut interner) = lasso.take(alloc) else {
+        return 12;
+    };
+    let outcome = code_in(&mut interner.rodeo, text, 0);
+    lasso.put(alloc, interner);
+    match outcome {
+        Ok(found) => {
+            *code = found;
+            0
+        }
+        Err(refusal) => status_of(&refusal),
+    }
+}
+
+/// Interns the texts of a layout in their order, up to the first that is refused, and writes the codes of those before it. The
+/// report says how many these are, and also where the refused one is. It returns 6 and interns none where a code of each text
+/// has no room, 12 without an interner, and else what the refused text gives: 1, 2 or 3 for its layout, 9, 10 or 11.
+#[unsafe(no_mangle)]
+pub extern "C" fn lasso_intern_batch(
+    alloc: Global,
+    lasso: &mut Lasso,
+    bytes: &[u8],
+    offsets: &[u32],
+    codes: &mut [u32],
+    report: &mut LassoReport,
+) -> u32
+    ensures texts { texts_in lasso.new.slot.value ≡ with_all_new (texts_in lasso.old.slot.value) (take report.new.texts (layout_texts bytes.now offsets.now)) }
+    ensures codes { codes.new ≡ over (codes_of (texts_in lasso.new.slot.value) (take report.new.texts (layout_texts bytes.now offsets.now))) codes.old }
+    ensures whole { result ≡ 0 → report.new.texts ≡ length (layout_texts bytes.now offsets.now) }
+    ensures within { report.new.texts ≤ length (layout_texts bytes.now offsets.now) }
+    ensures none { lasso.old.slot.value ≡ None → result ≡ 12 }
+{
+    let Some(mut interner) = lasso.take(alloc) else {
+        return tell(&Err(Refusal::NoInterner), report);
+    };
+    let progress = intern_layout(&mut interner.rodeo, bytes, offsets, codes);
+    lasso.put(alloc, interner);
+    match progress.outcome {
+        Ok(()) => {
+            *report = batch_report(progress.done, 0);
+            0
+        }
+        Err(refusal) => {
+            *report = batch_report(progress.done, progress.done);
+            status_of(&refusal)
+        }
+    }
+}
+
+/// Writes the code of a text. It returns 3 where the text is not UTF-8, 12 without an interner, 13 where the text is absent, and
+/// writes nothing then.
+#[unsafe(no_mangle)]
+pub extern "C" fn lasso_get(alloc: Global, lasso: &mut Lasso, text: &[u8], code: &mut u32) -> u32
+    ensures found { result ≡ 0 → position_of (texts_in lasso.old.slot.value) text.now ≡ Some code.new }
+    ensures absent { result ≡ 13 → position_of (texts_in lasso.old.slot.value) text.now ≡ None }
+    ensures status { (result ≡ 0) ⊎ (result ≡ 3) ⊎ (result ≡ 12) ⊎ (result ≡ 13) }
+    ensures none { result ≡ 12 → lasso.old.slot.value ≡ None }
+    ensures code_kept { ¬ (result ≡ 0) → code.new ≡ code.old }
+    ensures kept { lasso.new.slot.value ≡ lasso.old.slot.value }
+{
+    let Ok(text) = from_utf8(text) else {
+        return 3;
+    };
+    let Some(interner) = lasso.take(alloc) else {
+        return 12;
+    };
+    let found = interner.rodeo.get(text);
+    lasso.put(alloc, interner);
+    match found {
+        Some(key) => {
+            *code = key.into_inner() - 1;
+            0
+        }
+        None => 13,
+    }
+}
+
+/// Writes the text of a code as far as there is room, and how many bytes the whole text has. It returns 12 without an interner,
+/// 4 where the code has no text, and writes nothing then.
+#[unsafe(no_mangle)]
+pub extern "C" fn lasso_resolve(
+    alloc: Global,
+    lasso: &mut Lasso,
+    code: u32,
+    text: &mut [u8],
+    whole: &mut usize,
+) -> u32
+    ensures found { result ≡ 0 → IfSome (slice_get (texts_in lasso.old.slot.value) code) (λ t. (whole.new ≡ length t) × (text.new ≡ over (take (length text.old) t) text.old)) }
+    ensures present { result ≡ 0 → IsSome (slice_get (texts_in lasso.old.slot.value) code) }
+    ensures absent { result ≡ 4 → slice_get (texts_in lasso.old.slot.value) code ≡ None }
+    ensures status { (result ≡ 0) ⊎ (result ≡ 4) ⊎ (result ≡ 12) }
+    ensures none { result ≡ 12 → lasso.old.slot.value ≡ None }
+    ensures text_kept { ¬ (result ≡ 0) → text.new ≡ text.old }
+    ensures whole_kept { ¬ (result ≡ 0) → whole.new ≡ whole.old }
+    ensures kept { lasso.new.slot.value ≡ lasso.old.slot.value }
+{
+    let Some(interner) = lasso.take(alloc) else {
+        return 12;
+    };
+    let status = copy_text(&interner.rodeo, code, text, whole);
+    lasso.put(alloc, interner);
+    status
+}
+
+/// Writes the layout of the texts from a code on: what a reader lacks that has those before. The report has their sizes, which
+/// are those that are needed where it returns 7 or 8 for too little room. It returns 5 where they have more bytes than offsets
+/// can tell, 12 without an interner. What is refused writes nothing but its report.
+#[unsafe(no_mangle)]
+pub extern "C" fn lasso_dictionary(
+    alloc: Global,
+    lasso: &mut Lasso,
+    from: usize,
+    bytes: &mut [u8],
+    offsets: &mut [u32],
+    report: &mut LassoReport,
+) -> u32
+    ensures outcome { Reports (dictionary_outcome lasso.old.slot.value from (length offsets.old) (length bytes.old)) result report.new }
+    ensures bytes { result ≡ 0 → bytes.new ≡ over (concat (drop from (texts_in lasso.old.slot.value))) bytes.old }
+    ensures offsets { result ≡ 0 → offsets.new ≡ over (offsets_from 0 (drop from (texts_in lasso.old.slot.value))) offsets.old }
+    ensures bytes_kept { ¬ (result ≡ 0) → bytes.new ≡ bytes.old }
+    ensures offsets_kept { ¬ (result ≡ 0) → offsets.new ≡ offsets.old }
+    ensures kept { lasso.new.slot.value ≡ lasso.old.slot.value }
+{
+    let Some(interner) = lasso.take(alloc) else {
+        return tell(&Err(Refusal::NoInterner), report);
+    };
+    let outcome = write_from(&interner.rodeo, from, bytes, offsets);
+    lasso.put(alloc, interner);
+    tell(&outcome, report)
+}
+
+/// How many texts the interner has; 0 without an interner.
+#[unsafe(no_mangle)]
+pub extern "C" fn lasso_len(alloc: Global, lasso: &mut Lasso) -> usize
+    ensures value { result ≡ length (texts_in lasso.old.slot.value) }
+    ensures kept { lasso.new.slot.value ≡ lasso.old.slot.value }
+{
+    let Some(interner) = lasso.take(alloc) else {
+        return 0;
+    };
+    let len = interner.rodeo.len();
+    lasso.put(alloc, interner);
+    len
+}
+
+/// How many bytes the interner's buckets take; 0 without an interner.
+#[unsafe(no_mangle)]
+pub extern "C" fn lasso_memory(alloc: Global, lasso: &mut Lasso) -> usize
+    ensures value { IfSome (account_in lasso.old.slot.value) (λ account. result ≡ account.usage) }
+    ensures none { lasso.old.slot.value ≡ None → result ≡ 0 }
+    ensures kept { lasso.new.slot.value ≡ lasso.old.slot.value }
+{
+    let Some(interner) = lasso.take(alloc) else {
+        return 0;
+    };
+    let bytes = interner.rodeo.current_memory_usage();
+    lasso.put(alloc, interner);
+    bytes
+}
+
+/// How many bytes the interner's buckets may take; 0 without an interner.
+#[unsafe(no_mangle)]
+pub extern "C" fn lasso_limit(alloc: Global, lasso: &mut Lasso) -> usize
+    ensures value { IfSome (account_in lasso.old.slot.value) (λ account. result ≡ account.limit) }
+    ensures none { lasso.old.slot.value ≡ None → result ≡ 0 }
+    ensures kept { lasso.new.slot.value ≡ lasso.old.slot.value }
+{
+    let Some(interner) = lasso.take(alloc) else {
+        return 0;
+    };
+    let bytes = interner.rodeo.max_memory_usage();
+    lasso.put(alloc, interner);
+    bytes
+}
+
+/// Sets how many bytes the interner's buckets may take. It may lie below what they take: then no bucket comes. It returns 12
+/// without an interner.
+#[unsafe(no_mangle)]
+pub extern "C" fn lasso_set_limit(alloc: Global, lasso: &mut Lasso, limit: usize) -> u32
+    ensures texts { texts_in lasso.new.slot.value ≡ texts_in lasso.old.slot.value }
+    ensures account { IfSome (account_in lasso.old.slot.value) (λ account. account_in lasso.new.slot.value ≡ Some (with_limit account limit)) }
+    ensures done { IsSome lasso.old.slot.value → result ≡ 0 }
+    ensures none { lasso.old.slot.value ≡ None → (result ≡ 12) × (lasso.new.slot.value ≡ None) }
+{
+    let Some(mut interner) = lasso.take(alloc) else {
+        return 12;
+    };
+    interner.rodeo.set_memory_limits(MemoryLimits::new(limit));
+    lasso.put(alloc, interner);
+    0
+}
+
+/// Forgets every text. The limit stays, and so do the buckets that are filled again. It returns 12 without an interner.
+#[unsafe(no_mangle)]
+pub extern "C" fn lasso_clear(alloc: Global, lasso: &mut Lasso) -> u32
+    ensures texts { texts_in lasso.new.slot.value ≡ [] }
+    ensures account { IfSome lasso.old.slot.value (λ interner. account_in lasso.new.slot.value ≡ Some (clear interner.rodeo.first interner.rodeo.account)) }
+    ensures done { IsSome lasso.old.slot.value → result ≡ 0 }
+    ensures none { lasso.old.slot.value ≡ None → (result ≡ 12) × (lasso.new.slot.value ≡ None) }
+{
+    let Some(mut interner) = lasso.take(alloc) else {
+        return 12;
+    };
+    interner.rodeo.clear();
+    lasso.put(alloc, interner);
+    0
+}
+
+/// Lets the interner go, if there is one. The handle holds none then.
+#[unsafe(no_mangle)]
+pub extern "C" fn lasso_free(alloc: Global, lasso: &mut Lasso)
+    ensures { lasso.new.slot.value ≡ None }
+{
+    *lasso = Lasso::none(alloc);
+}

@@ -1,0 +1,94 @@
+// Memory of a caller's in which an interner is kept between calls.
+//
+// An export can take no box, so a box is taken apart here: `Block` is its memory, and `Slot` the same beside what gives it back.
+// Both own what lies at their pointers by their types' models, so no caller says anything of memory.
+ghost use Rattle.std.specs.Prelude.{◌≡◌, Option, None, Some};
+ghost use Rattle.std.specs.Box.Ownership.{box_owns};
+ghost use Rattle.libc.specs.Heap.{chunk};
+ghost use Rattle.lasso_c.specs.Held.{held, interner_coded};
+ghost use Rattle.lasso_c.specs.declared.slot.Interner.{Interner};
+
+use crate::encoding::Dictionary;
+use std::alloc::Global;
+use std::marker::Model;
+
+/// An interner whose keys are codes.
+#[derive(Drop)]
+pub struct Interner {
+    pub(crate) rodeo: Dictionary,
+}
+
+// The memory of a box, without the box.
+pub(crate) struct Block<T> {
+    at: *mut T,
+    ghost value: { T },
+}
+
+impl<T> Model for Block<T> {
+    ghost also_owns = { λ b. box_owns chunk T.row b.at b.value };
+}
+
+impl<T> Block<T> {
+    // The memory of the box, which is let go.
+    pub(crate) fn of(boxed: Box<T>) -> Block<T>
+    where
+        T: Drop,
+        ensures { result.value ≡ boxed.value }
+    {
+        let at = Box::into_raw(boxed);
+        Block { at }
+    }
+}
+
+/// Where an interner is, if there is one.
+#[repr(C)]
+pub struct Slot {
+    at: *mut u8,
+    alloc: Global,
+    ghost value: { Option Interner } by { interner_coded },
+}
+
+impl Model for Slot {
+    ghost also_owns = { λ s. held s.at s.value };
+}
+
+impl Slot {
+    // No interner.
+    pub(crate) fn none(alloc: Global) -> Slot
+        ensures { result.value ≡ None }
+    {
+        Slot {
+            at: std::ptr::null_mut(),
+            alloc,
+        }
+    }
+
+    // The interner that lies there.
+    pub(crate) fn of_block(alloc: Global, block: Block<Interner>) -> Slot
+        ensures { result.value ≡ Some block.value }
+    {
+        let Block { at } = block;
+        Slot {
+            at: at as *mut u8,
+            alloc,
+        }
+    }
+
+    // The interner, in a box.
+    pub(crate) fn into_box(self) -> Box<Interner>
+        requires { ¬ (self.value ≡ None) }
+        ensures { self.value ≡ Some result.value }
+    {
+        let Slot { at, alloc } = self;
+        unsafe { Box::from_raw(alloc, at as *mut Interner) }
+    }
+
+    // Lets go of a slot that holds none.
+    pub(crate) fn end(self)
+        requires { self.value ≡ None }
+    {
+        let Slot { at: _, alloc: _ } = self;
+    }
+}
+
+unsafe impl Send for Slot {}

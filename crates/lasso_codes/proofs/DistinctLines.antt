@@ -1,0 +1,170 @@
+-- The distinct lines, written one after another.
+--
+-- The report of lines and one more is the report of the lines, and that line behind it where no line before was the same: the list of
+-- the interner is that of the distinct lines so far. So the report of first lines begins the report of all, and what is written after
+-- each line is the report so far. A run that ends early has written the report of the lines before, or a beginning of it.
+use Rattle.std.proofs.Common.{ℕ, ◌≡◌, ◌+◌, List, [], ◌∷◌, ◌++◌, length, take, drop, Bool, true, false, cond, is_some, Result, Ok, Err, ◌⊎◌, refl, sym, ap, subst, ◌∙◌, append_assoc, inl, inr}
+use Rattle.std.specs.Prelude.{flat_map, All, slice_get, IsSomeAnd}
+use Rattle.std.specs.Str.{IsUtf8}
+use Rattle.std.proofs.lemmas.List.{append-nil, take-append-drop}
+use Rattle.lasso_parts.specs.Texts.{Text, position_of}
+use Rattle.lasso_single.specs.Filling.{extend}
+use Rattle.lasso_single.specs.Intern.{InternsIn}
+use Rattle.lasso_single.specs.Interner.{InternerView, made_with}
+use Rattle.lasso_single.proofs.Filled.{accepted, extend_push}
+use Rattle.lasso_columns.proofs.PartLists.{list_extended}
+use Rattle.lasso_columns.specs.Encoding.{spur_at}
+use Rattle.lasso_columns.specs.Faults.{IsFaultOf}
+use Rattle.lasso_columns.specs.Lines.{lines_of}
+use Rattle.lasso_columns.specs.Parts.{new_texts}
+use Rattle.lasso_columns.specs.declared.faults.LineError.TheVariants.{Refused}
+use Rattle.lasso_parts.specs.declared.util.LassoErrorKind.TheVariants.{FailedAllocation}
+use Rattle.lasso_counts.proofs.Counted.{list_push}
+use Rattle.lasso_codes.specs.Distinct.{with_feed, distinct_report, passed, PassFault, DistinctEnd}
+use Rattle.lasso_codes.specs.Fault.{IsReadFault, IsWriteFault, IsWriteEnd}
+use Rattle.lasso_codes.specs.Streams.{Begins}
+use Rattle.lasso_codes.specs.declared.fault.RunFault.{RunFault}
+use Rattle.lasso_codes.specs.declared.fault.RunFault.TheVariants.{Line, TooManyLines, ReadFailed, WriteFailed, ReaderGone}
+use Rattle.lasso_codes.proofs.Taken.{Taken, taken_none, taken_push, taken_all, taken_first, taken_next}
+
+-- ---- the report of one line more
+
+fed_push : (lines : List Text) (line : Text) → flat_map with_feed (lines ++ line ∷ []) ≡ flat_map with_feed lines ++ with_feed line
+fed_push [] line = append-nil (with_feed line)
+fed_push (l ∷ lines) line = ap (λ bs. with_feed l ++ bs) (fed_push lines line) ∙ sym (append_assoc (with_feed l) (flat_map with_feed lines) (with_feed line))
+
+fed_last : (lines : List Text) (line : Text) (there : Bool) → flat_map with_feed (cond there lines (lines ++ line ∷ [])) ≡ flat_map with_feed lines ++ cond there [] (with_feed line)
+fed_last lines line true = sym (append-nil (flat_map with_feed lines))
+fed_last lines line false = fed_push lines line
+
+pub report_push : (lines : List Text) (line : Text) → distinct_report (lines ++ line ∷ []) ≡ distinct_report lines ++ passed (new_texts [] lines) line
+report_push lines line =
+    ap (λ (ls : List Text). flat_map with_feed ls) (sym (list_push lines (new_texts [] lines) line refl)) ∙ fed_last (new_texts [] lines) line (is_some (position_of (new_texts [] lines) line))
+
+begins_then : (part mid whole : List ℕ) → Begins part mid → Begins mid whole → Begins part whole
+begins_then part mid whole a b = (a.0 ++ b.0, b.1 ∙ ap (λ bs. bs ++ b.0) a.1 ∙ append_assoc part a.0 b.0)
+
+pub report_begins : (done more : List Text) → Begins (distinct_report done) (distinct_report (done ++ more))
+report_begins done [] = ([], ap distinct_report (append-nil done) ∙ sym (append-nil (distinct_report done)))
+report_begins done (line ∷ more) =
+    begins_then (distinct_report done) (distinct_report (done ++ line ∷ [])) (distinct_report (done ++ line ∷ more)) (passed (new_texts [] done) line, report_push done line)
+    (subst (λ (ls : List Text). Begins (distinct_report (done ++ line ∷ [])) (distinct_report ls)) (append_assoc done (line ∷ []) more) (report_begins (done ++ line ∷ []) more))
+
+first_begins : (lines : List Text) (n : ℕ) (part : List ℕ) → part ≡ distinct_report (take n lines) → Begins part (distinct_report lines)
+first_begins lines n part is =
+    let whole : Begins (distinct_report (take n lines)) (distinct_report lines) = subst (λ (ls : List Text). Begins (distinct_report (take n lines)) (distinct_report ls)) (take-append-drop n lines) (report_begins (take n lines) (drop n lines)) in
+    subst (λ bs. Begins bs (distinct_report lines)) (sym is) whole
+
+-- ---- a run on its way
+
+-- these lines were read and interned, and the part is their report
+pub record OnTheWay (input : List ℕ) (limit : ℕ) (rest : List ℕ) (number : ℕ) (now : InternerView) (part : List ℕ) : Type 0 where
+  pub done : List Text
+  pub taken : Taken input rest number done
+  pub list : extend spur_at (made_with 4096 limit) done accepted now
+  pub part_is : part ≡ distinct_report done
+
+pub way_none : (input : List ℕ) (limit : ℕ) (now : InternerView) → now ≡ made_with 4096 limit → OnTheWay input limit input 1 now []
+way_none input limit now made = record { done = []; taken = taken_none input; list = (refl, made); part_is = refl }
+
+-- the list is that of the distinct lines
+way_list : (input : List ℕ) (limit : ℕ) (rest : List ℕ) (number : ℕ) (now : InternerView) (part : List ℕ) (way : OnTheWay input limit rest number now part) → now.texts ≡ new_texts [] way.done
+way_list input limit rest number now part way = list_extended (made_with 4096 limit) now way.done way.list
+
+-- one line more
+pub way_push : (input : List ℕ) (limit : ℕ) (rest : List ℕ) (number : ℕ) (now after : InternerView) (part more left : List ℕ) (line : Text) (key : ℕ) → OnTheWay input limit rest number now part → lines_of rest ≡ line ∷ lines_of left → IsUtf8 line → InternsIn spur_at now line (Ok key) after → more ≡ passed now.texts line → OnTheWay input limit left (number + 1) after (part ++ more)
+way_push input limit rest number now after part more left line key way cut text interns is = record {
+  done = way.done ++ line ∷ [];
+  taken = taken_push input rest number way.done line left way.taken cut text;
+  list = extend_push spur_at (made_with 4096 limit) now after way.done line (Ok key) accepted way.list interns refl;
+  part_is =
+      ap (λ bs. bs ++ more) way.part_is ∙ ap (λ bs. distinct_report way.done ++ bs) (is ∙ ap (λ (ls : List Text). passed ls line) (way_list input limit rest number now part way))
+      ∙ sym (report_push way.done line);
+}
+
+module _ (input : List ℕ) (limit : ℕ) (rest : List ℕ) (number : ℕ) (now : InternerView) (part : List ℕ) (way : OnTheWay input limit rest number now part) where
+  -- the part is the report of the first lines
+  way_first : part ≡ distinct_report (take (length way.done) (lines_of input))
+  way_first = way.part_is ∙ ap distinct_report (sym (taken_first input rest number way.done way.taken))
+
+  way_begins : Begins part (distinct_report (lines_of input))
+  way_begins = first_begins (lines_of input) (length way.done) part way_first
+
+  number_is : length way.done + 1 ≡ number
+  number_is = way.taken.counted
+
+  -- the input has ended
+  pub way_ends : rest ≡ [] → DistinctEnd input limit part (Ok tt)
+  way_ends none =
+      let all : lines_of input ≡ way.done = taken_all input rest number way.done way.taken none in
+      (subst (λ (ls : List Text). All IsUtf8 ls) (sym all) way.taken.texts, way.part_is ∙ ap distinct_report (sym all))
+
+  -- there are more lines than numbers
+  pub way_many : DistinctEnd input limit part (Err TooManyLines)
+  way_many = (length way.done, way_first)
+
+  pub way_read_fails : (fault : RunFault) → IsReadFault number fault → DistinctEnd input limit part (Err fault)
+  way_read_fails (Line error) is = (length way.done, way_first, inr (inl (is ∙ ap (λ n. Refused n FailedAllocation) (sym number_is))))
+  way_read_fails TooManyLines is = absurd is
+  way_read_fails ReadFailed is = (length way.done, way_first)
+  way_read_fails WriteFailed is = absurd is
+  way_read_fails ReaderGone is = absurd is
+
+  pub way_write_fails : (fault : RunFault) → IsWriteFault fault → DistinctEnd input limit part (Err fault)
+  way_write_fails (Line error) is = absurd is
+  way_write_fails TooManyLines is = absurd is
+  way_write_fails ReadFailed is = absurd is
+  way_write_fails WriteFailed is = way_begins
+  way_write_fails ReaderGone is = way_begins
+
+  -- the next line is faulty, or was written in part
+  passed_begins : (line more : List ℕ) (left : List (List ℕ)) → lines_of rest ≡ line ∷ left → Begins more (passed now.texts line) → Begins (part ++ more) (distinct_report (lines_of input))
+  passed_begins line more left cut b =
+      let pushed : distinct_report (way.done ++ line ∷ []) ≡ part ++ passed now.texts line =
+      report_push way.done line ∙ ap (λ (ls : List Text). distinct_report way.done ++ passed ls line) (sym (way_list input limit rest number now part way)) ∙ ap (λ bs. bs ++ passed now.texts line) (sym way.part_is) in
+      let there : Begins (part ++ more) (distinct_report (way.done ++ line ∷ [])) = (b.0, pushed ∙ ap (λ bs. part ++ bs) b.1 ∙ sym (append_assoc part more b.0)) in
+      let whole : way.done ++ line ∷ [] ++ left ≡ lines_of input = append_assoc way.done (line ∷ []) left ∙ ap (λ (ls : List Text). way.done ++ ls) (sym cut) ∙ sym way.taken.split in
+      begins_then (part ++ more) (distinct_report (way.done ++ line ∷ [])) (distinct_report (lines_of input)) there
+      (subst (λ (ls : List Text). Begins (distinct_report (way.done ++ line ∷ [])) (distinct_report ls)) whole (report_begins (way.done ++ line ∷ []) left))
+
+  pub way_pass_fails : (line more left : List ℕ) (fault : RunFault) → lines_of rest ≡ line ∷ lines_of left → PassFault now line number more fault → DistinctEnd input limit (part ++ more) (Err fault)
+  way_pass_fails line more left (Line error) cut is =
+      let same : part ++ more ≡ part = ap (λ bs. part ++ bs) is.0 ∙ append-nil part in
+      let so_far : extend spur_at (made_with 4096 limit) (take (length way.done) (lines_of input)) accepted now =
+      subst (λ (ls : List Text). extend spur_at (made_with 4096 limit) ls accepted now) (sym (taken_first input rest number way.done way.taken)) way.list in
+      let faulty : IsFaultOf now line (length way.done + 1) error = subst (λ n. IsFaultOf now line n error) (sym number_is) is.1 in
+      let next : IsSomeAnd (slice_get (lines_of input) (length way.done)) (λ l. IsFaultOf now l (length way.done + 1) error) =
+      subst (λ o. IsSomeAnd o (λ l. IsFaultOf now l (length way.done + 1) error)) (sym (taken_next input rest number way.done line (lines_of left) way.taken cut)) faulty in
+      (length way.done, same ∙ way_first, inr (inr (now, so_far, next)))
+  way_pass_fails line more left TooManyLines cut is = absurd is
+  way_pass_fails line more left ReadFailed cut is = absurd is
+  way_pass_fails line more left WriteFailed cut is = passed_begins line more (lines_of left) cut is
+  way_pass_fails line more left ReaderGone cut is = passed_begins line more (lines_of left) cut is
+
+-- ---- the end
+
+-- there was no memory for the interner
+pub end_unmade : (input : List ℕ) (limit : ℕ) (fault : RunFault) → fault ≡ Line (Refused 0 FailedAllocation) → DistinctEnd input limit [] (Err fault)
+end_unmade input limit fault is = subst (λ f. DistinctEnd input limit [] (Err f)) (sym is) (0, refl, inl refl)
+
+-- what is written when the last flush fails is a beginning
+end_begins : (input : List ℕ) (limit : ℕ) (part : List ℕ) (result : Result (Unit {0}) RunFault) → DistinctEnd input limit part result → Begins part (distinct_report (lines_of input))
+end_begins input limit part (Ok x) end = ([], sym end.1 ∙ sym (append-nil part))
+end_begins input limit part (Err (Line error)) end = first_begins (lines_of input) end.0 part end.1
+end_begins input limit part (Err TooManyLines) end = first_begins (lines_of input) end.0 part end.1
+end_begins input limit part (Err ReadFailed) end = first_begins (lines_of input) end.0 part end.1
+end_begins input limit part (Err WriteFailed) end = end
+end_begins input limit part (Err ReaderGone) end = end
+
+write_end : (input : List ℕ) (limit : ℕ) (part : List ℕ) (result : Result (Unit {0}) RunFault) → Begins part (distinct_report (lines_of input)) → IsWriteEnd result → DistinctEnd input limit part result
+write_end input limit part (Ok x) begun is = absurd is
+write_end input limit part (Err (Line error)) begun is = absurd is
+write_end input limit part (Err TooManyLines) begun is = absurd is
+write_end input limit part (Err ReadFailed) begun is = absurd is
+write_end input limit part (Err WriteFailed) begun is = begun
+write_end input limit part (Err ReaderGone) begun is = begun
+
+-- a run that ends as it did, or with a failed flush
+pub end_then : (input : List ℕ) (limit : ℕ) (part : List ℕ) (given result : Result (Unit {0}) RunFault) → DistinctEnd input limit part given → (result ≡ given) ⊎ IsWriteEnd result → DistinctEnd input limit part result
+end_then input limit part given result end (inl same) = subst (DistinctEnd input limit part) (sym same) end
+end_then input limit part given result end (inr is) = write_end input limit part result (end_begins input limit part given end) is

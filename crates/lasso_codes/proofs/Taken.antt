@@ -1,0 +1,45 @@
+-- The lines of bytes that were read one after another.
+--
+-- The lines of the input are those that were read and those of the rest. So the first ones, as many as were read, are these; the next
+-- one is the first of the rest; and where nothing is left they are all.
+use Rattle.std.proofs.Common.{ℕ, ◌≡◌, ◌+◌, List, [], ◌∷◌, ◌++◌, length, take, Some, refl, sym, ap, ◌∙◌, append_assoc}
+use Rattle.std.specs.Prelude.{All, slice_get}
+use Rattle.std.specs.Str.{IsUtf8}
+use Rattle.std.proofs.Math.Seq.{take-append_seam}
+use Rattle.std.proofs.lemmas.List.{append-nil, length_push}
+use Rattle.std.proofs.lemmas.List.Elements.{All-nil, All-push}
+use Rattle.lasso_parts.specs.Texts.{Text}
+use Rattle.lasso_columns.specs.Lines.{lines_of}
+
+-- these lines were read and are text, the rest is left, and its first line has this number
+pub record Taken (input rest : List ℕ) (number : ℕ) (done : List Text) : Type 0 where
+  pub split : lines_of input ≡ done ++ lines_of rest
+  pub texts : All IsUtf8 done
+  pub counted : length done + 1 ≡ number
+
+pub taken_none : (input : List ℕ) → Taken input input 1 []
+taken_none input = record { split = refl; texts = All-nil IsUtf8; counted = refl }
+
+-- one line more
+pub taken_push : (input rest : List ℕ) (number : ℕ) (done : List Text) (line : Text) (left : List ℕ) → Taken input rest number done → lines_of rest ≡ line ∷ lines_of left → IsUtf8 line → Taken input left (number + 1) (done ++ line ∷ [])
+taken_push input rest number done line left taken cut text = record {
+  split = taken.split ∙ ap (λ (ls : List Text). done ++ ls) cut ∙ sym (append_assoc done (line ∷ []) (lines_of left));
+  texts = All-push IsUtf8 done line taken.texts text;
+  counted = ap (λ n. n + 1) (length_push done line ∙ taken.counted);
+}
+
+-- all of them
+pub taken_all : (input rest : List ℕ) (number : ℕ) (done : List Text) → Taken input rest number done → rest ≡ [] → lines_of input ≡ done
+taken_all input rest number done taken none = taken.split ∙ ap (λ bs. done ++ lines_of bs) none ∙ append-nil done
+
+pub taken_first : (input rest : List ℕ) (number : ℕ) (done : List Text) → Taken input rest number done → take (length done) (lines_of input) ≡ done
+taken_first input rest number done taken = ap (take (length done)) taken.split ∙ take-append_seam done (lines_of rest)
+
+at_seam : (done : List Text) (line : Text) (more : List Text) → slice_get (done ++ line ∷ more) (length done) ≡ Some line
+at_seam [] line more = refl
+at_seam (t ∷ done) line more = at_seam done line more
+
+-- the next line
+pub taken_next : (input rest : List ℕ) (number : ℕ) (done : List Text) (line : Text) (more : List Text) → Taken input rest number done → lines_of rest ≡ line ∷ more → slice_get (lines_of input) (length done) ≡ Some line
+taken_next input rest number done line more taken cut =
+    ap (λ (ls : List Text). slice_get ls (length done)) (taken.split ∙ ap (λ (ls : List Text). done ++ ls) cut) ∙ at_seam done line more

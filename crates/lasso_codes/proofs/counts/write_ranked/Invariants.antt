@@ -1,0 +1,10 @@
+use Rattle.std.proofs.Common.{◌≡◌, map, take}
+use Rattle.std.specs.Prelude.{flat_map}
+use Rattle.lasso_counts.specs.Counts.{pair_of}
+use Rattle.lasso_codes.specs.Counts.{count_line}
+use Rattle.lasso_codes.specs.Streams.{Writes}
+use Rattle.lasso_codes.proofs.counts.write_ranked.Given as goal
+
+-- the ranked lines before the index are written
+abbrev pub invariant-loop-one : goal.invariant-loop-one
+invariant-loop-one g l = Writes (g.W.Write.contents l.fn.output) (g.W.Write.contents l.output) (λ part. part ≡ flat_map count_line (map pair_of (take l.one-index l.ranked)))

@@ -1,0 +1,5 @@
+pub mod Fault
+pub mod Streams
+pub mod Distinct
+pub mod Counts
+pub mod Arguments

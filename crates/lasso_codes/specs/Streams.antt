@@ -1,0 +1,24 @@
+-- What a call does to the bytes that a reader has left, and to those that a writer has, where they are known.
+use Rattle.std.specs.Prelude.{ℕ, ◌≡◌, Bool, true, false, List, [], ◌∷◌, ◌++◌, Option, Some, Result, MatchResult}
+use Rattle.std.specs.Io.KnownBytes.{Appends}
+use Rattle.lasso_columns.specs.Lines.{lines_of}
+use Rattle.lasso_codes.specs.Fault.{IsWriteFault}
+use Rattle.lasso_codes.specs.declared.fault.RunFault.{RunFault}
+
+-- the first list begins the second
+abbrev pub Begins : List ℕ → List ℕ → Type 0
+Begins part whole = (rest : List ℕ) × (whole ≡ part ++ rest)
+
+-- known bytes grow by a part, of which P holds
+abbrev pub Writes : Option (List ℕ) → Option (List ℕ) → (List ℕ → Type 0) → Type 0
+Writes before after P = (part : List ℕ) × Appends before after part × P part
+
+-- all bytes are written; or a write failed, and the part is a beginning of them
+abbrev pub WritesAll : List ℕ → Result (Unit {0}) RunFault → List ℕ → Type 0
+WritesAll bytes result part = MatchResult result (λ _. part ≡ bytes) (λ fault. IsWriteFault fault × Begins part bytes)
+
+-- the first line of the known bytes was read, and the lines of the rest are left; or there were no bytes
+abbrev pub TakesLine : Option (List ℕ) → Option (List ℕ) → Bool → List ℕ → Type 0
+TakesLine before after true line =
+    (bytes : List ℕ) → before ≡ Some bytes → (rest : List ℕ) × (after ≡ Some rest) × (lines_of bytes ≡ line ∷ lines_of rest)
+TakesLine before after false line = (bytes : List ℕ) → before ≡ Some bytes → bytes ≡ []

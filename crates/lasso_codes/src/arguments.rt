@@ -1,0 +1,251 @@
+//! The program's arguments.
+ghost use Rattle.std.specs.Prelude.{◌≡◌, ◌+◌, ◌≤◌, ◌∷◌, ℕ, List, None, Some, Ok, Err, IfSome, IsSome, MatchOption, MatchResult, drop, length, map, string_bytes};
+ghost use Rattle.lasso_parts.specs.Texts.{Text};
+ghost use Rattle.lasso_codes.specs.Arguments.{IsWithin, argument_text, command_of, meaning_of, not_number, number_of, options_of, setting_of, unset, verb_of, wanted_of, with_setting};
+
+use crate::numbers::parse_number;
+use memchr::memchr;
+use std::fmt;
+
+/// What the program can do with lines.
+#[derive(Clone, Copy, Debug, PartialEq, Eq)]
+pub enum Verb {
+    /// How often each distinct line came.
+    Counts,
+    /// The distinct lines.
+    Distinct,
+}
+
+/// What the options of a verb say.
+#[derive(Clone, Copy, Debug, PartialEq, Eq)]
+pub struct Settings {
+    /// The most bytes that the interner's buckets may take.
+    pub limit: usize,
+    /// The most lines that `counts` writes.
+    pub top: usize,
+}
+
+/// What the arguments ask for.
+#[derive(Clone, Copy, Debug, PartialEq, Eq)]
+pub enum Command {
+    /// The program's help.
+    Help,
+    /// A verb's help.
+    VerbHelp(Verb),
+    /// The program's version.
+    Version,
+    /// A verb, with its settings.
+    Run(Verb, Settings),
+}
+
+/// Why arguments are refused. The word that is at fault is named.
+#[derive(Clone, Copy, Debug, PartialEq, Eq)]
+pub enum ArgumentFault<'a> {
+    /// There is no word.
+    NoVerb,
+    /// The first word is neither a verb nor `--help` or `--version`.
+    NotVerb(&'a str),
+    /// The verb has no such option.
+    NotOption(&'a str),
+    /// The option is the last word, and its number is missing.
+    NoNumber(&'a str),
+    /// The word's number is not one, or is not below 2^64.
+    NotNumber(&'a str),
+    /// A word is not UTF-8.
+    NotText,
+}
+
+impl fmt::Display for ArgumentFault<'_> {
+    ghost output = { λ fault. Some (argument_text fault) };
+
+    fn fmt<W: fmt::Write>(&self, f: &mut fmt::Formatter<W>) -> fmt::Result {
+        match self {
+            ArgumentFault::NoVerb => write!(f, "no verb (see lasso_codes --help)"),
+            ArgumentFault::NotVerb(word) => write!(f, "{word}: no such verb"),
+            ArgumentFault::NotOption(word) => write!(f, "{word}: no such option"),
+            ArgumentFault::NoNumber(word) => write!(f, "{word}: a number is missing"),
+            ArgumentFault::NotNumber(word) => write!(f, "{word}: not a number below 2^64"),
+            ArgumentFault::NotText => write!(f, "an argument is not UTF-8"),
+        }
+    }
+}
+
+// An option that takes a number.
+#[derive(Clone, Copy, Debug, PartialEq, Eq)]
+enum Setting {
+    Limit,
+    Top,
+}
+
+// What a word among the options means.
+#[derive(Clone, Copy, Debug, PartialEq, Eq)]
+enum Meaning {
+    // The verb's help.
+    AsksHelp,
+    // A setting, whose number is the next word.
+    Wants(Setting),
+    // A setting, whose number follows the `=` at this position.
+    Has(Setting, usize),
+    // None.
+    Nothing,
+}
+
+/// What the words ask for: `--help`, `--version`, or a verb and its options. Words after `--help` and `--version` are not read. Of
+/// an option that is given twice the last one counts. Without them the limit and the most lines are the greatest numbers.
+///
+/// # Errors
+/// The first word that is at fault.
+pub fn command_of(words: &[String]) -> Result<Command, ArgumentFault<'_>>
+    ensures { MatchResult result
+        (λ command. command_of (map string_bytes words.now) ≡ Ok command)
+        (λ fault. command_of (map string_bytes words.now) ≡ Err (argument_text fault)) }
+{
+    if words.is_empty() {
+        return Err(ArgumentFault::NoVerb);
+    }
+    let word = words[0].as_str();
+    if word == "--help" {
+        return Ok(Command::Help);
+    }
+    if word == "--version" {
+        return Ok(Command::Version);
+    }
+    match verb_of(word) {
+        Some(verb) => options_of(verb, &words[1..]),
+        None => Err(ArgumentFault::NotVerb(word)),
+    }
+}
+
+// The verb of this name.
+fn verb_of(word: &str) -> Option<Verb>
+    ensures { result ≡ verb_of word.now }
+{
+    match word {
+        "counts" => Some(Verb::Counts),
+        "distinct" => Some(Verb::Distinct),
+        _ => None,
+    }
+}
+
+// The settings so far, and the setting that waits for its number, with its word.
+#[derive(Clone, Copy)]
+struct Reading<'a> {
+    settings: Settings,
+    wanted: Option<(Setting, &'a str)>,
+}
+
+// The verb with the settings that the words give.
+fn options_of(verb: Verb, words: &[String]) -> Result<Command, ArgumentFault<'_>>
+    ensures { MatchResult result
+        (λ command. options_of verb unset None (map string_bytes words.now) ≡ Ok command)
+        (λ fault. options_of verb unset None (map string_bytes words.now) ≡ Err (argument_text fault)) }
+{
+    let mut reading = Reading {
+        settings: Settings {
+            limit: usize::MAX,
+            top: usize::MAX,
+        },
+        wanted: None,
+    };
+    for word in words {
+        match read_word(verb, reading, word.as_str()) {
+            Ok(Some(next)) => reading = next,
+            Ok(None) => return Ok(Command::VerbHelp(verb)),
+            Err(fault) => return Err(fault),
+        }
+    }
+    match reading.wanted {
+        Some((_, word)) => Err(ArgumentFault::NoNumber(word)),
+        None => Ok(Command::Run(verb, reading.settings)),
+    }
+}
+
+// What is read with the word, or `None` where it asks for help.
+fn read_word<'a>(
+    verb: Verb,
+    reading: Reading<'a>,
+    word: &'a str,
+) -> Result<Option<Reading<'a>>, ArgumentFault<'a>>
+    ensures { (words : List Text) → let asked = options_of verb reading.entry.settings (wanted_of reading.entry) (word.now ∷ words) in MatchResult result
+        (λ next. MatchOption next (asked ≡ Ok (Command.VerbHelp verb)) (λ after. asked ≡ options_of verb after.settings (wanted_of after) words))
+        (λ fault. asked ≡ Err (argument_text fault)) }
+{
+    let settings = reading.settings;
+    if let Some((setting, _)) = reading.wanted {
+        return with_number(settings, setting, word, 0);
+    }
+    match meaning_of(verb, word) {
+        Meaning::AsksHelp => Ok(None),
+        Meaning::Wants(setting) => Ok(Some(Reading {
+            settings,
+            wanted: Some((setting, word)),
+        })),
+        Meaning::Has(setting, at) => with_number(settings, setting, word, at + 1),
+        Meaning::Nothing => Err(ArgumentFault::NotOption(word)),
+    }
+}
+
+// What the word means among the options of the verb.
+fn meaning_of(verb: Verb, word: &str) -> Meaning
+    ensures value { result ≡ meaning_of verb word.now }
+    ensures at { IsWithin result word.now }
+{
+    if word == "--help" {
+        return Meaning::AsksHelp;
+    }
+    let bytes = word.as_bytes();
+    match memchr(b'=', bytes) {
+        Some(at) => match setting_of(verb, &bytes[..at]) {
+            Some(setting) => Meaning::Has(setting, at),
+            None => Meaning::Nothing,
+        },
+        None => match setting_of(verb, bytes) {
+            Some(setting) => Meaning::Wants(setting),
+            None => Meaning::Nothing,
+        },
+    }
+}
+
+// The verb's setting of this name.
+fn setting_of(verb: Verb, name: &[u8]) -> Option<Setting>
+    ensures { result ≡ setting_of verb name.now }
+{
+    if name == b"--limit".as_slice() {
+        Some(Setting::Limit)
+    } else if name == b"--top".as_slice() && verb == Verb::Counts {
+        Some(Setting::Top)
+    } else {
+        None
+    }
+}
+
+// What is read with the number that the word says from this position on.
+fn with_number<'a>(
+    settings: Settings,
+    setting: Setting,
+    word: &'a str,
+    from: usize,
+) -> Result<Option<Reading<'a>>, ArgumentFault<'a>>
+    requires { from ≤ length word.now }
+    ensures { MatchResult result
+        (λ next. IfSome next (λ after. (number : ℕ) × (number_of (drop from word.now) ≡ Some number) × (after.settings ≡ with_setting settings setting number) × (after.wanted ≡ None)) × IsSome next)
+        (λ fault. (number_of (drop from word.now) ≡ None) × (argument_text fault ≡ not_number word.now)) }
+{
+    let Some(number) = parse_number(&word.as_bytes()[from..]) else {
+        return Err(ArgumentFault::NotNumber(word));
+    };
+    let settings = match setting {
+        Setting::Limit => Settings {
+            limit: number,
+            ..settings
+        },
+        Setting::Top => Settings {
+            top: number,
+            ..settings
+        },
+    };
+    Ok(Some(Reading {
+        settings,
+        wanted: None,
+    }))
+}

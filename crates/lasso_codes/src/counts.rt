@@ -1,0 +1,138 @@
+//! How often each distinct line came.
+ghost use Rattle.std.specs.Prelude.{◌≡◌, ◌+◌, ◌-◌, ◌^◌, ◌<◌, ◌++◌, ◌∷◌, [], ℕ, List, Some, Ok, OnOk, IfErr, MatchResult, All, IsUtf8, length, map, sum, flat_map, vec_len};
+ghost use Rattle.std.specs.Io.Buffered.{reader_remaining, writer_contents, writer_buffer};
+ghost use Rattle.lasso_parts.specs.Texts.{Text};
+ghost use Rattle.lasso_single.specs.Intern.{InternsIn};
+ghost use Rattle.lasso_single.specs.Interner.{made_with};
+ghost use Rattle.lasso_columns.specs.Encoding.{spur_at};
+ghost use Rattle.lasso_columns.specs.Faults.{IsFaultOf};
+ghost use Rattle.lasso_columns.specs.Lines.{lines_of};
+ghost use Rattle.lasso_counts.specs.Counts.{AreCounts, pair_of};
+ghost use Rattle.lasso_codes.specs.Counts.{CountsEnd, CountingFault, count_line};
+ghost use Rattle.lasso_codes.specs.Streams.{Writes, WritesAll};
+ghost use Rattle.lasso_codes.specs.Fault.{IsWriteEnd};
+
+use crate::distinct::new_rodeo;
+use crate::fault::RunFault;
+use crate::input::next_line;
+use crate::output::{end_flushed, write_bytes, write_line, write_number};
+use lasso::{MemoryLimits, SpurRodeo};
+use lasso_columns::LineError;
+use lasso_counts::{Ranked, by_frequency, count_text};
+use std::alloc::Global;
+use std::cmp::Reverse;
+use std::io::{BufReader, BufWriter, Read, Write};
+use std::str::from_utf8;
+
+/// Reads all lines, and then writes each distinct one once after the number of times that it came, the most frequent first. Lines
+/// that came equally often are in the order of their bytes. At most `top` of them are written.
+///
+/// # Errors
+/// A line that is refused or is not UTF-8, a failed read and out of memory end the run, and nothing is written. After a failed
+/// write, what was written is a beginning of the list.
+pub fn counts<R: Read + Drop, W: Write + Drop>(
+    alloc: Global,
+    input: &mut BufReader<R>,
+    output: &mut BufWriter<W>,
+    limits: MemoryLimits,
+    top: usize,
+) -> Result<(), RunFault>
+    ensures report { (bytes : List ℕ) → reader_remaining R.remaining input.old ≡ Some bytes →
+        Writes (writer_contents W.contents output.old) (writer_contents W.contents output.new) (λ part. CountsEnd bytes limits top part result) }
+    ensures flushed { ¬ (IsWriteEnd result) → writer_buffer output.new ≡ [] }
+{
+    let result = write_counts(alloc, input, output, limits, top);
+    end_flushed(output, result)
+}
+
+// Counts the lines and writes them, and leaves the last of what is written in the buffer.
+fn write_counts<R: Read + Drop, W: Write>(
+    alloc: Global,
+    input: &mut BufReader<R>,
+    output: &mut W,
+    limits: MemoryLimits,
+    top: usize,
+) -> Result<(), RunFault>
+    ensures { (bytes : List ℕ) → reader_remaining R.remaining input.old ≡ Some bytes →
+        Writes (W.contents output.old) (W.contents output.new) (λ part. CountsEnd bytes limits top part result) }
+{
+    let mut rodeo = new_rodeo(alloc, limits)?;
+    let mut counts = Vec::new(alloc);
+    count_lines(alloc, input, &mut rodeo, &mut counts)?;
+    let Ok(ranked) = by_frequency(alloc, &rodeo, &counts) else {
+        return Err(RunFault::no_memory(0));
+    };
+    let most = ranked.len().min(top);
+    write_ranked(output, &ranked[..most])
+}
+
+// Counts each line up to the end of the input.
+fn count_lines<R: Read + Drop>(
+    alloc: Global,
+    input: &mut BufReader<R>,
+    rodeo: &mut SpurRodeo,
+    counts: &mut Vec<u64>,
+) -> Result<(), RunFault>
+    requires no_texts { rodeo.old.texts ≡ [] }
+    requires no_counts { counts.old.items ≡ [] }
+    ensures counted { OnOk result ((bytes : List ℕ) → reader_remaining R.remaining input.old ≡ Some bytes →
+        All IsUtf8 (lines_of bytes) × AreCounts (lines_of bytes) rodeo.new.texts counts.new.items) }
+    ensures beside { vec_len counts.new ≡ length rodeo.new.texts }
+    ensures fault { IfErr result (λ fault. (bytes : List ℕ) → reader_remaining R.remaining input.old ≡ Some bytes →
+        (limit : ℕ) → rodeo.old ≡ made_with 4096 limit → CountingFault limit (lines_of bytes) fault) }
+{
+    let mut line = Vec::new(alloc);
+    for number in 1..usize::MAX {
+        if !next_line(input, &mut line, number)? {
+            return Ok(());
+        }
+        if let Err(error) = count_line(rodeo, counts, &line, number) {
+            return Err(RunFault::Line(error));
+        }
+    }
+    Err(RunFault::TooManyLines)
+}
+
+// Counts the line of this number.
+fn count_line(
+    rodeo: &mut SpurRodeo,
+    counts: &mut Vec<u64>,
+    line: &[u8],
+    number: usize,
+) -> Result<(), LineError>
+    requires beside { vec_len counts.old ≡ length rodeo.old.texts }
+    requires fits { sum counts.old.items < 2 ^ 64 - 1 }
+    ensures interned { OnOk result (IsUtf8 line.now × ((key : ℕ) × InternsIn {K = ℕ} spur_at rodeo.old line.now (Ok key) rodeo.new)) }
+    ensures counted { OnOk result ((texts : List Text) → AreCounts texts rodeo.old.texts counts.old.items → AreCounts (texts ++ line.now ∷ []) rodeo.new.texts counts.new.items) }
+    ensures total { OnOk result (sum counts.new.items ≡ sum counts.old.items + 1) }
+    ensures beside { vec_len counts.new ≡ length rodeo.new.texts }
+    ensures fault { IfErr result (IsFaultOf rodeo.old line.now number) }
+{
+    let Ok(text) = from_utf8(line) else {
+        return Err(LineError::NotText(number));
+    };
+    match count_text(rodeo, text, counts) {
+        Ok(()) => Ok(()),
+        Err(error) => Err(LineError::Refused(number, error)),
+    }
+}
+
+// Writes each count and its text as a line.
+fn write_ranked<W: Write>(output: &mut W, ranked: &[Ranked<'_>]) -> Result<(), RunFault>
+    ensures { Writes (W.contents output.old) (W.contents output.new) (WritesAll (flat_map count_line (map pair_of ranked.now)) result) }
+{
+    for one in ranked {
+        write_count(output, one)?;
+    }
+    Ok(())
+}
+
+// Writes the count, a space, the text and a line feed.
+fn write_count<W: Write>(output: &mut W, ranked: &Ranked<'_>) -> Result<(), RunFault>
+    ensures { Writes (W.contents output.old) (W.contents output.new) (WritesAll (count_line (pair_of ranked.now)) result) }
+{
+    let (Reverse(count), text) = *ranked;
+    write_number(output, count)?;
+    write_bytes(output, b" ")?;
+    write_line(output, text.as_bytes())
+}

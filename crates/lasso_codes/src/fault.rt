@@ -1,0 +1,72 @@
+//! Why a run ends before all is written.
+ghost use Rattle.std.specs.Prelude.{◌≡◌, Some};
+ghost use Rattle.lasso_codes.specs.Fault.{status_of, fault_text, IsWriteFault};
+ghost use Rattle.lasso_columns.specs.declared.faults.LineError.TheVariants.{Refused};
+ghost use Rattle.lasso_parts.specs.declared.util.LassoErrorKind.TheVariants.{FailedAllocation};
+
+use lasso::{LassoError, LassoErrorKind};
+use lasso_columns::LineError;
+use std::{fmt, io};
+
+/// Why a run ended before all was written. Lines are numbered from 1.
+#[derive(Debug, Drop, PartialEq, Eq)]
+pub enum RunFault {
+    /// A line was refused or is not UTF-8. Number 0: there was no memory before the first line, or after the last one.
+    Line(LineError),
+    /// The input has more lines than `usize` can count.
+    TooManyLines,
+    /// The reader failed.
+    ReadFailed,
+    /// The writer failed.
+    WriteFailed,
+    /// Whoever reads the output is gone.
+    ReaderGone,
+}
+
+impl RunFault {
+    /// Out of memory at the line of this number.
+    pub fn no_memory(number: usize) -> Self
+        ensures { result ≡ RunFault.Line (Refused number FailedAllocation) }
+    {
+        let error = LassoError::new(LassoErrorKind::FailedAllocation);
+        RunFault::Line(LineError::Refused(number, error))
+    }
+
+    /// The fault of a failed write: `ReaderGone` for a broken pipe.
+    pub fn of_write(error: &io::Error) -> Self
+        ensures { IsWriteFault result }
+    {
+        if error.kind() == io::ErrorKind::BrokenPipe {
+            RunFault::ReaderGone
+        } else {
+            RunFault::WriteFailed
+        }
+    }
+
+    /// The status that the program ends with: 1 for a refused line, 2 for a line that is not UTF-8, 4 for a failed read or
+    /// write, 0 where the reader of the output is gone.
+    pub fn status(&self) -> u8
+        ensures { result ≡ status_of self.now }
+    {
+        match self {
+            RunFault::Line(LineError::Refused(_, _)) | RunFault::TooManyLines => 1,
+            RunFault::Line(LineError::NotText(_)) => 2,
+            RunFault::ReadFailed | RunFault::WriteFailed => 4,
+            RunFault::ReaderGone => 0,
+        }
+    }
+}
+
+impl fmt::Display for RunFault {
+    ghost output = { λ fault. Some (fault_text fault) };
+
+    fn fmt<W: fmt::Write>(&self, f: &mut fmt::Formatter<W>) -> fmt::Result {
+        match self {
+            RunFault::Line(error) => write!(f, "{error}"),
+            RunFault::TooManyLines => write!(f, "too many lines"),
+            RunFault::ReadFailed => write!(f, "read failed"),
+            RunFault::WriteFailed => write!(f, "write failed"),
+            RunFault::ReaderGone => write!(f, "the output's reader is gone"),
+        }
+    }
+}

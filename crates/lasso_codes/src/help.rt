@@ -1,0 +1,47 @@
+//! What `--help` and `--version` print.
+use crate::arguments::Verb;
+
+/// The text of `lasso_codes --help`.
+pub const HELP: &str = "\
+usage: lasso_codes VERB [OPTION..] < INPUT > OUTPUT
+
+Verbs:
+  counts    each distinct line after how often it came, the most frequent first
+  distinct  each distinct line once, where it first came
+
+lasso_codes VERB --help lists the options of a verb.
+lasso_codes --version prints the version.
+";
+
+/// The text of `lasso_codes --version`.
+pub const VERSION: &str = "lasso_codes 1\n";
+
+const COUNTS_HELP: &str = "\
+usage: lasso_codes counts [--limit N] [--top N] < INPUT > OUTPUT
+
+Writes each distinct line after how often it came, the most frequent first.
+Lines that came equally often are in the order of their bytes.
+
+  --limit N  the most bytes that the distinct lines may take
+  --top N    write at most N lines
+
+N is a number below 2^64, or one with K, M or G after it, as 64K for 65536.
+";
+
+const DISTINCT_HELP: &str = "\
+usage: lasso_codes distinct [--limit N] < INPUT > OUTPUT
+
+Writes each distinct line once, where it first came.
+
+  --limit N  the most bytes that the distinct lines may take
+
+N is a number below 2^64, or one with K, M or G after it, as 64K for 65536.
+";
+
+/// The text of `lasso_codes VERB --help`.
+pub fn verb_help(verb: Verb) -> &'static str {
+    match verb {
+        Verb::Counts => COUNTS_HELP,
+        Verb::Distinct => DISTINCT_HELP,
+    }
+}

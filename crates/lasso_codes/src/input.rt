@@ -1,0 +1,51 @@
+//! The lines of a reader, one after another.
+ghost use Rattle.std.specs.Prelude.{◌≡◌, ℕ, List, [], ◌∷◌, ◌++◌, IfOk, IfErr};
+ghost use Rattle.std.specs.Io.Buffered.{reader_remaining};
+ghost use Rattle.lasso_columns.specs.Lines.{NoFeed};
+ghost use Rattle.lasso_codes.specs.Streams.{TakesLine};
+ghost use Rattle.lasso_codes.specs.Fault.{IsReadFault};
+
+use crate::fault::RunFault;
+use lasso_columns::lines::next_feed;
+use std::io::{BufRead, BufReader, ErrorKind, Read};
+
+/// Reads the next line into `line`, without its line feed, and returns whether there was one. Bytes after the last line feed are
+/// a line.
+///
+/// # Errors
+/// The reader failed, or there is no memory for the line, which has this number.
+pub fn next_line<R: Read + Drop>(
+    input: &mut BufReader<R>,
+    line: &mut Vec<u8>,
+    number: usize,
+) -> Result<bool, RunFault>
+    ensures taken { IfOk result (λ is_line. TakesLine (reader_remaining R.remaining input.old) (reader_remaining R.remaining input.new) is_line line.new.items) }
+    ensures faults { IfErr result (IsReadFault number) }
+{
+    line.clear();
+    match input.read_until(b'\n', line) {
+        Ok(0) => Ok(false),
+        Ok(_) => {
+            strip_feed(line);
+            Ok(true)
+        }
+        Err(error) if error.kind() == ErrorKind::OutOfMemory => Err(RunFault::no_memory(number)),
+        Err(_) => Err(RunFault::ReadFailed),
+    }
+}
+
+// Takes the line feed off the end of the line.
+fn strip_feed(line: &mut Vec<u8>)
+    ensures ended { (front : List ℕ) → line.old.items ≡ front ++ 10 ∷ [] → line.new.items ≡ front }
+    ensures unended { NoFeed line.old.items → line.new.items ≡ line.old.items }
+{
+    let count = line.len();
+    if count > 0 && line[count - 1] == b'\n' {
+        line.truncate(count - 1);
+    }
+}
+
+/// Whether the next line is not at hand as a whole, so that reading it may wait.
+pub fn may_wait<R: Read + Drop>(input: &BufReader<R>) -> bool {
+    next_feed(input.buffer()).is_none()
+}

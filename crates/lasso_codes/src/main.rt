@@ -1,0 +1,87 @@
+//! A filter over the lines of standard input: the distinct ones, and how often each came.
+#![tactic(auto)]
+
+pub mod arguments;
+pub mod counts;
+pub mod distinct;
+pub mod fault;
+pub mod help;
+pub mod input;
+pub mod lines;
+pub mod numbers;
+pub mod output;
+pub mod program;
+#[cfg(test)]
+mod tests;
+
+use arguments::{ArgumentFault, command_of};
+use fault::RunFault;
+use program::{BUFFER, run_command};
+use std::alloc::AllocError;
+use std::io::{BufReader, BufWriter, ErrorKind};
+use std::process::ExitCode;
+use std::rt::Env;
+use std::{env, io};
+
+// The status of bad arguments.
+const BAD_ARGUMENTS: u8 = 3;
+
+fn main(rt: HostRuntime) -> ExitCode {
+    let words = match argument_words(&rt) {
+        Ok(Some(words)) => words,
+        Ok(None) => return refuse(&rt, &ArgumentFault::NotText),
+        Err(fault) => return end(&rt, &fault),
+    };
+    match command_of(&words) {
+        Ok(command) => match run_program(&rt, &command) {
+            Ok(()) => ExitCode::SUCCESS,
+            Err(fault) => end(&rt, &fault),
+        },
+        Err(fault) => refuse(&rt, &fault),
+    }
+}
+
+// Runs the command over standard input and output.
+fn run_program<R: AllocGlobal + Input + Print>(
+    rt: &R,
+    command: &arguments::Command,
+) -> Result<(), RunFault> {
+    let Ok(mut input) = BufReader::with_capacity(rt.alloc(), BUFFER, rt.reader()) else {
+        return Err(RunFault::no_memory(0));
+    };
+    let Ok(mut output) = BufWriter::with_capacity(rt.alloc(), BUFFER, io::writer(rt)) else {
+        return Err(RunFault::no_memory(0));
+    };
+    run_command(rt.alloc(), command, &mut input, &mut output)
+}
+
+// Says why the arguments are refused.
+fn refuse<R: Eprint>(rt: &R, fault: &ArgumentFault<'_>) -> ExitCode {
+    let _ = eprintln!(rt; "{fault}");
+    ExitCode::from(BAD_ARGUMENTS)
+}
+
+// Says why the run ended, unless it is because its reader is gone.
+fn end<R: Eprint>(rt: &R, fault: &RunFault) -> ExitCode {
+    if *fault != RunFault::ReaderGone {
+        let _ = eprintln!(rt; "{fault}");
+    }
+    ExitCode::from(fault.status())
+}
+
+// The words after the program's name, or `None` where one is not text.
+fn argument_words<R: AllocGlobal + Env>(rt: &R) -> Result<Option<Vec<String>>, RunFault> {
+    let mut all = match env::args(rt) {
+        Ok(all) => all,
+        Err(error) if error.kind() == ErrorKind::OutOfMemory => return Err(no_memory(AllocError)),
+        Err(_) => return Ok(None),
+    };
+    let _program = all.next();
+    let words = all.collect(rt.alloc()).map_err(no_memory)?;
+    Ok(Some(words))
+}
+
+// Out of memory at no line.
+fn no_memory(_: AllocError) -> RunFault {
+    RunFault::no_memory(0)
+}

@@ -1,0 +1,48 @@
+//! Numbers in arguments.
+ghost use Rattle.std.specs.Prelude.{◌≡◌, ◌-◌, length, slice_get};
+ghost use Rattle.lasso_codes.specs.Arguments.{digits_value, number_of, unit_of};
+
+/// The number that the word says: 1 to 20 digits, and after them nothing or `K`, `M` or `G` for 1024 and its square and cube. `None`
+/// for other words, and where the number is not below 2^64.
+pub fn parse_number(word: &[u8]) -> Option<usize>
+    ensures { result ≡ number_of word.now }
+{
+    let unit = unit_of(word);
+    let digits = if unit == 1 {
+        word
+    } else {
+        &word[..word.len() - 1]
+    };
+    parse_digits(digits)?.checked_mul(unit)
+}
+
+// What the last byte multiplies by: 1 for no unit.
+fn unit_of(word: &[u8]) -> usize
+    ensures { result ≡ unit_of (slice_get word.now (length word.now - 1)) }
+{
+    match word.last() {
+        Some(b'K') => 1024,
+        Some(b'M') => 1024 * 1024,
+        Some(b'G') => 1024 * 1024 * 1024,
+        _ => 1,
+    }
+}
+
+// The value of 1 to 20 digits.
+fn parse_digits(digits: &[u8]) -> Option<usize>
+    ensures { result ≡ digits_value digits.now }
+{
+    if digits.is_empty() || digits.len() > 20 {
+        return None;
+    }
+    let mut value = 0usize;
+    for digit in digits {
+        if !digit.is_ascii_digit() {
+            return None;
+        }
+        value = value
+            .checked_mul(10)?
+            .checked_add(usize::from(*digit - b'0'))?;
+    }
+    Some(value)
+}

@@ -1,0 +1,81 @@
+//! Bytes to a writer.
+ghost use Rattle.std.specs.Prelude.{◌≡◌, ◌⊎◌, ◌++◌, ◌∷◌, [], OnOk, IfErr, decimal};
+ghost use Rattle.std.specs.Io.Buffered.{writer_contents, writer_buffer};
+ghost use Rattle.std.specs.Io.KnownBytes.{Keeps};
+ghost use Rattle.lasso_codes.specs.Streams.{Writes, WritesAll};
+ghost use Rattle.lasso_codes.specs.Fault.{IsWriteFault, IsWriteEnd};
+
+use crate::fault::RunFault;
+use itoa::Buffer;
+use std::io::{BufWriter, Write};
+
+/// Writes the bytes by as many calls as it takes.
+///
+/// # Errors
+/// The writer failed, or its reader is gone. A beginning of the bytes was written.
+pub fn write_bytes<W: Write>(output: &mut W, bytes: &[u8]) -> Result<(), RunFault>
+    ensures { Writes (W.contents output.old) (W.contents output.new) (WritesAll bytes.now result) }
+{
+    let mut rest = bytes;
+    while !rest.is_empty() {
+        match output.write(rest) {
+            Ok(0) => return Err(RunFault::WriteFailed),
+            Ok(count) => rest = &rest[count..],
+            Err(error) => return Err(RunFault::of_write(&error)),
+        }
+    }
+    Ok(())
+}
+
+/// Writes the line and a line feed.
+///
+/// # Errors
+/// As `write_bytes`.
+pub fn write_line<W: Write>(output: &mut W, line: &[u8]) -> Result<(), RunFault>
+    ensures { Writes (W.contents output.old) (W.contents output.new) (WritesAll (line.now ++ 10 ∷ []) result) }
+{
+    write_bytes(output, line)?;
+    write_bytes(output, b"\n")
+}
+
+/// Writes the number's digits.
+///
+/// # Errors
+/// As `write_bytes`.
+pub fn write_number<W: Write>(output: &mut W, number: u64) -> Result<(), RunFault>
+    ensures { Writes (W.contents output.old) (W.contents output.new) (WritesAll (decimal number) result) }
+{
+    let mut digits = Buffer::new();
+    write_bytes(output, digits.format(number).as_bytes())
+}
+
+/// Hands all that is buffered to the inner writer, and flushes it.
+///
+/// # Errors
+/// The writer failed, or its reader is gone. What is not handed on stays in the buffer.
+pub fn flush<W: Write + Drop>(output: &mut BufWriter<W>) -> Result<(), RunFault>
+    ensures kept { Keeps (writer_contents W.contents output.old) (writer_contents W.contents output.new) }
+    ensures all { OnOk result (writer_buffer output.new ≡ []) }
+    ensures faults { IfErr result IsWriteFault }
+{
+    match output.flush() {
+        Ok(()) => Ok(()),
+        Err(error) => Err(RunFault::of_write(&error)),
+    }
+}
+
+/// Flushes what is written, unless the run ended because a write failed. How the run ends: as it did, or with the failed flush.
+pub fn end_flushed<W: Write + Drop>(
+    output: &mut BufWriter<W>,
+    ended: Result<(), RunFault>,
+) -> Result<(), RunFault>
+    ensures kept { Keeps (writer_contents W.contents output.old) (writer_contents W.contents output.new) }
+    ensures ends { (result ≡ ended) ⊎ IsWriteEnd result }
+    ensures flushed { ¬ (IsWriteEnd result) → writer_buffer output.new ≡ [] }
+{
+    if let Err(RunFault::WriteFailed | RunFault::ReaderGone) = ended {
+        return ended;
+    }
+    flush(output)?;
+    ended
+}

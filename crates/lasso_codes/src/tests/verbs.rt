@@ -1,0 +1,165 @@
+//! What the verbs write.
+use super::{assert_fault, reader_of, writer_of};
+use crate::arguments::{Command, Settings, Verb};
+use crate::help::{HELP, VERSION, verb_help};
+use crate::program::run_command;
+use std::process::Abort;
+use std::test::Fail;
+
+const NO_LIMIT: Settings = Settings {
+    limit: usize::MAX,
+    top: usize::MAX,
+};
+
+// The command turns the input into the output.
+fn assert_writes<R: AllocGlobal + Abort>(
+    rt: &R,
+    command: Command,
+    input: &[u8],
+    output: &[u8],
+) -> Result<(), Fail> {
+    let mut reader = reader_of(rt.alloc(), input)?;
+    let mut writer = writer_of(rt.alloc())?;
+    assert!(rt; run_command(rt.alloc(), &command, &mut reader, &mut writer) == Ok(()));
+    let (written, left) = writer.into_parts();
+    assert!(rt; left.is_empty());
+    assert!(rt; written.as_slice() == output);
+    Ok(())
+}
+
+#[test]
+fn distinct_lines(rt: HostRuntime) -> Result<(), Fail> {
+    let cases: [(&[u8], &[u8]); 7] = [
+        (b"", b""),
+        (b"\n", b"\n"),
+        (b"a", b"a\n"),
+        (b"b\na\nb\n", b"b\na\n"),
+        (b"\n\na\n\n", b"\na\n"),
+        (
+            b"a long line\nand another\na long line",
+            b"a long line\nand another\n",
+        ),
+        (b"a\r\na\na\r\n", b"a\r\na\n"),
+    ];
+    for (input, output) in cases {
+        assert_writes(&rt, Command::Run(Verb::Distinct, NO_LIMIT), input, output)?;
+    }
+    Ok(())
+}
+
+#[test]
+fn counted_lines(rt: HostRuntime) -> Result<(), Fail> {
+    let cases: [(&[u8], &[u8]); 6] = [
+        (b"", b""),
+        (b"\n", b"1 \n"),
+        (b"b\na\nb", b"2 b\n1 a\n"),
+        (b"c\nb\na\n", b"1 a\n1 b\n1 c\n"),
+        (b"a\nab\na\nab\n\n\n", b"2 \n2 a\n2 ab\n"),
+        (b"z\nz\nz\na\na\na\na\na\na\na\na\na\na\n", b"10 a\n3 z\n"),
+    ];
+    for (input, output) in cases {
+        assert_writes(&rt, Command::Run(Verb::Counts, NO_LIMIT), input, output)?;
+    }
+    Ok(())
+}
+
+#[test]
+fn the_most_frequent(rt: HostRuntime) -> Result<(), Fail> {
+    let input = b"a\nb\nb\nc\n";
+    let cases: [(usize, &[u8]); 4] = [
+        (0, b""),
+        (1, b"2 b\n"),
+        (2, b"2 b\n1 a\n"),
+        (4, b"2 b\n1 a\n1 c\n"),
+    ];
+    for (top, output) in cases {
+        let settings = Settings { top, ..NO_LIMIT };
+        assert_writes(&rt, Command::Run(Verb::Counts, settings), input, output)?;
+    }
+    Ok(())
+}
+
+// Line n is that of the number of trailing zeros of n: of 1 to 20,000, half are odd, a quarter are twice an odd number, and so on.
+#[test]
+fn many_lines(rt: HostRuntime) -> Result<(), Fail> {
+    let mut input = Vec::new(rt.alloc());
+    for n in 1..20_001u32 {
+        let letter = b'a' + n.trailing_zeros() as u8 % 26;
+        input.extend_from_slice(&[letter, b'x', b'\n'])?;
+    }
+    let counted =
+        b"10000 ax\n5000 bx\n2500 cx\n1250 dx\n625 ex\n313 fx\n156 gx\n78 hx\n39 ix\n20 jx\n\
+        10 kx\n5 lx\n2 mx\n1 nx\n1 ox\n";
+    assert_writes(&rt, Command::Run(Verb::Counts, NO_LIMIT), &input, counted)?;
+    let distinct = b"ax\nbx\ncx\ndx\nex\nfx\ngx\nhx\nix\njx\nkx\nlx\nmx\nnx\nox\n";
+    assert_writes(
+        &rt,
+        Command::Run(Verb::Distinct, NO_LIMIT),
+        &input,
+        distinct,
+    )
+}
+
+#[test]
+fn help_texts(rt: HostRuntime) -> Result<(), Fail> {
+    assert_writes(&rt, Command::Help, b"a\n", HELP.as_bytes())?;
+    assert_writes(&rt, Command::Version, b"a\n", VERSION.as_bytes())?;
+    for verb in [Verb::Counts, Verb::Distinct] {
+        assert_writes(
+            &rt,
+            Command::VerbHelp(verb),
+            b"a\n",
+            verb_help(verb).as_bytes(),
+        )?;
+    }
+    assert!(rt; verb_help(Verb::Counts).starts_with("usage: lasso_codes counts "));
+    assert!(rt; verb_help(Verb::Distinct).starts_with("usage: lasso_codes distinct "));
+    Ok(())
+}
+
+// What a run over the input writes before it ends with the fault of these words.
+fn assert_stops<R: AllocGlobal + Abort>(
+    rt: &R,
+    (verb, settings): (Verb, Settings),
+    input: &[u8],
+    output: &[u8],
+    (words, status): (&str, u8),
+) -> Result<(), Fail> {
+    let mut reader = reader_of(rt.alloc(), input)?;
+    let mut writer = writer_of(rt.alloc())?;
+    let command = Command::Run(verb, settings);
+    let ended = run_command(rt.alloc(), &command, &mut reader, &mut writer);
+    let (written, left) = writer.into_parts();
+    assert!(rt; left.is_empty());
+    assert!(rt; written.as_slice() == output);
+    assert_fault(rt, ended, words, status)
+}
+
+#[test]
+fn faulty_lines(rt: HostRuntime) -> Result<(), Fail> {
+    let not_text = ("line 3: not UTF-8", 2);
+    let input = b"a\na\n\xff\nb\n";
+    assert_stops(&rt, (Verb::Distinct, NO_LIMIT), input, b"a\n", not_text)?;
+    assert_stops(&rt, (Verb::Counts, NO_LIMIT), input, b"", not_text)
+}
+
+// The first bucket has 4096 bytes, which the first line fills.
+#[test]
+fn past_the_limit(rt: HostRuntime) -> Result<(), Fail> {
+    let mut input = vec![in rt.alloc(); b'a'; 4096]?;
+    input.push(b'\n')?;
+    let first = input.clone()?;
+    input.extend_from_slice(b"\nbcdef\n")?;
+    let mut both = first.clone()?;
+    both.push(b'\n')?;
+    let settings = Settings {
+        limit: 4100,
+        ..NO_LIMIT
+    };
+    let refused = (
+        "line 3: Lasso encountered an error: The configured memory limit was reached",
+        1,
+    );
+    assert_stops(&rt, (Verb::Distinct, settings), &input, &both, refused)?;
+    assert_stops(&rt, (Verb::Counts, settings), &input, b"", refused)
+}

@@ -1,0 +1,48 @@
+-- How often texts came, beside the list of the distinct ones.
+use denote.Ref.{Bor}
+use Rattle.std.specs.Prelude.{ℕ, ◌≡◌, ◌+◌, List, [], ◌∷◌, ◌++◌, length, map, sum, count_by, nat_lt, Option, Some, None, slice_index, slice_set, if◌then◌else◌}
+use Rattle.std.specs.Ordering.{nat_cmp, ordering_then}
+use Rattle.std.specs.Str.{bytes_eq}
+use Rattle.std.specs.Cmp.Lexicographic.{slice_cmp}
+use Rattle.std.specs.declared.cmp.Ordering.{Ordering}
+use Rattle.std.specs.declared.cmp.Reverse.{Reverse}
+use Rattle.lasso_parts.specs.Texts.{Text, position_of}
+use Rattle.lasso_columns.specs.Parts.{new_texts}
+
+-- how often the text is among these
+abbrev pub count_of : List Text → Text → ℕ
+count_of texts text = count_by (λ t. bytes_eq t text) texts
+
+-- the count at a position, and 0 where there is none
+abbrev pub count_at : List ℕ → Option ℕ → ℕ
+count_at counts None = 0
+count_at counts (Some n) = slice_index counts n
+
+-- the list holds each of the texts once, where it first came, and each text's count tells how often it came; the counts add up
+-- to the texts
+pub record AreCounts (texts list : List Text) (counts : List ℕ) : Type 0 where
+  pub list_is : list ≡ new_texts [] texts
+  pub tell : (text : Text) → count_of texts text ≡ count_at counts (position_of list text)
+  pub beside : length counts ≡ length list
+  pub total : sum counts ≡ length texts
+
+-- each distinct text once, with how often it came
+abbrev pub counted_texts : List Text → List (ℕ × Text)
+counted_texts texts = map (λ text. (count_of texts text, text)) (new_texts [] texts)
+
+-- one more at a position, or a first one after the others
+abbrev pub added : List ℕ → ℕ → List ℕ
+added counts n = if nat_lt n (length counts) then slice_set counts n (slice_index counts n + 1) else counts ++ 1 ∷ []
+
+-- one more of the text at this position of the list, or of a new one
+abbrev pub counted : List ℕ → Option ℕ → List ℕ
+counted counts None = counts ++ 1 ∷ []
+counted counts (Some n) = slice_set counts n (slice_index counts n + 1)
+
+-- what contracts see of a ranked text: its count, and its bytes
+abbrev pub pair_of : Reverse ℕ × Bor Text → ℕ × Text
+pair_of ranked = (ranked.0.0, ranked.1.now)
+
+-- the order of texts by their counts: the greater count first, and equal counts by the texts' bytes
+abbrev pub ranked_cmp : ℕ × Text → ℕ × Text → Ordering
+ranked_cmp one other = ordering_then (nat_cmp other.0 one.0) (slice_cmp nat_cmp one.1 other.1)

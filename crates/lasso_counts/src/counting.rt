@@ -1,0 +1,60 @@
+//! Texts that are interned and counted.
+ghost use Rattle.std.specs.Prelude.{◌≡◌, ◌+◌, ◌-◌, ◌^◌, ◌<◌, ◌++◌, ◌∷◌, [], ℕ, List, Ok, OnOk, OnErr, IfErr, MatchResult, length, sum, vec_len, vec_capacity};
+ghost use Rattle.lasso_parts.specs.Texts.{Text, position_of};
+ghost use Rattle.lasso_single.specs.Intern.{InternsIn};
+ghost use Rattle.lasso_columns.specs.Encoding.{spur_at, IsRefused};
+ghost use Rattle.lasso_counts.specs.Counts.{AreCounts, counted, added};
+
+use lasso::{Key, LassoResult, Rodeo, Spur};
+use std::alloc::Allocator;
+use std::hash::BuildHasher;
+
+/// Interns the text and adds one to its count. A new text gets the count 1, after the others.
+///
+/// The counts must be one for each text of the interner, with a sum below `u64::MAX`.
+///
+/// # Errors
+/// The text is refused because the keys or the memory limit are used up, or because there is no memory for the text or for its
+/// count. Nothing has changed then.
+///
+/// ```rust
+/// let mut rodeo: SpurRodeo = Rodeo::default(rt.alloc())?;
+/// let mut counts = Vec::new(rt.alloc());
+/// count_text(&mut rodeo, "red", &mut counts)?;
+/// count_text(&mut rodeo, "red", &mut counts)?;
+/// assert!(rt; counts.as_slice() == [2].as_slice());
+/// ```
+pub fn count_text<S: BuildHasher, A: Allocator + Clone>(
+    rodeo: &mut Rodeo<Spur, S, A>,
+    text: &str,
+    counts: &mut Vec<u64>,
+) -> LassoResult<()>
+    requires beside { vec_len counts.old ≡ length rodeo.old.texts }
+    requires fits { sum counts.old.items < 2 ^ 64 - 1 }
+    ensures interns { OnOk result ((key : ℕ) × InternsIn {K = ℕ} spur_at rodeo.old text.now (Ok key) rodeo.new) }
+    ensures step { OnOk result (counts.new.items ≡ counted counts.old.items (position_of rodeo.old.texts text.now)) }
+    ensures beside { vec_len counts.new ≡ length rodeo.new.texts }
+    ensures counts { OnOk result ((texts : List Text) → AreCounts texts rodeo.old.texts counts.old.items → AreCounts (texts ++ text.now ∷ []) rodeo.new.texts counts.new.items) }
+    ensures total { OnOk result (sum counts.new.items ≡ sum counts.old.items + 1) }
+    ensures kept { OnErr result (rodeo.new ≡ rodeo.old) }
+    ensures kept_counts { OnErr result (counts.new.items ≡ counts.old.items) }
+    ensures refused { IfErr result (IsRefused rodeo.old text.now) }
+{
+    counts.reserve(1)?;
+    let key = rodeo.try_get_or_intern(text)?;
+    add_one(counts, key.into_usize());
+    Ok(())
+}
+
+// Adds one to the count at the position, or appends the count 1 at the first position that has none.
+fn add_one(counts: &mut Vec<u64>, position: usize)
+    requires fits { sum counts.old.items < 2 ^ 64 - 1 }
+    requires room { vec_len counts.old < vec_capacity counts.old }
+    ensures { counts.new.items ≡ added counts.old.items position }
+{
+    if position < counts.len() {
+        counts[position] += 1;
+    } else {
+        counts.push_reserved(1);
+    }
+}

@@ -1,0 +1,19 @@
+//! How often each text came, beside the texts of an interner: the count of the key at position n is the n-th of a list.
+//!
+//! ```rust
+//! let mut rodeo: SpurRodeo = Rodeo::default(rt.alloc())?;
+//! let mut counts = Vec::new(rt.alloc());
+//! for text in ["red", "green", "red"] {
+//!     count_text(&mut rodeo, text, &mut counts)?;
+//! }
+//! assert!(rt; counts.as_slice() == [2, 1].as_slice());
+//! ```
+#![tactic(auto)]
+
+mod counting;
+mod ranking;
+#[cfg(test)]
+mod tests;
+
+pub use counting::count_text;
+pub use ranking::{Ranked, by_frequency};

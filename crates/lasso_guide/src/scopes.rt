@@ -1,0 +1,89 @@
+//! A symbol table with nested scopes, for a compiler of small expressions. A variable's slot is how many variables were
+//! in scope where it was declared; a name means the variable of that name that was declared last.
+ghost use Rattle.std.specs.Prelude.{◌≡◌, ℕ, ◌<◌, ◌∷◌, ◌++◌, [], All, IsFalse, IsTrue, OnErr, IfOk, Some, length, take};
+ghost use Rattle.lasso_guide.specs.Scopes.{IsLast, IsNamed, names_of};
+
+use lasso::{FixedState, Key, LassoResult, Rodeo};
+use std::alloc::{AllocError, Global};
+
+#[cfg(test)]
+mod tests;
+
+/// The variables in scope.
+#[derive(Drop)]
+pub struct Scopes<K: Key + Drop> {
+    names: Rodeo<K, FixedState, Global>,
+    // The name of each variable in scope, at its slot.
+    variables: Vec<K>,
+    // For each open scope, how many variables there were when it was opened.
+    opened: Vec<usize>,
+    ghost named: { All (λ variable. K.number variable < length names.texts) variables.items },
+}
+
+impl<K: Key + Drop> Scopes<K> {
+    /// No variable, and no scope but the outermost. It fails only if it is out of memory.
+    pub fn new(alloc: Global) -> LassoResult<Self>
+        ensures { IfOk result (λ scopes. (scopes.variables.items ≡ []) × (scopes.opened.items ≡ [])) }
+    {
+        Ok(Scopes {
+            names: Rodeo::new(alloc)?,
+            variables: Vec::new(alloc),
+            opened: Vec::new(alloc),
+        })
+    }
+
+    /// Opens a scope within those that are open.
+    pub fn open(&mut self) -> Result<(), AllocError>
+        ensures opened { IfOk result (λ _. self.new.opened.items ≡ self.old.opened.items ++ length self.old.variables.items ∷ []) }
+        ensures kept { OnErr result (self.new.opened.items ≡ self.old.opened.items) }
+        ensures names { names_of K.number self.new.names.texts self.new.variables.items ≡ names_of K.number self.old.names.texts self.old.variables.items }
+    {
+        self.opened.push(self.variables.len())?;
+        Ok(())
+    }
+
+    /// Closes the innermost scope: its variables are in scope no more. `false` if only the outermost is open, which stays.
+    pub fn close(&mut self) -> bool
+        ensures outermost { IsFalse result → (self.old.opened.items ≡ []) × (self.new.variables.items ≡ self.old.variables.items) }
+        ensures closed { IsTrue result → (count : ℕ) × (self.old.opened.items ≡ self.new.opened.items ++ count ∷ []) × (names_of K.number self.new.names.texts self.new.variables.items ≡ take count (names_of K.number self.old.names.texts self.old.variables.items)) }
+    {
+        match self.opened.pop() {
+            Some(count) => {
+                self.variables.truncate(count);
+                true
+            }
+            None => false,
+        }
+    }
+
+    /// Declares a variable in the innermost scope, and returns its slot. After an error the variables in scope are the
+    /// same.
+    pub fn declare(&mut self, name: &str) -> LassoResult<usize>
+        ensures slot { IfOk result (λ slot. slot ≡ length self.old.variables.items) }
+        ensures declared { IfOk result (λ _. names_of K.number self.new.names.texts self.new.variables.items ≡ names_of K.number self.old.names.texts self.old.variables.items ++ Some name.now ∷ []) }
+        ensures kept { OnErr result (names_of K.number self.new.names.texts self.new.variables.items ≡ names_of K.number self.old.names.texts self.old.variables.items) }
+        ensures opened { self.new.opened.items ≡ self.old.opened.items }
+    {
+        let slot = self.variables.len();
+        self.variables.reserve(1)?;
+        let variable = self.names.try_get_or_intern(name)?;
+        self.variables.push_reserved(variable);
+        Ok(slot)
+    }
+
+    /// The slot of the variable that the name means here, or `None` if no variable in scope has the name.
+    pub fn slot_of(&self, name: &str) -> Option<usize>
+        ensures { IsLast (λ slot. IsNamed (names_of K.number self.now.names.texts self.now.variables.items) slot name.now) (length self.now.variables.items) result }
+    {
+        // contracts learn from `len` that no text comes twice
+        let _count = self.names.len();
+        let wanted = self.names.get(name)?.into_usize();
+        let mut found = None;
+        for slot in 0..self.variables.len() {
+            if self.variables[slot].into_usize() == wanted {
+                found = Some(slot);
+            }
+        }
+        found
+    }
+}

@@ -1,0 +1,40 @@
+//! A symbol table whose keys are `Spur`s. A contract sees a `Spur` as the number that it keeps: its position plus one.
+ghost use Rattle.std.specs.Prelude.{◌≡◌, ◌-◌, [], Some, IfErr, IfOk, option_map, slice_get};
+
+use lasso::{LassoResult, Rodeo, Spur, SpurRodeo};
+use std::alloc::Global;
+
+#[cfg(test)]
+mod tests;
+
+/// The names of symbols, in the order in which they were first declared.
+#[derive(Drop)]
+pub struct SpurTable {
+    names: SpurRodeo,
+}
+
+impl SpurTable {
+    /// A table with no name. It fails only if it is out of memory.
+    pub fn new(alloc: Global) -> LassoResult<Self>
+        ensures { IfOk result (λ table. table.names.texts ≡ []) }
+    {
+        Ok(SpurTable {
+            names: Rodeo::new(alloc)?,
+        })
+    }
+
+    /// The symbol of the name, which it stands for from now on. A refusal changes no name.
+    pub fn declare(&mut self, name: &str) -> LassoResult<Spur>
+        ensures named { IfOk result (λ symbol. slice_get self.new.names.texts (symbol - 1) ≡ Some name.now) }
+        ensures refused { IfErr result (λ _. self.new.names.texts ≡ self.old.names.texts) }
+    {
+        self.names.try_get_or_intern(name)
+    }
+
+    /// The name that the symbol stands for, or `None` if this table has not declared it.
+    pub fn name_of(&self, symbol: Spur) -> Option<&str>
+        ensures { option_map (λ name. name.now) result ≡ slice_get self.now.names.texts (symbol - 1) }
+    {
+        self.names.try_resolve(symbol)
+    }
+}

@@ -1,0 +1,43 @@
+use Rattle.std.proofs.Common.{ℕ, ◌<◌, ◌∙◌, List, Bor, map, refl, sym, subst, arith}
+use Rattle.lasso_parts.specs.Texts.{Text}
+use Rattle.lasso_log.specs.Views.{list_of}
+use Rattle.lasso_log.proofs.Lengths.{texts_past}
+use Rattle.lasso_lines.specs.Shares.{IsShareOf}
+use Rattle.lasso_lines.proofs.ShareLines.{Gathered, gathered_none, gathered_worker, gathered_all}
+use Rattle.lasso_lines.proofs.shares.share_out.Goals as goal
+
+pub loop-share-init : goal.loop-share-init
+loop-share-init g c =
+    let lines = map (λ (t : Bor Text). t.now) c.args.lines.now in
+    let list = list_of c.args.rodeo.now c.args.pass.now.notes in
+    record {
+      same = (refl, refl);
+      gathered = λ none. subst (λ (cs : List ℕ). Gathered list lines c.args.workers 0 cs) (sym c.new-codes.ensures.items) (gathered_none list lines c.args.workers);
+    }
+
+pub loop-share-preserved : goal.loop-share-preserved
+loop-share-preserved g c =
+    let of = c.args.rodeo.now in
+    let lines = map (λ (t : Bor Text). t.now) c.args.lines.now in
+    let workers = c.args.workers in
+    let share = c.loop-share.share in
+    let done = c.index-done.result.now in
+    let known = c.recall.ensures in
+    let after = c.recall.new.self.notes in
+    let inside : share < workers = omega (arith, c.loop-share-test.true, c.len-share-end.ensures, c.in-Ok.ensures.len) in
+    let each = (c.in-Ok.ensures.each share done inside).1 in
+    let gave : IsShareOf of lines share workers done.known done.codes = subst (λ p. IsShareOf of lines share workers p.known p.codes) (sym c.index-done.ensures) each.met in
+    record {
+      same = (known.same.0 ∙ c.loop-share.invariant.same.0, known.same.1 ∙ c.loop-share.invariant.same.1);
+      gathered = λ none.
+          let added = c.in_ok-lowest.ensures.added none in
+          gathered_worker (list_of of c.loop-share.pass.notes) (list_of of done.known.notes) (list_of of after) lines workers share c.loop-share.codes.items done.codes c.add_codes.new.codes.items
+          (texts_past of.opening c.loop-share.pass.notes after (known.since.rest, known.since.begins)) (texts_past of.opening done.known.notes after known.known)
+          (c.loop-share.invariant.gathered added.0) gave.1 added.1;
+    }
+
+pub returns-clause-codes : goal.returns-clause-codes
+returns-clause-codes g c =
+    let lines = map (λ (t : Bor Text). t.now) c.args.lines.now in
+    gathered_all (list_of c.args.rodeo.now c.loop-share.pass.notes) lines c.args.workers c.loop-share.share c.loop-share.codes.items c.requires.some
+    (omega (arith, c.loop-share-test.false, c.len-share-end.ensures, c.in-Ok.ensures.len)) (c.loop-share.invariant.gathered c.in-None.is)

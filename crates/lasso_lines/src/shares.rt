@@ -1,0 +1,166 @@
+//! The lines of each worker, and what the workers give back.
+ghost use Rattle.std.specs.Prelude.{◌≡◌, ◌<◌, ◌+◌, ◌++◌, ◌∷◌, List, [], OnOk, IfOk, IfErr, MatchResult, None, map, min, unwrap_or, option_map, vec_len};
+ghost use Rattle.lasso_parts.specs.Texts.{Text};
+ghost use Rattle.lasso_columns.specs.Codes.{AreCodes};
+ghost use Rattle.lasso_log.specs.Views.{PassView, InternerId, IsSamePass, list_of};
+ghost use Rattle.lasso_lines.specs.Answer.{IsLineFault};
+ghost use Rattle.lasso_lines.specs.Shares.{AreCodesOf, HasCodes, IsShareOf};
+
+use crate::fault::RunFault;
+use crate::workers::Gate;
+use lasso::log::{Known, Pass};
+use lasso::{LassoError, LassoErrorKind, Spur, SpurThreadedRodeo};
+use std::sync::Wait;
+use std::thread::{Threads, map_indices};
+
+#[cfg(test)]
+mod tests;
+
+// A line that was refused, by its number, and why.
+type Refusal = (u64, LassoError);
+
+// What a worker gives back: what its pass has seen of the interner, and the positions of its lines' texts in order, or
+// the first of its lines that was refused.
+#[derive(Drop)]
+struct Share {
+    known: Known<Spur>,
+    codes: Result<Vec<u32>, Refusal>,
+}
+
+// Has the workers intern the lines. Returns the positions of the lines' texts in the list that the pass has then seen,
+// worker by worker. The fault is that of the lowest line that was refused.
+pub(crate) fn share_out<R: AllocGlobal + Threads + Wait + Sync, G: Gate>(
+    rt: &R,
+    rodeo: &SpurThreadedRodeo,
+    pass: &mut Pass<Spur>,
+    lines: &[&str],
+    workers: usize,
+    gate: &G,
+) -> Result<Vec<u32>, RunFault>
+    requires some { 0 < workers }
+    requires of { pass.old.of ≡ rodeo.now }
+    ensures same { IsSamePass pass.new pass.old }
+    ensures codes { IfOk result (λ codes. AreCodesOf (list_of rodeo.now pass.new.notes) (map (λ t. t.now) lines.now) codes.items) }
+    ensures faults { IfErr result IsLineFault }
+{
+    let work = move |worker: usize| -> Share
+        requires { 0 < workers }
+        ensures { IsShareOf rodeo.entry.now (map (λ t. t.now) lines.entry.now) worker workers result.known result.codes }
+    { intern_share(rt, rodeo, lines, worker, workers, gate) };
+    let Ok(shares) = map_indices(rt, rt.alloc(), workers, &work) else {
+        return Err(RunFault::no_memory(0));
+    };
+    let mut codes = Vec::new(rt.alloc());
+    let mut lowest = None;
+    for share in 0..shares.len() {
+        let done = &shares[share];
+        pass.recall(&done.known);
+        lowest = add_codes(&mut codes, lowest, &done.codes)?;
+    }
+    match lowest {
+        Some((number, error)) => Err(RunFault::Refused(number, error)),
+        None => Ok(codes),
+    }
+}
+
+// Adds the positions that a worker gave back, or keeps the lowest line that was refused.
+fn add_codes(
+    codes: &mut Vec<u32>,
+    lowest: Option<Refusal>,
+    outcome: &Result<Vec<u32>, Refusal>,
+) -> Result<Option<Refusal>, RunFault>
+    ensures faults { IfErr result IsLineFault }
+    ensures added { IfOk result (λ next. next ≡ None → (lowest ≡ None) × MatchResult outcome.now (λ more. codes.new.items ≡ codes.old.items ++ more.items) (λ _. ⊥)) }
+{
+    match outcome {
+        Ok(more) => {
+            if codes.extend_from_slice(more).is_err() {
+                return Err(RunFault::no_memory(0));
+            }
+            Ok(lowest)
+        }
+        Err(refusal) => Ok(Some(lower(lowest, refusal))),
+    }
+}
+
+// The refusal of the lower line.
+fn lower(lowest: Option<Refusal>, other: &Refusal) -> Refusal
+    ensures { result.0 ≡ unwrap_or (option_map (λ refusal. min refusal.0 other.now.0) lowest) other.now.0 }
+{
+    match lowest {
+        Some((number, error)) if number <= other.0 => (number, error),
+        _ => (other.0, LassoError::new(other.1.kind())),
+    }
+}
+
+// Interns the lines of the worker by a pass of its own.
+fn intern_share<R: AllocGlobal + Wait, G: Gate>(
+    rt: &R,
+    rodeo: &SpurThreadedRodeo,
+    lines: &[&str],
+    worker: usize,
+    workers: usize,
+    gate: &G,
+) -> Share
+    requires { 0 < workers }
+    ensures { IsShareOf rodeo.now (map (λ t. t.now) lines.now) worker workers result.known result.codes }
+{
+    let mut pass = rodeo.pass();
+    let codes = intern_by(rt, rodeo, &mut pass, lines, worker, workers, gate);
+    Share {
+        known: pass.known(),
+        codes,
+    }
+}
+
+// Interns the lines of the worker by the pass, up to the first that is refused, and returns their texts' positions.
+fn intern_by<R: AllocGlobal + Wait, G: Gate>(
+    rt: &R,
+    rodeo: &SpurThreadedRodeo,
+    pass: &mut Pass<Spur>,
+    lines: &[&str],
+    worker: usize,
+    workers: usize,
+    gate: &G,
+) -> Result<Vec<u32>, Refusal>
+    requires some { 0 < workers }
+    requires of { pass.old.of ≡ rodeo.now }
+    ensures of { pass.new.of ≡ rodeo.now }
+    ensures codes { IfOk result (λ codes. HasCodes (list_of rodeo.now pass.new.notes) (map (λ t. t.now) lines.now) worker workers codes.items) }
+{
+    let mut codes = Vec::new(rt.alloc());
+    let mut at = worker;
+    while at < lines.len() {
+        gate.enter(worker);
+        let number = (at as u64).saturating_add(1);
+        let line = lines[at];
+        intern_line(rt, rodeo, pass, line, number, &mut codes)?;
+        at = at.saturating_add(workers);
+    }
+    Ok(codes)
+}
+
+// Interns the line of this number, and adds its text's position.
+fn intern_line<R: Wait>(
+    rt: &R,
+    rodeo: &SpurThreadedRodeo,
+    pass: &mut Pass<Spur>,
+    line: &str,
+    number: u64,
+    codes: &mut Vec<u32>,
+) -> Result<(), Refusal>
+    requires { pass.old.of ≡ rodeo.now }
+    ensures of { pass.new.of ≡ rodeo.now }
+    ensures one { OnOk result (vec_len codes.new ≡ vec_len codes.old + 1) }
+    ensures coded { (texts : List Text) → AreCodes (list_of rodeo.now pass.old.notes) texts codes.old.items →
+        OnOk result (AreCodes (list_of rodeo.now pass.new.notes) (texts ++ line.now ∷ []) codes.new.items) }
+{
+    let key = match rodeo.try_get_or_intern_as(rt, pass, line) {
+        Ok(key) => key,
+        Err(error) => return Err((number, error)),
+    };
+    match codes.push(key.into_inner() - 1) {
+        Ok(()) => Ok(()),
+        Err(_) => Err((number, LassoError::new(LassoErrorKind::FailedAllocation))),
+    }
+}

@@ -1,0 +1,43 @@
+//! Workers one after the other on one thread, in either order.
+use super::{Refusal, add_codes, intern_share};
+use crate::workers::OpenGate;
+use lasso::{Capacity, LassoErrorKind, MemoryLimits, SpurThreadedRodeo, ThreadedRodeo};
+use std::sync::Wait;
+use std::test::Fail;
+
+// Which line is told where the workers take their turns in this order. The second and the third line are refused: the first bucket has
+// room for neither, and the limit leaves none for another.
+fn told_after<R: AllocGlobal + Wait>(rt: &R, order: [usize; 2]) -> Result<Option<Refusal>, Fail> {
+    let long = String::from_utf8(vec![in rt.alloc(); b'a'; 4097]?)?;
+    let longer = String::from_utf8(vec![in rt.alloc(); b'b'; 4098]?)?;
+    let lines = ["c", long.as_str(), longer.as_str(), "d"];
+    let limits = MemoryLimits::new(4096);
+    let capacity = Capacity::default();
+    let rodeo: SpurThreadedRodeo = ThreadedRodeo::with_capacity_and_memory_limits(
+        rt.alloc(),
+        capacity,
+        limits,
+    )?;
+    let mut codes = Vec::new(rt.alloc());
+    let mut lowest = None;
+    for worker in order {
+        let share = intern_share(rt, &rodeo, &lines, worker, 2, &OpenGate);
+        let Ok(next) = add_codes(&mut codes, lowest, &share.codes) else {
+            return Err(Fail::from("out of memory"));
+        };
+        lowest = next;
+    }
+    Ok(lowest)
+}
+
+#[test]
+fn the_lowest_refused_line_is_told_in_either_order(rt: HostRuntime) -> Result<(), Fail> {
+    for order in [[0usize, 1], [1, 0]] {
+        let Some((number, error)) = told_after(&rt, order)? else {
+            return Err(Fail::from("no line was refused"));
+        };
+        assert!(rt; number == 2);
+        assert!(rt; error.kind() == LassoErrorKind::MemoryLimitReached);
+    }
+    Ok(())
+}

@@ -1,0 +1,18 @@
+-- A word lies where it is for ever, so as long as the era. It goes last as it is, and takes nothing of the bucket.
+use Rattle.std.proofs.Common.{ap, refl, ◌∙◌}
+use mathlib.Core.List.{ne-nil_of_mem}
+use Rattle.lasso_log.specs.LentBuckets.{LentBucket}
+use Rattle.lasso_shared.proofs.Copied.{texts_more}
+use Rattle.lasso_shared.proofs.shards.Shards.of_words.Goals as goal
+
+pub push-requires : goal.push-requires
+push-requires g c = λ a mem. absurd (ne-nil_of_mem mem c.lasting.ensures.until)
+
+pub loop-word-preserved : goal.loop-word-preserved
+loop-word-preserved g c =
+    let i = c.loop-word.invariant in
+    let put = c.in_ok-push.ensures in record {
+      texts = texts_more (λ t. t.now) c.args.words.now _ c.loop-word.word-index c.loop-word-test.true c.loop-word.opening.texts c.loop-word.opening.texts c.push.new.self.texts c.lasting.result.text i.texts refl c.lasting.ensures.text put.texts;
+      used = ap (λ (b : LentBucket). b.used) put.bucket ∙ i.used;
+      size = ap (λ (b : LentBucket). b.size) put.bucket ∙ i.size;
+    }

@@ -1,0 +1,44 @@
+//! An interner that threads share and that opens with a list of words, none of which is copied.
+ghost use Rattle.std.specs.Prelude.{◌≡◌, ◌-◌, ◌^◌, ◌⊎◌, IfOk, IfErr, IsTrue, length, map};
+ghost use Rattle.lasso_parts.specs.declared.util.LassoErrorKind.TheVariants.{FailedAllocation, KeySpaceExhaustion};
+ghost use Rattle.lasso_parts.specs.Texts.{Fits};
+ghost use Rattle.lasso_single.specs.Words.{all_differ};
+ghost use Rattle.lasso_log.specs.History.{opened};
+ghost use Rattle.lasso_log.specs.Views.{InternerId};
+
+use crate::shards::Shards;
+use crate::threaded::ThreadedRodeo;
+use lasso_parts::keys::Key;
+use lasso_parts::util::{LassoError, LassoErrorKind, LassoResult};
+use lasso_single::words::have_keys;
+use std::alloc::Global;
+use std::hash::BuildHasher;
+
+impl<K: Key, S: BuildHasher + Default + Drop> ThreadedRodeo<K, S> {
+    /// An interner that opens with these words: the word at position n has the key of position n, and every text interned later has
+    /// a greater key. So a key below `words.len()` is a word's. The words are not copied. No word may come twice; `are_distinct` is the
+    /// test. Capacity and limit are the defaults (4096 bytes, no limit). Fails with `KeySpaceExhaustion` if the key type has too few
+    /// keys for the words, and otherwise only when out of memory. It takes no lock and does not wait.
+    ///
+    /// ```rust
+    /// let keywords = ["if", "else", "while"];
+    /// let rodeo = SpurThreadedRodeo::from_static(rt.alloc(), &keywords)?;
+    /// let word = rodeo.try_get_or_intern(&rt, "else")?;
+    /// assert!(rt; word.into_usize() == 1);
+    /// let name = rodeo.try_get_or_intern(&rt, "width")?;
+    /// assert!(rt; name.into_usize() >= keywords.len());
+    /// ```
+    pub fn from_static(alloc: Global, words: &[&'static str]) -> LassoResult<Self>
+        requires { IsTrue (all_differ (map (λ t. t.now) words.now)) }
+        ensures opening { IfOk result (λ t. t.opening ≡ opened (map (λ t. t.now) words.now) 4096 0 (2 ^ 64 - 1)) }
+        ensures fits { IfOk result (λ _. Fits K.key_at (length words.now)) }
+        ensures refused { IfErr result (λ error. ((error ≡ KeySpaceExhaustion) × ¬ Fits K.key_at (length words.now))
+            ⊎ ((error ≡ FailedAllocation) × Fits K.key_at (length words.now))) }
+    {
+        if !have_keys::<K>(words.len()) {
+            return Err(LassoError::new(LassoErrorKind::KeySpaceExhaustion));
+        }
+        let shards = Shards::of_words(alloc, S::default(), words)?;
+        Ok(ThreadedRodeo { shards })
+    }
+}

@@ -1,0 +1,211 @@
+//! Events that no call may add under a pass of its own: a reading takes no byte, and a call that raises the limit never
+//! lowers it on the way.
+ghost use Rattle.std.specs.Prelude.{◌≡◌};
+
+use crate::calls::{
+    Shared, contains, copied_as, found, len, limit, limited, number, pass_of, seen_by, set_limit,
+    stands_for, text_at, text_seen_by, usage,
+};
+use lasso_log::log::Pass;
+use lasso_parts::keys::{Key, Spur};
+use lasso_parts::util::{LassoErrorKind, MemoryLimits};
+use std::alloc::{AllocError, Global};
+use std::process::Abort;
+use std::sync::Wait;
+use std::test::*;
+use std::thread::{Threads, join};
+
+// 16 texts of 4 bytes: they fill a bucket of 64 bytes to the last one.
+const TEXTS: [&str; 16] = [
+    "aaaa", "bbbb", "cccc", "dddd", "eeee", "ffff", "gggg", "hhhh", "iiii", "jjjj", "kkkk", "llll",
+    "mmmm", "nnnn", "oooo", "pppp",
+];
+
+// Reads in each way without a pass, where there are `count` texts, and tells whether each reply is right: of the text that was
+// interned last, where there is one, and of one that is absent.
+fn reads_plainly<R: Wait>(rt: &R, shared: &Shared, count: usize) -> Result<bool, Fail> {
+    let absent = !contains(rt, shared, "absent") && found(rt, shared, "absent").is_none();
+    let sums = len(shared) == count && usage(rt, shared) == 64 && limit(rt, shared) == 64;
+    let past = text_at(shared, count)?.is_none();
+    if count == 0 || count > TEXTS.len() {
+        return Ok(absent && sums && past);
+    }
+    let last = TEXTS[count - 1];
+    let present = contains(rt, shared, last) && found(rt, shared, last) == Some(count - 1);
+    Ok(absent && sums && past && present && text_at(shared, count - 1)? == Some(last))
+}
+
+// The number of the text by the pass, if the text is present.
+fn found_as<R: Wait>(rt: &R, shared: &Shared, pass: &mut Pass<Spur>, text: &str) -> Option<usize>
+    requires { pass.old.of ≡ shared.now }
+    ensures { pass.new.of ≡ pass.old.of }
+{
+    match shared.get_as(rt, pass, text) {
+        Some(key) => Some(key.into_usize()),
+        None => None,
+    }
+}
+
+// The limit and the usage by the pass.
+fn sums_as<R: Wait>(rt: &R, shared: &Shared, pass: &mut Pass<Spur>) -> (usize, usize)
+    requires { pass.old.of ≡ shared.now }
+    ensures { pass.new.of ≡ pass.old.of }
+{
+    let limit = shared.max_memory_usage_as(rt, pass);
+    (limit, shared.current_memory_usage_as(rt, pass))
+}
+
+// Reads in each way by the pass, likewise.
+fn reads_as<R: Wait>(
+    rt: &R,
+    shared: &Shared,
+    pass: &mut Pass<Spur>,
+    count: usize,
+) -> Result<bool, Fail>
+    requires { pass.old.of ≡ shared.now }
+    ensures { pass.new.of ≡ pass.old.of }
+{
+    let absent = found_as(rt, shared, pass, "absent").is_none();
+    let sums = seen_by(shared, pass) == count && sums_as(rt, shared, pass) == (64, 64);
+    let past = text_seen_by(shared, pass, count)?.is_none();
+    if count == 0 || count > TEXTS.len() {
+        return Ok(absent && sums && past);
+    }
+    let last = TEXTS[count - 1];
+    let present = found_as(rt, shared, pass, last) == Some(count - 1);
+    let text = text_seen_by(shared, pass, count - 1)?;
+    Ok(absent && sums && past && present && text == Some(last))
+}
+
+// Interns the texts after readings in each way, and tells whether all replies are right.
+fn fills_between_readings<R: Wait>(rt: &R, shared: &Shared) -> Result<bool, Fail> {
+    let mut pass = pass_of(shared);
+    for position in 0..TEXTS.len() {
+        if !reads_plainly(rt, shared, position)? || !reads_as(rt, shared, &mut pass, position)? {
+            return Ok(false);
+        }
+        if number(rt, shared, TEXTS[position]) != Ok(position) {
+            return Ok(false);
+        }
+    }
+    Ok(reads_plainly(rt, shared, TEXTS.len())? && reads_as(rt, shared, &mut pass, TEXTS.len())?)
+}
+
+#[test]
+fn look_ups_take_no_byte(rt: HostRuntime) -> Result<(), Fail> {
+    let shared: Shared = limited(rt.alloc(), 64, 64)?;
+    assert!(rt; fills_between_readings(&rt, &shared)?);
+    // not a byte is left
+    assert!(rt; number(&rt, &shared, "z") == Err(LassoErrorKind::MemoryLimitReached));
+    assert!(rt; len(&shared) == 16);
+    Ok(())
+}
+
+// How many texts one thread interns while another raises the limit.
+const EACH: u32 = 40;
+
+// The bytes that they all take beside a first bucket of one byte, which none of them fits in: each has a bucket of its own 8
+// bytes.
+const NEEDED: usize = 321;
+
+// How often the limit is raised at most, and how often a thread looks whether the other has begun.
+const TURNS: usize = 1000;
+
+// Different texts of 8 bytes.
+fn eights(alloc: Global) -> Result<Vec<String>, AllocError> {
+    let mut texts = Vec::new(alloc);
+    for number in 0..EACH {
+        texts.push(format!(in alloc; "{number:08}")?)?;
+    }
+    Ok(texts)
+}
+
+// Waits until the limit was raised, but not for ever.
+fn await_raise<R: Wait>(rt: &R, shared: &Shared, pass: &mut Pass<Spur>)
+    requires { pass.old.of ≡ shared.now }
+    ensures { pass.new.of ≡ pass.old.of }
+{
+    for _ in 0..TURNS {
+        if sums_as(rt, shared, pass).0 > NEEDED {
+            break;
+        }
+    }
+}
+
+// Interns the texts in turn once the limit is being raised, and gives how many the limit refused. `None` where one failed
+// otherwise.
+fn refused_of<R: Wait>(rt: &R, shared: &Shared, texts: &[String]) -> Option<usize> {
+    let mut pass = pass_of(shared);
+    await_raise(rt, shared, &mut pass);
+    let mut refused: usize = 0;
+    for text in texts.iter() {
+        match copied_as(rt, shared, &mut pass, text.as_str()) {
+            Ok(_key) => {}
+            Err(error) if error.kind() == LassoErrorKind::MemoryLimitReached => {
+                refused = refused.saturating_add(1);
+            }
+            Err(_) => return None,
+        }
+    }
+    Some(refused)
+}
+
+// Sets the limit with the pass, or without one.
+fn raise<R: Wait>(rt: &R, shared: &Shared, pass: &mut Pass<Spur>, bytes: usize, plainly: bool)
+    requires { pass.old.of ≡ shared.now }
+    ensures { pass.new.of ≡ pass.old.of }
+{
+    if plainly {
+        set_limit(rt, shared, bytes);
+    } else {
+        shared.set_memory_limits_as(rt, pass, MemoryLimits::new(bytes));
+    }
+}
+
+// Raises the limit by a byte again and again, until all texts are seen, but not for ever. Gives how often.
+fn raised<R: Wait>(rt: &R, shared: &Shared, plainly: bool) -> usize {
+    let mut pass = pass_of(shared);
+    for raised in 0..TURNS {
+        if seen_by(shared, &mut pass) >= EACH as usize {
+            return raised;
+        }
+        raise(
+            rt,
+            shared,
+            &mut pass,
+            NEEDED.saturating_add(raised),
+            plainly,
+        );
+    }
+    TURNS
+}
+
+// Whether no text is refused while the limit rises from what all of them need.
+fn refuses_nothing<R: AllocGlobal + Threads + Wait + Sync>(
+    rt: &R,
+    texts: &[String],
+    plainly: bool,
+) -> Result<bool, Fail> {
+    let shared: Shared = limited(rt.alloc(), 1, NEEDED)?;
+    let (refused, raised) = join(
+        rt,
+        || refused_of(rt, &shared, texts),
+        || raised(rt, &shared, plainly),
+    );
+    let all = len(&shared) == EACH as usize && usage(rt, &shared) == NEEDED;
+    let last = limit(rt, &shared) == NEEDED.saturating_add(raised.saturating_sub(1));
+    Ok(refused == Some(0) && all && last)
+}
+
+#[test]
+fn a_limit_that_rises_refuses_nothing(rt: HostRuntime) -> Result<(), Fail> {
+    let texts = eights(rt.alloc())?;
+    for round in 0..20u32 {
+        let plainly = round % 2 == 1;
+        assert!(rt;
+            refuses_nothing(&rt, &texts, plainly)?,
+            "without a pass: {plainly}"
+        );
+    }
+    Ok(())
+}

@@ -1,0 +1,48 @@
+//! Debug text of interners, of their frozen forms and of walks.
+use super::*;
+
+// The texts "red" and "a\"b", in buckets of 8 bytes and 16.
+fn two(alloc: Global) -> LassoResult<Rodeo<Spur, FixedState, Global>> {
+    let mut rodeo = interner(alloc, 3, 100)?;
+    rodeo.extend(["red", "a\"b"])?;
+    Ok(rodeo)
+}
+
+#[test]
+fn debug_text_of_interners(rt: HostRuntime) -> Result<(), Fail> {
+    let alloc = rt.alloc();
+    let arena =
+        "arena: Arena { buckets: ... 2 buckets, bucket_capacity: 6, memory_usage: 9, max_memory_usage: 100 }";
+    let rodeo = two(alloc)?;
+    let printed = format!(in alloc; "{rodeo:?}")?;
+    let wanted = format!(in alloc; "Rodeo {{ strings: [\"red\", \"a\\\"b\"], {arena}, .. }}")?;
+    assert!(rt; printed == wanted);
+    let reader = rodeo.into_reader();
+    let printed = format!(in alloc; "{reader:?}")?;
+    let wanted = format!(in alloc;
+        "RodeoReader {{ strings: [\"red\", \"a\\\"b\"], {arena}, .. }}"
+    )?;
+    assert!(rt; printed == wanted);
+    let resolver = reader.into_resolver();
+    let printed = format!(in alloc; "{resolver:?}")?;
+    let wanted = format!(in alloc; "RodeoResolver {{ strings: [\"red\", \"a\\\"b\"], {arena} }}")?;
+    assert!(rt; printed == wanted);
+    Ok(())
+}
+
+#[test]
+fn debug_text_of_walks(rt: HostRuntime) -> Result<(), Fail> {
+    let alloc = rt.alloc();
+    let rodeo = two(alloc)?;
+    let mut strings = rodeo.strings();
+    let mut walk = rodeo.iter();
+    let printed = format!(in alloc; "{strings:?} {walk:?}")?;
+    assert!(rt; printed.as_str() == r#"["red", "a\"b"] {Spur(1): "red", Spur(2): "a\"b"}"#);
+    let _first = (strings.next(), walk.next());
+    let printed = format!(in alloc; "{strings:?} {walk:?}")?;
+    assert!(rt; printed.as_str() == r#"["a\"b"] {Spur(2): "a\"b"}"#);
+    let _last = (strings.next(), walk.next());
+    let printed = format!(in alloc; "{strings:?} {walk:?}")?;
+    assert!(rt; printed.as_str() == "[] {}");
+    Ok(())
+}

@@ -1,0 +1,57 @@
+/* Calls with NULL for arrays of no elements, as a caller with empty vectors makes them. It is good C and good C++. */
+#include "lasso.h"
+
+#include "check.h"
+
+#include <string.h>
+
+static int tells(const struct lasso_report *report, size_t texts, size_t bytes, size_t at)
+{
+    return report->texts == texts && report->bytes == bytes && report->at == at;
+}
+
+int main(void)
+{
+    struct lasso_report report = {7, 7, 7};
+    const uint8_t bytes[] = {'r', 'e', 'd', 'r', 'e', 'd'};
+    const int32_t offsets[] = {0, 3, 6, 6}, empty_texts[] = {0, 0};
+    uint32_t codes[3];
+    int32_t written[3] = {9, 9, 9};
+
+    /* No text, and no room: the dictionary of no text has one offset. */
+    CHECK(lasso_encode(NULL, 0, NULL, 0, NULL, 0, NULL, 0, NULL, 0, &report) == LASSO_OFFSETS_TOO_SHORT);
+    CHECK(tells(&report, 0, 0, 0));
+    CHECK(lasso_encode(NULL, 0, NULL, 0, NULL, 0, NULL, 0, written, 3, &report) == LASSO_DONE);
+    CHECK(tells(&report, 0, 0, 0) && written[0] == 0 && written[1] == 9);
+    /* An empty text has no bytes. */
+    CHECK(lasso_encode(NULL, 0, empty_texts, 2, codes, 3, NULL, 0, written, 3, &report) == LASSO_DONE);
+    CHECK(tells(&report, 1, 0, 0) && codes[0] == 0 && written[0] == 0 && written[1] == 0 && written[2] == 9);
+    /* Without room a call tells what is needed: "red" and "". */
+    CHECK(lasso_encode(bytes, 6, offsets, 4, NULL, 0, NULL, 0, NULL, 0, &report) == LASSO_CODES_TOO_SHORT);
+    CHECK(tells(&report, 2, 3, 0));
+
+    CHECK(lasso_decode(NULL, 0, NULL, 0, NULL, 0, NULL, 0, written, 1, &report) == LASSO_DONE);
+    CHECK(tells(&report, 0, 0, 0) && written[0] == 0);
+    codes[0] = 1;
+    CHECK(lasso_decode(bytes, 6, offsets, 4, codes, 1, NULL, 0, written, 2, &report) == LASSO_BYTES_TOO_SHORT);
+    CHECK(tells(&report, 1, 3, 0));
+    CHECK(lasso_decode(NULL, 0, empty_texts, 2, codes, 1, NULL, 0, NULL, 0, &report) == LASSO_NO_SUCH_CODE);
+
+    CHECK(lasso_status_text(LASSO_DONE, NULL, 0) == strlen("done"));
+
+    /* The empty text, in an interner. */
+    struct lasso lasso = LASSO_NONE;
+    uint32_t code = 7;
+    size_t whole = 7;
+    CHECK(lasso_get(&lasso, NULL, 0, &code) == LASSO_NO_INTERNER && code == 7);
+    CHECK(lasso_new(&lasso, LASSO_NO_LIMIT) == LASSO_DONE);
+    CHECK(lasso_intern_batch(&lasso, NULL, 0, NULL, 0, NULL, 0, &report) == LASSO_DONE && tells(&report, 0, 0, 0));
+    CHECK(lasso_intern(&lasso, NULL, 0, &code) == LASSO_DONE && code == 0);
+    CHECK(lasso_get(&lasso, NULL, 0, &code) == LASSO_DONE && code == 0);
+    CHECK(lasso_resolve(&lasso, 0, NULL, 0, &whole) == LASSO_DONE && whole == 0);
+    CHECK(lasso_dictionary(&lasso, 0, NULL, 0, NULL, 0, &report) == LASSO_OFFSETS_TOO_SHORT && tells(&report, 1, 0, 0));
+    CHECK(lasso_dictionary(&lasso, 0, NULL, 0, written, 2, &report) == LASSO_DONE && tells(&report, 1, 0, 0));
+    CHECK(written[0] == 0 && written[1] == 0);
+    lasso_free(&lasso);
+    return 0;
+}

@@ -1,0 +1,91 @@
+"""Tests of the module lasso, with expected codes that were worked by hand. LASSO_LIBRARY names the shared library."""
+
+import gc
+import struct
+import unittest
+
+from lasso import Interner, InternerClosed, LassoError, LimitReached, NotUtf8, WrongLayout
+
+
+class Column:
+    """An array of strings as pyarrow has it: two buffers, an offset and a length."""
+
+    def __init__(self, data, offsets, start=0, null_count=0):
+        self.data, self.starts = data, struct.pack(f"<{len(offsets)}i", *offsets)
+        self.offset, self.length, self.null_count = start, len(offsets) - 1 - start, null_count
+
+    def buffers(self):
+        return [None, self.starts, self.data]
+
+    def __len__(self):
+        return self.length
+
+
+class Interning(unittest.TestCase):
+    def test_numbers_texts_from_call_to_call(self):
+        with Interner() as interner:
+            self.assertEqual([interner.intern(text) for text in ["a", "b", "a", "", "grün"]], [0, 1, 0, 2, 3])
+            self.assertEqual(list(interner.encode(["grün", "c", "c"])), [3, 4, 4])
+            self.assertEqual(list(interner.encode([])), [])
+            self.assertEqual((len(interner), interner.texts(3), list(interner)), (5, ["grün", "c"], ["a", "b", "", "grün", "c"]))
+            self.assertEqual((interner.get("c"), interner.get("d"), "d" in interner, len(interner)), (4, None, False, 5))
+            self.assertEqual((interner[3], interner.texts(5), interner.texts(9)), ("grün", [], []))
+
+    def test_gives_long_texts_whole(self):
+        with Interner() as interner:
+            self.assertEqual((interner.intern("x" * 1000), interner[0]), (0, "x" * 1000))
+
+    def test_has_no_text_for_a_code_past_the_end(self):
+        with Interner() as interner:
+            interner.intern("a")
+            for code in (1, -1, 2**40):
+                with self.assertRaises(IndexError):
+                    interner[code]
+
+    def test_takes_the_buffers_of_arrow(self):
+        with Interner() as interner:
+            self.assertEqual(list(interner.encode(Column(b"redbluered", [0, 3, 7, 10]))), [0, 1, 0])
+            self.assertEqual(list(interner.encode(Column(b"redbluered", [0, 3, 7, 10], start=1))), [1, 0])
+            self.assertEqual(list(interner.encode(Column(None, [0, 0]))), [2])
+            with self.assertRaises(ValueError):
+                interner.encode(Column(b"red", [0, 3], null_count=1))
+
+    def test_keeps_the_texts_before_a_refused_one(self):
+        with Interner() as interner:
+            with self.assertRaises(NotUtf8) as caught:
+                interner.encode(Column(b"red\xc3", [0, 3, 4]))
+            self.assertEqual((caught.exception.position, interner.texts()), (1, ["red"]))
+            with self.assertRaises(WrongLayout):
+                interner.encode(Column(b"red", [0, 4]))
+
+    def test_holds_a_limit(self):
+        with Interner(limit=4096) as interner:
+            interner.intern("x" * 4096)
+            with self.assertRaises(LimitReached):
+                interner.intern("a text of more bytes than an entry")
+            self.assertEqual((interner.limit, interner.memory, len(interner)), (4096, 4096, 1))
+            interner.limit = None
+            self.assertEqual((interner.limit, interner.intern("a text of more bytes than an entry")), (None, 1))
+            interner.clear()
+            self.assertEqual((len(interner), interner.intern("b")), (0, 0))
+
+    def test_tells_that_it_is_closed(self):
+        interner = Interner()
+        interner.close()
+        interner.close()
+        with self.assertRaises(InternerClosed):
+            interner.intern("a")
+        with self.assertRaises(LassoError):
+            interner.texts()
+        self.assertEqual(len(interner), 0)
+
+    def test_garbage_is_let_go(self):
+        interner = Interner()
+        close = interner._close
+        del interner
+        gc.collect()
+        self.assertFalse(close.alive)
+
+
+if __name__ == "__main__":
+    unittest.main()
