@@ -22,11 +22,10 @@ use denote.Struct.Struct.{within}
 use denote.Struct.Owning.{shape, fields, to}
 use Rattle.std.specs.Prelude.{Option, None, Some}
 use Rattle.std.specs.Box.Ownership.{box_owns}
-use Rattle.libc.specs.Heap.{chunk}
 use Rattle.std_heap.proofs.Handle.{heap_val, heap_Tells}
 use Rattle.std_heap.proofs.Global.TheLaws as heap
 use Rattle.std_heap.specs.contracts.Global as Heap
-use Rattle.lasso_c.specs.Held.{held}
+use Rattle.lasso_c.specs.Held.{freed_by_heap, held}
 use Rattle.lasso_c.specs.contracts.slot.Block as Block
 use Rattle.lasso_c.specs.contracts.slot.Interner as Interner
 use Rattle.lasso_c.proofs.slot.Interner.TheLaws as interner
@@ -69,8 +68,8 @@ word_fits (block_ptr b o) = (tt, (tt, (((tt, tt), tt), tt)))
 
 module _ {M : Type 1} {𝓤 : Ura M} (𝓛 : Logic 𝓤) where
   -- what a box owns is a block's
-  pub block_made : (R : RattleType) (at : Ptr) (value : R.Denot) → ent 𝓤 (sem 𝓛 (box_owns chunk R at value)) (sem 𝓛 ((Block.the_row R).own_val (record { at = at; value = value }) (lone_word at ∷ [])))
-  block_made R at value = qed 𝓛 (‵ (box_owns chunk R at value) ∷ []) ∵
+  pub block_made : (R : RattleType) (at : Ptr) (value : R.Denot) → ent 𝓤 (sem 𝓛 (box_owns freed_by_heap R at value)) (sem 𝓛 ((Block.the_row R).own_val (record { at = at; value = value }) (lone_word at ∷ [])))
+  block_made R at value = qed 𝓛 (‵ (box_owns freed_by_heap R at value) ∷ []) ∵
       nothing ! $ feq_i ! (List Val) (ptr_val at ∷ []) (ptr_val at ∷ []) refl $ fjoin ! $ feq_i ! (List Val) (lone_word at ∷ []) (lone_word at ∷ []) refl $ fjoin ! $
       fpack ! (Valss (fields (Block.the_type R))) (within (shape (Block.the_type R)) (to (Block.the_type R) (record { at = at; value = value })) (lone_word at ∷ [])) (ptr_val at ∷ [], tt) $ fjoin ! $ done !
 

@@ -1,15 +1,20 @@
 -- What a slot owns: the block of its interner, where it holds one.
+use mir.Syntax.{Ty}
 use base.Fml.{Fml, ftrue}
 use denote.RawPtr.{Ptr}
 use Rattle.std.specs.Coded.{Coded, coded_option}
 use Rattle.std.specs.Prelude.{Option, None, Some}
 use Rattle.std.specs.Box.Ownership.{box_owns}
-use Rattle.libc.specs.Heap.{chunk}
+use Rattle.std_heap.specs.contracts.GlobalAllocator.TheImpl.{ghosts}
 use Rattle.lasso_c.specs.contracts.slot.Interner.{the_row}
+
+-- The right to give back a block of the heap. The heap has one handle, which has no bytes.
+abbrev pub freed_by_heap : Ty → Ptr → Fml
+freed_by_heap = ghosts.dealloc_token (record { memory = record { seal = tt } })
 
 abbrev pub held : Ptr → Option the_row.Denot → Fml
 held at None = ftrue
-held at (Some interner) = box_owns chunk the_row at interner
+held at (Some interner) = box_owns freed_by_heap the_row at interner
 
 abbrev pub interner_coded : Coded (Option the_row.Denot)
 interner_coded = coded_option the_row.coded

@@ -4,8 +4,7 @@
 // Both own what lies at their pointers by their types' models, so no caller says anything of memory.
 ghost use Rattle.std.specs.Prelude.{◌≡◌, Option, None, Some};
 ghost use Rattle.std.specs.Box.Ownership.{box_owns};
-ghost use Rattle.libc.specs.Heap.{chunk};
-ghost use Rattle.lasso_c.specs.Held.{held, interner_coded};
+ghost use Rattle.lasso_c.specs.Held.{freed_by_heap, held, interner_coded};
 ghost use Rattle.lasso_c.specs.declared.slot.Interner.{Interner};
 
 use crate::encoding::Dictionary;
@@ -25,7 +24,7 @@ pub(crate) struct Block<T> {
 }
 
 impl<T> Model for Block<T> {
-    ghost also_owns = { λ b. box_owns chunk T.row b.at b.value };
+    ghost also_owns = { λ b. box_owns freed_by_heap T.row b.at b.value };
 }
 
 impl<T> Block<T> {

@@ -33,7 +33,6 @@ use Rattle.core.proofs.atomic.Steps.{Ptr-Good, fm}
 use Rattle.core.proofs.cell.Inside.{one}
 use Rattle.std.proofs.raw_atomic.Walks.{proved_at}
 use Rattle.std.specs.Box.Ownership.{box_owns}
-use Rattle.libc.specs.Heap.{chunk}
 use Rattle.std_heap.specs.contracts.Global as Heap
 use Rattle.std_heap.proofs.Global.TheLaws as heap
 use Rattle.std_heap.specs.contracts.GlobalAllocator.TheImpl.{ghosts, dict}
@@ -42,6 +41,7 @@ use Rattle.std_alloc.specs.contracts.boxed.Box as Box
 use Rattle.std_alloc.proofs.boxed.Box.TheLaws as box
 use Rattle.std_alloc.specs.contracts.boxed.Box.into_raw as callee
 use Rattle.std_alloc.proofs.boxed.Box.into_raw.Met.{met}
+use Rattle.lasso_c.specs.Held.{freed_by_heap}
 use Rattle.lasso_c.specs.contracts.slot.Block as Block
 use Rattle.lasso_c.specs.contracts.slot.Block.of as f
 use Rattle.lasso_c.proofs.Destruct++none.drop.Code as no_drop
@@ -78,7 +78,7 @@ of_spec {M} 𝓤 𝓛 𝓜 𝓡 wired T L drops glue =
     (passed 𝓡.env (code.calls-std_heap::GlobalAllocator::allocate 𝓡.env wired) (code.calls-std_heap::GlobalAllocator::deallocate 𝓡.env wired) (code.calls-std_heap::GlobalAllocator::grow 𝓡.env wired) (code.calls-std_heap::GlobalAllocator::shrink 𝓡.env wired) M 𝓤 𝓛 𝓜 𝓡)
     (glues "lasso_c::Destruct++none::drop" 𝓡.env (code.calls-lasso_c::Destruct++none::drop 𝓡.env wired) (passed_as Heap.the_row) heap_laws M 𝓤 𝓛 𝓜 𝓡) glue) y
     (and_then ! (get ! refl) (no_more !)) (λ u.
-    use1 𝓛 (later (some (λ (p : Ptr). (halves ⊛ ‵ (RawPtr.own_val p (u ∷ []))) ⊛ some (λ (ws : Lasts (callee.ended T (passed_as Heap.the_row) ghosts dict lets_go drops) κs y.0.3). ‵ (lasts (callee.ended T (passed_as Heap.the_row) ghosts dict lets_go drops) κs y.0.3 ws) ⊛ ‵ (box_owns chunk R p v.value))))) (id⊢ 𝓤 (G.post y u)) $
+    use1 𝓛 (later (some (λ (p : Ptr). (halves ⊛ ‵ (RawPtr.own_val p (u ∷ []))) ⊛ some (λ (ws : Lasts (callee.ended T (passed_as Heap.the_row) ghosts dict lets_go drops) κs y.0.3). ‵ (lasts (callee.ended T (passed_as Heap.the_row) ghosts dict lets_go drops) κs y.0.3 ws) ⊛ ‵ (box_owns freed_by_heap R p v.value))))) (id⊢ 𝓤 (G.post y u)) $
     await ! tt $ pick ! (λ p. split ! $ split ! $ move ! (2 ∷ []) $ pick ! (λ ws. split ! $ drop ! $ move ! (2 ∷ []) $ feq_l ! (λ e.
     -- [the memory; the halves of the token]
     lands_as ! (ap only e) refl (Ptr-Good p) $ sets ! (agg ! (and_then ! (get ! refl) (no_more !))) refl (lone_word_fits R p) $

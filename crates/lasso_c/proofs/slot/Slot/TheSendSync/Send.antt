@@ -6,9 +6,9 @@ use denote.RawPtr.{Ptr}
 use denote.Struct.Struct.{exits_of}
 use denote.Struct.Owning.{shape, fields, to}
 use denote.Param.Send.{IsSend, AllSend, owning_send, struct_send, sendable}
-use Rattle.libc.specs.Heap.{chunk-Keyless}
 use Rattle.std_alloc.proofs.SendSync.{quiet, lies}
 use Rattle.std_heap.proofs.Global.TheSendSync as heap
+use Rattle.std.proofs.Crossing.{frees}
 use Rattle.std.specs.Prelude.{Option, None, Some}
 use Rattle.lasso_c.specs.Held.{held}
 use Rattle.lasso_c.specs.contracts.slot.Interner as Interner
@@ -17,7 +17,7 @@ use Rattle.lasso_c.specs.contracts.slot.Slot.{the_row, the_type}
 
 held_keyless : (at : Ptr) (value : Option (Interner.the_row).Denot) → Keyless (held at value)
 held_keyless at None = tt
-held_keyless at (Some interner) = (lies Interner.the_row interner_send at interner, chunk-Keyless (raw (lone (Interner.the_row).mir)) at)
+held_keyless at (Some interner) = (lies Interner.the_row interner_send at interner, frees.frees (record { memory = record { seal = tt } }) (raw (lone (Interner.the_row).mir)) at)
 
 pub send : IsSend the_row
 send =
