@@ -4,6 +4,7 @@
 
 pub mod compiler;
 pub mod errors;
+pub mod lexer;
 pub mod passes;
 pub mod saving;
 pub mod scopes;
