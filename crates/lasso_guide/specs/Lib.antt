@@ -2,4 +2,3 @@ pub mod Words
 pub mod Scopes
 pub mod Compiling
 pub mod Lexing
-pub mod Pairs

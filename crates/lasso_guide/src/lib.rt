@@ -5,7 +5,6 @@
 pub mod compiler;
 pub mod errors;
 pub mod lexer;
-pub mod pairs;
 pub mod passes;
 pub mod saving;
 pub mod scopes;
