@@ -2,6 +2,7 @@
 //! goes through them.
 #![tactic(auto)]
 
+pub mod closures;
 pub mod compiler;
 pub mod errors;
 pub mod lexer;
