@@ -1,13 +1,13 @@
 //! Texts of a layout interned into a dictionary that has some already, and the texts of a dictionary from a code on.
-ghost use Rattle.std.specs.Prelude.{◌≡◌, ◌<◌, ◌≤◌, ◌+◌, None, Some, OnOk, IfOk, IfErr, IfSome, IsSome, length, slice_get, take, drop, is_ok, if◌then◌else◌};
+ghost use Rattle.std.specs.Prelude.{◌≡◌, ◌<◌, ◌≤◌, ◌+◌, None, Some, OnOk, IfOk, IfErr, IfSome, IsSome, length, slice_get, take, drop, is_ok, unwrap_or, if◌then◌else◌};
 ghost use Rattle.std.specs.List.{concat};
 ghost use Rattle.lasso_parts.specs.Texts.{position_of};
-ghost use Rattle.lasso_c.specs.Layout.{greatest_offset, layout_texts, offsets_from, over};
-ghost use Rattle.lasso_c.specs.Encoding.{with_new, with_all_new, codes_of, sizes_of};
-ghost use Rattle.lasso_c.specs.Handles.{Refuses, part_outcome};
+ghost use Rattle.lasso_c.specs.Layout.{greatest_offset, layout_fault, layout_texts, offsets_from, over};
+ghost use Rattle.lasso_c.specs.Encoding.{with_new, with_all_new, codes_of, codes_or, sizes_of};
+ghost use Rattle.lasso_c.specs.Handles.{Refuses, part_lookup_outcome, part_outcome};
 
 use crate::encoding::{Dictionary, text_at_code};
-use crate::layout::{GREATEST_OFFSET, put_text, text_between};
+use crate::layout::{GREATEST_OFFSET, check_layout, put_text, text_between};
 use crate::refusal::{Refusal, Sizes};
 use lasso_parts::keys::Key;
 use lasso_parts::util::LassoErrorKind;
@@ -84,6 +84,54 @@ pub(crate) fn code_in(dictionary: &mut Dictionary, text: &str, at: usize) -> Res
             LassoErrorKind::KeySpaceExhaustion => Err(Refusal::NoCodeLeft(at)),
             LassoErrorKind::FailedAllocation => Err(Refusal::NoMemory),
         },
+    }
+}
+
+// Writes the code of each text of the layout, and the given one for an absent text; or nothing.
+#[tactic(auto, using(crate::proofs::BatchSteps::layout_count))]
+pub(crate) fn find_layout(
+    dictionary: &Dictionary,
+    bytes: &[u8],
+    offsets: &[u32],
+    absent: u32,
+    codes: &mut [u32],
+) -> Result<Sizes, Refusal>
+    ensures outcome { result ≡ part_lookup_outcome bytes.now offsets.now (length codes.old) }
+    ensures codes { codes.new ≡ (if is_ok result then over (codes_or absent dictionary.now.texts (layout_texts bytes.now offsets.now)) codes.old else codes.old) }
+{
+    let count = offsets.len().saturating_sub(1);
+    let needed = Sizes {
+        texts: count,
+        bytes: 0,
+    };
+    if codes.len() < count {
+        return Err(Refusal::CodesTooShort(needed));
+    }
+    check_layout(bytes, offsets)?;
+    put_codes(dictionary, bytes, offsets, absent, codes);
+    Ok(needed)
+}
+
+// Writes the code of each text of the layout, and the given one for an absent text. There must be room, and nothing wrong.
+fn put_codes(dictionary: &Dictionary, bytes: &[u8], offsets: &[u32], absent: u32, codes: &mut [u32])
+    requires layout { layout_fault bytes.now offsets.now ≡ None }
+    requires room { length (layout_texts bytes.now offsets.now) ≤ length codes.old }
+    ensures { codes.new ≡ over (codes_or absent dictionary.now.texts (layout_texts bytes.now offsets.now)) codes.old }
+{
+    for at in 0..offsets.len().saturating_sub(1) {
+        let (from, to) = (offsets[at] as usize, offsets[at + 1] as usize);
+        let text = text_between(bytes, at, from, to).unwrap();
+        codes[at] = code_or(dictionary, text, absent);
+    }
+}
+
+// The code of the text, and the given one for an absent text.
+fn code_or(dictionary: &Dictionary, text: &str, absent: u32) -> u32
+    ensures { result ≡ unwrap_or (position_of dictionary.now.texts text.now) absent }
+{
+    match dictionary.get(text) {
+        Some(key) => key.into_inner() - 1,
+        None => absent,
     }
 }
 

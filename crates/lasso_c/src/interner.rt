@@ -6,11 +6,11 @@ ghost use Rattle.std.specs.List.{concat};
 ghost use Rattle.lasso_parts.specs.Account.{clear, fresh, with_limit};
 ghost use Rattle.lasso_parts.specs.Texts.{position_of};
 ghost use Rattle.lasso_c.specs.Layout.{layout_texts, offsets_from, over};
-ghost use Rattle.lasso_c.specs.Encoding.{with_new, with_all_new, codes_of};
-ghost use Rattle.lasso_c.specs.Handles.{account_in, dictionary_outcome, texts_in};
+ghost use Rattle.lasso_c.specs.Encoding.{with_new, with_all_new, codes_of, codes_or};
+ghost use Rattle.lasso_c.specs.Handles.{account_in, dictionary_outcome, lookup_outcome, texts_in};
 ghost use Rattle.lasso_c.specs.Status.{Reports};
 
-use crate::batches::{code_in, copy_text, intern_layout, write_from};
+use crate::batches::{code_in, copy_text, find_layout, intern_layout, write_from};
 use crate::handle::Lasso;
 use crate::refusal::{LassoReport, Refusal, batch_report, status_of, tell};
 use crate::slot::Interner;
@@ -130,6 +130,32 @@ pub extern "C" fn lasso_get(alloc: Global, lasso: &mut Lasso, text: &[u8], code:
         }
         None => 13,
     }
+}
+
+/// Writes the code of each text of a layout, and `absent` for a text that the interner does not have. The report has their
+/// number. It returns 12 without an interner, 6 where a code of each text has no room, and 1, 2 or 3 for what is first wrong with
+/// the layout. What is refused writes nothing but its report.
+#[unsafe(no_mangle)]
+pub extern "C" fn lasso_get_batch(
+    alloc: Global,
+    lasso: &mut Lasso,
+    bytes: &[u8],
+    offsets: &[u32],
+    absent: u32,
+    codes: &mut [u32],
+    report: &mut LassoReport,
+) -> u32
+    ensures outcome { Reports (lookup_outcome lasso.old.slot.value bytes.now offsets.now (length codes.old)) result report.new }
+    ensures codes { result ≡ 0 → codes.new ≡ over (codes_or absent (texts_in lasso.old.slot.value) (layout_texts bytes.now offsets.now)) codes.old }
+    ensures codes_kept { ¬ (result ≡ 0) → codes.new ≡ codes.old }
+    ensures kept { lasso.new.slot.value ≡ lasso.old.slot.value }
+{
+    let Some(interner) = lasso.take(alloc) else {
+        return tell(&Err(Refusal::NoInterner), report);
+    };
+    let outcome = find_layout(&interner.rodeo, bytes, offsets, absent, codes);
+    lasso.put(alloc, interner);
+    tell(&outcome, report)
 }
 
 /// Writes the text of a code as far as there is room, and how many bytes the whole text has. It returns 12 without an interner,
