@@ -180,8 +180,9 @@ uint32_t lasso_intern(struct lasso *lasso, const uint8_t *text, size_t text_leng
  * bytes, offsets      the caller's, read: as in lasso_encode.
  * codes               the caller's, written. codes_length counts codes, one for each text; it may be greater.
  *
- * Status: LASSO_NO_INTERNER; LASSO_CODES_TOO_SHORT, and no text is interned; else that of the first refused text:
- * LASSO_OFFSETS_FALL, LASSO_OFFSET_PAST_BYTES, LASSO_NOT_UTF8, or as in lasso_intern; else LASSO_DONE.
+ * Status: LASSO_NO_INTERNER; LASSO_CODES_TOO_SHORT, or LASSO_OFFSET_PAST_BYTES where the first offset is past the bytes, and no
+ * text is interned; else that of the first refused text: LASSO_OFFSETS_FALL, LASSO_OFFSET_PAST_BYTES, LASSO_NOT_UTF8, or as in
+ * lasso_intern; else LASSO_DONE.
  */
 uint32_t lasso_intern_batch(struct lasso *lasso,
                             const uint8_t *bytes, size_t bytes_length,

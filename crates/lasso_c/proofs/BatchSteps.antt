@@ -21,7 +21,7 @@ text_from bytes from [] at small = absurd (omega arith)
 text_from bytes from (to ∷ offsets) zero small = refl
 text_from bytes from (to ∷ offsets) (suc at) small = text_from bytes to offsets at (omega arith)
 
-text_is : (bytes offsets : List ℕ) (at : ℕ) → at + 1 < length offsets → slice_get (layout_texts bytes offsets) at ≡ Some (slice_range bytes (get_or offsets at 0) (get_or offsets (at + 1) 0))
+pub text_is : (bytes offsets : List ℕ) (at : ℕ) → at + 1 < length offsets → slice_get (layout_texts bytes offsets) at ≡ Some (slice_range bytes (get_or offsets at 0) (get_or offsets (at + 1) 0))
 text_is bytes [] at small = absurd (omega arith)
 text_is bytes (from ∷ offsets) at small = rw add-one (text_from bytes from offsets at (omega arith))
 

@@ -1,5 +1,5 @@
 -- What a call on a handle is about: the list and the account of its interner, and why a text is refused.
-use Rattle.std.specs.Prelude.{ℕ, ◌≡◌, ◌⊎◌, List, [], length, drop, nat_lt, if◌then◌else◌, Option, None, Some, Result, Ok, Err}
+use Rattle.std.specs.Prelude.{ℕ, List, [], length, drop, nat_lt, if◌then◌else◌, Option, None, Some, Result, Ok, Err}
 use Rattle.std.specs.List.{concat}
 use Rattle.lasso_parts.specs.Account.{Account}
 use Rattle.lasso_parts.specs.Texts.{Text}
@@ -8,7 +8,7 @@ use Rattle.lasso_c.specs.Encoding.{sizes_of}
 use Rattle.lasso_c.specs.Decoding.{fitting, unless_faulty}
 use Rattle.lasso_c.specs.declared.refusal.Sizes.{Sizes}
 use Rattle.lasso_c.specs.declared.refusal.Refusal.{Refusal}
-use Rattle.lasso_c.specs.declared.refusal.Refusal.TheVariants.{CodesTooShort, LimitReached, NoCodeLeft, NoMemory, TooManyBytes, NoInterner}
+use Rattle.lasso_c.specs.declared.refusal.Refusal.TheVariants.{CodesTooShort, TooManyBytes, NoInterner}
 use Rattle.lasso_c.specs.declared.slot.Interner.{Interner}
 
 -- the texts of the interner, or none
@@ -21,9 +21,10 @@ abbrev pub account_in : Option Interner → Option Account
 account_in None = None
 account_in (Some interner) = Some interner.rodeo.account
 
--- why an interner refuses a text of this number in a batch
-abbrev pub Refuses : ℕ → Refusal → Type 0
-Refuses at refusal = (refusal ≡ LimitReached at) ⊎ (refusal ≡ NoCodeLeft at) ⊎ (refusal ≡ NoMemory)
+-- the bytes of its first bucket, if there is one
+abbrev pub first_in : Option Interner → Option ℕ
+first_in None = None
+first_in (Some interner) = Some interner.rodeo.first
 
 -- how writing these texts ends, where there is room for so many offsets and bytes
 abbrev pub part_outcome : List Text → ℕ → ℕ → Result Sizes Refusal

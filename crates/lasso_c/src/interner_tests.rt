@@ -129,6 +129,8 @@ fn keeps_the_texts_before_a_refused_one(rt: HostRuntime) -> Result<(), Fail> {
     batch(&rt, &mut lasso, &[0, 3, 7, 11], 4, (3, 2, [0, 1, 9, 9]))?;
     batch(&rt, &mut lasso, &[0, 3, 2, 10], 4, (1, 1, [0, 9, 9, 9]))?;
     batch(&rt, &mut lasso, &[0, 3, 12], 4, (2, 1, [0, 9, 9, 9]))?;
+    batch(&rt, &mut lasso, &[12], 4, (2, 0, [9, 9, 9, 9]))?;
+    batch(&rt, &mut lasso, &[11], 4, (0, 0, [9, 9, 9, 9]))?;
     batch(&rt, &mut lasso, &[], 4, (0, 0, [9, 9, 9, 9]))?;
     get(&rt, &mut lasso, b"blue", (0, 1));
     get(&rt, &mut lasso, b"grue", (13, 77));
@@ -213,6 +215,33 @@ fn holds_a_limit(rt: HostRuntime) -> Result<(), Fail> {
     assert!(rt; lasso_clear(rt.alloc(), &mut lasso) == 0);
     assert!(rt; lasso_len(rt.alloc(), &mut lasso) == 0);
     intern(&rt, &mut lasso, b"red", (0, 0))?;
+    Ok(())
+}
+
+// A limit within a batch: the second text has no room, and the third is not asked for.
+#[test]
+fn keeps_the_texts_before_one_past_the_limit(rt: HostRuntime) -> Result<(), Fail> {
+    let mut lasso = made(&rt, 0)?;
+    let text = vec![in rt.alloc(); b'a'; 4097]?;
+    // The second time the first text is present.
+    for unset in [9, 8] {
+        let (mut codes, mut report) = ([unset; 3], UNSET);
+        let status = lasso_intern_batch(
+            rt.alloc(),
+            &mut lasso,
+            &text,
+            &[0, 4095, 4097, 4097],
+            &mut codes,
+            &mut report,
+        );
+        if status == 9 {
+            return Err(Fail::from("out of memory"));
+        }
+        assert!(rt; (status, report.texts, report.bytes, report.at) == (10, 1, 0, 1));
+        assert!(rt; codes == [0, unset, unset]);
+        assert!(rt; lasso_memory(rt.alloc(), &mut lasso) == 4096);
+        assert!(rt; lasso_len(rt.alloc(), &mut lasso) == 1);
+    }
     Ok(())
 }
 

@@ -23,7 +23,7 @@ loop-at-preserved c =
     let is = c.text_between.ensures in
     let is_text : c.unwrap-text.result.now ≡ slice_range c.args.bytes.now (get_or c.args.offsets.now c.loop-at.at 0) (get_or c.args.offsets.now (c.loop-at.at + 1) 0) = grind (arith, common_steps, is) in
     found_next c.args.bytes.now c.args.offsets.now c.args.dictionary.now.texts c.args.absent c.loop-at.at c.args.codes.now c.loop-at.codes c.unwrap-text.result.now c.code_or.result
-        c.loop-at.invariant (omega arith) (omega (arith, count)) (c.loop-at.auto.codes) (omega (arith, count)) is_text c.code_or.ensures
+    c.loop-at.invariant (omega arith) (omega (arith, count)) (c.loop-at.auto.codes) (omega (arith, count)) is_text c.code_or.ensures
 
 pub returns : goal.returns
 returns c =
