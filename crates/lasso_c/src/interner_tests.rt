@@ -81,9 +81,7 @@ fn get_batch<R: Abort + AllocGlobal>(
     offsets: &[u32],
     room: usize,
     want: (u32, (usize, usize, usize), [u32; 4]),
-)
-    requires { room ≤ 4 }
-{
+) {
     let (mut codes, mut report) = ([9; 4], UNSET);
     let status = lasso_get_batch(
         rt.alloc(),
@@ -91,7 +89,7 @@ fn get_batch<R: Abort + AllocGlobal>(
         b"redbluered\xc3",
         offsets,
         8,
-        &mut codes[..room],
+        &mut codes[..room.min(4)],
         &mut report,
     );
     assert!(rt; (status, (report.texts, report.bytes, report.at), codes) == want);
