@@ -15,12 +15,9 @@ fn pieces_of_a_loop(rt: HostRuntime) -> Result<(), Fail> {
     assert!(rt; tokens.len() == PIECES.len());
     for (token, piece) in tokens.iter().zip(PIECES) {
         match *token {
-            Token::Name(key) => assert!(rt; lexer.name_of(key) == Some(piece), "{piece}"),
-            Token::Number(digits) => assert!(rt; digits == "20" && piece == "20", "{piece}"),
-            Token::Symbol(symbol) => assert!(rt;
-                symbol == piece && "<{=+;}".contains(piece),
-                "{piece}"
-            ),
+            Token::Name(key) => assert!(rt; lexer.name_of(key) == Some(piece)),
+            Token::Number(digits) => assert!(rt; digits == "20" && piece == "20"),
+            Token::Symbol(symbol) => assert!(rt; symbol == piece && "<{=+;}".contains(piece)),
         }
     }
     Ok(())
