@@ -144,8 +144,7 @@ module _ (input rest : List ℕ) (number : ℕ) (null : Option Text) (old now : 
       let list : now.texts ≡ dictionary_of null so_far.done =
       list_extended old now (texts_of null so_far.done) so_far.list ∙ ap (λ (ts : List Text). ts ++ new_texts ts (texts_of null so_far.done)) empty in
       let entries : map entry_at numbers ≡ map (entry_of null (dictionary_of null so_far.done)) so_far.done =
-      entries_are null now.texts so_far.done numbers so_far.entries ∙ ap (λ (ts : List Text). map (entry_of null ts) so_far.done) list in
-      (
+      entries_are null now.texts so_far.done numbers so_far.entries ∙ ap (λ (ts : List Text). map (entry_of null ts) so_far.done) list in (
         subst (λ (ls : List Text). All IsUtf8 ls) (sym all) so_far.taken.texts,
         subst (λ (ls : List Text). AreNumbered null ls now.texts numbers) (sym all) (list, entries),
       )

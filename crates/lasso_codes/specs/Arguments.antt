@@ -111,11 +111,15 @@ abbrev pub at_equals : Verb → Text → Option ℕ → Meaning
 at_equals verb word None = wants (setting_of verb word)
 at_equals verb word (Some at) = has (setting_of verb (take at word)) at
 
+-- the word is the verb's option for codes as bytes
+abbrev pub is_binary : Verb → Text → Bool
+is_binary verb word = bytes_eq word (codes "--binary") && takes_binary verb
+
 -- what the word means among the options of the verb; an equals sign is byte 61
 abbrev pub meaning_of : Verb → Text → Meaning
 meaning_of verb word =
     if bytes_eq word (codes "--help") then AsksHelp
-    else (if bytes_eq word (codes "--binary") && takes_binary verb then IsBinary else at_equals verb word (position (λ b. b == 61) word))
+    else (if is_binary verb word then IsBinary else at_equals verb word (position (λ b. b == 61) word))
 
 -- the equals sign is within the word
 abbrev pub IsWithin : Meaning → Text → Type 0
@@ -133,16 +137,10 @@ word_of word = option_map (λ w. w.now) word
 abbrev pub wanted_of : Reading → Option (Setting × Text)
 wanted_of reading = option_map (λ wanted. (wanted.0, wanted.1.now)) reading.wanted
 
--- a null is set by no number
-abbrev pub with_number : Settings → Setting → ℕ → Settings
-with_number settings Limit n = record settings { limit = n }
-with_number settings Top n = record settings { top = n }
-with_number settings Null n = settings
-
 -- the settings and the null with the value that the bytes say
 abbrev pub value_of : Settings → Option Text → Setting → Text → Option (Settings × Option Text)
-value_of settings null Limit value = option_map (λ n. (with_number settings Limit n, null)) (number_of value)
-value_of settings null Top value = option_map (λ n. (with_number settings Top n, null)) (number_of value)
+value_of settings null Limit value = option_map (λ n. (record settings { limit = n }, null)) (number_of value)
+value_of settings null Top value = option_map (λ n. (record settings { top = n }, null)) (number_of value)
 value_of settings null Null value = Some (settings, Some value)
 
 -- why an option without a value is refused

@@ -1,7 +1,7 @@
 //! The program's arguments.
 ghost use Rattle.std.specs.Prelude.{◌≡◌, ◌+◌, ◌≤◌, ◌∷◌, ℕ, List, None, Some, Ok, Err, IfSome, IsSome, MatchOption, MatchResult, drop, length, map, string_bytes};
 ghost use Rattle.lasso_parts.specs.Texts.{Text};
-ghost use Rattle.lasso_codes.specs.Arguments.{IsWithin, argument_text, command_of, meaning_of, not_number, options_of, setting_of, unset, value_of, verb_of, wanted_of, with_number, word_of};
+ghost use Rattle.lasso_codes.specs.Arguments.{IsWithin, argument_text, command_of, is_binary, meaning_of, no_value, not_number, options_of, setting_of, unset, value_of, verb_of, wanted_of, word_of};
 
 use crate::numbers::parse_number;
 use memchr::memchr;
@@ -125,25 +125,20 @@ pub fn command_of(words: &[String]) -> Result<Request<'_>, ArgumentFault<'_>>
     }
     let word = words[0].as_str();
     if word == "--help" {
-        return Ok(alone(Command::Help));
+        return Ok(Request {
+            command: Command::Help,
+            null: None,
+        });
     }
     if word == "--version" {
-        return Ok(alone(Command::Version));
+        return Ok(Request {
+            command: Command::Version,
+            null: None,
+        });
     }
     match verb_of(word) {
         Some(verb) => options_of(verb, &words[1..]),
         None => Err(ArgumentFault::NotVerb(word)),
-    }
-}
-
-// The command, with no null.
-fn alone<'a>(command: Command) -> Request<'a>
-    ensures command { result.command ≡ command }
-    ensures null { result.null ≡ None }
-{
-    Request {
-        command,
-        null: None,
     }
 }
 
@@ -185,17 +180,31 @@ fn options_of(verb: Verb, words: &[String]) -> Result<Request<'_>, ArgumentFault
     for word in words {
         match read_word(verb, reading, word.as_str()) {
             Ok(Some(next)) => reading = next,
-            Ok(None) => return Ok(alone(Command::VerbHelp(verb))),
+            Ok(None) => {
+                return Ok(Request {
+                    command: Command::VerbHelp(verb),
+                    null: None,
+                });
+            }
             Err(fault) => return Err(fault),
         }
     }
     match reading.wanted {
-        Some((Setting::Null, word)) => Err(ArgumentFault::NoWord(word)),
-        Some((_, word)) => Err(ArgumentFault::NoNumber(word)),
+        Some((setting, word)) => Err(no_value(setting, word)),
         None => Ok(Request {
             command: Command::Run(verb, reading.settings),
             null: reading.null,
         }),
+    }
+}
+
+// The value of the setting is missing.
+fn no_value<'a>(setting: Setting, word: &'a str) -> ArgumentFault<'a>
+    ensures { argument_text result ≡ no_value setting word.now }
+{
+    match setting {
+        Setting::Limit | Setting::Top => ArgumentFault::NoNumber(word),
+        Setting::Null => ArgumentFault::NoWord(word),
     }
 }
 
@@ -240,7 +249,7 @@ fn meaning_of(verb: Verb, word: &str) -> Meaning
     if word == "--help" {
         return Meaning::AsksHelp;
     }
-    if word == "--binary" && verb == Verb::Encode {
+    if is_binary(verb, word) {
         return Meaning::IsBinary;
     }
     let bytes = word.as_bytes();
@@ -254,6 +263,13 @@ fn meaning_of(verb: Verb, word: &str) -> Meaning
             None => Meaning::Nothing,
         },
     }
+}
+
+// Whether the word is the verb's option for codes as bytes.
+fn is_binary(verb: Verb, word: &str) -> bool
+    ensures { result ≡ is_binary verb word.now }
+{
+    word == "--binary" && verb == Verb::Encode
 }
 
 // The verb's setting of this name.
@@ -284,36 +300,28 @@ fn with_value<'a>(
         (λ fault. (value_of reading.entry.settings (word_of reading.entry.null) setting (drop from word.now) ≡ None) × (argument_text fault ≡ not_number word.now)) }
 {
     let value = &word.as_bytes()[from..];
-    if setting == Setting::Null {
-        return Ok(Some(Reading {
-            settings: reading.settings,
+    let settings = reading.settings;
+    match setting {
+        Setting::Limit => match parse_number(value) {
+            Some(limit) => Ok(Some(Reading {
+                settings: Settings { limit, ..settings },
+                null: reading.null,
+                wanted: None,
+            })),
+            None => Err(ArgumentFault::NotNumber(word)),
+        },
+        Setting::Top => match parse_number(value) {
+            Some(top) => Ok(Some(Reading {
+                settings: Settings { top, ..settings },
+                null: reading.null,
+                wanted: None,
+            })),
+            None => Err(ArgumentFault::NotNumber(word)),
+        },
+        Setting::Null => Ok(Some(Reading {
+            settings,
             null: Some(value),
             wanted: None,
-        }));
-    }
-    let Some(number) = parse_number(value) else {
-        return Err(ArgumentFault::NotNumber(word));
-    };
-    Ok(Some(Reading {
-        settings: with_number(reading.settings, setting, number),
-        null: reading.null,
-        wanted: None,
-    }))
-}
-
-// The settings with this number.
-fn with_number(settings: Settings, setting: Setting, number: usize) -> Settings
-    ensures { result ≡ with_number settings setting number }
-{
-    match setting {
-        Setting::Limit => Settings {
-            limit: number,
-            ..settings
-        },
-        Setting::Top => Settings {
-            top: number,
-            ..settings
-        },
-        Setting::Null => settings,
+        })),
     }
 }

@@ -25,7 +25,9 @@ pub fn write_column<W: Write>(
 ) -> Result<(), RunFault>
     ensures { Writes (W.contents output.old) (W.contents output.new) (WritesAll (column_of binary rodeo.now.texts (map entry_at numbers.now)) result) }
 {
-    write_header(output, binary, rodeo.len() as u64, numbers.len() as u64)?;
+    let distinct = rodeo.len();
+    let lines = numbers.len();
+    write_header(output, binary, distinct as u64, lines as u64)?;
     write_texts(output, rodeo)?;
     write_entries(output, binary, numbers)
 }
@@ -75,7 +77,7 @@ fn write_texts<W: Write>(output: &mut W, rodeo: &SpurRodeo) -> Result<(), RunFau
 
 // Writes the entry of each number.
 fn write_entries<W: Write>(output: &mut W, binary: bool, numbers: &[u32]) -> Result<(), RunFault>
-    ensures { Writes (W.contents output.old) (W.contents output.new) (WritesAll (flat_map (entry_bytes binary) (map entry_at numbers.now)) result) }
+    ensures { Writes (W.contents output.old) (W.contents output.new) (WritesAll (flat_map (λ n. entry_bytes binary (entry_at n)) numbers.now) result) }
 {
     for number in numbers {
         write_entry(output, binary, *number)?;
