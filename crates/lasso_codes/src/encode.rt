@@ -5,6 +5,8 @@ ghost use Rattle.lasso_single.specs.Interner.{made_with};
 ghost use Rattle.lasso_columns.specs.Encoding.{IsRefused};
 ghost use Rattle.lasso_columns.specs.Faults.{IsFaultOf};
 ghost use Rattle.lasso_columns.specs.Lines.{lines_of};
+ghost use Rattle.lasso_columns.specs.declared.faults.LineError.TheVariants.{Refused};
+ghost use Rattle.lasso_parts.specs.declared.util.LassoErrorKind.TheVariants.{FailedAllocation};
 ghost use Rattle.lasso_codes.specs.Arguments.{word_of};
 ghost use Rattle.lasso_codes.specs.Columns.{is_null};
 ghost use Rattle.lasso_codes.specs.Encode.{AreNumbered, EncodeEnd, EncodingFault, IsNumbered};
@@ -88,7 +90,7 @@ fn encode_lines<R: Read + Drop>(
     Err(RunFault::TooManyLines)
 }
 
-// Appends the number that stands for the line of this number's entry.
+// Appends the number that stands for the entry of the line, which has this number.
 fn encode_line(
     rodeo: &mut SpurRodeo,
     numbers: &mut Vec<u32>,
@@ -99,20 +101,41 @@ fn encode_line(
     ensures numbered { OnOk result (IsUtf8 line.now × ((entry : ℕ) × IsNumbered (word_of null.entry) rodeo.old line.now rodeo.new entry × (numbers.new.items ≡ numbers.old.items ++ entry ∷ []))) }
     ensures fault { IfErr result (IsFaultOf rodeo.old line.now number) }
 {
+    let entry = entry_of(rodeo, null, line, number)?;
+    append(numbers, entry, number)?;
+    Ok(())
+}
+
+// The number that stands for the entry of the line, which has this number. The line is interned, unless it is a null.
+fn entry_of(
+    rodeo: &mut SpurRodeo,
+    null: Option<&[u8]>,
+    line: &[u8],
+    number: usize,
+) -> Result<u32, LineError>
+    ensures { MatchResult result
+        (λ entry. IsUtf8 line.now × IsNumbered (word_of null.entry) rodeo.old line.now rodeo.new entry)
+        (IsFaultOf rodeo.old line.now number) }
+{
     let Ok(text) = from_utf8(line) else {
         return Err(LineError::NotText(number));
     };
-    if numbers.reserve(1).is_err() {
+    match number_of(rodeo, null, text) {
+        Ok(entry) => Ok(entry),
+        Err(error) => Err(LineError::Refused(number, error)),
+    }
+}
+
+// Appends the entry of the line of this number.
+fn append(numbers: &mut Vec<u32>, entry: u32, number: usize) -> Result<(), LineError>
+    ensures items { OnOk result (numbers.new.items ≡ numbers.old.items ++ entry ∷ []) }
+    ensures fault { IfErr result (λ error. error ≡ Refused number FailedAllocation) }
+{
+    if numbers.push(entry).is_err() {
         let error = LassoError::new(LassoErrorKind::FailedAllocation);
         return Err(LineError::Refused(number, error));
     }
-    match number_of(rodeo, null, text) {
-        Ok(entry) => {
-            numbers.push_reserved(entry);
-            Ok(())
-        }
-        Err(error) => Err(LineError::Refused(number, error)),
-    }
+    Ok(())
 }
 
 // The number that stands for the text's entry. The text is interned, unless it is a null.
