@@ -1,4 +1,4 @@
-use Rattle.std.proofs.Common.{ℕ, ◌≡◌, ◌++◌, ◌∙◌, List, Err, length, map, sym, subst}
+use Rattle.std.proofs.Common.{ℕ, ◌≡◌, ◌++◌, List, Err, length, map, sym, subst}
 use Rattle.std.specs.Prelude.{flat_map}
 use Rattle.std.proofs.lemmas.List.{length-map}
 use Rattle.std.proofs.lemmas.Result.{err_from_is_err_and}
@@ -15,7 +15,7 @@ returns-in_err-write_header g c =
     let texts = c.args.rodeo.now.texts in
     let entries = map entry_at c.args.numbers.now in
     let distinct : c.len-distinct.result ≡ length texts = c.len-distinct.ensures.value in
-    let lines : c.len-lines.result ≡ length entries = c.len-lines.ensures ∙ sym (length-map c.args.numbers.now entry_at) in
+    let lines : length c.args.numbers.now ≡ length entries = sym (length-map c.args.numbers.now entry_at) in
     let head = rw (distinct, lines) at c.in_err-write_header.ensures in
     let body = flat_map with_feed texts ++ flat_map (entry_bytes c.args.binary) entries in
     rw (p.1, p.2) (writes_front_fails _ _ (header c.args.binary (length texts) (length entries)) body c.in_err-write_header.field-0.0 head)
@@ -26,7 +26,7 @@ returns-in_err-write_texts g c =
     let texts = c.args.rodeo.now.texts in
     let entries = map entry_at c.args.numbers.now in
     let distinct : c.len-distinct.result ≡ length texts = c.len-distinct.ensures.value in
-    let lines : c.len-lines.result ≡ length entries = c.len-lines.ensures ∙ sym (length-map c.args.numbers.now entry_at) in
+    let lines : length c.args.numbers.now ≡ length entries = sym (length-map c.args.numbers.now entry_at) in
     let head = rw (distinct, lines) at c.in_ok-write_header.ensures in
     let front = flat_map with_feed texts in
     let back = flat_map (entry_bytes c.args.binary) entries in
@@ -39,7 +39,7 @@ returns g c =
     let numbers = c.args.numbers.now in
     let entries = map entry_at numbers in
     let distinct : c.len-distinct.result ≡ length texts = c.len-distinct.ensures.value in
-    let lines : c.len-lines.result ≡ length entries = c.len-lines.ensures ∙ sym (length-map numbers entry_at) in
+    let lines : length numbers ≡ length entries = sym (length-map numbers entry_at) in
     let head = rw (distinct, lines) at c.in_ok-write_header.ensures in
     let front = flat_map with_feed texts in
     let back = flat_map (entry_bytes c.args.binary) entries in

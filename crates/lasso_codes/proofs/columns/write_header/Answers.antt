@@ -1,4 +1,4 @@
-use Rattle.std.proofs.Common.{◌∷◌, ◌++◌, [], decimal}
+use Rattle.std.proofs.Common.{◌∷◌, ◌++◌, [], Err, decimal}
 use Rattle.std.proofs.lemmas.Result.{err_from_is_err_and}
 use Rattle.lasso_codes.specs.Columns.{header_front}
 use Rattle.lasso_codes.proofs.Written.{writes_front, writes_front_fails}
@@ -16,7 +16,7 @@ returns-in_err-write_number_and g c =
     let distinct = decimal c.args.distinct ++ 32 ∷ [] in
     let lines = decimal c.args.lines ++ 10 ∷ [] in
     let fault = c.in_err-write_number_and.field-0.0 in
-    rw (p.1, p.2) (writes_front _ _ _ (header_front c.args.binary) (distinct ++ lines) _ c.in_ok-write_front.ensures (writes_front_fails _ _ distinct lines fault c.in_err-write_number_and.ensures))
+    rw (p.1, p.2) (writes_front _ _ _ (header_front c.args.binary) (distinct ++ lines) (Err fault) c.in_ok-write_front.ensures (writes_front_fails _ _ distinct lines fault c.in_err-write_number_and.ensures))
 
 pub returns : goal.returns
 returns g c =
