@@ -48,6 +48,11 @@ int main(void)
     CHECK(lasso_intern_batch(&lasso, NULL, 0, NULL, 0, NULL, 0, &report) == LASSO_DONE && tells(&report, 0, 0, 0));
     CHECK(lasso_intern(&lasso, NULL, 0, &code) == LASSO_DONE && code == 0);
     CHECK(lasso_get(&lasso, NULL, 0, &code) == LASSO_DONE && code == 0);
+    CHECK(lasso_get_batch(&lasso, NULL, 0, NULL, 0, LASSO_ABSENT, NULL, 0, &report) == LASSO_DONE && tells(&report, 0, 0, 0));
+    CHECK(lasso_get_batch(&lasso, bytes, 6, offsets, 4, LASSO_ABSENT, NULL, 0, &report) == LASSO_CODES_TOO_SHORT);
+    CHECK(tells(&report, 3, 0, 0));
+    CHECK(lasso_get_batch(&lasso, bytes, 6, offsets, 4, LASSO_ABSENT, codes, 3, &report) == LASSO_DONE && tells(&report, 3, 0, 0));
+    CHECK(codes[0] == LASSO_ABSENT && codes[1] == LASSO_ABSENT && codes[2] == 0);
     CHECK(lasso_resolve(&lasso, 0, NULL, 0, &whole) == LASSO_DONE && whole == 0);
     CHECK(lasso_dictionary(&lasso, 0, NULL, 0, NULL, 0, &report) == LASSO_OFFSETS_TOO_SHORT && tells(&report, 1, 0, 0));
     CHECK(lasso_dictionary(&lasso, 0, NULL, 0, written, 2, &report) == LASSO_DONE && tells(&report, 1, 0, 0));

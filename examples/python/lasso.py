@@ -70,7 +70,7 @@ _DONE, _OFFSETS_SHORT, _BYTES_SHORT, _NO_INTERNER, _NO_SUCH_TEXT = 0, 7, 8, 12, 
 _ERRORS: dict[int, type[LassoError]] = {
     1: WrongLayout, 2: WrongLayout, 3: NotUtf8, 9: OutOfMemory, 10: LimitReached, 11: CodesExhausted, 12: InternerClosed,
 }
-_NO_LIMIT = c_size_t(-1).value
+_NO_LIMIT, _ABSENT = c_size_t(-1).value, c_uint32(-1).value
 
 _BYTES, _OFFSETS, _CODES = ((POINTER(kind), c_size_t) for kind in (c_uint8, c_int32, c_uint32))
 
@@ -86,6 +86,7 @@ def _load() -> ctypes.CDLL:
         ("intern", status, [*_BYTES, POINTER(c_uint32)]),
         ("intern_batch", status, [*_BYTES, *_OFFSETS, *_CODES, POINTER(_Report)]),
         ("get", status, [*_BYTES, POINTER(c_uint32)]),
+        ("get_batch", status, [*_BYTES, *_OFFSETS, c_uint32, *_CODES, POINTER(_Report)]),
         ("resolve", status, [c_uint32, *_BYTES, POINTER(c_size_t)]),
         ("dictionary", status, [c_size_t, *_BYTES, *_OFFSETS, POINTER(_Report)]),
         ("len", c_size_t, []),
@@ -124,6 +125,13 @@ def _view(kind: type, buffer: Any, length: int) -> tuple[Any, int]:
     if view.readonly:
         return _sized(kind, (kind * length).from_buffer_copy(view), length)
     return _sized(kind, (kind * length).from_buffer(view), length)
+
+
+def _layout(texts: Iterable[str]) -> tuple[tuple[Any, int], tuple[Any, int], int]:
+    """Texts as they cross: their bytes, their offsets, and how many there are."""
+    data = [text.encode() for text in texts]
+    starts = array("i", [0, *accumulate(map(len, data))])
+    return _bytes(b"".join(data)), _view(c_int32, starts, len(starts)), len(data)
 
 
 def _message(status: int) -> str:
@@ -171,10 +179,7 @@ class Interner:
         """
         if hasattr(texts, "buffers"):
             return self._encode_arrow(texts)
-        data = [text.encode() for text in texts]
-        starts = array("i", [0, *accumulate(map(len, data))])
-        joined = b"".join(data)
-        return self._encode(_bytes(joined), _view(c_int32, starts, len(starts)), len(data))
+        return self._encode(*_layout(texts))
 
     def _encode_arrow(self, texts: Any) -> array:
         if getattr(texts, "null_count", 0):
@@ -202,6 +207,15 @@ class Interner:
             return None
         _expect_done(status)
         return code.value
+
+    def get_many(self, texts: Iterable[str]) -> list[int | None]:
+        """The code of each text, or None for an absent one. None is appended. An error names the ``position`` of a refused text."""
+        data, starts, count = _layout(texts)
+        codes, report = array("I", bytes(4 * count)), _Report()
+        status = _library.lasso_get_batch(
+            byref(self._handle), *data, *starts, _ABSENT, *_view(c_uint32, codes, count), byref(report))
+        _expect_done(status, None if status == _NO_INTERNER else report.at)
+        return [None if code == _ABSENT else code for code in codes]
 
     def __contains__(self, text: str) -> bool:
         return self.get(text) is not None

@@ -30,6 +30,8 @@ class Interning(unittest.TestCase):
             self.assertEqual((len(interner), interner.texts(3), list(interner)), (5, ["grün", "c"], ["a", "b", "", "grün", "c"]))
             self.assertEqual((interner.get("c"), interner.get("d"), "d" in interner, len(interner)), (4, None, False, 5))
             self.assertEqual((interner[3], interner.texts(5), interner.texts(9)), ("grün", [], []))
+            self.assertEqual(interner.get_many(iter(["d", "c", "", "c"])), [None, 4, 2, 4])
+            self.assertEqual((interner.get_many([]), len(interner)), ([], 5))
 
     def test_gives_long_texts_whole(self):
         with Interner() as interner:

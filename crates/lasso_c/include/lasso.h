@@ -180,8 +180,9 @@ uint32_t lasso_intern(struct lasso *lasso, const uint8_t *text, size_t text_leng
  * bytes, offsets      the caller's, read: as in lasso_encode.
  * codes               the caller's, written. codes_length counts codes, one for each text; it may be greater.
  *
- * Status: LASSO_NO_INTERNER; LASSO_CODES_TOO_SHORT, and no text is interned; else that of the first refused text:
- * LASSO_OFFSETS_FALL, LASSO_OFFSET_PAST_BYTES, LASSO_NOT_UTF8, or as in lasso_intern; else LASSO_DONE.
+ * Status: LASSO_NO_INTERNER; LASSO_CODES_TOO_SHORT, or LASSO_OFFSET_PAST_BYTES where the first offset is past the bytes, and no
+ * text is interned; else that of the first refused text: LASSO_OFFSETS_FALL, LASSO_OFFSET_PAST_BYTES, LASSO_NOT_UTF8, or as in
+ * lasso_intern; else LASSO_DONE.
  */
 uint32_t lasso_intern_batch(struct lasso *lasso,
                             const uint8_t *bytes, size_t bytes_length,
@@ -195,6 +196,27 @@ uint32_t lasso_intern_batch(struct lasso *lasso,
  * Status: LASSO_NOT_UTF8, LASSO_NO_INTERNER, LASSO_NO_SUCH_TEXT, else LASSO_DONE.
  */
 uint32_t lasso_get(struct lasso *lasso, const uint8_t *text, size_t text_length, uint32_t *code);
+
+/* No interner gives this code. */
+#define LASSO_ABSENT UINT32_MAX
+
+/*
+ * Looks the texts of a layout up, and appends none: writes the code of each text in their order, and absent for a text that the
+ * interner does not have. With LASSO_ABSENT as absent these can be told apart. report->texts is the number of texts, and
+ * report->bytes is 0.
+ *
+ * bytes, offsets      the caller's, read: as in lasso_encode.
+ * codes               the caller's, written. codes_length counts codes, one for each text; it may be greater.
+ *
+ * The first of these that is so is the status: LASSO_NO_INTERNER; LASSO_CODES_TOO_SHORT; what is wrong with the layout, as in
+ * lasso_encode; else LASSO_DONE.
+ */
+uint32_t lasso_get_batch(struct lasso *lasso,
+                         const uint8_t *bytes, size_t bytes_length,
+                         const int32_t *offsets, size_t offsets_length,
+                         uint32_t absent,
+                         uint32_t *codes, size_t codes_length,
+                         struct lasso_report *report);
 
 /*
  * Writes the text of a code as far as text_length bytes have room, with no end mark. *whole is how many bytes the whole text has.
@@ -333,6 +355,19 @@ static inline uint32_t lasso_get_inline(struct lasso *lasso, const uint8_t *text
     return lasso_get(lasso, (const uint8_t *)lasso_read_from(text, text_length), text_length, code);
 }
 #define lasso_get lasso_get_inline
+
+static inline uint32_t lasso_get_batch_inline(struct lasso *lasso,
+                                              const uint8_t *bytes, size_t bytes_length,
+                                              const int32_t *offsets, size_t offsets_length,
+                                              uint32_t absent,
+                                              uint32_t *codes, size_t codes_length,
+                                              struct lasso_report *report)
+{
+    return lasso_get_batch(lasso, (const uint8_t *)lasso_read_from(bytes, bytes_length), bytes_length,
+                           (const int32_t *)lasso_read_from(offsets, offsets_length), offsets_length, absent,
+                           (uint32_t *)lasso_write_to(codes, codes_length), codes_length, report);
+}
+#define lasso_get_batch lasso_get_batch_inline
 
 static inline uint32_t lasso_resolve_inline(struct lasso *lasso, uint32_t code, uint8_t *text, size_t text_length, size_t *whole)
 {

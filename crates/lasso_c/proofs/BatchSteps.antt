@@ -10,7 +10,7 @@ use Rattle.std.proofs.lemmas.List.{get_or-drop, drop_more, map-append, length-ta
 use Rattle.lasso_parts.specs.Texts.{Text, position_of}
 use Rattle.lasso_parts.proofs.TextLemmas.{take_more_at}
 use Rattle.lasso_c.specs.Layout.{texts_from, layout_texts, over, over_from}
-use Rattle.lasso_c.specs.Encoding.{with_new, with_all_new, codes_of}
+use Rattle.lasso_c.specs.Encoding.{with_new, with_all_new, codes_of, codes_or}
 use Rattle.lasso_c.proofs.Layouts.{length-layout_texts}
 use Rattle.lasso_c.proofs.Interning.{position_stays}
 use Rattle.lasso_c.proofs.Writing.{over_both, over_one, over_all}
@@ -21,7 +21,7 @@ text_from bytes from [] at small = absurd (omega arith)
 text_from bytes from (to ∷ offsets) zero small = refl
 text_from bytes from (to ∷ offsets) (suc at) small = text_from bytes to offsets at (omega arith)
 
-text_is : (bytes offsets : List ℕ) (at : ℕ) → at + 1 < length offsets → slice_get (layout_texts bytes offsets) at ≡ Some (slice_range bytes (get_or offsets at 0) (get_or offsets (at + 1) 0))
+pub text_is : (bytes offsets : List ℕ) (at : ℕ) → at + 1 < length offsets → slice_get (layout_texts bytes offsets) at ≡ Some (slice_range bytes (get_or offsets at 0) (get_or offsets (at + 1) 0))
 text_is bytes [] at small = absurd (omega arith)
 text_is bytes (from ∷ offsets) at small = rw add-one (text_from bytes from offsets at (omega arith))
 
@@ -32,12 +32,12 @@ all_push : (texts more : List Text) (text : Text) → with_all_new texts (more +
 all_push texts [] text = refl
 all_push texts (other ∷ more) text = all_push (with_new texts other) more text
 
-codes_push : (dictionary texts : List Text) (text : Text) → codes_of dictionary (texts ++ text ∷ []) ≡ codes_of dictionary texts ++ unwrap_or (position_of dictionary text) 0 ∷ []
-codes_push dictionary texts text = map-append (λ t. unwrap_or (position_of dictionary t) 0) texts (text ∷ [])
+codes_push : (absent : ℕ) (dictionary texts : List Text) (text : Text) → codes_or absent dictionary (texts ++ text ∷ []) ≡ codes_or absent dictionary texts ++ unwrap_or (position_of dictionary text) absent ∷ []
+codes_push absent dictionary texts text = map-append (λ t. unwrap_or (position_of dictionary t) absent) texts (text ∷ [])
 
-length-codes : (dictionary texts : List Text) → length (codes_of dictionary texts) ≡ length texts
-length-codes dictionary [] = refl
-length-codes dictionary (text ∷ texts) = ap suc (length-codes dictionary texts)
+length-codes : (absent : ℕ) (dictionary texts : List Text) → length (codes_or absent dictionary texts) ≡ length texts
+length-codes absent dictionary [] = refl
+length-codes absent dictionary (text ∷ texts) = ap suc (length-codes absent dictionary texts)
 
 -- a number written right after what is written over the front is written over the front too
 over_push : (part buffer : List ℕ) (n value : ℕ) → n ≡ length part → n < length buffer → n < length (over part buffer) → set (over part buffer) n value ≡ over (part ++ value ∷ []) buffer
@@ -62,10 +62,10 @@ one_more : (old done : List Text) (first : List ℕ) (texts : List Text) (codes 
 one_more old done first texts codes text code b small found =
     let new = with_new texts text in
     let at_end : (more : List Text) → codes_of (with_all_new new more) (done ++ text ∷ []) ≡ codes_of texts done ++ code ∷ [] = λ more.
-    codes_push (with_all_new new more) done text
+    codes_push 0 (with_all_new new more) done text
     ∙ ap (λ (cs : List ℕ). cs ++ unwrap_or (position_of (with_all_new new more) text) 0 ∷ []) (b.stays (text ∷ more))
     ∙ ap (λ o. codes_of texts done ++ unwrap_or o 0 ∷ []) (position_stays new more text code found) in
-    let many : length done ≡ length (codes_of texts done) = sym (length-codes texts done) in
+    let many : length done ≡ length (codes_of texts done) = sym (length-codes 0 texts done) in
     record {
       dictionary = ap (λ (d : List Text). with_new d text) b.dictionary ∙ sym (all_push old done text);
       written = ap (λ (cs : List ℕ). set cs (length done) code) b.written ∙ over_push (codes_of texts done) first (length done) code many small (subst (λ (cs : List ℕ). length done < length cs) b.written (omega (arith, b.room))) ∙ ap (λ (cs : List ℕ). over cs first) (sym (at_end []));
@@ -84,6 +84,22 @@ next_done bytes offsets old at first texts codes text code b small room within i
     let n : length (take at all) ≡ at = length-take-le at all within in
     subst (λ (done : List Text). Batch old done first (with_new texts text) (set codes at code)) (sym (take_more_at all at text here))
     (subst (λ (k : ℕ). Batch old (take at all ++ text ∷ []) first (with_new texts text) (set codes k code)) n (one_more old (take at all) first texts codes text code b (omega (arith, n)) found))
+
+-- the next text of the layout is looked up
+pub found_next : (bytes offsets : List ℕ) (dictionary : List Text) (absent at : ℕ) (first codes : List ℕ) (text : Text) (code : ℕ)
+    → codes ≡ over (codes_or absent dictionary (take at (layout_texts bytes offsets))) first → at + 1 < length offsets → at < length first → length codes ≡ length first → at ≤ length (layout_texts bytes offsets)
+    → text ≡ slice_range bytes (get_or offsets at 0) (get_or offsets (at + 1) 0) → code ≡ unwrap_or (position_of dictionary text) absent
+    → set codes at code ≡ over (codes_or absent dictionary (take (at + 1) (layout_texts bytes offsets))) first
+found_next bytes offsets dictionary absent at first codes text code written small room same within is found =
+    let all = layout_texts bytes offsets in
+    let here : slice_get all at ≡ Some text = text_is bytes offsets at small ∙ ap (λ (t : Text). Some t) (sym is) in
+    let part = codes_or absent dictionary (take at all) in
+    let many : at ≡ length part = sym (length-take-le at all within) ∙ sym (length-codes absent dictionary (take at all)) in
+    let more : codes_or absent dictionary (take (at + 1) all) ≡ part ++ code ∷ [] =
+    ap (λ (ts : List Text). codes_or absent dictionary ts) (take_more_at all at text here) ∙ codes_push absent dictionary (take at all) text ∙ ap (λ n. part ++ n ∷ []) (sym found) in
+    ap (λ (cs : List ℕ). set cs at code) written
+    ∙ over_push part first at code many room (subst (λ (cs : List ℕ). at < length cs) written (omega (arith, same)))
+    ∙ ap (λ (cs : List ℕ). over cs first) (sym more)
 
 -- a text of a dictionary from a code on
 pub get_from : (texts : List Text) (from at : ℕ) (text : Text) → slice_get texts (from + at) ≡ Some text → slice_get (drop from texts) at ≡ Some text

@@ -2,7 +2,7 @@
 --
 -- The faults are asked for from the first offset on, and the texts are cut off in the same order. So what is known of a
 -- text behind the first ones is found by stepping over these.
-use Rattle.std.proofs.Common.{ℕ, zero, suc, ◌≡◌, ◌+◌, ◌<◌, ◌≤◌, true, false, List, [], ◌∷◌, length, get_or, slice_get, Option, Some, None, refl, ap, ◌-◌, add-one, arith}
+use Rattle.std.proofs.Common.{ℕ, zero, suc, ◌≡◌, ◌+◌, ◌<◌, ◌≤◌, true, false, List, [], ◌∷◌, length, get_or, slice_get, Option, Some, None, refl, ap, ◌∙◌, ◌-◌, add-one, arith}
 use Rattle.std.specs.List.{slice_range}
 use Rattle.std.specs.Option.{option_or}
 use Rattle.std.specs.Str.{IsUtf8, is_utf8}
@@ -54,6 +54,23 @@ lies bytes [] k good small = absurd (omega arith)
 lies bytes (from ∷ offsets) k good small =
     let both = or_none (start_fault bytes from) (texts_fault bytes 0 from offsets) good in
     rw add-one (lies_from bytes 0 from offsets k both.1 (omega arith))
+
+good_from : (bytes : List ℕ) (first from : ℕ) (offsets : List ℕ) (k at : ℕ) → at ≡ first + k → texts_fault bytes first from offsets ≡ None → k < length offsets → text_fault bytes at (get_or (from ∷ offsets) k 0) (get_or offsets k 0) ≡ None
+good_from bytes first from [] k at same good small = absurd (omega arith)
+good_from bytes first from (to ∷ offsets) zero at same good small =
+    let both = or_none (text_fault bytes first from to) (texts_fault bytes (first + 1) to offsets) good in
+    let here : at ≡ first = omega arith in
+    ap (λ n. text_fault bytes n from to) here ∙ both.0
+good_from bytes first from (to ∷ offsets) (suc k) at same good small =
+    let both = or_none (text_fault bytes first from to) (texts_fault bytes (first + 1) to offsets) good in
+    good_from bytes (first + 1) to offsets k at (omega arith) both.1 (omega arith)
+
+-- nothing is wrong with a text of a good layout
+pub good_at : (bytes offsets : List ℕ) (at : ℕ) → layout_fault bytes offsets ≡ None → at + 1 < length offsets → text_fault bytes at (get_or offsets at 0) (get_or offsets (at + 1) 0) ≡ None
+good_at bytes [] at good small = absurd (omega arith)
+good_at bytes (from ∷ offsets) at good small =
+    let both = or_none (start_fault bytes from) (texts_fault bytes 0 from offsets) good in
+    rw add-one (good_from bytes 0 from offsets at at (omega arith) both.1 (omega arith))
 
 length-texts_from : (bytes : List ℕ) (from : ℕ) (offsets : List ℕ) → length (texts_from bytes from offsets) ≡ length offsets
 length-texts_from bytes from [] = refl

@@ -4,5 +4,6 @@ pub mod Interning
 pub mod Measuring
 pub mod RoundTrip
 pub mod BatchSteps
+pub mod LayoutSteps
 pub mod SlotValues
 pub mod Loading

@@ -21,9 +21,13 @@ with_all_new texts (text ∷ more) = with_all_new (with_new texts text) more
 abbrev pub dictionary_of : List Text → List Text
 dictionary_of texts = with_all_new [] texts
 
--- where each of these texts stands in the dictionary
+-- where each of these texts is in the dictionary, and the given code for an absent one
+abbrev pub codes_or : ℕ → List Text → List Text → List ℕ
+codes_or absent dictionary texts = map (λ text. unwrap_or (position_of dictionary text) absent) texts
+
+-- the same where no text is absent
 abbrev pub codes_of : List Text → List Text → List ℕ
-codes_of dictionary texts = map (λ text. unwrap_or (position_of dictionary text) 0) texts
+codes_of dictionary texts = codes_or 0 dictionary texts
 
 abbrev pub sizes_of : List Text → Sizes
 sizes_of texts = record { texts = length texts; bytes = length (concat texts) }

@@ -1,14 +1,14 @@
 -- What a call on a handle is about: the list and the account of its interner, and why a text is refused.
-use Rattle.std.specs.Prelude.{ℕ, ◌≡◌, ◌⊎◌, List, [], length, drop, nat_lt, if◌then◌else◌, Option, None, Some, Result, Err}
+use Rattle.std.specs.Prelude.{ℕ, List, [], length, drop, nat_lt, if◌then◌else◌, Option, None, Some, Result, Ok, Err}
 use Rattle.std.specs.List.{concat}
 use Rattle.lasso_parts.specs.Account.{Account}
 use Rattle.lasso_parts.specs.Texts.{Text}
-use Rattle.lasso_c.specs.Layout.{greatest_offset}
+use Rattle.lasso_c.specs.Layout.{greatest_offset, layout_texts, layout_fault}
 use Rattle.lasso_c.specs.Encoding.{sizes_of}
-use Rattle.lasso_c.specs.Decoding.{fitting}
+use Rattle.lasso_c.specs.Decoding.{fitting, unless_faulty}
 use Rattle.lasso_c.specs.declared.refusal.Sizes.{Sizes}
 use Rattle.lasso_c.specs.declared.refusal.Refusal.{Refusal}
-use Rattle.lasso_c.specs.declared.refusal.Refusal.TheVariants.{LimitReached, NoCodeLeft, NoMemory, TooManyBytes, NoInterner}
+use Rattle.lasso_c.specs.declared.refusal.Refusal.TheVariants.{CodesTooShort, TooManyBytes, NoInterner}
 use Rattle.lasso_c.specs.declared.slot.Interner.{Interner}
 
 -- the texts of the interner, or none
@@ -21,9 +21,10 @@ abbrev pub account_in : Option Interner → Option Account
 account_in None = None
 account_in (Some interner) = Some interner.rodeo.account
 
--- why an interner refuses a text of this number in a batch
-abbrev pub Refuses : ℕ → Refusal → Type 0
-Refuses at refusal = (refusal ≡ LimitReached at) ⊎ (refusal ≡ NoCodeLeft at) ⊎ (refusal ≡ NoMemory)
+-- the bytes of its first bucket, if there is one
+abbrev pub first_in : Option Interner → Option ℕ
+first_in None = None
+first_in (Some interner) = Some interner.rodeo.first
 
 -- how writing these texts ends, where there is room for so many offsets and bytes
 abbrev pub part_outcome : List Text → ℕ → ℕ → Result Sizes Refusal
@@ -35,3 +36,19 @@ part_outcome texts offsets bytes =
 abbrev pub dictionary_outcome : Option Interner → ℕ → ℕ → ℕ → Result Sizes Refusal
 dictionary_outcome None from offsets bytes = Err NoInterner
 dictionary_outcome (Some interner) from offsets bytes = part_outcome (drop from interner.rodeo.texts) offsets bytes
+
+-- so many codes
+abbrev pub codes_alone : ℕ → Sizes
+codes_alone codes = record { texts = codes; bytes = 0 }
+
+-- how looking up the texts of that layout ends, where there is room for so many codes
+abbrev pub part_lookup_outcome : List ℕ → List ℕ → ℕ → Result Sizes Refusal
+part_lookup_outcome bytes offsets room =
+    let needed = codes_alone (length (layout_texts bytes offsets)) in
+    if nat_lt room needed.texts then Err (CodesTooShort needed)
+    else unless_faulty (layout_fault bytes offsets) (Ok needed)
+
+-- the same in an interner, if there is one
+abbrev pub lookup_outcome : Option Interner → List ℕ → List ℕ → ℕ → Result Sizes Refusal
+lookup_outcome None bytes offsets room = Err NoInterner
+lookup_outcome (Some interner) bytes offsets room = part_lookup_outcome bytes offsets room

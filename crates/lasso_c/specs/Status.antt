@@ -22,7 +22,7 @@ refusal_status NoInterner = 12
 refusal_status NoSuchText = 13
 
 -- 0 where the call was done, and else the number of the refusal
-abbrev pub outcome_status : Result Sizes Refusal → ℕ
+abbrev pub outcome_status : {X : Type 0} → Result X Refusal → ℕ
 outcome_status (Ok _) = 0
 outcome_status (Err refusal) = refusal_status refusal
 

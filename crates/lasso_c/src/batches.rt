@@ -1,14 +1,17 @@
 //! Texts of a layout interned into a dictionary that has some already, and the texts of a dictionary from a code on.
-ghost use Rattle.std.specs.Prelude.{◌≡◌, ◌<◌, ◌≤◌, ◌+◌, None, Some, OnOk, IfOk, IfErr, IfSome, IsSome, length, slice_get, take, drop, is_ok, if◌then◌else◌};
+ghost use Rattle.std.specs.Prelude.{◌≡◌, ◌<◌, ◌≤◌, ◌+◌, None, Some, OnOk, IfOk, IfErr, IfSome, IsSome, length, slice_get, take, drop, is_ok, unwrap_or, if◌then◌else◌};
 ghost use Rattle.std.specs.List.{concat};
+ghost use Rattle.std.specs.Result.{result_err};
 ghost use Rattle.lasso_parts.specs.Texts.{position_of};
-ghost use Rattle.lasso_c.specs.Layout.{greatest_offset, layout_texts, offsets_from, over};
-ghost use Rattle.lasso_c.specs.Encoding.{with_new, with_all_new, codes_of, sizes_of};
-ghost use Rattle.lasso_c.specs.Handles.{Refuses, part_outcome};
+ghost use Rattle.lasso_c.specs.Layout.{greatest_offset, layout_fault, layout_texts, offsets_from, over};
+ghost use Rattle.lasso_c.specs.Encoding.{with_new, with_all_new, codes_of, codes_or, sizes_of};
+ghost use Rattle.lasso_c.specs.Handles.{part_lookup_outcome, part_outcome};
+ghost use Rattle.lasso_c.specs.Interning.{InternsCode, InternsNext, InternsPart, batch_report, batch_start_fault};
+ghost use Rattle.lasso_c.specs.Status.{outcome_status};
 
 use crate::encoding::{Dictionary, text_at_code};
-use crate::layout::{GREATEST_OFFSET, put_text, text_between};
-use crate::refusal::{Refusal, Sizes};
+use crate::layout::{GREATEST_OFFSET, check_layout, first_start, put_text, text_between};
+use crate::refusal::{LassoReport, Refusal, Sizes, status_of};
 use lasso_parts::keys::Key;
 use lasso_parts::util::LassoErrorKind;
 
@@ -19,6 +22,24 @@ pub(crate) struct Progress {
     pub(crate) outcome: Result<(), Refusal>,
 }
 
+// Fills the report of a batch, and returns its status.
+pub(crate) fn tell_batch(progress: Progress, report: &mut LassoReport) -> u32
+    ensures status { result ≡ outcome_status progress.outcome }
+    ensures report { report.new ≡ batch_report progress.done progress.outcome }
+{
+    let texts = progress.done;
+    let (status, at) = match progress.outcome {
+        Ok(()) => (0, 0),
+        Err(refusal) => (status_of(&refusal), texts),
+    };
+    *report = LassoReport {
+        texts,
+        bytes: 0,
+        at,
+    };
+    status
+}
+
 // Interns the texts of the layout up to the first that is refused, and writes their codes.
 #[tactic(auto, using(crate::proofs::BatchSteps::layout_count, crate::proofs::BatchSteps::none_done))]
 pub(crate) fn intern_layout(
@@ -27,35 +48,27 @@ pub(crate) fn intern_layout(
     offsets: &[u32],
     codes: &mut [u32],
 ) -> Progress
+    ensures interned { InternsPart (length codes.old) bytes.now offsets.now result.done dictionary.old result.outcome dictionary.new }
     ensures texts { dictionary.new.texts ≡ with_all_new dictionary.old.texts (take result.done (layout_texts bytes.now offsets.now)) }
     ensures codes { codes.new ≡ over (codes_of dictionary.new.texts (take result.done (layout_texts bytes.now offsets.now))) codes.old }
     ensures whole { OnOk result.outcome (result.done ≡ length (layout_texts bytes.now offsets.now)) }
     ensures within { result.done ≤ length (layout_texts bytes.now offsets.now) }
 {
-    if offsets.len() == 0 {
+    let Some((first, rest)) = offsets.split_first() else {
         return Progress {
             done: 0,
             outcome: Ok(()),
         };
-    }
-    let count = offsets.len() - 1;
-    if codes.len() < count {
-        let none = Sizes { texts: 0, bytes: 0 };
+    };
+    let count = rest.len();
+    if let Err(refusal) = first_fault(bytes, *first, count, codes.len()) {
         return Progress {
             done: 0,
-            outcome: Err(Refusal::CodesTooShort(none)),
+            outcome: Err(refusal),
         };
     }
     for at in 0..count {
-        let (from, to) = (offsets[at] as usize, offsets[at + 1] as usize);
-        let text = match text_between(bytes, at, from, to) {
-            Ok(text) => text,
-            Err(refusal) => return Progress {
-                done: at,
-                outcome: Err(refusal),
-            },
-        };
-        match code_in(dictionary, text, at) {
+        match code_at(dictionary, bytes, offsets, at) {
             Ok(code) => codes[at] = code,
             Err(refusal) => return Progress {
                 done: at,
@@ -69,13 +82,35 @@ pub(crate) fn intern_layout(
     }
 }
 
+// Why a batch of this first offset is refused before its first text, if it is.
+fn first_fault(bytes: &[u8], first: u32, texts: usize, room: usize) -> Result<(), Refusal>
+    ensures { result_err result ≡ batch_start_fault bytes.now first texts room }
+{
+    if room < texts {
+        return Err(Refusal::CodesTooShort(Sizes { texts: 0, bytes: 0 }));
+    }
+    first_start(bytes, first)?;
+    Ok(())
+}
+
+// Interns the text of this number of the layout, and gives its code. Where it is refused nothing has changed.
+fn code_at(
+    dictionary: &mut Dictionary,
+    bytes: &[u8],
+    offsets: &[u32],
+    at: usize,
+) -> Result<u32, Refusal>
+    requires { at + 1 < length offsets.now }
+    ensures { InternsNext bytes.now offsets.now at dictionary.old result dictionary.new }
+{
+    let text = text_between(bytes, at, offsets[at] as usize, offsets[at + 1] as usize)?;
+    code_in(dictionary, text, at)
+}
+
 // The code of the text, which goes last in the dictionary if it is new. `at` is its number in a batch. Where the text is
 // refused nothing has changed.
 pub(crate) fn code_in(dictionary: &mut Dictionary, text: &str, at: usize) -> Result<u32, Refusal>
-    ensures texts { OnOk result (dictionary.new.texts ≡ with_new dictionary.old.texts text.now) }
-    ensures code { IfOk result (λ code. position_of dictionary.new.texts text.now ≡ Some code) }
-    ensures refused { IfErr result (λ refusal. Refuses at refusal) }
-    ensures kept { IfErr result (λ _. (dictionary.new.texts ≡ dictionary.old.texts) × (dictionary.new.account ≡ dictionary.old.account)) }
+    ensures { InternsCode at dictionary.old text.now result dictionary.new }
 {
     match dictionary.try_get_or_intern(text) {
         Ok(key) => Ok(key.into_inner() - 1),
@@ -84,6 +119,54 @@ pub(crate) fn code_in(dictionary: &mut Dictionary, text: &str, at: usize) -> Res
             LassoErrorKind::KeySpaceExhaustion => Err(Refusal::NoCodeLeft(at)),
             LassoErrorKind::FailedAllocation => Err(Refusal::NoMemory),
         },
+    }
+}
+
+// Writes the code of each text of the layout, and the given one for an absent text; or nothing.
+#[tactic(auto, using(crate::proofs::BatchSteps::layout_count))]
+pub(crate) fn find_layout(
+    dictionary: &Dictionary,
+    bytes: &[u8],
+    offsets: &[u32],
+    absent: u32,
+    codes: &mut [u32],
+) -> Result<Sizes, Refusal>
+    ensures outcome { result ≡ part_lookup_outcome bytes.now offsets.now (length codes.old) }
+    ensures codes { codes.new ≡ (if is_ok result then over (codes_or absent dictionary.now.texts (layout_texts bytes.now offsets.now)) codes.old else codes.old) }
+{
+    let count = offsets.len().saturating_sub(1);
+    let needed = Sizes {
+        texts: count,
+        bytes: 0,
+    };
+    if codes.len() < count {
+        return Err(Refusal::CodesTooShort(needed));
+    }
+    check_layout(bytes, offsets)?;
+    put_codes(dictionary, bytes, offsets, absent, codes);
+    Ok(needed)
+}
+
+// Writes the code of each text of the layout, and the given one for an absent text. There must be room, and nothing wrong.
+fn put_codes(dictionary: &Dictionary, bytes: &[u8], offsets: &[u32], absent: u32, codes: &mut [u32])
+    requires layout { layout_fault bytes.now offsets.now ≡ None }
+    requires room { length (layout_texts bytes.now offsets.now) ≤ length codes.old }
+    ensures { codes.new ≡ over (codes_or absent dictionary.now.texts (layout_texts bytes.now offsets.now)) codes.old }
+{
+    for at in 0..offsets.len().saturating_sub(1) {
+        let (from, to) = (offsets[at] as usize, offsets[at + 1] as usize);
+        let text = text_between(bytes, at, from, to).unwrap();
+        codes[at] = code_or(dictionary, text, absent);
+    }
+}
+
+// The code of the text, and the given one for an absent text.
+fn code_or(dictionary: &Dictionary, text: &str, absent: u32) -> u32
+    ensures { result ≡ unwrap_or (position_of dictionary.now.texts text.now) absent }
+{
+    match dictionary.get(text) {
+        Some(key) => key.into_inner() - 1,
+        None => absent,
     }
 }
 

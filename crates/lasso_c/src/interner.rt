@@ -3,16 +3,18 @@
 //! A call takes the interner out of its handle, works on it, and puts it back, which needs no memory.
 ghost use Rattle.std.specs.Prelude.{◌≡◌, ◌⊎◌, ◌≤◌, [], None, Some, length, slice_get, take, drop, IfSome, IsSome};
 ghost use Rattle.std.specs.List.{concat};
+ghost use Rattle.std.specs.Str.{is_utf8};
 ghost use Rattle.lasso_parts.specs.Account.{clear, fresh, with_limit};
 ghost use Rattle.lasso_parts.specs.Texts.{position_of};
 ghost use Rattle.lasso_c.specs.Layout.{layout_texts, offsets_from, over};
-ghost use Rattle.lasso_c.specs.Encoding.{with_new, with_all_new, codes_of};
-ghost use Rattle.lasso_c.specs.Handles.{account_in, dictionary_outcome, texts_in};
+ghost use Rattle.lasso_c.specs.Encoding.{with_new, with_all_new, codes_of, codes_or};
+ghost use Rattle.lasso_c.specs.Handles.{account_in, dictionary_outcome, first_in, lookup_outcome, texts_in};
+ghost use Rattle.lasso_c.specs.Interning.{BatchEnds, TextEnds};
 ghost use Rattle.lasso_c.specs.Status.{Reports};
 
-use crate::batches::{code_in, copy_text, intern_layout, write_from};
+use crate::batches::{code_in, copy_text, find_layout, intern_layout, tell_batch, write_from};
 use crate::handle::Lasso;
-use crate::refusal::{LassoReport, Refusal, batch_report, status_of, tell};
+use crate::refusal::{LassoReport, Refusal, status_of, tell};
 use crate::slot::Interner;
 use lasso_parts::keys::Key;
 use lasso_parts::util::MemoryLimits;
@@ -27,6 +29,7 @@ pub extern "C" fn lasso_new(alloc: Global, lasso: &mut Lasso, limit: usize) -> u
     ensures made { result ≡ 0 → IsSome lasso.new.slot.value }
     ensures texts { result ≡ 0 → texts_in lasso.new.slot.value ≡ [] }
     ensures account { result ≡ 0 → account_in lasso.new.slot.value ≡ Some (fresh 4096 limit) }
+    ensures first { result ≡ 0 → first_in lasso.new.slot.value ≡ Some 4096 }
     ensures refused { ¬ (result ≡ 0) → result ≡ 9 }
     ensures kept { ¬ (result ≡ 0) → lasso.new.slot.value ≡ lasso.old.slot.value }
 {
@@ -46,10 +49,8 @@ pub extern "C" fn lasso_new(alloc: Global, lasso: &mut Lasso, limit: usize) -> u
 pub extern "C" fn lasso_intern(alloc: Global, lasso: &mut Lasso, text: &[u8], code: &mut u32) -> u32
     ensures texts { result ≡ 0 → texts_in lasso.new.slot.value ≡ with_new (texts_in lasso.old.slot.value) text.now }
     ensures code { result ≡ 0 → position_of (texts_in lasso.new.slot.value) text.now ≡ Some code.new }
-    ensures status { (result ≡ 0) ⊎ (result ≡ 3) ⊎ (result ≡ 9) ⊎ (result ≡ 10) ⊎ (result ≡ 11) ⊎ (result ≡ 12) }
-    ensures none { result ≡ 12 → lasso.old.slot.value ≡ None }
-    ensures texts_kept { ¬ (result ≡ 0) → texts_in lasso.new.slot.value ≡ texts_in lasso.old.slot.value }
-    ensures account_kept { ¬ (result ≡ 0) → account_in lasso.new.slot.value ≡ account_in lasso.old.slot.value }
+    ensures outcome { TextEnds (is_utf8 text.now) lasso.old.slot.value text.now result lasso.new.slot.value }
+    ensures kept { ¬ (result ≡ 0) → lasso.new.slot.value ≡ lasso.old.slot.value }
     ensures code_kept { ¬ (result ≡ 0) → code.new ≡ code.old }
 {
     let Ok(text) = from_utf8(text) else {
@@ -81,27 +82,18 @@ pub extern "C" fn lasso_intern_batch(
     codes: &mut [u32],
     report: &mut LassoReport,
 ) -> u32
+    ensures outcome { BatchEnds lasso.old.slot.value bytes.now offsets.now (length codes.old) result report.new lasso.new.slot.value }
     ensures texts { texts_in lasso.new.slot.value ≡ with_all_new (texts_in lasso.old.slot.value) (take report.new.texts (layout_texts bytes.now offsets.now)) }
     ensures codes { codes.new ≡ over (codes_of (texts_in lasso.new.slot.value) (take report.new.texts (layout_texts bytes.now offsets.now))) codes.old }
     ensures whole { result ≡ 0 → report.new.texts ≡ length (layout_texts bytes.now offsets.now) }
     ensures within { report.new.texts ≤ length (layout_texts bytes.now offsets.now) }
-    ensures none { lasso.old.slot.value ≡ None → result ≡ 12 }
 {
     let Some(mut interner) = lasso.take(alloc) else {
         return tell(&Err(Refusal::NoInterner), report);
     };
     let progress = intern_layout(&mut interner.rodeo, bytes, offsets, codes);
     lasso.put(alloc, interner);
-    match progress.outcome {
-        Ok(()) => {
-            *report = batch_report(progress.done, 0);
-            0
-        }
-        Err(refusal) => {
-            *report = batch_report(progress.done, progress.done);
-            status_of(&refusal)
-        }
-    }
+    tell_batch(progress, report)
 }
 
 /// Writes the code of a text. It returns 3 where the text is not UTF-8, 12 without an interner, 13 where the text is absent, and
@@ -130,6 +122,32 @@ pub extern "C" fn lasso_get(alloc: Global, lasso: &mut Lasso, text: &[u8], code:
         }
         None => 13,
     }
+}
+
+/// Writes the code of each text of a layout, and `absent` for a text that the interner does not have. The report has their
+/// number. It returns 12 without an interner, 6 where a code of each text has no room, and 1, 2 or 3 for what is first wrong with
+/// the layout. What is refused writes nothing but its report.
+#[unsafe(no_mangle)]
+pub extern "C" fn lasso_get_batch(
+    alloc: Global,
+    lasso: &mut Lasso,
+    bytes: &[u8],
+    offsets: &[u32],
+    absent: u32,
+    codes: &mut [u32],
+    report: &mut LassoReport,
+) -> u32
+    ensures outcome { Reports (lookup_outcome lasso.old.slot.value bytes.now offsets.now (length codes.old)) result report.new }
+    ensures codes { result ≡ 0 → codes.new ≡ over (codes_or absent (texts_in lasso.old.slot.value) (layout_texts bytes.now offsets.now)) codes.old }
+    ensures codes_kept { ¬ (result ≡ 0) → codes.new ≡ codes.old }
+    ensures kept { lasso.new.slot.value ≡ lasso.old.slot.value }
+{
+    let Some(interner) = lasso.take(alloc) else {
+        return tell(&Err(Refusal::NoInterner), report);
+    };
+    let outcome = find_layout(&interner.rodeo, bytes, offsets, absent, codes);
+    lasso.put(alloc, interner);
+    tell(&outcome, report)
 }
 
 /// Writes the text of a code as far as there is room, and how many bytes the whole text has. It returns 12 without an interner,
@@ -236,6 +254,7 @@ pub extern "C" fn lasso_limit(alloc: Global, lasso: &mut Lasso) -> usize
 pub extern "C" fn lasso_set_limit(alloc: Global, lasso: &mut Lasso, limit: usize) -> u32
     ensures texts { texts_in lasso.new.slot.value ≡ texts_in lasso.old.slot.value }
     ensures account { IfSome (account_in lasso.old.slot.value) (λ account. account_in lasso.new.slot.value ≡ Some (with_limit account limit)) }
+    ensures first { first_in lasso.new.slot.value ≡ first_in lasso.old.slot.value }
     ensures done { IsSome lasso.old.slot.value → result ≡ 0 }
     ensures none { lasso.old.slot.value ≡ None → (result ≡ 12) × (lasso.new.slot.value ≡ None) }
 {
@@ -252,6 +271,7 @@ pub extern "C" fn lasso_set_limit(alloc: Global, lasso: &mut Lasso, limit: usize
 pub extern "C" fn lasso_clear(alloc: Global, lasso: &mut Lasso) -> u32
     ensures texts { texts_in lasso.new.slot.value ≡ [] }
     ensures account { IfSome lasso.old.slot.value (λ interner. account_in lasso.new.slot.value ≡ Some (clear interner.rodeo.first interner.rodeo.account)) }
+    ensures first { first_in lasso.new.slot.value ≡ first_in lasso.old.slot.value }
     ensures done { IsSome lasso.old.slot.value → result ≡ 0 }
     ensures none { lasso.old.slot.value ≡ None → (result ≡ 12) × (lasso.new.slot.value ≡ None) }
 {

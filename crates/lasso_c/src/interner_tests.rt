@@ -3,8 +3,9 @@ ghost use Rattle.std.specs.Prelude.{◌≤◌};
 
 use crate::handle::Lasso;
 use crate::interner::{
-    lasso_clear, lasso_dictionary, lasso_free, lasso_get, lasso_intern, lasso_intern_batch,
-    lasso_len, lasso_limit, lasso_memory, lasso_new, lasso_resolve, lasso_set_limit,
+    lasso_clear, lasso_dictionary, lasso_free, lasso_get, lasso_get_batch, lasso_intern,
+    lasso_intern_batch, lasso_len, lasso_limit, lasso_memory, lasso_new, lasso_resolve,
+    lasso_set_limit,
 };
 use crate::refusal::LassoReport;
 use std::process::Abort;
@@ -73,6 +74,27 @@ fn get<R: Abort + AllocGlobal>(rt: &R, lasso: &mut Lasso, text: &[u8], want: (u3
     assert!(rt; (status, code) == want);
 }
 
+// Looks a batch up with room for `room` codes, and compares the status, the report, and the codes. An absent text has 8.
+fn get_batch<R: Abort + AllocGlobal>(
+    rt: &R,
+    lasso: &mut Lasso,
+    offsets: &[u32],
+    room: usize,
+    want: (u32, (usize, usize, usize), [u32; 4]),
+) {
+    let (mut codes, mut report) = ([9; 4], UNSET);
+    let status = lasso_get_batch(
+        rt.alloc(),
+        lasso,
+        b"redbluered\xc3",
+        offsets,
+        8,
+        &mut codes[..room.min(4)],
+        &mut report,
+    );
+    assert!(rt; (status, (report.texts, report.bytes, report.at), codes) == want);
+}
+
 fn resolve<R: Abort + AllocGlobal>(
     rt: &R,
     lasso: &mut Lasso,
@@ -105,12 +127,39 @@ fn keeps_the_texts_before_a_refused_one(rt: HostRuntime) -> Result<(), Fail> {
     batch(&rt, &mut lasso, &[0, 3, 7, 11], 4, (3, 2, [0, 1, 9, 9]))?;
     batch(&rt, &mut lasso, &[0, 3, 2, 10], 4, (1, 1, [0, 9, 9, 9]))?;
     batch(&rt, &mut lasso, &[0, 3, 12], 4, (2, 1, [0, 9, 9, 9]))?;
+    batch(&rt, &mut lasso, &[12], 4, (2, 0, [9, 9, 9, 9]))?;
+    batch(&rt, &mut lasso, &[11], 4, (0, 0, [9, 9, 9, 9]))?;
     batch(&rt, &mut lasso, &[], 4, (0, 0, [9, 9, 9, 9]))?;
     get(&rt, &mut lasso, b"blue", (0, 1));
     get(&rt, &mut lasso, b"grue", (13, 77));
     resolve(&rt, &mut lasso, 0, (0, *b"red.", 3));
     resolve(&rt, &mut lasso, 1, (0, *b"blue", 4));
     resolve(&rt, &mut lasso, 2, (4, *b"....", 77));
+    Ok(())
+}
+
+#[test]
+fn looks_up_the_texts_of_a_batch(rt: HostRuntime) -> Result<(), Fail> {
+    let mut lasso = Lasso::none(rt.alloc());
+    get_batch(&rt, &mut lasso, &[0, 3], 4, (12, (0, 0, 0), [9; 4]));
+    let mut lasso = made(&rt, usize::MAX)?;
+    intern(&rt, &mut lasso, b"", (0, 0))?;
+    intern(&rt, &mut lasso, b"red", (0, 1))?;
+    // The offsets, the room for codes, and the status, the report and the codes that are wanted. "blue" is absent.
+    for (offsets, room, want) in [
+        ([0, 3, 7, 10].as_slice(), 4, (0, (3, 0, 0), [1, 8, 1, 9])),
+        (&[3, 3, 7], 2, (0, (2, 0, 0), [0, 8, 9, 9])),
+        (&[4], 0, (0, (0, 0, 0), [9; 4])),
+        (&[], 0, (0, (0, 0, 0), [9; 4])),
+        (&[0, 3, 11, 2], 2, (6, (3, 0, 0), [9; 4])),
+        (&[0, 3, 2], 4, (1, (0, 0, 1), [9; 4])),
+        (&[0, 3, 12], 4, (2, (0, 0, 1), [9; 4])),
+        (&[12], 4, (2, (0, 0, 0), [9; 4])),
+        (&[0, 3, 7, 11], 4, (3, (0, 0, 2), [9; 4])),
+    ] {
+        get_batch(&rt, &mut lasso, offsets, room, want);
+    }
+    assert!(rt; lasso_len(rt.alloc(), &mut lasso) == 2);
     Ok(())
 }
 
@@ -164,6 +213,33 @@ fn holds_a_limit(rt: HostRuntime) -> Result<(), Fail> {
     assert!(rt; lasso_clear(rt.alloc(), &mut lasso) == 0);
     assert!(rt; lasso_len(rt.alloc(), &mut lasso) == 0);
     intern(&rt, &mut lasso, b"red", (0, 0))?;
+    Ok(())
+}
+
+// A limit within a batch: the second text has no room, and the third is not asked for.
+#[test]
+fn keeps_the_texts_before_one_past_the_limit(rt: HostRuntime) -> Result<(), Fail> {
+    let mut lasso = made(&rt, 0)?;
+    let text = vec![in rt.alloc(); b'a'; 4097]?;
+    // The second time the first text is present.
+    for unset in [9, 8] {
+        let (mut codes, mut report) = ([unset; 3], UNSET);
+        let status = lasso_intern_batch(
+            rt.alloc(),
+            &mut lasso,
+            &text,
+            &[0, 4095, 4097, 4097],
+            &mut codes,
+            &mut report,
+        );
+        if status == 9 {
+            return Err(Fail::from("out of memory"));
+        }
+        assert!(rt; (status, report.texts, report.bytes, report.at) == (10, 1, 0, 1));
+        assert!(rt; codes == [0, unset, unset]);
+        assert!(rt; lasso_memory(rt.alloc(), &mut lasso) == 4096);
+        assert!(rt; lasso_len(rt.alloc(), &mut lasso) == 1);
+    }
     Ok(())
 }
 

@@ -1,5 +1,5 @@
 //! How a call ends: the sizes of what it wrote, or why it was refused. What C sees of either is a status and a report.
-ghost use Rattle.std.specs.Prelude.{◌≡◌, ◌<◌};
+ghost use Rattle.std.specs.Prelude.{◌≡◌};
 ghost use Rattle.lasso_c.specs.Status.{Reports, refusal_status, status_text};
 ghost use Rattle.lasso_c.specs.declared.refusal.Refusal.TheVariants.{NoMemory};
 
@@ -106,23 +106,9 @@ pub(crate) fn tell(outcome: &Result<Sizes, Refusal>, report: &mut LassoReport) -
     status
 }
 
-// The report of a batch: how many of its texts were interned, and where one was refused, if one was.
-pub(crate) fn batch_report(texts: usize, at: usize) -> LassoReport
-    ensures texts { result.texts ≡ texts }
-    ensures bytes { result.bytes ≡ 0 }
-    ensures at { result.at ≡ at }
-{
-    LassoReport {
-        texts,
-        bytes: 0,
-        at,
-    }
-}
-
 // The status of a refusal.
 pub(crate) fn status_of(refusal: &Refusal) -> u32
-    ensures status { result ≡ refusal_status refusal.now }
-    ensures refused { 0 < result }
+    ensures { result ≡ refusal_status refusal.now }
 {
     match refusal {
         Refusal::OffsetsFall(_) => 1,

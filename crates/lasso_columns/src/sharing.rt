@@ -8,7 +8,8 @@ ghost use Rattle.lasso_columns.specs.Encoding.{spur_at};
 ghost use Rattle.lasso_columns.specs.Sharing.{AddsSharedCodes, IsPartOf, IsRefusalIn};
 
 use lasso::log::{Known, Pass};
-use lasso::{LassoError, LassoResult, Spur, SpurThreadedRodeo};
+use lasso::{LassoError, LassoResult, Spur, ThreadedRodeo};
+use std::hash::BuildHasher;
 use std::sync::Wait;
 use std::thread::{Threads, map_chunks};
 
@@ -17,7 +18,7 @@ use std::thread::{Threads, map_chunks};
 /// thread can't be started, the caller does its work.
 ///
 /// It serves where other threads use the interner meanwhile. For a column alone `encode_in_parts` is faster, and gives the codes
-/// of one thread.
+/// of one thread. The interner may have any hasher that threads share, so also a keyed one for texts that a stranger chooses.
 ///
 /// Each worker stops at the first of its texts that is refused, and the refusal of the first of these workers is the answer. No code is
 /// added then, nor where there is no memory for the codes, and the texts that were interned stay.
@@ -29,13 +30,15 @@ use std::thread::{Threads, map_chunks};
 /// assert!(rt; codes.first() == codes.last());
 /// assert!(rt; rodeo.len() == 2);
 /// ```
-pub fn encode_shared<R: AllocGlobal + Threads + Wait + Sync>(
+pub fn encode_shared<R: AllocGlobal + Threads + Wait + Sync, S: BuildHasher + Send + Sync + Drop>(
     rt: &R,
-    rodeo: &SpurThreadedRodeo,
+    rodeo: &ThreadedRodeo<Spur, S>,
     texts: &[&str],
     codes: &mut Vec<u32>,
     workers: usize,
 ) -> LassoResult<()>
+where
+    S::Hasher: Send,
     ensures codes { OnOk result (AddsSharedCodes rodeo.now.opening (map (λ t. t.now) texts.now) codes.old.items codes.new.items) }
     ensures refused { OnErr result (codes.new.items ≡ codes.old.items) }
     ensures reason { IfErr result (λ error. (past : History) × IsLegal spur_at rodeo.now.opening past × IsRefusalIn rodeo.now.opening past (map (λ t. t.now) texts.now) error) }
@@ -48,14 +51,19 @@ pub fn encode_shared<R: AllocGlobal + Threads + Wait + Sync>(
 /// The same with a pass, which has then seen what the workers did: the codes are the positions of the texts in the list that it
 /// has seen. The call adds no event to the pass itself. After a refusal the pass has seen what the workers up to the refused one
 /// did, and so what explains it, or for want of memory maybe no more than before.
-pub fn encode_shared_as<R: AllocGlobal + Threads + Wait + Sync>(
+pub fn encode_shared_as<
+    R: AllocGlobal + Threads + Wait + Sync,
+    S: BuildHasher + Send + Sync + Drop,
+>(
     rt: &R,
-    rodeo: &SpurThreadedRodeo,
+    rodeo: &ThreadedRodeo<Spur, S>,
     pass: &mut Pass<Spur>,
     texts: &[&str],
     codes: &mut Vec<u32>,
     workers: usize,
 ) -> LassoResult<()>
+where
+    S::Hasher: Send,
     requires { pass.old.of ≡ rodeo.now }
     ensures same { IsSamePass pass.new pass.old }
     ensures since { Since pass.old.number pass.old.notes pass.new.notes [] }
@@ -91,7 +99,11 @@ struct Part {
 }
 
 // Interns the texts by a pass of its own.
-fn encode_part<R: AllocGlobal + Wait>(rt: &R, rodeo: &SpurThreadedRodeo, texts: &[&str]) -> Part
+fn encode_part<R: AllocGlobal + Wait, S: BuildHasher + Drop>(
+    rt: &R,
+    rodeo: &ThreadedRodeo<Spur, S>,
+    texts: &[&str],
+) -> Part
     ensures { IsPartOf rodeo.now (map (λ t. t.now) texts.now) result.known result.codes }
 {
     let mut pass = rodeo.pass();
@@ -103,9 +115,9 @@ fn encode_part<R: AllocGlobal + Wait>(rt: &R, rodeo: &SpurThreadedRodeo, texts: 
 }
 
 // The codes of the texts, which it interns by the pass.
-fn encode_by<R: AllocGlobal + Wait>(
+fn encode_by<R: AllocGlobal + Wait, S: BuildHasher + Drop>(
     rt: &R,
-    rodeo: &SpurThreadedRodeo,
+    rodeo: &ThreadedRodeo<Spur, S>,
     pass: &mut Pass<Spur>,
     texts: &[&str],
 ) -> LassoResult<Vec<u32>>

@@ -5,6 +5,7 @@ use lasso::{
 };
 use lasso_columns::{DecodeError, LineError};
 use std::alloc::Allocator;
+use std::hash::BuildHasher;
 use std::sync::Wait;
 use std::test::Fail;
 use std::thread::Threads;
@@ -64,13 +65,19 @@ pub(super) fn merge(
     lasso_columns::merge(rt.alloc(), into, from)
 }
 
-pub(super) fn encode_shared<R: AllocGlobal + Threads + Wait + Sync>(
+pub(super) fn encode_shared<
+    R: AllocGlobal + Threads + Wait + Sync,
+    S: BuildHasher + Send + Sync + Drop,
+>(
     rt: &R,
-    rodeo: &SpurThreadedRodeo,
+    rodeo: &ThreadedRodeo<Spur, S>,
     texts: &[&str],
     codes: &mut Vec<u32>,
     workers: usize,
-) -> LassoResult<()> {
+) -> LassoResult<()>
+where
+    S::Hasher: Send,
+{
     lasso_columns::encode_shared(rt, rodeo, texts, codes, workers)
 }
 

@@ -8,6 +8,8 @@ mod calls;
 mod columns;
 #[cfg(test)]
 mod examples;
+#[cfg(test)]
+mod hashers;
 pub mod limited;
 #[cfg(test)]
 mod long_columns;

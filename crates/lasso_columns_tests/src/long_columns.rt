@@ -7,7 +7,7 @@ use std::alloc::Global;
 use std::process::Abort;
 use std::test::Fail;
 
-fn slices(alloc: Global, printed: &[String]) -> Result<Vec<&str>, Fail> {
+pub(super) fn slices(alloc: Global, printed: &[String]) -> Result<Vec<&str>, Fail> {
     let mut texts = Vec::new(alloc);
     for text in printed {
         texts.push(text.as_str())?;

@@ -3,19 +3,20 @@ use crate::calls::{encode_shared, encode_shared_as, shared_interner};
 use crate::columns::limit_refuses;
 use crate::limited::limited_shared;
 use lasso::{Key, MemoryLimits, Spur, SpurThreadedRodeo, ThreadedRodeo};
+use std::hash::BuildHasher;
 use std::process::Abort;
 use std::test::Fail;
 
 // Five texts for each of four workers; they are a, b, c, d, e, f and g.
-const TWENTY: [&str; 20] = [
+pub(super) const TWENTY: [&str; 20] = [
     "a", "b", "a", "c", "b", "d", "a", "e", "d", "a", "b", "f", "a", "c", "g", "a", "a", "e", "b",
     "d",
 ];
 
 // There is a code for each text, and it resolves to it.
-pub(super) fn stand_for<R: Abort>(
+pub(super) fn stand_for<R: Abort, S: BuildHasher + Drop>(
     rt: &R,
-    rodeo: &SpurThreadedRodeo,
+    rodeo: &ThreadedRodeo<Spur, S>,
     codes: &[u32],
     texts: &[&str],
 ) -> Result<(), Fail> {

@@ -184,7 +184,10 @@ fn static_texts_through_an_interner_in_a_box(rt: HostRuntime) -> Result<(), Fail
 }
 
 /// Two static texts beside 4 free bytes under a limit of 4: they leave all 4 to a copied text.
-fn static_texts_take_no_bytes<K: Key, R: Abort + Wait, I: Interner<K>>(rt: &R, interner: &mut I) {
+pub fn static_texts_take_no_bytes<K: Key, R: Abort + Wait, I: Interner<K>>(
+    rt: &R,
+    interner: &mut I,
+) {
     tries_static(rt, interner, "abcd", Ok(0));
     gets_static(rt, interner, "efgh", Ok(1));
     gets(rt, interner, "wxyz", Ok(2));

@@ -1,7 +1,8 @@
 //! Each call of the interfaces at an interner that threads share, by itself, lent and in a box. It has no list of its own, so the clauses
 //! of the interfaces leave it alone: that they answer as its own calls do, and refuse and copy no more than these, is tested here.
 use crate::interfaces::{
-    freezes, has_one_text, one_text, resolves_one_text, static_texts_under_no_limit,
+    freezes, has_one_text, one_text, resolves_one_text, static_texts_take_no_bytes,
+    static_texts_under_no_limit,
 };
 use lasso::interface::laws::{interns_as_one, reader_knows, resolver_knows};
 use lasso::interface::{IntoReader, IntoResolver};
@@ -17,6 +18,12 @@ fn hello(rt: &impl Wait, alloc: Global) -> LassoResult<SpurThreadedRodeo> {
     let rodeo: SpurThreadedRodeo = ThreadedRodeo::default(alloc)?;
     rodeo.try_get_or_intern(rt, "Hello, world!")?;
     Ok(rodeo)
+}
+
+/// A shared interner of 4 bytes, and a limit of 4.
+fn of_four_bytes(alloc: Global) -> LassoResult<SpurThreadedRodeo> {
+    let limits = MemoryLimits::new(4);
+    ThreadedRodeo::with_capacity_and_memory_limits(alloc, Capacity::for_bytes(4), limits)
 }
 
 /// A shared interner of 10 bytes with `abc`, and then a limit of 0 bytes.
@@ -98,6 +105,28 @@ fn static_texts_through_an_interner_in_a_box(rt: HostRuntime) -> Result<(), Fail
     let mut boxed = Box::new(rt.alloc(), limited(&rt, rt.alloc())?)?;
     static_texts_under_no_limit::<Spur, _, _>(&rt, &mut boxed);
     takes(&rt, &*boxed, 10, 0);
+    Ok(())
+}
+
+#[test]
+fn static_texts_take_no_bytes_of_a_shared_interner(rt: HostRuntime) -> Result<(), Fail> {
+    let mut rodeo = of_four_bytes(rt.alloc())?;
+    static_texts_take_no_bytes::<Spur, _, _>(&rt, &mut rodeo);
+    takes(&rt, &rodeo, 4, 4);
+    let shared = of_four_bytes(rt.alloc())?;
+    static_texts_take_no_bytes::<Spur, _, _>(&rt, &mut &shared);
+    takes(&rt, &shared, 4, 4);
+    Ok(())
+}
+
+#[test]
+fn static_texts_take_no_bytes_of_a_held_shared_interner(rt: HostRuntime) -> Result<(), Fail> {
+    let mut owned = of_four_bytes(rt.alloc())?;
+    static_texts_take_no_bytes::<Spur, _, _>(&rt, &mut &mut owned);
+    takes(&rt, &owned, 4, 4);
+    let mut boxed = Box::new(rt.alloc(), of_four_bytes(rt.alloc())?)?;
+    static_texts_take_no_bytes::<Spur, _, _>(&rt, &mut boxed);
+    takes(&rt, &*boxed, 4, 4);
     Ok(())
 }
 

@@ -1,3 +1,5 @@
 pub mod Counting
 pub mod Naming
 pub mod Compiled
+pub mod Pieces
+pub mod Keywords

@@ -1,3 +1,4 @@
 pub mod Words
 pub mod Scopes
 pub mod Compiling
+pub mod Lexing

@@ -2,8 +2,10 @@
 //! goes through them.
 #![tactic(auto)]
 
+pub mod closures;
 pub mod compiler;
 pub mod errors;
+pub mod lexer;
 pub mod passes;
 pub mod saving;
 pub mod scopes;

@@ -14,6 +14,10 @@ abbrev pub share : List Text → (worker workers count : ℕ) → List Text
 share lines worker workers zero = []
 share lines worker workers (suc n) = share lines worker workers n ++ line_at lines (worker + n * workers) ∷ []
 
+-- the number, counted from 1, of a line of the worker, of so many lines in all
+abbrev pub IsNumberIn : (lines worker workers number : ℕ) → Type 0
+IsNumberIn lines worker workers number = (n : ℕ) × (worker + n * workers < lines) × (number ≡ worker + n * workers + 1)
+
 -- the worker has `count` lines
 pub record IsShare (lines : List Text) (worker workers count : ℕ) : Type 0 where
   pub inside : (n : ℕ) → n < count → worker + n * workers < length lines

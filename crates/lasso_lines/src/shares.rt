@@ -1,10 +1,10 @@
 //! The lines of each worker, and what the workers give back.
-ghost use Rattle.std.specs.Prelude.{◌≡◌, ◌<◌, ◌+◌, ◌++◌, ◌∷◌, List, [], OnOk, IfOk, IfErr, MatchResult, None, map, min, unwrap_or, option_map, vec_len};
+ghost use Rattle.std.specs.Prelude.{◌≡◌, ◌<◌, ◌≤◌, ◌+◌, ◌++◌, ◌∷◌, List, [], OnOk, IfOk, IfErr, IfSome, MatchResult, None, length, map, vec_len};
 ghost use Rattle.lasso_parts.specs.Texts.{Text};
 ghost use Rattle.lasso_columns.specs.Codes.{AreCodes};
 ghost use Rattle.lasso_log.specs.Views.{PassView, InternerId, IsSamePass, list_of};
 ghost use Rattle.lasso_lines.specs.Answer.{IsLineFault};
-ghost use Rattle.lasso_lines.specs.Shares.{AreCodesOf, HasCodes, IsShareOf};
+ghost use Rattle.lasso_lines.specs.Shares.{AreCodesOf, HasCodes, IsNumberIn, IsShareOf};
 
 use crate::fault::RunFault;
 use crate::workers::Gate;
@@ -85,7 +85,9 @@ fn add_codes(
 
 // The refusal of the lower line.
 fn lower(lowest: Option<Refusal>, other: &Refusal) -> Refusal
-    ensures { result.0 ≡ unwrap_or (option_map (λ refusal. min refusal.0 other.now.0) lowest) other.now.0 }
+    ensures none { lowest ≡ None → result ≡ other.now }
+    ensures lower { IfSome lowest (λ refusal. refusal.0 ≤ other.now.0 → result ≡ refusal) }
+    ensures higher { IfSome lowest (λ refusal. other.now.0 < refusal.0 → result ≡ other.now) }
 {
     match lowest {
         Some((number, error)) if number <= other.0 => (number, error),
@@ -126,6 +128,7 @@ fn intern_by<R: AllocGlobal + Wait, G: Gate>(
     requires some { 0 < workers }
     requires of { pass.old.of ≡ rodeo.now }
     ensures of { pass.new.of ≡ rodeo.now }
+    ensures number { IfErr result (λ refusal. IsNumberIn (length lines.now) worker workers refusal.0) }
     ensures codes { IfOk result (λ codes. HasCodes (list_of rodeo.now pass.new.notes) (map (λ t. t.now) lines.now) worker workers codes.items) }
 {
     let mut codes = Vec::new(rt.alloc());
@@ -151,6 +154,7 @@ fn intern_line<R: Wait>(
 ) -> Result<(), Refusal>
     requires { pass.old.of ≡ rodeo.now }
     ensures of { pass.new.of ≡ rodeo.now }
+    ensures number { IfErr result (λ refusal. refusal.0 ≡ number) }
     ensures one { OnOk result (vec_len codes.new ≡ vec_len codes.old + 1) }
     ensures coded { (texts : List Text) → AreCodes (list_of rodeo.now pass.old.notes) texts codes.old.items →
         OnOk result (AreCodes (list_of rodeo.now pass.new.notes) (texts ++ line.now ∷ []) codes.new.items) }

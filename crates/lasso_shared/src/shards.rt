@@ -12,6 +12,7 @@ mod building;
 mod intern;
 mod limits;
 mod look;
+mod memory;
 mod open;
 pub mod parts;
 mod put;

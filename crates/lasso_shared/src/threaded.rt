@@ -16,6 +16,7 @@ mod json;
 mod limits;
 mod looking;
 mod makers;
+mod memory;
 mod plain;
 mod walking;
 mod words;

@@ -50,6 +50,15 @@ pub fn hashed<K: Key, S: BuildHasher + Default + Drop>(
     Ok(ThreadedRodeo::with_hasher(alloc, S::default())?)
 }
 
+/// An interner with no room for texts and ten bytes in its first bucket, whose indexes ask such a hasher.
+pub fn roomless<K: Key, S: BuildHasher + Default + Drop>(
+    alloc: Global,
+) -> Result<ThreadedRodeo<K, S>, Fail> {
+    let capacity = Capacity::new(0, 10);
+    let made = ThreadedRodeo::with_capacity_and_hasher(alloc, capacity, S::default());
+    Ok(made?)
+}
+
 /// How many texts there are.
 pub fn len<K: Key, S: BuildHasher + Drop>(shared: &ThreadedRodeo<K, S>) -> usize {
     shared.len()
@@ -67,6 +76,14 @@ pub fn usage<K: Key, S: BuildHasher + Drop, R: Wait>(
     shared: &ThreadedRodeo<K, S>,
 ) -> usize {
     shared.current_memory_usage(rt)
+}
+
+/// How many bytes the list, the indexes and the buckets take.
+pub fn allocated<K: Key, S: BuildHasher + Drop, R: Wait>(
+    rt: &R,
+    shared: &ThreadedRodeo<K, S>,
+) -> usize {
+    shared.allocated_bytes(rt)
 }
 
 /// How many bytes all buckets may take.

@@ -5,6 +5,7 @@ mod callers;
 mod collisions;
 mod comparing;
 mod copied;
+mod counted;
 mod crowd;
 mod debug;
 mod falling;

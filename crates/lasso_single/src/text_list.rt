@@ -135,9 +135,9 @@ impl<A: Allocator + Clone> TextList<A> {
         self.push_growing(text)
     }
 
-    // Copies a text to the end of the list where the list or a bucket may have to grow for it.
+    /// The same, out of line, where the list or a bucket may have to grow for the text.
     #[inline(never)]
-    fn push_growing(&mut self, text: &str) -> LassoResult<()>
+    pub(crate) fn push_growing(&mut self, text: &str) -> LassoResult<()>
         requires { IsSome (store self.old.first self.old.account (length text.now)) }
         ensures texts { OnOk result (self.new.texts ≡ self.old.texts ++ text.now ∷ []) }
         ensures account { OnOk result (store self.old.first self.old.account (length text.now) ≡ Some self.new.account) }
@@ -198,18 +198,36 @@ impl<A: Allocator> TextList<A> {
         ensures origin { KeepsOrigin self.old self.new }
         ensures same { result ≡ false → self.new ≡ self.old }
     {
+        if self.entries.len() == self.entries.capacity() {
+            return false;
+        }
+        if text.len() > SHORT {
+            return self.push_long_in_room(text);
+        }
+        let Some(_span) = self.arena.store_in_room(text) else {
+            return false;
+        };
+        push_short(&mut self.entries, text);
+        true
+    }
+
+    // The same of a text that is not short, where the list does not grow for it.
+    #[inline(always)]
+    fn push_long_in_room(&mut self, text: &str) -> bool
+        ensures texts { IsTrue result → self.new.texts ≡ self.old.texts ++ text.now ∷ [] }
+        ensures account { IsTrue result → store self.old.first self.old.account (length text.now) ≡ Some self.new.account }
+        ensures copied { IsTrue result → self.new.copied ≡ self.old.copied + length text.now }
+        ensures origin { KeepsOrigin self.old self.new }
+        ensures same { result ≡ false → self.new ≡ self.old }
+    {
         if self.entries.len() == self.entries.capacity() || is_vast(text.len()) {
             return false;
         }
         let Some(span) = self.arena.store_in_room(text) else {
             return false;
         };
-        if text.len() > SHORT {
-            let long = LongText::copied(self.arena.regions(), span);
-            self.entries.push_reserved(Entry::outside(long));
-            return true;
-        }
-        push_short(&mut self.entries, text);
+        let long = LongText::copied(self.arena.regions(), span);
+        self.entries.push_reserved(Entry::outside(long));
         true
     }
 

@@ -1,7 +1,7 @@
 //! Workers one after the other on one thread, in either order.
 use super::{Refusal, add_codes, intern_share};
 use crate::workers::OpenGate;
-use lasso::{Capacity, LassoErrorKind, MemoryLimits, SpurThreadedRodeo, ThreadedRodeo};
+use lasso::{Capacity, LassoError, LassoErrorKind, MemoryLimits, SpurThreadedRodeo, ThreadedRodeo};
 use std::sync::Wait;
 use std::test::Fail;
 
@@ -39,5 +39,34 @@ fn the_lowest_refused_line_is_told_in_either_order(rt: HostRuntime) -> Result<()
         assert!(rt; number == 2);
         assert!(rt; error.kind() == LassoErrorKind::MemoryLimitReached);
     }
+    Ok(())
+}
+
+// What is told where this line was refused, so far the lowest, and a worker gives back that line 3 was: its number and why.
+fn told_with_third<R: AllocGlobal>(
+    rt: &R,
+    lowest: Option<(u64, LassoErrorKind)>,
+) -> Result<(u64, LassoErrorKind), Fail> {
+    let lowest = match lowest {
+        Some((number, kind)) => Some((number, LassoError::new(kind))),
+        None => None,
+    };
+    let mut codes = Vec::new(rt.alloc());
+    let third = Err((3, LassoError::new(LassoErrorKind::FailedAllocation)));
+    match add_codes(&mut codes, lowest, &third) {
+        Ok(Some((number, error))) => Ok((number, error.kind())),
+        _ => Err(Fail::from("no line is told")),
+    }
+}
+
+#[test]
+fn a_line_is_told_with_its_own_reason(rt: HostRuntime) -> Result<(), Fail> {
+    let memory = LassoErrorKind::FailedAllocation;
+    let limit = LassoErrorKind::MemoryLimitReached;
+    let keys = LassoErrorKind::KeySpaceExhaustion;
+    assert!(rt; told_with_third(&rt, None)? == (3, memory));
+    assert!(rt; told_with_third(&rt, Some((5, limit)))? == (3, memory));
+    assert!(rt; told_with_third(&rt, Some((2, limit)))? == (2, limit));
+    assert!(rt; told_with_third(&rt, Some((2, keys)))? == (2, keys));
     Ok(())
 }

@@ -110,6 +110,8 @@ fn a_failed_read_is_not_tried_again(rt: HostRuntime) -> Result<(), Fail> {
             whole = true;
             assert!(rt; written.taken.as_slice() == OUTPUT);
             assert!(rt; reader.inner.failed == 0);
+            // two calls give the five bytes, and the third, which gives none, is the last
+            assert!(rt; calls == 3);
             break;
         }
         assert!(rt; result == Err(RunFault::ReadFailed));

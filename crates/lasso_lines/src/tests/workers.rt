@@ -88,6 +88,27 @@ fn a_limit_leaves_room_for_another_bucket(rt: HostRuntime) -> Result<(), Fail> {
     Ok(())
 }
 
+// The refused line is that of its worker's second round, third round and first round.
+#[test]
+fn a_refused_line_is_told_by_its_number(rt: HostRuntime) -> Result<(), Fail> {
+    let cases: [(&[u8], usize, &str); 4] = [
+        (b"a\nb\n", 2, "line 3: "),
+        (b"a\nb\na\nb\na\n", 2, "line 6: "),
+        (b"a\nb\na\nb\na\nb\na\n", 3, "line 8: "),
+        (b"a\nb\n", 3, "line 3: "),
+    ];
+    for (before, workers, told) in cases {
+        let input = with_long_line(&rt, before, b"\nc\n")?;
+        let (output, ended) = run_over(&rt, &input, MemoryLimits::new(4096), workers);
+        assert!(rt; output.is_empty());
+        let Err(fault) = ended else {
+            return Err(Fail::from("no line was refused"));
+        };
+        assert!(rt; format!(in rt.alloc(); "{fault}")?.starts_with(told));
+    }
+    Ok(())
+}
+
 #[test]
 fn distinct_lines_in_order(rt: HostRuntime) -> Result<(), Fail> {
     let cases: [(&[u8], &[u8]); 8] = [

@@ -78,10 +78,16 @@ pub fn scan_slots<K: Key, A: Allocator, T: Texts>(
         }
     }
     let j = passed_over(tags, from, to, tag);
-    if j < to && tags[j] == 0 {
+    if j >= to {
+        return Scan::Passed;
+    }
+    if tags[j] == 0 {
         return Scan::Ended(j);
     }
-    scan_further(slots, texts, text, tag, j, to)
+    if let Some(position) = found_at(slots, texts, text, tag, j) {
+        return Scan::Found(position);
+    }
+    scan_further(slots, texts, text, tag, j + 1, to)
 }
 
 // The same from a later slot on, out of line: few searches come so far.
@@ -102,10 +108,9 @@ fn scan_further<K: Key, A: Allocator, T: Texts>(
     ensures { Tells (T.list texts.now) text.now slots.now.slots from to result }
 {
     let tags = slots.tags();
-    let mut j = from;
+    let mut j = passed_over(tags, from, to, tag);
     while j < to {
-        let found = tags[j];
-        if found == 0 {
+        if tags[j] == 0 {
             return Scan::Ended(j);
         }
         if let Some(position) = found_at(slots, texts, text, tag, j) {

@@ -17,7 +17,7 @@ use std::hash::BuildHasher;
 impl<K: Key, S: BuildHasher + Default + Drop> ThreadedRodeo<K, S> {
     /// An interner that opens with these words: the word at position n has the key of position n, and every text interned later has
     /// a greater key. So a key below `words.len()` is a word's. The words are not copied. No word may come twice; `are_distinct` is the
-    /// test. Capacity and limit are the defaults (4096 bytes, no limit). Fails with `KeySpaceExhaustion` if the key type has too few
+    /// test. The first bucket has 4096 bytes, and there is no limit. Fails with `KeySpaceExhaustion` if the key type has too few
     /// keys for the words, and otherwise only when out of memory. It takes no lock and does not wait.
     ///
     /// ```rust

@@ -1,5 +1,5 @@
 //! An interner that threads share, compared with each form of a list.
-use crate::calls::{Shared, made};
+use crate::calls::{Shared, limit, made, set_limit};
 use lasso_parts::keys::Spur;
 use lasso_parts::util::{FixedState, LassoResult};
 use lasso_shared::threaded::ThreadedRodeo;
@@ -95,6 +95,23 @@ fn is_equal_to_frozen<R: Wait>(
     let reader = other.into_reader(rt)?;
     let same = shared.eq_reader(rt, &reader);
     Ok((same, shared.eq_resolver(rt, &reader.into_resolver())))
+}
+
+// A limit of its own, which is neither 0 nor the greatest number.
+const LIMIT: usize = 5000;
+
+#[test]
+fn no_comparison_sets_a_limit(rt: HostRuntime) -> Result<(), Fail> {
+    let shared = pair_of(&rt, rt.alloc(), ["a", "b"])?;
+    let other = pair_of(&rt, rt.alloc(), ["a", "b"])?;
+    set_limit(&rt, &shared, LIMIT);
+    set_limit(&rt, &other, LIMIT);
+    assert!(rt; is_equal(&rt, &shared, &other));
+    let single = single_of(rt.alloc(), ["a", "b", "a"])?;
+    assert!(rt; is_equal_to_forms(&rt, &shared, &single)? == (true, true, true));
+    assert!(rt; limit(&rt, &shared) == LIMIT);
+    assert!(rt; limit(&rt, &other) == LIMIT);
+    Ok(())
 }
 
 #[test]

@@ -96,8 +96,10 @@ fn a_refused_item_ends_the_filling(rt: HostRuntime) -> Result<(), Fail> {
     assert!(rt; contains(&rt, &shared, "cd"));
     assert!(rt; !contains(&rt, &shared, ""));
     assert!(rt; usage(&rt, &shared) == 4);
+    assert!(rt; limit(&rt, &shared) == 4);
     extend_by_two(&rt, &shared, ["cd", ""])?;
     assert!(rt; len(&shared) == 3);
+    assert!(rt; limit(&rt, &shared) == 4);
     Ok(())
 }
 

@@ -3,11 +3,12 @@ ghost use Rattle.std.specs.Prelude.{◌≡◌};
 
 use super::FIRST;
 use crate::calls::{
-    Shared, kept, kept_as, len, limit, limited, made, pass_of, set_limit, stands_for, usage,
+    Shared, answered, copied, kept, kept_as, kept_so, len, limit, limited, made, pass_of,
+    set_limit, stands_for, usage,
 };
 use lasso_log::log::Pass;
 use lasso_parts::keys::{Key, MicroSpur, Spur};
-use lasso_parts::util::{Capacity, FixedState, LassoResult, MemoryLimits};
+use lasso_parts::util::{Capacity, FixedState, LassoErrorKind, LassoResult, MemoryLimits};
 use lasso_shared::threaded::ThreadedRodeo;
 use std::alloc::Global;
 use std::process::Abort;
@@ -214,6 +215,20 @@ fn a_limit_is_what_was_set_last(rt: HostRuntime) -> Result<(), Fail> {
     assert!(rt; usage(&rt, &shared) == 4);
     assert!(rt; stands_for(&shared, &mut other, key, "0123456789"));
     assert!(rt; len(&shared) == 1);
+    Ok(())
+}
+
+// Static texts leave all four bytes to a copied text.
+#[test]
+fn a_static_text_takes_no_bytes(rt: HostRuntime) -> Result<(), Fail> {
+    let shared: Shared = limited(rt.alloc(), 4, 4)?;
+    let mut pass = pass_of(&shared);
+    kept_as(&rt, &shared, &mut pass, "abcd")?;
+    assert!(rt; kept(&rt, &shared, "efgh")? == 1);
+    assert!(rt; kept_so(&rt, &shared, "ijkl")? == 2);
+    assert!(rt; usage(&rt, &shared) == 4);
+    assert!(rt; copied(&rt, &shared, "wxyz")? == 3);
+    assert!(rt; answered(copied(&rt, &shared, "more")) == Err(LassoErrorKind::MemoryLimitReached));
     Ok(())
 }
 

@@ -1,8 +1,13 @@
 //! The calls of a `Rodeo` that intern a text.
+ghost use Rattle.std.specs.Prelude.{◌≡◌, ◌+◌, ◌++◌, ◌∷◌, ◌⊎◌, ◌↔◌, [], ℕ, Some, false, length, IsTrue};
+ghost use Rattle.lasso_parts.specs.Account.{store};
+ghost use Rattle.lasso_parts.specs.Index.{Holds, IsVacancy, StaysFiled, used};
 ghost use Rattle.lasso_single.specs.Intern.{InternsIn, InternsStaticIn};
+ghost use Rattle.lasso_single.specs.Interner.{KeepsOrigin};
 
 use super::Rodeo;
-use lasso_parts::index::hash_text;
+use crate::text_list::TextList;
+use lasso_parts::index::{Index, Vacancy, hash_text};
 use lasso_parts::keys::Key;
 use lasso_parts::util::{LassoError, LassoErrorKind, LassoResult};
 use std::alloc::Allocator;
@@ -32,13 +37,16 @@ impl<K: Key, S: BuildHasher, A: Allocator + Clone> Rodeo<K, S, A> {
         let Some(key) = K::try_from_usize(self.list.len()) else {
             return Err(LassoError::new(LassoErrorKind::KeySpaceExhaustion));
         };
+        if push_in_room(&mut self.list, &mut self.index, text, hash, vacancy, key) {
+            return Ok(key);
+        }
         if !self.list.admits(text.len()) {
             return Err(LassoError::new(LassoErrorKind::MemoryLimitReached));
         }
         let vacancy = self
             .index
             .reserve_in_order(&self.list, &self.hasher, hash, vacancy)?;
-        self.list.push_copied(text)?;
+        self.list.push_growing(text)?;
         self.index.insert_at(vacancy, hash, key);
         Ok(key)
     }
@@ -104,4 +112,33 @@ impl<K: Key, S: BuildHasher, A: Allocator + Clone> Rodeo<K, S, A> {
     {
         self.try_get_or_intern_static(text)
     }
+}
+
+// Copies the text to the end of the list and puts its key in the index, where the list, its bucket and the index need not
+// grow for it, and returns whether it did. Else nothing changes. It takes no memory.
+#[inline(always)]
+fn push_in_room<K: Key, A: Allocator>(
+    list: &mut TextList<A>,
+    index: &mut Index<K, A>,
+    text: &str,
+    hash: u64,
+    vacancy: Vacancy,
+    key: K,
+) -> bool
+    requires vacant { IsVacancy hash vacancy index.old.slots }
+    ensures texts { IsTrue result → list.new.texts ≡ list.old.texts ++ text.now ∷ [] }
+    ensures account { IsTrue result → store list.old.first list.old.account (length text.now) ≡ Some list.new.account }
+    ensures copied { IsTrue result → list.new.copied ≡ list.old.copied + length text.now }
+    ensures origin { KeepsOrigin list.old list.new }
+    ensures holds { IsTrue result → (n : ℕ) → Holds index.new.slots n ↔ (Holds index.old.slots n ⊎ (n ≡ K.number key)) }
+    ensures used { IsTrue result → used index.new.slots ≡ used index.old.slots + 1 }
+    ensures filed { IsTrue result → StaysFiled hash (K.number key) index.old index.new }
+    ensures same_list { result ≡ false → list.new ≡ list.old }
+    ensures same_index { result ≡ false → index.new ≡ index.old }
+{
+    if !index.has_room() || !list.push_in_room(text) {
+        return false;
+    }
+    index.insert_at(vacancy, hash, key);
+    true
 }

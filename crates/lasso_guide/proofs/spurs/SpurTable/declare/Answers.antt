@@ -1,9 +1,9 @@
--- The key that the intern call returned resolves to the name: `answer_resolves`, with what it asks of the key type.
-use Rattle.std.proofs.Common.{◌-◌, lit≤}
-use Rattle.lasso_parts.specs.Kept.{kept_at, kept_made}
-use Rattle.lasso.proofs.Calling.{answer_resolves}
+-- What an intern call promises of the name, and of the names from before.
+use Rattle.lasso.proofs.CallingSpurs.{spur_answer_resolves, spur_texts_stay}
 use Rattle.lasso_guide.proofs.spurs.SpurTable.declare.Goals as goal
 
 pub returns-clause-named : goal.returns-clause-named
-returns-clause-named c =
-    answer_resolves (kept_at 4294967295) (λ key. key - 1) (λ n key made. (kept_made 4294967295 (lit≤ tt) n key made).2) _ _ c.args.name.now _ c.try_get_or_intern.ensures
+returns-clause-named c = spur_answer_resolves _ _ c.args.name.now _ c.try_get_or_intern.ensures
+
+pub returns-clause-kept : goal.returns-clause-kept
+returns-clause-kept c = spur_texts_stay _ _ c.args.name.now _ c.try_get_or_intern.ensures

@@ -1,0 +1,93 @@
+-- What interning a text, or the texts of a layout, leaves of an interner, and how it ends.
+use Rattle.std.specs.Prelude.{ℕ, ◌≡◌, ◌+◌, ◌⊎◌, Bool, true, false, List, length, take, slice_get, slice_index, nat_lt, if◌then◌else◌, Option, None, Some, Result, Ok, Err}
+use Rattle.std.specs.List.{slice_range}
+use Rattle.lasso_parts.specs.Kept.{kept_at}
+use Rattle.lasso_parts.specs.Texts.{Text}
+use Rattle.lasso_parts.specs.declared.util.LassoError.{LassoError}
+use Rattle.lasso_parts.specs.declared.util.LassoErrorKind.TheVariants.{MemoryLimitReached, KeySpaceExhaustion, FailedAllocation}
+use Rattle.lasso_single.specs.Filling.{extend}
+use Rattle.lasso_single.specs.Intern.{InternsIn}
+use Rattle.lasso_single.specs.Interner.{InternerView}
+use Rattle.lasso_c.specs.Layout.{layout_texts, layout_fault, start_fault, text_fault}
+use Rattle.lasso_c.specs.Decoding.{nothing}
+use Rattle.lasso_c.specs.Status.{Reports, outcome_status, outcome_report}
+use Rattle.lasso_c.specs.declared.refusal.LassoReport.{LassoReport}
+use Rattle.lasso_c.specs.declared.refusal.Refusal.{Refusal}
+use Rattle.lasso_c.specs.declared.refusal.Refusal.TheVariants.{CodesTooShort, LimitReached, NoCodeLeft, NoMemory, NoInterner}
+use Rattle.lasso_c.specs.declared.slot.Interner.{Interner}
+
+-- the key of a code, which is one more
+abbrev pub key_of_code : ℕ → Option ℕ
+key_of_code = kept_at 4294967295
+
+-- what C is told of an interner that refuses the text of this number in a batch
+abbrev pub refusal_at : ℕ → LassoError → Refusal
+refusal_at at MemoryLimitReached = LimitReached at
+refusal_at at KeySpaceExhaustion = NoCodeLeft at
+refusal_at at FailedAllocation = NoMemory
+
+-- an interner interns the text of this number and gives its code, or refuses it
+abbrev pub InternsCode : ℕ → InternerView → Text → Result ℕ Refusal → InternerView → Type 0
+InternsCode at old text (Ok code) new = InternsIn {K = ℕ} key_of_code old text (Ok (code + 1)) new
+InternsCode at old text (Err refusal) new = (error : LassoError) × InternsIn {K = ℕ} key_of_code old text (Err error) new × (refusal ≡ refusal_at at error)
+
+-- the same, unless something is wrong with the text
+abbrev pub InternsUnless : Option Refusal → ℕ → InternerView → Text → Result ℕ Refusal → InternerView → Type 0
+InternsUnless None at old text outcome new = InternsCode at old text outcome new
+InternsUnless (Some refusal) at old text outcome new = (outcome ≡ Err refusal) × (new ≡ old)
+
+-- the text of this number of a layout is interned, or refused
+abbrev pub InternsNext : List ℕ → List ℕ → ℕ → InternerView → Result ℕ Refusal → InternerView → Type 0
+InternsNext bytes offsets at old outcome new =
+    let from = slice_index offsets at in
+    let to = slice_index offsets (at + 1) in
+    InternsUnless (text_fault bytes at from to) at old (slice_range bytes from to) outcome new
+
+-- why interning a layout ends after its first `done` texts: no text is left; or the layout is wrong there, for the first time;
+-- or the interner refuses the next text, up to whose end the layout is good, and nothing changes
+abbrev pub EndsAfter : List ℕ → List ℕ → ℕ → InternerView → Result (Unit {0}) Refusal → Type 0
+EndsAfter bytes offsets done interner (Ok _) = (layout_fault bytes offsets ≡ None) × (done ≡ length (layout_texts bytes offsets))
+EndsAfter bytes offsets done interner (Err refusal) =
+    ((layout_fault bytes offsets ≡ Some refusal) × ((outcome_report (Err refusal)).at ≡ done))
+    ⊎ ((layout_fault bytes (take (done + 2) offsets) ≡ None) × ((text : Text) × (slice_get (layout_texts bytes offsets) done ≡ Some text) × InternsCode done interner text (Err refusal) interner))
+
+-- why a batch of that first offset is refused before its first text, or nothing
+abbrev pub batch_start_fault : List ℕ → ℕ → ℕ → ℕ → Option Refusal
+batch_start_fault bytes first texts room = if nat_lt room texts then Some (CodesTooShort nothing) else start_fault bytes first
+
+-- the first `done` texts of a layout are interned in order, and then it ends
+pub record InternsLayout (bytes offsets : List ℕ) (done : ℕ) (old : InternerView) (outcome : Result (Unit {0}) Refusal) (new : InternerView) : Type 0 where
+  pub before : extend {K = ℕ} key_of_code old (take done (layout_texts bytes offsets)) (Ok tt) new
+  pub ends : EndsAfter bytes offsets done new outcome
+
+-- the same, unless the codes are too short
+abbrev pub InternsRoomed : Bool → List ℕ → List ℕ → ℕ → InternerView → Result (Unit {0}) Refusal → InternerView → Type 0
+InternsRoomed true bytes offsets done old outcome new = (done ≡ 0) × (outcome ≡ Err (CodesTooShort nothing)) × (new ≡ old)
+InternsRoomed false bytes offsets done old outcome new = InternsLayout bytes offsets done old outcome new
+
+-- a batch is interned where there is room for so many codes
+abbrev pub InternsPart : ℕ → List ℕ → List ℕ → ℕ → InternerView → Result (Unit {0}) Refusal → InternerView → Type 0
+InternsPart room bytes offsets done old outcome new = InternsRoomed (nat_lt room (length (layout_texts bytes offsets))) bytes offsets done old outcome new
+
+-- what a batch tells: how many of its texts were interned, and the number of the refused one
+abbrev pub batch_report : ℕ → Result (Unit {0}) Refusal → LassoReport
+batch_report done (Ok _) = record { texts = done; bytes = 0; at = 0 }
+batch_report done (Err _) = record { texts = done; bytes = 0; at = done }
+
+-- how a batch ends on a handle: its status and report, and what the handle holds
+abbrev pub BatchEnds : Option Interner → List ℕ → List ℕ → ℕ → ℕ → LassoReport → Option Interner → Type 0
+BatchEnds None bytes offsets room status report new = Reports (Err NoInterner) status report × (new ≡ None)
+BatchEnds (Some old) bytes offsets room status report new =
+    (interner : Interner) × (outcome : Result (Unit {0}) Refusal) × (new ≡ Some interner) × InternsPart room bytes offsets report.texts old.rodeo outcome interner.rodeo
+    × (status ≡ outcome_status outcome) × (report ≡ batch_report report.texts outcome)
+
+-- how interning one text ends on a handle: its status, and what the handle holds
+abbrev pub TextInterned : Option Interner → Text → ℕ → Option Interner → Type 0
+TextInterned None text status new = (status ≡ 12) × (new ≡ None)
+TextInterned (Some old) text status new =
+    (interner : Interner) × (outcome : Result ℕ Refusal) × (new ≡ Some interner) × InternsCode 0 old.rodeo text outcome interner.rodeo × (status ≡ outcome_status outcome)
+
+-- the same, unless the bytes are not UTF-8
+abbrev pub TextEnds : Bool → Option Interner → Text → ℕ → Option Interner → Type 0
+TextEnds true old text status new = TextInterned old text status new
+TextEnds false old text status new = (status ≡ 3) × (new ≡ old)

@@ -1,0 +1,97 @@
+//! How many bytes an interner that threads share says it has of the allocator, text after text. It has the global allocator, which
+//! no test can put another one in place of; so what it should have is worked out by hand.
+use crate::calls::{allocated, copied, kept, roomless, text_at, usage};
+use crate::hashers::{FirstState, SameState};
+use lasso_parts::keys::{Key, MicroSpur, Spur};
+use lasso_shared::threaded::ThreadedRodeo;
+use std::hash::BuildHasher;
+use std::sync::Wait;
+use std::test::*;
+
+const TEXTS: [&str; 50] = [
+    "a", "b", "c", "d", "e", "f", "g", "h", "i", "j", "k", "l", "m", "n", "o", "p", "q", "r", "s",
+    "t", "u", "v", "w", "x", "y", "z", "A", "B", "C", "D", "E", "F", "G", "H", "I", "J", "K", "L",
+    "M", "N", "O", "P", "Q", "R", "S", "T", "U", "V", "W", "X",
+];
+
+// A cell has its state, whether it has a text, and the text's address and length.
+const CELL: usize = 32;
+
+// How many texts, the cells that there are then, and the slots of the one index.
+//
+// Each text asks for the cells of sixteen positions, its own first; they lie in chunks of 32, 32, 64 and 128 cells. An index of 8
+// slots has room for 6 keys, and one of twice the slots for twice the keys.
+const STATES: [(usize, usize, usize); 16] = [
+    (0, 0, 0),
+    (1, 32, 8),
+    (6, 32, 8),
+    (7, 32, 16),
+    (12, 32, 16),
+    (13, 32, 32),
+    (17, 32, 32),
+    (18, 64, 32),
+    (24, 64, 32),
+    (25, 64, 64),
+    (26, 64, 64),
+    (47, 64, 64),
+    (48, 64, 64),
+    (49, 64, 128),
+    (50, 128, 128),
+    (50, 128, 128),
+];
+
+// Whether the interner has the bytes of each state, where a key has so many and one byte more for its tag. Nothing is copied, so the
+// first bucket of ten bytes is the only one.
+fn grows<K: Key, S: BuildHasher + Drop, R: Wait>(
+    rt: &R,
+    shared: &ThreadedRodeo<K, S>,
+    key_bytes: usize,
+) -> Result<bool, Fail> {
+    for (count, cells, slots) in STATES {
+        for text in TEXTS.iter().take(count) {
+            kept(rt, shared, text)?;
+        }
+        let slot = key_bytes.saturating_add(1);
+        let list = CELL.saturating_mul(cells);
+        let index = slot.saturating_mul(slots);
+        if allocated(rt, shared) != list.saturating_add(index).saturating_add(10) {
+            return Ok(false);
+        }
+    }
+    Ok(true)
+}
+
+#[test]
+fn bytes_of_list_and_index(rt: HostRuntime) -> Result<(), Fail> {
+    let shared: ThreadedRodeo<Spur, SameState> = roomless(rt.alloc())?;
+    assert!(rt; grows(&rt, &shared, 4)?);
+    let shared: ThreadedRodeo<MicroSpur, SameState> = roomless(rt.alloc())?;
+    assert!(rt; grows(&rt, &shared, 1)?);
+    Ok(())
+}
+
+// Texts of two first bytes are of two shards, each of which has an index of 8 slots.
+#[test]
+fn bytes_of_each_index(rt: HostRuntime) -> Result<(), Fail> {
+    let shared: ThreadedRodeo<Spur, FirstState> = roomless(rt.alloc())?;
+    kept(&rt, &shared, "0")?;
+    assert!(rt; allocated(&rt, &shared) == 1074);
+    kept(&rt, &shared, "a")?;
+    assert!(rt; allocated(&rt, &shared) == 1114);
+    kept(&rt, &shared, "0")?;
+    assert!(rt; allocated(&rt, &shared) == 1114);
+    Ok(())
+}
+
+// The first bucket has room for nine bytes; the next text takes a bucket of twice its bytes.
+#[test]
+fn bytes_of_buckets(rt: HostRuntime) -> Result<(), Fail> {
+    let shared: ThreadedRodeo<Spur, SameState> = roomless(rt.alloc())?;
+    copied(&rt, &shared, "nine byte")?;
+    assert!(rt; allocated(&rt, &shared) == 1074);
+    copied(&rt, &shared, "two")?;
+    assert!(rt; usage(&rt, &shared) == 30);
+    assert!(rt; allocated(&rt, &shared) == 1094);
+    assert!(rt; text_at(&shared, 1)? == Some("two"));
+    Ok(())
+}
