@@ -9,9 +9,9 @@ use Rattle.std.proofs.lemmas.Bool.Decides.{nat_tests}
 use Rattle.std.proofs.lemmas.List.Sums.{position_or_len_is}
 use Rattle.memchr.specs.Find.{IsFirstByte, is_byte}
 use Rattle.lasso_parts.specs.Texts.{Text}
-use Rattle.lasso_codes.specs.Arguments.{command_of, verb_of, on_verb, not_verb, meaning_of, at_equals}
+use Rattle.lasso_codes.specs.Arguments.{Asked, command_of, verb_of, on_verb, not_verb, is_binary, meaning_of, at_equals}
 use Rattle.lasso_codes.specs.declared.arguments.Verb.{Verb}
-use Rattle.lasso_codes.specs.declared.arguments.Meaning.TheVariants.{AsksHelp}
+use Rattle.lasso_codes.specs.declared.arguments.Meaning.TheVariants.{AsksHelp, IsBinary}
 use Rattle.lasso_codes.specs.declared.arguments.Command.TheVariants.{Help, Version}
 
 -- the first word
@@ -32,9 +32,11 @@ pub no_verb_is : (words : List Text) (word : Text) → slice_get words 0 ≡ Som
 no_verb_is [] word at help version none = cc
 no_verb_is (w ∷ words) word at help version none =
     let same : w ≡ word = cc in
+    let help_asked : Asked = Ok (Help, None) in
+    let version_asked : Asked = Ok (Version, None) in
     ap (λ v. command_of (v ∷ words)) same
-    ∙ ap (λ b. cond b (Ok Help) (cond (bytes_eq word (codes "--version")) (Ok Version) (on_verb (verb_of word) word words))) help
-    ∙ ap (λ b. cond b (Ok Version) (on_verb (verb_of word) word words)) version ∙ ap (λ o. on_verb o word words) none
+    ∙ ap (λ b. cond b help_asked (cond (bytes_eq word (codes "--version")) version_asked (on_verb (verb_of word) word words))) help
+    ∙ ap (λ b. cond b version_asked (on_verb (verb_of word) word words)) version ∙ ap (λ o. on_verb o word words) none
 
 -- what is told of a word, where nothing is left to read and where something is
 pub told_none : {X R : Type 0} (o : Option X) (asked done : R) (go : X → R) → o ≡ None → MatchOption o (asked ≡ done) (λ after. asked ≡ go after) → asked ≡ done
@@ -61,6 +63,7 @@ equals_is word None found = equals_none word found
 equals_is word (Some at) found = equals_at word at found
 
 -- the meaning of a word that does not ask for help
-pub meaning_is : (verb : Verb) (word bytes : Text) (o : Option ℕ) → bytes ≡ word → bytes_eq word (codes "--help") ≡ false → IsFirstByte (is_byte 61) bytes o → meaning_of verb word ≡ at_equals verb word o
-meaning_is verb word bytes o same help found =
-    ap (λ b. cond b AsksHelp (at_equals verb word (position (λ c. c == 61) word))) help ∙ ap (at_equals verb word) (equals_is word o (subst (λ bs. IsFirstByte (is_byte 61) bs o) same found))
+pub meaning_is : (verb : Verb) (word bytes : Text) (o : Option ℕ) → bytes ≡ word → bytes_eq word (codes "--help") ≡ false → is_binary verb word ≡ false → IsFirstByte (is_byte 61) bytes o → meaning_of verb word ≡ at_equals verb word o
+meaning_is verb word bytes o same help binary found =
+    ap (λ b. cond b AsksHelp (cond (is_binary verb word) IsBinary (at_equals verb word (position (λ c. c == 61) word)))) help
+    ∙ ap (λ b. cond b IsBinary (at_equals verb word (position (λ c. c == 61) word))) binary ∙ ap (at_equals verb word) (equals_is word o (subst (λ bs. IsFirstByte (is_byte 61) bs o) same found))

@@ -57,3 +57,12 @@ front_then part more front back (Err fault) is w = (w.0, begins_split part more 
 
 pub front_fails : (part front back : List ℕ) (fault : RunFault) → WritesAll front (Err fault) part → WritesAll (front ++ back) (Err fault) part
 front_fails part front back fault w = (w.0, begins_first part front back w.1)
+
+-- the same of known bytes that grow
+pub writes_front : (before mid after : Option (List ℕ)) (front back : List ℕ) (result : Result (Unit {0}) RunFault) → Writes before mid (λ part. part ≡ front) → Writes mid after (WritesAll back result) → Writes before after (WritesAll (front ++ back) result)
+writes_front before mid after front back result v w =
+    writes_then before mid after (λ part. part ≡ front) (WritesAll back result) (WritesAll (front ++ back) result) v w (λ part more is x. front_then part more front back result is x)
+
+pub writes_front_fails : (before after : Option (List ℕ)) (front back : List ℕ) (fault : RunFault) → Writes before after (WritesAll front (Err fault)) → Writes before after (WritesAll (front ++ back) (Err fault))
+writes_front_fails before after front back fault v =
+    writes_as before after (WritesAll front (Err fault)) (WritesAll (front ++ back) (Err fault)) v (λ part w. front_fails part front back fault w)

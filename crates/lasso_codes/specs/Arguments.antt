@@ -1,18 +1,19 @@
 -- What the words of the command line ask for, and why they are refused.
 use Rattle.std.specs.Prelude.{ℕ, ◌+◌, ◌-◌, ◌*◌, ◌^◌, ◌<◌, ◌==◌, Bool, true, false, ◌&&◌, List, [], ◌∷◌, ◌++◌, length, take, drop, nat_le, nat_lt, Option, Some, None, Result, Ok, Err, slice_get, option_and_then, option_map, position, codes, bytes_eq, if◌then◌else◌}
+use denote.Ref.{Bor}
 use Rattle.lasso_parts.specs.Texts.{Text}
 use Rattle.lasso_codes.specs.declared.arguments.Verb.{Verb}
-use Rattle.lasso_codes.specs.declared.arguments.Verb.TheVariants.{Counts, Distinct}
+use Rattle.lasso_codes.specs.declared.arguments.Verb.TheVariants.{Counts, Distinct, Encode}
 use Rattle.lasso_codes.specs.declared.arguments.Settings.{Settings}
 use Rattle.lasso_codes.specs.declared.arguments.Command.{Command}
 use Rattle.lasso_codes.specs.declared.arguments.Command.TheVariants.{Help, VerbHelp, Version, Run}
 use Rattle.lasso_codes.specs.declared.arguments.Setting.{Setting}
-use Rattle.lasso_codes.specs.declared.arguments.Setting.TheVariants.{Limit, Top}
+use Rattle.lasso_codes.specs.declared.arguments.Setting.TheVariants.{Limit, Top, Null}
 use Rattle.lasso_codes.specs.declared.arguments.Reading.{Reading}
 use Rattle.lasso_codes.specs.declared.arguments.Meaning.{Meaning}
-use Rattle.lasso_codes.specs.declared.arguments.Meaning.TheVariants.{AsksHelp, Wants, Has, Nothing}
+use Rattle.lasso_codes.specs.declared.arguments.Meaning.TheVariants.{AsksHelp, IsBinary, Wants, Has, Nothing}
 use Rattle.lasso_codes.specs.declared.arguments.ArgumentFault.{ArgumentFault}
-use Rattle.lasso_codes.specs.declared.arguments.ArgumentFault.TheVariants.{NoVerb, NotVerb, NotOption, NoNumber, NotNumber, NotText}
+use Rattle.lasso_codes.specs.declared.arguments.ArgumentFault.TheVariants.{NoVerb, NotVerb, NotOption, NoNumber, NoWord, NotNumber, NotText}
 
 -- an ASCII digit
 abbrev pub is_digit : ℕ → Bool
@@ -59,6 +60,9 @@ not_option word = word ++ codes ": no such option"
 abbrev pub no_number : Text → List ℕ
 no_number word = word ++ codes ": a number is missing"
 
+abbrev pub no_word : Text → List ℕ
+no_word word = word ++ codes ": a word is missing"
+
 abbrev pub not_number : Text → List ℕ
 not_number word = word ++ codes ": not a number below 2^64"
 
@@ -67,6 +71,7 @@ argument_text NoVerb = no_verb
 argument_text (NotVerb word) = not_verb word.now
 argument_text (NotOption word) = not_option word.now
 argument_text (NoNumber word) = no_number word.now
+argument_text (NoWord word) = no_word word.now
 argument_text (NotNumber word) = not_number word.now
 argument_text NotText = codes "an argument is not UTF-8"
 
@@ -75,11 +80,23 @@ argument_text NotText = codes "an argument is not UTF-8"
 abbrev pub takes_top : Verb → Bool
 takes_top Counts = true
 takes_top Distinct = false
+takes_top Encode = false
+
+abbrev pub takes_null : Verb → Bool
+takes_null Counts = false
+takes_null Distinct = false
+takes_null Encode = true
+
+abbrev pub takes_binary : Verb → Bool
+takes_binary Counts = false
+takes_binary Distinct = false
+takes_binary Encode = true
 
 -- the verb's setting of this name
 abbrev pub setting_of : Verb → Text → Option Setting
 setting_of verb name =
-    if bytes_eq name (codes "--limit") then Some Limit else (if bytes_eq name (codes "--top") && takes_top verb then Some Top else None)
+    if bytes_eq name (codes "--limit") then Some Limit
+    else (if bytes_eq name (codes "--top") && takes_top verb then Some Top else (if bytes_eq name (codes "--null") && takes_null verb then Some Null else None))
 
 abbrev pub wants : Option Setting → Meaning
 wants None = Nothing
@@ -89,68 +106,96 @@ abbrev pub has : Option Setting → ℕ → Meaning
 has None at = Nothing
 has (Some setting) at = Has setting at
 
--- a setting with its number, where the word has an equals sign, and else a setting alone
+-- a setting with its value, where the word has an equals sign, and else a setting alone
 abbrev pub at_equals : Verb → Text → Option ℕ → Meaning
 at_equals verb word None = wants (setting_of verb word)
 at_equals verb word (Some at) = has (setting_of verb (take at word)) at
 
+-- the word is the verb's option for codes as bytes
+abbrev pub is_binary : Verb → Text → Bool
+is_binary verb word = bytes_eq word (codes "--binary") && takes_binary verb
+
 -- what the word means among the options of the verb; an equals sign is byte 61
 abbrev pub meaning_of : Verb → Text → Meaning
-meaning_of verb word = if bytes_eq word (codes "--help") then AsksHelp else at_equals verb word (position (λ b. b == 61) word)
+meaning_of verb word =
+    if bytes_eq word (codes "--help") then AsksHelp
+    else (if is_binary verb word then IsBinary else at_equals verb word (position (λ b. b == 61) word))
 
 -- the equals sign is within the word
 abbrev pub IsWithin : Meaning → Text → Type 0
 IsWithin AsksHelp word = Unit {0}
+IsWithin IsBinary word = Unit {0}
 IsWithin (Wants setting) word = Unit {0}
 IsWithin (Has setting at) word = at < length word
 IsWithin Nothing word = Unit {0}
 
--- the setting that waits for its number, with its word
+-- the bytes of a word that is lent
+abbrev pub word_of : Option (Bor Text) → Option Text
+word_of word = option_map (λ w. w.now) word
+
+-- the setting that waits for its value, with its word
 abbrev pub wanted_of : Reading → Option (Setting × Text)
 wanted_of reading = option_map (λ wanted. (wanted.0, wanted.1.now)) reading.wanted
 
-abbrev pub with_setting : Settings → Setting → ℕ → Settings
-with_setting settings Limit n = record settings { limit = n }
-with_setting settings Top n = record settings { top = n }
+-- the settings and the null with the value that the bytes say
+abbrev pub value_of : Settings → Option Text → Setting → Text → Option (Settings × Option Text)
+value_of settings null Limit value = option_map (λ n. (record settings { limit = n }, null)) (number_of value)
+value_of settings null Top value = option_map (λ n. (record settings { top = n }, null)) (number_of value)
+value_of settings null Null value = Some (settings, Some value)
 
-abbrev pub on_number : Option ℕ → (ℕ → Result Command (List ℕ)) → List ℕ → Result Command (List ℕ)
-on_number None go message = Err message
-on_number (Some n) go message = go n
+-- why an option without a value is refused
+abbrev pub no_value : Setting → Text → List ℕ
+no_value Limit word = no_number word
+no_value Top word = no_number word
+no_value Null word = no_word word
 
-abbrev pub on_meaning : Meaning → Result Command (List ℕ) → (Setting → Result Command (List ℕ)) → (Setting → ℕ → Result Command (List ℕ)) → Result Command (List ℕ) → Result Command (List ℕ)
-on_meaning AsksHelp help wants has nothing = help
-on_meaning (Wants setting) help wants has nothing = wants setting
-on_meaning (Has setting at) help wants has nothing = has setting at
-on_meaning Nothing help wants has nothing = nothing
+-- what a verb is asked for, and its null; or why the words are refused
+abbrev pub Asked : Type 0
+Asked = Result (Command × Option Text) (List ℕ)
 
--- what the verb is asked for by the words, where the settings are these so far and this one waits for its number; or why the words are
--- refused
-abbrev pub options_of : Verb → Settings → Option (Setting × Text) → List Text → Result Command (List ℕ)
-options_of verb settings None [] = Ok (Run verb settings)
-options_of verb settings (Some wanted) [] = Err (no_number wanted.1)
-options_of verb settings (Some wanted) (word ∷ words) =
-    on_number (number_of word) (λ n. options_of verb (with_setting settings wanted.0 n) None words) (not_number word)
-options_of verb settings None (word ∷ words) =
-    on_meaning (meaning_of verb word) (Ok (VerbHelp verb))
-    (λ setting. options_of verb settings (Some (setting, word)) words)
-    (λ setting at. on_number (number_of (drop (at + 1) word)) (λ n. options_of verb (with_setting settings setting n) None words) (not_number word))
+abbrev pub on_value : Option (Settings × Option Text) → (Settings → Option Text → Asked) → List ℕ → Asked
+on_value None go message = Err message
+on_value (Some value) go message = go value.0 value.1
+
+abbrev pub on_meaning : Meaning → Asked → Asked → (Setting → Asked) → (Setting → ℕ → Asked) → Asked → Asked
+on_meaning AsksHelp help binary wants has nothing = help
+on_meaning IsBinary help binary wants has nothing = binary
+on_meaning (Wants setting) help binary wants has nothing = wants setting
+on_meaning (Has setting at) help binary wants has nothing = has setting at
+on_meaning Nothing help binary wants has nothing = nothing
+
+-- what the verb is asked for by the words, where the settings and the null are these so far and this setting waits for its value; or
+-- why the words are refused
+abbrev pub options_of : Verb → Settings → Option Text → Option (Setting × Text) → List Text → Asked
+options_of verb settings null None [] = Ok (Run verb settings, null)
+options_of verb settings null (Some wanted) [] = Err (no_value wanted.0 wanted.1)
+options_of verb settings null (Some wanted) (word ∷ words) =
+    on_value (value_of settings null wanted.0 word) (λ after given. options_of verb after given None words) (not_number word)
+options_of verb settings null None (word ∷ words) =
+    on_meaning (meaning_of verb word) (Ok (VerbHelp verb, None))
+    (options_of verb (record settings { binary = true }) null None words)
+    (λ setting. options_of verb settings null (Some (setting, word)) words)
+    (λ setting at. on_value (value_of settings null setting (drop (at + 1) word)) (λ after given. options_of verb after given None words) (not_number word))
     (Err (not_option word))
 
 -- ---- verbs
 
 abbrev pub verb_of : Text → Option Verb
-verb_of word = if bytes_eq word (codes "counts") then Some Counts else (if bytes_eq word (codes "distinct") then Some Distinct else None)
+verb_of word =
+    if bytes_eq word (codes "counts") then Some Counts
+    else (if bytes_eq word (codes "distinct") then Some Distinct else (if bytes_eq word (codes "encode") then Some Encode else None))
 
--- no limit, and all lines
+-- no limit, all lines, and codes as text
 abbrev pub unset : Settings
-unset = record { limit = 2 ^ 64 - 1; top = 2 ^ 64 - 1 }
+unset = record { limit = 2 ^ 64 - 1; top = 2 ^ 64 - 1; binary = false }
 
-abbrev pub on_verb : Option Verb → Text → List Text → Result Command (List ℕ)
+abbrev pub on_verb : Option Verb → Text → List Text → Asked
 on_verb None word words = Err (not_verb word)
-on_verb (Some verb) word words = options_of verb unset None words
+on_verb (Some verb) word words = options_of verb unset None None words
 
 -- what the words ask for, or why they are refused
-abbrev pub command_of : List Text → Result Command (List ℕ)
+abbrev pub command_of : List Text → Asked
 command_of [] = Err no_verb
 command_of (word ∷ words) =
-    if bytes_eq word (codes "--help") then Ok Help else (if bytes_eq word (codes "--version") then Ok Version else on_verb (verb_of word) word words)
+    if bytes_eq word (codes "--help") then Ok (Help, None)
+    else (if bytes_eq word (codes "--version") then Ok (Version, None) else on_verb (verb_of word) word words)

@@ -2,4 +2,6 @@ pub mod Fault
 pub mod Streams
 pub mod Distinct
 pub mod Counts
+pub mod Columns
+pub mod Encode
 pub mod Arguments

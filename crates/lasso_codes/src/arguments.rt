@@ -1,7 +1,7 @@
 //! The program's arguments.
 ghost use Rattle.std.specs.Prelude.{◌≡◌, ◌+◌, ◌≤◌, ◌∷◌, ℕ, List, None, Some, Ok, Err, IfSome, IsSome, MatchOption, MatchResult, drop, length, map, string_bytes};
 ghost use Rattle.lasso_parts.specs.Texts.{Text};
-ghost use Rattle.lasso_codes.specs.Arguments.{IsWithin, argument_text, command_of, meaning_of, not_number, number_of, options_of, setting_of, unset, verb_of, wanted_of, with_setting};
+ghost use Rattle.lasso_codes.specs.Arguments.{IsWithin, argument_text, command_of, is_binary, meaning_of, no_value, not_number, options_of, setting_of, unset, value_of, verb_of, wanted_of, word_of};
 
 use crate::numbers::parse_number;
 use memchr::memchr;
@@ -14,6 +14,8 @@ pub enum Verb {
     Counts,
     /// The distinct lines.
     Distinct,
+    /// The lines as a column.
+    Encode,
 }
 
 /// What the options of a verb say.
@@ -23,6 +25,8 @@ pub struct Settings {
     pub limit: usize,
     /// The most lines that `counts` writes.
     pub top: usize,
+    /// Whether codes are written as four bytes each.
+    pub binary: bool,
 }
 
 /// What the arguments ask for.
@@ -38,6 +42,15 @@ pub enum Command {
     Run(Verb, Settings),
 }
 
+/// What the arguments ask for, and the word of `--null`.
+#[derive(Clone, Copy, Debug, PartialEq, Eq)]
+pub struct Request<'a> {
+    /// What they ask for.
+    pub command: Command,
+    /// The line that is a null, where a word says which.
+    pub null: Option<&'a [u8]>,
+}
+
 /// Why arguments are refused. The word that is at fault is named.
 #[derive(Clone, Copy, Debug, PartialEq, Eq)]
 pub enum ArgumentFault<'a> {
@@ -49,6 +62,8 @@ pub enum ArgumentFault<'a> {
     NotOption(&'a str),
     /// The option is the last word, and its number is missing.
     NoNumber(&'a str),
+    /// The option is the last word, and the word after it is missing.
+    NoWord(&'a str),
     /// The word's number is not one, or is not below 2^64.
     NotNumber(&'a str),
     /// A word is not UTF-8.
@@ -64,17 +79,19 @@ impl fmt::Display for ArgumentFault<'_> {
             ArgumentFault::NotVerb(word) => write!(f, "{word}: no such verb"),
             ArgumentFault::NotOption(word) => write!(f, "{word}: no such option"),
             ArgumentFault::NoNumber(word) => write!(f, "{word}: a number is missing"),
+            ArgumentFault::NoWord(word) => write!(f, "{word}: a word is missing"),
             ArgumentFault::NotNumber(word) => write!(f, "{word}: not a number below 2^64"),
             ArgumentFault::NotText => write!(f, "an argument is not UTF-8"),
         }
     }
 }
 
-// An option that takes a number.
+// An option that takes a value: a number, or the word of a null.
 #[derive(Clone, Copy, Debug, PartialEq, Eq)]
 enum Setting {
     Limit,
     Top,
+    Null,
 }
 
 // What a word among the options means.
@@ -82,22 +99,25 @@ enum Setting {
 enum Meaning {
     // The verb's help.
     AsksHelp,
-    // A setting, whose number is the next word.
+    // Codes as bytes.
+    IsBinary,
+    // A setting, whose value is the next word.
     Wants(Setting),
-    // A setting, whose number follows the `=` at this position.
+    // A setting, whose value follows the `=` at this position.
     Has(Setting, usize),
     // None.
     Nothing,
 }
 
 /// What the words ask for: `--help`, `--version`, or a verb and its options. Words after `--help` and `--version` are not read. Of
-/// an option that is given twice the last one counts. Without them the limit and the most lines are the greatest numbers.
+/// an option that is given twice the last one counts. Without them the limit and the most lines are the greatest numbers, and no
+/// line is a null.
 ///
 /// # Errors
 /// The first word that is at fault.
-pub fn command_of(words: &[String]) -> Result<Command, ArgumentFault<'_>>
+pub fn command_of(words: &[String]) -> Result<Request<'_>, ArgumentFault<'_>>
     ensures { MatchResult result
-        (λ command. command_of (map string_bytes words.now) ≡ Ok command)
+        (λ asked. command_of (map string_bytes words.now) ≡ Ok (asked.command, word_of asked.null))
         (λ fault. command_of (map string_bytes words.now) ≡ Err (argument_text fault)) }
 {
     if words.is_empty() {
@@ -105,10 +125,16 @@ pub fn command_of(words: &[String]) -> Result<Command, ArgumentFault<'_>>
     }
     let word = words[0].as_str();
     if word == "--help" {
-        return Ok(Command::Help);
+        return Ok(Request {
+            command: Command::Help,
+            null: None,
+        });
     }
     if word == "--version" {
-        return Ok(Command::Version);
+        return Ok(Request {
+            command: Command::Version,
+            null: None,
+        });
     }
     match verb_of(word) {
         Some(verb) => options_of(verb, &words[1..]),
@@ -123,40 +149,62 @@ fn verb_of(word: &str) -> Option<Verb>
     match word {
         "counts" => Some(Verb::Counts),
         "distinct" => Some(Verb::Distinct),
+        "encode" => Some(Verb::Encode),
         _ => None,
     }
 }
 
-// The settings so far, and the setting that waits for its number, with its word.
+// The settings and the null so far, and the setting that waits for its value, with its word.
 #[derive(Clone, Copy)]
 struct Reading<'a> {
     settings: Settings,
+    null: Option<&'a [u8]>,
     wanted: Option<(Setting, &'a str)>,
 }
 
 // The verb with the settings that the words give.
-fn options_of(verb: Verb, words: &[String]) -> Result<Command, ArgumentFault<'_>>
+fn options_of(verb: Verb, words: &[String]) -> Result<Request<'_>, ArgumentFault<'_>>
     ensures { MatchResult result
-        (λ command. options_of verb unset None (map string_bytes words.now) ≡ Ok command)
-        (λ fault. options_of verb unset None (map string_bytes words.now) ≡ Err (argument_text fault)) }
+        (λ asked. options_of verb unset None None (map string_bytes words.now) ≡ Ok (asked.command, word_of asked.null))
+        (λ fault. options_of verb unset None None (map string_bytes words.now) ≡ Err (argument_text fault)) }
 {
     let mut reading = Reading {
         settings: Settings {
             limit: usize::MAX,
             top: usize::MAX,
+            binary: false,
         },
+        null: None,
         wanted: None,
     };
     for word in words {
         match read_word(verb, reading, word.as_str()) {
             Ok(Some(next)) => reading = next,
-            Ok(None) => return Ok(Command::VerbHelp(verb)),
+            Ok(None) => {
+                return Ok(Request {
+                    command: Command::VerbHelp(verb),
+                    null: None,
+                });
+            }
             Err(fault) => return Err(fault),
         }
     }
     match reading.wanted {
-        Some((_, word)) => Err(ArgumentFault::NoNumber(word)),
-        None => Ok(Command::Run(verb, reading.settings)),
+        Some((setting, word)) => Err(no_value(setting, word)),
+        None => Ok(Request {
+            command: Command::Run(verb, reading.settings),
+            null: reading.null,
+        }),
+    }
+}
+
+// The value of the setting is missing.
+fn no_value<'a>(setting: Setting, word: &'a str) -> ArgumentFault<'a>
+    ensures { argument_text result ≡ no_value setting word.now }
+{
+    match setting {
+        Setting::Limit | Setting::Top => ArgumentFault::NoNumber(word),
+        Setting::Null => ArgumentFault::NoWord(word),
     }
 }
 
@@ -166,21 +214,29 @@ fn read_word<'a>(
     reading: Reading<'a>,
     word: &'a str,
 ) -> Result<Option<Reading<'a>>, ArgumentFault<'a>>
-    ensures { (words : List Text) → let asked = options_of verb reading.entry.settings (wanted_of reading.entry) (word.now ∷ words) in MatchResult result
-        (λ next. MatchOption next (asked ≡ Ok (Command.VerbHelp verb)) (λ after. asked ≡ options_of verb after.settings (wanted_of after) words))
+    ensures { (words : List Text) → let asked = options_of verb reading.entry.settings (word_of reading.entry.null) (wanted_of reading.entry) (word.now ∷ words) in MatchResult result
+        (λ next. MatchOption next (asked ≡ Ok (Command.VerbHelp verb, None)) (λ after. asked ≡ options_of verb after.settings (word_of after.null) (wanted_of after) words))
         (λ fault. asked ≡ Err (argument_text fault)) }
 {
-    let settings = reading.settings;
     if let Some((setting, _)) = reading.wanted {
-        return with_number(settings, setting, word, 0);
+        return with_value(reading, setting, word, 0);
     }
     match meaning_of(verb, word) {
         Meaning::AsksHelp => Ok(None),
+        Meaning::IsBinary => Ok(Some(Reading {
+            settings: Settings {
+                binary: true,
+                ..reading.settings
+            },
+            null: reading.null,
+            wanted: None,
+        })),
         Meaning::Wants(setting) => Ok(Some(Reading {
-            settings,
+            settings: reading.settings,
+            null: reading.null,
             wanted: Some((setting, word)),
         })),
-        Meaning::Has(setting, at) => with_number(settings, setting, word, at + 1),
+        Meaning::Has(setting, at) => with_value(reading, setting, word, at + 1),
         Meaning::Nothing => Err(ArgumentFault::NotOption(word)),
     }
 }
@@ -192,6 +248,9 @@ fn meaning_of(verb: Verb, word: &str) -> Meaning
 {
     if word == "--help" {
         return Meaning::AsksHelp;
+    }
+    if is_binary(verb, word) {
+        return Meaning::IsBinary;
     }
     let bytes = word.as_bytes();
     match memchr(b'=', bytes) {
@@ -206,6 +265,13 @@ fn meaning_of(verb: Verb, word: &str) -> Meaning
     }
 }
 
+// Whether the word is the verb's option for codes as bytes.
+fn is_binary(verb: Verb, word: &str) -> bool
+    ensures { result ≡ is_binary verb word.now }
+{
+    word == "--binary" && verb == Verb::Encode
+}
+
 // The verb's setting of this name.
 fn setting_of(verb: Verb, name: &[u8]) -> Option<Setting>
     ensures { result ≡ setting_of verb name.now }
@@ -214,38 +280,48 @@ fn setting_of(verb: Verb, name: &[u8]) -> Option<Setting>
         Some(Setting::Limit)
     } else if name == b"--top".as_slice() && verb == Verb::Counts {
         Some(Setting::Top)
+    } else if name == b"--null".as_slice() && verb == Verb::Encode {
+        Some(Setting::Null)
     } else {
         None
     }
 }
 
-// What is read with the number that the word says from this position on.
-fn with_number<'a>(
-    settings: Settings,
+// What is read with the value that the word says from this position on.
+fn with_value<'a>(
+    reading: Reading<'a>,
     setting: Setting,
     word: &'a str,
     from: usize,
 ) -> Result<Option<Reading<'a>>, ArgumentFault<'a>>
     requires { from ≤ length word.now }
     ensures { MatchResult result
-        (λ next. IfSome next (λ after. (number : ℕ) × (number_of (drop from word.now) ≡ Some number) × (after.settings ≡ with_setting settings setting number) × (after.wanted ≡ None)) × IsSome next)
-        (λ fault. (number_of (drop from word.now) ≡ None) × (argument_text fault ≡ not_number word.now)) }
+        (λ next. IfSome next (λ after. (value_of reading.entry.settings (word_of reading.entry.null) setting (drop from word.now) ≡ Some (after.settings, word_of after.null)) × (after.wanted ≡ None)) × IsSome next)
+        (λ fault. (value_of reading.entry.settings (word_of reading.entry.null) setting (drop from word.now) ≡ None) × (argument_text fault ≡ not_number word.now)) }
 {
-    let Some(number) = parse_number(&word.as_bytes()[from..]) else {
-        return Err(ArgumentFault::NotNumber(word));
-    };
-    let settings = match setting {
-        Setting::Limit => Settings {
-            limit: number,
-            ..settings
+    let value = &word.as_bytes()[from..];
+    let settings = reading.settings;
+    match setting {
+        Setting::Limit => match parse_number(value) {
+            Some(limit) => Ok(Some(Reading {
+                settings: Settings { limit, ..settings },
+                null: reading.null,
+                wanted: None,
+            })),
+            None => Err(ArgumentFault::NotNumber(word)),
         },
-        Setting::Top => Settings {
-            top: number,
-            ..settings
+        Setting::Top => match parse_number(value) {
+            Some(top) => Ok(Some(Reading {
+                settings: Settings { top, ..settings },
+                null: reading.null,
+                wanted: None,
+            })),
+            None => Err(ArgumentFault::NotNumber(word)),
         },
-    };
-    Ok(Some(Reading {
-        settings,
-        wanted: None,
-    }))
+        Setting::Null => Ok(Some(Reading {
+            settings,
+            null: Some(value),
+            wanted: None,
+        })),
+    }
 }

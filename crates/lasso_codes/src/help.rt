@@ -8,6 +8,7 @@ usage: lasso_codes VERB [OPTION..] < INPUT > OUTPUT
 Verbs:
   counts    each distinct line after how often it came, the most frequent first
   distinct  each distinct line once, where it first came
+  encode    a column: each distinct line once, and for each line its code
 
 lasso_codes VERB --help lists the options of a verb.
 lasso_codes --version prints the version.
@@ -38,10 +39,24 @@ Writes each distinct line once, where it first came.
 N is a number below 2^64, or one with K, M or G after it, as 64K for 65536.
 ";
 
+const ENCODE_HELP: &str = "\
+usage: lasso_codes encode [--limit N] [--null WORD] [--binary] < LINES > COLUMN
+
+Writes a column: a header, each distinct line once, and for each line its code,
+which is the position of the line among the distinct ones, from 0.
+
+  --limit N    the most bytes that the distinct lines may take
+  --null WORD  a line that is WORD is a null: it is no text of the column
+  --binary     write codes as four bytes each, the least first
+
+N is a number below 2^64, or one with K, M or G after it, as 64K for 65536.
+";
+
 /// The text of `lasso_codes VERB --help`.
 pub fn verb_help(verb: Verb) -> &'static str {
     match verb {
         Verb::Counts => COUNTS_HELP,
         Verb::Distinct => DISTINCT_HELP,
+        Verb::Encode => ENCODE_HELP,
     }
 }

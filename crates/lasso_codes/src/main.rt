@@ -1,9 +1,11 @@
-//! A filter over the lines of standard input: the distinct ones, and how often each came.
+//! A filter over the lines of standard input: the distinct ones, how often each came, and all of them as a column.
 #![tactic(auto)]
 
 pub mod arguments;
+pub mod columns;
 pub mod counts;
 pub mod distinct;
+pub mod encode;
 pub mod fault;
 pub mod help;
 pub mod input;
@@ -14,9 +16,9 @@ pub mod program;
 #[cfg(test)]
 mod tests;
 
-use arguments::{ArgumentFault, command_of};
+use arguments::{ArgumentFault, Request, command_of};
 use fault::RunFault;
-use program::{BUFFER, run_command};
+use program::{BUFFER, run_request};
 use std::alloc::AllocError;
 use std::io::{BufReader, BufWriter, ErrorKind};
 use std::process::ExitCode;
@@ -33,7 +35,7 @@ fn main(rt: HostRuntime) -> ExitCode {
         Err(fault) => return end(&rt, &fault),
     };
     match command_of(&words) {
-        Ok(command) => match run_program(&rt, &command) {
+        Ok(request) => match run_program(&rt, &request) {
             Ok(()) => ExitCode::SUCCESS,
             Err(fault) => end(&rt, &fault),
         },
@@ -41,10 +43,10 @@ fn main(rt: HostRuntime) -> ExitCode {
     }
 }
 
-// Runs the command over standard input and output.
+// Does what is asked for over standard input and output.
 fn run_program<R: AllocGlobal + Input + Print>(
     rt: &R,
-    command: &arguments::Command,
+    request: &Request<'_>,
 ) -> Result<(), RunFault> {
     let Ok(mut input) = BufReader::with_capacity(rt.alloc(), BUFFER, rt.reader()) else {
         return Err(RunFault::no_memory(0));
@@ -52,7 +54,7 @@ fn run_program<R: AllocGlobal + Input + Print>(
     let Ok(mut output) = BufWriter::with_capacity(rt.alloc(), BUFFER, io::writer(rt)) else {
         return Err(RunFault::no_memory(0));
     };
-    run_command(rt.alloc(), command, &mut input, &mut output)
+    run_request(rt.alloc(), request, &mut input, &mut output)
 }
 
 // Says why the arguments are refused.

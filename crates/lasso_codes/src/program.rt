@@ -1,17 +1,20 @@
 //! The program between its ends: a command, a reader and a writer.
 ghost use Rattle.std.specs.Prelude.{◌≡◌, ℕ, List, [], Some};
 ghost use Rattle.std.specs.Io.Buffered.{reader_remaining, writer_contents, writer_buffer};
+ghost use Rattle.lasso_codes.specs.Arguments.{word_of};
 ghost use Rattle.lasso_codes.specs.Counts.{CountsEnd};
 ghost use Rattle.lasso_codes.specs.Distinct.{DistinctEnd};
+ghost use Rattle.lasso_codes.specs.Encode.{EncodeEnd};
 ghost use Rattle.lasso_codes.specs.Fault.{IsWriteEnd};
 ghost use Rattle.lasso_codes.specs.Streams.{Writes};
 ghost use Rattle.lasso_codes.specs.declared.arguments.Settings.{Settings};
 ghost use Rattle.lasso_codes.specs.declared.arguments.Command.TheVariants.{Run};
-ghost use Rattle.lasso_codes.specs.declared.arguments.Verb.TheVariants.{Counts, Distinct};
+ghost use Rattle.lasso_codes.specs.declared.arguments.Verb.TheVariants.{Counts, Distinct, Encode};
 
-use crate::arguments::{Command, Verb};
+use crate::arguments::{Command, Request, Verb};
 use crate::counts::counts;
 use crate::distinct::distinct;
+use crate::encode::encode;
 use crate::fault::RunFault;
 use crate::help::{HELP, VERSION, verb_help};
 use crate::output::{flush, write_bytes};
@@ -22,37 +25,36 @@ use std::io::{BufReader, BufWriter, Read, Write};
 /// How many bytes the buffers of the reader and of the writer take.
 pub const BUFFER: usize = 65536;
 
-/// Does what the command says: `distinct` or `counts` over the reader's lines, or it writes a help text and reads nothing.
+/// Does what is asked for: the verb over the reader's lines, or it writes a help text and reads nothing.
 ///
 /// # Errors
 /// As the verb. A help text fails as `write_bytes` does.
-pub fn run_command<R: Read + Drop, W: Write + Drop>(
+pub fn run_request<R: Read + Drop, W: Write + Drop>(
     alloc: Global,
-    command: &Command,
+    request: &Request<'_>,
     input: &mut BufReader<R>,
     output: &mut BufWriter<W>,
 ) -> Result<(), RunFault>
-    ensures distinct { (settings : Settings) (bytes : List ℕ) → command.now ≡ Run Distinct settings → reader_remaining R.remaining input.old ≡ Some bytes →
+    ensures distinct { (settings : Settings) (bytes : List ℕ) → request.now.command ≡ Run Distinct settings → reader_remaining R.remaining input.old ≡ Some bytes →
         Writes (writer_contents W.contents output.old) (writer_contents W.contents output.new) (λ part. DistinctEnd bytes settings.limit part result) }
-    ensures counts { (settings : Settings) (bytes : List ℕ) → command.now ≡ Run Counts settings → reader_remaining R.remaining input.old ≡ Some bytes →
+    ensures counts { (settings : Settings) (bytes : List ℕ) → request.now.command ≡ Run Counts settings → reader_remaining R.remaining input.old ≡ Some bytes →
         Writes (writer_contents W.contents output.old) (writer_contents W.contents output.new) (λ part. CountsEnd bytes settings.limit settings.top part result) }
+    ensures encode { (settings : Settings) (bytes : List ℕ) → request.now.command ≡ Run Encode settings → reader_remaining R.remaining input.old ≡ Some bytes →
+        Writes (writer_contents W.contents output.old) (writer_contents W.contents output.new) (λ part. EncodeEnd bytes settings.limit (word_of request.now.null) settings.binary part result) }
     ensures flushed { ¬ (IsWriteEnd result) → writer_buffer output.new ≡ [] }
 {
-    match command {
+    let null = request.null;
+    match request.command {
         Command::Help => show(output, HELP),
-        Command::VerbHelp(verb) => show(output, verb_help(*verb)),
+        Command::VerbHelp(verb) => show(output, verb_help(verb)),
         Command::Version => show(output, VERSION),
-        Command::Run(Verb::Counts, settings) => {
-            counts(
-                alloc,
-                input,
-                output,
-                MemoryLimits::new(settings.limit),
-                settings.top,
-            )
-        }
-        Command::Run(Verb::Distinct, settings) => {
-            distinct(alloc, input, output, MemoryLimits::new(settings.limit))
+        Command::Run(verb, settings) => {
+            let limits = MemoryLimits::new(settings.limit);
+            match verb {
+                Verb::Counts => counts(alloc, input, output, limits, settings.top),
+                Verb::Distinct => distinct(alloc, input, output, limits),
+                Verb::Encode => encode(alloc, input, output, limits, null, settings.binary),
+            }
         }
     }
 }

@@ -1,13 +1,35 @@
 //! The program's words, runs over small and long inputs, and readers and writers that fail.
+mod columns;
 mod failing;
 mod verbs;
 mod words;
 
+use crate::arguments::{Command, Request, Settings, Verb};
 use crate::fault::RunFault;
 use std::alloc::Global;
 use std::io::{BufReader, BufWriter};
 use std::process::Abort;
 use std::test::Fail;
+
+// All lines, with no limit and no null, and codes as text.
+const PLAIN: Settings = Settings {
+    limit: usize::MAX,
+    top: usize::MAX,
+    binary: false,
+};
+
+// The request of the command, with no null.
+fn asks<'a>(command: Command) -> Request<'a> {
+    Request {
+        command,
+        null: None,
+    }
+}
+
+// The request of the verb, with no null.
+fn runs<'a>(verb: Verb, settings: Settings) -> Request<'a> {
+    asks(Command::Run(verb, settings))
+}
 
 // A reader of these bytes. Its buffer is so small that most lines are longer.
 fn reader_of(alloc: Global, bytes: &[u8]) -> Result<BufReader<&[u8]>, Fail> {

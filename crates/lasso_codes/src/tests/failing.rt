@@ -1,7 +1,7 @@
 //! A reader and a writer that give or take three bytes a call, and then fail.
-use super::assert_fault;
-use crate::arguments::{Command, Settings, Verb};
-use crate::program::run_command;
+use super::{PLAIN, assert_fault, runs};
+use crate::arguments::Verb;
+use crate::program::run_request;
 use std::alloc::Global;
 use std::io;
 use std::io::{BufReader, BufWriter, Error, ErrorKind, Read, Write};
@@ -9,15 +9,14 @@ use std::test::Fail;
 
 const INPUT: &[u8] = b"b\na\nb\nc";
 
-const VERBS: [(Verb, &[u8]); 2] = [
+const VERBS: [(Verb, &[u8]); 3] = [
     (Verb::Distinct, b"b\na\nc\n"),
     (Verb::Counts, b"2 b\n1 a\n1 c\n"),
+    (
+        Verb::Encode,
+        b"lasso-codes 1 text 3 4\nb\na\nc\n0\n1\n0\n2\n",
+    ),
 ];
-
-const NO_LIMIT: Settings = Settings {
-    limit: usize::MAX,
-    top: usize::MAX,
-};
 
 // Gives at most three bytes a call, and fails at each call after its number of good ones.
 #[derive(Drop)]
@@ -104,8 +103,8 @@ fn each_read_fails_in_turn(rt: HostRuntime) -> Result<(), Fail> {
             let mut input = BufReader::with_capacity(rt.alloc(), 8, source)?;
             let target = ShortWrite::new(rt.alloc(), 100, Way::IsFull);
             let mut writer = BufWriter::with_capacity(rt.alloc(), 8, target)?;
-            let command = Command::Run(verb, NO_LIMIT);
-            let ended = run_command(rt.alloc(), &command, &mut input, &mut writer);
+            let request = runs(verb, PLAIN);
+            let ended = run_request(rt.alloc(), &request, &mut input, &mut writer);
             let (target, pending) = writer.into_parts();
             assert!(rt; pending.is_empty());
             assert!(rt; target.flushed == target.taken.len());
@@ -131,8 +130,8 @@ fn lines_are_written_before_the_next_read(rt: HostRuntime) -> Result<(), Fail> {
         let source = ShortRead { left: INPUT, calls };
         let mut input = BufReader::new(rt.alloc(), source)?;
         let mut writer = BufWriter::new(rt.alloc(), Vec::new(rt.alloc()))?;
-        let command = Command::Run(Verb::Distinct, NO_LIMIT);
-        let ended = run_command(rt.alloc(), &command, &mut input, &mut writer);
+        let request = runs(Verb::Distinct, PLAIN);
+        let ended = run_request(rt.alloc(), &request, &mut input, &mut writer);
         assert_fault(&rt, ended, "read failed", 4)?;
         assert!(rt; writer.get_ref().as_slice() == written);
     }
@@ -153,8 +152,8 @@ fn each_write_fails_in_turn(rt: HostRuntime) -> Result<(), Fail> {
                 let mut input = BufReader::new(rt.alloc(), INPUT)?;
                 let target = ShortWrite::new(rt.alloc(), calls, way);
                 let mut writer = BufWriter::with_capacity(rt.alloc(), 4, target)?;
-                let command = Command::Run(verb, NO_LIMIT);
-                let ended = run_command(rt.alloc(), &command, &mut input, &mut writer);
+                let request = runs(verb, PLAIN);
+                let ended = run_request(rt.alloc(), &request, &mut input, &mut writer);
                 let (target, _) = writer.into_parts();
                 assert!(rt; output.starts_with(&target.taken));
                 if ended.is_ok() {

@@ -1,26 +1,21 @@
 //! What the verbs write.
-use super::{assert_fault, reader_of, writer_of};
-use crate::arguments::{Command, Settings, Verb};
+use super::{PLAIN, asks, assert_fault, reader_of, runs, writer_of};
+use crate::arguments::{Command, Request, Settings, Verb};
 use crate::help::{HELP, VERSION, verb_help};
-use crate::program::run_command;
+use crate::program::run_request;
 use std::process::Abort;
 use std::test::Fail;
 
-const NO_LIMIT: Settings = Settings {
-    limit: usize::MAX,
-    top: usize::MAX,
-};
-
-// The command turns the input into the output.
-fn assert_writes<R: AllocGlobal + Abort>(
+// The request turns the input into the output.
+pub fn assert_writes<R: AllocGlobal + Abort>(
     rt: &R,
-    command: Command,
+    request: Request<'_>,
     input: &[u8],
     output: &[u8],
 ) -> Result<(), Fail> {
     let mut reader = reader_of(rt.alloc(), input)?;
     let mut writer = writer_of(rt.alloc())?;
-    assert!(rt; run_command(rt.alloc(), &command, &mut reader, &mut writer) == Ok(()));
+    assert!(rt; run_request(rt.alloc(), &request, &mut reader, &mut writer) == Ok(()));
     let (written, left) = writer.into_parts();
     assert!(rt; left.is_empty());
     assert!(rt; written.as_slice() == output);
@@ -42,7 +37,7 @@ fn distinct_lines(rt: HostRuntime) -> Result<(), Fail> {
         (b"a\r\na\na\r\n", b"a\r\na\n"),
     ];
     for (input, output) in cases {
-        assert_writes(&rt, Command::Run(Verb::Distinct, NO_LIMIT), input, output)?;
+        assert_writes(&rt, runs(Verb::Distinct, PLAIN), input, output)?;
     }
     Ok(())
 }
@@ -58,7 +53,7 @@ fn counted_lines(rt: HostRuntime) -> Result<(), Fail> {
         (b"z\nz\nz\na\na\na\na\na\na\na\na\na\na\n", b"10 a\n3 z\n"),
     ];
     for (input, output) in cases {
-        assert_writes(&rt, Command::Run(Verb::Counts, NO_LIMIT), input, output)?;
+        assert_writes(&rt, runs(Verb::Counts, PLAIN), input, output)?;
     }
     Ok(())
 }
@@ -73,8 +68,8 @@ fn the_most_frequent(rt: HostRuntime) -> Result<(), Fail> {
         (4, b"2 b\n1 a\n1 c\n"),
     ];
     for (top, output) in cases {
-        let settings = Settings { top, ..NO_LIMIT };
-        assert_writes(&rt, Command::Run(Verb::Counts, settings), input, output)?;
+        let settings = Settings { top, ..PLAIN };
+        assert_writes(&rt, runs(Verb::Counts, settings), input, output)?;
     }
     Ok(())
 }
@@ -90,30 +85,26 @@ fn many_lines(rt: HostRuntime) -> Result<(), Fail> {
     let counted =
         b"10000 ax\n5000 bx\n2500 cx\n1250 dx\n625 ex\n313 fx\n156 gx\n78 hx\n39 ix\n20 jx\n\
         10 kx\n5 lx\n2 mx\n1 nx\n1 ox\n";
-    assert_writes(&rt, Command::Run(Verb::Counts, NO_LIMIT), &input, counted)?;
+    assert_writes(&rt, runs(Verb::Counts, PLAIN), &input, counted)?;
     let distinct = b"ax\nbx\ncx\ndx\nex\nfx\ngx\nhx\nix\njx\nkx\nlx\nmx\nnx\nox\n";
-    assert_writes(
-        &rt,
-        Command::Run(Verb::Distinct, NO_LIMIT),
-        &input,
-        distinct,
-    )
+    assert_writes(&rt, runs(Verb::Distinct, PLAIN), &input, distinct)
 }
 
 #[test]
 fn help_texts(rt: HostRuntime) -> Result<(), Fail> {
-    assert_writes(&rt, Command::Help, b"a\n", HELP.as_bytes())?;
-    assert_writes(&rt, Command::Version, b"a\n", VERSION.as_bytes())?;
-    for verb in [Verb::Counts, Verb::Distinct] {
+    assert_writes(&rt, asks(Command::Help), b"a\n", HELP.as_bytes())?;
+    assert_writes(&rt, asks(Command::Version), b"a\n", VERSION.as_bytes())?;
+    for verb in [Verb::Counts, Verb::Distinct, Verb::Encode] {
         assert_writes(
             &rt,
-            Command::VerbHelp(verb),
+            asks(Command::VerbHelp(verb)),
             b"a\n",
             verb_help(verb).as_bytes(),
         )?;
     }
     assert!(rt; verb_help(Verb::Counts).starts_with("usage: lasso_codes counts "));
     assert!(rt; verb_help(Verb::Distinct).starts_with("usage: lasso_codes distinct "));
+    assert!(rt; verb_help(Verb::Encode).starts_with("usage: lasso_codes encode "));
     Ok(())
 }
 
@@ -127,8 +118,8 @@ fn assert_stops<R: AllocGlobal + Abort>(
 ) -> Result<(), Fail> {
     let mut reader = reader_of(rt.alloc(), input)?;
     let mut writer = writer_of(rt.alloc())?;
-    let command = Command::Run(verb, settings);
-    let ended = run_command(rt.alloc(), &command, &mut reader, &mut writer);
+    let request = runs(verb, settings);
+    let ended = run_request(rt.alloc(), &request, &mut reader, &mut writer);
     let (written, left) = writer.into_parts();
     assert!(rt; left.is_empty());
     assert!(rt; written.as_slice() == output);
@@ -139,8 +130,9 @@ fn assert_stops<R: AllocGlobal + Abort>(
 fn faulty_lines(rt: HostRuntime) -> Result<(), Fail> {
     let not_text = ("line 3: not UTF-8", 2);
     let input = b"a\na\n\xff\nb\n";
-    assert_stops(&rt, (Verb::Distinct, NO_LIMIT), input, b"a\n", not_text)?;
-    assert_stops(&rt, (Verb::Counts, NO_LIMIT), input, b"", not_text)
+    assert_stops(&rt, (Verb::Distinct, PLAIN), input, b"a\n", not_text)?;
+    assert_stops(&rt, (Verb::Counts, PLAIN), input, b"", not_text)?;
+    assert_stops(&rt, (Verb::Encode, PLAIN), input, b"", not_text)
 }
 
 // The first bucket has 4096 bytes, which the first line fills.
@@ -154,12 +146,13 @@ fn past_the_limit(rt: HostRuntime) -> Result<(), Fail> {
     both.push(b'\n')?;
     let settings = Settings {
         limit: 4100,
-        ..NO_LIMIT
+        ..PLAIN
     };
     let refused = (
         "line 3: Lasso encountered an error: The configured memory limit was reached",
         1,
     );
     assert_stops(&rt, (Verb::Distinct, settings), &input, &both, refused)?;
-    assert_stops(&rt, (Verb::Counts, settings), &input, b"", refused)
+    assert_stops(&rt, (Verb::Counts, settings), &input, b"", refused)?;
+    assert_stops(&rt, (Verb::Encode, settings), &input, b"", refused)
 }

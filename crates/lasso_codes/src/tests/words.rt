@@ -1,5 +1,6 @@
 //! Arguments, and the numbers among them.
-use crate::arguments::{Command, Settings, Verb, command_of};
+use super::{PLAIN, runs};
+use crate::arguments::{Command, Request, Settings, Verb, command_of};
 use crate::numbers::parse_number;
 use std::test::Fail;
 
@@ -51,7 +52,7 @@ fn numbers(rt: HostRuntime) -> Result<(), Fail> {
 
 #[test]
 fn good_words(rt: HostRuntime) -> Result<(), Fail> {
-    let cases: [(&[&str], Command); 12] = [
+    let cases: [(&[&str], Command); 15] = [
         (&["--help"], Command::Help),
         (&["--help", "x"], Command::Help),
         (&["--version"], Command::Version),
@@ -60,42 +61,78 @@ fn good_words(rt: HostRuntime) -> Result<(), Fail> {
             &["distinct", "--limit", "1", "--help", "x"],
             Command::VerbHelp(Verb::Distinct),
         ),
-        (&["distinct"], run(Verb::Distinct, GREATEST, GREATEST)),
-        (&["counts"], run(Verb::Counts, GREATEST, GREATEST)),
-        (
-            &["counts", "--limit", "64K"],
-            run(Verb::Counts, 65536, GREATEST),
-        ),
+        (&["encode", "--help"], Command::VerbHelp(Verb::Encode)),
+        (&["distinct"], Command::Run(Verb::Distinct, PLAIN)),
+        (&["counts"], Command::Run(Verb::Counts, PLAIN)),
+        (&["encode"], Command::Run(Verb::Encode, PLAIN)),
+        (&["encode", "--limit=7"], limited(Verb::Encode, 7)),
+        (&["counts", "--limit", "64K"], limited(Verb::Counts, 65536)),
         (
             &["counts", "--top=3", "--limit=5M"],
-            run(Verb::Counts, 5242880, 3),
+            topped(Some(5242880), 3),
         ),
         (
             &["counts", "--limit", "5", "--top", "0"],
-            run(Verb::Counts, 5, 0),
+            topped(Some(5), 0),
         ),
-        (
-            &["counts", "--top", "1", "--top=2"],
-            run(Verb::Counts, GREATEST, 2),
-        ),
+        (&["counts", "--top", "1", "--top=2"], topped(None, 2)),
         (
             &["distinct", "--limit=2G"],
-            run(Verb::Distinct, 2147483648, GREATEST),
+            limited(Verb::Distinct, 2147483648),
         ),
     ];
     for (words, command) in cases {
-        assert!(rt; command_of(&owned_words(&rt, words)?) == Ok(command));
+        let words = owned_words(&rt, words)?;
+        let Ok(request) = command_of(&words) else {
+            return Err(Fail::from("good words are refused"));
+        };
+        assert!(rt; request.command == command);
+        assert!(rt; request.null.is_none());
     }
     Ok(())
 }
 
-fn run(verb: Verb, limit: usize, top: usize) -> Command {
-    Command::Run(verb, Settings { limit, top })
+fn limited(verb: Verb, limit: usize) -> Command {
+    Command::Run(verb, Settings { limit, ..PLAIN })
+}
+
+fn topped(limit: Option<usize>, top: usize) -> Command {
+    let limit = limit.unwrap_or(GREATEST);
+    Command::Run(
+        Verb::Counts,
+        Settings {
+            limit,
+            top,
+            ..PLAIN
+        },
+    )
+}
+
+#[test]
+fn words_of_a_null(rt: HostRuntime) -> Result<(), Fail> {
+    let cases: [(&[&str], &[u8], bool); 6] = [
+        (&["encode", "--null", "NA"], b"NA", false),
+        (&["encode", "--null=NA", "--binary"], b"NA", true),
+        (&["encode", "--binary", "--null="], b"", true),
+        (&["encode", "--null", "--binary"], b"--binary", false),
+        (&["encode", "--null=a=b"], b"a=b", false),
+        (&["encode", "--null", "a", "--null", "b"], b"b", false),
+    ];
+    for (words, null, binary) in cases {
+        let words = owned_words(&rt, words)?;
+        let settings = Settings { binary, ..PLAIN };
+        let asked = Request {
+            null: Some(null),
+            ..runs(Verb::Encode, settings)
+        };
+        assert!(rt; command_of(&words) == Ok(asked));
+    }
+    Ok(())
 }
 
 #[test]
 fn bad_words_are_named(rt: HostRuntime) -> Result<(), Fail> {
-    let cases: [(&[&str], &str); 15] = [
+    let cases: [(&[&str], &str); 21] = [
         (&[], "no verb (see lasso_codes --help)"),
         (&["count"], "count: no such verb"),
         (&[""], ": no such verb"),
@@ -104,6 +141,12 @@ fn bad_words_are_named(rt: HostRuntime) -> Result<(), Fail> {
         (&["counts", "--helpx"], "--helpx: no such option"),
         (&["distinct", "--top", "1"], "--top: no such option"),
         (&["distinct", "--top=1"], "--top=1: no such option"),
+        (&["distinct", "--null", "x"], "--null: no such option"),
+        (&["counts", "--binary"], "--binary: no such option"),
+        (&["encode", "--top=1"], "--top=1: no such option"),
+        (&["encode", "--binary=1"], "--binary=1: no such option"),
+        (&["encode", "--null"], "--null: a word is missing"),
+        (&["encode", "--limit", "x"], "x: not a number below 2^64"),
         (&["counts", "--limit"], "--limit: a number is missing"),
         (
             &["counts", "--top=1", "--top"],

@@ -1,0 +1,223 @@
+-- Lines that were encoded one after another, and their column.
+--
+-- A number is that of a null, or the position of its line in the list. The list only grows at its end, so a position stays that of its
+-- line, and the numbers stand for the entries of the lines. Where nothing of the input is left all lines were encoded, and the list is
+-- their dictionary. The column is written after that, from the front: what was written when a write fails is a beginning of it.
+use Rattle.std.proofs.Common.{ℕ, ◌≡◌, ◌+◌, ◌<◌, ◌==◌, Bool, true, false, not, cond, List, [], ◌∷◌, ◌++◌, length, map, take, is_some, Option, Some, None, ◌⊎◌, Result, Ok, Err, refl, sym, ap, subst, ◌∙◌, arith, inl, inr}
+use Rattle.std.specs.Prelude.{All, slice_get, IsSomeAnd}
+use Rattle.std.specs.Str.{IsUtf8}
+use Rattle.std.proofs.lemmas.Bool.Decides.{nat_tests}
+use Rattle.std.proofs.lemmas.List.{append-nil}
+use Rattle.std.proofs.lemmas.List.Elements.{filter-append}
+use Rattle.lasso_parts.specs.Texts.{Text, position_of}
+use Rattle.lasso_parts.specs.declared.util.LassoErrorKind.TheVariants.{FailedAllocation}
+use Rattle.lasso_single.specs.Filling.{extend}
+use Rattle.lasso_single.specs.Interner.{InternerView, made_with}
+use Rattle.lasso_single.proofs.Filled.{accepted, extend_push}
+use Rattle.lasso.proofs.Calling.{list_interned}
+use Rattle.lasso_columns.proofs.Coded.{position_stays}
+use Rattle.lasso_columns.proofs.PartLists.{list_extended}
+use Rattle.lasso_columns.specs.Encoding.{spur_at}
+use Rattle.lasso_columns.specs.Faults.{IsFaultOf}
+use Rattle.lasso_columns.specs.Lines.{lines_of}
+use Rattle.lasso_columns.specs.Parts.{new_texts}
+use Rattle.lasso_columns.specs.declared.faults.LineError.{LineError}
+use Rattle.lasso_columns.specs.declared.faults.LineError.TheVariants.{Refused}
+use Rattle.lasso_codes.specs.Columns.{is_null, texts_of, dictionary_of, entry_of, entry_at, column_of, column_bytes}
+use Rattle.lasso_codes.specs.Encode.{IsNumberedAs, IsNumbered, AreNumbered, EncodingFault, EncodeEnd}
+use Rattle.lasso_codes.specs.Fault.{IsReadFault, IsWriteEnd}
+use Rattle.lasso_codes.specs.Streams.{Begins, WritesAll}
+use Rattle.lasso_codes.specs.declared.fault.RunFault.{RunFault}
+use Rattle.lasso_codes.specs.declared.fault.RunFault.TheVariants.{Line, TooManyLines, ReadFailed, WriteFailed, ReaderGone}
+use Rattle.lasso_codes.proofs.Taken.{Taken, taken_none, taken_push, taken_all, taken_first, taken_next}
+
+-- ---- numbers of lines
+
+-- the number of a line is that of a null, or its position, which is not that
+abbrev pub IsEntryAs : Bool → List Text → Text → ℕ → Type 0
+IsEntryAs true list line number = number ≡ 4294967295
+IsEntryAs false list line number = (position_of list line ≡ Some number) × (number < 4294967295)
+
+abbrev pub AreEntries : Option Text → List Text → List Text → List ℕ → Type 0
+AreEntries null list [] [] = Unit {0}
+AreEntries null list [] (n ∷ ns) = ⊥
+AreEntries null list (l ∷ ls) [] = ⊥
+AreEntries null list (l ∷ ls) (n ∷ ns) = IsEntryAs (is_null null l) list l n × AreEntries null list ls ns
+
+entry_stays : (b : Bool) (list : List Text) (last line : Text) (number : ℕ) → IsEntryAs b list line number → IsEntryAs b (list ++ last ∷ []) line number
+entry_stays true list last line number is = is
+entry_stays false list last line number is = (position_stays list last line number is.0, is.1)
+
+entries_longer : (null : Option Text) (list : List Text) (last : Text) (lines : List Text) (numbers : List ℕ) → AreEntries null list lines numbers → AreEntries null (list ++ last ∷ []) lines numbers
+entries_longer null list last [] [] are = are
+entries_longer null list last [] (n ∷ ns) are = are
+entries_longer null list last (l ∷ ls) [] are = are
+entries_longer null list last (l ∷ ls) (n ∷ ns) are = (entry_stays (is_null null l) list last l n are.0, entries_longer null list last ls ns are.1)
+
+-- they stay when another text goes last, or none
+entries_stay : (null : Option Text) (there : Bool) (list : List Text) (last : Text) (lines : List Text) (numbers : List ℕ) → AreEntries null list lines numbers → AreEntries null (cond there list (list ++ last ∷ [])) lines numbers
+entries_stay null true list last lines numbers are = are
+entries_stay null false list last lines numbers are = entries_longer null list last lines numbers are
+
+entries_push : (null : Option Text) (list lines : List Text) (numbers : List ℕ) (line : Text) (number : ℕ) → AreEntries null list lines numbers → IsEntryAs (is_null null line) list line number → AreEntries null list (lines ++ line ∷ []) (numbers ++ number ∷ [])
+entries_push null list [] [] line number are is = (is, tt)
+entries_push null list [] (n ∷ ns) line number are is = absurd are
+entries_push null list (l ∷ ls) [] line number are is = absurd are
+entries_push null list (l ∷ ls) (n ∷ ns) line number are is = (are.0, entries_push null list ls ns line number are.1 is)
+
+entry_is : (b : Bool) (list : List Text) (line : Text) (number : ℕ) → IsEntryAs b list line number → entry_at number ≡ cond b None (position_of list line)
+entry_is true list line number is = ap entry_at is
+entry_is false list line number is =
+    let small : number < 4294967295 = is.1 in
+    let other : number == 4294967295 ≡ false = grind (arith, nat_tests) in
+    let none : Option ℕ = None in
+    ap (λ b. cond b none (Some number)) other ∙ sym is.0
+
+entries_are : (null : Option Text) (list lines : List Text) (numbers : List ℕ) → AreEntries null list lines numbers → map entry_at numbers ≡ map (entry_of null list) lines
+entries_are null list [] [] are = refl
+entries_are null list [] (n ∷ ns) are = absurd are
+entries_are null list (l ∷ ls) [] are = absurd are
+entries_are null list (l ∷ ls) (n ∷ ns) are =
+    let here : entry_at n ≡ entry_of null list l = entry_is (is_null null l) list l n are.0 in
+    let others : map entry_at ns ≡ map (entry_of null list) ls = entries_are null list ls ns are.1 in
+    cc
+
+-- ---- a run on its way
+
+-- these lines were read, and have these numbers
+pub record Encoding (input rest : List ℕ) (number : ℕ) (null : Option Text) (old now : InternerView) (numbers : List ℕ) : Type 0 where
+  pub done : List Text
+  pub taken : Taken input rest number done
+  pub entries : AreEntries null now.texts done numbers
+  pub list : extend spur_at old (texts_of null done) accepted now
+
+pub encoding_none : (input : List ℕ) (null : Option Text) (old : InternerView) (numbers : List ℕ) → numbers ≡ [] → Encoding input input 1 null old old numbers
+encoding_none input null old numbers none = record {
+  done = [];
+  taken = taken_none input;
+  entries = subst (λ ns. AreEntries null old.texts [] ns) (sym none) tt;
+  list = (refl, refl);
+}
+
+texts_push : (null : Option Text) (lines : List Text) (line : Text) (b : Bool) → is_null null line ≡ b → texts_of null (lines ++ line ∷ []) ≡ texts_of null lines ++ cond b [] (line ∷ [])
+texts_push null lines line true e =
+    filter-append (λ l. not (is_null null l)) lines (line ∷ []) ∙ ap (λ b. texts_of null lines ++ cond (not b) (line ∷ []) []) e
+texts_push null lines line false e =
+    filter-append (λ l. not (is_null null l)) lines (line ∷ []) ∙ ap (λ b. texts_of null lines ++ cond (not b) (line ∷ []) []) e
+
+-- the numbers and the list with one line more
+abbrev IsPushed : Option Text → InternerView → List Text → List ℕ → InternerView → Text → ℕ → Type 0
+IsPushed null old done numbers after line entry =
+    AreEntries null after.texts (done ++ line ∷ []) (numbers ++ entry ∷ []) × extend spur_at old (texts_of null (done ++ line ∷ [])) accepted after
+
+numbered_push : (null : Option Text) (old now after : InternerView) (done : List Text) (numbers : List ℕ) (line : Text) (entry : ℕ) (b : Bool) → is_null null line ≡ b → AreEntries null now.texts done numbers → extend spur_at old (texts_of null done) accepted now → IsNumberedAs b now line after entry → IsPushed null old done numbers after line entry
+numbered_push null old now after done numbers line entry true e entries list is =
+    let texts : texts_of null (done ++ line ∷ []) ≡ texts_of null done = texts_push null done line true e ∙ append-nil (texts_of null done) in
+    let here : IsEntryAs (is_null null line) after.texts line entry = subst (λ b. IsEntryAs b after.texts line entry) (sym e) is.1 in
+    let kept : AreEntries null after.texts done numbers = subst (λ (i : InternerView). AreEntries null i.texts done numbers) (sym is.0) entries in
+    let same : extend spur_at old (texts_of null done) accepted after = subst (λ (i : InternerView). extend spur_at old (texts_of null done) accepted i) (sym is.0) list in
+    (entries_push null after.texts done numbers line entry kept here, subst (λ (ts : List Text). extend spur_at old ts accepted after) (sym texts) same)
+numbered_push null old now after done numbers line entry false e entries list is =
+    let key = is.0.0 in
+    let here : IsEntryAs (is_null null line) after.texts line entry = subst (λ b. IsEntryAs b after.texts line entry) (sym e) (is.1, is.2) in
+    let kept : AreEntries null after.texts done numbers =
+    subst (λ (ts : List Text). AreEntries null ts done numbers) (sym (list_interned spur_at now after line key is.0.1)) (entries_stay null (is_some (position_of now.texts line)) now.texts line done numbers entries) in
+    let more : extend spur_at old (texts_of null done ++ line ∷ []) accepted after = extend_push spur_at old now after (texts_of null done) line (Ok key) accepted list is.0.1 refl in
+    (entries_push null after.texts done numbers line entry kept here, subst (λ (ts : List Text). extend spur_at old ts accepted after) (sym (texts_push null done line false e)) more)
+
+-- one line more
+pub encoding_push : (input rest : List ℕ) (number : ℕ) (null : Option Text) (old now after : InternerView) (numbers : List ℕ) (line left : List ℕ) (entry : ℕ) (numbers' : List ℕ) → Encoding input rest number null old now numbers → lines_of rest ≡ line ∷ lines_of left → IsUtf8 line → IsNumbered null now line after entry → numbers' ≡ numbers ++ entry ∷ [] → Encoding input left (number + 1) null old after numbers'
+encoding_push input rest number null old now after numbers line left entry numbers' so_far cut text is grown =
+    let pushed = numbered_push null old now after so_far.done numbers line entry (is_null null line) refl so_far.entries so_far.list is in
+    record {
+      done = so_far.done ++ line ∷ [];
+      taken = taken_push input rest number so_far.done line left so_far.taken cut text;
+      entries = subst (λ ns. AreEntries null after.texts (so_far.done ++ line ∷ []) ns) (sym grown) pushed.0;
+      list = pushed.1;
+    }
+
+module _ (input rest : List ℕ) (number : ℕ) (null : Option Text) (old now : InternerView) (numbers : List ℕ) (so_far : Encoding input rest number null old now numbers) where
+  -- the input has ended
+  pub encoding_ends : old.texts ≡ [] → rest ≡ [] → All IsUtf8 (lines_of input) × AreNumbered null (lines_of input) now.texts numbers
+  encoding_ends empty none =
+      let all : lines_of input ≡ so_far.done = taken_all input rest number so_far.done so_far.taken none in
+      let list : now.texts ≡ dictionary_of null so_far.done =
+      list_extended old now (texts_of null so_far.done) so_far.list ∙ ap (λ (ts : List Text). ts ++ new_texts ts (texts_of null so_far.done)) empty in
+      let entries : map entry_at numbers ≡ map (entry_of null (dictionary_of null so_far.done)) so_far.done =
+      entries_are null now.texts so_far.done numbers so_far.entries ∙ ap (λ (ts : List Text). map (entry_of null ts) so_far.done) list in (
+        subst (λ (ls : List Text). All IsUtf8 ls) (sym all) so_far.taken.texts,
+        subst (λ (ls : List Text). AreNumbered null ls now.texts numbers) (sym all) (list, entries),
+      )
+
+  pub encoding_read_fails : (limit : ℕ) (fault : RunFault) → IsReadFault number fault → EncodingFault limit null (lines_of input) fault
+  encoding_read_fails limit (Line error) is = (length so_far.done, inr (inl (is ∙ ap (λ n. Refused n FailedAllocation) (sym so_far.taken.counted))))
+  encoding_read_fails limit TooManyLines is = absurd is
+  encoding_read_fails limit ReadFailed is = tt
+  encoding_read_fails limit WriteFailed is = absurd is
+  encoding_read_fails limit ReaderGone is = absurd is
+
+  -- the next line is faulty
+  pub encoding_line_fails : (limit : ℕ) (line left : List ℕ) (error : LineError) → old ≡ made_with 4096 limit → lines_of rest ≡ line ∷ lines_of left → IsFaultOf now line number error → EncodingFault limit null (lines_of input) (Line error)
+  encoding_line_fails limit line left error made cut fault =
+      let list : extend spur_at (made_with 4096 limit) (texts_of null so_far.done) accepted now = subst (λ (i : InternerView). extend spur_at i (texts_of null so_far.done) accepted now) made so_far.list in
+      let first : extend spur_at (made_with 4096 limit) (texts_of null (take (length so_far.done) (lines_of input))) accepted now =
+      subst (λ (ls : List Text). extend spur_at (made_with 4096 limit) (texts_of null ls) accepted now) (sym (taken_first input rest number so_far.done so_far.taken)) list in
+      let faulty : IsFaultOf now line (length so_far.done + 1) error = subst (λ n. IsFaultOf now line n error) (sym so_far.taken.counted) fault in
+      let next : IsSomeAnd (slice_get (lines_of input) (length so_far.done)) (λ l. IsFaultOf now l (length so_far.done + 1) error) =
+      subst (λ o. IsSomeAnd o (λ l. IsFaultOf now l (length so_far.done + 1) error)) (sym (taken_next input rest number so_far.done line (lines_of left) so_far.taken cut)) faulty in
+      (length so_far.done, inr (inr (now, first, next)))
+
+-- ---- the column
+
+written_end : (input : List ℕ) (limit : ℕ) (null : Option Text) (binary : Bool) (part : List ℕ) (result : Result (Unit {0}) RunFault) → All IsUtf8 (lines_of input) → WritesAll (column_bytes binary null (lines_of input)) result part → EncodeEnd input limit null binary part result
+written_end input limit null binary part (Ok x) texts written = (texts, written)
+written_end input limit null binary part (Err (Line error)) texts written = absurd written.0
+written_end input limit null binary part (Err TooManyLines) texts written = absurd written.0
+written_end input limit null binary part (Err ReadFailed) texts written = absurd written.0
+written_end input limit null binary part (Err WriteFailed) texts written = written.1
+written_end input limit null binary part (Err ReaderGone) texts written = written.1
+
+-- a column is written, or a beginning of it
+pub column_written : (input : List ℕ) (limit : ℕ) (null : Option Text) (binary : Bool) (list : List Text) (numbers : List ℕ) (part : List ℕ) (result : Result (Unit {0}) RunFault) → All IsUtf8 (lines_of input) → AreNumbered null (lines_of input) list numbers → WritesAll (column_of binary list (map entry_at numbers)) result part → EncodeEnd input limit null binary part result
+column_written input limit null binary list numbers part result texts are written =
+    let lines = lines_of input in
+    let dictionary = dictionary_of null lines in
+    let whole : column_of binary list (map entry_at numbers) ≡ column_bytes binary null lines =
+    ap (λ (ts : List Text). column_of binary ts (map entry_at numbers)) are.0 ∙ ap (column_of binary dictionary) are.1 in
+    written_end input limit null binary part result texts (subst (λ bs. WritesAll bs result part) whole written)
+
+-- lines were not encoded, and nothing is written
+pub none_written : (input : List ℕ) (limit : ℕ) (null : Option Text) (binary : Bool) (fault : RunFault) → EncodingFault limit null (lines_of input) fault → EncodeEnd input limit null binary [] (Err fault)
+none_written input limit null binary (Line error) is = (refl, is)
+none_written input limit null binary TooManyLines is = refl
+none_written input limit null binary ReadFailed is = refl
+none_written input limit null binary WriteFailed is = absurd is
+none_written input limit null binary ReaderGone is = absurd is
+
+-- there was no memory at no line
+pub unmade : (limit : ℕ) (null : Option Text) (lines : List Text) (fault : RunFault) → fault ≡ Line (Refused 0 FailedAllocation) → EncodingFault limit null lines fault
+unmade limit null lines fault is = subst (EncodingFault limit null lines) (sym is) (0, inl refl)
+
+nothing_begins : (part whole : List ℕ) → part ≡ [] → Begins part whole
+nothing_begins part whole none = (whole, ap (λ bs. bs ++ whole) (sym none))
+
+end_begun : (input : List ℕ) (limit : ℕ) (null : Option Text) (binary : Bool) (part : List ℕ) (result : Result (Unit {0}) RunFault) → EncodeEnd input limit null binary part result → Begins part (column_bytes binary null (lines_of input))
+end_begun input limit null binary part (Ok x) end = ([], sym end.1 ∙ sym (append-nil part))
+end_begun input limit null binary part (Err (Line error)) end = nothing_begins part (column_bytes binary null (lines_of input)) end.0
+end_begun input limit null binary part (Err TooManyLines) end = nothing_begins part (column_bytes binary null (lines_of input)) end
+end_begun input limit null binary part (Err ReadFailed) end = nothing_begins part (column_bytes binary null (lines_of input)) end
+end_begun input limit null binary part (Err WriteFailed) end = end
+end_begun input limit null binary part (Err ReaderGone) end = end
+
+write_end : (input : List ℕ) (limit : ℕ) (null : Option Text) (binary : Bool) (part : List ℕ) (result : Result (Unit {0}) RunFault) → Begins part (column_bytes binary null (lines_of input)) → IsWriteEnd result → EncodeEnd input limit null binary part result
+write_end input limit null binary part (Ok x) begun is = absurd is
+write_end input limit null binary part (Err (Line error)) begun is = absurd is
+write_end input limit null binary part (Err TooManyLines) begun is = absurd is
+write_end input limit null binary part (Err ReadFailed) begun is = absurd is
+write_end input limit null binary part (Err WriteFailed) begun is = begun
+write_end input limit null binary part (Err ReaderGone) begun is = begun
+
+-- a run that ends as it did, or with a failed flush
+pub end_then : (input : List ℕ) (limit : ℕ) (null : Option Text) (binary : Bool) (part : List ℕ) (given result : Result (Unit {0}) RunFault) → EncodeEnd input limit null binary part given → (result ≡ given) ⊎ IsWriteEnd result → EncodeEnd input limit null binary part result
+end_then input limit null binary part given result end (inl same) = subst (EncodeEnd input limit null binary part) (sym same) end
+end_then input limit null binary part given result end (inr is) = write_end input limit null binary part result (end_begun input limit null binary part given end) is

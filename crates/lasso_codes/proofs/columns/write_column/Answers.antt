@@ -1,0 +1,48 @@
+use Rattle.std.proofs.Common.{ℕ, ◌≡◌, ◌++◌, List, Err, length, map, sym, subst}
+use Rattle.std.specs.Prelude.{flat_map}
+use Rattle.std.proofs.lemmas.List.{length-map}
+use Rattle.std.proofs.lemmas.Result.{err_from_is_err_and}
+use Rattle.lasso_codes.specs.Columns.{entry_at, entry_bytes, header}
+use Rattle.lasso_codes.specs.Distinct.{with_feed}
+use Rattle.lasso_codes.specs.Streams.{Writes, WritesAll}
+use Rattle.lasso_codes.proofs.Flat.{flat_seen}
+use Rattle.lasso_codes.proofs.Written.{writes_front, writes_front_fails}
+use Rattle.lasso_codes.proofs.columns.write_column.Goals as goal
+
+pub returns-in_err-write_header : goal.returns-in_err-write_header
+returns-in_err-write_header g c =
+    let p = err_from_is_err_and c.from_residual.result c.from_residual.ensures.1 in
+    let texts = c.args.rodeo.now.texts in
+    let entries = map entry_at c.args.numbers.now in
+    let distinct : c.len-distinct.result ≡ length texts = c.len-distinct.ensures.value in
+    let lines : length c.args.numbers.now ≡ length entries = sym (length-map c.args.numbers.now entry_at) in
+    let head = rw (distinct, lines) at c.in_err-write_header.ensures in
+    let body = flat_map with_feed texts ++ flat_map (entry_bytes c.args.binary) entries in
+    rw (p.1, p.2) (writes_front_fails _ _ (header c.args.binary (length texts) (length entries)) body c.in_err-write_header.field-0.0 head)
+
+pub returns-in_err-write_texts : goal.returns-in_err-write_texts
+returns-in_err-write_texts g c =
+    let p = err_from_is_err_and c.from_residual-in_err-write_texts.result c.from_residual-in_err-write_texts.ensures.1 in
+    let texts = c.args.rodeo.now.texts in
+    let entries = map entry_at c.args.numbers.now in
+    let distinct : c.len-distinct.result ≡ length texts = c.len-distinct.ensures.value in
+    let lines : length c.args.numbers.now ≡ length entries = sym (length-map c.args.numbers.now entry_at) in
+    let head = rw (distinct, lines) at c.in_ok-write_header.ensures in
+    let front = flat_map with_feed texts in
+    let back = flat_map (entry_bytes c.args.binary) entries in
+    let fault = c.in_err-write_texts.field-0.0 in
+    rw (p.1, p.2) (writes_front _ _ _ (header c.args.binary (length texts) (length entries)) (front ++ back) (Err fault) head (writes_front_fails _ _ front back fault c.in_err-write_texts.ensures))
+
+pub returns : goal.returns
+returns g c =
+    let texts = c.args.rodeo.now.texts in
+    let numbers = c.args.numbers.now in
+    let entries = map entry_at numbers in
+    let distinct : c.len-distinct.result ≡ length texts = c.len-distinct.ensures.value in
+    let lines : length numbers ≡ length entries = sym (length-map numbers entry_at) in
+    let head = rw (distinct, lines) at c.in_ok-write_header.ensures in
+    let front = flat_map with_feed texts in
+    let back = flat_map (entry_bytes c.args.binary) entries in
+    let result = c.write_entries.result in
+    let written = subst (λ bs. Writes (g.W.Write.contents c.write_texts.new.output) (g.W.Write.contents c.write_entries.new.output) (WritesAll bs result)) (sym (flat_seen (entry_bytes c.args.binary) entry_at numbers)) c.write_entries.ensures in
+    writes_front _ _ _ (header c.args.binary (length texts) (length entries)) (front ++ back) result head (writes_front _ _ _ front back result c.in_ok-write_texts.ensures written)

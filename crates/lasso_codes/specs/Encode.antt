@@ -1,0 +1,62 @@
+-- What `encode` writes, and how it ends.
+use Rattle.std.specs.Prelude.{ℕ, ◌≡◌, ◌+◌, ◌<◌, ◌⊎◌, Bool, true, false, List, [], map, All, take, Option, Some, Result, Ok, MatchResult, IsSomeAnd, slice_get}
+use Rattle.std.specs.Str.{IsUtf8}
+use Rattle.lasso_parts.specs.Texts.{Text, position_of}
+use Rattle.lasso_parts.specs.declared.util.LassoErrorKind.TheVariants.{FailedAllocation}
+use Rattle.lasso_single.specs.Filling.{extend}
+use Rattle.lasso_single.specs.Intern.{InternsIn}
+use Rattle.lasso_single.specs.Interner.{InternerView, made_with}
+use Rattle.lasso_columns.specs.Encoding.{spur_at}
+use Rattle.lasso_columns.specs.Faults.{IsFaultOf}
+use Rattle.lasso_columns.specs.Lines.{lines_of}
+use Rattle.lasso_columns.specs.declared.faults.LineError.{LineError}
+use Rattle.lasso_columns.specs.declared.faults.LineError.TheVariants.{Refused}
+use Rattle.lasso_codes.specs.Columns.{is_null, texts_of, dictionary_of, entry_of, entry_at, column_bytes}
+use Rattle.lasso_codes.specs.Streams.{Begins}
+use Rattle.lasso_codes.specs.declared.fault.RunFault.{RunFault}
+use Rattle.lasso_codes.specs.declared.fault.RunFault.TheVariants.{Line, TooManyLines, ReadFailed, WriteFailed, ReaderGone}
+
+-- a null changes nothing, and its number is no code; another line is interned, and its number is its code
+abbrev pub IsNumberedAs : Bool → InternerView → Text → InternerView → ℕ → Type 0
+IsNumberedAs true old line new number = (new ≡ old) × (number ≡ 4294967295)
+IsNumberedAs false old line new number =
+    ((key : ℕ) × InternsIn {K = ℕ} spur_at old line (Ok key) new) × (position_of new.texts line ≡ Some number) × (number < 4294967295)
+
+-- the line got this number
+abbrev pub IsNumbered : Option Text → InternerView → Text → InternerView → ℕ → Type 0
+IsNumbered null old line new number = IsNumberedAs (is_null null line) old line new number
+
+-- the list is the dictionary of the lines, and the numbers stand for their entries
+abbrev pub AreNumbered : Option Text → List Text → List Text → List ℕ → Type 0
+AreNumbered null lines list numbers = (list ≡ dictionary_of null lines) × (map entry_at numbers ≡ map (entry_of null (dictionary_of null lines)) lines)
+
+-- so many lines were encoded with this limit, and there was no memory for the next one, or it is faulty; number 0: there was no
+-- memory at no line
+abbrev pub IsEncodeFault : ℕ → Option Text → List Text → ℕ → LineError → Type 0
+IsEncodeFault limit null lines n error =
+    (error ≡ Refused 0 FailedAllocation)
+    ⊎ ((error ≡ Refused (n + 1) FailedAllocation)
+    ⊎ ((now : InternerView) × extend spur_at (made_with 4096 limit) (texts_of null (take n lines)) (Ok tt) now
+    × IsSomeAnd (slice_get lines n) (λ line. IsFaultOf now line (n + 1) error)))
+
+-- why lines were not encoded
+abbrev pub EncodingFault : ℕ → Option Text → List Text → RunFault → Type 0
+EncodingFault limit null lines (Line error) = (n : ℕ) × IsEncodeFault limit null lines n error
+EncodingFault limit null lines TooManyLines = Unit {0}
+EncodingFault limit null lines ReadFailed = Unit {0}
+EncodingFault limit null lines WriteFailed = ⊥
+EncodingFault limit null lines ReaderGone = ⊥
+
+-- how a run ends that has written the part: nothing is written where the lines were not all encoded
+abbrev pub EncodeFault : ℕ → Option Text → Bool → List Text → List ℕ → RunFault → Type 0
+EncodeFault limit null binary lines part (Line error) = (part ≡ []) × EncodingFault limit null lines (Line error)
+EncodeFault limit null binary lines part TooManyLines = part ≡ []
+EncodeFault limit null binary lines part ReadFailed = part ≡ []
+EncodeFault limit null binary lines part WriteFailed = Begins part (column_bytes binary null lines)
+EncodeFault limit null binary lines part ReaderGone = Begins part (column_bytes binary null lines)
+
+-- without a fault all lines are text, and the part is their column
+abbrev pub EncodeEnd : List ℕ → ℕ → Option Text → Bool → List ℕ → Result (Unit {0}) RunFault → Type 0
+EncodeEnd input limit null binary part result =
+    MatchResult result (λ _. All IsUtf8 (lines_of input) × (part ≡ column_bytes binary null (lines_of input)))
+    (EncodeFault limit null binary (lines_of input) part)

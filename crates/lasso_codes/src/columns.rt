@@ -1,0 +1,99 @@
+//! A column: a header line, the dictionary's lines in the order of their codes, and an entry for each line.
+ghost use Rattle.std.specs.Prelude.{◌≡◌, ◌++◌, ◌∷◌, [], map, decimal, flat_map};
+ghost use Rattle.lasso_codes.specs.Columns.{column_of, entry_at, entry_bytes, header, header_front};
+ghost use Rattle.lasso_codes.specs.Distinct.{with_feed};
+ghost use Rattle.lasso_codes.specs.Streams.{Writes, WritesAll};
+
+use crate::fault::RunFault;
+use crate::output::{write_bytes, write_line, write_number};
+use lasso::SpurRodeo;
+use lasso::index::Texts;
+use std::io::Write;
+
+/// The number of a null, which is no code.
+pub const NULL: u32 = u32::MAX;
+
+/// Writes the column of the interner's texts and of the entries with these numbers: codes, and `NULL` for a null.
+///
+/// # Errors
+/// As `write_bytes`.
+pub fn write_column<W: Write>(
+    output: &mut W,
+    rodeo: &SpurRodeo,
+    numbers: &[u32],
+    binary: bool,
+) -> Result<(), RunFault>
+    ensures { Writes (W.contents output.old) (W.contents output.new) (WritesAll (column_of binary rodeo.now.texts (map entry_at numbers.now)) result) }
+{
+    let distinct = rodeo.len();
+    let lines = numbers.len();
+    write_header(output, binary, distinct as u64, lines as u64)?;
+    write_texts(output, rodeo)?;
+    write_entries(output, binary, numbers)
+}
+
+// Writes the header line.
+fn write_header<W: Write>(
+    output: &mut W,
+    binary: bool,
+    distinct: u64,
+    lines: u64,
+) -> Result<(), RunFault>
+    ensures { Writes (W.contents output.old) (W.contents output.new) (WritesAll (header binary distinct lines) result) }
+{
+    write_front(output, binary)?;
+    write_number_and(output, distinct, b" ")?;
+    write_number_and(output, lines, b"\n")
+}
+
+// Writes what is before the numbers of the header.
+fn write_front<W: Write>(output: &mut W, binary: bool) -> Result<(), RunFault>
+    ensures { Writes (W.contents output.old) (W.contents output.new) (WritesAll (header_front binary) result) }
+{
+    if binary {
+        write_bytes(output, b"lasso-codes 1 binary ")
+    } else {
+        write_bytes(output, b"lasso-codes 1 text ")
+    }
+}
+
+// Writes the number's digits and the bytes after them.
+fn write_number_and<W: Write>(output: &mut W, number: u64, after: &[u8]) -> Result<(), RunFault>
+    ensures { Writes (W.contents output.old) (W.contents output.new) (WritesAll (decimal number ++ after.now) result) }
+{
+    write_number(output, number)?;
+    write_bytes(output, after)
+}
+
+// Writes each text as a line.
+fn write_texts<W: Write>(output: &mut W, rodeo: &SpurRodeo) -> Result<(), RunFault>
+    ensures { Writes (W.contents output.old) (W.contents output.new) (WritesAll (flat_map with_feed rodeo.now.texts) result) }
+{
+    for position in 0..rodeo.len() {
+        write_line(output, rodeo.text_at(position).as_bytes())?;
+    }
+    Ok(())
+}
+
+// Writes the entry of each number.
+fn write_entries<W: Write>(output: &mut W, binary: bool, numbers: &[u32]) -> Result<(), RunFault>
+    ensures { Writes (W.contents output.old) (W.contents output.new) (WritesAll (flat_map (λ n. entry_bytes binary (entry_at n)) numbers.now) result) }
+{
+    for number in numbers {
+        write_entry(output, binary, *number)?;
+    }
+    Ok(())
+}
+
+// Writes the entry of the number.
+fn write_entry<W: Write>(output: &mut W, binary: bool, number: u32) -> Result<(), RunFault>
+    ensures { Writes (W.contents output.old) (W.contents output.new) (WritesAll (entry_bytes binary (entry_at number)) result) }
+{
+    if binary {
+        return write_bytes(output, &number.to_le_bytes());
+    }
+    if number == NULL {
+        return write_bytes(output, b"-\n");
+    }
+    write_number_and(output, u64::from(number), b"\n")
+}
