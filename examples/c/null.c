@@ -30,6 +30,15 @@ int main(void)
     CHECK(lasso_encode(bytes, 6, offsets, 4, NULL, 0, NULL, 0, NULL, 0, &report) == LASSO_CODES_TOO_SHORT);
     CHECK(tells(&report, 2, 3, 0));
 
+    /* "red", a null and "": without a bitmap "red" is there twice. */
+    const uint8_t present[] = {5};
+    uint8_t texts[3];
+    CHECK(lasso_encode_nulls(bytes, 6, offsets, 4, present, 1, LASSO_NULL, codes, 3, texts, 3, written, 3, &report) == LASSO_DONE);
+    CHECK(tells(&report, 2, 3, 0) && codes[0] == 0 && codes[1] == LASSO_NULL && codes[2] == 1);
+    CHECK(lasso_encode_nulls(bytes, 6, offsets, 4, NULL, 0, LASSO_NULL, codes, 3, texts, 3, written, 3, &report) == LASSO_DONE);
+    CHECK(tells(&report, 2, 3, 0) && codes[0] == 0 && codes[1] == 0 && codes[2] == 1);
+    CHECK(lasso_encode_nulls(NULL, 0, NULL, 0, NULL, 0, LASSO_NULL, NULL, 0, NULL, 0, written, 1, &report) == LASSO_DONE);
+
     CHECK(lasso_decode(NULL, 0, NULL, 0, NULL, 0, NULL, 0, written, 1, &report) == LASSO_DONE);
     CHECK(tells(&report, 0, 0, 0) && written[0] == 0);
     codes[0] = 1;
@@ -40,6 +49,7 @@ int main(void)
     CHECK(lasso_status_text(LASSO_DONE, NULL, 0) == strlen("done"));
 
     /* The empty text, in an interner. */
+    const uint8_t absent[] = {0};
     struct lasso lasso = LASSO_NONE;
     uint32_t code = 7;
     size_t whole = 7;
@@ -48,6 +58,11 @@ int main(void)
     CHECK(lasso_intern_batch(&lasso, NULL, 0, NULL, 0, NULL, 0, &report) == LASSO_DONE && tells(&report, 0, 0, 0));
     CHECK(lasso_intern(&lasso, NULL, 0, &code) == LASSO_DONE && code == 0);
     CHECK(lasso_get(&lasso, NULL, 0, &code) == LASSO_DONE && code == 0);
+    CHECK(lasso_intern_batch_nulls(&lasso, bytes, 3, empty_texts, 2, NULL, 0, LASSO_NULL, codes, 1, &report) == LASSO_DONE);
+    CHECK(tells(&report, 1, 0, 0) && codes[0] == 0);
+    CHECK(lasso_intern_batch_nulls(&lasso, bytes, 6, offsets, 2, NULL, 0, LASSO_NULL, NULL, 0, &report) == LASSO_CODES_TOO_SHORT);
+    CHECK(lasso_intern_batch_nulls(&lasso, bytes, 6, offsets, 2, absent, 1, LASSO_NULL, codes, 1, &report) == LASSO_DONE);
+    CHECK(tells(&report, 1, 0, 0) && codes[0] == LASSO_NULL);
     CHECK(lasso_get_batch(&lasso, NULL, 0, NULL, 0, LASSO_ABSENT, NULL, 0, &report) == LASSO_DONE && tells(&report, 0, 0, 0));
     CHECK(lasso_get_batch(&lasso, bytes, 6, offsets, 4, LASSO_ABSENT, NULL, 0, &report) == LASSO_CODES_TOO_SHORT);
     CHECK(tells(&report, 3, 0, 0));

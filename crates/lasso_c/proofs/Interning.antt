@@ -49,39 +49,3 @@ position_interned texts text key is = position_interned_by (position_of texts te
 pub new_bytes : (there : Bool) (texts : List Text) (text : Text) → length (concat (if there then texts else texts ++ text ∷ [])) ≤ length (concat texts) + length text
 new_bytes true texts text = omega arith
 new_bytes false texts text = omega (arith, ap length (concat-append texts (text ∷ [])), length-append (concat texts) (text ++ []), length-append text [])
-
--- the texts that a layout still has from an offset on are still to be interned
-pub record Interning (bytes offsets : List ℕ) (at from : ℕ) (rest : List ℕ) (texts : List Text) (found : List ℕ) : Type 0 where
-  pub layout : layout_fault bytes offsets ≡ texts_fault bytes at from rest
-  pub dictionary : dictionary_of (layout_texts bytes offsets) ≡ with_all_new texts (texts_from bytes from rest)
-  pub codes : codes_of (dictionary_of (layout_texts bytes offsets)) (layout_texts bytes offsets) ≡ found ++ codes_of (dictionary_of (layout_texts bytes offsets)) (texts_from bytes from rest)
-  pub small : length (concat texts) ≤ from
-  pub within : from ≤ reach bytes
-
-module _ (bytes offsets : List ℕ) (at from to : ℕ) (texts : List Text) (codes : List ℕ) where
-  -- the next text is interned
-  interned_next : (rest : List ℕ) (text : Text) (code : ℕ) → Interning bytes offsets at from (to ∷ rest) texts codes → text ≡ slice_range bytes from to → from ≤ to → to ≤ reach bytes → text_fault bytes at from to ≡ None → position_of (with_new texts text) text ≡ Some code → Interning bytes offsets (at + 1) to rest (with_new texts text) (codes ++ code ∷ [])
-  interned_next rest text code i is rises within good found =
-      let whole = dictionary_of (layout_texts bytes offsets) in
-      let more = texts_from bytes to rest in
-      let left : whole ≡ with_all_new (with_new texts text) more = i.dictionary ∙ ap (λ t. with_all_new (with_new texts t) more) (sym is) in
-      let last : position_of whole text ≡ Some code = ap (λ d. position_of d text) left ∙ position_stays (with_new texts text) more text code found in
-      let first : unwrap_or (position_of whole (slice_range bytes from to)) 0 ≡ code = ap (λ t. unwrap_or (position_of whole t) 0) (sym is) ∙ ap (λ o. unwrap_or o 0) last in
-      record {
-        layout = i.layout ∙ fault_step bytes at from to rest good;
-        dictionary = left;
-        codes = i.codes ∙ ap (λ c. codes ++ c ∷ codes_of whole more) first ∙ sym (append_assoc codes (code ∷ []) (codes_of whole more));
-        small = let new = new_bytes (is_some (position_of texts text)) texts text in let long : length text ≡ to - from = ap length is ∙ length-between bytes from to (omega arith) in omega (arith, i.small);
-        within = within;
-      }
-
-module _ (bytes offsets : List ℕ) (at from : ℕ) (rest : List ℕ) (texts : List Text) (codes : List ℕ) where
-  -- the same, at a position of the offsets
-  pub interned_more : (text : Text) (code : ℕ) → Interning bytes offsets at from (drop at rest) texts codes → at < length rest → text ≡ slice_range bytes from (get_or rest at 0) → from ≤ get_or rest at 0 → get_or rest at 0 ≤ reach bytes → text_fault bytes at from (get_or rest at 0) ≡ None → position_of (with_new texts text) text ≡ Some code → Interning bytes offsets (at + 1) (get_or rest at 0) (drop (at + 1) rest) (with_new texts text) (codes ++ code ∷ [])
-  interned_more text code i small is rises within good found =
-      interned_next bytes offsets at from (get_or rest at 0) texts codes (drop (at + 1) rest) text code (subst (λ r. Interning bytes offsets at from r texts codes) (drop_more rest at 0 small) i) is rises within good found
-
-  -- the next text is the first wrong one
-  pub wrong_next : (refusal : Refusal) → Interning bytes offsets at from (drop at rest) texts codes → at < length rest → text_fault bytes at from (get_or rest at 0) ≡ Some refusal → layout_fault bytes offsets ≡ Some refusal
-  wrong_next refusal i small wrong =
-      i.layout ∙ ap (λ r. texts_fault bytes at from r) (drop_more rest at 0 small) ∙ fault_here bytes at from (get_or rest at 0) (drop (at + 1) rest) refusal wrong

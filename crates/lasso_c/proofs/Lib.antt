@@ -3,7 +3,9 @@ pub mod Writing
 pub mod Interning
 pub mod Measuring
 pub mod RoundTrip
+pub mod Rows
 pub mod BatchSteps
 pub mod LayoutSteps
+pub mod Columns
 pub mod SlotValues
 pub mod Loading

@@ -6,8 +6,8 @@
 
 ghost use Rattle.std.specs.Prelude.{◌≡◌, ◌⊎◌, Err, length, take};
 ghost use Rattle.std.specs.List.{concat};
-ghost use Rattle.lasso_c.specs.Layout.{layout_texts, offsets_from, over};
-ghost use Rattle.lasso_c.specs.Encoding.{dictionary_of, codes_of, encoding_outcome};
+ghost use Rattle.lasso_c.specs.Layout.{column_rows, layout_texts, offsets_from, over, present_texts};
+ghost use Rattle.lasso_c.specs.Encoding.{column_outcome, codes_of, dictionary_of, encoding_outcome, row_codes};
 ghost use Rattle.lasso_c.specs.Decoding.{texts_named, decoding_outcome};
 ghost use Rattle.lasso_c.specs.Status.{Reports, status_text};
 ghost use Rattle.lasso_c.specs.declared.refusal.Refusal.TheVariants.{NoMemory};
@@ -21,6 +21,9 @@ pub mod interner;
 mod interner_tests;
 pub mod laws;
 mod layout;
+#[cfg(test)]
+mod null_tests;
+mod nulls;
 pub mod refusal;
 pub mod slot;
 #[cfg(test)]
@@ -58,6 +61,45 @@ pub extern "C" fn lasso_encode(
         alloc,
         bytes,
         offsets,
+        codes,
+        dictionary_bytes,
+        dictionary_offsets,
+    );
+    refusal::tell(&outcome, report)
+}
+
+/// The same for a column with nulls: bit i of byte i / 8 of `present`, counted from the least, is 1 where row i is present, and without
+/// a byte each is. A null has the code `null`, and its bytes are in no dictionary.
+#[unsafe(no_mangle)]
+pub extern "C" fn lasso_encode_nulls(
+    alloc: Global,
+    bytes: &[u8],
+    offsets: &[u32],
+    present: &[u8],
+    null: u32,
+    codes: &mut [u32],
+    dictionary_bytes: &mut [u8],
+    dictionary_offsets: &mut [u32],
+    report: &mut LassoReport,
+) -> u32
+    ensures outcome { Reports (column_outcome present.now bytes.now offsets.now (length codes.old) (length dictionary_offsets.old) (length dictionary_bytes.old)) result report.new
+        ⊎ Reports (Err NoMemory) result report.new }
+
+    ensures codes { result ≡ 0 → (let rows = column_rows present.now bytes.now offsets.now in
+        codes.new ≡ over (row_codes null (dictionary_of (present_texts rows)) rows) codes.old) }
+    ensures dictionary_bytes { result ≡ 0 → dictionary_bytes.new ≡ over (concat (dictionary_of (present_texts (column_rows present.now bytes.now offsets.now)))) dictionary_bytes.old }
+    ensures dictionary_offsets { result ≡ 0 → dictionary_offsets.new ≡ over (offsets_from 0 (dictionary_of (present_texts (column_rows present.now bytes.now offsets.now)))) dictionary_offsets.old }
+
+    ensures codes_kept { ¬ (result ≡ 0) → codes.new ≡ codes.old }
+    ensures dictionary_bytes_kept { ¬ (result ≡ 0) → dictionary_bytes.new ≡ dictionary_bytes.old }
+    ensures dictionary_offsets_kept { ¬ (result ≡ 0) → dictionary_offsets.new ≡ dictionary_offsets.old }
+{
+    let outcome = encoding::encode_rows(
+        alloc,
+        bytes,
+        offsets,
+        present,
+        null,
         codes,
         dictionary_bytes,
         dictionary_offsets,

@@ -1,0 +1,35 @@
+//! Columns with nulls: which rows are present, by a bitmap as Arrow has it, and what is wrong with a null.
+ghost use Rattle.std.specs.Prelude.{◌≡◌, ◌+◌, ◌<◌, ◌*◌, IsTrue, None, length};
+ghost use Rattle.std.specs.Result.{result_err};
+ghost use Rattle.lasso_c.specs.Layout.{bits_fit, null_fault, present_at};
+
+use crate::layout::reach;
+use crate::refusal::Refusal;
+
+// Whether the bitmap has a bit for each of so many rows, or is none.
+pub(crate) fn fit(bits: &[u8], rows: usize) -> bool
+    ensures { result ≡ bits_fit bits.now rows }
+{
+    bits.is_empty() || rows.div_ceil(8) <= bits.len()
+}
+
+// Whether the row of this number is present.
+pub(crate) fn is_present(bits: &[u8], at: usize) -> bool
+    requires { IsTrue (bits_fit bits.now (at + 1)) }
+    ensures { result ≡ present_at bits.now at }
+{
+    bits.is_empty() || (bits[at / 8] >> (at % 8)) & 1 == 1
+}
+
+// Finds what is wrong with the null of this number between two offsets.
+pub(crate) fn check_null(bytes: &[u8], at: usize, from: usize, to: usize) -> Result<(), Refusal>
+    ensures { result_err result ≡ null_fault bytes.now at from to }
+{
+    if to < from {
+        return Err(Refusal::OffsetsFall(at));
+    }
+    if to > reach(bytes) {
+        return Err(Refusal::OffsetPastBytes(at));
+    }
+    Ok(())
+}
