@@ -10,7 +10,7 @@ use Rattle.lasso_parts.specs.Texts.{Text, position_of, IsDistinct}
 use Rattle.lasso_parts.proofs.TextLemmas.{position_here}
 use Rattle.lasso_columns.specs.Codes.{AreCodes}
 use Rattle.lasso_columns.proofs.Shared.{codes_past}
-use Rattle.lasso_lines.specs.Ordered.{AreSameTexts, IsNamed, AreNamed, WritesNamed, WritesOrdered}
+use Rattle.lasso_lines.specs.Ordered.{AreSameTexts, IsNamed, AreNamed, WritesNamed, WritesOrdered, BeginsNamed, BeginsOrdered}
 use Rattle.lasso_lines.specs.Shares.{AreCodesOf}
 use Rattle.lasso_lines.specs.Stream.{Grows, Stays}
 use Rattle.lasso_lines.specs.declared.fault.RunFault.{RunFault}
@@ -71,6 +71,11 @@ module _ (list later lines : List Text) (codes : List ℕ) (begins : IsPrefix li
   writes_lines before mid after (Ok x) stays grown =
       grows_as before after (WritesNamed later codes) (WritesOrdered lines) (stays_grows before mid after (WritesNamed later codes) stays grown) (λ part w. (w.0, w.1, named_are_lines w.0 w.2, w.3))
   writes_lines before mid after (Err fault) stays none = tt
+
+  -- and a beginning of the named texts is a beginning of the lines in order
+  pub begins_lines : (before mid after : Option (List ℕ)) → Stays before mid → Grows mid after (BeginsNamed later codes) → Grows before after (BeginsOrdered lines)
+  begins_lines before mid after stays grown =
+      grows_as before after (BeginsNamed later codes) (BeginsOrdered lines) (stays_grows before mid after (BeginsNamed later codes) stays grown) (λ part b some. (b.0, (b.1.0, b.1.1, named_are_lines b.1.0 b.1.2, b.1.3), b.2))
 
 -- ---- what the marks keep
 
