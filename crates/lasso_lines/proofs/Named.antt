@@ -2,7 +2,7 @@
 --
 -- A code names the text at its position. Where codes are the positions of some texts in a list, each of these texts is named, and a
 -- text that is named is one of them, since no two texts have one position.
-use Rattle.std.proofs.Common.{ℕ, zero, suc, ◌≡◌, ◌<◌, List, [], ◌∷◌, ◌++◌, length, map, get_or, Option, Some, Result, Ok, Err, OnOk, Bool, true, false, refl, sym, ap, subst, ◌∙◌, append-nil, arith}
+use Rattle.std.proofs.Common.{ℕ, zero, suc, ◌≡◌, ◌<◌, List, [], ◌∷◌, ◌++◌, length, map, get_or, Option, Some, Result, Ok, Err, OnOk, IfErr, Bool, true, false, refl, sym, ap, subst, ◌∙◌, append-nil, arith}
 use Rattle.std.specs.Prelude.{Contains, slice_get, ◌↔◌}
 use mathlib.Core.List.{IsPrefix}
 use Rattle.std.proofs.lemmas.Option.{slice_get_within}
@@ -14,6 +14,7 @@ use Rattle.lasso_lines.specs.Ordered.{AreSameTexts, IsNamed, AreNamed, WritesNam
 use Rattle.lasso_lines.specs.Shares.{AreCodesOf}
 use Rattle.lasso_lines.specs.Stream.{Grows, Stays}
 use Rattle.lasso_lines.specs.declared.fault.RunFault.{RunFault}
+use Rattle.lasso_lines.specs.declared.fault.RunFault.TheVariants.{WriteFailed}
 use Rattle.lasso_lines.proofs.Known.{grows_as, stays_grows}
 use Rattle.lasso_lines.proofs.Chosen.{chosen, chosen_marked, marked_chosen, distinct_chosen}
 
@@ -72,10 +73,11 @@ module _ (list later lines : List Text) (codes : List ℕ) (begins : IsPrefix li
       grows_as before after (WritesNamed later codes) (WritesOrdered lines) (stays_grows before mid after (WritesNamed later codes) stays grown) (λ part w. (w.0, w.1, named_are_lines w.0 w.2, w.3))
   writes_lines before mid after (Err fault) stays none = tt
 
-  -- and a beginning of the named texts is a beginning of the lines in order
-  pub begins_lines : (before mid after : Option (List ℕ)) → Stays before mid → Grows mid after (BeginsNamed later codes) → Grows before after (BeginsOrdered lines)
-  begins_lines before mid after stays grown =
-      grows_as before after (BeginsNamed later codes) (BeginsOrdered lines) (stays_grows before mid after (BeginsNamed later codes) stays grown) (λ part b some. (b.0, (b.1.0, b.1.1, named_are_lines b.1.0 b.1.2, b.1.3), b.2))
+  -- and what was written of the named texts before a failed write is a beginning of the lines in order
+  pub begins_lines : (before mid after : Option (List ℕ)) (result : Result (Unit {0}) RunFault) → Stays before mid → IfErr result (λ fault. fault ≡ WriteFailed → Grows mid after (BeginsNamed later codes)) → IfErr result (λ fault. fault ≡ WriteFailed → Grows before after (BeginsOrdered lines))
+  begins_lines before mid after (Ok x) stays none = tt
+  begins_lines before mid after (Err fault) stays begun = λ failed.
+      grows_as before after (BeginsNamed later codes) (BeginsOrdered lines) (stays_grows before mid after (BeginsNamed later codes) stays (begun failed)) (λ part b some. (b.0, (b.1.0, b.1.1, named_are_lines b.1.0 b.1.2, b.1.3), b.2))
 
 -- ---- what the marks keep
 
