@@ -1,11 +1,11 @@
 -- The pass has seen what both threads had, and a name keeps its key in whatever is seen later. So both names have their keys in what the pass
 -- has seen in the end, where keys are equal exactly where their texts are.
-use Rattle.std.proofs.Common.{ℕ, List, Option, IfOk, subst, inr}
+use Rattle.std.proofs.Common.{ℕ, List, Option, IfOk, subst, inl}
 use mathlib.Core.List.{IsPrefix}
 use Rattle.lasso_parts.specs.Texts.{Text}
 use Rattle.lasso_log.specs.Notes.{NoteView, history}
-use Rattle.lasso_log.specs.Views.{InternerId, KnownView}
-use Rattle.lasso_log.proofs.Histories.{prefix_trans}
+use Rattle.lasso_log.specs.Views.{InternerId, KnownView, seen}
+use Rattle.lasso_log.proofs.Histories.{prefix_self, prefix_trans}
 use Rattle.lasso.proofs.CallingShared.{seen_texts_stay}
 use Rattle.lasso_shared.specs.CallerLaws.{HasKey}
 use Rattle.lasso_shared.proofs.CallerLaws.{has_key_later, history_past}
@@ -35,10 +35,8 @@ returns-clause-right g c =
 
 pub returns-clause-equal : goal.returns-clause-equal
 returns-clause-equal g c =
-    let other = c.in_ok-other.other in
-    let end = c.recall-2.new.self.notes in
-    let find = subst (λ reply. IfOk reply (λ find. IsFind g.K.Key.key_at c.args.rodeo.now c.args.right.now find.known find.key)) c.in_ok-other.was c.join-first.ensures.second in
-    c.keys_are_equal_where_texts_are.ensures c.args.rodeo.now.opening (history end) (history other.known.notes) c.args.left.now c.args.right.now c.in_ok-one.one.key other.key (inr (history_past other.known.notes end c.recall-2.ensures.known)) (returns-clause-left g c) find.1
+    let seen_last = seen c.recall-2.new.self in
+    c.keys_are_equal_where_texts_are.ensures c.args.rodeo.now.opening seen_last seen_last c.args.left.now c.args.right.now c.in_ok-one.one.key c.in_ok-other.other.key (inl (prefix_self seen_last)) (returns-clause-left g c) (returns-clause-right g c)
 
 pub returns-clause-kept : goal.returns-clause-kept
 returns-clause-kept g c =
