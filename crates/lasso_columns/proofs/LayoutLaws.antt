@@ -3,7 +3,7 @@
 -- A text is cut out at its offsets whatever lies in front of it: so a text is moved from the back to the front, one after
 -- another. A text of a distinct list is none of those before it, so none is doubled where they are read in order.
 use Rattle.std.proofs.Common.{ℕ, suc, ◌≡◌, ◌+◌, ◌-◌, ◌<◌, ◌≤◌, false, List, [], ◌∷◌, ◌++◌, length, take, drop, slice_get, Option, Some, None, refl, ap, sym, subst, ◌∙◌, arith, length-append, append_assoc, length-drop}
-use Rattle.std.specs.Prelude.{All, IfSome}
+use Rattle.std.specs.Prelude.{All}
 use Rattle.std.specs.List.{slice_range, concat}
 use Rattle.std.specs.Option.{option_or}
 use Rattle.std.specs.Str.{IsUtf8, is_utf8}
@@ -15,7 +15,7 @@ use Rattle.std.proofs.lemmas.Bool.{false_from_ne_true}
 use Rattle.std.proofs.lemmas.Str.{IsUtf8-from_is_utf8, is_utf8-from_IsUtf8}
 use Rattle.lasso_parts.proofs.IndexLaws.{absent_before}
 use Rattle.lasso_parts.specs.Texts.{Text, IsDistinct, position_of}
-use Rattle.lasso_columns.specs.Dictionaries.{ReadsBack, ReadingUndoesWriting, LayoutsByHand}
+use Rattle.lasso_columns.specs.Dictionaries.{ReadingUndoesWriting, LayoutsByHand}
 use Rattle.lasso_columns.specs.Layout.{reach, texts_from, layout_texts, start_fault, text_fault, texts_fault, layout_fault, offsets_from}
 use Rattle.lasso_columns.specs.declared.faults.ReadError.{ReadError}
 use Rattle.lasso_columns.specs.declared.faults.ReadError.TheVariants.{NotText}

@@ -1,7 +1,7 @@
 //! Texts in a buffer of bytes with a buffer of offsets, as Arrow's arrays of strings have them.
-ghost use Rattle.std.specs.Prelude.{◌≡◌, ℕ, ◌≤◌, None, Some, MatchResult, length};
+ghost use Rattle.std.specs.Prelude.{◌≡◌, ℕ, ◌≤◌, None, Some, MatchResult};
 ghost use Rattle.std.specs.List.{slice_range};
-ghost use Rattle.lasso_columns.specs.Layout.{reach, start_fault, text_fault};
+ghost use Rattle.lasso_columns.specs.Layout.{start_fault, text_fault};
 
 use crate::faults::ReadError;
 use std::str::from_utf8;

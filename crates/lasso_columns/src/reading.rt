@@ -1,11 +1,9 @@
 //! A layout's texts into an interner.
-ghost use Rattle.std.specs.Prelude.{◌≡◌, ◌+◌, ◌<◌, ◌≤◌, ◌⊎◌, ◌++◌, ◌∷◌, [], ℕ, None, Ok, Err, OnOk, IfOk, IfErr, IsSome, MatchResult, length, map, take};
+ghost use Rattle.std.specs.Prelude.{◌≡◌, ◌+◌, ◌<◌, ◌++◌, None, Ok, Err, OnOk, IfOk, IfErr, map, take};
 ghost use Rattle.std.specs.List.{slice_range};
-ghost use Rattle.lasso_parts.specs.Texts.{position_of};
 ghost use Rattle.lasso_parts.specs.declared.util.LassoErrorKind.TheVariants.{FailedAllocation};
 ghost use Rattle.lasso_single.specs.Filling.{extend};
-ghost use Rattle.lasso_single.specs.Intern.{InternsIn};
-ghost use Rattle.lasso_single.specs.Interner.{InternerView, made_with};
+ghost use Rattle.lasso_single.specs.Interner.{made_with};
 ghost use Rattle.lasso_columns.specs.Dictionaries.{AppendsNew, AppendsUnless, IsFaultAfter, IsRefusedReading, appended, first_bucket};
 ghost use Rattle.lasso_columns.specs.Layout.{layout_texts, layout_fault, text_fault};
 

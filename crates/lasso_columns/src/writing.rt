@@ -1,5 +1,5 @@
 //! The texts of an interner or a frozen form as a layout.
-ghost use Rattle.std.specs.Prelude.{◌≡◌, ◌+◌, ◌<◌, ◌≤◌, OnOk, IfOk, IfErr, MatchResult, All, IsUtf8, length, map, drop, take};
+ghost use Rattle.std.specs.Prelude.{◌≡◌, ◌+◌, ◌<◌, ◌≤◌, OnOk, IfOk, IfErr, All, IsUtf8, length, map, drop};
 ghost use Rattle.std.specs.List.{concat};
 ghost use Rattle.lasso_columns.specs.Dictionaries.{IsWriteFault};
 ghost use Rattle.lasso_columns.specs.Layout.{offsets_from};

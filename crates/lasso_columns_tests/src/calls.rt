@@ -93,8 +93,8 @@ pub(super) fn encode_shared_as<R: AllocGlobal + Threads + Wait + Sync>(
     lasso_columns::encode_shared_as(rt, rodeo, &mut pass, texts, codes, workers)
 }
 
-pub(super) fn write_dictionary<O: Offset, D: Dictionary>(
-    rt: &HostRuntime,
+pub(super) fn write_dictionary<R: AllocGlobal, O: Offset, D: Dictionary>(
+    rt: &R,
     dictionary: &D,
     from: usize,
 ) -> Result<Layout<O>, WriteError> {

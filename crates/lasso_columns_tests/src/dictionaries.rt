@@ -39,17 +39,17 @@ fn writes_five<R: AllocGlobal + Abort, D: Dictionary>(
     rt: &R,
     dictionary: &D,
 ) -> Result<(), WriteError> {
-    let whole: Layout<u32> = lasso_columns::write_dictionary(rt.alloc(), dictionary, 0)?;
+    let whole: Layout<u32> = write_dictionary(rt, dictionary, 0)?;
     assert!(rt; whole.bytes.as_slice() == BYTES.as_slice());
     assert!(rt; whole.offsets.as_slice() == [0, 3, 3, 7, 9, 10].as_slice());
-    let wide: Layout<u64> = lasso_columns::write_dictionary(rt.alloc(), dictionary, 0)?;
+    let wide: Layout<u64> = write_dictionary(rt, dictionary, 0)?;
     assert!(rt; wide.bytes.as_slice() == BYTES.as_slice());
     assert!(rt; wide.offsets.as_slice() == [0, 3, 3, 7, 9, 10].as_slice());
-    let rest: Layout<u32> = lasso_columns::write_dictionary(rt.alloc(), dictionary, 2)?;
+    let rest: Layout<u32> = write_dictionary(rt, dictionary, 2)?;
     assert!(rt; rest.bytes.as_slice() == &BYTES[3..]);
     assert!(rt; rest.offsets.as_slice() == [0, 4, 6, 7].as_slice());
     for past in [5usize, 6, usize::MAX] {
-        let none: Layout<u64> = lasso_columns::write_dictionary(rt.alloc(), dictionary, past)?;
+        let none: Layout<u64> = write_dictionary(rt, dictionary, past)?;
         assert!(rt; none.bytes.is_empty());
         assert!(rt; none.offsets.as_slice() == [0].as_slice());
     }
