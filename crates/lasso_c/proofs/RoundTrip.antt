@@ -11,7 +11,6 @@ use Rattle.std.proofs.lemmas.Bool.Decides.{nat_tests}
 use Rattle.std.proofs.lemmas.List.{drop_at, take_at}
 use Rattle.std.proofs.lemmas.List.Edits.{length-between}
 use Rattle.std.proofs.lemmas.Map.Keys.{IsDistinct-from_apart}
-use Rattle.std.proofs.lemmas.Option.{get_or_from_slice_get}
 use Rattle.lasso_parts.specs.Texts.{Text, position_of, IsDistinct}
 use Rattle.lasso_parts.proofs.TextLemmas.{distinct_push, position_here, position_last}
 use Rattle.lasso_c.specs.Layout.{greatest_offset, reach, texts_from, layout_texts, start_fault, text_fault, texts_fault, layout_fault, offsets_from}
@@ -139,7 +138,7 @@ all_new P texts [] all others = all
 all_new P texts (text ∷ more) all others = all_new P (with_new texts text) more (all_new_by P (is_some (position_of texts text)) texts text all others.0) others.1
 
 -- the dictionary has no more bytes than the texts
-all_bytes : (texts more : List Text) → length (concat (with_all_new texts more)) ≤ length (concat texts) + length (concat more)
+pub all_bytes : (texts more : List Text) → length (concat (with_all_new texts more)) ≤ length (concat texts) + length (concat more)
 all_bytes texts [] = omega arith
 all_bytes texts (text ∷ more) = omega (arith, all_bytes (with_new texts text) more, new_bytes (is_some (position_of texts text)) texts text, length-append text (concat more))
 
@@ -162,7 +161,7 @@ at_code dictionary text stands = ap (λ o. slice_get dictionary (unwrap_or o 0))
 named_back : (dictionary texts : List Text) → Each (HasCode dictionary) texts → texts_named dictionary (codes_of dictionary texts) ≡ texts
 named_back dictionary [] all = refl
 named_back dictionary (text ∷ texts) all =
-    let here = get_or_from_slice_get dictionary (unwrap_or (position_of dictionary text) 0) text [] (at_code dictionary text all.0) in
+    let here = ap (λ o. unwrap_or o []) (at_code dictionary text all.0) in
     ap (λ (t : Text). t ∷ texts_named dictionary (codes_of dictionary texts)) here ∙ ap (λ ts. text ∷ ts) (named_back dictionary texts all.1)
 
 abbrev sized : ℕ → ℕ → Sizes
@@ -171,7 +170,7 @@ sized texts bytes = record { texts = texts; bytes = bytes }
 next_fits : (n b : ℕ) (text : Text) → b + length text ≤ greatest_offset → with_next (sized n b) (Some text) ≡ Ok (sized (n + 1) (b + length text))
 next_fits n b text small = grind (arith, nat_tests)
 
-measured_back : (dictionary texts : List Text) (n b : ℕ) → Each (HasCode dictionary) texts → b + length (concat texts) ≤ greatest_offset → measured dictionary (sized n b) (codes_of dictionary texts) ≡ Ok (sized (n + length texts) (b + length (concat texts)))
+measured_back : (dictionary texts : List Text) (n b : ℕ) → Each (HasCode dictionary) texts → b + length (concat texts) ≤ greatest_offset → measured None dictionary (sized n b) (codes_of dictionary texts) ≡ Ok (sized (n + length texts) (b + length (concat texts)))
 measured_back dictionary [] n b all small =
     let n' : n ≡ n + 0 = omega arith in
     let b' : b ≡ b + 0 = omega arith in
@@ -182,7 +181,7 @@ measured_back dictionary (text ∷ texts) n b all small =
     let rest = measured_back dictionary texts (n + 1) (b + length text) all.1 (omega arith) in
     let n' : (n + 1) + length texts ≡ n + length (text ∷ texts) = omega arith in
     let b' : (b + length text) + length (concat texts) ≡ b + length (text ++ concat texts) = omega arith in
-    ap (λ r. unless_refused r (λ more. measured dictionary more (codes_of dictionary texts))) next ∙ rest
+    ap (λ r. unless_refused r (λ more. measured None dictionary more (codes_of dictionary texts))) next ∙ rest
     ∙ ap (λ k. Ok (sized k ((b + length text) + length (concat texts)))) n' ∙ ap (λ k. Ok (sized (n + length (text ∷ texts)) k)) b'
 
 fits : (sizes : Sizes) (offsets bytes : ℕ) → sizes.texts < offsets → sizes.bytes ≤ bytes → fitting sizes offsets bytes ≡ Ok sizes
@@ -201,7 +200,7 @@ module _ (texts : List Text) (good : GoodTexts texts) where
   stands_again : layout_texts (concat dictionary) (offsets_from 0 dictionary) ≡ dictionary
   stands_again = texts_back [] dictionary 0 refl
 
-  measured_whole : measured dictionary nothing (codes_of dictionary texts) ≡ Ok (sizes_of texts)
+  measured_whole : measured None dictionary nothing (codes_of dictionary texts) ≡ Ok (sizes_of texts)
   unfolding dictionary
   measured_whole =
       measured_back dictionary texts 0 0 (all_stand [] texts) (omega (arith, good.small)) ∙ ap (λ k. Ok (sized k (0 + length (concat texts)))) (zero-add (length texts)) ∙ ap (λ k. Ok (sized (length texts) k)) (zero-add (length (concat texts)))
@@ -213,8 +212,8 @@ module _ (texts : List Text) (good : GoodTexts texts) where
     stands = stands_again;
     named = named_back dictionary texts (all_stand [] texts);
     done = λ offsets bytes below within.
-        ap (λ fault. unless_faulty fault (unless_refused (measured (layout_texts (concat dictionary) (offsets_from 0 dictionary)) nothing (codes_of dictionary texts)) (λ sizes. fitting sizes offsets bytes))) written_good
-        ∙ ap (λ ts. unless_refused (measured ts nothing (codes_of dictionary texts)) (λ sizes. fitting sizes offsets bytes)) stands_again
+        ap (λ fault. unless_faulty fault (unless_refused (measured None (layout_texts (concat dictionary) (offsets_from 0 dictionary)) nothing (codes_of dictionary texts)) (λ sizes. fitting sizes offsets bytes))) written_good
+        ∙ ap (λ ts. unless_refused (measured None ts nothing (codes_of dictionary texts)) (λ sizes. fitting sizes offsets bytes)) stands_again
         ∙ ap (λ r. unless_refused r (λ sizes. fitting sizes offsets bytes)) measured_whole
         ∙ fits (sizes_of texts) offsets bytes below within;
   }

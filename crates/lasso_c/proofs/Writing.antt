@@ -32,6 +32,15 @@ over_one at value buffer small = rw add-one (set_split buffer at value small)
 pub over_all : (part buffer : List ℕ) → over_from 0 part buffer ≡ over part buffer
 over_all part buffer = ap (λ n. part ++ drop n buffer) (zero-add (length part))
 
+-- a number written right after what is written over the front is written over the front too
+pub over_push : (part buffer : List ℕ) (n value : ℕ) → n ≡ length part → n < length buffer → n < length (over part buffer) → set (over part buffer) n value ≡ over (part ++ value ∷ []) buffer
+over_push part buffer n value same small here =
+    over_one n value (over part buffer) here
+    ∙ ap (λ (b : List ℕ). over_from n (value ∷ []) b) (sym (over_all part buffer))
+    ∙ ap (λ m. over_from m (value ∷ []) (over_from 0 part buffer)) (same ∙ sym (zero-add (length part)))
+    ∙ over_both 0 part (value ∷ []) buffer (omega arith)
+    ∙ over_all (part ++ value ∷ []) buffer
+
 -- nothing is written
 over_none : (start : ℕ) (buffer : List ℕ) → over_from start [] buffer ≡ buffer
 over_none start buffer = rw add-zero (take-append-drop start buffer)

@@ -1,21 +1,23 @@
-//! Texts of a layout interned into a dictionary that has some already, and the texts of a dictionary from a code on.
-ghost use Rattle.std.specs.Prelude.{◌≡◌, ◌<◌, ◌≤◌, ◌+◌, None, Some, OnOk, IfOk, IfErr, IfSome, IsSome, length, slice_get, take, drop, is_ok, unwrap_or, if◌then◌else◌};
+//! Rows of a column interned into a dictionary that has some already, and the texts of a dictionary from a code on.
+ghost use Rattle.std.specs.Prelude.{◌≡◌, ◌<◌, ◌≤◌, ◌+◌, [], None, Some, OnOk, IfOk, IfErr, IfSome, IsSome, IsTrue, length, slice_get, take, drop, is_ok, unwrap_or, if◌then◌else◌};
 ghost use Rattle.std.specs.List.{concat};
 ghost use Rattle.std.specs.Result.{result_err};
 ghost use Rattle.lasso_parts.specs.Texts.{position_of};
-ghost use Rattle.lasso_c.specs.Layout.{greatest_offset, layout_fault, layout_texts, offsets_from, over};
-ghost use Rattle.lasso_c.specs.Encoding.{with_new, with_all_new, codes_of, codes_or, sizes_of};
+ghost use Rattle.lasso_c.specs.Bitmap.{bits_fit};
+ghost use Rattle.lasso_c.specs.Layout.{column_rows, greatest_offset, layout_fault, layout_texts, offsets_from, over, present_texts};
+ghost use Rattle.lasso_c.specs.Encoding.{with_all_new, codes_of, codes_or, row_codes, sizes_of};
 ghost use Rattle.lasso_c.specs.Handles.{part_lookup_outcome, part_outcome};
 ghost use Rattle.lasso_c.specs.Interning.{InternsCode, InternsNext, InternsPart, batch_report, batch_start_fault};
 ghost use Rattle.lasso_c.specs.Status.{outcome_status};
 
 use crate::encoding::{Dictionary, text_at_code};
 use crate::layout::{GREATEST_OFFSET, check_layout, first_start, put_text, text_between};
+use crate::nulls::{check_null, fit, is_present};
 use crate::refusal::{LassoReport, Refusal, Sizes, status_of};
 use lasso_parts::keys::Key;
 use lasso_parts::util::LassoErrorKind;
 
-// How many texts of a batch were interned, and why no more.
+// How many rows of a batch were done, and why no more.
 #[derive(Clone, Copy)]
 pub(crate) struct Progress {
     pub(crate) done: usize,
@@ -40,17 +42,19 @@ pub(crate) fn tell_batch(progress: Progress, report: &mut LassoReport) -> u32
     status
 }
 
-// Interns the texts of the layout up to the first that is refused, and writes their codes.
+// Interns the rows of the column up to the first that is refused, and writes their codes. A null has the given one.
 #[tactic(auto, using(crate::proofs::BatchSteps::layout_count, crate::proofs::BatchSteps::none_done))]
-pub(crate) fn intern_layout(
+pub(crate) fn intern_column(
     dictionary: &mut Dictionary,
     bytes: &[u8],
     offsets: &[u32],
+    bits: &[u8],
+    null: u32,
     codes: &mut [u32],
 ) -> Progress
-    ensures interned { InternsPart (length codes.old) bytes.now offsets.now result.done dictionary.old result.outcome dictionary.new }
-    ensures texts { dictionary.new.texts ≡ with_all_new dictionary.old.texts (take result.done (layout_texts bytes.now offsets.now)) }
-    ensures codes { codes.new ≡ over (codes_of dictionary.new.texts (take result.done (layout_texts bytes.now offsets.now))) codes.old }
+    ensures interned { InternsPart (length codes.old) bits.now bytes.now offsets.now result.done dictionary.old result.outcome dictionary.new }
+    ensures texts { dictionary.new.texts ≡ with_all_new dictionary.old.texts (present_texts (take result.done (column_rows bits.now bytes.now offsets.now))) }
+    ensures codes { codes.new ≡ over (row_codes null dictionary.new.texts (take result.done (column_rows bits.now bytes.now offsets.now))) codes.old }
     ensures whole { OnOk result.outcome (result.done ≡ length (layout_texts bytes.now offsets.now)) }
     ensures within { result.done ≤ length (layout_texts bytes.now offsets.now) }
 {
@@ -61,14 +65,14 @@ pub(crate) fn intern_layout(
         };
     };
     let count = rest.len();
-    if let Err(refusal) = first_fault(bytes, *first, count, codes.len()) {
+    if let Err(refusal) = first_fault(bytes, *first, count, bits, codes.len()) {
         return Progress {
             done: 0,
             outcome: Err(refusal),
         };
     }
     for at in 0..count {
-        match code_at(dictionary, bytes, offsets, at) {
+        match code_at(dictionary, bytes, offsets, bits, null, at) {
             Ok(code) => codes[at] = code,
             Err(refusal) => return Progress {
                 done: at,
@@ -82,28 +86,61 @@ pub(crate) fn intern_layout(
     }
 }
 
-// Why a batch of this first offset is refused before its first text, if it is.
-fn first_fault(bytes: &[u8], first: u32, texts: usize, room: usize) -> Result<(), Refusal>
-    ensures { result_err result ≡ batch_start_fault bytes.now first texts room }
+// Interns the texts of the layout up to the first that is refused, and writes their codes.
+pub(crate) fn intern_layout(
+    dictionary: &mut Dictionary,
+    bytes: &[u8],
+    offsets: &[u32],
+    codes: &mut [u32],
+) -> Progress
+    ensures interned { InternsPart (length codes.old) [] bytes.now offsets.now result.done dictionary.old result.outcome dictionary.new }
+    ensures texts { dictionary.new.texts ≡ with_all_new dictionary.old.texts (take result.done (layout_texts bytes.now offsets.now)) }
+    ensures codes { codes.new ≡ over (codes_of dictionary.new.texts (take result.done (layout_texts bytes.now offsets.now))) codes.old }
+    ensures whole { OnOk result.outcome (result.done ≡ length (layout_texts bytes.now offsets.now)) }
+    ensures within { result.done ≤ length (layout_texts bytes.now offsets.now) }
 {
-    if room < texts {
+    intern_column(dictionary, bytes, offsets, &[], 0, codes)
+}
+
+// Why a batch of this first offset and so many rows is refused before its first row, if it is.
+fn first_fault(
+    bytes: &[u8],
+    first: u32,
+    rows: usize,
+    bits: &[u8],
+    room: usize,
+) -> Result<(), Refusal>
+    ensures { result_err result ≡ batch_start_fault bits.now bytes.now first rows room }
+{
+    if room < rows {
         return Err(Refusal::CodesTooShort(Sizes { texts: 0, bytes: 0 }));
+    }
+    if !fit(bits, rows) {
+        return Err(Refusal::BitmapTooShort(8 * bits.len()));
     }
     first_start(bytes, first)?;
     Ok(())
 }
 
-// Interns the text of this number of the layout, and gives its code. Where it is refused nothing has changed.
+// Interns the row of this number of the column, and gives its code. Where it is refused nothing has changed.
 fn code_at(
     dictionary: &mut Dictionary,
     bytes: &[u8],
     offsets: &[u32],
+    bits: &[u8],
+    null: u32,
     at: usize,
 ) -> Result<u32, Refusal>
-    requires { at + 1 < length offsets.now }
-    ensures { InternsNext bytes.now offsets.now at dictionary.old result dictionary.new }
+    requires within { at + 1 < length offsets.now }
+    requires bit { IsTrue (bits_fit bits.now (at + 1)) }
+    ensures { InternsNext bits.now null bytes.now offsets.now at dictionary.old result dictionary.new }
 {
-    let text = text_between(bytes, at, offsets[at] as usize, offsets[at + 1] as usize)?;
+    let (from, to) = (offsets[at] as usize, offsets[at + 1] as usize);
+    if !is_present(bits, at) {
+        check_null(bytes, at, from, to)?;
+        return Ok(null);
+    }
+    let text = text_between(bytes, at, from, to)?;
     code_in(dictionary, text, at)
 }
 

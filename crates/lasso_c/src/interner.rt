@@ -6,13 +6,15 @@ ghost use Rattle.std.specs.List.{concat};
 ghost use Rattle.std.specs.Str.{is_utf8};
 ghost use Rattle.lasso_parts.specs.Account.{clear, fresh, with_limit};
 ghost use Rattle.lasso_parts.specs.Texts.{position_of};
-ghost use Rattle.lasso_c.specs.Layout.{layout_texts, offsets_from, over};
-ghost use Rattle.lasso_c.specs.Encoding.{with_new, with_all_new, codes_of, codes_or};
+ghost use Rattle.lasso_c.specs.Layout.{column_rows, layout_texts, offsets_from, over, present_texts};
+ghost use Rattle.lasso_c.specs.Encoding.{with_new, with_all_new, codes_of, codes_or, row_codes};
 ghost use Rattle.lasso_c.specs.Handles.{account_in, dictionary_outcome, first_in, lookup_outcome, texts_in};
 ghost use Rattle.lasso_c.specs.Interning.{BatchEnds, TextEnds};
 ghost use Rattle.lasso_c.specs.Status.{Reports};
 
-use crate::batches::{code_in, copy_text, find_layout, intern_layout, tell_batch, write_from};
+use crate::batches::{
+    code_in, copy_text, find_layout, intern_column, intern_layout, tell_batch, write_from,
+};
 use crate::handle::Lasso;
 use crate::refusal::{LassoReport, Refusal, status_of, tell};
 use crate::slot::Interner;
@@ -82,7 +84,7 @@ pub extern "C" fn lasso_intern_batch(
     codes: &mut [u32],
     report: &mut LassoReport,
 ) -> u32
-    ensures outcome { BatchEnds lasso.old.slot.value bytes.now offsets.now (length codes.old) result report.new lasso.new.slot.value }
+    ensures outcome { BatchEnds lasso.old.slot.value [] bytes.now offsets.now (length codes.old) result report.new lasso.new.slot.value }
     ensures texts { texts_in lasso.new.slot.value ≡ with_all_new (texts_in lasso.old.slot.value) (take report.new.texts (layout_texts bytes.now offsets.now)) }
     ensures codes { codes.new ≡ over (codes_of (texts_in lasso.new.slot.value) (take report.new.texts (layout_texts bytes.now offsets.now))) codes.old }
     ensures whole { result ≡ 0 → report.new.texts ≡ length (layout_texts bytes.now offsets.now) }
@@ -92,6 +94,34 @@ pub extern "C" fn lasso_intern_batch(
         return tell(&Err(Refusal::NoInterner), report);
     };
     let progress = intern_layout(&mut interner.rodeo, bytes, offsets, codes);
+    lasso.put(alloc, interner);
+    tell_batch(progress, report)
+}
+
+/// The same for a column with nulls: bit i of byte i / 8 of `present`, counted from the least, is 1 where row i is present, and without
+/// a byte each is. A null has the code `null`, and no text is interned for it. It returns 14 and interns none where `present` has
+/// too few bits.
+#[unsafe(no_mangle)]
+pub extern "C" fn lasso_intern_batch_nulls(
+    alloc: Global,
+    lasso: &mut Lasso,
+    bytes: &[u8],
+    offsets: &[u32],
+    present: &[u8],
+    null: u32,
+    codes: &mut [u32],
+    report: &mut LassoReport,
+) -> u32
+    ensures outcome { BatchEnds lasso.old.slot.value present.now bytes.now offsets.now (length codes.old) result report.new lasso.new.slot.value }
+    ensures texts { texts_in lasso.new.slot.value ≡ with_all_new (texts_in lasso.old.slot.value) (present_texts (take report.new.texts (column_rows present.now bytes.now offsets.now))) }
+    ensures codes { codes.new ≡ over (row_codes null (texts_in lasso.new.slot.value) (take report.new.texts (column_rows present.now bytes.now offsets.now))) codes.old }
+    ensures whole { result ≡ 0 → report.new.texts ≡ length (layout_texts bytes.now offsets.now) }
+    ensures within { report.new.texts ≤ length (layout_texts bytes.now offsets.now) }
+{
+    let Some(mut interner) = lasso.take(alloc) else {
+        return tell(&Err(Refusal::NoInterner), report);
+    };
+    let progress = intern_column(&mut interner.rodeo, bytes, offsets, present, null, codes);
     lasso.put(alloc, interner);
     tell_batch(progress, report)
 }

@@ -12,7 +12,7 @@ use std::str::from_utf8;
 pub(crate) const GREATEST_OFFSET: usize = 2_147_483_647;
 
 // How far offsets may reach into the bytes.
-fn reach(bytes: &[u8]) -> usize
+pub(crate) fn reach(bytes: &[u8]) -> usize
     ensures { result ≡ reach bytes.now }
 {
     bytes.len().min(GREATEST_OFFSET)

@@ -1,8 +1,7 @@
-use Rattle.std.proofs.Common.{◌≡◌, ◌+◌, ◌<◌, ◌≤◌, length, get_or, take, ap, sym, ◌∙◌, arith}
+use Rattle.std.proofs.Common.{◌≡◌, ◌+◌, get_or, take, ap, ◌∙◌, arith}
 use Rattle.std.proofs.lemmas.Grind.{common_steps}
 use Rattle.std.proofs.lemmas.List.{take_all}
 use Rattle.std.specs.List.{slice_range}
-use Rattle.lasso_parts.specs.Texts.{position_of}
 use Rattle.lasso_c.specs.Layout.{layout_texts, over}
 use Rattle.lasso_c.specs.Encoding.{codes_or}
 use Rattle.lasso_c.proofs.Layouts.{good_at, length-layout_texts}
