@@ -7,25 +7,26 @@
  * Texts cross as Arrow lays out arrays of strings: one buffer of bytes, UTF-8 and with no end marks, beside a buffer of
  * offsets, counted in bytes from the buffer's first. Text k is what lies from offset k up to offset k + 1, so n texts have
  * n + 1 offsets. The first offset may lie above 0, as in an array that was cut. No offset at all stands for no text. An
- * offset is at least the one before it, at most the number of bytes, and never negative.
+ * offset is at least the one before it, at most the number of bytes, and never negative. Offsets have 32 bits, and 64 where a
+ * call's name ends with _large.
  *
  * For every call:
- * - Each length counts elements, not bytes: bytes of a uint8_t array, numbers of an int32_t or uint32_t array.
+ * - Each length counts elements, not bytes: bytes of a uint8_t array, numbers of an int32_t, int64_t or uint32_t array.
  * - The caller owns all memory. No pointer is kept when a call returns.
  * - A pointer is aligned for its elements. It may be NULL where its length is 0; report is never NULL. (NULL is turned into
  *   another pointer by inline functions of this header. A caller that does without the header, as ctypes, never passes NULL.)
  * - An array has at least as many elements as its length says, and at most 2^63 - 1 bytes.
  * - Nothing that is written overlaps anything else that is passed, *report neither.
  * - A call that refuses, whose status is not LASSO_DONE, writes nothing but *report, and leaves its interner as it was;
- *   lasso_intern_batch and lasso_intern_batch_nulls alone keep the texts before the refused one, and write their codes. One that
- *   is done writes what is said below to the front of each output, and leaves the rest of it as it was.
+ *   the calls whose names begin with lasso_intern_batch alone keep the texts before the refused one, and write their codes. One
+ *   that is done writes what is said below to the front of each output, and leaves the rest of it as it was.
  * - Calls may run in several threads at once. What all of them only read they may share, as two that decode from one
  *   dictionary. What a call writes, nothing else reads or writes meanwhile.
  * - No call is made in a signal handler, nor in the forked child of a process with threads.
  *
  * lasso_encode and lasso_encode_nulls take memory from malloc and realloc, and give it back before they return. lasso_new,
- * lasso_intern, lasso_intern_batch and lasso_intern_batch_nulls take memory that lasso_free gives back. The others take none. The
- * program's malloc, realloc and free are one allocator, whose blocks are aligned to each power of two up to 16 that divides their
+ * lasso_intern and the calls whose names begin with lasso_intern_batch take memory that lasso_free gives back. The others take none.
+ * The program's malloc, realloc and free are one allocator, whose blocks are aligned to each power of two up to 16 that divides their
  * size, as to 8 for 24 bytes.
  *
  * A column with nulls has a bitmap too, as Arrow has it: bit i % 8 of byte i / 8, counted from the least, is 1 where row i is
@@ -310,6 +311,37 @@ uint32_t lasso_dictionary(struct lasso *lasso, size_t from,
                           int32_t *offsets, size_t offsets_length,
                           struct lasso_report *report);
 
+/*
+ * The calls below are those without _large, for arrays of large strings, whose offsets have 64 bits. An offset is at least the one
+ * before it, at most the number of bytes, and never negative. They have the same statuses and reports, and write the same; the
+ * dictionary is refused as LASSO_TOO_MANY_BYTES where the texts have more than 2^63 - 1 bytes.
+ */
+uint32_t lasso_intern_batch_large(struct lasso *lasso,
+                                  const uint8_t *bytes, size_t bytes_length,
+                                  const int64_t *offsets, size_t offsets_length,
+                                  uint32_t *codes, size_t codes_length,
+                                  struct lasso_report *report);
+
+uint32_t lasso_intern_batch_nulls_large(struct lasso *lasso,
+                                        const uint8_t *bytes, size_t bytes_length,
+                                        const int64_t *offsets, size_t offsets_length,
+                                        const uint8_t *present, size_t present_length,
+                                        uint32_t null,
+                                        uint32_t *codes, size_t codes_length,
+                                        struct lasso_report *report);
+
+uint32_t lasso_get_batch_large(struct lasso *lasso,
+                               const uint8_t *bytes, size_t bytes_length,
+                               const int64_t *offsets, size_t offsets_length,
+                               uint32_t absent,
+                               uint32_t *codes, size_t codes_length,
+                               struct lasso_report *report);
+
+uint32_t lasso_dictionary_large(struct lasso *lasso, size_t from,
+                                uint8_t *bytes, size_t bytes_length,
+                                int64_t *offsets, size_t offsets_length,
+                                struct lasso_report *report);
+
 /* How many texts the interner has. 0 without an interner. */
 size_t lasso_len(struct lasso *lasso);
 
@@ -503,6 +535,67 @@ static inline uint32_t lasso_dictionary_inline(struct lasso *lasso, size_t from,
                             (int32_t *)lasso_write_to(offsets, offsets_length), offsets_length, report);
 }
 #define lasso_dictionary lasso_dictionary_inline
+
+static inline uint32_t lasso_intern_batch_large_inline(struct lasso *lasso,
+                                                       const uint8_t *bytes, size_t bytes_length,
+                                                       const int64_t *offsets, size_t offsets_length,
+                                                       uint32_t *codes, size_t codes_length,
+                                                       struct lasso_report *report)
+{
+    return lasso_intern_batch_large(lasso,
+                                    (const uint8_t *)lasso_read_from(bytes, bytes_length), bytes_length,
+                                    (const int64_t *)lasso_read_from(offsets, offsets_length), offsets_length,
+                                    (uint32_t *)lasso_write_to(codes, codes_length), codes_length,
+                                    report);
+}
+#define lasso_intern_batch_large lasso_intern_batch_large_inline
+
+static inline uint32_t lasso_intern_batch_nulls_large_inline(struct lasso *lasso,
+                                                             const uint8_t *bytes, size_t bytes_length,
+                                                             const int64_t *offsets, size_t offsets_length,
+                                                             const uint8_t *present, size_t present_length,
+                                                             uint32_t null,
+                                                             uint32_t *codes, size_t codes_length,
+                                                             struct lasso_report *report)
+{
+    return lasso_intern_batch_nulls_large(lasso,
+                                          (const uint8_t *)lasso_read_from(bytes, bytes_length), bytes_length,
+                                          (const int64_t *)lasso_read_from(offsets, offsets_length), offsets_length,
+                                          (const uint8_t *)lasso_read_from(present, present_length), present_length,
+                                          null,
+                                          (uint32_t *)lasso_write_to(codes, codes_length), codes_length,
+                                          report);
+}
+#define lasso_intern_batch_nulls_large lasso_intern_batch_nulls_large_inline
+
+static inline uint32_t lasso_get_batch_large_inline(struct lasso *lasso,
+                                                    const uint8_t *bytes, size_t bytes_length,
+                                                    const int64_t *offsets, size_t offsets_length,
+                                                    uint32_t absent,
+                                                    uint32_t *codes, size_t codes_length,
+                                                    struct lasso_report *report)
+{
+    return lasso_get_batch_large(lasso,
+                                 (const uint8_t *)lasso_read_from(bytes, bytes_length), bytes_length,
+                                 (const int64_t *)lasso_read_from(offsets, offsets_length), offsets_length,
+                                 absent,
+                                 (uint32_t *)lasso_write_to(codes, codes_length), codes_length,
+                                 report);
+}
+#define lasso_get_batch_large lasso_get_batch_large_inline
+
+static inline uint32_t lasso_dictionary_large_inline(struct lasso *lasso, size_t from,
+                                                     uint8_t *bytes, size_t bytes_length,
+                                                     int64_t *offsets, size_t offsets_length,
+                                                     struct lasso_report *report)
+{
+    return lasso_dictionary_large(lasso,
+                                  from,
+                                  (uint8_t *)lasso_write_to(bytes, bytes_length), bytes_length,
+                                  (int64_t *)lasso_write_to(offsets, offsets_length), offsets_length,
+                                  report);
+}
+#define lasso_dictionary_large lasso_dictionary_large_inline
 
 #ifdef __cplusplus
 }

@@ -12,7 +12,7 @@ use Rattle.lasso_parts.specs.declared.util.LassoError.{LassoError}
 use Rattle.lasso_parts.specs.declared.util.LassoErrorKind.TheVariants.{MemoryLimitReached, KeySpaceExhaustion, FailedAllocation}
 use Rattle.lasso_single.specs.Interner.{InternerView}
 use Rattle.lasso_c.specs.Bitmap.{bits_fit, present_at}
-use Rattle.lasso_c.specs.Layout.{layout_texts, start_fault, text_fault, null_fault, row_fault, rows_fault, column_fault, column_rows, greatest_offset, over, present_texts}
+use Rattle.lasso_c.specs.Layout.{greatest_offset, layout_texts, start_fault, text_fault, null_fault, row_fault, rows_fault, column_fault, column_rows, greatest_offset, over, present_texts}
 use Rattle.lasso_c.specs.Decoding.{nothing}
 use Rattle.lasso_c.specs.Encoding.{column_refusal, dictionary_of, of_column, row_codes, with_all_new}
 use Rattle.lasso_c.specs.Interning.{InternsRoomed, InternsPart, refusal_at}
@@ -28,16 +28,16 @@ of_interner at MemoryLimitReached = refl
 of_interner at KeySpaceExhaustion = refl
 of_interner at FailedAllocation = refl
 
-is_of_start : (bytes : List ℕ) (from : ℕ) (refusal : Refusal) → start_fault bytes from ≡ Some refusal → of_column refusal ≡ refusal
+is_of_start : (bytes : List ℕ) (from : ℕ) (refusal : Refusal) → start_fault greatest_offset bytes from ≡ Some refusal → of_column refusal ≡ refusal
 is_of_start bytes from refusal is = grind (arith, nat_tests)
 
-is_of_text : (bytes : List ℕ) (at from to : ℕ) (refusal : Refusal) → text_fault bytes at from to ≡ Some refusal → of_column refusal ≡ refusal
+is_of_text : (bytes : List ℕ) (at from to : ℕ) (refusal : Refusal) → text_fault greatest_offset bytes at from to ≡ Some refusal → of_column refusal ≡ refusal
 is_of_text bytes at from to refusal is = grind (arith, nat_tests)
 
-is_of_null : (bytes : List ℕ) (at from to : ℕ) (refusal : Refusal) → null_fault bytes at from to ≡ Some refusal → of_column refusal ≡ refusal
+is_of_null : (bytes : List ℕ) (at from to : ℕ) (refusal : Refusal) → null_fault greatest_offset bytes at from to ≡ Some refusal → of_column refusal ≡ refusal
 is_of_null bytes at from to refusal is = grind (arith, nat_tests)
 
-is_of_row : (there : Bool) (bytes : List ℕ) (at from to : ℕ) (refusal : Refusal) → (if there then text_fault bytes at from to else null_fault bytes at from to) ≡ Some refusal → of_column refusal ≡ refusal
+is_of_row : (there : Bool) (bytes : List ℕ) (at from to : ℕ) (refusal : Refusal) → (if there then text_fault greatest_offset bytes at from to else null_fault greatest_offset bytes at from to) ≡ Some refusal → of_column refusal ≡ refusal
 is_of_row true bytes at from to refusal is = is_of_text bytes at from to refusal is
 is_of_row false bytes at from to refusal is = is_of_null bytes at from to refusal is
 
@@ -45,28 +45,28 @@ or_some : (one other : Option Refusal) (refusal : Refusal) → option_or one oth
 or_some None other refusal is = inr is
 or_some (Some one) other refusal is = inl is
 
-is_of_rows : (bits bytes : List ℕ) (at from : ℕ) (offsets : List ℕ) (refusal : Refusal) → rows_fault bits bytes at from offsets ≡ Some refusal → of_column refusal ≡ refusal
+is_of_rows : (bits bytes : List ℕ) (at from : ℕ) (offsets : List ℕ) (refusal : Refusal) → rows_fault greatest_offset bits bytes at from offsets ≡ Some refusal → of_column refusal ≡ refusal
 is_of_rows bits bytes at from [] refusal is = let no : ◌≡◌ {A = Option Refusal} None (Some refusal) = is in absurd cc
 is_of_rows bits bytes at from (to ∷ offsets) refusal is =
-    elim (or_some (row_fault bits bytes at from to) (rows_fault bits bytes (at + 1) to offsets) refusal is) [
+    elim (or_some (row_fault greatest_offset bits bytes at from to) (rows_fault greatest_offset bits bytes (at + 1) to offsets) refusal is) [
       | inl w ↦ is_of_row (present_at bits at) bytes at from to refusal w
       | inr w ↦ is_of_rows bits bytes (at + 1) to offsets refusal w
     ]
 
-is_of_column : (bits bytes offsets : List ℕ) (refusal : Refusal) → column_fault bits bytes offsets ≡ Some refusal → of_column refusal ≡ refusal
+is_of_column : (bits bytes offsets : List ℕ) (refusal : Refusal) → column_fault greatest_offset bits bytes offsets ≡ Some refusal → of_column refusal ≡ refusal
 is_of_column bits bytes [] refusal is = let no : ◌≡◌ {A = Option Refusal} None (Some refusal) = is in absurd cc
 is_of_column bits bytes (from ∷ offsets) refusal is =
-    elim (or_some (start_fault bytes from) (rows_fault bits bytes 0 from offsets) refusal is) [
+    elim (or_some (start_fault greatest_offset bytes from) (rows_fault greatest_offset bits bytes 0 from offsets) refusal is) [
       | inl w ↦ is_of_start bytes from refusal w
       | inr w ↦ is_of_rows bits bytes 0 from offsets refusal w
     ]
 
-ok_by : (short fits : Bool) (bits bytes offsets : List ℕ) (done : ℕ) (old new : InternerView) → InternsRoomed short fits bits bytes offsets done old (Ok tt) new → ((if fits then column_fault bits bytes offsets else Some (BitmapTooShort (8 * length bits))) ≡ None) × (done ≡ length (layout_texts bytes offsets))
+ok_by : (short fits : Bool) (bits bytes offsets : List ℕ) (done : ℕ) (old new : InternerView) → InternsRoomed greatest_offset short fits bits bytes offsets done old (Ok tt) new → ((if fits then column_fault greatest_offset bits bytes offsets else Some (BitmapTooShort (8 * length bits))) ≡ None) × (done ≡ length (layout_texts bytes offsets))
 ok_by true fits bits bytes offsets done old new h = let no : ◌≡◌ {A = Result (Unit {0}) Refusal} (Ok tt) (Err (CodesTooShort nothing)) = h.1 in absurd cc
 ok_by false false bits bytes offsets done old new h = let no : ◌≡◌ {A = Result (Unit {0}) Refusal} (Ok tt) (Err (BitmapTooShort (8 * length bits))) = h.1 in absurd cc
 ok_by false true bits bytes offsets done old new h = h.ends
 
-err_by : (short fits : Bool) (bits bytes offsets : List ℕ) (done : ℕ) (old new : InternerView) (refusal : Refusal) → short ≡ false → InternsRoomed short fits bits bytes offsets done old (Err refusal) new → ((if fits then column_fault bits bytes offsets else Some (BitmapTooShort (8 * length bits))) ≡ Some (of_column refusal)) ⊎ (of_column refusal ≡ NoMemory)
+err_by : (short fits : Bool) (bits bytes offsets : List ℕ) (done : ℕ) (old new : InternerView) (refusal : Refusal) → short ≡ false → InternsRoomed greatest_offset short fits bits bytes offsets done old (Err refusal) new → ((if fits then column_fault greatest_offset bits bytes offsets else Some (BitmapTooShort (8 * length bits))) ≡ Some (of_column refusal)) ⊎ (of_column refusal ≡ NoMemory)
 err_by true fits bits bytes offsets done old new refusal room h = absurd cc
 err_by false false bits bytes offsets done old new refusal room h = let same : refusal ≡ BitmapTooShort (8 * length bits) = let e : ◌≡◌ {A = Result (Unit {0}) Refusal} (Err refusal) (Err (BitmapTooShort (8 * length bits))) = h.1 in cc in inl (ap (λ r. Some (of_column r)) (sym same))
 err_by false true bits bytes offsets done old new refusal room h =
@@ -76,10 +76,10 @@ err_by false true bits bytes offsets done old new refusal room h =
     ]
 
 -- how a batch ends that has room for a code of each row
-pub part_ok : (room : ℕ) (bits bytes offsets : List ℕ) (done : ℕ) (old new : InternerView) → InternsPart room bits bytes offsets done old (Ok tt) new → (column_refusal bits bytes offsets ≡ None) × (done ≡ length (layout_texts bytes offsets))
+pub part_ok : (room : ℕ) (bits bytes offsets : List ℕ) (done : ℕ) (old new : InternerView) → InternsPart greatest_offset room bits bytes offsets done old (Ok tt) new → (column_refusal bits bytes offsets ≡ None) × (done ≡ length (layout_texts bytes offsets))
 part_ok room bits bytes offsets done old new h = ok_by (nat_lt room (length (layout_texts bytes offsets))) (bits_fit bits (length (layout_texts bytes offsets))) bits bytes offsets done old new h
 
-pub part_err : (room : ℕ) (bits bytes offsets : List ℕ) (done : ℕ) (old new : InternerView) (refusal : Refusal) → length (layout_texts bytes offsets) ≤ room → InternsPart room bits bytes offsets done old (Err refusal) new → (column_refusal bits bytes offsets ≡ Some (of_column refusal)) ⊎ (of_column refusal ≡ NoMemory)
+pub part_err : (room : ℕ) (bits bytes offsets : List ℕ) (done : ℕ) (old new : InternerView) (refusal : Refusal) → length (layout_texts bytes offsets) ≤ room → InternsPart greatest_offset room bits bytes offsets done old (Err refusal) new → (column_refusal bits bytes offsets ≡ Some (of_column refusal)) ⊎ (of_column refusal ≡ NoMemory)
 part_err room bits bytes offsets done old new refusal enough h =
     err_by (nat_lt room (length (layout_texts bytes offsets))) (bits_fit bits (length (layout_texts bytes offsets))) bits bytes offsets done old new refusal (grind (arith, nat_tests)) h
 
@@ -88,8 +88,8 @@ good_by : (fits : Bool) (fault : Option Refusal) (at : ℕ) → (if fits then fa
 good_by true fault at is = is
 good_by false fault at is = let no : Some (BitmapTooShort at) ≡ None = is in absurd cc
 
-pub refusal_none : (bits bytes offsets : List ℕ) → column_refusal bits bytes offsets ≡ None → column_fault bits bytes offsets ≡ None
-refusal_none bits bytes offsets is = good_by (bits_fit bits (length (layout_texts bytes offsets))) (column_fault bits bytes offsets) (8 * length bits) is
+pub refusal_none : (bits bytes offsets : List ℕ) → column_refusal bits bytes offsets ≡ None → column_fault greatest_offset bits bytes offsets ≡ None
+refusal_none bits bytes offsets is = good_by (bits_fit bits (length (layout_texts bytes offsets))) (column_fault greatest_offset bits bytes offsets) (8 * length bits) is
 
 -- what is written over the whole of a buffer
 pub over_whole : (part buffer : List ℕ) → length part ≡ length buffer → over part buffer ≡ part
@@ -101,7 +101,7 @@ pub record ColumnDone (null : ℕ) (bits bytes offsets : List ℕ) (texts : List
   pub codes_of_rows : codes ≡ row_codes null (dictionary_of (present_texts (column_rows bits bytes offsets))) (column_rows bits bytes offsets)
   pub small : length (concat texts) ≤ greatest_offset
 
-pub column_done : (null : ℕ) (bits bytes offsets first : List ℕ) (done : ℕ) (old new : InternerView) (codes : List ℕ) → old.texts ≡ [] → length first ≡ length offsets - 1 → InternsPart (length first) bits bytes offsets done old (Ok tt) new
+pub column_done : (null : ℕ) (bits bytes offsets first : List ℕ) (done : ℕ) (old new : InternerView) (codes : List ℕ) → old.texts ≡ [] → length first ≡ length offsets - 1 → InternsPart greatest_offset (length first) bits bytes offsets done old (Ok tt) new
     → new.texts ≡ with_all_new old.texts (present_texts (take done (column_rows bits bytes offsets))) → codes ≡ over (row_codes null new.texts (take done (column_rows bits bytes offsets))) first → ColumnDone null bits bytes offsets new.texts codes
 column_done null bits bytes offsets first done old new codes empty room h grown written =
     let rows = column_rows bits bytes offsets in

@@ -51,17 +51,17 @@ texts_back front (text ∷ texts) at e =
 -- the faults from the first of some offsets on
 faults_at : List ℕ → ℕ → List ℕ → Option Refusal
 faults_at bytes k [] = None
-faults_at bytes k (from ∷ offsets) = texts_fault bytes k from offsets
+faults_at bytes k (from ∷ offsets) = texts_fault greatest_offset bytes k from offsets
 
-fault_first : (bytes : List ℕ) (k from end : ℕ) (texts : List Text) → texts_fault bytes k from (offsets_from end texts) ≡ option_or (text_fault bytes k from end) (faults_at bytes (k + 1) (offsets_from end texts))
+fault_first : (bytes : List ℕ) (k from end : ℕ) (texts : List Text) → texts_fault greatest_offset bytes k from (offsets_from end texts) ≡ option_or (text_fault greatest_offset bytes k from end) (faults_at bytes (k + 1) (offsets_from end texts))
 unfolding faults_at
 fault_first bytes k from end [] = refl
 fault_first bytes k from end (text ∷ texts) = refl
 
-start_then : (bytes : List ℕ) (at : ℕ) (texts : List Text) → start_fault bytes at ≡ None → layout_fault bytes (offsets_from at texts) ≡ faults_at bytes 0 (offsets_from at texts)
+start_then : (bytes : List ℕ) (at : ℕ) (texts : List Text) → start_fault greatest_offset bytes at ≡ None → layout_fault greatest_offset bytes (offsets_from at texts) ≡ faults_at bytes 0 (offsets_from at texts)
 unfolding faults_at
 start_then bytes at [] good = ap (λ o. option_or o None) good
-start_then bytes at (text ∷ texts) good = ap (λ o. option_or o (texts_fault bytes 0 at (offsets_from (at + length text) texts))) good
+start_then bytes at (text ∷ texts) good = ap (λ o. option_or o (texts_fault greatest_offset bytes 0 at (offsets_from (at + length text) texts))) good
 
 -- nothing is wrong with texts where they lie
 no_faults : (front : List ℕ) (texts : List Text) (at k : ℕ) → at ≡ length front → Each IsUtf8 texts → length (front ++ concat texts) ≤ greatest_offset → faults_at (front ++ concat texts) k (offsets_from at texts) ≡ None
@@ -73,29 +73,29 @@ no_faults front (text ∷ texts) at k e utf8 small =
     let here = slice_here front text (concat texts) at e in
     let whole = length-append front (text ++ concat texts) in
     let two = length-append text (concat texts) in
-    let good : text_fault bytes k at end ≡ None = good_text bytes k at end (omega arith) (omega arith) (subst IsUtf8 (sym here) utf8.0) in
+    let good : text_fault greatest_offset bytes k at end ≡ None = good_text greatest_offset bytes k at end (omega arith) (omega arith) (subst IsUtf8 (sym here) utf8.0) in
     let same = append_assoc front text (concat texts) in
     let others : faults_at bytes (k + 1) (offsets_from end texts) ≡ None = ap (λ b. faults_at b (k + 1) (offsets_from end texts)) (sym same) ∙ no_faults (front ++ text) texts end (k + 1) (behind front text at e) utf8.1 (omega (arith, ap length same)) in
     fault_first bytes k at end texts ∙ ap (λ o. option_or o (faults_at bytes (k + 1) (offsets_from end texts))) good ∙ others
 
 -- the texts of a layout with which nothing is wrong are UTF-8
-utf8_from : (bytes : List ℕ) (k from : ℕ) (offsets : List ℕ) → texts_fault bytes k from offsets ≡ None → Each IsUtf8 (texts_from bytes from offsets)
+utf8_from : (bytes : List ℕ) (k from : ℕ) (offsets : List ℕ) → texts_fault greatest_offset bytes k from offsets ≡ None → Each IsUtf8 (texts_from bytes from offsets)
 utf8_from bytes k from [] good = tt
 utf8_from bytes k from (to ∷ offsets) good =
-    let both = or_none (text_fault bytes k from to) (texts_fault bytes (k + 1) to offsets) good in
-    ((text_known bytes k from to both.0).2, utf8_from bytes (k + 1) to offsets both.1)
+    let both = or_none (text_fault greatest_offset bytes k from to) (texts_fault greatest_offset bytes (k + 1) to offsets) good in
+    ((text_known greatest_offset bytes k from to both.0).2, utf8_from bytes (k + 1) to offsets both.1)
 
 -- they have no more bytes than lie behind their first offset
-bytes_from : (bytes : List ℕ) (k from : ℕ) (offsets : List ℕ) → from ≤ reach bytes → texts_fault bytes k from offsets ≡ None → from + length (concat (texts_from bytes from offsets)) ≤ reach bytes
+bytes_from : (bytes : List ℕ) (k from : ℕ) (offsets : List ℕ) → from ≤ reach greatest_offset bytes → texts_fault greatest_offset bytes k from offsets ≡ None → from + length (concat (texts_from bytes from offsets)) ≤ reach greatest_offset bytes
 bytes_from bytes k from [] within good = omega arith
 bytes_from bytes k from (to ∷ offsets) within good =
-    let both = or_none (text_fault bytes k from to) (texts_fault bytes (k + 1) to offsets) good in
-    let known = text_known bytes k from to both.0 in
+    let both = or_none (text_fault greatest_offset bytes k from to) (texts_fault greatest_offset bytes (k + 1) to offsets) good in
+    let known = text_known greatest_offset bytes k from to both.0 in
     let rest = bytes_from bytes (k + 1) to offsets known.1 both.1 in
     let long = length-between bytes from to (omega (arith, known.1)) in
     omega (arith, known.0, rest, long, length-append (slice_range bytes from to) (concat (texts_from bytes to offsets)))
 
-start_known : (bytes : List ℕ) (from : ℕ) → start_fault bytes from ≡ None → from ≤ reach bytes
+start_known : (bytes : List ℕ) (from : ℕ) → start_fault greatest_offset bytes from ≡ None → from ≤ reach greatest_offset bytes
 start_known bytes from good = grind (arith, nat_tests)
 
 -- both, of a whole layout
@@ -103,10 +103,10 @@ pub record GoodTexts (texts : List Text) : Type 0 where
   pub utf8 : Each IsUtf8 texts
   pub small : length (concat texts) ≤ greatest_offset
 
-good_texts : (bytes offsets : List ℕ) → layout_fault bytes offsets ≡ None → GoodTexts (layout_texts bytes offsets)
+good_texts : (bytes offsets : List ℕ) → layout_fault greatest_offset bytes offsets ≡ None → GoodTexts (layout_texts bytes offsets)
 good_texts bytes [] good = record { utf8 = tt; small = lit≤ tt }
 good_texts bytes (from ∷ offsets) good =
-    let both = or_none (start_fault bytes from) (texts_fault bytes 0 from offsets) good in
+    let both = or_none (start_fault greatest_offset bytes from) (texts_fault greatest_offset bytes 0 from offsets) good in
     record { utf8 = utf8_from bytes 0 from offsets both.1; small = let all = bytes_from bytes 0 from offsets (start_known bytes from both.0) both.1 in omega arith }
 
 -- a text has a code in a dictionary
@@ -191,7 +191,7 @@ module _ (texts : List Text) (good : GoodTexts texts) where
   dictionary : List Text
   dictionary = dictionary_of texts
 
-  written_good : layout_fault (concat dictionary) (offsets_from 0 dictionary) ≡ None
+  written_good : layout_fault greatest_offset (concat dictionary) (offsets_from 0 dictionary) ≡ None
   unfolding dictionary
   written_good =
       let small : length (concat dictionary) ≤ greatest_offset = omega (arith, all_bytes [] texts, good.small) in

@@ -71,7 +71,7 @@ plain_all_codes null at dictionary [] = refl
 plain_all_codes null at dictionary (text ∷ texts) = ap (λ cs. unwrap_or (position_of dictionary text) 0 ∷ cs) (plain_all_codes null (at + 1) dictionary texts)
 
 -- the rows of a good column have no more bytes than lie after its first offset
-row_known : (there : Bool) (bytes : List ℕ) (at from to : ℕ) → (if there then text_fault bytes at from to else null_fault bytes at from to) ≡ None → (from ≤ to) × (to ≤ reach bytes)
+row_known : (there : Bool) (bytes : List ℕ) (at from to : ℕ) → (if there then text_fault greatest_offset bytes at from to else null_fault greatest_offset bytes at from to) ≡ None → (from ≤ to) × (to ≤ reach greatest_offset bytes)
 row_known true bytes at from to good = (grind (arith, nat_tests), grind (arith, nat_tests))
 row_known false bytes at from to good = (grind (arith, nat_tests), grind (arith, nat_tests))
 
@@ -79,22 +79,22 @@ row_bytes : (there : Bool) (text : Text) (texts : List Text) → length (concat 
 row_bytes true text texts = omega (arith, length-append text (concat texts))
 row_bytes false text texts = omega arith
 
-bytes_from : (bits bytes : List ℕ) (k from : ℕ) (offsets : List ℕ) → from ≤ reach bytes → rows_fault bits bytes k from offsets ≡ None → from + length (concat (present_texts (rows_from bits k (texts_from bytes from offsets)))) ≤ reach bytes
+bytes_from : (bits bytes : List ℕ) (k from : ℕ) (offsets : List ℕ) → from ≤ reach greatest_offset bytes → rows_fault greatest_offset bits bytes k from offsets ≡ None → from + length (concat (present_texts (rows_from bits k (texts_from bytes from offsets)))) ≤ reach greatest_offset bytes
 bytes_from bits bytes k from [] within good = omega arith
 bytes_from bits bytes k from (to ∷ offsets) within good =
-    let both = or_none (row_fault bits bytes k from to) (rows_fault bits bytes (k + 1) to offsets) good in
+    let both = or_none (row_fault greatest_offset bits bytes k from to) (rows_fault greatest_offset bits bytes (k + 1) to offsets) good in
     let known = row_known (present_at bits k) bytes k from to both.0 in
     let rest = bytes_from bits bytes (k + 1) to offsets known.1 both.1 in
     let long = length-between bytes from to (omega (arith, known.1)) in
     omega (arith, known.0, rest, long, row_bytes (present_at bits k) (slice_range bytes from to) (present_texts (rows_from bits (k + 1) (texts_from bytes to offsets))))
 
-start_known : (bytes : List ℕ) (from : ℕ) → start_fault bytes from ≡ None → from ≤ reach bytes
+start_known : (bytes : List ℕ) (from : ℕ) → start_fault greatest_offset bytes from ≡ None → from ≤ reach greatest_offset bytes
 start_known bytes from good = grind (arith, nat_tests)
 
-pub small_rows : (bits bytes offsets : List ℕ) → column_fault bits bytes offsets ≡ None → length (concat (present_texts (column_rows bits bytes offsets))) ≤ greatest_offset
+pub small_rows : (bits bytes offsets : List ℕ) → column_fault greatest_offset bits bytes offsets ≡ None → length (concat (present_texts (column_rows bits bytes offsets))) ≤ greatest_offset
 small_rows bits bytes [] good = omega arith
 small_rows bits bytes (from ∷ offsets) good =
-    let both = or_none (start_fault bytes from) (rows_fault bits bytes 0 from offsets) good in
+    let both = or_none (start_fault greatest_offset bytes from) (rows_fault greatest_offset bits bytes 0 from offsets) good in
     let all = bytes_from bits bytes 0 from offsets (start_known bytes from both.0) both.1 in
     omega arith
 
@@ -105,8 +105,8 @@ plain_present bytes offsets = plain_all 0 (layout_texts bytes offsets)
 pub plain_outcome : (bytes offsets : List ℕ) (codes dictionary_offsets dictionary_bytes : ℕ) → column_outcome [] bytes offsets codes dictionary_offsets dictionary_bytes ≡ encoding_outcome bytes offsets codes dictionary_offsets dictionary_bytes
 plain_outcome bytes offsets codes dictionary_offsets dictionary_bytes =
     let texts = layout_texts bytes offsets in
-    ap (λ n. unless_faulty (layout_fault bytes offsets) (rows_outcome n (present_texts (column_rows [] bytes offsets)) codes dictionary_offsets dictionary_bytes)) (length-rows [] bytes offsets)
-    ∙ ap (λ (ts : List Text). unless_faulty (layout_fault bytes offsets) (rows_outcome (length texts) ts codes dictionary_offsets dictionary_bytes)) (plain_present bytes offsets)
+    ap (λ n. unless_faulty (layout_fault greatest_offset bytes offsets) (rows_outcome n (present_texts (column_rows [] bytes offsets)) codes dictionary_offsets dictionary_bytes)) (length-rows [] bytes offsets)
+    ∙ ap (λ (ts : List Text). unless_faulty (layout_fault greatest_offset bytes offsets) (rows_outcome (length texts) ts codes dictionary_offsets dictionary_bytes)) (plain_present bytes offsets)
 
 pub plain_dictionary : (bytes offsets : List ℕ) → dictionary_of (present_texts (column_rows [] bytes offsets)) ≡ dictionary_of (layout_texts bytes offsets)
 plain_dictionary bytes offsets = ap (λ (ts : List Text). dictionary_of ts) (plain_present bytes offsets)

@@ -54,7 +54,7 @@ unless_faulty (Some refusal) result = Err refusal
 -- offsets and bytes
 abbrev pub rows_decoding_outcome : Option ℕ → List ℕ → List ℕ → List ℕ → ℕ → ℕ → Result Sizes Refusal
 rows_decoding_outcome null dictionary_bytes dictionary_offsets codes offsets bytes =
-    unless_faulty (layout_fault dictionary_bytes dictionary_offsets)
+    unless_faulty (layout_fault greatest_offset dictionary_bytes dictionary_offsets)
     (unless_refused (measured null (layout_texts dictionary_bytes dictionary_offsets) nothing codes) (λ sizes. fitting sizes offsets bytes))
 
 -- the same without nulls

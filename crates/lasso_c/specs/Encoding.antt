@@ -3,7 +3,7 @@ use Rattle.std.specs.Prelude.{ℕ, ◌*◌, Option, None, Some, List, [], ◌∷
 use Rattle.std.specs.List.{concat}
 use Rattle.lasso_parts.specs.Texts.{Text, position_of}
 use Rattle.lasso_c.specs.Bitmap.{bits_fit}
-use Rattle.lasso_c.specs.Layout.{layout_texts, layout_fault, column_fault, column_rows, present_texts}
+use Rattle.lasso_c.specs.Layout.{greatest_offset, layout_texts, layout_fault, column_fault, column_rows, present_texts}
 use Rattle.lasso_c.specs.Decoding.{fitting, unless_faulty}
 use Rattle.lasso_c.specs.declared.refusal.Sizes.{Sizes}
 use Rattle.lasso_c.specs.declared.refusal.Refusal.{Refusal}
@@ -52,12 +52,12 @@ rows_outcome rows texts codes dictionary_offsets dictionary_bytes =
 abbrev pub encoding_outcome : List ℕ → List ℕ → ℕ → ℕ → ℕ → Result Sizes Refusal
 encoding_outcome bytes offsets codes dictionary_offsets dictionary_bytes =
     let texts = layout_texts bytes offsets in
-    unless_faulty (layout_fault bytes offsets) (rows_outcome (length texts) texts codes dictionary_offsets dictionary_bytes)
+    unless_faulty (layout_fault greatest_offset bytes offsets) (rows_outcome (length texts) texts codes dictionary_offsets dictionary_bytes)
 
 -- why a column with this bitmap is refused, or nothing
 abbrev pub column_refusal : List ℕ → List ℕ → List ℕ → Option Refusal
 column_refusal bits bytes offsets =
-    if bits_fit bits (length (layout_texts bytes offsets)) then column_fault bits bytes offsets
+    if bits_fit bits (length (layout_texts bytes offsets)) then column_fault greatest_offset bits bytes offsets
     else Some (BitmapTooShort (8 * length bits))
 
 -- how encoding a column with this bitmap ends, in the same way

@@ -43,45 +43,45 @@ null_outcome None null = Ok null
 null_outcome (Some refusal) null = Err refusal
 
 -- a row of this number between two offsets: it is interned if it is present, and a null changes nothing
-abbrev pub InternsRow : Bool → ℕ → List ℕ → ℕ → ℕ → ℕ → InternerView → Result ℕ Refusal → InternerView → Type 0
-InternsRow true null bytes at from to old outcome new = InternsUnless (text_fault bytes at from to) at old (slice_range bytes from to) outcome new
-InternsRow false null bytes at from to old outcome new = (outcome ≡ null_outcome (null_fault bytes at from to) null) × (new ≡ old)
+abbrev pub InternsRow : ℕ → Bool → ℕ → List ℕ → ℕ → ℕ → ℕ → InternerView → Result ℕ Refusal → InternerView → Type 0
+InternsRow greatest true null bytes at from to old outcome new = InternsUnless (text_fault greatest bytes at from to) at old (slice_range bytes from to) outcome new
+InternsRow greatest false null bytes at from to old outcome new = (outcome ≡ null_outcome (null_fault greatest bytes at from to) null) × (new ≡ old)
 
 -- the row of this number of a column is interned, or refused
-abbrev pub InternsNext : List ℕ → ℕ → List ℕ → List ℕ → ℕ → InternerView → Result ℕ Refusal → InternerView → Type 0
-InternsNext bits null bytes offsets at old outcome new = InternsRow (present_at bits at) null bytes at (slice_index offsets at) (slice_index offsets (at + 1)) old outcome new
+abbrev pub InternsNext : ℕ → List ℕ → ℕ → List ℕ → List ℕ → ℕ → InternerView → Result ℕ Refusal → InternerView → Type 0
+InternsNext greatest bits null bytes offsets at old outcome new = InternsRow greatest (present_at bits at) null bytes at (slice_index offsets at) (slice_index offsets (at + 1)) old outcome new
 
 -- why interning a column ends after its first `done` rows: no row is left; or the column is wrong there, for the first time; or
 -- the interner refuses the next text, up to whose end the column is good, and nothing changes
-abbrev pub EndsAfter : List ℕ → List ℕ → List ℕ → ℕ → InternerView → Result (Unit {0}) Refusal → Type 0
-EndsAfter bits bytes offsets done interner (Ok _) = (column_fault bits bytes offsets ≡ None) × (done ≡ length (layout_texts bytes offsets))
-EndsAfter bits bytes offsets done interner (Err refusal) =
-    ((column_fault bits bytes offsets ≡ Some refusal) × ((outcome_report (Err refusal)).at ≡ done))
-    ⊎ ((column_fault bits bytes (take (done + 2) offsets) ≡ None) × ((text : Text) × (slice_get (column_rows bits bytes offsets) done ≡ Some (Some text)) × InternsCode done interner text (Err refusal) interner))
+abbrev pub EndsAfter : ℕ → List ℕ → List ℕ → List ℕ → ℕ → InternerView → Result (Unit {0}) Refusal → Type 0
+EndsAfter greatest bits bytes offsets done interner (Ok _) = (column_fault greatest bits bytes offsets ≡ None) × (done ≡ length (layout_texts bytes offsets))
+EndsAfter greatest bits bytes offsets done interner (Err refusal) =
+    ((column_fault greatest bits bytes offsets ≡ Some refusal) × ((outcome_report (Err refusal)).at ≡ done))
+    ⊎ ((column_fault greatest bits bytes (take (done + 2) offsets) ≡ None) × ((text : Text) × (slice_get (column_rows bits bytes offsets) done ≡ Some (Some text)) × InternsCode done interner text (Err refusal) interner))
 
 -- why a batch of that first offset and so many rows is refused before its first row, or nothing
-abbrev pub batch_start_fault : List ℕ → List ℕ → ℕ → ℕ → ℕ → Option Refusal
-batch_start_fault bits bytes first rows room =
+abbrev pub batch_start_fault : ℕ → List ℕ → List ℕ → ℕ → ℕ → ℕ → Option Refusal
+batch_start_fault greatest bits bytes first rows room =
     if nat_lt room rows then Some (CodesTooShort nothing)
-    else if bits_fit bits rows then start_fault bytes first
+    else if bits_fit bits rows then start_fault greatest bytes first
     else Some (BitmapTooShort (8 * length bits))
 
 -- the texts of the first `done` rows of a column are interned in order, and then it ends
-pub record InternsColumn (bits bytes offsets : List ℕ) (done : ℕ) (old : InternerView) (outcome : Result (Unit {0}) Refusal) (new : InternerView) : Type 0 where
+pub record InternsColumn (greatest : ℕ) (bits bytes offsets : List ℕ) (done : ℕ) (old : InternerView) (outcome : Result (Unit {0}) Refusal) (new : InternerView) : Type 0 where
   pub before : extend {K = ℕ} key_of_code old (present_texts (take done (column_rows bits bytes offsets))) (Ok tt) new
-  pub ends : EndsAfter bits bytes offsets done new outcome
+  pub ends : EndsAfter greatest bits bytes offsets done new outcome
 
 -- the same, unless the codes or the bitmap are too short
-abbrev pub InternsRoomed : Bool → Bool → List ℕ → List ℕ → List ℕ → ℕ → InternerView → Result (Unit {0}) Refusal → InternerView → Type 0
-InternsRoomed true fits bits bytes offsets done old outcome new = (done ≡ 0) × (outcome ≡ Err (CodesTooShort nothing)) × (new ≡ old)
-InternsRoomed false false bits bytes offsets done old outcome new = (done ≡ 0) × (outcome ≡ Err (BitmapTooShort (8 * length bits))) × (new ≡ old)
-InternsRoomed false true bits bytes offsets done old outcome new = InternsColumn bits bytes offsets done old outcome new
+abbrev pub InternsRoomed : ℕ → Bool → Bool → List ℕ → List ℕ → List ℕ → ℕ → InternerView → Result (Unit {0}) Refusal → InternerView → Type 0
+InternsRoomed greatest true fits bits bytes offsets done old outcome new = (done ≡ 0) × (outcome ≡ Err (CodesTooShort nothing)) × (new ≡ old)
+InternsRoomed greatest false false bits bytes offsets done old outcome new = (done ≡ 0) × (outcome ≡ Err (BitmapTooShort (8 * length bits))) × (new ≡ old)
+InternsRoomed greatest false true bits bytes offsets done old outcome new = InternsColumn greatest bits bytes offsets done old outcome new
 
 -- a batch is interned where there is room for so many codes
-abbrev pub InternsPart : ℕ → List ℕ → List ℕ → List ℕ → ℕ → InternerView → Result (Unit {0}) Refusal → InternerView → Type 0
-InternsPart room bits bytes offsets done old outcome new =
+abbrev pub InternsPart : ℕ → ℕ → List ℕ → List ℕ → List ℕ → ℕ → InternerView → Result (Unit {0}) Refusal → InternerView → Type 0
+InternsPart greatest room bits bytes offsets done old outcome new =
     let rows = length (layout_texts bytes offsets) in
-    InternsRoomed (nat_lt room rows) (bits_fit bits rows) bits bytes offsets done old outcome new
+    InternsRoomed greatest (nat_lt room rows) (bits_fit bits rows) bits bytes offsets done old outcome new
 
 -- what a batch tells: how many of its rows were done, and the number of the refused one
 abbrev pub batch_report : ℕ → Result (Unit {0}) Refusal → LassoReport
@@ -89,10 +89,10 @@ batch_report done (Ok _) = record { texts = done; bytes = 0; at = 0 }
 batch_report done (Err _) = record { texts = done; bytes = 0; at = done }
 
 -- how a batch ends on a handle, which has this bitmap or none: its status and report, and what the handle holds
-abbrev pub BatchEnds : Option Interner → List ℕ → List ℕ → List ℕ → ℕ → ℕ → LassoReport → Option Interner → Type 0
-BatchEnds None bits bytes offsets room status report new = Reports (Err NoInterner) status report × (new ≡ None)
-BatchEnds (Some old) bits bytes offsets room status report new =
-    (interner : Interner) × (outcome : Result (Unit {0}) Refusal) × (new ≡ Some interner) × InternsPart room bits bytes offsets report.texts old.rodeo outcome interner.rodeo
+abbrev pub BatchEnds : ℕ → Option Interner → List ℕ → List ℕ → List ℕ → ℕ → ℕ → LassoReport → Option Interner → Type 0
+BatchEnds greatest None bits bytes offsets room status report new = Reports (Err NoInterner) status report × (new ≡ None)
+BatchEnds greatest (Some old) bits bytes offsets room status report new =
+    (interner : Interner) × (outcome : Result (Unit {0}) Refusal) × (new ≡ Some interner) × InternsPart greatest room bits bytes offsets report.texts old.rodeo outcome interner.rodeo
     × (status ≡ outcome_status outcome) × (report ≡ batch_report report.texts outcome)
 
 -- how interning one text ends on a handle: its status, and what the handle holds

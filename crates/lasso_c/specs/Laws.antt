@@ -2,7 +2,7 @@
 use Rattle.std.specs.Prelude.{ℕ, ◌≡◌, ◌<◌, ◌≤◌, List, [], length, slice_get, None, Some, Ok}
 use Rattle.std.specs.List.{concat}
 use Rattle.lasso_parts.specs.Texts.{Text, IsDistinct, position_of}
-use Rattle.lasso_c.specs.Layout.{layout_texts, layout_fault, offsets_from}
+use Rattle.lasso_c.specs.Layout.{greatest_offset, layout_texts, layout_fault, offsets_from}
 use Rattle.lasso_c.specs.Encoding.{with_all_new, dictionary_of, codes_of, sizes_of}
 use Rattle.lasso_c.specs.Decoding.{texts_named, decoding_outcome}
 
@@ -18,7 +18,7 @@ pub record DecodesBack (dictionary texts : List Text) (codes : List ℕ) : Type 
 
 -- decoding what encoding writes of a layout with which nothing is wrong gives its texts
 abbrev pub DecodingUndoesEncoding : Type 0
-DecodingUndoesEncoding = (bytes offsets : List ℕ) → layout_fault bytes offsets ≡ None →
+DecodingUndoesEncoding = (bytes offsets : List ℕ) → layout_fault greatest_offset bytes offsets ≡ None →
     let texts = layout_texts bytes offsets in
     let dictionary = dictionary_of texts in
     DecodesBack dictionary texts (codes_of dictionary texts)

@@ -6,8 +6,9 @@ ghost use Rattle.lasso_c.specs.Layout.{greatest_offset, layout_fault, layout_tex
 ghost use Rattle.lasso_c.specs.Bitmap.{bitmap_of, code_bits};
 ghost use Rattle.lasso_c.specs.Decoding.{measured, nothing, nulls_decoding_outcome, rows_decoding_outcome, rows_named, text_of_code, with_next};
 
-use crate::layout::{GREATEST_OFFSET, check_layout, put_text, text_at};
+use crate::layout::{check_layout, put_text, text_at};
 use crate::nulls::put_bits;
+use crate::offsets::Offset;
 use crate::refusal::{Refusal, Sizes};
 
 // Writes the texts that the codes name, or nothing. The code of nulls, if there is one, names an empty text.
@@ -83,7 +84,7 @@ fn measure(
     codes: &[u32],
     null: Option<u32>,
 ) -> Result<Sizes, Refusal>
-    requires { layout_fault dictionary_bytes.now dictionary_offsets.now ≡ None }
+    requires { layout_fault greatest_offset dictionary_bytes.now dictionary_offsets.now ≡ None }
     ensures { result ≡ measured null (layout_texts dictionary_bytes.now dictionary_offsets.now) nothing codes.now }
 {
     let mut sizes = Sizes { texts: 0, bytes: 0 };
@@ -96,7 +97,7 @@ fn measure(
 
 // The bytes of the text that the code names, if there is one. Nothing may be wrong with the layout.
 fn text_of<'a>(bytes: &'a [u8], offsets: &[u32], code: u32, null: Option<u32>) -> Option<&'a [u8]>
-    requires { layout_fault bytes.now offsets.now ≡ None }
+    requires { layout_fault greatest_offset bytes.now offsets.now ≡ None }
     ensures { option_copied result ≡ text_of_code null (layout_texts bytes.now offsets.now) code }
 {
     if let Some(null) = null {
@@ -117,7 +118,7 @@ fn with_next(sizes: Sizes, text: Option<&[u8]>) -> Result<Sizes, Refusal>
     let Some(text) = text else {
         return Err(Refusal::NoSuchCode(sizes.texts));
     };
-    if text.len() > GREATEST_OFFSET - sizes.bytes {
+    if text.len() > u32::greatest() - sizes.bytes {
         return Err(Refusal::TooManyBytes(sizes.texts));
     }
     Ok(Sizes {
@@ -135,7 +136,7 @@ fn write_named(
     bytes: &mut [u8],
     offsets: &mut [u32],
 )
-    requires layout { layout_fault dictionary_bytes.now dictionary_offsets.now ≡ None }
+    requires layout { layout_fault greatest_offset dictionary_bytes.now dictionary_offsets.now ≡ None }
     requires room { IsOkAnd (measured null (layout_texts dictionary_bytes.now dictionary_offsets.now) nothing codes.now)
         (λ sizes. (sizes.texts < length offsets.old) × (sizes.bytes ≤ length bytes.old)) }
     ensures bytes { bytes.new ≡ over (concat (rows_named null (layout_texts dictionary_bytes.now dictionary_offsets.now) codes.now)) bytes.old }

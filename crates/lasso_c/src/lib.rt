@@ -20,15 +20,20 @@ pub mod handle;
 pub mod interner;
 #[cfg(test)]
 mod interner_tests;
+pub mod large;
+#[cfg(test)]
+mod large_tests;
 pub mod laws;
 mod layout;
 #[cfg(test)]
 mod null_tests;
 mod nulls;
+mod offsets;
 pub mod refusal;
 pub mod slot;
 #[cfg(test)]
 mod tests;
+mod widths;
 
 use refusal::LassoReport;
 use std::alloc::Global;

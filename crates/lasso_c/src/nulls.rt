@@ -5,6 +5,7 @@ ghost use Rattle.lasso_c.specs.Bitmap.{bitmap_of, bits_fit, byte_of, code_bits, 
 ghost use Rattle.lasso_c.specs.Layout.{null_fault, over};
 
 use crate::layout::reach;
+use crate::offsets::Offset;
 use crate::refusal::Refusal;
 
 // Whether the bitmap has a bit for each of so many rows, or is none.
@@ -23,13 +24,18 @@ pub(crate) fn is_present(bits: &[u8], at: usize) -> bool
 }
 
 // Finds what is wrong with the null of this number between two offsets.
-pub(crate) fn check_null(bytes: &[u8], at: usize, from: usize, to: usize) -> Result<(), Refusal>
-    ensures { result_err result ≡ null_fault bytes.now at from to }
+pub(crate) fn check_null<O: Offset>(
+    bytes: &[u8],
+    at: usize,
+    from: usize,
+    to: usize,
+) -> Result<(), Refusal>
+    ensures { result_err result ≡ null_fault O.greatest bytes.now at from to }
 {
     if to < from {
         return Err(Refusal::OffsetsFall(at));
     }
-    if to > reach(bytes) {
+    if to > reach::<O>(bytes) {
         return Err(Refusal::OffsetPastBytes(at));
     }
     Ok(())
