@@ -43,12 +43,12 @@ byte_room null codes at few =
     let count : length bits ≤ 7 = omega (arith, length-drop at (code_bits null codes), length-map codes (λ code. not (nat_eq code null))) in
     omega (arith, byte_small bits, pow-le-pow_right {n = 2} (lit< tt) count)
 
-length-bytes_of : (count : ℕ) (bits : List Bool) → length (bytes_of count bits) ≡ count
+pub length-bytes_of : (count : ℕ) (bits : List Bool) → length (bytes_of count bits) ≡ count
 length-bytes_of zero bits = refl
 length-bytes_of (suc count) bits = ap suc (length-bytes_of count (drop 8 bits))
 
 -- a byte has the eight bits from its own on
-byte_at : (count : ℕ) (bits : List Bool) (at : ℕ) → at < count → slice_get (bytes_of count bits) at ≡ Some (byte_of (take 8 (drop (8 * at) bits)))
+pub byte_at : (count : ℕ) (bits : List Bool) (at : ℕ) → at < count → slice_get (bytes_of count bits) at ≡ Some (byte_of (take 8 (drop (8 * at) bits)))
 byte_at zero bits at small = absurd (omega arith)
 byte_at (suc count) bits zero small = refl
 byte_at (suc count) bits (suc at) small =

@@ -10,3 +10,4 @@ pub mod LayoutSteps
 pub mod Columns
 pub mod SlotValues
 pub mod Loading
+pub mod NullsBack

@@ -23,7 +23,7 @@ use Rattle.lasso_c.proofs.Layouts.{good_text, text_known, or_none}
 use Rattle.lasso_c.proofs.Interning.{position_stays, new_bytes}
 
 -- something holds of each text
-abbrev Each : (Text → Type 0) → List Text → Type 0
+abbrev pub Each : (Text → Type 0) → List Text → Type 0
 Each P [] = Unit {0}
 Each P (text ∷ texts) = P text × Each P texts
 
@@ -110,7 +110,7 @@ good_texts bytes (from ∷ offsets) good =
     record { utf8 = utf8_from bytes 0 from offsets both.1; small = let all = bytes_from bytes 0 from offsets (start_known bytes from both.0) both.1 in omega arith }
 
 -- a text has a code in a dictionary
-abbrev HasCode : List Text → Text → Type 0
+abbrev pub HasCode : List Text → Text → Type 0
 HasCode dictionary text = (n : ℕ) × (position_of dictionary text ≡ Some n)
 
 new_stands : (found : Option ℕ) (texts : List Text) (text : Text) → position_of texts text ≡ found → HasCode (if is_some found then texts else texts ++ text ∷ []) text
@@ -118,7 +118,7 @@ new_stands None texts text none = (length texts, position_last texts text none)
 new_stands (Some n) texts text at = (n, at)
 
 -- each text that is interned stands in the dictionary
-all_stand : (texts more : List Text) → Each (HasCode (with_all_new texts more)) more
+pub all_stand : (texts more : List Text) → Each (HasCode (with_all_new texts more)) more
 all_stand texts [] = tt
 all_stand texts (text ∷ more) =
     let here = new_stands (position_of texts text) texts text refl in
@@ -155,7 +155,7 @@ all_distinct texts [] distinct = distinct
 all_distinct texts (text ∷ more) distinct = all_distinct (with_new texts text) more (distinct_by (position_of texts text) texts text refl distinct)
 
 -- the text at the position of a code
-at_code : (dictionary : List Text) (text : Text) → HasCode dictionary text → slice_get dictionary (unwrap_or (position_of dictionary text) 0) ≡ Some text
+pub at_code : (dictionary : List Text) (text : Text) → HasCode dictionary text → slice_get dictionary (unwrap_or (position_of dictionary text) 0) ≡ Some text
 at_code dictionary text stands = ap (λ o. slice_get dictionary (unwrap_or o 0)) stands.1 ∙ position_here dictionary text stands.0 stands.1
 
 named_back : (dictionary texts : List Text) → Each (HasCode dictionary) texts → texts_named dictionary (codes_of dictionary texts) ≡ texts
