@@ -16,7 +16,7 @@ import os
 import weakref
 from array import array
 from collections.abc import Iterable, Iterator
-from ctypes import POINTER, byref, c_int32, c_size_t, c_uint8, c_uint32
+from ctypes import POINTER, byref, c_int32, c_int64, c_size_t, c_uint8, c_uint32
 from itertools import accumulate
 from typing import Any
 
@@ -76,7 +76,7 @@ _ERRORS: dict[int, type[LassoError]] = {
 }
 _NO_LIMIT, _ABSENT = c_size_t(-1).value, NULL
 
-_BYTES, _OFFSETS, _CODES = ((POINTER(kind), c_size_t) for kind in (c_uint8, c_int32, c_uint32))
+_BYTES, _OFFSETS, _LARGE_OFFSETS, _CODES = ((POINTER(kind), c_size_t) for kind in (c_uint8, c_int32, c_int64, c_uint32))
 
 
 def _load() -> ctypes.CDLL:
@@ -89,6 +89,7 @@ def _load() -> ctypes.CDLL:
         ("new", status, [c_size_t]),
         ("intern", status, [*_BYTES, POINTER(c_uint32)]),
         ("intern_batch_nulls", status, [*_BYTES, *_OFFSETS, *_BYTES, c_uint32, *_CODES, POINTER(_Report)]),
+        ("intern_batch_nulls_large", status, [*_BYTES, *_LARGE_OFFSETS, *_BYTES, c_uint32, *_CODES, POINTER(_Report)]),
         ("get", status, [*_BYTES, POINTER(c_uint32)]),
         ("get_batch", status, [*_BYTES, *_OFFSETS, c_uint32, *_CODES, POINTER(_Report)]),
         ("resolve", status, [c_uint32, *_BYTES, POINTER(c_size_t)]),
@@ -196,7 +197,7 @@ class Interner:
         """The codes of many texts, which are appended where they are absent. A null has the code NULL, and no text is appended for it.
 
         ``texts`` is an iterable of str and None, as a list or a numpy array, or an Arrow array of strings: an object with
-        ``buffers()``, ``offset`` and its length. The texts before a refused one stay, and the error names its ``position``.
+        ``buffers()``, ``offset`` and its length, and of large strings also ``type``, whose name begins with "large". The texts before a refused one stay, and the error names its ``position``.
         """
         if hasattr(texts, "buffers"):
             return self._encode_arrow(texts)
@@ -209,14 +210,19 @@ class Interner:
         count = len(texts)
         if count == 0:
             return array("I")
-        offsets = memoryview(starts).cast("B")[4 * texts.offset : 4 * (texts.offset + count + 1)]
+        large = str(getattr(texts, "type", "")).startswith("large")
+        kind, call = (c_int64, _library.lasso_intern_batch_nulls_large) if large else (c_int32, _library.lasso_intern_batch_nulls)
+        width = ctypes.sizeof(kind)
+        offsets = memoryview(starts).cast("B")[width * texts.offset : width * (texts.offset + count + 1)]
         size = 0 if data is None else memoryview(data).nbytes
         present = b"" if validity is None else _bits(memoryview(validity), texts.offset, count)
-        return self._encode(_view(c_uint8, data, size), _view(c_int32, offsets, count + 1), count, present)
+        return self._encode(_view(c_uint8, data, size), _view(kind, offsets, count + 1), count, present, call)
 
-    def _encode(self, data: tuple[Any, int], starts: tuple[Any, int], count: int, present: bytes) -> array:
+    def _encode(
+        self, data: tuple[Any, int], starts: tuple[Any, int], count: int, present: bytes, call: Any = _library.lasso_intern_batch_nulls,
+    ) -> array:
         codes, report = array("I", bytes(4 * count)), _Report()
-        status = _library.lasso_intern_batch_nulls(
+        status = call(
             byref(self._handle), *data, *starts, *_bytes(present), NULL, *_view(c_uint32, codes, count), byref(report))
         _expect_done(status, None if status == _NO_INTERNER else report.texts)
         return codes

@@ -8,10 +8,11 @@ from lasso import NULL, Interner, InternerClosed, LassoError, LimitReached, NotU
 
 
 class Column:
-    """An array of strings as pyarrow has it: two buffers, an offset and a length."""
+    """An array of strings as pyarrow has it: three buffers, an offset and a length."""
 
-    def __init__(self, data, offsets, start=0, validity=None):
-        self.data, self.starts, self.validity = data, struct.pack(f"<{len(offsets)}i", *offsets), validity
+    def __init__(self, data, offsets, start=0, validity=None, large=False):
+        self.data, self.starts, self.validity = data, struct.pack(f"<{len(offsets)}{'q' if large else 'i'}", *offsets), validity
+        self.type = "large_string" if large else "string"
         self.offset, self.length = start, len(offsets) - 1 - start
 
     def buffers(self):
@@ -49,6 +50,14 @@ class Interning(unittest.TestCase):
             self.assertEqual(list(interner.encode(Column(b"redbluered", [0, 3, 7, 10]))), [0, 1, 0])
             self.assertEqual(list(interner.encode(Column(b"redbluered", [0, 3, 7, 10], start=1))), [1, 0])
             self.assertEqual(list(interner.encode(Column(None, [0, 0]))), [2])
+
+    def test_takes_the_buffers_of_large_strings(self):
+        with Interner() as interner:
+            self.assertEqual(list(interner.encode(Column(b"redbluered", [0, 3, 7, 10], large=True))), [0, 1, 0])
+            self.assertEqual(list(interner.encode(Column(b"redbluered", [0, 3, 7, 10], start=2, large=True))), [0])
+            self.assertEqual(list(interner.encode(Column(b"redbluered", [0, 3, 7, 10], validity=b"\5", large=True))), [0, NULL, 0])
+            with self.assertRaises(WrongLayout):
+                interner.encode(Column(b"red", [0, 2**32 + 3], large=True))
 
     def test_gives_nulls_a_code_of_their_own(self):
         with Interner() as interner:
