@@ -30,7 +30,7 @@
  * size, as to 8 for 24 bytes.
  *
  * A column with nulls has a bitmap too, as Arrow has it: bit i % 8 of byte i / 8, counted from the least, is 1 where row i is
- * present and 0 where it is a null. The calls whose names end with _nulls take or write one. A null has a code that the caller
+ * present and 0 where it is a null. The calls with _nulls in their names take or write one. A null has a code that the caller
  * names, LASSO_NULL mostly, and no text is interned for it.
  *
  * Chosen collisions: texts are hashed with a fixed seed, so whoever chooses the texts can make them collide. Each search then
@@ -87,7 +87,7 @@ enum lasso_status {
  * LASSO_NO_MEMORY,
  * LASSO_NO_INTERNER:       all three are 0.
  *
- * lasso_intern_batch says below what it and lasso_intern_batch_nulls tell instead.
+ * The calls whose names begin with lasso_intern_batch tell something else, which is said there.
  */
 struct lasso_report {
     size_t texts;
@@ -175,7 +175,8 @@ uint32_t lasso_decode(const uint8_t *dictionary_bytes, size_t dictionary_bytes_l
 
 /*
  * Decodes a column with nulls: the same as lasso_decode, where the code null gives an empty row, whose bit is 0; each other row has
- * the bit 1. So it gives back what lasso_encode_nulls was given with the same null, if no text had that code too.
+ * the bit 1. So it gives back the texts and the nulls that lasso_encode_nulls was given with the same null, if no text had that code
+ * too. The bytes that a null had are gone.
  *
  * null                the code of nulls. It is never looked up in the dictionary.
  * present             the caller's, written: the bitmap. present_length counts bytes, one for every eight codes, of which the last
