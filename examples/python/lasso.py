@@ -6,23 +6,39 @@
         interner.encode(["red", "blue", "red"])   # array('I', [0, 1, 0])
         interner[1]                               # 'blue'
 
-The environment variable LASSO_LIBRARY names the shared library, which is linked from the static one: ``examples/run`` has the line.
+The shared library is the one that the environment variable LASSO_LIBRARY names, or else ``liblasso.so`` in this file's folder. README.md there
+says how to link it.
 """
 
 from __future__ import annotations
 
 import ctypes
+import operator
 import os
+import sys
 import weakref
 from array import array
 from collections.abc import Iterable, Iterator
 from ctypes import POINTER, byref, c_int32, c_size_t, c_uint8, c_uint32
 from itertools import accumulate
-from typing import Any
+from pathlib import Path
+from types import TracebackType
+from typing import Any, Protocol
 
 __all__ = [
-    "CodesExhausted", "Interner", "InternerClosed", "LassoError", "LimitReached", "NotUtf8", "OutOfMemory", "WrongLayout",
+    "ArrowStrings", "CodesExhausted", "Interner", "InternerClosed", "LassoError", "LimitReached", "NotUtf8", "OutOfMemory", "WrongLayout",
 ]
+
+
+class ArrowStrings(Protocol):
+    """An Arrow array of strings with offsets of 32 bits, as ``pyarrow.array(["red", "blue"])`` makes it. ``buffers()`` are the validity, which is
+    not read, the offsets and the bytes. ``null_count`` and ``type`` are read where there are any."""
+
+    offset: int
+
+    def buffers(self) -> list[Any]: ...
+
+    def __len__(self) -> int: ...
 
 
 class LassoError(Exception):
@@ -38,7 +54,7 @@ class WrongLayout(LassoError):
 
 
 class NotUtf8(LassoError):
-    """A text is not UTF-8."""
+    """A text is not UTF-8. A str is not where it has a lone surrogate."""
 
 
 class OutOfMemory(LassoError, MemoryError):
@@ -71,15 +87,17 @@ _ERRORS: dict[int, type[LassoError]] = {
     1: WrongLayout, 2: WrongLayout, 3: NotUtf8, 9: OutOfMemory, 10: LimitReached, 11: CodesExhausted, 12: InternerClosed,
 }
 _NO_LIMIT, _ABSENT = c_size_t(-1).value, c_uint32(-1).value
+_MOST_BYTES = 2**31 - 1
 
 _BYTES, _OFFSETS, _CODES = ((POINTER(kind), c_size_t) for kind in (c_uint8, c_int32, c_uint32))
 
 
 def _load() -> ctypes.CDLL:
-    path = os.environ.get("LASSO_LIBRARY")
-    if path is None:
-        raise ImportError("LASSO_LIBRARY names no shared library")
-    library = ctypes.CDLL(path)
+    path = os.environ.get("LASSO_LIBRARY") or str(Path(__file__).with_name("liblasso.so"))
+    try:
+        library = ctypes.CDLL(path)
+    except OSError as fault:
+        raise ImportError(f"no shared library of lasso, which LASSO_LIBRARY can name: {fault}") from fault
     handle, status = POINTER(_Handle), c_uint32
     for name, result, arguments in [
         ("new", status, [c_size_t]),
@@ -117,6 +135,11 @@ def _bytes(data: bytes) -> tuple[Any, int]:
     return _sized(c_uint8, ctypes.c_char_p(data), len(data))
 
 
+def _encoded(text: str) -> bytes:
+    """The text's bytes. A lone surrogate becomes bytes that are not UTF-8, which the library refuses."""
+    return text.encode("utf-8", "surrogatepass")
+
+
 def _view(kind: type, buffer: Any, length: int) -> tuple[Any, int]:
     """The first elements of an object with Python's buffer protocol, which is not copied where it can be written."""
     if length == 0:
@@ -127,11 +150,30 @@ def _view(kind: type, buffer: Any, length: int) -> tuple[Any, int]:
     return _sized(kind, (kind * length).from_buffer(view), length)
 
 
+def _offsets(sizes: Iterable[int], count: int) -> Any:
+    """Where texts of these sizes begin and the last one ends. numpy does it where the program has loaded it, since that is faster."""
+    numpy = sys.modules.get("numpy")
+    if numpy is None:
+        return array("i", list(accumulate(sizes, initial=0)))
+    starts = numpy.zeros(count + 1, dtype=numpy.int32)
+    numpy.cumsum(numpy.fromiter(sizes, dtype=numpy.int32, count=count), out=starts[1:])
+    return starts
+
+
 def _layout(texts: Iterable[str]) -> tuple[tuple[Any, int], tuple[Any, int], int]:
-    """Texts as they cross: their bytes, their offsets, and how many there are."""
-    data = [text.encode() for text in texts]
-    starts = array("i", [0, *accumulate(map(len, data))])
-    return _bytes(b"".join(data)), _view(c_int32, starts, len(starts)), len(data)
+    """Texts as they cross: their bytes, their offsets, and how many there are. An item that is no str raises TypeError."""
+    if isinstance(texts, (str, bytes)):
+        raise TypeError("one text, where many are wanted: give a list of texts")
+    items = texts.tolist() if hasattr(texts, "tolist") else list(texts)
+    whole = "".join(items)
+    if whole.isascii():
+        data, sizes = whole.encode("ascii"), map(len, items)
+    else:
+        encoded = [_encoded(text) for text in items]
+        data, sizes = b"".join(encoded), map(len, encoded)
+    if len(data) > _MOST_BYTES:
+        raise ValueError(f"texts of {len(data)} bytes: give fewer at a time, of at most {_MOST_BYTES} bytes")
+    return _bytes(data), _view(c_int32, _offsets(sizes, len(items)), len(items) + 1), len(items)
 
 
 def _message(status: int) -> str:
@@ -144,21 +186,34 @@ def _expect_done(status: int, position: int | None = None) -> None:
         raise _ERRORS.get(status, LassoError)(_message(status), position)
 
 
+def _size(limit: int | None) -> int:
+    """A limit as it crosses."""
+    if limit is None:
+        return _NO_LIMIT
+    if not 0 <= limit <= _NO_LIMIT:
+        raise ValueError(f"a limit of {limit} bytes")
+    return limit
+
+
 class Interner:
     """Texts, each once, in the order in which they came. A text's code is its position, from 0.
 
-    ``limit`` is how many bytes the texts may take; None is no limit. One thread at a time uses an interner.
+    ``limit`` is how many bytes the texts' buckets may take; None is no limit. The first bucket has 4,096 bytes whatever the limit. One thread at a
+    time uses an interner. Its memory is given back at the end of a ``with`` block, by ``close``, or when the interner is garbage.
     """
 
     def __init__(self, limit: int | None = None) -> None:
+        size = _size(limit)
         self._handle = _Handle()
         self._close = weakref.finalize(self, _library.lasso_free, self._handle)
-        _expect_done(_library.lasso_new(byref(self._handle), _NO_LIMIT if limit is None else limit))
+        _expect_done(_library.lasso_new(byref(self._handle), size))
 
     def __enter__(self) -> Interner:
         return self
 
-    def __exit__(self, *_: object) -> None:
+    def __exit__(
+        self, kind: type[BaseException] | None, fault: BaseException | None, traceback: TracebackType | None
+    ) -> None:
         self.close()
 
     def close(self) -> None:
@@ -166,22 +221,30 @@ class Interner:
         self._close()
 
     def intern(self, text: str) -> int:
-        """The code of a text, which is appended if it is absent."""
+        """The code of a text, which is appended if it is absent.
+
+        Raises NotUtf8; for an absent text LimitReached, CodesExhausted or OutOfMemory. The interner is as it was then.
+        """
         code = c_uint32()
-        _expect_done(_library.lasso_intern(byref(self._handle), *_bytes(text.encode()), byref(code)))
+        _expect_done(_library.lasso_intern(byref(self._handle), *_bytes(_encoded(text)), byref(code)))
         return code.value
 
-    def encode(self, texts: Any) -> array:
-        """The codes of many texts, which are appended where they are absent.
+    def encode(self, texts: Iterable[str] | ArrowStrings) -> array[int]:
+        """The codes of many texts, which are appended where they are absent: an array of type ``I``, which numpy takes as it is.
 
-        ``texts`` is an iterable of str, as a list or a numpy array, or an Arrow array of strings: an object with ``buffers()``,
-        ``offset`` and its length, without nulls. The texts before a refused one stay, and the error names its ``position``.
+        ``texts`` is an iterable of str, as a list or a numpy array, or an Arrow array of strings without nulls. The texts before a refused one
+        stay, and the error, one of those of ``intern`` or WrongLayout, has its ``position``. Nothing is interned where an item is no str or
+        the array is no array of strings, which raises TypeError, or where it has nulls or the texts more than 2^31 - 1 bytes, which raises
+        ValueError.
         """
         if hasattr(texts, "buffers"):
             return self._encode_arrow(texts)
         return self._encode(*_layout(texts))
 
-    def _encode_arrow(self, texts: Any) -> array:
+    def _encode_arrow(self, texts: Any) -> array[int]:
+        kind = str(getattr(texts, "type", "string"))
+        if kind not in ("string", "utf8"):
+            raise TypeError(f"an Arrow array of {kind}, where string is wanted")
         if getattr(texts, "null_count", 0):
             raise ValueError("an array with nulls")
         _validity, starts, data = texts.buffers()
@@ -192,7 +255,7 @@ class Interner:
         size = 0 if data is None else memoryview(data).nbytes
         return self._encode(_view(c_uint8, data, size), _view(c_int32, offsets, count + 1), count)
 
-    def _encode(self, data: tuple[Any, int], starts: tuple[Any, int], count: int) -> array:
+    def _encode(self, data: tuple[Any, int], starts: tuple[Any, int], count: int) -> array[int]:
         codes, report = array("I", bytes(4 * count)), _Report()
         status = _library.lasso_intern_batch(
             byref(self._handle), *data, *starts, *_view(c_uint32, codes, count), byref(report))
@@ -200,9 +263,9 @@ class Interner:
         return codes
 
     def get(self, text: str) -> int | None:
-        """The code of a text, or None if it is absent."""
+        """The code of a text, or None if it is absent. Raises NotUtf8."""
         code = c_uint32()
-        status = _library.lasso_get(byref(self._handle), *_bytes(text.encode()), byref(code))
+        status = _library.lasso_get(byref(self._handle), *_bytes(_encoded(text)), byref(code))
         if status == _NO_SUCH_TEXT:
             return None
         _expect_done(status)
@@ -222,6 +285,7 @@ class Interner:
 
     def __getitem__(self, code: int) -> str:
         """The text of a code. A code that has none raises IndexError."""
+        code = operator.index(code)
         if not 0 <= code < len(self):
             raise IndexError(code)
         text, whole = (c_uint8 * 256)(), c_size_t()
@@ -238,7 +302,12 @@ class Interner:
         return iter(self.texts())
 
     def texts(self, start: int = 0) -> list[str]:
-        """The texts from a code on, in the order of their codes: what a reader lacks that has those before."""
+        """The texts from a code on, in the order of their codes: what a reader lacks that has those before.
+
+        Raises ValueError for a code below 0, and LassoError where the texts have more than 2^31 - 1 bytes.
+        """
+        if start < 0:
+            raise ValueError(f"a code of {start}")
         handle, report, none, one = byref(self._handle), _Report(), (c_uint8 * 1)(), (c_int32 * 1)()
         status = _library.lasso_dictionary(handle, start, none, 0, one, 1, byref(report))
         if status not in (_OFFSETS_SHORT, _BYTES_SHORT):
@@ -262,7 +331,7 @@ class Interner:
 
     @limit.setter
     def limit(self, limit: int | None) -> None:
-        _expect_done(_library.lasso_set_limit(byref(self._handle), _NO_LIMIT if limit is None else limit))
+        _expect_done(_library.lasso_set_limit(byref(self._handle), _size(limit)))
 
     def clear(self) -> None:
         """Forgets every text. Codes begin from 0 again."""

@@ -3,6 +3,12 @@
 import gc
 import struct
 import unittest
+from unittest import mock
+
+try:
+    import numpy
+except ImportError:
+    numpy = None
 
 from lasso import Interner, InternerClosed, LassoError, LimitReached, NotUtf8, WrongLayout
 
@@ -10,7 +16,8 @@ from lasso import Interner, InternerClosed, LassoError, LimitReached, NotUtf8, W
 class Column:
     """An array of strings as pyarrow has it: two buffers, an offset and a length."""
 
-    def __init__(self, data, offsets, start=0, null_count=0):
+    def __init__(self, data, offsets, start=0, null_count=0, kind="string"):
+        self.type = kind
         self.data, self.starts = data, struct.pack(f"<{len(offsets)}i", *offsets)
         self.offset, self.length, self.null_count = start, len(offsets) - 1 - start, null_count
 
@@ -51,6 +58,49 @@ class Interning(unittest.TestCase):
             self.assertEqual(list(interner.encode(Column(None, [0, 0]))), [2])
             with self.assertRaises(ValueError):
                 interner.encode(Column(b"red", [0, 3], null_count=1))
+            with self.assertRaises(TypeError):
+                interner.encode(Column(b"red", [0, 0, 3, 0], kind="large_string"))
+            self.assertEqual(interner.texts(), ["red", "blue", ""])
+
+    def test_takes_any_iterable_of_texts(self):
+        with Interner() as interner:
+            self.assertEqual(list(interner.encode(text for text in ["b", "a", "b"])), [0, 1, 0])
+            self.assertEqual(list(interner.encode({"a": 1, "grün": 2})), [1, 2])
+            self.assertEqual(interner.encode(["a"]).typecode, "I")
+            self.assertEqual(interner.texts(), ["b", "a", "grün"])
+
+    @unittest.skipIf(numpy is None, "numpy is not installed")
+    def test_takes_arrays_of_numpy(self):
+        with Interner() as interner:
+            self.assertEqual(list(interner.encode(numpy.array(["b", "a", "b"]))), [0, 1, 0])
+            self.assertEqual(list(interner.encode(numpy.array(["grün", "a"], dtype=object))), [2, 1])
+            codes = numpy.frombuffer(interner.encode(["a", "c"]), dtype=numpy.uint32)
+            self.assertEqual((codes.tolist(), interner[codes[1]]), ([1, 3], "c"))
+            self.assertEqual(interner.texts(), ["b", "a", "grün", "c"])
+
+    def test_takes_nothing_but_texts(self):
+        with Interner() as interner:
+            for wrong in ("red", b"red", ["red", 1], ["red", None], [b"red"]):
+                with self.assertRaises(TypeError):
+                    interner.encode(wrong)
+            self.assertEqual(len(interner), 0)
+
+    def test_takes_at_most_the_bytes_that_offsets_can_tell(self):
+        with Interner() as interner, mock.patch("lasso._MOST_BYTES", 4):
+            with self.assertRaises(ValueError):
+                interner.encode(["red", "gr"])
+            self.assertEqual((len(interner), list(interner.encode(["red", "g"]))), (0, [0, 1]))
+
+    def test_refuses_what_is_not_utf8_once_encoded(self):
+        with Interner() as interner:
+            with self.assertRaises(NotUtf8) as caught:
+                interner.encode(["red", "\ud800", "blue"])
+            self.assertEqual((caught.exception.position, interner.texts()), (1, ["red"]))
+            for call in (interner.intern, interner.get):
+                with self.assertRaises(NotUtf8) as caught:
+                    call("\ud800")
+                self.assertIsNone(caught.exception.position)
+            self.assertEqual(len(interner), 1)
 
     def test_keeps_the_texts_before_a_refused_one(self):
         with Interner() as interner:
@@ -70,6 +120,17 @@ class Interning(unittest.TestCase):
             self.assertEqual((interner.limit, interner.intern("a text of more bytes than an entry")), (None, 1))
             interner.clear()
             self.assertEqual((len(interner), interner.intern("b")), (0, 0))
+
+    def test_has_no_limit_and_no_code_below_0(self):
+        with self.assertRaises(ValueError):
+            Interner(limit=-1)
+        with Interner() as interner:
+            for wrong in (-1, 2**64):
+                with self.assertRaises(ValueError):
+                    interner.limit = wrong
+            with self.assertRaises(ValueError):
+                interner.texts(-1)
+            self.assertIsNone(interner.limit)
 
     def test_tells_that_it_is_closed(self):
         interner = Interner()

@@ -26,7 +26,10 @@ fn for_each_line(mut work: impl FnMut(&[u8]) -> io::Result<()>) -> io::Result<()
         }
         let before = filled;
         filled += count;
-        let Some(last) = memrchr(b'\n', &buffer[before..filled]) else { continue };
+        let last = match memrchr(b'\n', &buffer[before..filled]) {
+            Some(last) => last,
+            None => continue,
+        };
         let end = before + last + 1;
         let lines = text_of(&buffer[..end])?.as_bytes();
         let mut start = 0;
