@@ -137,6 +137,5 @@ measure_codes() {
         done
     fi
     ! has counts --workers 4 || measure_four counts
-    ! has distinct --workers 4 || measure_four distinct
     ! has encode --workers 4 || measure_four encode --binary
 }
