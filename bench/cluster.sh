@@ -10,10 +10,10 @@ rounds_of_cluster() {
     local lines=$OUT/inputs/$1 round processes start
     for ((round = 0; round < CLUSTER_ROUNDS; round++)); do
         start=${EPOCHREALTIME/[.,]/}
-        "$CODES" encode --binary < "$lines" > "$OUT/cluster.whole"
+        $PRIORITY "$CODES" encode --binary < "$lines" > "$OUT/cluster.whole"
         echo "whole encode $(((${EPOCHREALTIME/[.,]/} - start) / 1000))e-3"
         for processes in 1 2 4; do
-            TMPDIR=$OUT LASSO_CODES=$CODES examples/cluster/with_parallel "$lines" "$OUT/cluster.parts" "$processes" "$CLUSTER_PARTS" |
+            TMPDIR=$OUT LASSO_CODES=$CODES $PRIORITY examples/cluster/with_parallel "$lines" "$OUT/cluster.parts" "$processes" "$CLUSTER_PARTS" |
                 sed "s/^/$processes /"
             cmp "$OUT/cluster.whole" "$OUT/cluster.parts"
         done
@@ -56,6 +56,7 @@ measure_cluster() {
     has merge || return 0
     need /usr/bin/parallel parallel
     make_long_inputs
+    take_priority
     printf '%-8s%-12s%8s%9s%8s%8s%8s\n' seconds processes cut encode merge all ratio
     for name in ten large; do
         rounds_of_cluster "$name" > "$OUT/cluster.rounds"

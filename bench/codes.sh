@@ -55,16 +55,21 @@ compare_outputs() {
     rm -f "$OUT/codes.right" "$OUT/codes.got"
 }
 
+# Times commands of standard input, ours first, under a title.
+time_commands() {
+    $PRIORITY python3 bench/elapsed.py "$1" "$CODES_ROUNDS"
+}
+
 # Counts and distinct lines of some inputs.
 measure_lines() {
     local name
     for name in zipf few; do
         commands_of_counts "$OUT/inputs/$name" | compare_outputs in_one_form
-        commands_of_counts "$OUT/inputs/$name" | python3 bench/elapsed.py "counts, $name" "$CODES_ROUNDS"
+        commands_of_counts "$OUT/inputs/$name" | time_commands "counts, $name"
     done
     for name in $NAMES; do
         commands_of_distinct "$OUT/inputs/$name" | compare_outputs cat
-        commands_of_distinct "$OUT/inputs/$name" | python3 bench/elapsed.py "distinct, $name" "$CODES_ROUNDS"
+        commands_of_distinct "$OUT/inputs/$name" | time_commands "distinct, $name"
     done
 }
 
@@ -76,13 +81,13 @@ measure_columns_of_lines() {
         lines=$OUT/inputs/$name
         "$CODES" encode --binary < "$lines" > "$column"
         python3 bench/column.py < "$lines" | cmp - "$column"
-        python3 bench/elapsed.py "encode --binary, $name" "$CODES_ROUNDS" << END
+        time_commands "encode --binary, $name" << END
 ours - exec $CODES encode --binary < $lines
 lasso_lines 1.20 exec $OURS < $lines
 END
         [ -n "$decodes" ] || continue
         "$CODES" decode < "$column" | cmp - "$lines"
-        python3 bench/elapsed.py "decode, $name" "$CODES_ROUNDS" << END
+        time_commands "decode, $name" << END
 ours - exec $CODES decode < $column
 lasso_lines 1.20 exec $OURS < $lines
 END
@@ -102,7 +107,7 @@ measure_merge() {
     done
     "$CODES" encode --binary < "$lines" > "$folder/whole"
     "$CODES" merge --binary < "$folder/columns" | cmp - "$folder/whole"
-    python3 bench/elapsed.py "merge of $PARTS parts, $1" "$CODES_ROUNDS" << END
+    time_commands "merge of $PARTS parts, $1" << END
 ours - exec $CODES merge --binary < $folder/columns
 encode_of_whole 1.30 exec $CODES encode --binary < $lines
 END
@@ -116,7 +121,7 @@ measure_four() {
     "$CODES" "$@" --workers 4 < "$lines" | cmp - "$OUT/codes.right"
     "$CODES" "$@" < "$lines" | cmp - "$OUT/codes.right"
     rm -f "$OUT/codes.right"
-    python3 bench/elapsed.py "$1 --workers 4, ten" "$CODES_ROUNDS" << END
+    time_commands "$1 --workers 4, ten" << END
 ours - exec $CODES $* --workers 4 < $lines
 one_worker 0.50 exec $CODES $* --workers 1 < $lines
 no_workers - exec $CODES $* < $lines
@@ -128,6 +133,7 @@ measure_codes() {
     need "$MAWK" mawk
     make_long_inputs
     rustc -O --edition 2021 -o "$CODES_STANDARD" bench/baseline/codes.rs
+    take_priority
     printf '%-28s%9s  %-16s%9s%8s%8s%7s\n' "seconds" lasso_codes other "its time" ratio middle goal
     measure_lines
     measure_columns_of_lines

@@ -140,14 +140,22 @@ def _encoded(text: str) -> bytes:
     return text.encode("utf-8", "surrogatepass")
 
 
-def _view(kind: type, buffer: Any, length: int) -> tuple[Any, int]:
-    """The first elements of an object with Python's buffer protocol, which is not copied where it can be written."""
+def _view(kind: type, buffer: Any, length: int, start: int = 0) -> tuple[Any, int]:
+    """Elements of an object with Python's buffer protocol, from the one with the number ``start`` on. They are copied where the object can't be
+    written and is neither bytes nor tells its address, as a buffer of pyarrow does. The caller keeps an object that tells its address."""
     if length == 0:
         return _sized(kind, None, 0)
-    view = memoryview(buffer).cast("B")
+    view, skipped = memoryview(buffer).cast("B"), start * ctypes.sizeof(kind)
+    if view.nbytes < skipped + length * ctypes.sizeof(kind):
+        raise ValueError("a buffer that is shorter than its array needs")
+    address = getattr(buffer, "address", None)
+    if address is not None and address % ctypes.sizeof(kind) == 0:
+        return _sized(kind, address + skipped, length)
+    if isinstance(buffer, bytes) and skipped == 0:
+        return _sized(kind, ctypes.c_char_p(buffer), length)
     if view.readonly:
-        return _sized(kind, (kind * length).from_buffer_copy(view), length)
-    return _sized(kind, (kind * length).from_buffer(view), length)
+        return _sized(kind, (kind * length).from_buffer_copy(view, skipped), length)
+    return _sized(kind, (kind * length).from_buffer(view, skipped), length)
 
 
 def _offsets(sizes: Iterable[int], count: int) -> Any:
@@ -251,9 +259,8 @@ class Interner:
         count = len(texts)
         if count == 0:
             return array("I")
-        offsets = memoryview(starts).cast("B")[4 * texts.offset : 4 * (texts.offset + count + 1)]
         size = 0 if data is None else memoryview(data).nbytes
-        return self._encode(_view(c_uint8, data, size), _view(c_int32, offsets, count + 1), count)
+        return self._encode(_view(c_uint8, data, size), _view(c_int32, starts, count + 1, texts.offset), count)
 
     def _encode(self, data: tuple[Any, int], starts: tuple[Any, int], count: int) -> array[int]:
         codes, report = array("I", bytes(4 * count)), _Report()

@@ -1,5 +1,6 @@
 """Tests of the module lasso, with expected codes that were worked by hand. LASSO_LIBRARY names the shared library."""
 
+import ctypes
 import gc
 import struct
 import unittest
@@ -26,6 +27,14 @@ class Column:
 
     def __len__(self):
         return self.length
+
+
+class Addressed(bytearray):
+    """Bytes that tell their address, as a buffer of pyarrow does."""
+
+    @property
+    def address(self):
+        return ctypes.addressof(ctypes.c_char.from_buffer(self))
 
 
 class Interning(unittest.TestCase):
@@ -61,6 +70,18 @@ class Interning(unittest.TestCase):
             with self.assertRaises(TypeError):
                 interner.encode(Column(b"red", [0, 0, 3, 0], kind="large_string"))
             self.assertEqual(interner.texts(), ["red", "blue", ""])
+
+    def test_takes_buffers_of_each_kind(self):
+        for kind in (bytes, bytearray, Addressed):
+            with Interner() as interner:
+                column = Column(kind(b"redbluered"), [0, 3, 7, 10])
+                column.starts = kind(column.starts)
+                self.assertEqual((list(interner.encode(column)), interner.texts()), ([0, 1, 0], ["red", "blue"]))
+                column.offset, column.length = 1, 2
+                self.assertEqual(list(interner.encode(column)), [1, 0])
+                column.length = 3
+                with self.assertRaises(ValueError):
+                    interner.encode(column)
 
     def test_takes_any_iterable_of_texts(self):
         with Interner() as interner:
