@@ -225,7 +225,8 @@ class Interner:
         self.close()
 
     def close(self) -> None:
-        """Gives the memory back. Every later call but this raises InternerClosed, and ``len`` is 0."""
+        """Gives the memory back. ``len``, ``memory`` and ``limit`` are 0 then, ``interner[code]`` raises IndexError, this call does nothing, and
+        every other raises InternerClosed."""
         self._close()
 
     def intern(self, text: str) -> int:

@@ -161,7 +161,10 @@ class Interning(unittest.TestCase):
             interner.intern("a")
         with self.assertRaises(LassoError):
             interner.texts()
-        self.assertEqual(len(interner), 0)
+        for call in (interner.clear, interner.texts, lambda: interner.get("a"), lambda: interner.encode(["a"]), lambda: interner.get_many([])):
+            self.assertRaises(InternerClosed, call)
+        self.assertRaises(IndexError, lambda: interner[0])
+        self.assertEqual((len(interner), interner.memory, interner.limit), (0, 0, 0))
 
     def test_garbage_is_let_go(self):
         interner = Interner()
