@@ -19,20 +19,24 @@ import sys
 import weakref
 from array import array
 from collections.abc import Iterable, Iterator
-from ctypes import POINTER, byref, c_int32, c_size_t, c_uint8, c_uint32
+from ctypes import POINTER, byref, c_int32, c_int64, c_size_t, c_uint8, c_uint32
 from itertools import accumulate
 from pathlib import Path
 from types import TracebackType
 from typing import Any, Protocol
 
 __all__ = [
-    "ArrowStrings", "CodesExhausted", "Interner", "InternerClosed", "LassoError", "LimitReached", "NotUtf8", "OutOfMemory", "WrongLayout",
+    "NULL", "ArrowStrings", "CodesExhausted", "Interner", "InternerClosed", "LassoError", "LimitReached", "NotUtf8", "OutOfMemory",
+    "WrongLayout",
 ]
+
+NULL = 2**32 - 1
+"""The code of a null. No text has it."""
 
 
 class ArrowStrings(Protocol):
-    """An Arrow array of strings with offsets of 32 bits, as ``pyarrow.array(["red", "blue"])`` makes it. ``buffers()`` are the validity, which is
-    not read, the offsets and the bytes. ``null_count`` and ``type`` are read where there are any."""
+    """An Arrow array of strings or of large strings, as ``pyarrow.array(["red", None])`` makes it. ``buffers()`` are the validity, the offsets and
+    the bytes. ``type`` is read where there is one: without it the array is one of strings, whose offsets have 32 bits."""
 
     offset: int
 
@@ -86,10 +90,10 @@ _DONE, _OFFSETS_SHORT, _BYTES_SHORT, _NO_INTERNER, _NO_SUCH_TEXT = 0, 7, 8, 12, 
 _ERRORS: dict[int, type[LassoError]] = {
     1: WrongLayout, 2: WrongLayout, 3: NotUtf8, 9: OutOfMemory, 10: LimitReached, 11: CodesExhausted, 12: InternerClosed,
 }
-_NO_LIMIT, _ABSENT = c_size_t(-1).value, c_uint32(-1).value
+_NO_LIMIT, _ABSENT = c_size_t(-1).value, NULL
 _MOST_BYTES = 2**31 - 1
 
-_BYTES, _OFFSETS, _CODES = ((POINTER(kind), c_size_t) for kind in (c_uint8, c_int32, c_uint32))
+_BYTES, _OFFSETS, _LARGE_OFFSETS, _CODES = ((POINTER(kind), c_size_t) for kind in (c_uint8, c_int32, c_int64, c_uint32))
 
 
 def _load() -> ctypes.CDLL:
@@ -102,7 +106,8 @@ def _load() -> ctypes.CDLL:
     for name, result, arguments in [
         ("new", status, [c_size_t]),
         ("intern", status, [*_BYTES, POINTER(c_uint32)]),
-        ("intern_batch", status, [*_BYTES, *_OFFSETS, *_CODES, POINTER(_Report)]),
+        ("intern_batch_nulls", status, [*_BYTES, *_OFFSETS, *_BYTES, c_uint32, *_CODES, POINTER(_Report)]),
+        ("intern_batch_nulls_large", status, [*_BYTES, *_LARGE_OFFSETS, *_BYTES, c_uint32, *_CODES, POINTER(_Report)]),
         ("get", status, [*_BYTES, POINTER(c_uint32)]),
         ("get_batch", status, [*_BYTES, *_OFFSETS, c_uint32, *_CODES, POINTER(_Report)]),
         ("resolve", status, [c_uint32, *_BYTES, POINTER(c_size_t)]),
@@ -168,11 +173,15 @@ def _offsets(sizes: Iterable[int], count: int) -> Any:
     return starts
 
 
-def _layout(texts: Iterable[str]) -> tuple[tuple[Any, int], tuple[Any, int], int]:
-    """Texts as they cross: their bytes, their offsets, and how many there are. An item that is no str raises TypeError."""
+def _items(texts: Iterable[Any]) -> list[Any]:
+    """The items of an iterable, a numpy array among them."""
     if isinstance(texts, (str, bytes)):
         raise TypeError("one text, where many are wanted: give a list of texts")
-    items = texts.tolist() if hasattr(texts, "tolist") else list(texts)
+    return texts.tolist() if hasattr(texts, "tolist") else list(texts)
+
+
+def _layout(items: list[str]) -> tuple[tuple[Any, int], tuple[Any, int], int]:
+    """Texts as they cross: their bytes, their offsets, and how many there are. An item that is no str raises TypeError."""
     whole = "".join(items)
     if whole.isascii():
         data, sizes = whole.encode("ascii"), map(len, items)
@@ -182,6 +191,23 @@ def _layout(texts: Iterable[str]) -> tuple[tuple[Any, int], tuple[Any, int], int
     if len(data) > _MOST_BYTES:
         raise ValueError(f"texts of {len(data)} bytes: give fewer at a time, of at most {_MOST_BYTES} bytes")
     return _bytes(data), _view(c_int32, _offsets(sizes, len(items)), len(items) + 1), len(items)
+
+
+def _bitmap(rows: list[Any]) -> bytes:
+    """A bit for each row, from the least of the first byte on: 1 where it is present."""
+    bits = bytearray((len(rows) + 7) // 8)
+    for at, row in enumerate(rows):
+        if row is not None:
+            bits[at // 8] |= 1 << at % 8
+    return bytes(bits)
+
+
+def _bits(bitmap: memoryview, start: int, count: int) -> bytes:
+    """As many bits of a bitmap as there are rows, from the one with the number ``start`` on, as a bitmap of their own."""
+    part = bytes(bitmap.cast("B")[start // 8 : (start + count + 7) // 8])
+    if start % 8 == 0:
+        return part
+    return (int.from_bytes(part, "little") >> start % 8).to_bytes(len(part), "little")
 
 
 def _message(status: int) -> str:
@@ -238,35 +264,44 @@ class Interner:
         _expect_done(_library.lasso_intern(byref(self._handle), *_bytes(_encoded(text)), byref(code)))
         return code.value
 
-    def encode(self, texts: Iterable[str] | ArrowStrings) -> array[int]:
-        """The codes of many texts, which are appended where they are absent: an array of type ``I``, which numpy takes as it is.
+    def encode(self, texts: Iterable[str | None] | ArrowStrings) -> array[int]:
+        """The codes of many texts, which are appended where they are absent: an array of type ``I``, which numpy takes as it is. A null has the
+        code NULL, and no text is appended for it.
 
-        ``texts`` is an iterable of str, as a list or a numpy array, or an Arrow array of strings without nulls. The texts before a refused one
-        stay, and the error, one of those of ``intern`` or WrongLayout, has its ``position``. Nothing is interned where an item is no str or
-        the array is no array of strings, which raises TypeError, or where it has nulls or the texts more than 2^31 - 1 bytes, which raises
-        ValueError.
+        ``texts`` is an iterable of str and None, as a list or a numpy array, or an Arrow array of strings. The texts before a refused one stay,
+        and the error, one of those of ``intern`` or WrongLayout, has its ``position``. Nothing is interned where an item is neither str nor None
+        or the array is no array of strings, which raises TypeError, or where the texts of an iterable have more than 2^31 - 1 bytes or a
+        buffer is too short, which raises ValueError.
         """
         if hasattr(texts, "buffers"):
             return self._encode_arrow(texts)
-        return self._encode(*_layout(texts))
+        items, present = _items(texts), b""
+        try:
+            layout = _layout(items)
+        except TypeError:
+            if None not in items:
+                raise
+            layout, present = _layout(["" if item is None else item for item in items]), _bitmap(items)
+        return self._encode(_library.lasso_intern_batch_nulls, *layout, present)
 
     def _encode_arrow(self, texts: Any) -> array[int]:
-        kind = str(getattr(texts, "type", "string"))
-        if kind not in ("string", "utf8"):
-            raise TypeError(f"an Arrow array of {kind}, where string is wanted")
-        if getattr(texts, "null_count", 0):
-            raise ValueError("an array with nulls")
-        _validity, starts, data = texts.buffers()
+        calls = {"": (c_int32, _library.lasso_intern_batch_nulls), "large_": (c_int64, _library.lasso_intern_batch_nulls_large)}
+        name = str(getattr(texts, "type", "string"))
+        width = name.removesuffix("string").removesuffix("utf8")
+        if width == name or width not in calls:
+            raise TypeError(f"an Arrow array of {name}, where string or large_string is wanted")
+        validity, starts, data = texts.buffers()
         count = len(texts)
         if count == 0:
             return array("I")
+        kind, call = calls[width]
         size = 0 if data is None else memoryview(data).nbytes
-        return self._encode(_view(c_uint8, data, size), _view(c_int32, starts, count + 1, texts.offset), count)
+        present = b"" if validity is None else _bits(memoryview(validity), texts.offset, count)
+        return self._encode(call, _view(c_uint8, data, size), _view(kind, starts, count + 1, texts.offset), count, present)
 
-    def _encode(self, data: tuple[Any, int], starts: tuple[Any, int], count: int) -> array[int]:
+    def _encode(self, call: Any, data: tuple[Any, int], starts: tuple[Any, int], count: int, present: bytes) -> array[int]:
         codes, report = array("I", bytes(4 * count)), _Report()
-        status = _library.lasso_intern_batch(
-            byref(self._handle), *data, *starts, *_view(c_uint32, codes, count), byref(report))
+        status = call(byref(self._handle), *data, *starts, *_bytes(present), NULL, *_view(c_uint32, codes, count), byref(report))
         _expect_done(status, None if status == _NO_INTERNER else report.texts)
         return codes
 
@@ -281,7 +316,7 @@ class Interner:
 
     def get_many(self, texts: Iterable[str]) -> list[int | None]:
         """The code of each text, or None for an absent one. None is appended. An error names the ``position`` of a refused text."""
-        data, starts, count = _layout(texts)
+        data, starts, count = _layout(_items(texts))
         codes, report = array("I", bytes(4 * count)), _Report()
         status = _library.lasso_get_batch(
             byref(self._handle), *data, *starts, _ABSENT, *_view(c_uint32, codes, count), byref(report))
