@@ -2,6 +2,7 @@
 FILE ?= sample/words.txt
 export FILE
 PROGRAM = crates/lasso_lines/out/lasso_lines
+CODES = crates/lasso_codes/out/lasso_codes
 LIBRARY = crates/lasso_c/out/liblasso_c.a
 C_LIBRARY = $(shell dirname "$$(rt doc)")/c/liblibc_c.a
 SOURCES = crates.txt $(shell find crates -type f \( -path '*/src/*' -o -path '*/specs/*' -o -path '*/proofs/*' \) -not -path '*/out/*')
@@ -22,7 +23,7 @@ define build
 	@rm -f crates/$(1)/out.log
 endef
 
-.PHONY: help try run c test docs clean input toolchain
+.PHONY: help try run codes c test docs clean input toolchain
 
 #: make                              this list
 help:
@@ -50,6 +51,14 @@ run: input $(PROGRAM)
 $(PROGRAM): $(SOURCES) | input toolchain
 	$(call build,lasso_lines,run)
 	@touch $(PROGRAM)
+
+#: make codes                        proves the program lasso_codes where the sources changed, builds it, and says where it lies
+codes: $(CODES)
+	@echo "program: $(CURDIR)/$(CODES)"
+
+$(CODES): $(SOURCES) | toolchain
+	$(call build,lasso_codes,run)
+	@touch $(CODES)
 
 #: make c                            proves the library for C where the sources changed, builds it, and says where it lies
 c: $(LIBRARY)

@@ -9,10 +9,10 @@ CALL_ROUNDS=15
 take_priority() {
     PRIORITY="chrt -f 10"
     if $PRIORITY true 2> "$OUT/chrt.log"; then
-        echo "single calls run at real-time priority ($PRIORITY)"
+        echo "what is timed runs at real-time priority ($PRIORITY)"
     else
         PRIORITY=
-        echo "single calls run at normal priority: chrt -f 10 is not allowed here ($(head -n 1 "$OUT/chrt.log"))"
+        echo "what is timed runs at normal priority: chrt -f 10 is not allowed here ($(head -n 1 "$OUT/chrt.log"))"
     fi
 }
 

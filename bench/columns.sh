@@ -10,17 +10,20 @@ has_pandas() {
     /usr/bin/python3 -c 'import pandas' 2> "$OUT/pandas.log"
 }
 
-# Installs pandas of the system's Python where it is missing, and makes two inputs of 10,000,000 lines: `zipf` ten times, and `large`, to whose
-# end there are new words. Says where a column of the table stays empty.
-prepare_columns() {
+# Makes two inputs of 10,000,000 lines: `zipf` ten times, and `large`, to whose end there are new words.
+make_long_inputs() {
+    [ -s "$OUT/inputs/ten" ] || for _ in 1 2 3 4 5 6 7 8 9 10; do cat "$OUT/inputs/zipf"; done > "$OUT/inputs/ten"
+    [ -s "$OUT/inputs/large.tenth" ] || python3 bench/generate.py "$OUT/inputs" large
+}
+
+# Installs pandas of the system's Python where it is missing. Says where a column of the table stays empty.
+need_pandas() {
     has_pandas || { apt-get update && apt-get install -y python3-pandas; } > "$OUT/apt.log" 2>&1 || true
     if has_pandas; then
         PANDAS=yes
     else
         echo "pandas can't be had ($OUT/pandas.log): it does not stand beside columns" >&2
     fi
-    [ -s "$OUT/inputs/ten" ] || for _ in 1 2 3 4 5 6 7 8 9 10; do cat "$OUT/inputs/zipf"; done > "$OUT/inputs/ten"
-    [ -s "$OUT/inputs/large.tenth" ] || python3 bench/generate.py "$OUT/inputs" large
 }
 
 # Rounds over an input, each program in turn: lines of a program's name, a call, and nanoseconds a text.
@@ -70,7 +73,8 @@ table_of_columns() {
 
 measure_columns() {
     local name
-    prepare_columns
+    need_pandas
+    make_long_inputs
     printf '%-10s%-18s%10s%10s%7s%10s%7s%8s%7s\n' input call ours rust ratio pandas ratio faster goal
     for name in $COLUMN_NAMES; do
         rounds_of_columns "$OUT/inputs/$name" | table_of_columns "$name"

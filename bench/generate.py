@@ -53,7 +53,15 @@ def few(rng):
     return rng.choices(words, k=2_000_000)
 
 
-INPUTS = {"zipf": zipf, "distinct": distinct, "long": long_lines, "few": few, "large": large}
+def rows(rng):
+    """Two million lines over 200,000 words, each of which comes."""
+    words = distinct_words(rng, 200_000, 4, 12)
+    lines = words + rng.choices(words, k=1_800_000)
+    rng.shuffle(lines)
+    return lines
+
+
+INPUTS = {"zipf": zipf, "distinct": distinct, "long": long_lines, "few": few, "large": large, "rows": rows}
 
 
 def main():

@@ -1,10 +1,11 @@
 #!/usr/bin/env python3
 """Encodes the files of a folder with the workers of a Dask scheduler: encode.py SCHEDULER PARTS OUT.
 
-The workers and this program see the folders by the same names. OUT gets `dictionary`, the distinct lines of all parts in the order of
-their bytes, and for each part `codes/NAME`, the position in the dictionary of each of its lines. Each task is one run of `step` beside this
-file, which the workers see by the same name too. A task that fails ends the program with what `step` said; a task whose worker is lost is
-done again by another one, and ends the program where it is lost more often than the scheduler's `allowed-failures`.
+The workers and this program see the folders by the same names. OUT gets, for each part, `columns/NAME`, the column of its lines alone,
+`dictionaries/NAME`, that column's distinct lines, and `codes/NAME`, the codes of its lines in OUT/dictionary: the distinct lines of all parts in
+the order of the parts' names. Dictionaries are merged FAN at a time, then those that come of it, until one is left. Each task is one run of
+`step` beside this file, which the workers see by the same name too. A task that fails ends the program with what `step` said; a task whose
+worker is lost is done again by another one, and ends the program where it is lost more often than the scheduler's `allowed-failures`.
 """
 import os
 import subprocess
@@ -15,6 +16,7 @@ from pathlib import Path
 from distributed import Client, KilledWorker, as_completed
 
 STEP = Path(__file__).resolve().parent / "step"
+FAN = 8
 
 
 def run(step, words, settings):
@@ -30,7 +32,7 @@ def run(step, words, settings):
 
 def run_all(client, what, steps):
     """Has the workers run the steps, and says when the last one is done."""
-    settings = {name: os.environ[name] for name in ("LASSO_LINES", "THREADS") if name in os.environ}
+    settings = {name: os.environ[name] for name in ("LASSO_CODES",) if name in os.environ}
     start = time.monotonic()
     # No future outlives its answer: a lost worker's finished tasks are not done again, since their files are there.
     done = as_completed(
@@ -40,16 +42,29 @@ def run_all(client, what, steps):
     print(f"{what}: {len(spent)} steps, {time.monotonic() - start:.1f} seconds, {sum(spent):.1f} of the processor", flush=True)
 
 
+def merge_all(client, files, folder, dictionary):
+    """Has the workers merge the dictionaries in their order, FAN at a time, level by level, until there is one."""
+    level = 1
+    while len(files) > FAN:
+        groups = [files[at:at + FAN] for at in range(0, len(files), FAN)]
+        files = [folder / f"level{level}.{number}" for number in range(len(groups))]
+        run_all(client, f"merge, level {level}", [("merge", merged, *group) for merged, group in zip(files, groups)])
+        level += 1
+    run_all(client, f"merge, level {level}", [("merge", dictionary, *files)])
+
+
 def main():
     scheduler, parts, out = sys.argv[1], Path(sys.argv[2]), Path(sys.argv[3])
     names = sorted(path.name for path in parts.iterdir() if not path.name.startswith("."))
-    lists, codes, dictionary = out / "lists", out / "codes", out / "dictionary"
-    lists.mkdir(parents=True)
-    codes.mkdir()
+    columns, dictionaries, merged, codes = (out / name for name in ("columns", "dictionaries", "merged", "codes"))
+    for folder in (columns, dictionaries, merged, codes):
+        folder.mkdir(parents=True)
+    dictionary = out / "dictionary"
     with Client(scheduler) as client:
-        run_all(client, "distinct", [("distinct", parts / name, lists / name) for name in names])
-        run_all(client, "merge", [("merge", dictionary, *(lists / name for name in names))])
-        run_all(client, "codes", [("codes", dictionary, parts / name, codes / name) for name in names])
+        run_all(client, "encode", [("encode", parts / name, columns / name) for name in names])
+        run_all(client, "dictionary", [("dictionary", columns / name, dictionaries / name) for name in names])
+        merge_all(client, [dictionaries / name for name in names], merged, dictionary)
+        run_all(client, "recode", [("recode", dictionary, columns / name, codes / name) for name in names])
 
 
 if len(sys.argv) != 4:

@@ -6,27 +6,43 @@
         interner.encode(["red", "blue", "red"])   # array('I', [0, 1, 0])
         interner[1]                               # 'blue'
 
-The environment variable LASSO_LIBRARY names the shared library, which is linked from the static one: ``examples/run`` has the line.
+The shared library is the one that the environment variable LASSO_LIBRARY names, or else ``liblasso.so`` in this file's folder. README.md there
+says how to link it.
 """
 
 from __future__ import annotations
 
 import ctypes
+import operator
 import os
+import sys
 import weakref
 from array import array
 from collections.abc import Iterable, Iterator
 from ctypes import POINTER, byref, c_int32, c_int64, c_size_t, c_uint8, c_uint32
 from itertools import accumulate
-from typing import Any
+from pathlib import Path
+from types import TracebackType
+from typing import Any, Protocol
 
 __all__ = [
-    "NULL", "CodesExhausted", "Interner", "InternerClosed", "LassoError", "LimitReached", "NotUtf8", "OutOfMemory", "WrongLayout",
+    "NULL", "ArrowStrings", "CodesExhausted", "Interner", "InternerClosed", "LassoError", "LimitReached", "NotUtf8", "OutOfMemory",
+    "WrongLayout",
 ]
-
 
 NULL = 2**32 - 1
 """The code of a null. No text has it."""
+
+
+class ArrowStrings(Protocol):
+    """An Arrow array of strings or of large strings, as ``pyarrow.array(["red", None])`` makes it. ``buffers()`` are the validity, the offsets and
+    the bytes. ``type`` is read where there is one: without it the array is one of strings, whose offsets have 32 bits."""
+
+    offset: int
+
+    def buffers(self) -> list[Any]: ...
+
+    def __len__(self) -> int: ...
 
 
 class LassoError(Exception):
@@ -42,7 +58,7 @@ class WrongLayout(LassoError):
 
 
 class NotUtf8(LassoError):
-    """A text is not UTF-8."""
+    """A text is not UTF-8. A str is not where it has a lone surrogate."""
 
 
 class OutOfMemory(LassoError, MemoryError):
@@ -75,15 +91,17 @@ _ERRORS: dict[int, type[LassoError]] = {
     1: WrongLayout, 2: WrongLayout, 3: NotUtf8, 9: OutOfMemory, 10: LimitReached, 11: CodesExhausted, 12: InternerClosed,
 }
 _NO_LIMIT, _ABSENT = c_size_t(-1).value, NULL
+_MOST_BYTES = 2**31 - 1
 
 _BYTES, _OFFSETS, _LARGE_OFFSETS, _CODES = ((POINTER(kind), c_size_t) for kind in (c_uint8, c_int32, c_int64, c_uint32))
 
 
 def _load() -> ctypes.CDLL:
-    path = os.environ.get("LASSO_LIBRARY")
-    if path is None:
-        raise ImportError("LASSO_LIBRARY names no shared library")
-    library = ctypes.CDLL(path)
+    path = os.environ.get("LASSO_LIBRARY") or str(Path(__file__).with_name("liblasso.so"))
+    try:
+        library = ctypes.CDLL(path)
+    except OSError as fault:
+        raise ImportError(f"no shared library of lasso, which LASSO_LIBRARY can name: {fault}") from fault
     handle, status = POINTER(_Handle), c_uint32
     for name, result, arguments in [
         ("new", status, [c_size_t]),
@@ -122,24 +140,60 @@ def _bytes(data: bytes) -> tuple[Any, int]:
     return _sized(c_uint8, ctypes.c_char_p(data), len(data))
 
 
-def _view(kind: type, buffer: Any, length: int) -> tuple[Any, int]:
-    """The first elements of an object with Python's buffer protocol, which is not copied where it can be written."""
+def _encoded(text: str) -> bytes:
+    """The text's bytes. A lone surrogate becomes bytes that are not UTF-8, which the library refuses."""
+    return text.encode("utf-8", "surrogatepass")
+
+
+def _view(kind: type, buffer: Any, length: int, start: int = 0) -> tuple[Any, int]:
+    """Elements of an object with Python's buffer protocol, from the one with the number ``start`` on. They are copied where the object can't be
+    written and is neither bytes nor tells its address, as a buffer of pyarrow does. The caller keeps an object that tells its address."""
     if length == 0:
         return _sized(kind, None, 0)
-    view = memoryview(buffer).cast("B")
+    view, skipped = memoryview(buffer).cast("B"), start * ctypes.sizeof(kind)
+    if view.nbytes < skipped + length * ctypes.sizeof(kind):
+        raise ValueError("a buffer that is shorter than its array needs")
+    address = getattr(buffer, "address", None)
+    if address is not None and address % ctypes.sizeof(kind) == 0:
+        return _sized(kind, address + skipped, length)
+    if isinstance(buffer, bytes) and skipped == 0:
+        return _sized(kind, ctypes.c_char_p(buffer), length)
     if view.readonly:
-        return _sized(kind, (kind * length).from_buffer_copy(view), length)
-    return _sized(kind, (kind * length).from_buffer(view), length)
+        return _sized(kind, (kind * length).from_buffer_copy(view, skipped), length)
+    return _sized(kind, (kind * length).from_buffer(view, skipped), length)
 
 
-def _layout(texts: Iterable[str]) -> tuple[tuple[Any, int], tuple[Any, int], int]:
-    """Texts as they cross: their bytes, their offsets, and how many there are."""
-    data = [text.encode() for text in texts]
-    starts = array("i", [0, *accumulate(map(len, data))])
-    return _bytes(b"".join(data)), _view(c_int32, starts, len(starts)), len(data)
+def _offsets(sizes: Iterable[int], count: int) -> Any:
+    """Where texts of these sizes begin and the last one ends. numpy does it where the program has loaded it, since that is faster."""
+    numpy = sys.modules.get("numpy")
+    if numpy is None:
+        return array("i", list(accumulate(sizes, initial=0)))
+    starts = numpy.zeros(count + 1, dtype=numpy.int32)
+    numpy.cumsum(numpy.fromiter(sizes, dtype=numpy.int32, count=count), out=starts[1:])
+    return starts
 
 
-def _bitmap(rows: list[str | None]) -> bytes:
+def _items(texts: Iterable[Any]) -> list[Any]:
+    """The items of an iterable, a numpy array among them."""
+    if isinstance(texts, (str, bytes)):
+        raise TypeError("one text, where many are wanted: give a list of texts")
+    return texts.tolist() if hasattr(texts, "tolist") else list(texts)
+
+
+def _layout(items: list[str]) -> tuple[tuple[Any, int], tuple[Any, int], int]:
+    """Texts as they cross: their bytes, their offsets, and how many there are. An item that is no str raises TypeError."""
+    whole = "".join(items)
+    if whole.isascii():
+        data, sizes = whole.encode("ascii"), map(len, items)
+    else:
+        encoded = [_encoded(text) for text in items]
+        data, sizes = b"".join(encoded), map(len, encoded)
+    if len(data) > _MOST_BYTES:
+        raise ValueError(f"texts of {len(data)} bytes: give fewer at a time, of at most {_MOST_BYTES} bytes")
+    return _bytes(data), _view(c_int32, _offsets(sizes, len(items)), len(items) + 1), len(items)
+
+
+def _bitmap(rows: list[Any]) -> bytes:
     """A bit for each row, from the least of the first byte on: 1 where it is present."""
     bits = bytearray((len(rows) + 7) // 8)
     for at, row in enumerate(rows):
@@ -149,7 +203,7 @@ def _bitmap(rows: list[str | None]) -> bytes:
 
 
 def _bits(bitmap: memoryview, start: int, count: int) -> bytes:
-    """So many bits of a bitmap from one on, as a bitmap of their own."""
+    """As many bits of a bitmap as there are rows, from the one with the number ``start`` on, as a bitmap of their own."""
     part = bytes(bitmap.cast("B")[start // 8 : (start + count + 7) // 8])
     if start % 8 == 0:
         return part
@@ -166,71 +220,95 @@ def _expect_done(status: int, position: int | None = None) -> None:
         raise _ERRORS.get(status, LassoError)(_message(status), position)
 
 
+def _size(limit: int | None) -> int:
+    """A limit as it crosses."""
+    if limit is None:
+        return _NO_LIMIT
+    if not 0 <= limit <= _NO_LIMIT:
+        raise ValueError(f"a limit of {limit} bytes")
+    return limit
+
+
 class Interner:
     """Texts, each once, in the order in which they came. A text's code is its position, from 0.
 
-    ``limit`` is how many bytes the texts may take; None is no limit. One thread at a time uses an interner.
+    ``limit`` is how many bytes the texts' buckets may take; None is no limit. The first bucket has 4,096 bytes whatever the limit. One thread at a
+    time uses an interner. Its memory is given back at the end of a ``with`` block, by ``close``, or when the interner is garbage.
     """
 
     def __init__(self, limit: int | None = None) -> None:
+        size = _size(limit)
         self._handle = _Handle()
         self._close = weakref.finalize(self, _library.lasso_free, self._handle)
-        _expect_done(_library.lasso_new(byref(self._handle), _NO_LIMIT if limit is None else limit))
+        _expect_done(_library.lasso_new(byref(self._handle), size))
 
     def __enter__(self) -> Interner:
         return self
 
-    def __exit__(self, *_: object) -> None:
+    def __exit__(
+        self, kind: type[BaseException] | None, fault: BaseException | None, traceback: TracebackType | None
+    ) -> None:
         self.close()
 
     def close(self) -> None:
-        """Gives the memory back. Every later call but this raises InternerClosed, and ``len`` is 0."""
+        """Gives the memory back. ``len``, ``memory`` and ``limit`` are 0 then, ``interner[code]`` raises IndexError, this call does nothing, and
+        every other raises InternerClosed."""
         self._close()
 
     def intern(self, text: str) -> int:
-        """The code of a text, which is appended if it is absent."""
+        """The code of a text, which is appended if it is absent.
+
+        Raises NotUtf8; for an absent text LimitReached, CodesExhausted or OutOfMemory. The interner is as it was then.
+        """
         code = c_uint32()
-        _expect_done(_library.lasso_intern(byref(self._handle), *_bytes(text.encode()), byref(code)))
+        _expect_done(_library.lasso_intern(byref(self._handle), *_bytes(_encoded(text)), byref(code)))
         return code.value
 
-    def encode(self, texts: Any) -> array:
-        """The codes of many texts, which are appended where they are absent. A null has the code NULL, and no text is appended for it.
+    def encode(self, texts: Iterable[str | None] | ArrowStrings) -> array[int]:
+        """The codes of many texts, which are appended where they are absent: an array of type ``I``, which numpy takes as it is. A null has the
+        code NULL, and no text is appended for it.
 
-        ``texts`` is an iterable of str and None, as a list or a numpy array, or an Arrow array of strings: an object with
-        ``buffers()``, ``offset`` and its length, and of large strings also ``type``, whose name begins with "large". The texts before a refused one stay, and the error names its ``position``.
+        ``texts`` is an iterable of str and None, as a list or a numpy array, or an Arrow array of strings. The texts before a refused one stay,
+        and the error, one of those of ``intern`` or WrongLayout, has its ``position``. Nothing is interned where an item is neither str nor None
+        or the array is no array of strings, which raises TypeError, or where the texts of an iterable have more than 2^31 - 1 bytes or a
+        buffer is too short, which raises ValueError.
         """
         if hasattr(texts, "buffers"):
             return self._encode_arrow(texts)
-        rows = list(texts)
-        data, starts, count = _layout("" if text is None else text for text in rows)
-        return self._encode(data, starts, count, _bitmap(rows) if None in rows else b"")
+        items, present = _items(texts), b""
+        try:
+            layout = _layout(items)
+        except TypeError:
+            if None not in items:
+                raise
+            layout, present = _layout(["" if item is None else item for item in items]), _bitmap(items)
+        return self._encode(_library.lasso_intern_batch_nulls, *layout, present)
 
-    def _encode_arrow(self, texts: Any) -> array:
+    def _encode_arrow(self, texts: Any) -> array[int]:
+        calls = {"": (c_int32, _library.lasso_intern_batch_nulls), "large_": (c_int64, _library.lasso_intern_batch_nulls_large)}
+        name = str(getattr(texts, "type", "string"))
+        width = name.removesuffix("string").removesuffix("utf8")
+        if width == name or width not in calls:
+            raise TypeError(f"an Arrow array of {name}, where string or large_string is wanted")
         validity, starts, data = texts.buffers()
         count = len(texts)
         if count == 0:
             return array("I")
-        large = str(getattr(texts, "type", "")).startswith("large")
-        kind, call = (c_int64, _library.lasso_intern_batch_nulls_large) if large else (c_int32, _library.lasso_intern_batch_nulls)
-        width = ctypes.sizeof(kind)
-        offsets = memoryview(starts).cast("B")[width * texts.offset : width * (texts.offset + count + 1)]
+        kind, call = calls[width]
         size = 0 if data is None else memoryview(data).nbytes
         present = b"" if validity is None else _bits(memoryview(validity), texts.offset, count)
-        return self._encode(_view(c_uint8, data, size), _view(kind, offsets, count + 1), count, present, call)
+        return self._encode(call, _view(c_uint8, data, size), _view(kind, starts, count + 1, texts.offset), count, present)
 
-    def _encode(
-        self, data: tuple[Any, int], starts: tuple[Any, int], count: int, present: bytes, call: Any = _library.lasso_intern_batch_nulls,
-    ) -> array:
+    def _encode(self, call: Any, data: tuple[Any, int], starts: tuple[Any, int], count: int, present: bytes) -> array[int]:
         codes, report = array("I", bytes(4 * count)), _Report()
-        status = call(
-            byref(self._handle), *data, *starts, *_bytes(present), NULL, *_view(c_uint32, codes, count), byref(report))
+        status = call(byref(self._handle), *data, *starts, *_bytes(present), NULL, *_view(c_uint32, codes, count), byref(report))
         _expect_done(status, None if status == _NO_INTERNER else report.texts)
         return codes
 
     def get(self, text: str) -> int | None:
-        """The code of a text, or None if it is absent."""
+        """The code of a text, or None if it is absent. Raises NotUtf8."""
         code = c_uint32()
-        status = _library.lasso_get(byref(self._handle), *_bytes(text.encode()), byref(code))
+        status = _library.lasso_get(byref(self._handle), *_bytes(_encoded(text)), byref(code))
         if status == _NO_SUCH_TEXT:
             return None
         _expect_done(status)
@@ -238,7 +316,7 @@ class Interner:
 
     def get_many(self, texts: Iterable[str]) -> list[int | None]:
         """The code of each text, or None for an absent one. None is appended. An error names the ``position`` of a refused text."""
-        data, starts, count = _layout(texts)
+        data, starts, count = _layout(_items(texts))
         codes, report = array("I", bytes(4 * count)), _Report()
         status = _library.lasso_get_batch(
             byref(self._handle), *data, *starts, _ABSENT, *_view(c_uint32, codes, count), byref(report))
@@ -250,6 +328,7 @@ class Interner:
 
     def __getitem__(self, code: int) -> str:
         """The text of a code. A code that has none raises IndexError."""
+        code = operator.index(code)
         if not 0 <= code < len(self):
             raise IndexError(code)
         text, whole = (c_uint8 * 256)(), c_size_t()
@@ -266,7 +345,12 @@ class Interner:
         return iter(self.texts())
 
     def texts(self, start: int = 0) -> list[str]:
-        """The texts from a code on, in the order of their codes: what a reader lacks that has those before."""
+        """The texts from a code on, in the order of their codes: what a reader lacks that has those before.
+
+        Raises ValueError for a code below 0, and LassoError where the texts have more than 2^31 - 1 bytes.
+        """
+        if start < 0:
+            raise ValueError(f"a code of {start}")
         handle, report, none, one = byref(self._handle), _Report(), (c_uint8 * 1)(), (c_int32 * 1)()
         status = _library.lasso_dictionary(handle, start, none, 0, one, 1, byref(report))
         if status not in (_OFFSETS_SHORT, _BYTES_SHORT):
@@ -290,7 +374,7 @@ class Interner:
 
     @limit.setter
     def limit(self, limit: int | None) -> None:
-        _expect_done(_library.lasso_set_limit(byref(self._handle), _NO_LIMIT if limit is None else limit))
+        _expect_done(_library.lasso_set_limit(byref(self._handle), _size(limit)))
 
     def clear(self) -> None:
         """Forgets every text. Codes begin from 0 again."""

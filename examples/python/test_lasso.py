@@ -1,8 +1,15 @@
 """Tests of the module lasso, with expected codes that were worked by hand. LASSO_LIBRARY names the shared library."""
 
+import ctypes
 import gc
 import struct
 import unittest
+from unittest import mock
+
+try:
+    import numpy
+except ImportError:
+    numpy = None
 
 from lasso import NULL, Interner, InternerClosed, LassoError, LimitReached, NotUtf8, WrongLayout
 
@@ -10,16 +17,24 @@ from lasso import NULL, Interner, InternerClosed, LassoError, LimitReached, NotU
 class Column:
     """An array of strings as pyarrow has it: three buffers, an offset and a length."""
 
-    def __init__(self, data, offsets, start=0, validity=None, large=False):
-        self.data, self.starts, self.validity = data, struct.pack(f"<{len(offsets)}{'q' if large else 'i'}", *offsets), validity
-        self.type = "large_string" if large else "string"
-        self.offset, self.length = start, len(offsets) - 1 - start
+    def __init__(self, data, offsets, start=0, validity=None, kind="string"):
+        width = "q" if kind.startswith("large") else "i"
+        self.data, self.starts, self.validity = data, struct.pack(f"<{len(offsets)}{width}", *offsets), validity
+        self.offset, self.length, self.type = start, len(offsets) - 1 - start, kind
 
     def buffers(self):
         return [self.validity, self.starts, self.data]
 
     def __len__(self):
         return self.length
+
+
+class Addressed(bytearray):
+    """Bytes that tell their address, as a buffer of pyarrow does."""
+
+    @property
+    def address(self):
+        return ctypes.addressof(ctypes.c_char.from_buffer(self))
 
 
 class Interning(unittest.TestCase):
@@ -50,14 +65,19 @@ class Interning(unittest.TestCase):
             self.assertEqual(list(interner.encode(Column(b"redbluered", [0, 3, 7, 10]))), [0, 1, 0])
             self.assertEqual(list(interner.encode(Column(b"redbluered", [0, 3, 7, 10], start=1))), [1, 0])
             self.assertEqual(list(interner.encode(Column(None, [0, 0]))), [2])
+            for wrong in ("binary", "large_binary", "string_view", "int32", "small_string"):
+                with self.assertRaises(TypeError):
+                    interner.encode(Column(b"red", [0, 3], kind=wrong))
+            self.assertEqual(interner.texts(), ["red", "blue", ""])
 
     def test_takes_the_buffers_of_large_strings(self):
         with Interner() as interner:
-            self.assertEqual(list(interner.encode(Column(b"redbluered", [0, 3, 7, 10], large=True))), [0, 1, 0])
-            self.assertEqual(list(interner.encode(Column(b"redbluered", [0, 3, 7, 10], start=2, large=True))), [0])
-            self.assertEqual(list(interner.encode(Column(b"redbluered", [0, 3, 7, 10], validity=b"\5", large=True))), [0, NULL, 0])
+            self.assertEqual(list(interner.encode(Column(b"redbluered", [0, 3, 7, 10], kind="large_string"))), [0, 1, 0])
+            self.assertEqual(list(interner.encode(Column(b"redbluered", [0, 3, 7, 10], start=2, kind="large_utf8"))), [0])
+            column = Column(b"redbluered", [0, 3, 7, 10], validity=b"\5", kind="large_string")
+            self.assertEqual(list(interner.encode(column)), [0, NULL, 0])
             with self.assertRaises(WrongLayout):
-                interner.encode(Column(b"red", [0, 2**32 + 3], large=True))
+                interner.encode(Column(b"red", [0, 2**32 + 3], kind="large_string"))
 
     def test_gives_nulls_a_code_of_their_own(self):
         with Interner() as interner:
@@ -69,6 +89,60 @@ class Interning(unittest.TestCase):
             self.assertEqual(list(interner.encode(Column(data, offsets, start=1, validity=b"\xfd\0"))), [NULL, 4, 4, 4, 4, 4, 5, NULL])
             self.assertEqual(list(interner.encode(Column(data, offsets, start=8, validity=b"\xfd\0"))), [NULL])
             self.assertEqual(interner.texts(), ["a", "", "b", "c", "d", "e"])
+            with self.assertRaises(TypeError):
+                interner.get_many(["a", None])
+
+    def test_takes_buffers_of_each_kind(self):
+        for kind in (bytes, bytearray, Addressed):
+            with Interner() as interner:
+                column = Column(kind(b"redbluered"), [0, 3, 7, 10])
+                column.starts = kind(column.starts)
+                self.assertEqual((list(interner.encode(column)), interner.texts()), ([0, 1, 0], ["red", "blue"]))
+                column.offset, column.length = 1, 2
+                self.assertEqual(list(interner.encode(column)), [1, 0])
+                column.length = 3
+                with self.assertRaises(ValueError):
+                    interner.encode(column)
+
+    def test_takes_any_iterable_of_texts(self):
+        with Interner() as interner:
+            self.assertEqual(list(interner.encode(text for text in ["b", "a", "b"])), [0, 1, 0])
+            self.assertEqual(list(interner.encode({"a": 1, "grün": 2})), [1, 2])
+            self.assertEqual(interner.encode(["a"]).typecode, "I")
+            self.assertEqual(interner.texts(), ["b", "a", "grün"])
+
+    @unittest.skipIf(numpy is None, "numpy is not installed")
+    def test_takes_arrays_of_numpy(self):
+        with Interner() as interner:
+            self.assertEqual(list(interner.encode(numpy.array(["b", "a", "b"]))), [0, 1, 0])
+            self.assertEqual(list(interner.encode(numpy.array(["grün", "a"], dtype=object))), [2, 1])
+            codes = numpy.frombuffer(interner.encode(["a", "c"]), dtype=numpy.uint32)
+            self.assertEqual((codes.tolist(), interner[codes[1]]), ([1, 3], "c"))
+            self.assertEqual(interner.texts(), ["b", "a", "grün", "c"])
+
+    def test_takes_nothing_but_texts(self):
+        with Interner() as interner:
+            for wrong in ("red", b"red", ["red", 1], [None, 1], [b"red"]):
+                with self.assertRaises(TypeError):
+                    interner.encode(wrong)
+            self.assertEqual(len(interner), 0)
+
+    def test_takes_at_most_the_bytes_that_offsets_can_tell(self):
+        with Interner() as interner, mock.patch("lasso._MOST_BYTES", 4):
+            with self.assertRaises(ValueError):
+                interner.encode(["red", "gr"])
+            self.assertEqual((len(interner), list(interner.encode(["red", "g"]))), (0, [0, 1]))
+
+    def test_refuses_what_is_not_utf8_once_encoded(self):
+        with Interner() as interner:
+            with self.assertRaises(NotUtf8) as caught:
+                interner.encode(["red", "\ud800", "blue"])
+            self.assertEqual((caught.exception.position, interner.texts()), (1, ["red"]))
+            for call in (interner.intern, interner.get):
+                with self.assertRaises(NotUtf8) as caught:
+                    call("\ud800")
+                self.assertIsNone(caught.exception.position)
+            self.assertEqual(len(interner), 1)
 
     def test_keeps_the_texts_before_a_refused_one(self):
         with Interner() as interner:
@@ -89,6 +163,17 @@ class Interning(unittest.TestCase):
             interner.clear()
             self.assertEqual((len(interner), interner.intern("b")), (0, 0))
 
+    def test_has_no_limit_and_no_code_below_0(self):
+        with self.assertRaises(ValueError):
+            Interner(limit=-1)
+        with Interner() as interner:
+            for wrong in (-1, 2**64):
+                with self.assertRaises(ValueError):
+                    interner.limit = wrong
+            with self.assertRaises(ValueError):
+                interner.texts(-1)
+            self.assertIsNone(interner.limit)
+
     def test_tells_that_it_is_closed(self):
         interner = Interner()
         interner.close()
@@ -97,7 +182,10 @@ class Interning(unittest.TestCase):
             interner.intern("a")
         with self.assertRaises(LassoError):
             interner.texts()
-        self.assertEqual(len(interner), 0)
+        for call in (interner.clear, interner.texts, lambda: interner.get("a"), lambda: interner.encode(["a"]), lambda: interner.get_many([])):
+            self.assertRaises(InternerClosed, call)
+        self.assertRaises(IndexError, lambda: interner[0])
+        self.assertEqual((len(interner), interner.memory, interner.limit), (0, 0, 0))
 
     def test_garbage_is_let_go(self):
         interner = Interner()

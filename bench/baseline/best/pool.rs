@@ -1,4 +1,4 @@
-//! Distinct texts in one vector of bytes, and a table of their keys alone. Each of two programs uses a part of it.
+//! Distinct texts in one vector of bytes, and a table of their keys alone. Each of these programs uses a part of it.
 #![allow(dead_code)]
 
 use hashbrown::hash_map::RawEntryMut;

@@ -1,0 +1,63 @@
+# The table of batches that C interns, beside `encode` in Rattle, and that of a pandas column. A part of bench/run, which names the folders,
+# makes the inputs and builds lasso_bench.
+
+BATCHES=$OUT/batches
+C_NAMES="rows distinct"
+
+# Proves and builds the library for C, and builds the program over it and the shared library for Python.
+build_c() {
+    local library c_library
+    need /usr/bin/cc gcc
+    need /usr/bin/pkg-config pkg-config
+    if ! make -s c > "$OUT/c.log" 2>&1; then
+        cat "$OUT/c.log" >&2
+        exit 1
+    fi
+    export PKG_CONFIG_PATH=$PWD/crates/lasso_c/out
+    read -r library c_library <<< "$(pkg-config --libs lasso)"
+    cc -O2 -Wall -Wextra -std=c11 -o "$BATCHES" bench/batches.c $(pkg-config --cflags --libs lasso)
+    cc -shared -o "$OUT/liblasso.so" -Wl,--whole-archive "$library" -Wl,--no-whole-archive "$c_library"
+}
+
+# The inputs, and the right code of each of their lines: how many distinct ones came before its first.
+make_rows() {
+    local name
+    [ -s "$OUT/inputs/rows.tenth" ] || python3 bench/generate.py "$OUT/inputs" rows
+    for name in $C_NAMES; do
+        [ -s "$OUT/inputs/$name.codes" ] ||
+            awk '!($0 in code) { code[$0] = texts++ } { print code[$0] }' "$OUT/inputs/$name" > "$OUT/inputs/$name.codes"
+    done
+}
+
+# The batches of an input, in lines each: 0 is all of them.
+batch_sizes() {
+    case $1 in
+        rows) echo 64 1024 0 ;;
+        distinct) echo 10000 0 ;;
+    esac
+}
+
+# All rounds, each program in turn and each in a process of its own: lines of an input, what is timed and nanoseconds a line.
+rounds_of_batches() {
+    local round name size
+    for ((round = 0; round < CALL_ROUNDS; round++)); do
+        for name in $C_NAMES; do
+            for size in $(batch_sizes "$name"); do
+                $PRIORITY "$BATCHES" "$size" "$OUT/inputs/$name.codes" < "$OUT/inputs/$name" | sed "s/^/$name /"
+            done
+        done
+        $PRIORITY "$OURS_CALLS" columns < "$OUT/inputs/rows" | sed -nE 's/^encode(_lines)? /rows &/p'
+    done
+}
+
+measure_c() {
+    build_c
+    make_rows
+    take_priority
+    rounds_of_batches > "$OUT/c.rounds"
+    python3 bench/batches.py < "$OUT/c.rounds"
+    need_pandas
+    [ -n "$PANDAS" ] || return 0
+    echo
+    LASSO_LIBRARY=$OUT/liblasso.so $PRIORITY /usr/bin/python3 examples/python/categorical.py
+}

@@ -1,0 +1,147 @@
+# The tables of lasso_codes, beside what else does the same. A part of bench/run, which names the folders, makes the inputs, and builds the
+# programs and the best that Rust has. LASSO_CODES=path names a program
+# that was built elsewhere.
+
+CODES=${LASSO_CODES:-$PWD/crates/lasso_codes/out/lasso_codes}
+CODES_STANDARD=$OUT/codes-std
+CODES_BEST=$OUT/best/release/codes
+CODES_ROUNDS=8
+PARTS=32
+MAWK=/usr/bin/mawk
+
+# Proves and builds the program, unless LASSO_CODES names one.
+build_codes() {
+    [ -n "${LASSO_CODES:-}" ] || build lasso_codes
+}
+
+# Whether the program has a verb with these options.
+has() {
+    "$CODES" "$@" < /dev/null > "$OUT/has" 2>&1 && return
+    echo "no figures of lasso_codes $*: this program says '$(head -n 1 "$OUT/has")'" >&2
+    return 1
+}
+
+# Lines of counts in one order and form, whoever wrote them.
+in_one_form() {
+    sed 's/^ *//' | LC_ALL=C sort
+}
+
+# The commands that write how often each line of an input came, ours first, with the goals of the ratios of ours to them.
+commands_of_counts() {
+    echo "ours - exec $CODES counts < $1"
+    echo "sort_uniq_sort 0.15 LC_ALL=C sort --parallel=4 < $1 | LC_ALL=C uniq -c | LC_ALL=C sort --parallel=4 -rn"
+    echo "mawk 0.60 exec $MAWK '{ c[\$0]++ } END { for (line in c) print c[line], line }' < $1"
+    echo "std 0.60 exec $CODES_STANDARD counts < $1"
+    [ -z "$HASHES" ] || echo "hashbrown - exec $CODES_BEST counts < $1"
+}
+
+# Those that write its distinct lines.
+commands_of_distinct() {
+    echo "ours - exec $CODES distinct < $1"
+    echo "mawk 0.40 exec $MAWK '!seen[\$0]++' < $1"
+    echo "std - exec $CODES_STANDARD distinct < $1"
+    [ -z "$HASHES" ] || echo "hashbrown - exec $CODES_BEST distinct < $1"
+}
+
+# Stops unless all commands of standard input write the same, once it is put into one form.
+compare_outputs() {
+    local form=$1 name goal command
+    rm -f "$OUT/codes.right"
+    while read -r name goal command; do
+        bash -o pipefail -c "$command" | $form > "$OUT/codes.got"
+        [ -s "$OUT/codes.right" ] || mv "$OUT/codes.got" "$OUT/codes.right"
+        [ ! -e "$OUT/codes.got" ] || cmp "$OUT/codes.right" "$OUT/codes.got"
+    done
+    rm -f "$OUT/codes.right" "$OUT/codes.got"
+}
+
+# Times commands of standard input, ours first, under a title.
+time_commands() {
+    $PRIORITY python3 bench/elapsed.py "$1" "$CODES_ROUNDS"
+}
+
+# Counts and distinct lines of some inputs.
+measure_lines() {
+    local name
+    for name in zipf few; do
+        commands_of_counts "$OUT/inputs/$name" | compare_outputs in_one_form
+        commands_of_counts "$OUT/inputs/$name" | time_commands "counts, $name"
+    done
+    for name in $NAMES; do
+        commands_of_distinct "$OUT/inputs/$name" | compare_outputs cat
+        commands_of_distinct "$OUT/inputs/$name" | time_commands "distinct, $name"
+    done
+}
+
+# Encoding and decoding, beside lasso_lines over the same lines.
+measure_columns_of_lines() {
+    local name lines column=$OUT/codes.column decodes=
+    ! has decode || decodes=yes
+    for name in $NAMES; do
+        lines=$OUT/inputs/$name
+        "$CODES" encode --binary < "$lines" > "$column"
+        python3 bench/column.py < "$lines" | cmp - "$column"
+        time_commands "encode --binary, $name" << END
+ours - exec $CODES encode --binary < $lines
+lasso_lines 1.20 exec $OURS < $lines
+END
+        [ -n "$decodes" ] || continue
+        "$CODES" decode < "$column" | cmp - "$lines"
+        time_commands "decode, $name" << END
+ours - exec $CODES decode < $column
+lasso_lines 1.20 exec $OURS < $lines
+END
+    done
+    rm -f "$column"
+}
+
+# Merging the columns of an input's parts into one, beside encoding the whole.
+measure_merge() {
+    local lines=$OUT/inputs/$1 folder=$OUT/parts part
+    rm -rf "$folder"
+    mkdir "$folder"
+    split -n "l/$PARTS" -d -a 4 "$lines" "$folder/"
+    for part in "$folder"/????; do
+        "$CODES" encode --binary < "$part" >> "$folder/columns"
+        rm "$part"
+    done
+    "$CODES" encode --binary < "$lines" > "$folder/whole"
+    "$CODES" merge --binary < "$folder/columns" | cmp - "$folder/whole"
+    time_commands "merge of $PARTS parts, $1" << END
+ours - exec $CODES merge --binary < $folder/columns
+encode_of_whole 1.30 exec $CODES encode --binary < $lines
+END
+    rm -rf "$folder"
+}
+
+# A verb with four workers, beside the same with one. Where both don't write the same bytes it stops.
+measure_four() {
+    local lines=$OUT/inputs/ten
+    "$CODES" "$@" --workers 1 < "$lines" > "$OUT/codes.right"
+    "$CODES" "$@" --workers 4 < "$lines" | cmp - "$OUT/codes.right"
+    "$CODES" "$@" < "$lines" | cmp - "$OUT/codes.right"
+    rm -f "$OUT/codes.right"
+    time_commands "$1 --workers 4, ten" << END
+ours - exec $CODES $* --workers 4 < $lines
+one_worker 0.50 exec $CODES $* --workers 1 < $lines
+no_workers - exec $CODES $* < $lines
+END
+}
+
+measure_codes() {
+    local name
+    need "$MAWK" mawk
+    make_long_inputs
+    rustc -O --edition 2021 -o "$CODES_STANDARD" bench/baseline/codes.rs
+    take_priority
+    printf '%-28s%9s  %-16s%9s%8s%8s%7s\n' "seconds" lasso_codes other "its time" ratio middle goal
+    measure_lines
+    measure_columns_of_lines
+    if has merge; then
+        for name in ten large; do
+            measure_merge "$name"
+        done
+    fi
+    ! has counts --workers 4 || measure_four counts
+    ! has encode --workers 4 || measure_four encode --binary
+}

@@ -1,0 +1,113 @@
+"""Encodes a pandas column to a Categorical batch by batch, and prints its time beside that of pandas.factorize.
+
+usage: categorical.py [ROWS [TEXTS [BATCH]]], 2,000,000 rows of 200,000 texts in batches of 65,536 unless given
+
+A hundredth of the rows have no text. The result is compared with pandas's own, and the program ends with status 1 where they differ.
+"""
+
+from __future__ import annotations
+
+import random
+import sys
+import time
+from collections.abc import Callable, Iterator
+from typing import Any
+
+import numpy
+import pandas
+
+from lasso import Interner
+
+ROUNDS = 5
+SEED = 20261126
+LETTERS = "etaoinshrdlucmfwypvbgkqjxz"
+
+
+def column_of(rows: int, texts: int) -> pandas.Series:
+    """A column of the pandas type object with this many rows, of a fixed seed. None is a row without a text."""
+    rng = random.Random(SEED)
+    words = [f"{''.join(rng.choices(LETTERS, k=rng.randint(2, 8)))}{number}" for number in range(texts)]
+    drawn = rng.choices(words, k=rows)
+    for row in range(0, rows, 100):
+        drawn[row] = None
+    return pandas.Series(drawn, dtype=object)
+
+
+def batches_of(column: pandas.Series, batch: int) -> Iterator[pandas.Series]:
+    """The column in batches of this many rows: they could as well be read from a file, one at a time."""
+    for start in range(0, len(column), batch):
+        yield column.iloc[start:start + batch]
+
+
+def codes_of(interner: Interner, batch: pandas.Series) -> numpy.ndarray:
+    """The codes of a batch, -1 for a row without a text, as pandas has it."""
+    codes = numpy.full(len(batch), -1, dtype=numpy.int32)
+    present = batch.notna().to_numpy()
+    codes[present] = numpy.frombuffer(interner.encode(batch.to_numpy()[present]), dtype=numpy.int32)
+    return codes
+
+
+def to_categorical(batches: Iterator[pandas.Series]) -> pandas.Categorical:
+    """The column that the batches make, whose categories are its texts in the order in which they come first."""
+    with Interner() as interner:
+        codes = [codes_of(interner, batch) for batch in batches]
+        return pandas.Categorical.from_codes(numpy.concatenate(codes), categories=interner.texts())
+
+
+class Arrow:
+    """A column in Arrow's layout, without nulls, as pyarrow or a file of Arrow or Parquet has it."""
+
+    offset = 0
+
+    def __init__(self, texts: list[str]) -> None:
+        encoded = [text.encode() for text in texts]
+        self.data = b"".join(encoded)
+        self.starts = numpy.zeros(len(texts) + 1, dtype=numpy.int32)
+        numpy.cumsum([len(text) for text in encoded], out=self.starts[1:])
+
+    def buffers(self) -> list[Any]:
+        return [None, self.starts, self.data]
+
+    def __len__(self) -> int:
+        return len(self.starts) - 1
+
+
+def encode_arrow(column: Arrow) -> numpy.ndarray:
+    with Interner() as interner:
+        return numpy.frombuffer(interner.encode(column), dtype=numpy.uint32)
+
+
+def timed(call: Callable[..., Any], *words: Any) -> tuple[float, Any]:
+    start = time.perf_counter()
+    result = call(*words)
+    return time.perf_counter() - start, result
+
+
+def is_same(ours: pandas.Categorical, codes: numpy.ndarray, texts: numpy.ndarray) -> bool:
+    """Whether a Categorical has these codes and categories."""
+    return bool((ours.codes == codes).all()) and list(ours.categories) == list(texts)
+
+
+def main() -> None:
+    rows, texts, batch = (*map(int, sys.argv[1:]), *(2_000_000, 200_000, 65_536)[len(sys.argv) - 1:])
+    column = column_of(rows, texts)
+    present = column[column.notna()]
+    arrow = Arrow(list(present))
+    times: dict[str, list[float]] = {}
+    for _ in range(ROUNDS):
+        rounds = {
+            "lasso, batch by batch to a Categorical": timed(to_categorical, batches_of(column, batch)),
+            "pandas.factorize, in one call": timed(pandas.factorize, column),
+            "lasso, Arrow's buffers in one call": timed(encode_arrow, arrow),
+        }
+        (_, ours), (_, (codes, uniques)), (_, encoded) = rounds.values()
+        if not is_same(ours, codes, uniques) or not (encoded == codes[column.notna()]).all():
+            sys.exit("categorical.py: the codes or the texts are not those of pandas")
+        for name, (took, _) in rounds.items():
+            times.setdefault(name, []).append(took)
+    print(f"{rows} rows of {len(uniques)} texts, batches of {batch}: the codes and texts of pandas; the least of {ROUNDS} rounds")
+    for name, took in times.items():
+        print(f"{name:<40}{min(took):>8.3f} seconds{min(took) * 1e9 / rows:>8.1f} ns a row")
+
+
+main()
