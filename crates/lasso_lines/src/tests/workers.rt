@@ -281,7 +281,8 @@ fn a_line_that_is_not_text_decides(rt: HostRuntime) -> Result<(), Fail> {
         assert!(rt; writer.into_bytes().is_empty());
         assert!(rt; turnstile.counts() == [0, 0, 0]);
     }
-    let rows: [(&[u8], &str); 3] = [
+    let rows: [(&[u8], &str); 4] = [
+        (b"\n\na\n\xff\n", "line 4: not UTF-8"),
         (b"\xff\n\xfe", "line 1: not UTF-8"),
         (b"a\n\xff", "line 2: not UTF-8"),
         (b"a\nb\nc\xc3", "line 3: not UTF-8"),
