@@ -16,3 +16,4 @@ pub mod Named
 pub mod Told
 pub mod InOrder
 pub mod FirstFaults
+pub mod Refusals
