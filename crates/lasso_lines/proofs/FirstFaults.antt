@@ -2,7 +2,7 @@
 --
 -- A line that is UTF-8 leaves the search to the lines after it, which are numbered from the next number on. So where all lines before
 -- were UTF-8, one that is not is the first of all lines, and the end finds none. A line that is reached is one of all lines, so its number is at most theirs.
-use Rattle.std.proofs.Common.{ℕ, ◌≡◌, ◌+◌, ◌≤◌, ◌⊎◌, inl, inr, cond, List, [], ◌∷◌, ◌++◌, length, Some, None, Result, Ok, Err, ap, sym, subst, ◌∙◌, refl, arith, length-append}
+use Rattle.std.proofs.Common.{ℕ, ◌≡◌, ◌+◌, ◌≤◌, ◌⊎◌, inl, inr, cond, List, ◌∷◌, ◌++◌, length, Some, Result, Ok, Err, ap, sym, subst, ◌∙◌, refl, arith, length-append}
 use Rattle.std.specs.Prelude.{IfErr, OnOk}
 use Rattle.std.specs.Str.{IsUtf8}
 use Rattle.std.proofs.lemmas.Str.{IsUtf8-from_is_utf8, is_utf8-from_IsUtf8}

@@ -2,7 +2,7 @@
 --
 -- A worker's pass has seen a history in which interning its refused line may be refused. The pass that learns what the worker has seen has a history
 -- that this one begins, so the reason stays one there. Of two refusals the lower one keeps its number and its reason.
-use Rattle.std.proofs.Common.{ℕ, ◌≡◌, ◌+◌, ◌*◌, ◌<◌, ◌≤◌, ◌⊎◌, inl, inr, List, [], ◌∷◌, length, Option, Some, None, Result, Ok, Err, Vec, sym, ap, subst, ◌∙◌, arith}
+use Rattle.std.proofs.Common.{ℕ, ◌≡◌, ◌+◌, ◌*◌, ◌<◌, ◌≤◌, ◌⊎◌, inl, inr, List, [], ◌∷◌, Option, Some, None, Result, Ok, Err, Vec, sym, subst}
 use Rattle.std.specs.Prelude.{IfSome, IsSomeAnd, MatchResult}
 use Rattle.std.proofs.lemmas.Bool.{cases_lt}
 use mathlib.Core.List.{IsPrefix}
