@@ -15,3 +15,5 @@ pub mod Listed
 pub mod Named
 pub mod Told
 pub mod InOrder
+pub mod FirstFaults
+pub mod Refusals

@@ -124,7 +124,7 @@ share_next lines worker workers n at line is read =
     ap (λ (t : Text). share lines worker workers n ++ t ∷ []) (sym here) ∙ sym (ap (share lines worker workers) (add-one n))
 
 -- what a worker gave back is added, where none of its lines was refused
-pub gathered_worker : {A E : Type 0} (before known after lines : List Text) (workers done : ℕ) (codes : List ℕ) (outcome : Result (Vec ℕ A) E) (all : List ℕ) → IsPrefix before after → IsPrefix known after → Gathered before lines workers done codes → MatchResult outcome (λ more. HasCodes known lines done workers more.items) (λ _. Unit {0}) → MatchResult outcome (λ more. all ≡ codes ++ more.items) (λ _. ⊥) → Gathered after lines workers (done + 1) all
-gathered_worker before known after lines workers done codes (Ok more) all begins knows gathered has is =
+pub gathered_worker : {A E : Type 0} (Q : E → Type 0) (before known after lines : List Text) (workers done : ℕ) (codes : List ℕ) (outcome : Result (Vec ℕ A) E) (all : List ℕ) → IsPrefix before after → IsPrefix known after → Gathered before lines workers done codes → MatchResult outcome (λ more. HasCodes known lines done workers more.items) Q → MatchResult outcome (λ more. all ≡ codes ++ more.items) (λ _. ⊥) → Gathered after lines workers (done + 1) all
+gathered_worker Q before known after lines workers done codes (Ok more) all begins knows gathered has is =
     subst (λ (cs : List ℕ). Gathered after lines workers (done + 1) cs) (sym is) (gathered_more before known after lines workers done codes more.items begins knows gathered has)
-gathered_worker before known after lines workers done codes (Err e) all begins knows gathered has none = absurd none
+gathered_worker Q before known after lines workers done codes (Err e) all begins knows gathered has none = absurd none

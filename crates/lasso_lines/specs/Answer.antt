@@ -47,11 +47,17 @@ IsAnswerFault ReadFailed = ⊥
 IsAnswerFault Usage = ⊥
 IsAnswerFault _ = Unit {0}
 
--- a reader failed, or there was no memory
+-- a reader failed, or there was no memory, at no line
 abbrev pub IsInputFault : RunFault → Type 0
-IsInputFault (Refused number error) = Unit {0}
+IsInputFault (Refused number error) = (number ≡ 0) × (error ≡ FailedAllocation)
 IsInputFault ReadFailed = Unit {0}
 IsInputFault _ = ⊥
+
+-- a writer failed, or there was no memory, at no line
+abbrev pub IsEndFault : RunFault → Type 0
+IsEndFault (Refused number error) = (number ≡ 0) × (error ≡ FailedAllocation)
+IsEndFault WriteFailed = Unit {0}
+IsEndFault _ = ⊥
 
 -- a line is faulty, or there was no memory
 abbrev pub IsLineFault : RunFault → Type 0

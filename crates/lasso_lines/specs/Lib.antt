@@ -7,3 +7,4 @@ pub mod Stretch
 pub mod Fronts
 pub mod Ordered
 pub mod Shares
+pub mod LineFaults

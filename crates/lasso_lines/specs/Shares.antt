@@ -1,9 +1,16 @@
 -- The lines of each worker, and the positions of their texts.
-use Rattle.std.specs.Prelude.{ℕ, zero, suc, ◌≡◌, ◌+◌, ◌*◌, ◌<◌, ◌≤◌, ◌++◌, ◌∷◌, List, [], length, slice_index_or, Result, MatchResult, Vec}
+use Rattle.std.specs.Prelude.{ℕ, zero, suc, ◌≡◌, ◌⊎◌, ◌+◌, ◌*◌, ◌<◌, ◌≤◌, ◌++◌, ◌∷◌, List, [], length, slice_index_or, Option, Some, None, Result, MatchResult, Vec}
 use Rattle.lasso_parts.specs.Texts.{Text}
+use Rattle.lasso_parts.specs.declared.util.LassoErrorKind.{LassoErrorKind}
+use Rattle.lasso_parts.specs.declared.util.LassoErrorKind.TheVariants.{FailedAllocation}
+use Rattle.lasso_log.specs.History.{History, Totals}
+use Rattle.lasso_log.specs.Notes.{history}
 use Rattle.lasso_log.specs.Views.{InternerId, KnownView, list_of}
 use Rattle.lasso_columns.specs.Codes.{AreCodes}
+use Rattle.lasso_columns.specs.Sharing.{IsRefusalIn}
 use Rattle.lasso_lines.specs.Ordered.{AreSameTexts}
+use Rattle.lasso_lines.specs.declared.fault.RunFault.{RunFault}
+use Rattle.lasso_lines.specs.declared.fault.RunFault.TheVariants.{Refused}
 
 -- the line at this position, or the empty one past the end
 abbrev pub line_at : List Text → ℕ → Text
@@ -14,10 +21,6 @@ abbrev pub share : List Text → (worker workers count : ℕ) → List Text
 share lines worker workers zero = []
 share lines worker workers (suc n) = share lines worker workers n ++ line_at lines (worker + n * workers) ∷ []
 
--- the number, counted from 1, of a line of the worker, of so many lines in all
-abbrev pub IsNumberIn : (lines worker workers number : ℕ) → Type 0
-IsNumberIn lines worker workers number = (n : ℕ) × (worker + n * workers < lines) × (number ≡ worker + n * workers + 1)
-
 -- the worker has `count` lines
 pub record IsShare (lines : List Text) (worker workers count : ℕ) : Type 0 where
   pub inside : (n : ℕ) → n < count → worker + n * workers < length lines
@@ -27,10 +30,41 @@ pub record IsShare (lines : List Text) (worker workers count : ℕ) : Type 0 whe
 abbrev pub HasCodes : List Text → List Text → (worker workers : ℕ) → List ℕ → Type 0
 HasCodes list lines worker workers codes = (count : ℕ) × IsShare lines worker workers count × AreCodes list (share lines worker workers count) codes
 
--- what was seen of the interner, in whose list the worker's lines have these codes; or one of them was refused
-abbrev pub IsShareOf : {A E : Type 0} → InternerId → List Text → (worker workers : ℕ) → KnownView → Result (Vec ℕ A) E → Type 0
+-- a refused line: its number, counted from 1, and the reason
+abbrev pub Refusal : Type 0
+Refusal = ℕ × LassoErrorKind
+
+-- one of the worker's lines was refused: the number is that line's, and the reason is out of memory, or one with which interning
+-- this line may be refused somewhere in the history
+abbrev pub IsRefusedBy : Totals → History → List Text → (worker workers : ℕ) → Refusal → Type 0
+IsRefusedBy opening past lines worker workers refusal =
+    (n : ℕ)
+    × (worker + n * workers < length lines)
+    × (refusal.0 ≡ worker + n * workers + 1)
+    × IsRefusalIn opening past (line_at lines (worker + n * workers) ∷ []) refusal.1
+
+-- the same of a line of whichever worker
+abbrev pub IsRefusedIn : Totals → History → List Text → Refusal → Type 0
+IsRefusedIn opening past lines refusal =
+    (i : ℕ) × (i < length lines) × (refusal.0 ≡ i + 1) × IsRefusalIn opening past (line_at lines i ∷ []) refusal.1
+
+-- the fault is such a refusal; or memory was not found where no line was at hand
+abbrev pub IsRefusalOf : Totals → History → List Text → RunFault → Type 0
+IsRefusalOf opening past lines (Refused number error) = ((number ≡ 0) × (error ≡ FailedAllocation)) ⊎ IsRefusedIn opening past lines (number, error)
+IsRefusalOf opening past lines _ = ⊥
+
+-- the result is the refusal of the lower line, with its own reason
+abbrev pub IsLower : Option Refusal → Refusal → Refusal → Type 0
+IsLower None other result = result ≡ other
+IsLower (Some refusal) other result = (refusal.0 ≤ other.0 → result ≡ refusal) × (other.0 < refusal.0 → result ≡ other)
+
+-- what was seen of the interner, in whose list the worker's lines have these codes; or one of them was refused there
+abbrev pub IsShareOf : {A : Type 0} → InternerId → List Text → (worker workers : ℕ) → KnownView → Result (Vec ℕ A) Refusal → Type 0
 IsShareOf of lines worker workers known outcome =
-    (known.of ≡ of) × MatchResult outcome (λ codes. HasCodes (list_of of known.notes) lines worker workers codes.items) (λ _. Unit {0})
+    (known.of ≡ of)
+    × MatchResult outcome
+    (λ codes. HasCodes (list_of of known.notes) lines worker workers codes.items)
+    (IsRefusedBy of.opening (history known.notes) lines worker workers)
 
 -- the codes are the positions of the lines' texts in the list, in some order
 abbrev pub AreCodesOf : List Text → List Text → List ℕ → Type 0

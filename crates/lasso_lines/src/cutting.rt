@@ -1,8 +1,11 @@
 //! A whole input, and its lines.
-ghost use Rattle.std.specs.Prelude.{◌≡◌, ◌+◌, ◌++◌, ◌∷◌, ℕ, List, [], Some, OnOk, IfOk, IfErr, map};
+ghost use Rattle.std.specs.Prelude.{◌≡◌, ◌+◌, ◌++◌, ◌∷◌, ◌⊎◌, ℕ, List, [], Some, OnOk, IfOk, IfErr, IsUtf8, map};
 ghost use Rattle.lasso_columns.specs.Lines.{lines_of};
 ghost use Rattle.lasso_lines.specs.Stream.{Stays, Ended};
 ghost use Rattle.lasso_lines.specs.Answer.{IsInputFault, IsLineFault, failed_reads};
+ghost use Rattle.lasso_lines.specs.LineFaults.{AreTexts, IsFaultOf};
+ghost use Rattle.lasso_lines.specs.declared.fault.RunFault.TheVariants.{Refused, NotText};
+ghost use Rattle.lasso_parts.specs.declared.util.LassoErrorKind.TheVariants.{FailedAllocation};
 
 use crate::fault::RunFault;
 use crate::stream::ByteReader;
@@ -48,12 +51,15 @@ fn refill<I: ByteReader>(reader: &mut I) -> Result<(), RunFault>
     }
 }
 
-// The lines of the input, all of which have to be text. Bytes behind the last line feed are a line too.
+// The lines of the input, all of which have to be text. Bytes behind the last line feed are a line too. The first line that is
+// not text is the fault, by its number, counted from 1; or memory is not found at a line before that one.
 pub(crate) fn cut<'a, R: AllocGlobal + Wait>(
     rt: &R,
     input: &'a [u8],
 ) -> Result<Vec<&'a str>, RunFault>
     ensures faults { IfErr result IsLineFault }
+    ensures told { IfErr result (IsFaultOf (lines_of input.now)) }
+    ensures texts { OnOk result (AreTexts (lines_of input.now)) }
     ensures lines { IfOk result (λ lines. map (λ t. t.now) lines.items ≡ lines_of input.now) }
 {
     let mut lines = Vec::new(rt.alloc());
@@ -74,7 +80,8 @@ pub(crate) fn cut<'a, R: AllocGlobal + Wait>(
 // Puts the line of this number behind the others.
 #[inline]
 fn push_line<'a>(lines: &mut Vec<&'a str>, line: &'a [u8], number: u64) -> Result<(), RunFault>
-    ensures faults { IfErr result IsLineFault }
+    ensures fault { IfErr result (λ fault. ((fault ≡ NotText number) × ¬ (IsUtf8 line.now)) ⊎ (fault ≡ Refused number FailedAllocation)) }
+    ensures text { OnOk result (IsUtf8 line.now) }
     ensures line { OnOk result (map (λ t. t.now) lines.new.items ≡ map (λ t. t.now) lines.old.items ++ line.now ∷ []) }
 {
     let Ok(text) = from_utf8(line) else {

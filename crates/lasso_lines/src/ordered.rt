@@ -3,7 +3,7 @@ ghost use Rattle.std.specs.Prelude.{◌≡◌, ◌+◌, ◌++◌, ◌∷◌, [],
 ghost use mathlib.Core.List.{IsPrefix};
 ghost use Rattle.lasso_log.specs.Views.{PassView, InternerId, list_of};
 ghost use Rattle.lasso_lines.specs.Stream.{Grows, OnlyGrows, Stays, written};
-ghost use Rattle.lasso_lines.specs.Answer.{IsAnswerFault, WritesAll, failed_writes};
+ghost use Rattle.lasso_lines.specs.Answer.{IsEndFault, WritesAll, failed_writes};
 ghost use Rattle.lasso_lines.specs.Fronts.{IsFronted};
 ghost use Rattle.lasso_lines.specs.Ordered.{told, AreNamed, WritesNamed, BeginsNamed};
 ghost use Rattle.lasso_lines.specs.declared.fault.RunFault.TheVariants.{WriteFailed};
@@ -33,7 +33,7 @@ pub(crate) fn write_in_order<R: AllocGlobal + Threads + Sync, O: ByteWriter>(
     ensures delivered { OnlyGrows (O.delivered writer.old) (O.delivered writer.new) }
     ensures all { OnOk result (O.pending writer.new ≡ Some []) }
     ensures refused { IfErr result (λ fault. ¬ (fault ≡ WriteFailed) → writer.new ≡ writer.old) }
-    ensures faults { IfErr result IsAnswerFault }
+    ensures faults { IfErr result IsEndFault }
     ensures grows { IsPrefix (list_of rodeo.now pass.old.notes) (list_of rodeo.now pass.new.notes) }
     ensures texts { OnOk result (Grows (written (O.delivered writer.old) (O.pending writer.old)) (written (O.delivered writer.new) (O.pending writer.new))
         (WritesNamed (list_of rodeo.now pass.new.notes) codes.now)) }
@@ -54,7 +54,7 @@ fn collect<'a, R: AllocGlobal>(
     codes: &[u32],
 ) -> Result<Vec<Fronted<'a>>, RunFault>
     requires { pass.old.of ≡ rodeo.now }
-    ensures faults { IfErr result IsAnswerFault }
+    ensures faults { IfErr result IsEndFault }
     ensures no_write { IfErr result (λ fault. ¬ (fault ≡ WriteFailed)) }
     ensures grows { IsPrefix (list_of rodeo.now pass.old.notes) (list_of rodeo.now pass.new.notes) }
     ensures texts { IfOk result (λ texts. AreNamed (list_of rodeo.now pass.new.notes) codes.now (map (λ p. p.1.now) texts.items)) }
@@ -80,7 +80,7 @@ fn take_marked<'a>(
     text: &'a str,
     is_marked: bool,
 ) -> Result<(), RunFault>
-    ensures faults { IfErr result IsAnswerFault }
+    ensures faults { IfErr result IsEndFault }
     ensures no_write { IfErr result (λ fault. ¬ (fault ≡ WriteFailed)) }
     ensures texts { OnOk result (map (λ p. p.1.now) texts.new.items ≡ map (λ p. p.1.now) texts.old.items ++ (if is_marked then text.now ∷ [] else [])) }
     ensures fronts { All IsFronted texts.old.items → OnOk result (All IsFronted texts.new.items) }

@@ -1,10 +1,14 @@
 //! The lines of each worker, and what the workers give back.
-ghost use Rattle.std.specs.Prelude.{◌≡◌, ◌<◌, ◌≤◌, ◌+◌, ◌++◌, ◌∷◌, List, [], OnOk, IfOk, IfErr, IfSome, MatchResult, None, length, map, vec_len};
+ghost use Rattle.std.specs.Prelude.{◌≡◌, ◌<◌, ◌≤◌, ◌+◌, ◌++◌, ◌∷◌, List, [], OnOk, IfOk, IfErr, IfSome, IsSomeAnd, MatchResult, None, length, map, vec_len};
 ghost use Rattle.lasso_parts.specs.Texts.{Text};
 ghost use Rattle.lasso_columns.specs.Codes.{AreCodes};
-ghost use Rattle.lasso_log.specs.Views.{PassView, InternerId, IsSamePass, list_of};
-ghost use Rattle.lasso_lines.specs.Answer.{IsLineFault};
-ghost use Rattle.lasso_lines.specs.Shares.{AreCodesOf, HasCodes, IsNumberIn, IsShareOf};
+ghost use Rattle.lasso_columns.specs.Encoding.{spur_at};
+ghost use Rattle.lasso_columns.specs.Sharing.{IsRefusalIn};
+ghost use Rattle.lasso_log.specs.History.{IsLegal};
+ghost use Rattle.lasso_log.specs.Views.{PassView, InternerId, IsSamePass, list_of, seen};
+ghost use Rattle.lasso_lines.specs.Shares.{AreCodesOf, HasCodes, IsLower, IsRefusalOf, IsRefusedBy, IsShareOf};
+ghost use Rattle.lasso_lines.specs.declared.fault.RunFault.TheVariants.{Refused};
+ghost use Rattle.lasso_parts.specs.declared.util.LassoErrorKind.TheVariants.{FailedAllocation};
 
 use crate::fault::RunFault;
 use crate::workers::Gate;
@@ -28,7 +32,7 @@ struct Share {
 }
 
 // Has the workers intern the lines. Returns the positions of the lines' texts in the list that the pass has then seen,
-// worker by worker. The fault is that of the lowest line that was refused.
+// worker by worker. The fault is that of the lowest line that was refused, with the reason that it was refused for.
 pub(crate) fn share_out<R: AllocGlobal + Threads + Wait + Sync, G: Gate>(
     rt: &R,
     rodeo: &SpurThreadedRodeo,
@@ -41,8 +45,10 @@ pub(crate) fn share_out<R: AllocGlobal + Threads + Wait + Sync, G: Gate>(
     requires of { pass.old.of ≡ rodeo.now }
     ensures same { IsSamePass pass.new pass.old }
     ensures codes { IfOk result (λ codes. AreCodesOf (list_of rodeo.now pass.new.notes) (map (λ t. t.now) lines.now) codes.items) }
-    ensures faults { IfErr result IsLineFault }
+    ensures refused { IfErr result (IsRefusalOf rodeo.now.opening (seen pass.new) (map (λ t. t.now) lines.now)) }
+    ensures legal { IsLegal spur_at rodeo.now.opening (seen pass.new) }
 {
+    pass.show_legal();
     let work = move |worker: usize| -> Share
         requires { 0 < workers }
         ensures { IsShareOf rodeo.entry.now (map (λ t. t.now) lines.entry.now) worker workers result.known result.codes }
@@ -69,7 +75,8 @@ fn add_codes(
     lowest: Option<Refusal>,
     outcome: &Result<Vec<u32>, Refusal>,
 ) -> Result<Option<Refusal>, RunFault>
-    ensures faults { IfErr result IsLineFault }
+    ensures fault { IfErr result (λ fault. fault ≡ Refused 0 FailedAllocation) }
+    ensures lowest { IfOk result (λ next. MatchResult outcome.now (λ _. next ≡ lowest) (λ refusal. IsSomeAnd next (IsLower lowest refusal))) }
     ensures added { IfOk result (λ next. next ≡ None → (lowest ≡ None) × MatchResult outcome.now (λ more. codes.new.items ≡ codes.old.items ++ more.items) (λ _. ⊥)) }
 {
     match outcome {
@@ -85,9 +92,7 @@ fn add_codes(
 
 // The refusal of the lower line.
 fn lower(lowest: Option<Refusal>, other: &Refusal) -> Refusal
-    ensures none { lowest ≡ None → result ≡ other.now }
-    ensures lower { IfSome lowest (λ refusal. refusal.0 ≤ other.now.0 → result ≡ refusal) }
-    ensures higher { IfSome lowest (λ refusal. other.now.0 < refusal.0 → result ≡ other.now) }
+    ensures { IsLower lowest other.now result }
 {
     match lowest {
         Some((number, error)) if number <= other.0 => (number, error),
@@ -128,7 +133,7 @@ fn intern_by<R: AllocGlobal + Wait, G: Gate>(
     requires some { 0 < workers }
     requires of { pass.old.of ≡ rodeo.now }
     ensures of { pass.new.of ≡ rodeo.now }
-    ensures number { IfErr result (λ refusal. IsNumberIn (length lines.now) worker workers refusal.0) }
+    ensures refused { IfErr result (IsRefusedBy rodeo.now.opening (seen pass.new) (map (λ t. t.now) lines.now) worker workers) }
     ensures codes { IfOk result (λ codes. HasCodes (list_of rodeo.now pass.new.notes) (map (λ t. t.now) lines.now) worker workers codes.items) }
 {
     let mut codes = Vec::new(rt.alloc());
@@ -155,6 +160,7 @@ fn intern_line<R: Wait>(
     requires { pass.old.of ≡ rodeo.now }
     ensures of { pass.new.of ≡ rodeo.now }
     ensures number { IfErr result (λ refusal. refusal.0 ≡ number) }
+    ensures reason { IfErr result (λ refusal. IsRefusalIn rodeo.now.opening (seen pass.new) (line.now ∷ []) refusal.1) }
     ensures one { OnOk result (vec_len codes.new ≡ vec_len codes.old + 1) }
     ensures coded { (texts : List Text) → AreCodes (list_of rodeo.now pass.old.notes) texts codes.old.items →
         OnOk result (AreCodes (list_of rodeo.now pass.new.notes) (texts ++ line.now ∷ []) codes.new.items) }

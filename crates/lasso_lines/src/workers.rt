@@ -1,10 +1,13 @@
 //! A run whose lines several threads intern, and which writes the distinct ones in order.
 ghost use Rattle.std.specs.Prelude.{◌≡◌, ℕ, ◌+◌, ◌<◌, List, [], Some, Err, OnOk, IfOk, IfErr};
 ghost use Rattle.lasso_columns.specs.Lines.{lines_of};
+ghost use Rattle.lasso_log.specs.History.{opened};
 ghost use Rattle.lasso_log.specs.Views.{list_of};
 ghost use Rattle.lasso_lines.specs.Stream.{Grows, OnlyGrows, Stays, Ended, written};
 ghost use Rattle.lasso_lines.specs.Answer.{IsLineFault, failed_reads, failed_writes};
 ghost use Rattle.lasso_lines.specs.Ordered.{WritesOrdered, BeginsOrdered};
+ghost use Rattle.lasso_lines.specs.LineFaults.{AreTexts, IsFaultOf};
+ghost use Rattle.lasso_lines.specs.Report.{first_bytes};
 ghost use Rattle.lasso_lines.specs.Shares.{AreCodesOf};
 ghost use Rattle.lasso_lines.specs.declared.fault.RunFault.TheVariants.{Usage, WriteFailed};
 
@@ -58,6 +61,8 @@ pub fn run_workers<R: AllocGlobal + Threads + Wait + Sync, I: ByteReader, O: Byt
     ensures delivered { OnlyGrows (O.delivered writer.old) (O.delivered writer.new) }
     ensures nothing_written { IfErr result (λ fault. ¬ (fault ≡ WriteFailed) → Stays (written (O.delivered writer.old) (O.pending writer.old)) (written (O.delivered writer.new) (O.pending writer.new))) }
     ensures no_usage { ¬ (result ≡ Err Usage) }
+    ensures fault { (input : List ℕ) → I.left reader.old ≡ Some input → IfErr result (IsFaultOf (lines_of input)) }
+    ensures texts { (input : List ℕ) → I.left reader.old ≡ Some input → OnOk result (AreTexts (lines_of input)) }
     ensures lines { (input : List ℕ) → I.left reader.old ≡ Some input →
         OnOk result (Grows (written (O.delivered writer.old) (O.pending writer.old)) (written (O.delivered writer.new) (O.pending writer.new)) (WritesOrdered (lines_of input))) }
     ensures begins { (input : List ℕ) → I.left reader.old ≡ Some input →
@@ -97,6 +102,9 @@ fn intern_lines<R: AllocGlobal + Threads + Wait + Sync, G: Gate>(
 ) -> Result<Interned, RunFault>
     requires { 0 < workers }
     ensures faults { IfErr result IsLineFault }
+    ensures told { IfErr result (IsFaultOf (lines_of input.now)) }
+    ensures texts { OnOk result (AreTexts (lines_of input.now)) }
+    ensures opening { IfOk result (λ interned. interned.rodeo.opening ≡ opened [] first_bytes 0 limits) }
     ensures of { IfOk result (λ interned. interned.pass.of ≡ interned.rodeo) }
     ensures codes { IfOk result (λ interned. AreCodesOf (list_of interned.rodeo interned.pass.notes) (lines_of input.now) interned.codes.items) }
 {

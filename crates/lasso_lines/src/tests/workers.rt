@@ -20,8 +20,18 @@ const SECOND_REFUSED: &str =
 
 // A line of 4097 bytes between others: more than the first bucket has.
 fn with_long_line<R: AllocGlobal>(rt: &R, before: &[u8], behind: &[u8]) -> Result<Vec<u8>, Fail> {
+    with_line_of(rt, 4097, before, behind)
+}
+
+// A line of that many bytes between others.
+fn with_line_of<R: AllocGlobal>(
+    rt: &R,
+    bytes: usize,
+    before: &[u8],
+    behind: &[u8],
+) -> Result<Vec<u8>, Fail> {
     let mut input = before.to_vec(rt.alloc())?;
-    let long = vec![in rt.alloc(); b'a'; 4097]?;
+    let long = vec![in rt.alloc(); b'a'; bytes]?;
     input.extend_from_slice(&long)?;
     input.extend_from_slice(behind)?;
     Ok(input)
@@ -85,6 +95,29 @@ fn a_limit_leaves_room_for_another_bucket(rt: HostRuntime) -> Result<(), Fail> {
     let ended = run_words(&rt, &words, &mut reader, &mut writer);
     assert_fault(&rt, ended, SECOND_REFUSED, 1)?;
     assert!(rt; writer.into_bytes().is_empty());
+    Ok(())
+}
+
+// A line of more than 8192 bytes has a bucket of just its bytes, beside the first one of 4096. 4096 + 995,904 = 1,000,000, and
+// 4096 + 1,044,480 = 1,048,576.
+#[test]
+fn a_great_limit_is_met_and_missed(rt: HostRuntime) -> Result<(), Fail> {
+    let cases: [(&str, usize); 2] = [("1000000", 995_904), ("1048576", 1_044_480)];
+    for (limit, most) in cases {
+        let words = owned_words(&rt, &["--workers", "2", "--limit", limit])?;
+        let input = with_line_of(&rt, most, b"b\n", b"\n")?;
+        let output = with_line_of(&rt, most, b"", b"\nb\n")?;
+        let mut reader = MemoryReader::new(&input);
+        let mut writer = MemoryWriter::new(rt.alloc());
+        assert!(rt; run_words(&rt, &words, &mut reader, &mut writer) == Ok(()));
+        assert!(rt; writer.into_bytes() == output);
+        let input = with_line_of(&rt, most.saturating_add(1), b"b\n", b"\n")?;
+        let mut reader = MemoryReader::new(&input);
+        let mut writer = MemoryWriter::new(rt.alloc());
+        let ended = run_words(&rt, &words, &mut reader, &mut writer);
+        assert_fault(&rt, ended, SECOND_REFUSED, 1)?;
+        assert!(rt; writer.into_bytes().is_empty());
+    }
     Ok(())
 }
 
@@ -281,7 +314,8 @@ fn a_line_that_is_not_text_decides(rt: HostRuntime) -> Result<(), Fail> {
         assert!(rt; writer.into_bytes().is_empty());
         assert!(rt; turnstile.counts() == [0, 0, 0]);
     }
-    let rows: [(&[u8], &str); 3] = [
+    let rows: [(&[u8], &str); 4] = [
+        (b"\n\na\n\xff\n", "line 4: not UTF-8"),
         (b"\xff\n\xfe", "line 1: not UTF-8"),
         (b"a\n\xff", "line 2: not UTF-8"),
         (b"a\nb\nc\xc3", "line 3: not UTF-8"),

@@ -1,7 +1,7 @@
 //! An interner that threads share, compared with each form of a list.
-use crate::calls::{Shared, limit, made, set_limit};
+use crate::calls::{Shared, answered, copied, limit, limited, made, set_limit};
 use lasso_parts::keys::Spur;
-use lasso_parts::util::{FixedState, LassoResult};
+use lasso_parts::util::{FixedState, LassoErrorKind, LassoResult};
 use lasso_shared::threaded::ThreadedRodeo;
 use lasso_single::reader::RodeoReader;
 use lasso_single::resolver::RodeoResolver;
@@ -111,6 +111,23 @@ fn no_comparison_sets_a_limit(rt: HostRuntime) -> Result<(), Fail> {
     assert!(rt; is_equal_to_forms(&rt, &shared, &single)? == (true, true, true));
     assert!(rt; limit(&rt, &shared) == LIMIT);
     assert!(rt; limit(&rt, &other) == LIMIT);
+    Ok(())
+}
+
+// Four bytes are for two texts of two, between which the lists are compared.
+#[test]
+fn no_comparison_takes_a_byte(rt: HostRuntime) -> Result<(), Fail> {
+    let shared: Shared = limited(rt.alloc(), 4, 4)?;
+    let other: Shared = limited(rt.alloc(), 4, 4)?;
+    assert!(rt; copied(&rt, &shared, "ab")? == 0);
+    assert!(rt; copied(&rt, &other, "ab")? == 0);
+    assert!(rt; is_equal(&rt, &shared, &other));
+    let single = single_of(rt.alloc(), ["ab", "ab", "ab"])?;
+    assert!(rt; is_equal_to_forms(&rt, &shared, &single)? == (true, true, true));
+    for one in [&shared, &other] {
+        assert!(rt; answered(copied(&rt, one, "cd")) == Ok(1));
+        assert!(rt; answered(copied(&rt, one, "e")) == Err(LassoErrorKind::MemoryLimitReached));
+    }
     Ok(())
 }
 

@@ -1,7 +1,7 @@
 //! How many bytes an interner that threads share says it has of the allocator, text after text. It has the global allocator, which
 //! no test can put another one in place of; so what it should have is worked out by hand.
 use crate::calls::{allocated, copied, kept, roomless, text_at, usage};
-use crate::hashers::{FirstState, SameState};
+use crate::hashers::{FirstState, LowState, SameState};
 use lasso_parts::keys::{Key, MicroSpur, Spur};
 use lasso_shared::threaded::ThreadedRodeo;
 use std::hash::BuildHasher;
@@ -80,6 +80,27 @@ fn bytes_of_each_index(rt: HostRuntime) -> Result<(), Fail> {
     assert!(rt; allocated(&rt, &shared) == 1114);
     kept(&rt, &shared, "0")?;
     assert!(rt; allocated(&rt, &shared) == 1114);
+    Ok(())
+}
+
+// Their first bytes are 112 and 97 to 111, which have the lowest four bits 0 and 1 to 15: so each is of a shard of its own.
+const OF_EACH_SHARD: [&str; 16] = [
+    "p", "a", "b", "c", "d", "e", "f", "g", "h", "i", "j", "k", "l", "m", "n", "o",
+];
+
+// The first text takes 32 cells of 32 bytes, which are enough for all, and the first bucket has ten bytes. Each text takes an index of 8
+// slots, of four bytes and a tag each.
+#[test]
+fn bytes_of_the_index_of_each_shard(rt: HostRuntime) -> Result<(), Fail> {
+    let shared: ThreadedRodeo<Spur, LowState> = roomless(rt.alloc())?;
+    assert!(rt; allocated(&rt, &shared) == 10);
+    let mut bytes: usize = 1034;
+    for text in OF_EACH_SHARD {
+        kept(&rt, &shared, text)?;
+        bytes = bytes.saturating_add(40);
+        assert!(rt; allocated(&rt, &shared) == bytes, "{text}");
+    }
+    assert!(rt; bytes == 1674);
     Ok(())
 }
 

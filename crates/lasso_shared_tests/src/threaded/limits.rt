@@ -218,17 +218,92 @@ fn a_limit_is_what_was_set_last(rt: HostRuntime) -> Result<(), Fail> {
     Ok(())
 }
 
-// Static texts leave all four bytes to a copied text.
+// Whether the limit without a pass and by the pass is what it is after each power of two was set without a pass, and after each number
+// before one was set by the pass.
+fn keeps_each_limit<R: Wait>(rt: &R, shared: &Shared) -> bool {
+    let mut pass = pass_of(shared);
+    let mut bytes: usize = 1;
+    for _ in 0..64u32 {
+        set_limit(rt, shared, bytes);
+        if limit_as(rt, shared, &mut pass).0 != bytes || limit(rt, shared) != bytes {
+            return false;
+        }
+        let fewer = bytes.saturating_sub(1);
+        set_limit_as(rt, shared, &mut pass, fewer);
+        if limit(rt, shared) != fewer || limit_as(rt, shared, &mut pass).0 != fewer {
+            return false;
+        }
+        bytes = bytes.saturating_mul(2);
+    }
+    true
+}
+
+#[test]
+fn limits_of_each_size_are_kept(rt: HostRuntime) -> Result<(), Fail> {
+    let shared = made(rt.alloc())?;
+    assert!(rt; keeps_each_limit(&rt, &shared));
+    // 2^63 - 1
+    assert!(rt; limit(&rt, &shared) == 9_223_372_036_854_775_807);
+    assert!(rt; usage(&rt, &shared) == 4096);
+    Ok(())
+}
+
+// Interns the three texts as static ones, each by another call. Tells whether they got the numbers from the given one on.
+fn keeps_three<R: Wait>(
+    rt: &R,
+    shared: &Shared,
+    pass: &mut Pass<Spur>,
+    texts: [&'static str; 3],
+    first: usize,
+) -> LassoResult<bool>
+    requires { pass.old.of ≡ shared.now }
+    ensures { pass.new.of ≡ pass.old.of }
+{
+    let one = kept_as(rt, shared, pass, texts[0])?.into_usize();
+    let two = kept(rt, shared, texts[1])?;
+    let three = kept_so(rt, shared, texts[2])?;
+    let wanted = (first, first.saturating_add(1), first.saturating_add(2));
+    Ok((one, two, three) == wanted)
+}
+
+// Texts of 15 bytes and of 40.
+const OF_15: [&str; 3] = ["a23456789012345", "b23456789012345", "c23456789012345"];
+
+const OF_40: [&str; 3] = [
+    "a234567890123456789012345678901234567890",
+    "b234567890123456789012345678901234567890",
+    "c234567890123456789012345678901234567890",
+];
+
+// 64 bytes.
+const OF_64: &str = "1234567890123456789012345678901234567890123456789012345678901234";
+
+// Static texts, each of which the first bucket has room for, leave all 64 bytes to a copied text.
 #[test]
 fn a_static_text_takes_no_bytes(rt: HostRuntime) -> Result<(), Fail> {
-    let shared: Shared = limited(rt.alloc(), 4, 4)?;
+    let shared: Shared = limited(rt.alloc(), 64, 64)?;
     let mut pass = pass_of(&shared);
-    kept_as(&rt, &shared, &mut pass, "abcd")?;
-    assert!(rt; kept(&rt, &shared, "efgh")? == 1);
-    assert!(rt; kept_so(&rt, &shared, "ijkl")? == 2);
-    assert!(rt; usage(&rt, &shared) == 4);
-    assert!(rt; copied(&rt, &shared, "wxyz")? == 3);
-    assert!(rt; answered(copied(&rt, &shared, "more")) == Err(LassoErrorKind::MemoryLimitReached));
+    assert!(rt; keeps_three(&rt, &shared, &mut pass, ["a", "b", "c"], 0)?);
+    assert!(rt; keeps_three(&rt, &shared, &mut pass, OF_15, 3)?);
+    assert!(rt; keeps_three(&rt, &shared, &mut pass, OF_40, 6)?);
+    assert!(rt; usage(&rt, &shared) == 64);
+    assert!(rt; answered(copied(&rt, &shared, OF_64)) == Ok(9));
+    assert!(rt; answered(copied(&rt, &shared, "z")) == Err(LassoErrorKind::MemoryLimitReached));
+    Ok(())
+}
+
+// The first bucket has four bytes, and the limit leaves eight to another one.
+#[test]
+fn no_static_text_sets_a_limit(rt: HostRuntime) -> Result<(), Fail> {
+    let shared: Shared = limited(rt.alloc(), 4, 12)?;
+    let mut pass = pass_of(&shared);
+    kept_as(&rt, &shared, &mut pass, "by a pass")?;
+    assert!(rt; limit(&rt, &shared) == 12);
+    kept(&rt, &shared, "without one")?;
+    kept_so(&rt, &shared, "by the other call")?;
+    assert!(rt; limit_as(&rt, &shared, &mut pass) == (12, 4));
+    assert!(rt; answered(copied(&rt, &shared, "8 bytes.")) == Ok(3));
+    assert!(rt; limit_as(&rt, &shared, &mut pass) == (12, 12));
     Ok(())
 }
 

@@ -1,14 +1,14 @@
-//! Events that no call may add under a pass of its own: a reading takes no byte, and a call that raises the limit never
-//! lowers it on the way.
+//! Events that no call may add under a pass of its own: a reading takes no byte, an intern takes the bytes of its text and no
+//! more, and a call that raises the limit never lowers it on the way.
 ghost use Rattle.std.specs.Prelude.{◌≡◌};
 
 use crate::calls::{
-    Shared, contains, copied_as, found, len, limit, limited, number, pass_of, seen_by, set_limit,
-    stands_for, text_at, text_seen_by, usage,
+    Shared, allocated, answered, contains, copied, copied_as, copied_so, found, len, limit,
+    limited, number, pass_of, seen_by, set_limit, stands_for, text_at, text_seen_by, usage,
 };
 use lasso_log::log::Pass;
 use lasso_parts::keys::{Key, Spur};
-use lasso_parts::util::{LassoErrorKind, MemoryLimits};
+use lasso_parts::util::{LassoErrorKind, LassoResult, MemoryLimits};
 use std::alloc::{AllocError, Global};
 use std::process::Abort;
 use std::sync::Wait;
@@ -98,6 +98,41 @@ fn look_ups_take_no_byte(rt: HostRuntime) -> Result<(), Fail> {
     // not a byte is left
     assert!(rt; number(&rt, &shared, "z") == Err(LassoErrorKind::MemoryLimitReached));
     assert!(rt; len(&shared) == 16);
+    Ok(())
+}
+
+// Interns the text by each of three calls, and tells whether each gives this number.
+fn interns_thrice<R: Wait>(
+    rt: &R,
+    shared: &Shared,
+    pass: &mut Pass<Spur>,
+    text: &str,
+    wanted: usize,
+) -> LassoResult<bool>
+    requires { pass.old.of ≡ shared.now }
+    ensures { pass.new.of ≡ pass.old.of }
+{
+    let by_pass = copied_as(rt, shared, pass, text)?.into_usize() == wanted;
+    let plainly = copied(rt, shared, text)? == wanted;
+    Ok(by_pass && plainly && copied_so(rt, shared, text)? == wanted)
+}
+
+// Eight bytes are for four texts of two, each of which is new to another call.
+#[test]
+fn an_intern_takes_the_bytes_of_its_text_alone(rt: HostRuntime) -> Result<(), Fail> {
+    let shared: Shared = limited(rt.alloc(), 8, 8)?;
+    let mut pass = pass_of(&shared);
+    assert!(rt; copied(&rt, &shared, "ab")? == 0);
+    assert!(rt; interns_thrice(&rt, &shared, &mut pass, "ab", 0)?);
+    assert!(rt; copied_so(&rt, &shared, "cd")? == 1);
+    assert!(rt; interns_thrice(&rt, &shared, &mut pass, "cd", 1)?);
+    copied_as(&rt, &shared, &mut pass, "ef")?;
+    assert!(rt; interns_thrice(&rt, &shared, &mut pass, "ef", 2)?);
+    set_limit(&rt, &shared, 8);
+    assert!(rt; allocated(&rt, &shared) > 8);
+    assert!(rt; answered(copied(&rt, &shared, "gh")) == Ok(3));
+    assert!(rt; number(&rt, &shared, "i") == Err(LassoErrorKind::MemoryLimitReached));
+    assert!(rt; usage(&rt, &shared) == 8);
     Ok(())
 }
 

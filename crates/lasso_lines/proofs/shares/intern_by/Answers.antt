@@ -1,10 +1,12 @@
-use Rattle.std.proofs.Common.{ℕ, ◌≡◌, ◌+◌, ◌*◌, ◌<◌, ◌≤◌, List, Bor, map, length, ap, sym, subst, ◌∙◌, arith, ◌⊎◌, inl, inr}
+use Rattle.std.proofs.Common.{ℕ, ◌≡◌, ◌+◌, ◌*◌, ◌<◌, ◌≤◌, ◌∷◌, [], List, Bor, map, length, ap, sym, subst, ◌∙◌, arith, ◌⊎◌, inl, inr}
 use Rattle.std.proofs.lemmas.Bool.{cases_lt}
+use Rattle.std.proofs.lemmas.Result.{err_from_is_err_and}
 use Rattle.std.proofs.lemmas.List.{length-map}
 use Rattle.lasso_parts.specs.Texts.{Text}
-use Rattle.lasso_log.specs.Views.{list_of}
+use Rattle.lasso_log.specs.Views.{list_of, seen}
 use Rattle.lasso_columns.specs.Codes.{AreCodes}
-use Rattle.lasso_lines.specs.Shares.{share}
+use Rattle.lasso_columns.specs.Sharing.{IsRefusalIn}
+use Rattle.lasso_lines.specs.Shares.{line_at, share}
 use Rattle.lasso_lines.proofs.ShareLines.{line_read, share_next}
 use Rattle.lasso_lines.proofs.shares.intern_by.Goals as goal
 
@@ -46,4 +48,22 @@ returns-clause-codes g c =
       length c.loop-at.codes.items,
       record { inside = λ n small. omega (arith, long, now.inside n small); whole = omega (arith, long, now.far, c.loop-at-test.false) },
       now.coded,
+    )
+
+-- the line that was refused is the next one of the worker
+pub returns-in_err-intern_line-clause-refused : goal.returns-in_err-intern_line-clause-refused
+returns-in_err-intern_line-clause-refused g c =
+    let now = c.loop-at.invariant in
+    let p = err_from_is_err_and c.from_residual.result c.from_residual.ensures.1 in
+    let lines = map (λ (t : Bor Text). t.now) c.args.lines.now in
+    let count = length c.loop-at.codes.items in
+    let long : length lines ≡ length c.args.lines.now = length-map c.args.lines.now (λ (t : Bor Text). t.now) in
+    let small : c.loop-at.at < length c.args.lines.now = omega (arith, c.loop-at-test.true) in
+    let at : c.loop-at.at ≡ c.args.worker + count * c.args.workers = now.near small in
+    let past = seen c.intern_line.new.pass in
+    rw (p.1, p.2) (
+      count,
+      omega (arith, long, at, small),
+      omega (arith, at, c.in_err-intern_line.ensures.number),
+      subst (λ (t : Text). IsRefusalIn c.args.rodeo.now.opening past (t ∷ []) c.in_err-intern_line.field-0.0.1) (sym (ap (line_at lines) (sym at) ∙ line_read c.args.lines.now c.loop-at.at _ small)) c.in_err-intern_line.ensures.reason,
     )

@@ -1,7 +1,8 @@
 use Rattle.std.proofs.Common.{ℕ, ◌-◌, ◌∷◌, ◌++◌, ◌∙◌, [], List, ap, sym, subst}
+use Rattle.std.proofs.lemmas.List.Elements.{Contains-push}
 use Rattle.lasso_log.specs.Views.{list_of, seen}
 use Rattle.lasso_columns.specs.Codes.{AreCodes}
-use Rattle.lasso_columns.proofs.Shared.{shared_push}
+use Rattle.lasso_columns.proofs.Shared.{shared_push, shared_refused}
 use Rattle.lasso_lines.proofs.shares.intern_line.Goals as goal
 
 pub returns-in-Ok-push-clause-coded : goal.returns-in-Ok-push-clause-coded
@@ -10,3 +11,8 @@ returns-in-Ok-push-clause-coded g c = λ texts are.
     let more = shared_push c.args.rodeo.now.opening (seen c.args.pass.now) (seen c.try_get_or_intern_as.new.pass) c.args.pass.now.number texts c.args.line.now c.args.codes.now.items c.in-Ok.key are c.in-Ok.ensures.call in
     let put = c.in-Ok-push.ensures.items ∙ ap (λ k. c.args.codes.now.items ++ (k - 1) ∷ []) c.into_inner.ensures.kept in
     subst (λ (cs : List ℕ). AreCodes list (texts ++ c.args.line.now ∷ []) cs) (sym put) more
+
+pub returns-in-Err-clause-reason : goal.returns-in-Err-clause-reason
+returns-in-Err-clause-reason g c =
+    let line = c.args.line.now in
+    shared_refused c.args.rodeo.now.opening (seen c.args.pass.now) (seen c.try_get_or_intern_as.new.pass) c.args.pass.now.number (line ∷ []) line c.in-Err.error (Contains-push [] line) c.in-Err.ensures.call

@@ -1,8 +1,11 @@
 use Rattle.std.proofs.Common.{ℕ, ◌<◌, ◌∙◌, List, Bor, map, refl, sym, subst, arith}
 use Rattle.lasso_parts.specs.Texts.{Text}
-use Rattle.lasso_log.specs.Views.{list_of}
+use Rattle.lasso_columns.specs.Encoding.{spur_at}
+use Rattle.lasso_log.specs.History.{IsLegal}
+use Rattle.lasso_log.specs.Views.{InternerId, list_of, seen}
 use Rattle.lasso_log.proofs.Lengths.{texts_past}
 use Rattle.lasso_lines.specs.Shares.{IsShareOf}
+use Rattle.lasso_lines.proofs.Refusals.{refused_of_worker}
 use Rattle.lasso_lines.proofs.ShareLines.{Gathered, gathered_none, gathered_worker, gathered_all}
 use Rattle.lasso_lines.proofs.shares.share_out.Goals as goal
 
@@ -13,6 +16,8 @@ loop-share-init g c =
     record {
       same = (refl, refl);
       gathered = λ none. subst (λ (cs : List ℕ). Gathered list lines c.args.workers 0 cs) (sym c.new-codes.ensures.items) (gathered_none list lines c.args.workers);
+      refused = tt;
+      legal = subst (λ (i : InternerId). IsLegal spur_at i.opening (seen c.args.pass.now)) c.requires.of c.show_legal.ensures.legal;
     }
 
 pub loop-share-preserved : goal.loop-share-preserved
@@ -31,9 +36,14 @@ loop-share-preserved g c =
       same = (known.same.0 ∙ c.loop-share.invariant.same.0, known.same.1 ∙ c.loop-share.invariant.same.1);
       gathered = λ none.
           let added = c.in_ok-lowest.ensures.added none in
-          gathered_worker (list_of of c.loop-share.pass.notes) (list_of of done.known.notes) (list_of of after) lines workers share c.loop-share.codes.items done.codes c.add_codes.new.codes.items
+          gathered_worker _ (list_of of c.loop-share.pass.notes) (list_of of done.known.notes) (list_of of after) lines workers share c.loop-share.codes.items done.codes c.add_codes.new.codes.items
           (texts_past of.opening c.loop-share.pass.notes after (known.since.rest, known.since.begins)) (texts_past of.opening done.known.notes after known.known)
           (c.loop-share.invariant.gathered added.0) gave.1 added.1;
+      refused =
+          refused_of_worker of.opening c.loop-share.pass.notes done.known.notes after lines share workers (known.since.rest, known.since.begins) known.known _ c.loop-share.lowest _ done.codes
+          c.loop-share.invariant.refused gave.1 c.in_ok-lowest.ensures.lowest;
+      legal =
+          subst (λ (i : InternerId). IsLegal spur_at i.opening (seen c.recall.new.self)) (known.same.1 ∙ c.loop-share.invariant.same.1 ∙ c.requires.of) known.legal;
     }
 
 pub returns-clause-codes : goal.returns-clause-codes

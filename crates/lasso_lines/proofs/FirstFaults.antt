@@ -1,0 +1,76 @@
+-- The first line that is not UTF-8.
+--
+-- A line that is UTF-8 leaves the search to the lines after it, which are numbered from the next number on. So where all lines before
+-- were UTF-8, one that is not is the first of all lines, and the end finds none. A line that is reached is one of all lines, so its number is at most theirs.
+use Rattle.std.proofs.Common.{ℕ, ◌≡◌, ◌+◌, ◌≤◌, ◌⊎◌, inl, inr, cond, List, ◌∷◌, ◌++◌, length, Some, Result, Ok, Err, ap, sym, subst, ◌∙◌, refl, arith, length-append}
+use Rattle.std.specs.Prelude.{IfErr, OnOk}
+use Rattle.std.specs.Str.{IsUtf8}
+use Rattle.std.proofs.lemmas.Str.{IsUtf8-from_is_utf8, is_utf8-from_IsUtf8}
+use Rattle.std.proofs.lemmas.Bool.{false_from_ne_true}
+use Rattle.lasso_parts.specs.Texts.{Text}
+use Rattle.lasso_parts.specs.declared.util.LassoErrorKind.{LassoErrorKind}
+use Rattle.lasso_parts.specs.declared.util.LassoErrorKind.TheVariants.{FailedAllocation}
+use Rattle.lasso_log.specs.History.{History, Totals}
+use Rattle.lasso_lines.specs.Answer.{IsInputFault, IsEndFault}
+use Rattle.lasso_lines.specs.LineFaults.{first_not_text, AreTexts, IsFaultOf}
+use Rattle.lasso_lines.specs.Shares.{IsRefusalOf}
+use Rattle.lasso_lines.specs.declared.fault.RunFault.{RunFault}
+use Rattle.lasso_lines.specs.declared.fault.RunFault.TheVariants.{Refused, NotText, Usage, ReadFailed, WriteFailed}
+
+-- a line that is text
+pub after_text : (number : ℕ) (line : Text) (lines : List Text) → IsUtf8 line → first_not_text number (line ∷ lines) ≡ first_not_text (number + 1) lines
+after_text number line lines utf8 = ap (λ b. cond b (first_not_text (number + 1) lines) (Some number)) (is_utf8-from_IsUtf8 line utf8)
+
+-- and one that is not
+at_not_text : (number : ℕ) (line : Text) (lines : List Text) → ¬ (IsUtf8 line) → first_not_text number (line ∷ lines) ≡ Some number
+at_not_text number line lines not_utf8 = ap (λ b. cond b (first_not_text (number + 1) lines) (Some number)) (false_from_ne_true _ (λ e. not_utf8 (IsUtf8-from_is_utf8 line e)))
+
+-- the number of a line that is reached is at most that of all lines
+pub number_inside : (before more all : List Text) (line : Text) (number : ℕ) → before ++ line ∷ more ≡ all → number ≡ length before + 1 → number ≤ length all
+number_inside before more all line number is counted =
+    let long : length all ≡ length before + length (line ∷ more) = ap length (sym is) ∙ length-append before (line ∷ more) in
+    omega (arith, long, counted)
+
+-- the fault of a line, where those before it are text
+pub fault_here : (before more all : List Text) (line : Text) (number : ℕ) (fault : RunFault) → before ++ line ∷ more ≡ all → number ≡ length before + 1 → first_not_text 1 all ≡ first_not_text number (line ∷ more) → ((fault ≡ NotText number) × ¬ (IsUtf8 line)) ⊎ (fault ≡ Refused number FailedAllocation) → IsFaultOf all fault
+fault_here before more all line number fault is counted same (inl faulty) =
+    subst (IsFaultOf all) (sym faulty.0) (same ∙ at_not_text number line more faulty.1)
+fault_here before more all line number fault is counted same (inr lacks) =
+    subst (IsFaultOf all) (sym lacks) (number_inside before more all line number is counted, inr refl)
+
+-- ---- the faults of a run
+
+-- a line that was refused, where all lines are text
+pub refusal_is : (o : Totals) (past : History) (lines : List Text) (fault : RunFault) → AreTexts lines → IsRefusalOf o past lines fault → IsFaultOf lines fault
+refusal_is o past lines (Refused number error) texts (inl lacks) = (omega (arith, lacks.0), inl texts)
+refusal_is o past lines (Refused number error) texts (inr why) = (omega (arith, why.1, why.2), inl texts)
+refusal_is o past lines (NotText number) texts why = absurd why
+refusal_is o past lines Usage texts why = absurd why
+refusal_is o past lines ReadFailed texts why = absurd why
+refusal_is o past lines WriteFailed texts why = absurd why
+
+-- memory was not found for the interner
+pub no_interner : (lines : List Text) (error : LassoErrorKind) → AreTexts lines → IsFaultOf lines (Refused 0 error)
+no_interner lines error texts = (omega arith, inl texts)
+
+-- a read failed, or memory was not found for what was read
+pub input_fault_is : (lines : List Text) (fault : RunFault) → IsInputFault fault → IsFaultOf lines fault
+input_fault_is lines (Refused number error) lacks = (omega (arith, lacks.0), inr lacks.1)
+input_fault_is lines (NotText number) none = absurd none
+input_fault_is lines Usage none = absurd none
+input_fault_is lines ReadFailed failed = tt
+input_fault_is lines WriteFailed none = absurd none
+
+-- a write failed, or memory was not found for what is written
+pub end_fault_is : (lines : List Text) (result : Result (Unit {0}) RunFault) → IfErr result IsEndFault → IfErr result (IsFaultOf lines)
+end_fault_is lines (Ok done) none = tt
+end_fault_is lines (Err (Refused number error)) lacks = (omega (arith, lacks.0), inr lacks.1)
+end_fault_is lines (Err (NotText number)) none = absurd none
+end_fault_is lines (Err Usage) none = absurd none
+end_fault_is lines (Err ReadFailed) none = absurd none
+end_fault_is lines (Err WriteFailed) failed = tt
+
+-- what holds anyway holds where a result is Ok
+pub where_ok : {X E : Type 0} (P : Type 0) (result : Result X E) → P → OnOk result P
+where_ok P (Ok x) holds = holds
+where_ok P (Err e) holds = tt
