@@ -28,7 +28,7 @@ use Rattle.lasso_codes.specs.Encode.{IsNumberedAs, IsNumbered, AreNumbered, Enco
 use Rattle.lasso_codes.specs.Fault.{IsReadFault, IsWriteEnd}
 use Rattle.lasso_codes.specs.Streams.{Begins, WritesAll}
 use Rattle.lasso_codes.specs.declared.fault.RunFault.{RunFault}
-use Rattle.lasso_codes.specs.declared.fault.RunFault.TheVariants.{Line, TooManyLines, ReadFailed, WriteFailed, ReaderGone}
+use Rattle.lasso_codes.specs.declared.fault.RunFault.TheVariants.{Line, TooManyLines, ReadFailed, WriteFailed, ReaderGone, Column}
 use Rattle.lasso_codes.proofs.Taken.{Taken, taken_none, taken_push, taken_all, taken_first, taken_next}
 
 -- ---- numbers of lines
@@ -155,6 +155,7 @@ module _ (input rest : List ℕ) (number : ℕ) (null : Option Text) (old now : 
   encoding_read_fails limit ReadFailed is = tt
   encoding_read_fails limit WriteFailed is = absurd is
   encoding_read_fails limit ReaderGone is = absurd is
+  encoding_read_fails limit (Column column fault) is = absurd is
 
   -- the next line is faulty
   pub encoding_line_fails : (limit : ℕ) (line left : List ℕ) (error : LineError) → old ≡ made_with 4096 limit → lines_of rest ≡ line ∷ lines_of left → IsFaultOf now line number error → EncodingFault limit null (lines_of input) (Line error)
@@ -176,6 +177,7 @@ written_end input limit null binary part (Err TooManyLines) texts written = absu
 written_end input limit null binary part (Err ReadFailed) texts written = absurd written.0
 written_end input limit null binary part (Err WriteFailed) texts written = written.1
 written_end input limit null binary part (Err ReaderGone) texts written = written.1
+written_end input limit null binary part (Err (Column column fault)) texts written = absurd written.0
 
 -- a column is written, or a beginning of it
 pub column_written : (input : List ℕ) (limit : ℕ) (null : Option Text) (binary : Bool) (list : List Text) (numbers : List ℕ) (part : List ℕ) (result : Result (Unit {0}) RunFault) → All IsUtf8 (lines_of input) → AreNumbered null (lines_of input) list numbers → WritesAll (column_of binary list (map entry_at numbers)) result part → EncodeEnd input limit null binary part result
@@ -193,6 +195,7 @@ none_written input limit null binary TooManyLines is = refl
 none_written input limit null binary ReadFailed is = refl
 none_written input limit null binary WriteFailed is = absurd is
 none_written input limit null binary ReaderGone is = absurd is
+none_written input limit null binary (Column column fault) is = absurd is
 
 -- there was no memory at no line
 pub unmade : (limit : ℕ) (null : Option Text) (lines : List Text) (fault : RunFault) → fault ≡ Line (Refused 0 FailedAllocation) → EncodingFault limit null lines fault
@@ -208,6 +211,7 @@ end_begun input limit null binary part (Err TooManyLines) end = nothing_begins p
 end_begun input limit null binary part (Err ReadFailed) end = nothing_begins part (column_bytes binary null (lines_of input)) end
 end_begun input limit null binary part (Err WriteFailed) end = end
 end_begun input limit null binary part (Err ReaderGone) end = end
+end_begun input limit null binary part (Err (Column column fault)) end = absurd end
 
 write_end : (input : List ℕ) (limit : ℕ) (null : Option Text) (binary : Bool) (part : List ℕ) (result : Result (Unit {0}) RunFault) → Begins part (column_bytes binary null (lines_of input)) → IsWriteEnd result → EncodeEnd input limit null binary part result
 write_end input limit null binary part (Ok x) begun is = absurd is
@@ -216,6 +220,7 @@ write_end input limit null binary part (Err TooManyLines) begun is = absurd is
 write_end input limit null binary part (Err ReadFailed) begun is = absurd is
 write_end input limit null binary part (Err WriteFailed) begun is = begun
 write_end input limit null binary part (Err ReaderGone) begun is = begun
+write_end input limit null binary part (Err (Column column fault)) begun is = absurd is
 
 -- a run that ends as it did, or with a failed flush
 pub end_then : (input : List ℕ) (limit : ℕ) (null : Option Text) (binary : Bool) (part : List ℕ) (given result : Result (Unit {0}) RunFault) → EncodeEnd input limit null binary part given → (result ≡ given) ⊎ IsWriteEnd result → EncodeEnd input limit null binary part result

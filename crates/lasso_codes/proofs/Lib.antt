@@ -6,3 +6,5 @@ pub mod DistinctLines
 pub mod CountedLines
 pub mod EncodedLines
 pub mod Words
+pub mod Decimals
+pub mod ReadBack

@@ -3,7 +3,7 @@ use Rattle.std.specs.Prelude.{ℕ, ◌+◌, ◌-◌, ◌*◌, ◌^◌, ◌<◌, 
 use denote.Ref.{Bor}
 use Rattle.lasso_parts.specs.Texts.{Text}
 use Rattle.lasso_codes.specs.declared.arguments.Verb.{Verb}
-use Rattle.lasso_codes.specs.declared.arguments.Verb.TheVariants.{Counts, Distinct, Encode}
+use Rattle.lasso_codes.specs.declared.arguments.Verb.TheVariants.{Counts, Decode, Distinct, Encode, Merge}
 use Rattle.lasso_codes.specs.declared.arguments.Settings.{Settings}
 use Rattle.lasso_codes.specs.declared.arguments.Command.{Command}
 use Rattle.lasso_codes.specs.declared.arguments.Command.TheVariants.{Help, VerbHelp, Version, Run}
@@ -79,18 +79,24 @@ argument_text NotText = codes "an argument is not UTF-8"
 
 abbrev pub takes_top : Verb → Bool
 takes_top Counts = true
+takes_top Decode = false
 takes_top Distinct = false
 takes_top Encode = false
+takes_top Merge = false
 
 abbrev pub takes_null : Verb → Bool
 takes_null Counts = false
+takes_null Decode = true
 takes_null Distinct = false
 takes_null Encode = true
+takes_null Merge = false
 
 abbrev pub takes_binary : Verb → Bool
 takes_binary Counts = false
+takes_binary Decode = false
 takes_binary Distinct = false
 takes_binary Encode = true
+takes_binary Merge = true
 
 -- the verb's setting of this name
 abbrev pub setting_of : Verb → Text → Option Setting
@@ -183,7 +189,9 @@ options_of verb settings null None (word ∷ words) =
 abbrev pub verb_of : Text → Option Verb
 verb_of word =
     if bytes_eq word (codes "counts") then Some Counts
-    else (if bytes_eq word (codes "distinct") then Some Distinct else (if bytes_eq word (codes "encode") then Some Encode else None))
+    else (if bytes_eq word (codes "decode") then Some Decode
+    else (if bytes_eq word (codes "distinct") then Some Distinct
+    else (if bytes_eq word (codes "encode") then Some Encode else (if bytes_eq word (codes "merge") then Some Merge else None))))
 
 -- no limit, all lines, and codes as text
 abbrev pub unset : Settings

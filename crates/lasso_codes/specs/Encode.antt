@@ -14,7 +14,7 @@ use Rattle.lasso_columns.specs.declared.faults.LineError.TheVariants.{Refused}
 use Rattle.lasso_codes.specs.Columns.{is_null, texts_of, dictionary_of, entry_of, entry_at, column_bytes}
 use Rattle.lasso_codes.specs.Streams.{Begins}
 use Rattle.lasso_codes.specs.declared.fault.RunFault.{RunFault}
-use Rattle.lasso_codes.specs.declared.fault.RunFault.TheVariants.{Line, TooManyLines, ReadFailed, WriteFailed, ReaderGone}
+use Rattle.lasso_codes.specs.declared.fault.RunFault.TheVariants.{Line, TooManyLines, ReadFailed, WriteFailed, ReaderGone, Column}
 
 -- a null changes nothing, and its number is no code; another line is interned, and its number is its code
 abbrev pub IsNumberedAs : Bool → InternerView → Text → InternerView → ℕ → Type 0
@@ -46,6 +46,7 @@ EncodingFault limit null lines TooManyLines = Unit {0}
 EncodingFault limit null lines ReadFailed = Unit {0}
 EncodingFault limit null lines WriteFailed = ⊥
 EncodingFault limit null lines ReaderGone = ⊥
+EncodingFault limit null lines (Column column fault) = ⊥
 
 -- how a run ends that has written the part: nothing is written where the lines were not all encoded
 abbrev pub EncodeFault : ℕ → Option Text → Bool → List Text → List ℕ → RunFault → Type 0
@@ -54,6 +55,7 @@ EncodeFault limit null binary lines part TooManyLines = part ≡ []
 EncodeFault limit null binary lines part ReadFailed = part ≡ []
 EncodeFault limit null binary lines part WriteFailed = Begins part (column_bytes binary null lines)
 EncodeFault limit null binary lines part ReaderGone = Begins part (column_bytes binary null lines)
+EncodeFault limit null binary lines part (Column column fault) = ⊥
 
 -- without a fault all lines are text, and the part is their column
 abbrev pub EncodeEnd : List ℕ → ℕ → Option Text → Bool → List ℕ → Result (Unit {0}) RunFault → Type 0

@@ -5,3 +5,5 @@ pub mod Counts
 pub mod Columns
 pub mod Encode
 pub mod Arguments
+pub mod Reading
+pub mod Decode

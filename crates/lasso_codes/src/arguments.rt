@@ -1,7 +1,7 @@
 //! The program's arguments.
 ghost use Rattle.std.specs.Prelude.{◌≡◌, ◌+◌, ◌≤◌, ◌∷◌, ℕ, List, None, Some, Ok, Err, IfSome, IsSome, MatchOption, MatchResult, drop, length, map, string_bytes};
 ghost use Rattle.lasso_parts.specs.Texts.{Text};
-ghost use Rattle.lasso_codes.specs.Arguments.{IsWithin, argument_text, command_of, is_binary, meaning_of, no_value, not_number, options_of, setting_of, unset, value_of, verb_of, wanted_of, word_of};
+ghost use Rattle.lasso_codes.specs.Arguments.{IsWithin, argument_text, command_of, is_binary, meaning_of, no_value, not_number, options_of, setting_of, takes_binary, takes_null, unset, value_of, verb_of, wanted_of, word_of};
 
 use crate::numbers::parse_number;
 use memchr::memchr;
@@ -12,10 +12,14 @@ use std::fmt;
 pub enum Verb {
     /// How often each distinct line came.
     Counts,
+    /// The lines of columns.
+    Decode,
     /// The distinct lines.
     Distinct,
     /// The lines as a column.
     Encode,
+    /// The columns as one.
+    Merge,
 }
 
 /// What the options of a verb say.
@@ -148,8 +152,10 @@ fn verb_of(word: &str) -> Option<Verb>
 {
     match word {
         "counts" => Some(Verb::Counts),
+        "decode" => Some(Verb::Decode),
         "distinct" => Some(Verb::Distinct),
         "encode" => Some(Verb::Encode),
+        "merge" => Some(Verb::Merge),
         _ => None,
     }
 }
@@ -269,7 +275,7 @@ fn meaning_of(verb: Verb, word: &str) -> Meaning
 fn is_binary(verb: Verb, word: &str) -> bool
     ensures { result ≡ is_binary verb word.now }
 {
-    word == "--binary" && verb == Verb::Encode
+    word == "--binary" && takes_binary(verb)
 }
 
 // The verb's setting of this name.
@@ -280,10 +286,30 @@ fn setting_of(verb: Verb, name: &[u8]) -> Option<Setting>
         Some(Setting::Limit)
     } else if name == b"--top".as_slice() && verb == Verb::Counts {
         Some(Setting::Top)
-    } else if name == b"--null".as_slice() && verb == Verb::Encode {
+    } else if name == b"--null".as_slice() && takes_null(verb) {
         Some(Setting::Null)
     } else {
         None
+    }
+}
+
+// Whether the verb has nulls.
+fn takes_null(verb: Verb) -> bool
+    ensures { result ≡ takes_null verb }
+{
+    match verb {
+        Verb::Counts | Verb::Distinct | Verb::Merge => false,
+        Verb::Decode | Verb::Encode => true,
+    }
+}
+
+// Whether the verb writes columns.
+fn takes_binary(verb: Verb) -> bool
+    ensures { result ≡ takes_binary verb }
+{
+    match verb {
+        Verb::Counts | Verb::Decode | Verb::Distinct => false,
+        Verb::Encode | Verb::Merge => true,
     }
 }
 

@@ -1,18 +1,23 @@
-//! A filter over the lines of standard input: the distinct ones, how often each came, and all of them as a column.
+//! A filter over the lines of standard input: the distinct ones, how often each came, or all of them as a column; and back.
 #![tactic(auto)]
 
 pub mod arguments;
 pub mod columns;
 pub mod counts;
+pub mod decode;
 pub mod distinct;
 pub mod encode;
+pub mod entries;
 pub mod fault;
 pub mod help;
 pub mod input;
+pub mod laws;
 pub mod lines;
+pub mod merge;
 pub mod numbers;
 pub mod output;
 pub mod program;
+pub mod reading;
 #[cfg(test)]
 mod tests;
 

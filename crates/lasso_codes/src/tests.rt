@@ -1,6 +1,8 @@
 //! The program's words, runs over small and long inputs, and readers and writers that fail.
 mod columns;
+mod damaged;
 mod failing;
+mod merging;
 mod verbs;
 mod words;
 

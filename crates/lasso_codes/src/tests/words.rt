@@ -52,7 +52,7 @@ fn numbers(rt: HostRuntime) -> Result<(), Fail> {
 
 #[test]
 fn good_words(rt: HostRuntime) -> Result<(), Fail> {
-    let cases: [(&[&str], Command); 15] = [
+    let cases: [(&[&str], Command); 18] = [
         (&["--help"], Command::Help),
         (&["--help", "x"], Command::Help),
         (&["--version"], Command::Version),
@@ -62,6 +62,9 @@ fn good_words(rt: HostRuntime) -> Result<(), Fail> {
             Command::VerbHelp(Verb::Distinct),
         ),
         (&["encode", "--help"], Command::VerbHelp(Verb::Encode)),
+        (&["decode", "--help"], Command::VerbHelp(Verb::Decode)),
+        (&["merge", "--limit", "9"], limited(Verb::Merge, 9)),
+        (&["decode", "--limit=1K"], limited(Verb::Decode, 1024)),
         (&["distinct"], Command::Run(Verb::Distinct, PLAIN)),
         (&["counts"], Command::Run(Verb::Counts, PLAIN)),
         (&["encode"], Command::Run(Verb::Encode, PLAIN)),
@@ -132,7 +135,7 @@ fn words_of_a_null(rt: HostRuntime) -> Result<(), Fail> {
 
 #[test]
 fn bad_words_are_named(rt: HostRuntime) -> Result<(), Fail> {
-    let cases: [(&[&str], &str); 21] = [
+    let cases: [(&[&str], &str); 23] = [
         (&[], "no verb (see lasso_codes --help)"),
         (&["count"], "count: no such verb"),
         (&[""], ": no such verb"),
@@ -143,6 +146,8 @@ fn bad_words_are_named(rt: HostRuntime) -> Result<(), Fail> {
         (&["distinct", "--top=1"], "--top=1: no such option"),
         (&["distinct", "--null", "x"], "--null: no such option"),
         (&["counts", "--binary"], "--binary: no such option"),
+        (&["merge", "--null=x"], "--null=x: no such option"),
+        (&["decode", "--binary"], "--binary: no such option"),
         (&["encode", "--top=1"], "--top=1: no such option"),
         (&["encode", "--binary=1"], "--binary=1: no such option"),
         (&["encode", "--null"], "--null: a word is missing"),

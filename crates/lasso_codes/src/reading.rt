@@ -1,0 +1,110 @@
+//! The header and the dictionary of a column, read from a reader.
+ghost use Rattle.std.specs.Prelude.{◌≡◌, ◌+◌, ℕ, List, None, Some, Ok, Err, IfOk, IfErr, MatchOption, MatchResult};
+ghost use Rattle.std.specs.Io.Buffered.{reader_remaining};
+ghost use Rattle.lasso_codes.specs.Arguments.{word_of};
+ghost use Rattle.lasso_codes.specs.Reading.{after_front, header_in, header_of};
+ghost use Rattle.lasso_codes.specs.Fault.{IsReadFault};
+
+use crate::columns::{BINARY_FRONT, TEXT_FRONT};
+use crate::fault::{ColumnFault, RunFault};
+use crate::input::{Cut, next_whole_line};
+use crate::lines::intern_line;
+use crate::numbers::parse_digits;
+use lasso::SpurRodeo;
+use lasso_columns::LineError;
+use memchr::memchr;
+use std::io::{BufReader, Read};
+
+/// What the header line of a column says.
+#[derive(Clone, Copy, Debug, PartialEq, Eq)]
+pub struct Header {
+    /// Whether an entry is four bytes, and no line.
+    pub binary: bool,
+    /// How many texts the dictionary has.
+    pub distinct: usize,
+    /// How many entries follow it.
+    pub lines: usize,
+}
+
+/// Reads the header of the column of this number, or `None` at the end. `line` is used for its bytes.
+///
+/// # Errors
+/// The reader failed, there is no memory for the header, or the bytes do not begin with one.
+pub fn next_header<R: Read + Drop>(
+    input: &mut BufReader<R>,
+    line: &mut Vec<u8>,
+    column: usize,
+) -> Result<Option<Header>, RunFault> {
+    let cut = next_whole_line(input, line)?;
+    if cut == Cut::End {
+        return Ok(None);
+    }
+    match header_of(line) {
+        Some(header) if cut == Cut::Whole => Ok(Some(header)),
+        _ => Err(RunFault::Column(column, ColumnFault::NoHeader)),
+    }
+}
+
+/// Reads the texts of the dictionary of the column of this number into the interner, which holds none. `line` is used for their bytes.
+///
+/// # Errors
+/// The reader failed, there is no memory for a text, or a text is missing, comes twice, is not UTF-8 or is refused.
+pub fn read_texts<R: Read + Drop>(
+    input: &mut BufReader<R>,
+    line: &mut Vec<u8>,
+    rodeo: &mut SpurRodeo,
+    distinct: usize,
+    column: usize,
+) -> Result<(), RunFault> {
+    for position in 0..distinct {
+        let number = position + 1;
+        if next_whole_line(input, line)? != Cut::Whole {
+            return Err(RunFault::Column(column, ColumnFault::NoText(number)));
+        }
+        if let Err(fault) = add_text(rodeo, line, number) {
+            return Err(RunFault::Column(column, fault));
+        }
+    }
+    Ok(())
+}
+
+// Interns the text of this number, which has to be new.
+fn add_text(rodeo: &mut SpurRodeo, line: &[u8], number: usize) -> Result<(), ColumnFault> {
+    match intern_line(rodeo, line, number) {
+        Ok(true) => Ok(()),
+        Ok(false) => Err(ColumnFault::Doubled(number)),
+        Err(LineError::NotText(_)) => Err(ColumnFault::NotUtf8(number)),
+        Err(LineError::Refused(_, error)) => Err(ColumnFault::TextRefused(number, error)),
+    }
+}
+
+/// What the header line says, or `None` where it is none.
+pub fn header_of(line: &[u8]) -> Option<Header>
+    ensures { result ≡ header_of line.now }
+{
+    match after_front(line, TEXT_FRONT) {
+        Some(numbers) => header_in(false, numbers),
+        None => header_in(true, after_front(line, BINARY_FRONT)?),
+    }
+}
+
+// What follows the front of the line.
+fn after_front<'a>(line: &'a [u8], front: &[u8]) -> Option<&'a [u8]>
+    ensures { word_of result ≡ after_front front.now line.now }
+{
+    line.strip_prefix(front)
+}
+
+// The header of these two numbers.
+fn header_in(binary: bool, numbers: &[u8]) -> Option<Header>
+    ensures { result ≡ header_in binary numbers.now }
+{
+    let at = memchr(b' ', numbers)?;
+    let distinct = parse_digits(&numbers[..at])?;
+    let lines = parse_digits(&numbers[at + 1..])?;
+    Some(Header {
+        binary,
+        distinct,
+        lines,
+    })
+}
