@@ -7,3 +7,4 @@ pub mod Encode
 pub mod Arguments
 pub mod Reading
 pub mod Decode
+pub mod Merge

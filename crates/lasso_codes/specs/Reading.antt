@@ -1,14 +1,21 @@
--- How a column is read back from bytes.
-use Rattle.std.specs.Prelude.{ℕ, zero, suc, ◌≡◌, ◌+◌, ◌^◌, ◌<◌, ◌==◌, All, Bool, true, false, List, [], ◌∷◌, ◌++◌, length, take, drop, is_some, Option, Some, None, Result, Ok, Err, option_map, slice_get, position, bytes_eq, if◌then◌else◌}
+-- How a column is read from bytes: a header line, so many texts, and so many entries.
+use Rattle.std.specs.Prelude.{ℕ, zero, suc, ◌≡◌, ◌+◌, ◌<◌, ◌==◌, ◌⊎◌, Bool, true, false, List, [], ◌∷◌, ◌++◌, length, take, drop, is_some, Option, Some, None, Result, Ok, Err, option_map, position, bytes_eq, if◌then◌else◌}
 use Rattle.std.specs.Int.{w32, from_le_bytes}
 use Rattle.std.specs.Str.{IsUtf8, is_utf8}
 use Rattle.lasso_parts.specs.Texts.{Text, position_of}
-use Rattle.lasso_columns.specs.Lines.{lines_of}
+use Rattle.lasso_parts.specs.declared.util.LassoError.{LassoError}
+use Rattle.lasso_single.specs.Filling.{extend}
+use Rattle.lasso_single.specs.Intern.{InternsIn}
+use Rattle.lasso_single.specs.Interner.{InternerView, made_with}
+use Rattle.lasso_columns.specs.Encoding.{spur_at, IsRefused}
 use Rattle.lasso_codes.specs.Arguments.{digits_value}
-use Rattle.lasso_codes.specs.Columns.{header_front, dictionary_of, column_bytes}
+use Rattle.lasso_codes.specs.Columns.{header_front}
+use Rattle.lasso_codes.specs.Fault.{IsReadFault}
 use Rattle.lasso_codes.specs.Streams.{cut_line}
 use Rattle.lasso_codes.specs.declared.fault.ColumnFault.{ColumnFault}
-use Rattle.lasso_codes.specs.declared.fault.ColumnFault.TheVariants.{NoHeader, NoText, NotUtf8, Doubled, NoEntry, NotEntry, PastTexts, IsNull}
+use Rattle.lasso_codes.specs.declared.fault.ColumnFault.TheVariants.{NoHeader, NoText, NotUtf8, Doubled, TextRefused, NoEntry, NotEntry, PastTexts, IsNull, NotMerged}
+use Rattle.lasso_codes.specs.declared.fault.RunFault.{RunFault}
+use Rattle.lasso_codes.specs.declared.fault.RunFault.TheVariants.{Column}
 use Rattle.lasso_codes.specs.declared.entries.Entry.{Entry}
 use Rattle.lasso_codes.specs.declared.entries.Entry.TheVariants.{Missing, Bad, Null, Code}
 use Rattle.lasso_codes.specs.declared.reading.Header.{Header}
@@ -50,6 +57,19 @@ on_header_line (Some cut) = option_map (λ header. (header, cut.1)) (header_of c
 abbrev pub head_of : List ℕ → Option (Header × List ℕ)
 head_of bytes = on_header_line (cut_line bytes)
 
+-- the header was read, and the bytes after it are left; or there were no bytes
+abbrev pub TakesHeader : Option (List ℕ) → Option (List ℕ) → Option Header → Type 0
+TakesHeader before after None = (bytes : List ℕ) → before ≡ Some bytes → bytes ≡ []
+TakesHeader before after (Some header) = (bytes : List ℕ) → before ≡ Some bytes → (rest : List ℕ) × (after ≡ Some rest) × (head_of bytes ≡ Some (header, rest))
+
+-- the bytes do not begin with a header
+abbrev pub HasNoHeader : List ℕ → Type 0
+HasNoHeader bytes = (0 < length bytes) × (head_of bytes ≡ None)
+
+-- why the header of the column of this number was not read
+abbrev pub HeaderFault : Option (List ℕ) → ℕ → RunFault → Type 0
+HeaderFault before column fault = IsReadFault 0 fault ⊎ ((fault ≡ Column column NoHeader) × ((bytes : List ℕ) → before ≡ Some bytes → HasNoHeader bytes))
+
 -- ---- the dictionary
 
 -- texts and the bytes after them, or why there are none
@@ -67,6 +87,43 @@ on_text (Some cut) list go =
 abbrev pub texts_from : ℕ → List Text → List ℕ → ReadTexts
 texts_from zero list bytes = Ok (list, bytes)
 texts_from (suc n) list bytes = on_text (cut_line bytes) list (texts_from n)
+
+-- the text goes last in an interner that lacks it
+abbrev pub AddsText : InternerView → Text → InternerView → Type 0
+AddsText old text new = IsUtf8 text × (position_of old.texts text ≡ None) × ((key : ℕ) × InternsIn {K = ℕ} spur_at old text (Ok key) new)
+
+-- why the text of this number was not added
+abbrev pub AddFault : InternerView → Text → ℕ → ColumnFault → Type 0
+AddFault old text number NoHeader = ⊥
+AddFault old text number (NoText at) = ⊥
+AddFault old text number (NotUtf8 at) = (at ≡ number) × ¬ (IsUtf8 text)
+AddFault old text number (Doubled at) = (at ≡ number) × IsUtf8 text × (is_some (position_of old.texts text) ≡ true)
+AddFault old text number (TextRefused at error) = (at ≡ number) × IsUtf8 text × IsRefused old text error
+AddFault old text number (NoEntry at) = ⊥
+AddFault old text number (NotEntry at) = ⊥
+AddFault old text number (PastTexts at) = ⊥
+AddFault old text number (IsNull at) = ⊥
+AddFault old text number (NotMerged error) = ⊥
+
+-- the text of this number is refused by an interner with this limit that holds those before it
+abbrev pub IsTextRefused : ℕ → ℕ → List ℕ → ℕ → LassoError → Type 0
+IsTextRefused limit distinct bytes number error =
+    (n : ℕ) × (number ≡ n + 1) × (n < distinct) × ((list : List Text) × (rest : List ℕ) × (texts_from n [] bytes ≡ Ok (list, rest))
+    × ((line : Text) × (left : List ℕ) × (cut_line rest ≡ Some (line, left)) × IsUtf8 line
+    × ((now : InternerView) × extend spur_at (made_with 4096 limit) list (Ok tt) now × IsRefused now line error)))
+
+-- so many texts were read, and the bytes after them are left
+abbrev pub TakesTexts : Option (List ℕ) → Option (List ℕ) → ℕ → List Text → Type 0
+TakesTexts before after distinct list = (bytes : List ℕ) → before ≡ Some bytes → (rest : List ℕ) × (after ≡ Some rest) × (texts_from distinct [] bytes ≡ Ok (list, rest))
+
+-- why so many texts were not read from these bytes
+abbrev pub IsTextFault : ℕ → ℕ → List ℕ → ColumnFault → Type 0
+IsTextFault limit distinct bytes NoHeader = ⊥
+IsTextFault limit distinct bytes (TextRefused number error) = IsTextRefused limit distinct bytes number error
+IsTextFault limit distinct bytes fault = texts_from distinct [] bytes ≡ Err fault
+
+abbrev pub TextsFault : ℕ → ℕ → ℕ → List ℕ → RunFault → Type 0
+TextsFault limit distinct column bytes fault = IsReadFault 0 fault ⊎ ((reason : ColumnFault) × (fault ≡ Column column reason) × IsTextFault limit distinct bytes reason)
 
 -- ---- entries
 
@@ -102,58 +159,57 @@ cut_entry false bytes = on_entry_line (cut_line bytes)
 abbrev pub TakesEntry : Bool → Option (List ℕ) → Option (List ℕ) → Entry → Type 0
 TakesEntry binary before after entry = (bytes : List ℕ) → before ≡ Some bytes → (rest : List ℕ) × (after ≡ Some rest) × (cut_entry binary bytes ≡ (entry, rest))
 
-abbrev pub text_or_past : Option Text → ℕ → Result Text ColumnFault
-text_or_past None number = Err (PastTexts number)
-text_or_past (Some text) number = Ok text
+-- ---- what is made of the entries
 
-abbrev pub null_line : Option Text → ℕ → Result Text ColumnFault
-null_line None number = Err (IsNull number)
-null_line (Some word) number = Ok word
+-- what an entry of this number stands for, or what is wrong with it
+abbrev pub Makes : Type 0 → Type 0
+Makes X = Entry → ℕ → Result X ColumnFault
 
--- the line of the entry of this number
-abbrev pub line_at : List Text → Option Text → Entry → ℕ → Result Text ColumnFault
-line_at list null Missing number = Err (NoEntry number)
-line_at list null Bad number = Err (NotEntry number)
-line_at list null Null number = null_line null number
-line_at list null (Code code) number = text_or_past (slice_get list code) number
+-- items, and the bytes after them or what is wrong there
+abbrev pub ReadItems : Type 0 → Type 0
+ReadItems X = List X × Result (List ℕ) ColumnFault
 
--- lines, and the bytes after them or what is wrong there
-abbrev pub ReadLines : Type 0
-ReadLines = List Text × Result (List ℕ) ColumnFault
+abbrev pub on_item : {X : Type 0} → Result X ColumnFault → ReadItems X → ReadItems X
+on_item (Err fault) others = ([], Err fault)
+on_item (Ok item) others = (item ∷ others.0, others.1)
 
-abbrev pub on_line : Result Text ColumnFault → ReadLines → ReadLines
-on_line (Err fault) others = ([], Err fault)
-on_line (Ok line) others = (line ∷ others.0, others.1)
+-- what so many entries stand for, the first of which has this number
+abbrev pub items_from : {X : Type 0} → Makes X → ℕ → Bool → ℕ → List ℕ → ReadItems X
+items_from make zero binary number bytes = ([], Ok bytes)
+items_from make (suc n) binary number bytes =
+    let cut = cut_entry binary bytes in on_item (make cut.0 number) (items_from make n binary (number + 1) cut.1)
 
--- the lines of so many entries, the first of which has this number
-abbrev pub lines_from : ℕ → Bool → List Text → Option Text → ℕ → List ℕ → ReadLines
-lines_from zero binary list null number bytes = ([], Ok bytes)
-lines_from (suc n) binary list null number bytes =
-    let cut = cut_entry binary bytes in on_line (line_at list null cut.0 number) (lines_from n binary list null (number + 1) cut.1)
+-- it is the fault of an entry
+abbrev pub IsEntryFault : ColumnFault → Type 0
+IsEntryFault NoHeader = ⊥
+IsEntryFault (NoText number) = ⊥
+IsEntryFault (NotUtf8 number) = ⊥
+IsEntryFault (Doubled number) = ⊥
+IsEntryFault (TextRefused number error) = ⊥
+IsEntryFault (NoEntry number) = Unit {0}
+IsEntryFault (NotEntry number) = Unit {0}
+IsEntryFault (PastTexts number) = Unit {0}
+IsEntryFault (IsNull number) = Unit {0}
+IsEntryFault (NotMerged error) = ⊥
 
 -- ---- columns
 
-abbrev pub on_texts : Option Text → Header → ReadTexts → ReadLines
-on_texts null header (Err fault) = ([], Err fault)
-on_texts null header (Ok texts) = lines_from header.lines header.binary texts.0 null 1 texts.1
+abbrev pub on_texts : {X : Type 0} → (List Text → Makes X) → Header → ReadTexts → ReadItems X
+on_texts make header (Err fault) = ([], Err fault)
+on_texts make header (Ok texts) = items_from (make texts.0) header.lines header.binary 1 texts.1
 
-abbrev pub on_head : Option Text → Option (Header × List ℕ) → ReadLines
-on_head null None = ([], Err NoHeader)
-on_head null (Some head) = on_texts null head.0 (texts_from head.0.distinct [] head.1)
+abbrev pub on_head : {X : Type 0} → (List Text → Makes X) → Option (Header × List ℕ) → ReadItems X
+on_head make None = ([], Err NoHeader)
+on_head make (Some head) = on_texts make head.0 (texts_from head.0.distinct [] head.1)
 
--- the lines of the column that the bytes begin with, where nulls are this word, and the bytes after it; or the lines up to a fault
-abbrev pub decoded : Option Text → List ℕ → ReadLines
-decoded null bytes = on_head null (head_of bytes)
+-- what the entries of the column that the bytes begin with stand for, where the dictionary says it, and the bytes after it; or the
+-- items up to a fault
+abbrev pub read_column : {X : Type 0} → (List Text → Makes X) → List ℕ → ReadItems X
+read_column make bytes = on_head make (head_of bytes)
 
--- so many columns begin the bytes: these are their lines, and the rest is left
-abbrev pub Reads : Option Text → ℕ → List ℕ → List Text → List ℕ → Type 0
-Reads null zero bytes lines rest = (lines ≡ []) × (rest ≡ bytes)
-Reads null (suc n) bytes lines rest =
-    (before : List Text) × (mid : List ℕ) × (last : List Text) × Reads null n bytes before mid × (decoded null mid ≡ (last, Ok rest)) × (lines ≡ before ++ last)
-
--- decoding the column of lines that are UTF-8 gives them, whatever comes after it. They are so few that the header can tell how many
--- there are, and have so few distinct texts that each has a code.
-abbrev pub DecodingGivesLines : Type 0
-DecodingGivesLines =
-    (binary : Bool) (null : Option Text) (input rest : List ℕ) → All IsUtf8 (lines_of input) → length (lines_of input) < 2 ^ 64
-    → length (dictionary_of null (lines_of input)) < 2 ^ 32 → decoded null (column_bytes binary null (lines_of input) ++ rest) ≡ (lines_of input, Ok rest)
+-- why the column that the bytes begin with was not read
+abbrev pub IsColumnFault : {X : Type 0} → (List Text → Makes X) → ℕ → List ℕ → ColumnFault → Type 0
+IsColumnFault make limit bytes (TextRefused number error) =
+    (head : Header × List ℕ) × (head_of bytes ≡ Some head) × IsTextRefused limit head.0.distinct head.1 number error
+IsColumnFault make limit bytes NoHeader = HasNoHeader bytes
+IsColumnFault make limit bytes fault = (read_column make bytes).1 ≡ Err fault

@@ -1,5 +1,5 @@
 -- What a call does to the bytes that a reader has left, and to those that a writer has, where they are known.
-use Rattle.std.specs.Prelude.{ℕ, ◌≡◌, Bool, true, false, List, [], ◌∷◌, ◌++◌, Option, Some, None, Result, MatchResult, option_map, if◌then◌else◌}
+use Rattle.std.specs.Prelude.{ℕ, ◌≡◌, ◌<◌, Bool, true, false, List, [], ◌∷◌, ◌++◌, length, Option, Some, None, Result, MatchResult, option_map, if◌then◌else◌}
 use Rattle.std.specs.Io.KnownBytes.{Appends}
 use Rattle.lasso_columns.specs.Lines.{lines_of, is_line_feed}
 use Rattle.lasso_codes.specs.Fault.{IsWriteFault}
@@ -34,8 +34,8 @@ cut_line (b ∷ bytes) = if is_line_feed b then Some ([], bytes) else option_map
 abbrev pub CutsLine : Option (List ℕ) → Option (List ℕ) → Cut → List ℕ → Type 0
 CutsLine before after Whole line =
     (bytes : List ℕ) → before ≡ Some bytes → (rest : List ℕ) × (after ≡ Some rest) × (cut_line bytes ≡ Some (line, rest))
-CutsLine before after Part line = (bytes : List ℕ) → before ≡ Some bytes → (after ≡ Some []) × (cut_line bytes ≡ None)
-CutsLine before after End line = (bytes : List ℕ) → before ≡ Some bytes → (after ≡ Some []) × (bytes ≡ [])
+CutsLine before after Part line = (bytes : List ℕ) → before ≡ Some bytes → (0 < length bytes) × (cut_line bytes ≡ None)
+CutsLine before after End line = (bytes : List ℕ) → before ≡ Some bytes → bytes ≡ []
 
 -- the first byte was read; or there were none
 abbrev pub TakesByte : Option (List ℕ) → Option (List ℕ) → Option ℕ → Type 0

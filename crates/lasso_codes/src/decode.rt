@@ -2,8 +2,9 @@
 ghost use Rattle.std.specs.Prelude.{◌≡◌, [], ℕ, List, Some};
 ghost use Rattle.std.specs.Io.Buffered.{reader_remaining, writer_contents, writer_buffer};
 ghost use Rattle.lasso_codes.specs.Arguments.{word_of};
-ghost use Rattle.lasso_codes.specs.Decode.{DecodeEnd};
+ghost use Rattle.lasso_codes.specs.Decode.{line_at, DecodeEnd, WritesLines};
 ghost use Rattle.lasso_codes.specs.Fault.{IsWriteEnd};
+ghost use Rattle.lasso_codes.specs.Reading.{items_from};
 ghost use Rattle.lasso_codes.specs.Streams.{Writes};
 
 use crate::distinct::new_rodeo;
@@ -29,7 +30,7 @@ pub fn decode<R: Read + Drop, W: Write + Drop>(
     null: Option<&[u8]>,
 ) -> Result<(), RunFault>
     ensures report { (bytes : List ℕ) → reader_remaining R.remaining input.old ≡ Some bytes →
-        Writes (writer_contents W.contents output.old) (writer_contents W.contents output.new) (λ part. DecodeEnd bytes (word_of null.entry) part result) }
+        Writes (writer_contents W.contents output.old) (writer_contents W.contents output.new) (λ part. DecodeEnd bytes limits (word_of null.entry) part result) }
     ensures flushed { ¬ (IsWriteEnd result) → writer_buffer output.new ≡ [] }
 {
     let result = write_decoded(alloc, input, output, limits, null);
@@ -45,7 +46,7 @@ fn write_decoded<R: Read + Drop, W: Write>(
     null: Option<&[u8]>,
 ) -> Result<(), RunFault>
     ensures { (bytes : List ℕ) → reader_remaining R.remaining input.old ≡ Some bytes →
-        Writes (W.contents output.old) (W.contents output.new) (λ part. DecodeEnd bytes (word_of null.entry) part result) }
+        Writes (W.contents output.old) (W.contents output.new) (λ part. DecodeEnd bytes limits (word_of null.entry) part result) }
 {
     let mut line = Vec::new(alloc);
     for column in 1..usize::MAX {
@@ -68,7 +69,11 @@ fn write_lines<R: Read + Drop, W: Write>(
     header: Header,
     null: Option<&[u8]>,
     column: usize,
-) -> Result<(), RunFault> {
+) -> Result<(), RunFault>
+    ensures { (bytes : List ℕ) → reader_remaining R.remaining input.old ≡ Some bytes →
+        Writes (W.contents output.old) (W.contents output.new) (λ part. WritesLines (items_from (line_at (word_of null.entry) rodeo.now.texts) header.lines header.binary 1 bytes)
+        column (reader_remaining R.remaining input.new) part result) }
+{
     for position in 0..header.lines {
         let entry = next_entry(input, line, header.binary)?;
         match line_at(rodeo, null, entry, position + 1) {

@@ -2,7 +2,8 @@
 ghost use Rattle.std.specs.Prelude.{◌≡◌, true, Some, Ok, Err, IfOk, IfErr, MatchResult};
 ghost use Rattle.std.specs.Io.Buffered.{reader_remaining};
 ghost use Rattle.lasso_codes.specs.Arguments.{word_of};
-ghost use Rattle.lasso_codes.specs.Reading.{entry_in, line_at, number_entry, TakesEntry};
+ghost use Rattle.lasso_codes.specs.Decode.{line_at};
+ghost use Rattle.lasso_codes.specs.Reading.{entry_in, number_entry, TakesEntry};
 ghost use Rattle.lasso_codes.specs.Fault.{IsReadFault};
 
 use crate::columns::NULL;
@@ -103,8 +104,8 @@ pub fn line_at<'a>(
     number: usize,
 ) -> Result<&'a [u8], ColumnFault>
     ensures { MatchResult result
-        (λ line. line_at rodeo.now.texts (word_of null.entry) entry number ≡ Ok line.now)
-        (λ fault. line_at rodeo.now.texts (word_of null.entry) entry number ≡ Err fault) }
+        (λ line. line_at (word_of null.entry) rodeo.now.texts entry number ≡ Ok line.now)
+        (λ fault. line_at (word_of null.entry) rodeo.now.texts entry number ≡ Err fault) }
 {
     match entry {
         Entry::Missing => Err(ColumnFault::NoEntry(number)),

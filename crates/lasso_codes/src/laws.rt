@@ -1,7 +1,18 @@
-//! The law of columns: the contract of a function that does nothing.
-ghost use Rattle.lasso_codes.specs.Reading.{DecodingGivesLines};
+//! The laws of columns. Each is the contract of a function that does nothing.
+ghost use Rattle.lasso_codes.specs.Decode.{DecodingGivesLines};
+ghost use Rattle.lasso_codes.specs.Merge.{DictionariesAreDistinct, MergingKeepsLines};
 
 /// Decoding what was encoded gives the lines, whatever comes after the column.
 pub fn decoding_gives_lines()
     ensures { DecodingGivesLines }
+{}
+
+/// The one column of columns decodes to the lines of each, one after the other.
+pub fn merging_keeps_lines()
+    ensures { MergingKeepsLines }
+{}
+
+/// No text comes twice in a dictionary that is written.
+pub fn dictionaries_are_distinct()
+    ensures { DictionariesAreDistinct }
 {}

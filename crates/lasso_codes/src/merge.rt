@@ -1,7 +1,14 @@
 //! Columns to one column.
-ghost use Rattle.std.specs.Prelude.{◌≡◌, []};
-ghost use Rattle.std.specs.Io.Buffered.{writer_buffer};
+ghost use Rattle.std.specs.Prelude.{◌≡◌, ◌<◌, ◌^◌, [], ℕ, List, length, Some, Ok, Err, OnOk, IfErr, MatchResult};
+ghost use Rattle.std.specs.Io.Buffered.{reader_remaining, writer_contents, writer_buffer};
+ghost use Rattle.lasso_parts.specs.Texts.{Text};
+ghost use Rattle.lasso_single.specs.Interner.{made_with};
+ghost use Rattle.lasso_columns.specs.Codes.{AreCodes};
+ghost use Rattle.lasso_codes.specs.Columns.{entry_at};
 ghost use Rattle.lasso_codes.specs.Fault.{IsWriteEnd};
+ghost use Rattle.lasso_codes.specs.Merge.{recoded, AddsEntries, AreMerged, MergeEnd, MergingFault};
+ghost use Rattle.lasso_codes.specs.Reading.{items_from};
+ghost use Rattle.lasso_codes.specs.Streams.{Writes};
 
 use crate::columns::{NULL, write_column};
 use crate::distinct::new_rodeo;
@@ -26,7 +33,9 @@ pub fn merge<R: Read + Drop, W: Write + Drop>(
     limits: MemoryLimits,
     binary: bool,
 ) -> Result<(), RunFault>
-    ensures { ¬ (IsWriteEnd result) → writer_buffer output.new ≡ [] }
+    ensures report { (bytes : List ℕ) → reader_remaining R.remaining input.old ≡ Some bytes →
+        Writes (writer_contents W.contents output.old) (writer_contents W.contents output.new) (λ part. MergeEnd bytes limits binary part result) }
+    ensures flushed { ¬ (IsWriteEnd result) → writer_buffer output.new ≡ [] }
 {
     let result = write_merged(alloc, input, output, limits, binary);
     end_flushed(output, result)
@@ -39,7 +48,10 @@ fn write_merged<R: Read + Drop, W: Write>(
     output: &mut W,
     limits: MemoryLimits,
     binary: bool,
-) -> Result<(), RunFault> {
+) -> Result<(), RunFault>
+    ensures { (bytes : List ℕ) → reader_remaining R.remaining input.old ≡ Some bytes →
+        Writes (W.contents output.old) (W.contents output.new) (λ part. MergeEnd bytes limits binary part result) }
+{
     let mut rodeo = new_rodeo(alloc, limits)?;
     let mut numbers = Vec::new(alloc);
     merge_columns(alloc, input, &mut rodeo, &mut numbers, limits)?;
@@ -53,7 +65,12 @@ fn merge_columns<R: Read + Drop>(
     rodeo: &mut SpurRodeo,
     numbers: &mut Vec<u32>,
     limits: MemoryLimits,
-) -> Result<(), RunFault> {
+) -> Result<(), RunFault>
+    requires made { rodeo.old ≡ made_with 4096 limits }
+    requires no_numbers { numbers.old.items ≡ [] }
+    ensures merged { OnOk result ((bytes : List ℕ) → reader_remaining R.remaining input.old ≡ Some bytes → AreMerged bytes rodeo.new.texts numbers.new.items) }
+    ensures fault { IfErr result (λ fault. (bytes : List ℕ) → reader_remaining R.remaining input.old ≡ Some bytes → MergingFault bytes limits fault) }
+{
     let mut line = Vec::new(alloc);
     for column in 1..usize::MAX {
         let Some(header) = next_header(input, &mut line, column)? else {
@@ -77,7 +94,11 @@ fn add_numbers<R: Read + Drop>(
     table: &[u32],
     header: Header,
     column: usize,
-) -> Result<(), RunFault> {
+) -> Result<(), RunFault>
+    ensures { (list texts : List Text) → AreCodes list texts table.now → length list < 2 ^ 32 →
+        (bytes : List ℕ) → reader_remaining R.remaining input.old ≡ Some bytes →
+        AddsEntries (items_from (recoded list texts) header.lines header.binary 1 bytes) column (reader_remaining R.remaining input.new) numbers.old.items numbers.new.items result }
+{
     for position in 0..header.lines {
         let entry = next_entry(input, line, header.binary)?;
         match number_at(table, entry, position + 1) {
@@ -93,7 +114,11 @@ fn add_numbers<R: Read + Drop>(
 }
 
 // The number of the entry of this number: what the table has for its code.
-fn number_at(table: &[u32], entry: Entry, number: usize) -> Result<u32, ColumnFault> {
+fn number_at(table: &[u32], entry: Entry, number: usize) -> Result<u32, ColumnFault>
+    ensures { (list texts : List Text) → AreCodes list texts table.now → length list < 2 ^ 32 → MatchResult result
+        (λ rewritten. recoded list texts entry number ≡ Ok (entry_at rewritten))
+        (λ fault. recoded list texts entry number ≡ Err fault) }
+{
     match entry {
         Entry::Missing => Err(ColumnFault::NoEntry(number)),
         Entry::Bad => Err(ColumnFault::NotEntry(number)),

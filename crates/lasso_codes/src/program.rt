@@ -7,10 +7,11 @@ ghost use Rattle.lasso_codes.specs.Decode.{DecodeEnd};
 ghost use Rattle.lasso_codes.specs.Distinct.{DistinctEnd};
 ghost use Rattle.lasso_codes.specs.Encode.{EncodeEnd};
 ghost use Rattle.lasso_codes.specs.Fault.{IsWriteEnd};
+ghost use Rattle.lasso_codes.specs.Merge.{MergeEnd};
 ghost use Rattle.lasso_codes.specs.Streams.{Writes};
 ghost use Rattle.lasso_codes.specs.declared.arguments.Settings.{Settings};
 ghost use Rattle.lasso_codes.specs.declared.arguments.Command.TheVariants.{Run};
-ghost use Rattle.lasso_codes.specs.declared.arguments.Verb.TheVariants.{Counts, Decode, Distinct, Encode};
+ghost use Rattle.lasso_codes.specs.declared.arguments.Verb.TheVariants.{Counts, Decode, Distinct, Encode, Merge};
 
 use crate::arguments::{Command, Request, Verb};
 use crate::counts::counts;
@@ -43,9 +44,11 @@ pub fn run_request<R: Read + Drop, W: Write + Drop>(
     ensures counts { (settings : Settings) (bytes : List ℕ) → request.now.command ≡ Run Counts settings → reader_remaining R.remaining input.old ≡ Some bytes →
         Writes (writer_contents W.contents output.old) (writer_contents W.contents output.new) (λ part. CountsEnd bytes settings.limit settings.top part result) }
     ensures decode { (settings : Settings) (bytes : List ℕ) → request.now.command ≡ Run Decode settings → reader_remaining R.remaining input.old ≡ Some bytes →
-        Writes (writer_contents W.contents output.old) (writer_contents W.contents output.new) (λ part. DecodeEnd bytes (word_of request.now.null) part result) }
+        Writes (writer_contents W.contents output.old) (writer_contents W.contents output.new) (λ part. DecodeEnd bytes settings.limit (word_of request.now.null) part result) }
     ensures encode { (settings : Settings) (bytes : List ℕ) → request.now.command ≡ Run Encode settings → reader_remaining R.remaining input.old ≡ Some bytes →
         Writes (writer_contents W.contents output.old) (writer_contents W.contents output.new) (λ part. EncodeEnd bytes settings.limit (word_of request.now.null) settings.binary part result) }
+    ensures merge { (settings : Settings) (bytes : List ℕ) → request.now.command ≡ Run Merge settings → reader_remaining R.remaining input.old ≡ Some bytes →
+        Writes (writer_contents W.contents output.old) (writer_contents W.contents output.new) (λ part. MergeEnd bytes settings.limit settings.binary part result) }
     ensures flushed { ¬ (IsWriteEnd result) → writer_buffer output.new ≡ [] }
 {
     let null = request.null;

@@ -1,9 +1,9 @@
 //! The header and the dictionary of a column, read from a reader.
-ghost use Rattle.std.specs.Prelude.{◌≡◌, ◌+◌, ℕ, List, None, Some, Ok, Err, IfOk, IfErr, MatchOption, MatchResult};
+ghost use Rattle.std.specs.Prelude.{◌≡◌, ◌++◌, ◌∷◌, [], ℕ, List, Some, IfOk, IfErr, OnOk, MatchResult};
 ghost use Rattle.std.specs.Io.Buffered.{reader_remaining};
+ghost use Rattle.lasso_single.specs.Interner.{made_with};
 ghost use Rattle.lasso_codes.specs.Arguments.{word_of};
-ghost use Rattle.lasso_codes.specs.Reading.{after_front, header_in, header_of};
-ghost use Rattle.lasso_codes.specs.Fault.{IsReadFault};
+ghost use Rattle.lasso_codes.specs.Reading.{after_front, header_in, header_of, AddFault, AddsText, HeaderFault, TakesHeader, TakesTexts, TextsFault};
 
 use crate::columns::{BINARY_FRONT, TEXT_FRONT};
 use crate::fault::{ColumnFault, RunFault};
@@ -34,7 +34,10 @@ pub fn next_header<R: Read + Drop>(
     input: &mut BufReader<R>,
     line: &mut Vec<u8>,
     column: usize,
-) -> Result<Option<Header>, RunFault> {
+) -> Result<Option<Header>, RunFault>
+    ensures taken { IfOk result (TakesHeader (reader_remaining R.remaining input.old) (reader_remaining R.remaining input.new)) }
+    ensures fault { IfErr result (HeaderFault (reader_remaining R.remaining input.old) column) }
+{
     let cut = next_whole_line(input, line)?;
     if cut == Cut::End {
         return Ok(None);
@@ -55,7 +58,12 @@ pub fn read_texts<R: Read + Drop>(
     rodeo: &mut SpurRodeo,
     distinct: usize,
     column: usize,
-) -> Result<(), RunFault> {
+) -> Result<(), RunFault>
+    requires { rodeo.old.texts ≡ [] }
+    ensures taken { OnOk result (TakesTexts (reader_remaining R.remaining input.old) (reader_remaining R.remaining input.new) distinct rodeo.new.texts) }
+    ensures fault { IfErr result (λ fault. (bytes : List ℕ) → reader_remaining R.remaining input.old ≡ Some bytes →
+        (limit : ℕ) → rodeo.old ≡ made_with 4096 limit → TextsFault limit distinct column bytes fault) }
+{
     for position in 0..distinct {
         let number = position + 1;
         if next_whole_line(input, line)? != Cut::Whole {
@@ -69,7 +77,9 @@ pub fn read_texts<R: Read + Drop>(
 }
 
 // Interns the text of this number, which has to be new.
-fn add_text(rodeo: &mut SpurRodeo, line: &[u8], number: usize) -> Result<(), ColumnFault> {
+fn add_text(rodeo: &mut SpurRodeo, line: &[u8], number: usize) -> Result<(), ColumnFault>
+    ensures { MatchResult result (λ _. AddsText rodeo.old line.now rodeo.new) (AddFault rodeo.old line.now number) }
+{
     match intern_line(rodeo, line, number) {
         Ok(true) => Ok(()),
         Ok(false) => Err(ColumnFault::Doubled(number)),
