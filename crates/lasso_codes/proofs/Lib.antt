@@ -1,3 +1,4 @@
+pub mod FirstBytes
 pub mod Feeds
 pub mod Written
 pub mod Flat
@@ -7,4 +8,7 @@ pub mod CountedLines
 pub mod EncodedLines
 pub mod Words
 pub mod Decimals
+pub mod Items
+pub mod ReadTexts
+pub mod DecodedLines
 pub mod ReadBack

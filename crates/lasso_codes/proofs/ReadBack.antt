@@ -26,21 +26,14 @@ use Rattle.lasso_columns.proofs.FirstLines.{no_feed_both}
 use Rattle.lasso_codes.specs.Arguments.{digits_value}
 use Rattle.lasso_codes.specs.Columns.{is_null, texts_of, dictionary_of, entry_of, entry_bytes, entry_line, header, header_front, column_of, column_bytes}
 use Rattle.lasso_codes.specs.Distinct.{with_feed}
-use Rattle.lasso_codes.specs.Reading.{DecodingGivesLines, header_with, header_at, header_in, header_of, head_of, on_header_line, on_text, texts_from, number_entry, code_in, entry_in, cut_number, cut_entry, on_entry_line, text_or_past, null_line, line_at, on_line, lines_from, on_head, on_texts, decoded}
+use Rattle.lasso_codes.specs.Decode.{DecodingGivesLines, text_or_past, null_line, line_at, decoded}
+use Rattle.lasso_codes.specs.Reading.{header_with, header_at, header_in, header_of, head_of, on_header_line, on_text, texts_from, number_entry, code_in, entry_in, cut_number, cut_entry, on_entry_line, on_item, items_from, on_head, on_texts}
 use Rattle.lasso_codes.specs.Streams.{cut_line}
 use Rattle.lasso_codes.specs.declared.entries.Entry.{Entry}
 use Rattle.lasso_codes.specs.declared.entries.Entry.TheVariants.{Missing, Bad, Null, Code}
 use Rattle.lasso_codes.specs.declared.reading.Header.{Header}
+use Rattle.lasso_codes.proofs.Feeds.{cut_fed}
 use Rattle.lasso_codes.proofs.Decimals.{Lacks, number_read, decimal_lacks, lacks_feed, no_minus}
-
--- ---- a line
-
-pub cut_fed : (line rest : List ℕ) → NoFeed line → cut_line (line ++ 10 ∷ rest) ≡ Some (line, rest)
-cut_fed [] rest none = refl
-cut_fed (b ∷ line) rest none =
-    let stop : Option (List ℕ × List ℕ) = Some ([], line ++ 10 ∷ rest) in
-    let onto : List ℕ × List ℕ → List ℕ × List ℕ = λ cut. (b ∷ cut.0, cut.1) in
-    ap (λ t. cond t stop (option_map onto (cut_line (line ++ 10 ∷ rest)))) none.0 ∙ ap (option_map onto) (cut_fed line rest none.1)
 
 -- ---- the header
 
@@ -150,18 +143,18 @@ abbrev pub AreLinesOf : Option Text → List Text → List (Option ℕ) → List
 AreLinesOf null list [] [] = Unit {0}
 AreLinesOf null list [] (l ∷ ls) = ⊥
 AreLinesOf null list (e ∷ es) [] = ⊥
-AreLinesOf null list (e ∷ es) (l ∷ ls) = HasCode e × ((number : ℕ) → line_at list null (entry_for e) number ≡ Ok l) × AreLinesOf null list es ls
+AreLinesOf null list (e ∷ es) (l ∷ ls) = HasCode e × ((number : ℕ) → line_at null list (entry_for e) number ≡ Ok l) × AreLinesOf null list es ls
 
-lines_back : (binary : Bool) (null : Option Text) (list : List Text) (entries : List (Option ℕ)) (lines : List Text) (number : ℕ) (rest : List ℕ) → AreLinesOf null list entries lines → lines_from (length entries) binary list null number (flat_map (entry_bytes binary) entries ++ rest) ≡ (lines, Ok rest)
+lines_back : (binary : Bool) (null : Option Text) (list : List Text) (entries : List (Option ℕ)) (lines : List Text) (number : ℕ) (rest : List ℕ) → AreLinesOf null list entries lines → items_from (line_at null list) (length entries) binary number (flat_map (entry_bytes binary) entries ++ rest) ≡ (lines, Ok rest)
 lines_back binary null list [] [] number rest are = refl
 lines_back binary null list [] (l ∷ ls) number rest are = absurd are
 lines_back binary null list (e ∷ es) [] number rest are = absurd are
 lines_back binary null list (e ∷ es) (l ∷ ls) number rest are =
     let others = flat_map (entry_bytes binary) es ++ rest in
     let split : flat_map (entry_bytes binary) (e ∷ es) ++ rest ≡ entry_bytes binary e ++ others = append_assoc (entry_bytes binary e) (flat_map (entry_bytes binary) es) rest in
-    ap (lines_from (suc (length es)) binary list null number) split
-    ∙ ap (λ cut. on_line (line_at list null cut.0 number) (lines_from (length es) binary list null (number + 1) cut.1)) (entry_back binary e others are.0)
-    ∙ ap (λ line. on_line line (lines_from (length es) binary list null (number + 1) others)) (are.1 number)
+    ap (items_from (line_at null list) (suc (length es)) binary number) split
+    ∙ ap (λ cut. on_item (line_at null list cut.0 number) (items_from (line_at null list) (length es) binary (number + 1) cut.1)) (entry_back binary e others are.0)
+    ∙ ap (λ line. on_item line (items_from (line_at null list) (length es) binary (number + 1) others)) (are.1 number)
     ∙ ap (λ read. (l ∷ read.0, read.1)) (lines_back binary null list es ls (number + 1) rest are.2)
 
 -- ---- a column
@@ -174,8 +167,8 @@ column_back binary null list entries lines rest fresh are few few' =
     let back = flat_map (entry_bytes binary) entries ++ rest in
     let body = flat_map with_feed list ++ back in
     let split : column_of binary list entries ++ rest ≡ header binary d n ++ body = simp append_assoc in
-    ap (decoded null) split ∙ ap (on_head null) (head_back binary d n body few few')
-    ∙ ap (on_texts null (record { binary = binary; distinct = d; lines = n })) (texts_back [] list back fresh)
+    ap (decoded null) split ∙ ap (on_head (line_at null)) (head_back binary d n body few few')
+    ∙ ap (on_texts (line_at null) (record { binary = binary; distinct = d; lines = n })) (texts_back [] list back fresh)
     ∙ lines_back binary null list entries lines 1 rest are
 
 -- ---- the column of lines
@@ -271,14 +264,14 @@ word_is None l e = cc
 word_is (Some word) l e = ap (λ (t : Text). Some t) (((bytes_eq-Decides word l).0 e)
 
 -- the entry of a line is read as the line
-entry_reads : (null : Option Text) (list : List Text) (l : Text) (b : Bool) → is_null null l ≡ b → length list < 2 ^ 32 → StandsAs b list l → HasCode (cond b None (position_of list l)) × ((number : ℕ) → line_at list null (entry_for (cond b None (position_of list l))) number ≡ Ok l)
+entry_reads : (null : Option Text) (list : List Text) (l : Text) (b : Bool) → is_null null l ≡ b → length list < 2 ^ 32 → StandsAs b list l → HasCode (cond b None (position_of list l)) × ((number : ℕ) → line_at null list (entry_for (cond b None (position_of list l))) number ≡ Ok l)
 entry_reads null list l true e few stands = (tt, λ number. ap (λ o. null_line o number) (word_is null l e))
 entry_reads null list l false e few stands =
     let here : slice_get list stands.0 ≡ Some l = position_here list l stands.0 stands.1 in
     let inside : stands.0 < length list = slice_get_within list stands.0 l here in
     (
       subst HasCode (sym stands.1) (omega (arith, inside, few)),
-      λ number. ap (λ o. line_at list null (entry_for o) number) stands.1 ∙ ap (λ o. text_or_past o number) here,
+      λ number. ap (λ o. line_at null list (entry_for o) number) stands.1 ∙ ap (λ o. text_or_past o number) here,
     )
 
 lines_read : (null : Option Text) (list lines : List Text) → length list < 2 ^ 32 → AllStand null list lines → AreLinesOf null list (map (entry_of null list) lines) lines
