@@ -12,3 +12,5 @@ pub mod Items
 pub mod ReadTexts
 pub mod DecodedLines
 pub mod ReadBack
+pub mod MergedColumns
+pub mod MergedLines

@@ -33,6 +33,7 @@ use Rattle.lasso_codes.specs.declared.entries.Entry.{Entry}
 use Rattle.lasso_codes.specs.declared.entries.Entry.TheVariants.{Missing, Bad, Null, Code}
 use Rattle.lasso_codes.specs.declared.reading.Header.{Header}
 use Rattle.lasso_codes.proofs.Feeds.{cut_fed}
+use Rattle.lasso_codes.proofs.ReadTexts.{ArePlain}
 use Rattle.lasso_codes.proofs.Decimals.{Lacks, number_read, decimal_lacks, lacks_feed, no_minus}
 
 -- ---- the header
@@ -173,16 +174,11 @@ column_back binary null list entries lines rest fresh are few few' =
 
 -- ---- the column of lines
 
--- each is text without a line feed
-abbrev pub ArePlain : List Text → Type 0
-ArePlain [] = Unit {0}
-ArePlain (t ∷ ts) = (is_utf8 t ≡ true) × NoFeed t × ArePlain ts
-
 fresh_one : (list : List Text) (t : Text) (ts : List Text) → ArePlain (t ∷ ts) → (o : Option ℕ) → position_of list t ≡ o → AreFresh list (new_texts list ts) → AreFresh (list ++ t ∷ []) (new_texts (list ++ t ∷ []) ts) → AreFresh list (cond (is_some o) (new_texts list ts) (t ∷ new_texts (list ++ t ∷ []) ts))
 fresh_one list t ts plain None e same more = (plain.0, plain.1, e, more)
 fresh_one list t ts plain (Some n) e same more = same
 
-fresh_new : (list texts : List Text) → ArePlain texts → AreFresh list (new_texts list texts)
+pub fresh_new : (list texts : List Text) → ArePlain texts → AreFresh list (new_texts list texts)
 fresh_new list [] plain = tt
 fresh_new list (t ∷ ts) plain = fresh_one list t ts plain (position_of list t) refl (fresh_new list ts plain.2) (fresh_new (list ++ t ∷ []) ts plain.2)
 
@@ -236,7 +232,7 @@ found_one list t ts None e =
     (length list, subst (λ (l : List Text). position_of l t ≡ Some (length list)) (append_assoc list (t ∷ []) more) (stays_longer (list ++ t ∷ []) more t (length list) (position_last list t e)))
 
 -- each text of a list is found in the list and its new texts
-abbrev AllFound : List Text → List Text → Type 0
+abbrev pub AllFound : List Text → List Text → Type 0
 AllFound list [] = Unit {0}
 AllFound list (t ∷ ts) = ((n : ℕ) × (position_of list t ≡ Some n)) × AllFound list ts
 
@@ -244,7 +240,7 @@ found_rest : (list : List Text) (t : Text) (ts : List Text) (o : Option ℕ) →
 found_rest list t ts (Some n) e same more = same
 found_rest list t ts None e same more = subst (λ (l : List Text). AllFound l ts) (append_assoc list (t ∷ []) (new_texts (list ++ t ∷ []) ts)) more
 
-found_new : (list ts : List Text) → AllFound (list ++ new_texts list ts) ts
+pub found_new : (list ts : List Text) → AllFound (list ++ new_texts list ts) ts
 found_new list [] = tt
 found_new list (t ∷ ts) = (found_one list t ts (position_of list t) refl, found_rest list t ts (position_of list t) refl (found_new list ts) (found_new (list ++ t ∷ []) ts))
 

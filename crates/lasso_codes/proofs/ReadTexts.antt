@@ -2,7 +2,7 @@
 --
 -- After the first texts the others are read from the bytes that are left, with the first ones before them. So one more text is read
 -- after those, and a fault of the next text is the fault of all.
-use Rattle.std.proofs.Common.{ℕ, zero, suc, ◌≡◌, ◌+◌, ◌-◌, ◌<◌, Bool, true, false, cond, List, [], ◌∷◌, ◌++◌, length, is_some, Option, Some, None, Result, Ok, Err, refl, sym, ap, subst, ◌∙◌, arith, inl, inr, ◌⊎◌}
+use Rattle.std.proofs.Common.{ℕ, zero, suc, ◌≡◌, ◌+◌, ◌-◌, ◌<◌, Bool, true, false, cond, List, [], ◌∷◌, ◌++◌, length, is_some, Option, Some, None, option_map, Result, Ok, Err, refl, sym, ap, subst, ◌∙◌, arith, inl, inr, ◌⊎◌}
 use Rattle.std.specs.Str.{IsUtf8, is_utf8}
 use Rattle.std.proofs.lemmas.Bool.{false_from_ne_true}
 use Rattle.std.proofs.lemmas.List.{length_push}
@@ -13,6 +13,7 @@ use Rattle.lasso_single.specs.Interner.{InternerView, made_with}
 use Rattle.lasso_single.proofs.Filled.{accepted, extend_push}
 use Rattle.lasso.proofs.Calling.{list_interned}
 use Rattle.lasso_columns.specs.Encoding.{spur_at}
+use Rattle.lasso_columns.specs.Lines.{NoFeed, is_line_feed}
 use Rattle.lasso_codes.specs.Fault.{IsReadFault}
 use Rattle.lasso_codes.specs.Reading.{ReadTexts, on_text, texts_from, AddsText, AddFault, IsTextFault, TextsFault}
 use Rattle.lasso_codes.specs.Streams.{cut_line}
@@ -124,3 +125,39 @@ module _ (bytes rest : List ℕ) (position distinct : ℕ) (now : InternerView) 
 
   pub reading_fails : (limit column : ℕ) (line : Text) (left : List ℕ) (fault : ColumnFault) → extend spur_at (made_with 4096 limit) now.texts accepted now → cut_line rest ≡ Some (line, left) → AddFault now line (position + 1) fault → TextsFault limit distinct column bytes (Column column fault)
   reading_fails limit column line left fault list cut is = inr (fault, refl, faulty limit line left fault list cut is)
+
+-- ---- texts that were read
+
+-- each is text without a line feed
+abbrev pub ArePlain : List Text → Type 0
+ArePlain [] = Unit {0}
+ArePlain (t ∷ ts) = (is_utf8 t ≡ true) × NoFeed t × ArePlain ts
+
+pub plain_both : (xs ys : List Text) → ArePlain xs → ArePlain ys → ArePlain (xs ++ ys)
+plain_both [] ys plain others = others
+plain_both (x ∷ xs) ys plain others = (plain.0, plain.1, plain_both xs ys plain.2 others)
+
+feed_free : (b : ℕ) (bytes line left : List ℕ) (feed : Bool) (cut : Option (List ℕ × List ℕ)) → is_line_feed b ≡ feed → cond feed (Some ([], bytes)) (option_map (λ (c : List ℕ × List ℕ). (b ∷ c.0, c.1)) cut) ≡ Some (line, left) → ((front rest : List ℕ) → cut ≡ Some (front, rest) → NoFeed front) → NoFeed line
+feed_free b bytes line left true cut is e then = let same : [] ≡ line = cc in subst NoFeed same tt
+feed_free b bytes line left false None is e then = absurd (cc)
+feed_free b bytes line left false (Some c) is e then = let same : b ∷ c.0 ≡ line = cc in subst NoFeed same (is, then c.0 c.1 refl)
+
+-- a line that was cut off has no line feed
+cut_free : (bytes line left : List ℕ) → cut_line bytes ≡ Some (line, left) → NoFeed line
+cut_free [] line left e = absurd (cc)
+cut_free (b ∷ bytes) line left e = feed_free b bytes line left (is_line_feed b) (cut_line bytes) refl e (λ front rest is. cut_free bytes front rest is)
+
+plain_tests : (text there : Bool) (doubled bad : ColumnFault) (line : Text) (others : ReadTexts) (read : List Text × List ℕ) → is_utf8 line ≡ text → cond text (cond there (Err doubled) others) (Err bad) ≡ Ok read → (is_utf8 line ≡ true) × (others ≡ Ok read)
+plain_tests true true doubled bad line others read is e = absurd (cc)
+plain_tests true false doubled bad line others read is e = (is, e)
+plain_tests false there doubled bad line others read is e = absurd (cc)
+
+plain_text : (cut : Option (Text × List ℕ)) (bytes : List ℕ) (list : List Text) (go : List Text → List ℕ → ReadTexts) (read : List Text × List ℕ) → cut_line bytes ≡ cut → on_text cut list go ≡ Ok read → ArePlain list → ((ts : List Text) (bs : List ℕ) → go ts bs ≡ Ok read → ArePlain ts → ArePlain read.0) → ArePlain read.0
+plain_text None bytes list go read at e plain then = absurd (cc)
+plain_text (Some cut) bytes list go read at e plain then =
+    let told = plain_tests (is_utf8 cut.0) (is_some (position_of list cut.0)) (Doubled (length list + 1)) (NotUtf8 (length list + 1)) cut.0 (go (list ++ cut.0 ∷ []) cut.1) read refl e in
+    then (list ++ cut.0 ∷ []) cut.1 told.1 (plain_both list (cut.0 ∷ []) plain (told.0, cut_free bytes cut.0 cut.1 at, tt))
+
+pub texts_plain : (n : ℕ) (list : List Text) (bytes : List ℕ) (read : List Text × List ℕ) → texts_from n list bytes ≡ Ok read → ArePlain list → ArePlain read.0
+texts_plain zero list bytes read e plain = let same : (list, bytes) ≡ read = cc in subst (λ (r : List Text × List ℕ). ArePlain r.0) same plain
+texts_plain (suc n) list bytes read e plain = plain_text (cut_line bytes) bytes list (texts_from n) read refl e plain (λ ts bs is so. texts_plain n ts bs read is so)

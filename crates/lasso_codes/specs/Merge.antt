@@ -1,5 +1,5 @@
 -- What `merge` writes, and how it ends.
-use Rattle.std.specs.Prelude.{ℕ, zero, suc, ◌≡◌, ◌+◌, ◌^◌, ◌<◌, Bool, List, [], ◌++◌, length, map, take, Option, Some, None, Result, Ok, Err, MatchResult, IsSomeAnd, slice_get}
+use Rattle.std.specs.Prelude.{ℕ, zero, suc, ◌≡◌, ◌+◌, ◌^◌, ◌<◌, ◌⊎◌, Bool, List, [], ◌++◌, length, map, take, Option, Some, None, Result, Ok, Err, MatchResult, IsSomeAnd, slice_get}
 use Rattle.lasso_parts.specs.Texts.{Text, IsDistinct, position_of}
 use Rattle.lasso_parts.specs.declared.util.LassoError.{LassoError}
 use Rattle.lasso_parts.specs.declared.util.LassoErrorKind.TheVariants.{FailedAllocation}
@@ -89,10 +89,10 @@ abbrev pub IsMergeFault : ℕ → List Text → List ℕ → ColumnFault → Typ
 IsMergeFault limit before bytes (NotMerged error) = IsNotMerged limit before (texts_at bytes) error
 IsMergeFault limit before bytes fault = IsColumnFault (recoded (distinct_of (before ++ texts_at bytes))) limit bytes fault
 
--- a beginning of the one column of all
+-- nothing is written, or a beginning of the one column of all
 abbrev pub IsMergeBegun : List ℕ → Bool → List ℕ → Type 0
 IsMergeBegun input binary part =
-    (n : ℕ) × (texts : List Text) × (entries : List (Option ℕ)) × Merges n input texts entries [] × Begins part (column_of binary (distinct_of texts) entries)
+    (part ≡ []) ⊎ ((n : ℕ) × (texts : List Text) × (entries : List (Option ℕ)) × Merges n input texts entries [] × Begins part (column_of binary (distinct_of texts) entries))
 
 -- the list is the dictionary of the one column, and the numbers stand for its entries
 abbrev pub AreMerged : List ℕ → List Text → List ℕ → Type 0
