@@ -66,8 +66,7 @@ module _ (others read : ReadItems Text) (part : List ℕ) (so_far : LinesAhead o
   line_begun : (later : ReadItems Text) (more : List ℕ) (line : Text) → IsAhead (so_far.done ++ line ∷ []) later read → Begins more (with_feed line) → Begins (part ++ more) (fed_lines read.0)
   line_begun later more line ahead b =
       let front : fed_lines (so_far.done ++ line ∷ []) ≡ (part ++ more) ++ b.0 =
-      fed_push so_far.done line ∙ ap (λ bs. bs ++ with_feed line) (sym so_far.part_is) ∙ ap (λ bs. part ++ bs) b.1 ∙ sym (append_assoc part more b.0) in
-      (
+      fed_push so_far.done line ∙ ap (λ bs. bs ++ with_feed line) (sym so_far.part_is) ∙ ap (λ bs. part ++ bs) b.1 ∙ sym (append_assoc part more b.0) in (
         b.0 ++ fed_lines later.0,
         ap fed_lines ahead.0 ∙ fed_both (so_far.done ++ line ∷ []) later.0 ∙ ap (λ bs. bs ++ fed_lines later.0) front ∙ append_assoc (part ++ more) b.0 (fed_lines later.0),
       )
@@ -201,7 +200,7 @@ module _ (input : List ℕ) (limit : ℕ) (null : Option Text) (rest : List ℕ)
     (
       m,
       ap (λ bs. bs ++ more) way.part_is ∙ ap (λ bs. fed_lines way.lines ++ bs) (written ∙ ap (λ (r : ReadItems Text). fed_lines (take m r.0)) (sym is))
-      ∙ sym (fed_both way.lines (take m (decoded null rest).0)),
+          ∙ sym (fed_both way.lines (take m (decoded null rest).0)),
     ),
   )
 
@@ -228,7 +227,7 @@ module _ (input : List ℕ) (limit : ℕ) (null : Option Text) (rest : List ℕ)
     told.0 ∙ sym way.counted,
     entry_fault (line_at null) limit rest fault told.1 (ap (λ (r : ReadItems Text). r.1) is ∙ told.2),
     ap (λ bs. bs ++ more) way.part_is ∙ ap (λ bs. fed_lines way.lines ++ bs) (told.3 ∙ ap (λ (r : ReadItems Text). fed_lines r.0) (sym is))
-    ∙ sym (fed_both way.lines (decoded null rest).0) ∙ ap (λ (ls : List Text). fed_lines (way.lines ++ ls)) (sym (entry_lines fault told.1)),
+        ∙ sym (fed_both way.lines (decoded null rest).0) ∙ ap (λ (ls : List Text). fed_lines (way.lines ++ ls)) (sym (entry_lines fault told.1)),
   )
 
 -- ---- the end

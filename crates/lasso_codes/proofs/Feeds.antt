@@ -107,13 +107,13 @@ whole_of bytes got line (unended none taken left) got_is at_end at_open shorter 
     let same : length line ≡ length got = ap length (at_open (subst NoFeed (sym whole) none)) in
     absurd (omega (arith, same, shorter))
 
-part_of : (bytes got line : List ℕ) → Gives bytes → got ≡ take_through 10 bytes → ((front : List ℕ) → got ≡ front ++ 10 ∷ [] → line ≡ front) → 0 < length got → length got ≤ length line → (0 < length bytes) × (cut_line bytes ≡ None)
+part_of : (bytes got line : List ℕ) → Gives bytes → got ≡ take_through 10 bytes → ((front : List ℕ) → got ≡ front ++ 10 ∷ [] → line ≡ front) → 0 < length got → length got ≤ length line → (drop_through 10 bytes ≡ []) × (0 < length bytes) × (cut_line bytes ≡ None)
 part_of bytes got line (ended front rest none is taken left) got_is at_end some longer =
     let line_is : length line ≡ length front = ap length (at_end front (got_is ∙ taken)) in
     let count : length got ≡ length front + 1 = ap length (got_is ∙ taken) ∙ length_push front 10 in
     absurd (omega (arith, line_is, count, longer))
 part_of bytes got line (unended none taken left) got_is at_end some longer =
-    (subst (λ bs. 0 < length bs) (got_is ∙ taken) some, cut_open bytes none)
+    (left, subst (λ bs. 0 < length bs) (got_is ∙ taken) some, cut_open bytes none)
 
 pub cuts_whole : (before after : Option (List ℕ)) (held got line : List ℕ) → held ≡ [] → IfSome before (λ bytes. got ≡ held ++ take_through 10 bytes) → IfSome before (λ bytes. after ≡ Some (drop_through 10 bytes)) → ((front : List ℕ) → got ≡ front ++ 10 ∷ [] → line ≡ front) → (NoFeed got → line ≡ got) → length line < length got → CutsLine before after Whole line
 cuts_whole None after held got line none got_is after_is at_end at_open shorter = λ bytes e. absurd (cc)
@@ -123,17 +123,19 @@ cuts_whole (Some known) after held got line none got_is after_is at_end at_open 
     let left : after ≡ Some (drop_through 10 bytes) = subst (λ bs. after ≡ Some (drop_through 10 bs)) same after_is in
     (drop_through 10 bytes, left, whole_of bytes got line (gives bytes) taken at_end at_open shorter)
 
-pub cuts_part : (before after : Option (List ℕ)) (held got line : List ℕ) → held ≡ [] → IfSome before (λ bytes. got ≡ held ++ take_through 10 bytes) → ((front : List ℕ) → got ≡ front ++ 10 ∷ [] → line ≡ front) → 0 < length got → length got ≤ length line → CutsLine before after Part line
-cuts_part None after held got line none got_is at_end some longer = λ bytes e. absurd (cc)
-cuts_part (Some known) after held got line none got_is at_end some longer = λ bytes e.
+pub cuts_part : (before after : Option (List ℕ)) (held got line : List ℕ) → held ≡ [] → IfSome before (λ bytes. got ≡ held ++ take_through 10 bytes) → IfSome before (λ bytes. after ≡ Some (drop_through 10 bytes)) → ((front : List ℕ) → got ≡ front ++ 10 ∷ [] → line ≡ front) → 0 < length got → length got ≤ length line → CutsLine before after Part line
+cuts_part None after held got line none got_is after_is at_end some longer = λ bytes e. absurd (cc)
+cuts_part (Some known) after held got line none got_is after_is at_end some longer = λ bytes e.
     let same : known ≡ bytes = cc in
     let taken : got ≡ take_through 10 bytes = subst (λ bs. got ≡ held ++ take_through 10 bs) same got_is ∙ ap (λ hs. hs ++ take_through 10 bytes) none in
-    part_of bytes got line (gives bytes) taken at_end some longer
+    let left : after ≡ Some (drop_through 10 bytes) = subst (λ bs. after ≡ Some (drop_through 10 bs)) same after_is in
+    let told = part_of bytes got line (gives bytes) taken at_end some longer in
+    (left ∙ ap (λ bs. Some bs) told.0, told.1, told.2)
 
 -- the bytes have ended
-pub cuts_none : (before after : Option (List ℕ)) (line : List ℕ) → IsAtEnd before → CutsLine before after End line
-cuts_none None after line end = λ bytes e. absurd (cc)
-cuts_none (Some known) after line end = λ bytes e. let same : known ≡ bytes = cc in sym same ∙ end
+pub cuts_none : (before after : Option (List ℕ)) (line : List ℕ) → IfSome before (λ bytes. after ≡ Some (drop_through 10 bytes)) → IsAtEnd before → CutsLine before after End line
+cuts_none None after line after_is end = λ bytes e. absurd (cc)
+cuts_none (Some known) after line after_is end = λ bytes e. let same : known ≡ bytes = cc in (after_is ∙ ap (λ bs. Some (drop_through 10 bs)) end, sym same ∙ end)
 
 -- what a call told of the line, by its answer
 pub cut_as : (before after : Option (List ℕ)) (cut other : Cut) (line : List ℕ) → CutsLine before after cut line → cut ≡ other → CutsLine before after other line

@@ -161,8 +161,7 @@ one_fits null before first mid lines mid' rest rest' so_far few e e' =
     let list = distinct_of (before ++ texts_at mid) in
     let here : (decoded null mid).1 ≡ Ok rest' = subst (λ bs. (decoded null bs).1 ≡ Ok rest') (sym so_far.2) e' in
     let fit : Fit null list (entries_of list mid) (decoded null mid) rest rest' = head_fit null list (head_of mid) rest rest' few (all_found null before (texts_at mid)) e here in
-    let last : AreLinesOf null list (entries_of list mid).0 (decoded null mid').0 = subst (λ bs. AreLinesOf null list (entries_of list mid).0 (decoded null bs).0) so_far.2 fit.0 in
-    (
+    let last : AreLinesOf null list (entries_of list mid).0 (decoded null mid').0 = subst (λ bs. AreLinesOf null list (entries_of list mid).0 (decoded null bs).0) so_far.2 fit.0 in (
       lines_both null list first (entries_of list mid).0 lines (decoded null mid').0 (old_lines null before (texts_at mid) first lines so_far.0) last,
       plain_both before (texts_at mid) so_far.1 (head_plain (head_of mid)),
       fit.1,

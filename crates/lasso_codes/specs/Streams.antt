@@ -34,8 +34,8 @@ cut_line (b ∷ bytes) = if is_line_feed b then Some ([], bytes) else option_map
 abbrev pub CutsLine : Option (List ℕ) → Option (List ℕ) → Cut → List ℕ → Type 0
 CutsLine before after Whole line =
     (bytes : List ℕ) → before ≡ Some bytes → (rest : List ℕ) × (after ≡ Some rest) × (cut_line bytes ≡ Some (line, rest))
-CutsLine before after Part line = (bytes : List ℕ) → before ≡ Some bytes → (0 < length bytes) × (cut_line bytes ≡ None)
-CutsLine before after End line = (bytes : List ℕ) → before ≡ Some bytes → bytes ≡ []
+CutsLine before after Part line = (bytes : List ℕ) → before ≡ Some bytes → (after ≡ Some []) × (0 < length bytes) × (cut_line bytes ≡ None)
+CutsLine before after End line = (bytes : List ℕ) → before ≡ Some bytes → (after ≡ Some []) × (bytes ≡ [])
 
 -- the first byte was read; or there were none
 abbrev pub TakesByte : Option (List ℕ) → Option (List ℕ) → Option ℕ → Type 0

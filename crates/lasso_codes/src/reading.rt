@@ -38,13 +38,13 @@ pub fn next_header<R: Read + Drop>(
     ensures taken { IfOk result (TakesHeader (reader_remaining R.remaining input.old) (reader_remaining R.remaining input.new)) }
     ensures fault { IfErr result (HeaderFault (reader_remaining R.remaining input.old) column) }
 {
-    let cut = next_whole_line(input, line)?;
-    if cut == Cut::End {
-        return Ok(None);
-    }
-    match header_of(line) {
-        Some(header) if cut == Cut::Whole => Ok(Some(header)),
-        _ => Err(RunFault::Column(column, ColumnFault::NoHeader)),
+    match next_whole_line(input, line)? {
+        Cut::Whole => match header_of(line) {
+            Some(header) => Ok(Some(header)),
+            None => Err(RunFault::Column(column, ColumnFault::NoHeader)),
+        },
+        Cut::Part => Err(RunFault::Column(column, ColumnFault::NoHeader)),
+        Cut::End => Ok(None),
     }
 }
 
@@ -66,11 +66,15 @@ pub fn read_texts<R: Read + Drop>(
 {
     for position in 0..distinct {
         let number = position + 1;
-        if next_whole_line(input, line)? != Cut::Whole {
-            return Err(RunFault::Column(column, ColumnFault::NoText(number)));
-        }
-        if let Err(fault) = add_text(rodeo, line, number) {
-            return Err(RunFault::Column(column, fault));
+        match next_whole_line(input, line)? {
+            Cut::Whole => {
+                if let Err(fault) = add_text(rodeo, line, number) {
+                    return Err(RunFault::Column(column, fault));
+                }
+            }
+            Cut::Part | Cut::End => {
+                return Err(RunFault::Column(column, ColumnFault::NoText(number)));
+            }
         }
     }
     Ok(())

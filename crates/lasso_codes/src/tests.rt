@@ -3,6 +3,7 @@ mod columns;
 mod damaged;
 mod failing;
 mod merging;
+mod round_trips;
 mod verbs;
 mod words;
 

@@ -38,6 +38,33 @@ fn columns_as_a_binary_one(rt: HostRuntime) -> Result<(), Fail> {
     assert_writes(&rt, runs(Verb::Merge, settings), input, output)
 }
 
+// A damaged column after good ones: nothing is written.
+#[test]
+fn nothing_before_a_fault(rt: HostRuntime) -> Result<(), Fail> {
+    let cases: [(&[u8], &str); 4] = [
+        (
+            b"lasso-codes 1 text 1 1\na\n0\nlasso-codes 1 text 1 2\na\n-\n1\n",
+            "column 2: entry 2 is past the texts",
+        ),
+        (
+            b"lasso-codes 1 text 1 1\na\n0\nlasso-codes 1 binary 2 0\nb\nb\n",
+            "column 2: text 2 comes twice",
+        ),
+        (
+            b"lasso-codes 1 text 1 1\na\n0\nlasso-codes 1 text 0 0\n0\n",
+            "column 3: no header",
+        ),
+        (
+            b"lasso-codes 1 text 2 1\na\nb\n0\nlasso-codes 1 text 1 1\nc\n1\n",
+            "column 2: entry 1 is past the texts",
+        ),
+    ];
+    for (input, words) in cases {
+        assert_stops(&rt, runs(Verb::Merge, PLAIN), input, b"", (words, 2))?;
+    }
+    Ok(())
+}
+
 // The first bucket has 4096 bytes: the text of the first column and the feeds do not count.
 #[test]
 fn texts_past_the_limit(rt: HostRuntime) -> Result<(), Fail> {
