@@ -13,7 +13,7 @@ use Rattle.lasso_single.proofs.Distinct.{distinct_none}
 use Rattle.lasso_columns.specs.Parts.{new_texts}
 use Rattle.lasso_counts.proofs.Counted.{distinct_new}
 use Rattle.lasso_codes.specs.Decode.{text_or_past, null_line, line_at, decoded, Reads}
-use Rattle.lasso_codes.specs.Merge.{code_or_past, recoded, entries_of, read_list, head_list, texts_at, distinct_of, Merges, MergingKeepsLines, DictionariesAreDistinct}
+use Rattle.lasso_codes.specs.Merge.{code_or_past, recoded, entries_of, read_list, head_list, texts_at, distinct_of, Merges, MergingKeepsLines, MergedColumnsDecode, DictionariesAreDistinct}
 use Rattle.lasso_codes.specs.Reading.{Makes, ReadItems, ReadTexts, cut_entry, on_item, items_from, head_of, on_texts, on_head, texts_from}
 use Rattle.lasso_codes.specs.declared.entries.Entry.{Entry}
 use Rattle.lasso_codes.specs.declared.entries.Entry.TheVariants.{Missing, Bad, Null, Code}
@@ -184,6 +184,46 @@ pub merging_keeps_lines_lem : MergingKeepsLines
 merging_keeps_lines_lem binary null n input rest more texts entries lines merges few reads =
     let fit = all_fit null n input texts entries lines rest rest merges reads few.0 in
     column_back binary null (distinct_of texts) entries lines more (fresh_new [] texts fit.1) fit.0 (let small = few.0 in omega (arith, small)) few.1
+
+-- ---- columns that were merged can be decoded
+
+item_too : (r : Result (Option ℕ) ColumnFault) (l : Result Text ColumnFault) (entries : ReadItems (Option ℕ)) (lines : ReadItems Text) (rest : List ℕ) → (on_item r entries).1 ≡ Ok rest → ((entry : Option ℕ) → r ≡ Ok entry → (line : Text) × (l ≡ Ok line)) → (entries.1 ≡ Ok rest → lines.1 ≡ Ok rest) → (on_item l lines).1 ≡ Ok rest
+item_too (Err fault) l entries lines rest e one others = absurd (cc)
+item_too (Ok entry) l entries lines rest e one others =
+    let told = one entry refl in subst (λ (m : Result Text ColumnFault). (on_item m lines).1 ≡ Ok rest) (sym told.1) (others e)
+
+code_too : (list : List Text) (o : Option Text) (number : ℕ) (item : Option ℕ) → code_or_past list o number ≡ Ok item → (line : Text) × (text_or_past o number ≡ Ok line)
+code_too list None number item e = absurd (cc)
+code_too list (Some text) number item e = (text, refl)
+
+line_too : (word : Text) (list texts : List Text) (entry : Entry) (number : ℕ) (item : Option ℕ) → recoded list texts entry number ≡ Ok item → (line : Text) × (line_at (Some word) texts entry number ≡ Ok line)
+line_too word list texts Missing number item e = absurd (cc)
+line_too word list texts Bad number item e = absurd (cc)
+line_too word list texts Null number item e = (word, refl)
+line_too word list texts (Code code) number item e = code_too list (slice_get texts code) number item e
+
+items_too : (word : Text) (list texts : List Text) (n : ℕ) (binary : Bool) (number : ℕ) (bytes rest : List ℕ) → (items_from (recoded list texts) n binary number bytes).1 ≡ Ok rest → (items_from (line_at (Some word) texts) n binary number bytes).1 ≡ Ok rest
+items_too word list texts zero binary number bytes rest e = let same : bytes ≡ rest = cc in ap (λ bs. Ok bs) same
+items_too word list texts (suc n) binary number bytes rest e =
+    let cut = cut_entry binary bytes in
+    item_too (recoded list texts cut.0 number) (line_at (Some word) texts cut.0 number) (items_from (recoded list texts) n binary (number + 1) cut.1) (items_from (line_at (Some word) texts) n binary (number + 1) cut.1) rest e
+    (λ entry is. line_too word list texts cut.0 number entry is) (λ is. items_too word list texts n binary (number + 1) cut.1 rest is)
+
+texts_too : (word : Text) (list : List Text) (header : Header) (read : ReadTexts) (rest : List ℕ) → (on_texts (recoded list) header read).1 ≡ Ok rest → (on_texts (line_at (Some word)) header read).1 ≡ Ok rest
+texts_too word list header (Err fault) rest e = absurd (cc)
+texts_too word list header (Ok texts) rest e = items_too word list texts.0 header.lines header.binary 1 texts.1 rest e
+
+head_too : (word : Text) (list : List Text) (head : Option (Header × List ℕ)) (rest : List ℕ) → (on_head (recoded list) head).1 ≡ Ok rest → (on_head (line_at (Some word)) head).1 ≡ Ok rest
+head_too word list None rest e = absurd (cc)
+head_too word list (Some head) rest e = texts_too word list head.0 (texts_from head.0.distinct [] head.1) rest e
+
+pub merged_columns_decode_lem : MergedColumnsDecode
+merged_columns_decode_lem word zero input rest texts entries m = ([], refl, m.2)
+merged_columns_decode_lem word (suc n) input rest texts entries m =
+    let before = merged_columns_decode_lem word n input m.2 m.0 m.1 m.3 in
+    (before.0 ++ (decoded (Some word) m.2).0, (before.0, m.2, before.1, head_too word (distinct_of texts) (head_of m.2) rest m.5, refl))
+
+-- ---- no text twice
 
 pub dictionaries_are_distinct_lem : DictionariesAreDistinct
 dictionaries_are_distinct_lem texts = distinct_new [] texts distinct_none

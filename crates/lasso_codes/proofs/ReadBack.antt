@@ -257,15 +257,14 @@ all_stand null list (l ∷ ls) found =
 
 word_is : (null : Option Text) (l : Text) → is_null null l ≡ true → null ≡ Some l
 word_is None l e = cc
-word_is (Some word) l e = ap (λ (t : Text). Some t) (((bytes_eq-Decides word l).0 e)
+word_is (Some word) l e = ap (λ (t : Text). Some t) ((bytes_eq-Decides word l).0 e)
 
 -- the entry of a line is read as the line
 entry_reads : (null : Option Text) (list : List Text) (l : Text) (b : Bool) → is_null null l ≡ b → length list < 2 ^ 32 → StandsAs b list l → HasCode (cond b None (position_of list l)) × ((number : ℕ) → line_at null list (entry_for (cond b None (position_of list l))) number ≡ Ok l)
 entry_reads null list l true e few stands = (tt, λ number. ap (λ o. null_line o number) (word_is null l e))
 entry_reads null list l false e few stands =
     let here : slice_get list stands.0 ≡ Some l = position_here list l stands.0 stands.1 in
-    let inside : stands.0 < length list = slice_get_within list stands.0 l here in
-    (
+    let inside : stands.0 < length list = slice_get_within list stands.0 l here in (
       subst HasCode (sym stands.1) (omega (arith, inside, few)),
       λ number. ap (λ o. line_at null list (entry_for o) number) stands.1 ∙ ap (λ o. text_or_past o number) here,
     )

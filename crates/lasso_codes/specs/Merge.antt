@@ -139,6 +139,12 @@ MergingKeepsLines =
     → Merges n input texts entries rest → AreFew (distinct_of texts) entries → Reads null n input lines rest
     → decoded null (column_of binary (distinct_of texts) entries ++ more) ≡ (lines, Ok more)
 
+-- columns that were merged can be decoded, whichever word a null has
+abbrev pub MergedColumnsDecode : Type 0
+MergedColumnsDecode =
+    (word : Text) (n : ℕ) (input rest : List ℕ) (texts : List Text) (entries : List (Option ℕ))
+    → Merges n input texts entries rest → (lines : List Text) × Reads (Some word) n input lines rest
+
 -- no dictionary has a text twice
 abbrev pub DictionariesAreDistinct : Type 0
 DictionariesAreDistinct = (texts : List Text) → IsDistinct (distinct_of texts)

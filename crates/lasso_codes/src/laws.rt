@@ -1,6 +1,6 @@
 //! The laws of columns. Each is the contract of a function that does nothing.
 ghost use Rattle.lasso_codes.specs.Decode.{DecodingGivesLines};
-ghost use Rattle.lasso_codes.specs.Merge.{DictionariesAreDistinct, MergingKeepsLines};
+ghost use Rattle.lasso_codes.specs.Merge.{DictionariesAreDistinct, MergedColumnsDecode, MergingKeepsLines};
 
 /// Decoding what was encoded gives the lines, whatever comes after the column.
 pub fn decoding_gives_lines()
@@ -10,6 +10,11 @@ pub fn decoding_gives_lines()
 /// The one column of columns decodes to the lines of each, one after the other.
 pub fn merging_keeps_lines()
     ensures { MergingKeepsLines }
+{}
+
+/// Columns that were merged can be decoded, where a null has a word.
+pub fn merged_columns_decode()
+    ensures { MergedColumnsDecode }
 {}
 
 /// No text comes twice in a dictionary that is written.
