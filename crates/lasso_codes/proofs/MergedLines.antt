@@ -218,7 +218,7 @@ head_too word list None rest e = absurd (cc)
 head_too word list (Some head) rest e = texts_too word list head.0 (texts_from head.0.distinct [] head.1) rest e
 
 pub merged_columns_decode_lem : MergedColumnsDecode
-merged_columns_decode_lem word zero input rest texts entries m = ([], refl, m.2)
+merged_columns_decode_lem word zero input rest texts entries m = ([], (refl, m.2))
 merged_columns_decode_lem word (suc n) input rest texts entries m =
     let before = merged_columns_decode_lem word n input m.2 m.0 m.1 m.3 in
     (before.0 ++ (decoded (Some word) m.2).0, (before.0, m.2, before.1, head_too word (distinct_of texts) (head_of m.2) rest m.5, refl))

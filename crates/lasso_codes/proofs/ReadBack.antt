@@ -78,9 +78,23 @@ header_back : (binary : Bool) (d n : ℕ) → d < 2 ^ 64 → n < 2 ^ 64 → head
 header_back true d n small small' = numbers_back true d n small small'
 header_back false d n small small' = numbers_back false d n small small'
 
+is_free : List ℕ → Bool
+is_free [] = true
+is_free (b ∷ bytes) = not (is_line_feed b) && is_free bytes
+
+both_free : (feed free : Bool) → not feed && free ≡ true → (feed ≡ false) × (free ≡ true)
+both_free true free e = absurd (cc)
+both_free false free e = (refl, e)
+
+tells_free : (bytes : List ℕ) → is_free bytes ≡ true → NoFeed bytes
+unfolding is_free
+tells_free [] e = tt
+tells_free (b ∷ bytes) e = let told = both_free (is_line_feed b) (is_free bytes) e in (told.0, tells_free bytes told.1)
+
 front_no_feed : (binary : Bool) → NoFeed (header_front binary)
-front_no_feed true = (refl, refl, refl, refl, refl, refl, refl, refl, refl, refl, refl, refl, refl, refl, refl, refl, refl, refl, refl, refl, refl, tt)
-front_no_feed false = (refl, refl, refl, refl, refl, refl, refl, refl, refl, refl, refl, refl, refl, refl, refl, refl, refl, refl, refl, tt)
+unfolding is_free
+front_no_feed true = tells_free (header_front true) refl
+front_no_feed false = tells_free (header_front false) refl
 
 head_back : (binary : Bool) (d n : ℕ) (rest : List ℕ) → d < 2 ^ 64 → n < 2 ^ 64 → head_of (header binary d n ++ rest) ≡ Some (record { binary = binary; distinct = d; lines = n }, rest)
 head_back binary d n rest small small' =

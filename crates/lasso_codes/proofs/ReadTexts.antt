@@ -137,10 +137,10 @@ pub plain_both : (xs ys : List Text) → ArePlain xs → ArePlain ys → ArePlai
 plain_both [] ys plain others = others
 plain_both (x ∷ xs) ys plain others = (plain.0, plain.1, plain_both xs ys plain.2 others)
 
-feed_free : (b : ℕ) (bytes line left : List ℕ) (feed : Bool) (cut : Option (List ℕ × List ℕ)) → is_line_feed b ≡ feed → cond feed (Some ([], bytes)) (option_map (λ (c : List ℕ × List ℕ). (b ∷ c.0, c.1)) cut) ≡ Some (line, left) → ((front rest : List ℕ) → cut ≡ Some (front, rest) → NoFeed front) → NoFeed line
+feed_free : (b : ℕ) (bytes line left : List ℕ) (feed : Bool) (cut : Option (List ℕ × List ℕ)) → is_line_feed b ≡ feed → cond {A = Option (List ℕ × List ℕ)} feed (Some ([], bytes)) (option_map (λ (c : List ℕ × List ℕ). (b ∷ c.0, c.1)) cut) ≡ Some (line, left) → ((front rest : List ℕ) → cut ≡ Some (front, rest) → NoFeed front) → NoFeed line
 feed_free b bytes line left true cut is e then = let same : [] ≡ line = cc in subst NoFeed same tt
 feed_free b bytes line left false None is e then = absurd (cc)
-feed_free b bytes line left false (Some c) is e then = let same : b ∷ c.0 ≡ line = cc in subst NoFeed same (is, then c.0 c.1 refl)
+feed_free b bytes line left false (Some c) is e then = let both : ◌≡◌ {A = List ℕ × List ℕ} (b ∷ c.0, c.1) (line, left) = cc in subst NoFeed (ap (λ (p : List ℕ × List ℕ). p.0) both) (is, then c.0 c.1 refl)
 
 -- a line that was cut off has no line feed
 cut_free : (bytes line left : List ℕ) → cut_line bytes ≡ Some (line, left) → NoFeed line
