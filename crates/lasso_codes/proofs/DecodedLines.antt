@@ -100,7 +100,7 @@ module _ (others read : ReadItems Text) (part : List ℕ) (so_far : LinesAhead o
   lines_end column after rest left ended = (rest, left, ended.1, so_far.part_is ∙ ap fed_lines (sym ended.0))
 
 -- the fault of a line's entry
-same_fault : (fault other : ColumnFault) → IsEntryFault fault → Err fault ≡ Err {A = Text} other → IsEntryFault other
+same_fault : (fault other : ColumnFault) → IsEntryFault fault → ◌≡◌ {A = Result Text ColumnFault} (Err fault) (Err other) → IsEntryFault other
 same_fault fault other is e = let same : fault ≡ other = cc in subst IsEntryFault same is
 
 past_fault : (o : Option Text) (number : ℕ) (fault : ColumnFault) → text_or_past o number ≡ Err fault → IsEntryFault fault
@@ -179,6 +179,7 @@ module _ (input : List ℕ) (limit : ℕ) (null : Option Text) (rest : List ℕ)
   module _ (header : Header) (left : List ℕ) (head : head_of rest ≡ Some (header, left)) where
     text_fails : (reason : ColumnFault) → IsTextFault limit header.distinct left reason → IsColumnFault (line_at null) limit rest reason × (lines_before null rest reason ≡ [])
     text_fails NoHeader is = absurd is
+    text_fails (NotMerged error) is = absurd is
     text_fails (TextRefused number error) is = (((header, left), head, is), refl)
     text_fails reason is =
         let read : decoded null rest ≡ ([], Err reason) = column_unread (line_at null) rest left header head reason is in

@@ -2,7 +2,7 @@
 --
 -- Bytes either have no line feed, and all of them are given; or they are a line without one, the first line feed and the rest, and
 -- the line and the line feed are given. In both cases the line is what is given without a line feed at its end.
-use Rattle.std.proofs.Common.{ℕ, zero, suc, ◌≡◌, ◌+◌, ◌-◌, ◌<◌, ◌≤◌, ◌==◌, Bool, true, false, cond, List, [], ◌∷◌, ◌++◌, length, get_or, Option, Some, None, option_map, refl, sym, ap, subst, ◌∙◌, arith}
+use Rattle.std.proofs.Common.{ℕ, zero, suc, ◌≡◌, ◌+◌, ◌-◌, ◌<◌, ◌≤◌, ◌==◌, Bool, true, false, cond, List, [], ◌∷◌, ◌++◌, length, get_or, Option, Some, None, option_map, refl, sym, ap, subst, ◌∙◌, arith, ◌⊎◌, inl, inr}
 use Rattle.std.specs.Prelude.{IfSome}
 use Rattle.std.specs.Io.BufRead.{take_through, drop_through}
 use Rattle.std.specs.Io.KnownBytes.{IsAtEnd}
@@ -140,6 +140,11 @@ cuts_none (Some known) after line after_is end = λ bytes e. let same : known �
 -- what a call told of the line, by its answer
 pub cut_as : (before after : Option (List ℕ)) (cut other : Cut) (line : List ℕ) → CutsLine before after cut line → cut ≡ other → CutsLine before after other line
 cut_as before after cut other line cuts e = subst (λ c. CutsLine before after c line) e cuts
+
+-- there was no line that a line feed ends
+pub no_cut : (before after : Option (List ℕ)) (cut : Cut) (line : List ℕ) → CutsLine before after cut line → (cut ≡ Part) ⊎ (cut ≡ End) → (bytes : List ℕ) → before ≡ Some bytes → (after ≡ Some []) × (cut_line bytes ≡ None)
+no_cut before after cut line cuts (inl is) bytes e = let told = cut_as before after cut Part line cuts is bytes e in (told.0, told.2)
+no_cut before after cut line cuts (inr is) bytes e = let told = cut_as before after cut End line cuts is bytes e in (told.0, ap cut_line told.1)
 
 -- ---- the line feed at the end of what is given
 

@@ -2,15 +2,20 @@
 --
 -- What all entries stand for is what those before stand for, and what the others stand for after them. One more entry goes from the
 -- others to those before. At a faulty entry those before are all, and the fault is that of all.
-use Rattle.std.proofs.Common.{ℕ, suc, ◌≡◌, ◌+◌, Bool, List, [], ◌∷◌, ◌++◌, take, length, Option, Some, Result, Ok, Err, refl, sym, ap, subst, ◌∙◌, append_assoc}
+use Rattle.std.proofs.Common.{ℕ, suc, ◌≡◌, ◌+◌, ◌-◌, ◌<◌, Bool, false, ◌⊎◌, List, [], ◌∷◌, ◌++◌, take, length, Option, Some, Result, Ok, Err, refl, sym, ap, subst, ◌∙◌, append_assoc, arith}
 use Rattle.std.proofs.Math.Seq.{take-append_seam}
 use Rattle.std.proofs.lemmas.List.{append-nil}
 use Rattle.lasso_parts.specs.Texts.{Text}
-use Rattle.lasso_codes.specs.Reading.{Makes, ReadItems, ReadTexts, cut_entry, on_item, items_from, texts_from, head_of, on_texts, on_head, read_column, IsEntryFault, IsColumnFault}
+use Rattle.lasso_codes.specs.Reading.{Makes, ReadItems, ReadTexts, TakesEntry, TakesHeader, cut_entry, on_entry_line, on_item, items_from, texts_from, head_of, on_texts, on_head, read_column, IsEntryFault, IsColumnFault}
+use Rattle.lasso_codes.specs.Streams.{CutsLine}
 use Rattle.lasso_codes.specs.declared.entries.Entry.{Entry}
+use Rattle.lasso_codes.specs.declared.entries.Entry.TheVariants.{Missing}
+use Rattle.lasso_codes.specs.declared.input.Cut.{Cut}
+use Rattle.lasso_codes.specs.declared.input.Cut.TheVariants.{Part, End}
 use Rattle.lasso_codes.specs.declared.fault.ColumnFault.{ColumnFault}
 use Rattle.lasso_codes.specs.declared.fault.ColumnFault.TheVariants.{NoHeader, NoText, NotUtf8, Doubled, TextRefused, NoEntry, NotEntry, PastTexts, IsNull, NotMerged}
 use Rattle.lasso_codes.specs.declared.reading.Header.{Header}
+use Rattle.lasso_codes.proofs.Feeds.{no_cut}
 
 -- these are done, and the others are ahead
 abbrev pub IsAhead : {X : Type 0} → List X → ReadItems X → ReadItems X → Type 0
@@ -52,6 +57,19 @@ ahead_all {X} make k binary number bytes read done none ahead =
 -- those that are done are the first ones
 pub ahead_first : {X : Type 0} (others read : ReadItems X) (done : List X) → IsAhead done others read → take (length done) read.0 ≡ done
 ahead_first others read done ahead = ap (take (length done)) ahead.0 ∙ take-append_seam done others.0
+
+-- one entry fewer is left
+pub one_fewer : (lines position : ℕ) → position < lines → lines - position ≡ suc (lines - (position + 1))
+one_fewer lines position small = omega (arith, small)
+
+-- the entry is missing
+pub entry_missing : (before after : Option (List ℕ)) (cut : Cut) (line : List ℕ) (binary : Bool) → CutsLine before after cut line → (cut ≡ Part) ⊎ (cut ≡ End) → binary ≡ false → TakesEntry binary before after Missing
+entry_missing before after cut line binary cuts which lines = λ bytes e.
+    let none = no_cut before after cut line cuts which bytes e in ([], none.0, ap (λ b. cut_entry b bytes) lines ∙ ap on_entry_line none.1)
+
+-- the header that was read
+pub header_taken : (before after : Option (List ℕ)) (told : Option Header) (header : Header) → TakesHeader before after told → told ≡ Some header → TakesHeader before after (Some header)
+header_taken before after told header taken is = subst (λ (o : Option Header). TakesHeader before after o) is taken
 
 -- ---- columns
 

@@ -93,7 +93,7 @@ code_rewritten list texts table code rewritten number are few at =
 pub code_past : (list texts : List Text) (table : List ℕ) (code number : ℕ) → AreCodes list texts table → slice_get table code ≡ None → recoded list texts (Code code) number ≡ Err (PastTexts number)
 code_past list texts table code number are at = ap (λ o. code_or_past list o number) (code_gone list texts table code are at)
 
-same_fault : (fault other : ColumnFault) → IsEntryFault fault → Err fault ≡ Err {A = Option ℕ} other → IsEntryFault other
+same_fault : (fault other : ColumnFault) → IsEntryFault fault → ◌≡◌ {A = Result (Option ℕ) ColumnFault} (Err fault) (Err other) → IsEntryFault other
 same_fault fault other is e = let same : fault ≡ other = cc in subst IsEntryFault same is
 
 past_fault : (list : List Text) (o : Option Text) (number : ℕ) (fault : ColumnFault) → code_or_past list o number ≡ Err fault → IsEntryFault fault

@@ -67,6 +67,15 @@ not_utf8 line not = false_from_ne_true _ (λ e. not (IsUtf8-from_is_utf8 line e)
 
 -- ---- a dictionary on its way
 
+-- a text that was added went last
+added_last : (now after : InternerView) (line : Text) → AddsText now line after → after.texts ≡ now.texts ++ line ∷ []
+added_last now after line adds =
+    list_interned spur_at now after line adds.2.0 adds.2.1 ∙ ap (λ (o : Option ℕ). cond (is_some o) now.texts (now.texts ++ line ∷ [])) adds.1
+
+pub adds_more : (old now after : InternerView) (line : Text) → extend spur_at old now.texts accepted now → AddsText now line after → extend spur_at old after.texts accepted after
+adds_more old now after line list adds =
+    subst (λ (ts : List Text). extend spur_at old ts accepted after) (sym (added_last now after line adds)) (extend_push spur_at old now after now.texts line (Ok adds.2.0) accepted list adds.2.1 refl)
+
 -- these texts were read and interned, and the rest is left
 pub record Reading (bytes rest : List ℕ) (position : ℕ) (now : InternerView) : Type 0 where
   pub read : texts_from position [] bytes ≡ Ok (now.texts, rest)
@@ -88,8 +97,7 @@ module _ (bytes rest : List ℕ) (position distinct : ℕ) (now : InternerView) 
   -- one text more
   pub reading_push : (line : Text) (left : List ℕ) (after : InternerView) → cut_line rest ≡ Some (line, left) → AddsText now line after → Reading bytes left (position + 1) after
   reading_push line left after cut adds =
-      let list : after.texts ≡ now.texts ++ line ∷ [] =
-      list_interned spur_at now after line adds.2.0 adds.2.1 ∙ ap (λ o. cond (is_some o) now.texts (now.texts ++ line ∷ [])) adds.1 in
+      let list : after.texts ≡ now.texts ++ line ∷ [] = added_last now after line adds in
       let one : texts_from 1 now.texts rest ≡ Ok (now.texts ++ line ∷ [], left) =
       by_tests 0 now.texts rest left line cut true false (is_utf8-from_IsUtf8 line adds.0) (ap is_some adds.1) in
       record {
@@ -138,7 +146,7 @@ plain_both [] ys plain others = others
 plain_both (x ∷ xs) ys plain others = (plain.0, plain.1, plain_both xs ys plain.2 others)
 
 feed_free : (b : ℕ) (bytes line left : List ℕ) (feed : Bool) (cut : Option (List ℕ × List ℕ)) → is_line_feed b ≡ feed → cond {A = Option (List ℕ × List ℕ)} feed (Some ([], bytes)) (option_map (λ (c : List ℕ × List ℕ). (b ∷ c.0, c.1)) cut) ≡ Some (line, left) → ((front rest : List ℕ) → cut ≡ Some (front, rest) → NoFeed front) → NoFeed line
-feed_free b bytes line left true cut is e then = let same : [] ≡ line = cc in subst NoFeed same tt
+feed_free b bytes line left true cut is e then = let both : ◌≡◌ {A = List ℕ × List ℕ} ([], bytes) (line, left) = cc in subst NoFeed (ap (λ (p : List ℕ × List ℕ). p.0) both) tt
 feed_free b bytes line left false None is e then = absurd (cc)
 feed_free b bytes line left false (Some c) is e then = let both : ◌≡◌ {A = List ℕ × List ℕ} (b ∷ c.0, c.1) (line, left) = cc in subst NoFeed (ap (λ (p : List ℕ × List ℕ). p.0) both) (is, then c.0 c.1 refl)
 

@@ -119,6 +119,7 @@ TakesTexts before after distinct list = (bytes : List ℕ) → before ≡ Some b
 -- why so many texts were not read from these bytes
 abbrev pub IsTextFault : ℕ → ℕ → List ℕ → ColumnFault → Type 0
 IsTextFault limit distinct bytes NoHeader = ⊥
+IsTextFault limit distinct bytes (NotMerged error) = ⊥
 IsTextFault limit distinct bytes (TextRefused number error) = IsTextRefused limit distinct bytes number error
 IsTextFault limit distinct bytes fault = texts_from distinct [] bytes ≡ Err fault
 

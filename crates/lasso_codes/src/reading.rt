@@ -3,7 +3,7 @@ ghost use Rattle.std.specs.Prelude.{◌≡◌, ◌++◌, ◌∷◌, [], ℕ, Lis
 ghost use Rattle.std.specs.Io.Buffered.{reader_remaining};
 ghost use Rattle.lasso_single.specs.Interner.{made_with};
 ghost use Rattle.lasso_codes.specs.Arguments.{word_of};
-ghost use Rattle.lasso_codes.specs.Reading.{after_front, header_in, header_of, AddFault, AddsText, HeaderFault, TakesHeader, TakesTexts, TextsFault};
+ghost use Rattle.lasso_codes.specs.Reading.{after_front, header_in, header_of, header_with, AddFault, AddsText, HeaderFault, TakesHeader, TakesTexts, TextsFault};
 
 use crate::columns::{BINARY_FRONT, TEXT_FRONT};
 use crate::fault::{ColumnFault, RunFault};
@@ -113,12 +113,29 @@ fn after_front<'a>(line: &'a [u8], front: &[u8]) -> Option<&'a [u8]>
 fn header_in(binary: bool, numbers: &[u8]) -> Option<Header>
     ensures { result ≡ header_in binary numbers.now }
 {
-    let at = memchr(b' ', numbers)?;
-    let distinct = parse_digits(&numbers[..at])?;
-    let lines = parse_digits(&numbers[at + 1..])?;
-    Some(Header {
-        binary,
-        distinct,
-        lines,
-    })
+    match memchr(b' ', numbers) {
+        Some(at) => {
+            let distinct = parse_digits(&numbers[..at]);
+            let lines = parse_digits(&numbers[at + 1..]);
+            header_with(binary, distinct, lines)
+        }
+        None => None,
+    }
+}
+
+// The header of the numbers, where both are there.
+fn header_with(binary: bool, distinct: Option<usize>, lines: Option<usize>) -> Option<Header>
+    ensures { result ≡ header_with binary distinct lines }
+{
+    match distinct {
+        Some(distinct) => match lines {
+            Some(lines) => Some(Header {
+                binary,
+                distinct,
+                lines,
+            }),
+            None => None,
+        },
+        None => None,
+    }
 }
