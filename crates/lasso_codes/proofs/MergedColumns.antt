@@ -3,11 +3,11 @@
 -- The texts of each dictionary are interned in order, and the table has the code that each has then. So an entry's code is rewritten to
 -- that of its text. The list only grows at its end, and a text keeps its code: the entries of the columns before stay as they are.
 -- Where nothing of the input is left all columns were merged, and the list is that of the distinct texts of all dictionaries.
-use Rattle.std.proofs.Common.{ℕ, zero, suc, ◌≡◌, ◌+◌, ◌-◌, ◌^◌, ◌<◌, ◌≤◌, ◌==◌, Bool, true, false, cond, List, [], ◌∷◌, ◌++◌, length, map, take, is_some, Option, Some, None, ◌⊎◌, Result, Ok, Err, MatchResult, refl, sym, ap, subst, ◌∙◌, arith, append_assoc, inl, inr}
+use Rattle.std.proofs.Common.{ℕ, zero, suc, ◌≡◌, ◌+◌, ◌-◌, ◌^◌, ◌<◌, ◌≤◌, ◌==◌, Bool, true, false, cond, List, [], ◌∷◌, ◌++◌, length, get_or, map, take, is_some, Option, Some, None, ◌⊎◌, Result, Ok, Err, MatchResult, refl, sym, ap, subst, ◌∙◌, arith, append_assoc, inl, inr}
 use Rattle.std.specs.Prelude.{slice_get, unwrap_or, IsSomeAnd}
 use Rattle.std.proofs.lemmas.Bool.Decides.{nat_tests}
 use Rattle.std.proofs.lemmas.List.{append-nil, length_push, length-map, map_push}
-use Rattle.std.proofs.lemmas.Option.{slice_get_within}
+use Rattle.std.proofs.lemmas.Option.{slice_get_within, slice_get-get_or}
 use Rattle.std.proofs.lemmas.Result.{MatchResult-weaker}
 use Rattle.lasso_parts.proofs.TextLemmas.{position_here}
 use Rattle.lasso_parts.specs.Kept.{kept_made}
@@ -19,6 +19,7 @@ use Rattle.lasso_single.specs.Intern.{InternsIn}
 use Rattle.lasso_single.specs.Interner.{InternerView, made_with}
 use Rattle.lasso_single.proofs.Filled.{accepted}
 use Rattle.lasso.proofs.Calling.{list_interned}
+use Rattle.lasso_columns.proofs.Coded.{map_some_length}
 use Rattle.lasso_columns.proofs.PartLists.{list_extended}
 use Rattle.lasso_columns.specs.Codes.{AreCodes}
 use Rattle.lasso_columns.specs.Encoding.{spur_at, IsRefused}
@@ -74,15 +75,16 @@ code_there list [] (n ∷ ns) code number are at = absurd (cc)
 code_there list (t ∷ ts) (n ∷ ns) zero number are at = let here : position_of list t ≡ Some number = cc in (t, refl, here)
 code_there list (t ∷ ts) (n ∷ ns) (suc code) number are at = code_there list ts ns code number (cc) at
 
-code_gone : (list texts : List Text) (table : List ℕ) (code : ℕ) → AreCodes list texts table → slice_get table code ≡ None → slice_get texts code ≡ None
-code_gone list [] table code are at = refl
-code_gone list (t ∷ ts) [] code are at = absurd (cc)
-code_gone list (t ∷ ts) (n ∷ ns) zero are at = absurd (cc)
-code_gone list (t ∷ ts) (n ∷ ns) (suc code) are at = code_gone list ts ns code (cc) at
+none_past : (texts : List Text) (code : ℕ) → length texts ≤ code → slice_get texts code ≡ None
+none_past [] code past = refl
+none_past (t ∷ ts) zero past = absurd (omega (arith, past))
+none_past (t ∷ ts) (suc code) past = none_past ts code (omega (arith, past))
 
 -- an entry's code is rewritten
-pub code_rewritten : (list texts : List Text) (table : List ℕ) (code rewritten number : ℕ) → AreCodes list texts table → length list < 2 ^ 32 → slice_get table code ≡ Some rewritten → recoded list texts (Code code) number ≡ Ok (entry_at rewritten)
-code_rewritten list texts table code rewritten number are few at =
+pub code_rewritten : (list texts : List Text) (table : List ℕ) (code number : ℕ) → AreCodes list texts table → length list < 2 ^ 32 → code < length table → recoded list texts (Code code) number ≡ Ok (entry_at (get_or table code 0))
+code_rewritten list texts table code number are few small =
+    let rewritten = get_or table code 0 in
+    let at : slice_get table code ≡ Some rewritten = slice_get-get_or table code 0 small in
     let there = code_there list texts table code rewritten are at in
     let inside : rewritten < length list = slice_get_within list rewritten there.0 (position_here list there.0 rewritten there.2) in
     let other : rewritten == 4294967295 ≡ false = let small : rewritten < 4294967295 = omega (arith, inside, few) in grind (arith, nat_tests) in
@@ -90,8 +92,8 @@ code_rewritten list texts table code rewritten number are few at =
     let entry : entry_at rewritten ≡ Some rewritten = ap (λ b. cond b none (Some rewritten)) other in
     ap (λ o. code_or_past list o number) there.1 ∙ ap (λ (o : Option ℕ). Ok o) (there.2 ∙ sym entry)
 
-pub code_past : (list texts : List Text) (table : List ℕ) (code number : ℕ) → AreCodes list texts table → slice_get table code ≡ None → recoded list texts (Code code) number ≡ Err (PastTexts number)
-code_past list texts table code number are at = ap (λ o. code_or_past list o number) (code_gone list texts table code are at)
+pub code_past : (list texts : List Text) (table : List ℕ) (code number : ℕ) → AreCodes list texts table → length table ≤ code → recoded list texts (Code code) number ≡ Err (PastTexts number)
+code_past list texts table code number are past = ap (λ o. code_or_past list o number) (none_past texts code (omega (arith, past, map_some_length (position_of list) texts table are)))
 
 same_fault : (fault other : ColumnFault) → IsEntryFault fault → ◌≡◌ {A = Result (Option ℕ) ColumnFault} (Err fault) (Err other) → IsEntryFault other
 same_fault fault other is e = let same : fault ≡ other = cc in subst IsEntryFault same is

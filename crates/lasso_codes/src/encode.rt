@@ -126,8 +126,11 @@ fn entry_of(
     }
 }
 
-// Appends the entry of the line of this number.
-fn append(numbers: &mut Vec<u32>, entry: u32, number: usize) -> Result<(), LineError>
+/// Appends the entry of the line of this number.
+///
+/// # Errors
+/// There is no memory for it. The entries are as they were.
+pub fn append(numbers: &mut Vec<u32>, entry: u32, number: usize) -> Result<(), LineError>
     ensures items { OnOk result (numbers.new.items ≡ numbers.old.items ++ entry ∷ []) }
     ensures fault { IfErr result (λ error. error ≡ Refused number FailedAllocation) }
 {

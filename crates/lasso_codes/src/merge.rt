@@ -1,9 +1,11 @@
 //! Columns to one column.
-ghost use Rattle.std.specs.Prelude.{◌≡◌, ◌<◌, ◌^◌, [], ℕ, List, length, Some, Ok, Err, OnOk, IfErr, MatchResult};
+ghost use Rattle.std.specs.Prelude.{◌≡◌, ◌<◌, ◌^◌, ◌++◌, ◌∷◌, [], ℕ, List, length, Some, Ok, Err, OnOk, IfErr, MatchResult};
 ghost use Rattle.std.specs.Io.Buffered.{reader_remaining, writer_contents, writer_buffer};
 ghost use Rattle.lasso_parts.specs.Texts.{Text};
 ghost use Rattle.lasso_single.specs.Interner.{made_with};
 ghost use Rattle.lasso_columns.specs.Codes.{AreCodes};
+ghost use Rattle.lasso_columns.specs.declared.faults.LineError.TheVariants.{Refused};
+ghost use Rattle.lasso_parts.specs.declared.util.LassoErrorKind.TheVariants.{FailedAllocation};
 ghost use Rattle.lasso_codes.specs.Columns.{entry_at};
 ghost use Rattle.lasso_codes.specs.Fault.{IsWriteEnd};
 ghost use Rattle.lasso_codes.specs.Merge.{recoded, AddsEntries, AreMerged, MergeEnd, MergingFault};
@@ -12,6 +14,7 @@ ghost use Rattle.lasso_codes.specs.Streams.{Writes};
 
 use crate::columns::{NULL, write_column};
 use crate::distinct::new_rodeo;
+use crate::encode::append;
 use crate::entries::{Entry, next_entry};
 use crate::fault::{ColumnFault, RunFault};
 use crate::output::end_flushed;
@@ -102,15 +105,22 @@ fn add_numbers<R: Read + Drop>(
     for position in 0..header.lines {
         let entry = next_entry(input, line, header.binary)?;
         match number_at(table, entry, position + 1) {
-            Ok(number) => {
-                if numbers.push(number).is_err() {
-                    return Err(RunFault::no_memory(0));
-                }
-            }
+            Ok(number) => append_number(numbers, number)?,
             Err(fault) => return Err(RunFault::Column(column, fault)),
         }
     }
     Ok(())
+}
+
+// Appends the number, where there is memory for it.
+fn append_number(numbers: &mut Vec<u32>, number: u32) -> Result<(), RunFault>
+    ensures items { OnOk result (numbers.new.items ≡ numbers.old.items ++ number ∷ []) }
+    ensures fault { IfErr result (λ fault. fault ≡ RunFault.Line (Refused 0 FailedAllocation)) }
+{
+    match append(numbers, number, 0) {
+        Ok(()) => Ok(()),
+        Err(error) => Err(RunFault::Line(error)),
+    }
 }
 
 // The number of the entry of this number: what the table has for its code.
@@ -123,9 +133,12 @@ fn number_at(table: &[u32], entry: Entry, number: usize) -> Result<u32, ColumnFa
         Entry::Missing => Err(ColumnFault::NoEntry(number)),
         Entry::Bad => Err(ColumnFault::NotEntry(number)),
         Entry::Null => Ok(NULL),
-        Entry::Code(code) => match table.get(code) {
-            Some(rewritten) => Ok(*rewritten),
-            None => Err(ColumnFault::PastTexts(number)),
-        },
+        Entry::Code(code) => {
+            if code < table.len() {
+                Ok(table[code])
+            } else {
+                Err(ColumnFault::PastTexts(number))
+            }
+        }
     }
 }

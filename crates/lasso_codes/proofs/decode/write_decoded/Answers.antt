@@ -25,7 +25,7 @@ returns-in_err-read_texts g c = λ bytes e.
     let ahead = at.invariant bytes e in
     let null = word_of c.args.null in
     let header = c.in-Some.header in
-    let head = header_taken _ _ c.in_ok-next_header.field-0 header c.in_ok-next_header.ensures.taken c.in-Some.is ahead.0 ahead.1 in
+    let head = header_taken _ _ c.in_ok-header.field-0 header c.in_ok-header.ensures.taken c.in-Some.is ahead.0 ahead.1 in
     let fault = c.in_err-read_texts.field-0.0 in
     rw (p.1, p.2) (writes_as _ _ (ColumnsAhead bytes null ahead.0 at.column) (λ part. DecodeEnd bytes c.args.limits null part (Err fault)) ahead.2 (λ part way.
     columns_texts_fail bytes c.args.limits null ahead.0 at.column part way header head.0 head.2 fault (c.in_err-read_texts.ensures.fault head.0 head.1 c.args.limits c.in_ok-rodeo.ensures.made)))
@@ -37,7 +37,7 @@ returns-in_err-write_lines g c = λ bytes e.
     let ahead = at.invariant bytes e in
     let null = word_of c.args.null in
     let header = c.in-Some.header in
-    let head = header_taken _ _ c.in_ok-next_header.field-0 header c.in_ok-next_header.ensures.taken c.in-Some.is ahead.0 ahead.1 in
+    let head = header_taken _ _ c.in_ok-header.field-0 header c.in_ok-header.ensures.taken c.in-Some.is ahead.0 ahead.1 in
     let list = c.read_texts.new.rodeo.texts in
     let texts = c.in_ok-read_texts.ensures.taken head.0 head.1 in
     let read = items_from (line_at null list) header.lines header.binary 1 texts.0 in
@@ -51,7 +51,7 @@ loop-column-preserved g c = λ bytes e.
     let ahead = at.invariant bytes e in
     let null = word_of c.args.null in
     let header = c.in-Some.header in
-    let head = header_taken _ _ c.in_ok-next_header.field-0 header c.in_ok-next_header.ensures.taken c.in-Some.is ahead.0 ahead.1 in
+    let head = header_taken _ _ c.in_ok-header.field-0 header c.in_ok-header.ensures.taken c.in-Some.is ahead.0 ahead.1 in
     let list = c.read_texts.new.rodeo.texts in
     let texts = c.in_ok-read_texts.ensures.taken head.0 head.1 in
     let read = items_from (line_at null list) header.lines header.binary 1 texts.0 in
