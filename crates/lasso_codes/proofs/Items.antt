@@ -2,11 +2,11 @@
 --
 -- What all entries stand for is what those before stand for, and what the others stand for after them. One more entry goes from the
 -- others to those before. At a faulty entry those before are all, and the fault is that of all.
-use Rattle.std.proofs.Common.{ℕ, suc, ◌≡◌, ◌+◌, ◌-◌, ◌<◌, Bool, false, ◌⊎◌, List, [], ◌∷◌, ◌++◌, take, length, Option, Some, Result, Ok, Err, refl, sym, ap, subst, ◌∙◌, append_assoc, arith}
+use Rattle.std.proofs.Common.{ℕ, suc, ◌≡◌, ◌+◌, ◌-◌, ◌<◌, Bool, false, ◌⊎◌, List, [], ◌∷◌, ◌++◌, take, length, Option, Some, None, Result, Ok, Err, refl, sym, ap, subst, ◌∙◌, append_assoc, arith, inl, inr}
 use Rattle.std.proofs.Math.Seq.{take-append_seam}
 use Rattle.std.proofs.lemmas.List.{append-nil}
 use Rattle.lasso_parts.specs.Texts.{Text}
-use Rattle.lasso_codes.specs.Reading.{Makes, ReadItems, ReadTexts, TakesEntry, TakesHeader, cut_entry, on_entry_line, on_item, items_from, texts_from, head_of, on_texts, on_head, read_column, IsEntryFault, IsColumnFault}
+use Rattle.lasso_codes.specs.Reading.{Makes, ReadItems, ReadTexts, TakesEntry, TakesHeader, HeaderFault, HasNoHeader, cut_entry, on_entry_line, on_item, items_from, texts_from, head_of, on_texts, on_head, read_column, IsEntryFault, IsColumnFault}
 use Rattle.lasso_codes.specs.Streams.{CutsLine}
 use Rattle.lasso_codes.specs.declared.entries.Entry.{Entry}
 use Rattle.lasso_codes.specs.declared.entries.Entry.TheVariants.{Missing}
@@ -14,6 +14,9 @@ use Rattle.lasso_codes.specs.declared.input.Cut.{Cut}
 use Rattle.lasso_codes.specs.declared.input.Cut.TheVariants.{Part, End}
 use Rattle.lasso_codes.specs.declared.fault.ColumnFault.{ColumnFault}
 use Rattle.lasso_codes.specs.declared.fault.ColumnFault.TheVariants.{NoHeader, NoText, NotUtf8, Doubled, TextRefused, NoEntry, NotEntry, PastTexts, IsNull, NotMerged}
+use Rattle.lasso_codes.specs.declared.fault.RunFault.{RunFault}
+use Rattle.lasso_codes.specs.declared.fault.RunFault.TheVariants.{Column}
+use Rattle.lasso_codes.specs.Fault.{IsReadFault}
 use Rattle.lasso_codes.specs.declared.reading.Header.{Header}
 use Rattle.lasso_codes.proofs.Feeds.{no_cut}
 
@@ -70,6 +73,15 @@ entry_missing before after cut line binary cuts which lines = λ bytes e.
 -- the header that was read
 pub header_taken : (before after : Option (List ℕ)) (told : Option Header) (header : Header) → TakesHeader before after told → told ≡ Some header → TakesHeader before after (Some header)
 header_taken before after told header taken is = subst (λ (o : Option Header). TakesHeader before after o) is taken
+
+-- there was none
+pub header_none : (before after : Option (List ℕ)) (told : Option Header) → TakesHeader before after told → told ≡ None → (bytes : List ℕ) → before ≡ Some bytes → bytes ≡ []
+header_none before after told taken is = subst (λ (o : Option Header). TakesHeader before after o) is taken
+
+-- it was not read
+pub header_unread : (before : Option (List ℕ)) (column : ℕ) (fault : RunFault) (bytes : List ℕ) → HeaderFault before column fault → before ≡ Some bytes → IsReadFault 0 fault ⊎ ((fault ≡ Column column NoHeader) × HasNoHeader bytes)
+header_unread before column fault bytes (inl is) e = inl is
+header_unread before column fault bytes (inr is) e = inr (is.0, is.1 bytes e)
 
 -- ---- columns
 

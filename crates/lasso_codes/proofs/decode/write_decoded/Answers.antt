@@ -3,10 +3,37 @@ use Rattle.std.proofs.lemmas.Result.{err_from_is_err_and}
 use Rattle.lasso_codes.specs.Arguments.{word_of}
 use Rattle.lasso_codes.specs.Decode.{line_at, fed_lines, LinesFault, DecodeEnd}
 use Rattle.lasso_codes.specs.Reading.{items_from}
-use Rattle.lasso_codes.proofs.Items.{header_taken, column_read}
-use Rattle.lasso_codes.proofs.DecodedLines.{ColumnsAhead, columns_push, columns_unmade, columns_texts_fail, columns_lines_fail}
+use Rattle.lasso_codes.specs.declared.fault.RunFault.TheVariants.{TooManyLines}
+use Rattle.lasso_codes.proofs.Items.{header_taken, header_none, header_unread, column_read}
+use Rattle.lasso_codes.proofs.DecodedLines.{ColumnsAhead, columns_push, columns_end, columns_many, columns_header_fails, columns_unmade, columns_texts_fail, columns_lines_fail}
 use Rattle.lasso_codes.proofs.Written.{writes_as, writes_then}
 use Rattle.lasso_codes.proofs.decode.write_decoded.Goals as goal
+
+pub returns-in_err-header : goal.returns-in_err-header
+returns-in_err-header g c = λ bytes e.
+    let p = err_from_is_err_and c.from_residual.result c.from_residual.ensures.1 in
+    let at = c.loop-column in
+    let ahead = at.invariant bytes e in
+    let null = word_of c.args.null in
+    let fault = c.in_err-header.field-0.0 in
+    rw (p.1, p.2) (writes_as _ _ (ColumnsAhead bytes null ahead.0 at.column) (λ part. DecodeEnd bytes c.args.limits null part (Err fault)) ahead.2 (λ part way.
+    columns_header_fails bytes c.args.limits null ahead.0 at.column part way fault (header_unread _ at.column fault ahead.0 c.in_err-header.ensures.fault ahead.1)))
+
+pub returns-in_default : goal.returns-in_default
+returns-in_default g c = λ bytes e.
+    let at = c.loop-column in
+    let ahead = at.invariant bytes e in
+    let null = word_of c.args.null in
+    writes_as _ _ (ColumnsAhead bytes null ahead.0 at.column) (λ part. DecodeEnd bytes c.args.limits null part (Ok tt)) ahead.2 (λ part way.
+    columns_end bytes c.args.limits null ahead.0 at.column part way (header_none _ _ c.in_ok-header.field-0 c.in_ok-header.ensures.taken c.in_default.is ahead.0 ahead.1))
+
+pub returns : goal.returns
+returns g c = λ bytes e.
+    let at = c.loop-column in
+    let ahead = at.invariant bytes e in
+    let null = word_of c.args.null in
+    writes_as _ _ (ColumnsAhead bytes null ahead.0 at.column) (λ part. DecodeEnd bytes c.args.limits null part (Err TooManyLines)) ahead.2 (λ part way.
+    columns_many bytes c.args.limits null ahead.0 at.column part way)
 
 pub returns-in_err-rodeo : goal.returns-in_err-rodeo
 returns-in_err-rodeo g c = λ bytes e.
