@@ -2,6 +2,7 @@ pub mod FirstBytes
 pub mod Feeds
 pub mod Written
 pub mod Flat
+pub mod FewTexts
 pub mod Taken
 pub mod DistinctLines
 pub mod CountedLines

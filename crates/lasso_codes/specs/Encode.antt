@@ -1,5 +1,5 @@
 -- What `encode` writes, and how it ends.
-use Rattle.std.specs.Prelude.{ℕ, ◌≡◌, ◌+◌, ◌<◌, ◌⊎◌, Bool, true, false, List, [], map, All, take, Option, Some, Result, Ok, MatchResult, IsSomeAnd, slice_get}
+use Rattle.std.specs.Prelude.{ℕ, ◌≡◌, ◌+◌, ◌^◌, ◌<◌, ◌⊎◌, Bool, true, false, List, [], length, map, All, take, Option, Some, Result, Ok, MatchResult, IsSomeAnd, slice_get}
 use Rattle.std.specs.Str.{IsUtf8}
 use Rattle.lasso_parts.specs.Texts.{Text, position_of}
 use Rattle.lasso_parts.specs.declared.util.LassoErrorKind.TheVariants.{FailedAllocation}
@@ -26,9 +26,10 @@ IsNumberedAs false old line new number =
 abbrev pub IsNumbered : Option Text → InternerView → Text → InternerView → ℕ → Type 0
 IsNumbered null old line new number = IsNumberedAs (is_null null line) old line new number
 
--- the list is the dictionary of the lines, and the numbers stand for their entries
+-- the list is the dictionary of the lines, and the numbers stand for their entries; each text has a code
 abbrev pub AreNumbered : Option Text → List Text → List Text → List ℕ → Type 0
-AreNumbered null lines list numbers = (list ≡ dictionary_of null lines) × (map entry_at numbers ≡ map (entry_of null (dictionary_of null lines)) lines)
+AreNumbered null lines list numbers =
+    (list ≡ dictionary_of null lines) × (map entry_at numbers ≡ map (entry_of null (dictionary_of null lines)) lines) × (length list < 2 ^ 32)
 
 -- so many lines were encoded with this limit, and there was no memory for the next one, or it is faulty; number 0: there was no
 -- memory at no line
@@ -57,8 +58,12 @@ EncodeFault limit null binary lines part WriteFailed = Begins part (column_bytes
 EncodeFault limit null binary lines part ReaderGone = Begins part (column_bytes binary null lines)
 EncodeFault limit null binary lines part (Column column fault) = ⊥
 
+-- the lines are so few that codes and the header can tell them
+abbrev pub AreCodable : Option Text → List Text → Type 0
+AreCodable null lines = (length (dictionary_of null lines) < 2 ^ 32) × (length lines < 2 ^ 64)
+
 -- without a fault all lines are text, and the part is their column
 abbrev pub EncodeEnd : List ℕ → ℕ → Option Text → Bool → List ℕ → Result (Unit {0}) RunFault → Type 0
 EncodeEnd input limit null binary part result =
-    MatchResult result (λ _. All IsUtf8 (lines_of input) × (part ≡ column_bytes binary null (lines_of input)))
+    MatchResult result (λ _. All IsUtf8 (lines_of input) × (part ≡ column_bytes binary null (lines_of input)) × AreCodable null (lines_of input))
     (EncodeFault limit null binary (lines_of input) part)

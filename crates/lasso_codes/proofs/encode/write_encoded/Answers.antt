@@ -1,4 +1,4 @@
-use Rattle.std.proofs.Common.{◌≡◌, sym, subst}
+use Rattle.std.proofs.Common.{ℕ, ◌≡◌, ◌^◌, ◌<◌, List, length, sym, subst, arith}
 use Rattle.std.proofs.lemmas.Result.{err_from_is_err_and}
 use Rattle.lasso_columns.specs.Lines.{lines_of}
 use Rattle.lasso_codes.specs.Arguments.{word_of}
@@ -25,9 +25,12 @@ pub returns : goal.returns
 returns g c = λ bytes e.
     let null = word_of c.args.null in
     let numbered = c.in_ok-encode_lines.ensures.numbered bytes e in
+    let held = c.encode_lines.new.numbers in
     let numbers = c.deref.result.now in
     let list = c.encode_lines.new.rodeo.texts in
     let are = subst (λ ns. AreNumbered null (lines_of bytes) list ns) (sym c.deref.ensures.value) numbered.1 in
+    let few : length held.items < 2 ^ 64 = omega (arith, held.ok.0, held.ok.1, held.small) in
+    let many = subst (λ (ns : List ℕ). length ns < 2 ^ 64) (sym c.deref.ensures.value) few in
     let result = c.write_column.result in
     writes_as _ _ _ (λ part. EncodeEnd bytes c.args.limits null c.args.binary part result) c.write_column.ensures (λ part w.
-    column_written bytes c.args.limits null c.args.binary list numbers part result numbered.0 are w)
+    column_written bytes c.args.limits null c.args.binary list numbers part result numbered.0 are many w)
