@@ -3,9 +3,9 @@
 -- A line without a line feed is cut off at the line feed that ends it. So the header line is read as its numbers, the dictionary's lines
 -- as its texts, each of which is new, and an entry as its code or as a null. The text at a line's code is the line, and a null is the
 -- word that it was. So the lines are those that were encoded, and what comes after the column is left.
-use Rattle.std.proofs.Common.{ℕ, zero, suc, ◌≡◌, ◌+◌, ◌-◌, ◌^◌, ◌<◌, ◌==◌, Bool, true, false, cond, not, ◌&&◌, List, [], ◌∷◌, ◌++◌, length, map, take, drop, get_or, is_some, Option, Some, None, Result, Ok, Err, option_map, refl, sym, ap, subst, ◌∙◌, arith, append_assoc}
-use Rattle.std.specs.Prelude.{All, flat_map, decimal, slice_get, position, bytes_eq, unwrap_or}
-use Rattle.std.specs.Int.{w32, to_le_bytes, from_le_bytes}
+use Rattle.std.proofs.Common.{ℕ, zero, suc, ◌≡◌, ◌+◌, ◌^◌, ◌<◌, ◌==◌, Bool, true, false, cond, not, ◌&&◌, List, [], ◌∷◌, ◌++◌, length, map, take, drop, get_or, is_some, Option, Some, None, Ok, option_map, refl, sym, ap, subst, ◌∙◌, arith, append_assoc}
+use Rattle.std.specs.Prelude.{All, flat_map, decimal, slice_get, position}
+use Rattle.std.specs.Int.{w32, to_le_bytes}
 use Rattle.std.specs.List.{onto_first, position_or_len}
 use Rattle.std.specs.Str.{IsUtf8, is_utf8}
 use Rattle.std.proofs.Math.Seq.{take-append_seam}
@@ -24,13 +24,13 @@ use Rattle.lasso_columns.specs.Parts.{new_texts}
 use Rattle.lasso_columns.proofs.Coded.{position_stays}
 use Rattle.lasso_columns.proofs.FirstLines.{no_feed_both}
 use Rattle.lasso_codes.specs.Arguments.{digits_value}
-use Rattle.lasso_codes.specs.Columns.{is_null, texts_of, dictionary_of, entry_of, entry_bytes, entry_line, header, header_front, column_of, column_bytes}
+use Rattle.lasso_codes.specs.Columns.{is_null, texts_of, dictionary_of, entry_of, entry_bytes, header, header_front, column_of, column_bytes}
 use Rattle.lasso_codes.specs.Distinct.{with_feed}
 use Rattle.lasso_codes.specs.Decode.{DecodingGivesLines, text_or_past, null_line, line_at, decoded}
 use Rattle.lasso_codes.specs.Reading.{header_with, header_at, header_in, header_of, head_of, on_header_line, on_text, texts_from, number_entry, code_in, entry_in, cut_number, cut_entry, on_entry_line, on_item, items_from, on_head, on_texts}
 use Rattle.lasso_codes.specs.Streams.{cut_line}
 use Rattle.lasso_codes.specs.declared.entries.Entry.{Entry}
-use Rattle.lasso_codes.specs.declared.entries.Entry.TheVariants.{Missing, Bad, Null, Code}
+use Rattle.lasso_codes.specs.declared.entries.Entry.TheVariants.{Null, Code}
 use Rattle.lasso_codes.specs.declared.reading.Header.{Header}
 use Rattle.lasso_codes.proofs.Feeds.{cut_fed}
 use Rattle.lasso_codes.proofs.ReadTexts.{ArePlain}
@@ -289,12 +289,17 @@ lines_read null list (l ∷ ls) few stand =
     let one = entry_reads null list l (is_null null l) refl few stand.0 in
     (one.0, one.1, lines_read null list ls few stand.1)
 
--- decoding what was encoded gives the lines
-pub decoding_gives_lines_lem : DecodingGivesLines
-decoding_gives_lines_lem binary null input rest texts many few =
+-- the column of lines is read as these lines
+column_lines : (binary : Bool) (null : Option Text) (input rest : List ℕ) → All IsUtf8 (lines_of input) → length (lines_of input) < 2 ^ 64 → length (dictionary_of null (lines_of input)) < 2 ^ 32 → decoded null (column_bytes binary null (lines_of input) ++ rest) ≡ (lines_of input, Ok rest)
+column_lines binary null input rest texts many few =
     let lines = lines_of input in
     let list = dictionary_of null lines in
     let plain : ArePlain lines = plain_lines lines (lines_free input) texts in
     let fresh : AreFresh [] list = fresh_new [] (texts_of null lines) (plain_texts null lines plain) in
     let stand : AllStand null list lines = all_stand null list lines (found_new [] (texts_of null lines)) in
     column_back binary null list (map (entry_of null list) lines) lines rest fresh (lines_read null list lines few stand) (omega (arith, few)) (omega (arith, many, length-map lines (entry_of null list)))
+
+-- decoding what was encoded gives the lines
+pub decoding_gives_lines_lem : DecodingGivesLines
+decoding_gives_lines_lem input limit null binary part rest end =
+    ap (λ bs. decoded null (bs ++ rest)) end.1 ∙ column_lines binary null input rest end.0 end.2.1 end.2.0

@@ -2,7 +2,7 @@
 --
 -- After the first texts the others are read from the bytes that are left, with the first ones before them. So one more text is read
 -- after those, and a fault of the next text is the fault of all.
-use Rattle.std.proofs.Common.{ℕ, zero, suc, ◌≡◌, ◌+◌, ◌-◌, ◌<◌, Bool, true, false, cond, List, [], ◌∷◌, ◌++◌, length, is_some, Option, Some, None, option_map, Result, Ok, Err, refl, sym, ap, subst, ◌∙◌, arith, inl, inr, ◌⊎◌}
+use Rattle.std.proofs.Common.{ℕ, zero, suc, ◌≡◌, ◌+◌, ◌-◌, ◌<◌, Bool, true, false, cond, List, [], ◌∷◌, ◌++◌, length, is_some, Option, Some, None, option_map, Ok, Err, refl, sym, ap, subst, ◌∙◌, arith, inr}
 use Rattle.std.specs.Str.{IsUtf8, is_utf8}
 use Rattle.std.proofs.lemmas.Bool.{false_from_ne_true}
 use Rattle.std.proofs.lemmas.List.{length_push}
@@ -14,12 +14,10 @@ use Rattle.lasso_single.proofs.Filled.{accepted, extend_push}
 use Rattle.lasso.proofs.Calling.{list_interned}
 use Rattle.lasso_columns.specs.Encoding.{spur_at}
 use Rattle.lasso_columns.specs.Lines.{NoFeed, is_line_feed}
-use Rattle.lasso_codes.specs.Fault.{IsReadFault}
 use Rattle.lasso_codes.specs.Reading.{ReadTexts, on_text, texts_from, AddsText, AddFault, IsTextFault, TextsFault}
 use Rattle.lasso_codes.specs.Streams.{cut_line}
 use Rattle.lasso_codes.specs.declared.fault.ColumnFault.{ColumnFault}
 use Rattle.lasso_codes.specs.declared.fault.ColumnFault.TheVariants.{NoHeader, NoText, NotUtf8, Doubled, TextRefused, NoEntry, NotEntry, PastTexts, IsNull, NotMerged}
-use Rattle.lasso_codes.specs.declared.fault.RunFault.{RunFault}
 use Rattle.lasso_codes.specs.declared.fault.RunFault.TheVariants.{Column}
 
 -- ---- texts after the first ones

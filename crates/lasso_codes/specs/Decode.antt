@@ -1,12 +1,11 @@
 -- What `decode` writes, and how it ends.
-use Rattle.std.specs.Prelude.{ℕ, zero, suc, ◌≡◌, ◌+◌, ◌^◌, ◌<◌, All, Bool, List, [], ◌++◌, length, take, flat_map, Option, Some, None, Result, Ok, Err, MatchResult, slice_get}
-use Rattle.std.specs.Str.{IsUtf8}
+use Rattle.std.specs.Prelude.{ℕ, zero, suc, ◌≡◌, ◌+◌, Bool, List, [], ◌++◌, take, flat_map, Option, Some, None, Result, Ok, Err, MatchResult, slice_get}
 use Rattle.lasso_parts.specs.Texts.{Text}
 use Rattle.lasso_parts.specs.declared.util.LassoErrorKind.TheVariants.{FailedAllocation}
 use Rattle.lasso_columns.specs.Lines.{lines_of}
 use Rattle.lasso_columns.specs.declared.faults.LineError.TheVariants.{Refused}
-use Rattle.lasso_codes.specs.Columns.{dictionary_of, column_bytes}
 use Rattle.lasso_codes.specs.Distinct.{with_feed}
+use Rattle.lasso_codes.specs.Encode.{EncodeEnd}
 use Rattle.lasso_codes.specs.Reading.{Makes, ReadItems, read_column, IsEntryFault, IsColumnFault}
 use Rattle.lasso_codes.specs.Streams.{Begins}
 use Rattle.lasso_codes.specs.declared.entries.Entry.TheVariants.{Missing, Bad, Null, Code}
@@ -96,9 +95,8 @@ DecodeEnd input limit null part result =
 
 -- ---- the law
 
--- decoding the column of lines that are UTF-8 gives them, whatever comes after it. They are so few that the header can tell how many
--- there are, and have so few distinct texts that each has a code.
+-- decoding what `encode` wrote of an input gives its lines, whatever comes after it
 abbrev pub DecodingGivesLines : Type 0
 DecodingGivesLines =
-    (binary : Bool) (null : Option Text) (input rest : List ℕ) → All IsUtf8 (lines_of input) → length (lines_of input) < 2 ^ 64
-    → length (dictionary_of null (lines_of input)) < 2 ^ 32 → decoded null (column_bytes binary null (lines_of input) ++ rest) ≡ (lines_of input, Ok rest)
+    (input : List ℕ) (limit : ℕ) (null : Option Text) (binary : Bool) (part rest : List ℕ)
+    → EncodeEnd input limit null binary part (Ok tt) → decoded null (part ++ rest) ≡ (lines_of input, Ok rest)

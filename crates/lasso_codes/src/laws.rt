@@ -2,7 +2,7 @@
 ghost use Rattle.lasso_codes.specs.Decode.{DecodingGivesLines};
 ghost use Rattle.lasso_codes.specs.Merge.{DictionariesAreDistinct, MergedColumnsDecode, MergingKeepsLines};
 
-/// Decoding what was encoded gives the lines, whatever comes after the column.
+/// Decoding what `encode` wrote gives the lines of its input, whatever comes after the column.
 pub fn decoding_gives_lines()
     ensures { DecodingGivesLines }
 {}
