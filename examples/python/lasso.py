@@ -16,13 +16,17 @@ import os
 import weakref
 from array import array
 from collections.abc import Iterable, Iterator
-from ctypes import POINTER, byref, c_int32, c_size_t, c_uint8, c_uint32
+from ctypes import POINTER, byref, c_int32, c_int64, c_size_t, c_uint8, c_uint32
 from itertools import accumulate
 from typing import Any
 
 __all__ = [
-    "CodesExhausted", "Interner", "InternerClosed", "LassoError", "LimitReached", "NotUtf8", "OutOfMemory", "WrongLayout",
+    "NULL", "CodesExhausted", "Interner", "InternerClosed", "LassoError", "LimitReached", "NotUtf8", "OutOfMemory", "WrongLayout",
 ]
+
+
+NULL = 2**32 - 1
+"""The code of a null. No text has it."""
 
 
 class LassoError(Exception):
@@ -70,9 +74,9 @@ _DONE, _OFFSETS_SHORT, _BYTES_SHORT, _NO_INTERNER, _NO_SUCH_TEXT = 0, 7, 8, 12, 
 _ERRORS: dict[int, type[LassoError]] = {
     1: WrongLayout, 2: WrongLayout, 3: NotUtf8, 9: OutOfMemory, 10: LimitReached, 11: CodesExhausted, 12: InternerClosed,
 }
-_NO_LIMIT, _ABSENT = c_size_t(-1).value, c_uint32(-1).value
+_NO_LIMIT, _ABSENT = c_size_t(-1).value, NULL
 
-_BYTES, _OFFSETS, _CODES = ((POINTER(kind), c_size_t) for kind in (c_uint8, c_int32, c_uint32))
+_BYTES, _OFFSETS, _LARGE_OFFSETS, _CODES = ((POINTER(kind), c_size_t) for kind in (c_uint8, c_int32, c_int64, c_uint32))
 
 
 def _load() -> ctypes.CDLL:
@@ -84,7 +88,8 @@ def _load() -> ctypes.CDLL:
     for name, result, arguments in [
         ("new", status, [c_size_t]),
         ("intern", status, [*_BYTES, POINTER(c_uint32)]),
-        ("intern_batch", status, [*_BYTES, *_OFFSETS, *_CODES, POINTER(_Report)]),
+        ("intern_batch_nulls", status, [*_BYTES, *_OFFSETS, *_BYTES, c_uint32, *_CODES, POINTER(_Report)]),
+        ("intern_batch_nulls_large", status, [*_BYTES, *_LARGE_OFFSETS, *_BYTES, c_uint32, *_CODES, POINTER(_Report)]),
         ("get", status, [*_BYTES, POINTER(c_uint32)]),
         ("get_batch", status, [*_BYTES, *_OFFSETS, c_uint32, *_CODES, POINTER(_Report)]),
         ("resolve", status, [c_uint32, *_BYTES, POINTER(c_size_t)]),
@@ -134,6 +139,23 @@ def _layout(texts: Iterable[str]) -> tuple[tuple[Any, int], tuple[Any, int], int
     return _bytes(b"".join(data)), _view(c_int32, starts, len(starts)), len(data)
 
 
+def _bitmap(rows: list[str | None]) -> bytes:
+    """A bit for each row, from the least of the first byte on: 1 where it is present."""
+    bits = bytearray((len(rows) + 7) // 8)
+    for at, row in enumerate(rows):
+        if row is not None:
+            bits[at // 8] |= 1 << at % 8
+    return bytes(bits)
+
+
+def _bits(bitmap: memoryview, start: int, count: int) -> bytes:
+    """So many bits of a bitmap from one on, as a bitmap of their own."""
+    part = bytes(bitmap.cast("B")[start // 8 : (start + count + 7) // 8])
+    if start % 8 == 0:
+        return part
+    return (int.from_bytes(part, "little") >> start % 8).to_bytes(len(part), "little")
+
+
 def _message(status: int) -> str:
     text = (c_uint8 * 80)()
     return bytes(text[: _library.lasso_status_text(status, text, 80)]).decode()
@@ -172,30 +194,36 @@ class Interner:
         return code.value
 
     def encode(self, texts: Any) -> array:
-        """The codes of many texts, which are appended where they are absent.
+        """The codes of many texts, which are appended where they are absent. A null has the code NULL, and no text is appended for it.
 
-        ``texts`` is an iterable of str, as a list or a numpy array, or an Arrow array of strings: an object with ``buffers()``,
-        ``offset`` and its length, without nulls. The texts before a refused one stay, and the error names its ``position``.
+        ``texts`` is an iterable of str and None, as a list or a numpy array, or an Arrow array of strings: an object with
+        ``buffers()``, ``offset`` and its length, and of large strings also ``type``, whose name begins with "large". The texts before a refused one stay, and the error names its ``position``.
         """
         if hasattr(texts, "buffers"):
             return self._encode_arrow(texts)
-        return self._encode(*_layout(texts))
+        rows = list(texts)
+        data, starts, count = _layout("" if text is None else text for text in rows)
+        return self._encode(data, starts, count, _bitmap(rows) if None in rows else b"")
 
     def _encode_arrow(self, texts: Any) -> array:
-        if getattr(texts, "null_count", 0):
-            raise ValueError("an array with nulls")
-        _validity, starts, data = texts.buffers()
+        validity, starts, data = texts.buffers()
         count = len(texts)
         if count == 0:
             return array("I")
-        offsets = memoryview(starts).cast("B")[4 * texts.offset : 4 * (texts.offset + count + 1)]
+        large = str(getattr(texts, "type", "")).startswith("large")
+        kind, call = (c_int64, _library.lasso_intern_batch_nulls_large) if large else (c_int32, _library.lasso_intern_batch_nulls)
+        width = ctypes.sizeof(kind)
+        offsets = memoryview(starts).cast("B")[width * texts.offset : width * (texts.offset + count + 1)]
         size = 0 if data is None else memoryview(data).nbytes
-        return self._encode(_view(c_uint8, data, size), _view(c_int32, offsets, count + 1), count)
+        present = b"" if validity is None else _bits(memoryview(validity), texts.offset, count)
+        return self._encode(_view(c_uint8, data, size), _view(kind, offsets, count + 1), count, present, call)
 
-    def _encode(self, data: tuple[Any, int], starts: tuple[Any, int], count: int) -> array:
+    def _encode(
+        self, data: tuple[Any, int], starts: tuple[Any, int], count: int, present: bytes, call: Any = _library.lasso_intern_batch_nulls,
+    ) -> array:
         codes, report = array("I", bytes(4 * count)), _Report()
-        status = _library.lasso_intern_batch(
-            byref(self._handle), *data, *starts, *_view(c_uint32, codes, count), byref(report))
+        status = call(
+            byref(self._handle), *data, *starts, *_bytes(present), NULL, *_view(c_uint32, codes, count), byref(report))
         _expect_done(status, None if status == _NO_INTERNER else report.texts)
         return codes
 

@@ -4,18 +4,19 @@ import gc
 import struct
 import unittest
 
-from lasso import Interner, InternerClosed, LassoError, LimitReached, NotUtf8, WrongLayout
+from lasso import NULL, Interner, InternerClosed, LassoError, LimitReached, NotUtf8, WrongLayout
 
 
 class Column:
-    """An array of strings as pyarrow has it: two buffers, an offset and a length."""
+    """An array of strings as pyarrow has it: three buffers, an offset and a length."""
 
-    def __init__(self, data, offsets, start=0, null_count=0):
-        self.data, self.starts = data, struct.pack(f"<{len(offsets)}i", *offsets)
-        self.offset, self.length, self.null_count = start, len(offsets) - 1 - start, null_count
+    def __init__(self, data, offsets, start=0, validity=None, large=False):
+        self.data, self.starts, self.validity = data, struct.pack(f"<{len(offsets)}{'q' if large else 'i'}", *offsets), validity
+        self.type = "large_string" if large else "string"
+        self.offset, self.length = start, len(offsets) - 1 - start
 
     def buffers(self):
-        return [None, self.starts, self.data]
+        return [self.validity, self.starts, self.data]
 
     def __len__(self):
         return self.length
@@ -49,8 +50,25 @@ class Interning(unittest.TestCase):
             self.assertEqual(list(interner.encode(Column(b"redbluered", [0, 3, 7, 10]))), [0, 1, 0])
             self.assertEqual(list(interner.encode(Column(b"redbluered", [0, 3, 7, 10], start=1))), [1, 0])
             self.assertEqual(list(interner.encode(Column(None, [0, 0]))), [2])
-            with self.assertRaises(ValueError):
-                interner.encode(Column(b"red", [0, 3], null_count=1))
+
+    def test_takes_the_buffers_of_large_strings(self):
+        with Interner() as interner:
+            self.assertEqual(list(interner.encode(Column(b"redbluered", [0, 3, 7, 10], large=True))), [0, 1, 0])
+            self.assertEqual(list(interner.encode(Column(b"redbluered", [0, 3, 7, 10], start=2, large=True))), [0])
+            self.assertEqual(list(interner.encode(Column(b"redbluered", [0, 3, 7, 10], validity=b"\5", large=True))), [0, NULL, 0])
+            with self.assertRaises(WrongLayout):
+                interner.encode(Column(b"red", [0, 2**32 + 3], large=True))
+
+    def test_gives_nulls_a_code_of_their_own(self):
+        with Interner() as interner:
+            self.assertEqual(list(interner.encode(["a", None, "a", None, "", "b"])), [0, NULL, 0, NULL, 1, 2])
+            self.assertEqual(list(interner.encode([None] * 9 + ["c"])), [NULL] * 9 + [3])
+            # Of nine rows the second and the last are nulls, whose bytes are no text.
+            offsets, data = [0, 1, 2, 3, 4, 5, 6, 7, 8, 9], b"d\xc3ddddde\xc3"
+            self.assertEqual(list(interner.encode(Column(data, offsets, validity=b"\xfd\0"))), [4, NULL, 4, 4, 4, 4, 4, 5, NULL])
+            self.assertEqual(list(interner.encode(Column(data, offsets, start=1, validity=b"\xfd\0"))), [NULL, 4, 4, 4, 4, 4, 5, NULL])
+            self.assertEqual(list(interner.encode(Column(data, offsets, start=8, validity=b"\xfd\0"))), [NULL])
+            self.assertEqual(interner.texts(), ["a", "", "b", "c", "d", "e"])
 
     def test_keeps_the_texts_before_a_refused_one(self):
         with Interner() as interner:

@@ -7,26 +7,31 @@
  * Texts cross as Arrow lays out arrays of strings: one buffer of bytes, UTF-8 and with no end marks, beside a buffer of
  * offsets, counted in bytes from the buffer's first. Text k is what lies from offset k up to offset k + 1, so n texts have
  * n + 1 offsets. The first offset may lie above 0, as in an array that was cut. No offset at all stands for no text. An
- * offset is at least the one before it, at most the number of bytes, and never negative.
+ * offset is at least the one before it, at most the number of bytes, and never negative. Offsets have 32 bits, and 64 where a
+ * call's name ends with _large.
  *
  * For every call:
- * - Each length counts elements, not bytes: bytes of a uint8_t array, numbers of an int32_t or uint32_t array.
+ * - Each length counts elements, not bytes: bytes of a uint8_t array, numbers of an int32_t, int64_t or uint32_t array.
  * - The caller owns all memory. No pointer is kept when a call returns.
  * - A pointer is aligned for its elements. It may be NULL where its length is 0; report is never NULL. (NULL is turned into
  *   another pointer by inline functions of this header. A caller that does without the header, as ctypes, never passes NULL.)
  * - An array has at least as many elements as its length says, and at most 2^63 - 1 bytes.
  * - Nothing that is written overlaps anything else that is passed, *report neither.
  * - A call that refuses, whose status is not LASSO_DONE, writes nothing but *report, and leaves its interner as it was;
- *   lasso_intern_batch alone keeps the texts before the refused one. One that is done writes what is said below to the front
- *   of each output, and leaves the rest of it as it was.
+ *   the calls whose names begin with lasso_intern_batch alone keep the texts before the refused one, and write their codes. One
+ *   that is done writes what is said below to the front of each output, and leaves the rest of it as it was.
  * - Calls may run in several threads at once. What all of them only read they may share, as two that decode from one
  *   dictionary. What a call writes, nothing else reads or writes meanwhile.
  * - No call is made in a signal handler, nor in the forked child of a process with threads.
  *
- * lasso_encode takes memory from malloc and realloc, and gives it back before it returns. lasso_new, lasso_intern and
- * lasso_intern_batch take memory that lasso_free gives back. The others take none. The program's malloc, realloc and free are
- * one allocator, whose blocks are aligned to each power of two up to 16 that divides their
+ * lasso_encode and lasso_encode_nulls take memory from malloc and realloc, and give it back before they return. lasso_new,
+ * lasso_intern and the calls whose names begin with lasso_intern_batch take memory that lasso_free gives back. The others take none.
+ * The program's malloc, realloc and free are one allocator, whose blocks are aligned to each power of two up to 16 that divides their
  * size, as to 8 for 24 bytes.
+ *
+ * A column with nulls has a bitmap too, as Arrow has it: bit i % 8 of byte i / 8, counted from the least, is 1 where row i is
+ * present and 0 where it is a null. The calls with _nulls in their names take or write one. A null has a code that the caller
+ * names, LASSO_NULL mostly, and no text is interned for it.
  *
  * Chosen collisions: texts are hashed with a fixed seed, so whoever chooses the texts can make them collide. Each search then
  * takes time linear in the number of distinct texts, and interning n of them time quadratic in n.
@@ -65,21 +70,24 @@ enum lasso_status {
     LASSO_LIMIT_REACHED = 10,    /* the interner's limit leaves no room for a text */
     LASSO_NO_CODE_LEFT = 11,     /* the interner has 2^32 - 1 texts, one for each code */
     LASSO_NO_INTERNER = 12,      /* the handle holds no interner */
-    LASSO_NO_SUCH_TEXT = 13      /* the interner does not have the text */
+    LASSO_NO_SUCH_TEXT = 13,     /* the interner does not have the text */
+    LASSO_BITMAP_TOO_SHORT = 14  /* a bitmap has no bit for a row */
 };
 
 /*
  * What a call tells beside its status. It writes all three, whatever the status.
  *
  * LASSO_DONE:              texts and bytes are the sizes of the layout that was written, which has texts + 1 offsets; at is 0.
- * LASSO_.._TOO_SHORT:      texts and bytes are the sizes that the written layout needs; at is 0.
+ * LASSO_CODES_TOO_SHORT to
+ * LASSO_BYTES_TOO_SHORT:   texts and bytes are the sizes that the written layout needs; at is 0.
  * LASSO_OFFSETS_FALL to
  * LASSO_TOO_MANY_BYTES:    at is the first text or code at which it was refused, counted from 0, and 0 where the first offset is
  *                          past the bytes; texts and bytes are 0.
+ * LASSO_BITMAP_TOO_SHORT:  at is the first row without a bit, counted from 0; texts and bytes are 0.
  * LASSO_NO_MEMORY,
  * LASSO_NO_INTERNER:       all three are 0.
  *
- * lasso_intern_batch says below what it tells instead.
+ * The calls whose names begin with lasso_intern_batch tell something else, which is said there.
  */
 struct lasso_report {
     size_t texts;
@@ -114,6 +122,29 @@ uint32_t lasso_encode(const uint8_t *bytes, size_t bytes_length,
                       int32_t *dictionary_offsets, size_t dictionary_offsets_length,
                       struct lasso_report *report);
 
+/* No text has this code, neither in an interner nor in a dictionary of lasso_encode. */
+#define LASSO_NULL UINT32_MAX
+
+/*
+ * Encodes a column with nulls: the same as lasso_encode, where a null has the code null, and the dictionary has no text for it.
+ * With LASSO_NULL as null no text has its code; with another number a text may have it too.
+ *
+ * present             the caller's, read: the bitmap. present_length counts bytes, at least one for every eight rows, of which the
+ *                     last may have fewer; with 0 each row is present. Bits past the last row may be any.
+ *
+ * The bytes between the offsets of a null may be any; its offsets are checked as all others.
+ *
+ * Status: LASSO_BITMAP_TOO_SHORT where a row has no bit, else as in lasso_encode. LASSO_NO_MEMORY may come in place of each.
+ */
+uint32_t lasso_encode_nulls(const uint8_t *bytes, size_t bytes_length,
+                            const int32_t *offsets, size_t offsets_length,
+                            const uint8_t *present, size_t present_length,
+                            uint32_t null,
+                            uint32_t *codes, size_t codes_length,
+                            uint8_t *dictionary_bytes, size_t dictionary_bytes_length,
+                            int32_t *dictionary_offsets, size_t dictionary_offsets_length,
+                            struct lasso_report *report);
+
 /*
  * Decodes: writes the layout of the texts that the codes name, in their order. Decoding what lasso_encode wrote
  * gives the texts that it was given.
@@ -141,6 +172,26 @@ uint32_t lasso_decode(const uint8_t *dictionary_bytes, size_t dictionary_bytes_l
                       uint8_t *bytes, size_t bytes_length,
                       int32_t *offsets, size_t offsets_length,
                       struct lasso_report *report);
+
+/*
+ * Decodes a column with nulls: the same as lasso_decode, where the code null gives an empty row, whose bit is 0; each other row has
+ * the bit 1. So it gives back the texts and the nulls that lasso_encode_nulls was given with the same null, if no text had that code
+ * too. The bytes that a null had are gone.
+ *
+ * null                the code of nulls. It is never looked up in the dictionary.
+ * present             the caller's, written: the bitmap. present_length counts bytes, one for every eight codes, of which the last
+ *                     may have fewer; it may be greater. The bits of the last byte past the last row are 0.
+ *
+ * Status: LASSO_BITMAP_TOO_SHORT where a code has no bit, else as in lasso_decode.
+ */
+uint32_t lasso_decode_nulls(const uint8_t *dictionary_bytes, size_t dictionary_bytes_length,
+                            const int32_t *dictionary_offsets, size_t dictionary_offsets_length,
+                            const uint32_t *codes, size_t codes_length,
+                            uint32_t null,
+                            uint8_t *bytes, size_t bytes_length,
+                            int32_t *offsets, size_t offsets_length,
+                            uint8_t *present, size_t present_length,
+                            struct lasso_report *report);
 
 /*
  * A handle: memory of the caller's that holds an interner or none. Begin it as LASSO_NONE, which is all zero. Nothing but the calls
@@ -189,6 +240,23 @@ uint32_t lasso_intern_batch(struct lasso *lasso,
                             const int32_t *offsets, size_t offsets_length,
                             uint32_t *codes, size_t codes_length,
                             struct lasso_report *report);
+
+/*
+ * Interns a column with nulls: the same as lasso_intern_batch, where a null has the code null, and no text is interned for it.
+ * report->texts is how many rows were done, nulls too, and report->at the number of the refused row.
+ *
+ * present             the caller's, read: as in lasso_encode_nulls.
+ *
+ * Status: LASSO_NO_INTERNER; LASSO_CODES_TOO_SHORT; LASSO_BITMAP_TOO_SHORT, and no text is interned; else as in
+ * lasso_intern_batch.
+ */
+uint32_t lasso_intern_batch_nulls(struct lasso *lasso,
+                                  const uint8_t *bytes, size_t bytes_length,
+                                  const int32_t *offsets, size_t offsets_length,
+                                  const uint8_t *present, size_t present_length,
+                                  uint32_t null,
+                                  uint32_t *codes, size_t codes_length,
+                                  struct lasso_report *report);
 
 /*
  * Looks a text up, and appends nothing: *code is its code.
@@ -243,6 +311,37 @@ uint32_t lasso_dictionary(struct lasso *lasso, size_t from,
                           uint8_t *bytes, size_t bytes_length,
                           int32_t *offsets, size_t offsets_length,
                           struct lasso_report *report);
+
+/*
+ * The calls below are those without _large, for arrays of large strings, whose offsets have 64 bits. An offset is at least the one
+ * before it, at most the number of bytes, and never negative. They have the same statuses and reports, and write the same; the
+ * dictionary is refused as LASSO_TOO_MANY_BYTES where the texts have more than 2^63 - 1 bytes.
+ */
+uint32_t lasso_intern_batch_large(struct lasso *lasso,
+                                  const uint8_t *bytes, size_t bytes_length,
+                                  const int64_t *offsets, size_t offsets_length,
+                                  uint32_t *codes, size_t codes_length,
+                                  struct lasso_report *report);
+
+uint32_t lasso_intern_batch_nulls_large(struct lasso *lasso,
+                                        const uint8_t *bytes, size_t bytes_length,
+                                        const int64_t *offsets, size_t offsets_length,
+                                        const uint8_t *present, size_t present_length,
+                                        uint32_t null,
+                                        uint32_t *codes, size_t codes_length,
+                                        struct lasso_report *report);
+
+uint32_t lasso_get_batch_large(struct lasso *lasso,
+                               const uint8_t *bytes, size_t bytes_length,
+                               const int64_t *offsets, size_t offsets_length,
+                               uint32_t absent,
+                               uint32_t *codes, size_t codes_length,
+                               struct lasso_report *report);
+
+uint32_t lasso_dictionary_large(struct lasso *lasso, size_t from,
+                                uint8_t *bytes, size_t bytes_length,
+                                int64_t *offsets, size_t offsets_length,
+                                struct lasso_report *report);
 
 /* How many texts the interner has. 0 without an interner. */
 size_t lasso_len(struct lasso *lasso);
@@ -310,6 +409,25 @@ static inline uint32_t lasso_encode_inline(const uint8_t *bytes, size_t bytes_le
 }
 #define lasso_encode lasso_encode_inline
 
+static inline uint32_t lasso_encode_nulls_inline(const uint8_t *bytes, size_t bytes_length,
+                                                 const int32_t *offsets, size_t offsets_length,
+                                                 const uint8_t *present, size_t present_length,
+                                                 uint32_t null,
+                                                 uint32_t *codes, size_t codes_length,
+                                                 uint8_t *dictionary_bytes, size_t dictionary_bytes_length,
+                                                 int32_t *dictionary_offsets, size_t dictionary_offsets_length,
+                                                 struct lasso_report *report)
+{
+    return lasso_encode_nulls((const uint8_t *)lasso_read_from(bytes, bytes_length), bytes_length,
+                              (const int32_t *)lasso_read_from(offsets, offsets_length), offsets_length,
+                              (const uint8_t *)lasso_read_from(present, present_length), present_length, null,
+                              (uint32_t *)lasso_write_to(codes, codes_length), codes_length,
+                              (uint8_t *)lasso_write_to(dictionary_bytes, dictionary_bytes_length), dictionary_bytes_length,
+                              (int32_t *)lasso_write_to(dictionary_offsets, dictionary_offsets_length), dictionary_offsets_length,
+                              report);
+}
+#define lasso_encode_nulls lasso_encode_nulls_inline
+
 static inline uint32_t lasso_decode_inline(const uint8_t *dictionary_bytes, size_t dictionary_bytes_length,
                                            const int32_t *dictionary_offsets, size_t dictionary_offsets_length,
                                            const uint32_t *codes, size_t codes_length,
@@ -325,6 +443,25 @@ static inline uint32_t lasso_decode_inline(const uint8_t *dictionary_bytes, size
                         report);
 }
 #define lasso_decode lasso_decode_inline
+
+static inline uint32_t lasso_decode_nulls_inline(const uint8_t *dictionary_bytes, size_t dictionary_bytes_length,
+                                                 const int32_t *dictionary_offsets, size_t dictionary_offsets_length,
+                                                 const uint32_t *codes, size_t codes_length,
+                                                 uint32_t null,
+                                                 uint8_t *bytes, size_t bytes_length,
+                                                 int32_t *offsets, size_t offsets_length,
+                                                 uint8_t *present, size_t present_length,
+                                                 struct lasso_report *report)
+{
+    return lasso_decode_nulls((const uint8_t *)lasso_read_from(dictionary_bytes, dictionary_bytes_length), dictionary_bytes_length,
+                              (const int32_t *)lasso_read_from(dictionary_offsets, dictionary_offsets_length), dictionary_offsets_length,
+                              (const uint32_t *)lasso_read_from(codes, codes_length), codes_length, null,
+                              (uint8_t *)lasso_write_to(bytes, bytes_length), bytes_length,
+                              (int32_t *)lasso_write_to(offsets, offsets_length), offsets_length,
+                              (uint8_t *)lasso_write_to(present, present_length), present_length,
+                              report);
+}
+#define lasso_decode_nulls lasso_decode_nulls_inline
 
 static inline size_t lasso_status_text_inline(uint32_t status, uint8_t *text, size_t text_length)
 {
@@ -349,6 +486,21 @@ static inline uint32_t lasso_intern_batch_inline(struct lasso *lasso,
                               (uint32_t *)lasso_write_to(codes, codes_length), codes_length, report);
 }
 #define lasso_intern_batch lasso_intern_batch_inline
+
+static inline uint32_t lasso_intern_batch_nulls_inline(struct lasso *lasso,
+                                                       const uint8_t *bytes, size_t bytes_length,
+                                                       const int32_t *offsets, size_t offsets_length,
+                                                       const uint8_t *present, size_t present_length,
+                                                       uint32_t null,
+                                                       uint32_t *codes, size_t codes_length,
+                                                       struct lasso_report *report)
+{
+    return lasso_intern_batch_nulls(lasso, (const uint8_t *)lasso_read_from(bytes, bytes_length), bytes_length,
+                                    (const int32_t *)lasso_read_from(offsets, offsets_length), offsets_length,
+                                    (const uint8_t *)lasso_read_from(present, present_length), present_length, null,
+                                    (uint32_t *)lasso_write_to(codes, codes_length), codes_length, report);
+}
+#define lasso_intern_batch_nulls lasso_intern_batch_nulls_inline
 
 static inline uint32_t lasso_get_inline(struct lasso *lasso, const uint8_t *text, size_t text_length, uint32_t *code)
 {
@@ -384,6 +536,67 @@ static inline uint32_t lasso_dictionary_inline(struct lasso *lasso, size_t from,
                             (int32_t *)lasso_write_to(offsets, offsets_length), offsets_length, report);
 }
 #define lasso_dictionary lasso_dictionary_inline
+
+static inline uint32_t lasso_intern_batch_large_inline(struct lasso *lasso,
+                                                       const uint8_t *bytes, size_t bytes_length,
+                                                       const int64_t *offsets, size_t offsets_length,
+                                                       uint32_t *codes, size_t codes_length,
+                                                       struct lasso_report *report)
+{
+    return lasso_intern_batch_large(lasso,
+                                    (const uint8_t *)lasso_read_from(bytes, bytes_length), bytes_length,
+                                    (const int64_t *)lasso_read_from(offsets, offsets_length), offsets_length,
+                                    (uint32_t *)lasso_write_to(codes, codes_length), codes_length,
+                                    report);
+}
+#define lasso_intern_batch_large lasso_intern_batch_large_inline
+
+static inline uint32_t lasso_intern_batch_nulls_large_inline(struct lasso *lasso,
+                                                             const uint8_t *bytes, size_t bytes_length,
+                                                             const int64_t *offsets, size_t offsets_length,
+                                                             const uint8_t *present, size_t present_length,
+                                                             uint32_t null,
+                                                             uint32_t *codes, size_t codes_length,
+                                                             struct lasso_report *report)
+{
+    return lasso_intern_batch_nulls_large(lasso,
+                                          (const uint8_t *)lasso_read_from(bytes, bytes_length), bytes_length,
+                                          (const int64_t *)lasso_read_from(offsets, offsets_length), offsets_length,
+                                          (const uint8_t *)lasso_read_from(present, present_length), present_length,
+                                          null,
+                                          (uint32_t *)lasso_write_to(codes, codes_length), codes_length,
+                                          report);
+}
+#define lasso_intern_batch_nulls_large lasso_intern_batch_nulls_large_inline
+
+static inline uint32_t lasso_get_batch_large_inline(struct lasso *lasso,
+                                                    const uint8_t *bytes, size_t bytes_length,
+                                                    const int64_t *offsets, size_t offsets_length,
+                                                    uint32_t absent,
+                                                    uint32_t *codes, size_t codes_length,
+                                                    struct lasso_report *report)
+{
+    return lasso_get_batch_large(lasso,
+                                 (const uint8_t *)lasso_read_from(bytes, bytes_length), bytes_length,
+                                 (const int64_t *)lasso_read_from(offsets, offsets_length), offsets_length,
+                                 absent,
+                                 (uint32_t *)lasso_write_to(codes, codes_length), codes_length,
+                                 report);
+}
+#define lasso_get_batch_large lasso_get_batch_large_inline
+
+static inline uint32_t lasso_dictionary_large_inline(struct lasso *lasso, size_t from,
+                                                     uint8_t *bytes, size_t bytes_length,
+                                                     int64_t *offsets, size_t offsets_length,
+                                                     struct lasso_report *report)
+{
+    return lasso_dictionary_large(lasso,
+                                  from,
+                                  (uint8_t *)lasso_write_to(bytes, bytes_length), bytes_length,
+                                  (int64_t *)lasso_write_to(offsets, offsets_length), offsets_length,
+                                  report);
+}
+#define lasso_dictionary_large lasso_dictionary_large_inline
 
 #ifdef __cplusplus
 }

@@ -2,75 +2,23 @@
 --
 -- The faults are asked for from the first offset on, and the texts are cut off in the same order. So what is known of a
 -- text behind the first ones is found by stepping over these.
-use Rattle.std.proofs.Common.{ℕ, zero, suc, ◌≡◌, ◌+◌, ◌<◌, ◌≤◌, true, false, List, [], ◌∷◌, length, get_or, slice_get, Option, Some, None, refl, ap, ◌∙◌, ◌-◌, add-one, arith}
+use Rattle.std.proofs.Common.{ℕ, zero, suc, ◌≡◌, ◌+◌, ◌<◌, ◌≤◌, true, false, List, [], ◌∷◌, length, drop, get_or, slice_get, Option, Some, None, refl, ap, ◌∙◌, ◌-◌, add-one, arith}
 use Rattle.std.specs.List.{slice_range}
 use Rattle.std.specs.Option.{option_or}
 use Rattle.std.specs.Str.{IsUtf8, is_utf8}
 use Rattle.std.proofs.lemmas.Str.{IsUtf8-from_is_utf8, is_utf8-from_IsUtf8}
 use Rattle.std.proofs.lemmas.Bool.{false_from_ne_true}
 use Rattle.std.proofs.lemmas.Bool.Decides.{nat_tests}
+use Rattle.std.proofs.lemmas.List.{drop_all, drop_more}
 use Rattle.std.proofs.lemmas.Option.{slice_get_past}
 use Rattle.lasso_parts.specs.Texts.{Text}
 use Rattle.lasso_c.specs.Layout.{reach, texts_from, layout_texts, start_fault, text_fault, texts_fault, layout_fault}
 use Rattle.lasso_c.specs.declared.refusal.Refusal.{Refusal}
 use Rattle.lasso_c.specs.declared.refusal.Refusal.TheVariants.{NotUtf8}
 
--- nothing is wrong with a text between two rising offsets that reach no further than the bytes
-pub good_text : (bytes : List ℕ) (at from to : ℕ) → from ≤ to → to ≤ reach bytes → IsUtf8 (slice_range bytes from to) → text_fault bytes at from to ≡ None
-good_text bytes at from to rises within utf8 = let is = is_utf8-from_IsUtf8 (slice_range bytes from to) utf8 in grind (arith, nat_tests)
-
-pub not_text : (bytes : List ℕ) (at from to : ℕ) → from ≤ to → to ≤ reach bytes → ¬ (IsUtf8 (slice_range bytes from to)) → text_fault bytes at from to ≡ Some (NotUtf8 at)
-not_text bytes at from to rises within not_utf8 = let is_not : is_utf8 (slice_range bytes from to) ≡ false = false_from_ne_true _ (λ e. not_utf8 (IsUtf8-from_is_utf8 (slice_range bytes from to) e)) in grind (arith, nat_tests)
-
--- the offsets round a text with which nothing is wrong, and that it is a text
-pub text_known : (bytes : List ℕ) (at from to : ℕ) → text_fault bytes at from to ≡ None → (from ≤ to) × (to ≤ reach bytes) × IsUtf8 (slice_range bytes from to)
-text_known bytes at from to good =
-    let is : is_utf8 (slice_range bytes from to) ≡ true = grind (arith, nat_tests) in
-    (grind (arith, nat_tests), grind (arith, nat_tests), IsUtf8-from_is_utf8 (slice_range bytes from to) is)
-
 pub or_none : (one other : Option Refusal) → option_or one other ≡ None → (one ≡ None) × (other ≡ None)
 or_none None other e = (refl, e)
 or_none (Some refusal) other e = let no : Some refusal ≡ None = e in absurd cc
-
--- where a text lies, and that it is there
-pub record LiesBetween (bytes : List ℕ) (from to : ℕ) (text : Option Text) : Type 0 where
-  pub rises : from ≤ to
-  pub within : to ≤ reach bytes
-  pub is : text ≡ Some (slice_range bytes from to)
-
-lies_from : (bytes : List ℕ) (at from : ℕ) (offsets : List ℕ) (k : ℕ) → texts_fault bytes at from offsets ≡ None → k < length offsets → LiesBetween bytes (get_or (from ∷ offsets) k 0) (get_or offsets k 0) (slice_get (texts_from bytes from offsets) k)
-lies_from bytes at from [] k good small = absurd (omega arith)
-lies_from bytes at from (to ∷ offsets) zero good small =
-    let both = or_none (text_fault bytes at from to) (texts_fault bytes (at + 1) to offsets) good in
-    let known = text_known bytes at from to both.0 in
-    record { rises = known.0; within = known.1; is = refl }
-lies_from bytes at from (to ∷ offsets) (suc k) good small =
-    let both = or_none (text_fault bytes at from to) (texts_fault bytes (at + 1) to offsets) good in
-    lies_from bytes (at + 1) to offsets k both.1 (omega arith)
-
--- a text of a good layout lies between its two offsets
-pub lies : (bytes offsets : List ℕ) (k : ℕ) → layout_fault bytes offsets ≡ None → k + 1 < length offsets → LiesBetween bytes (get_or offsets k 0) (get_or offsets (k + 1) 0) (slice_get (layout_texts bytes offsets) k)
-lies bytes [] k good small = absurd (omega arith)
-lies bytes (from ∷ offsets) k good small =
-    let both = or_none (start_fault bytes from) (texts_fault bytes 0 from offsets) good in
-    rw add-one (lies_from bytes 0 from offsets k both.1 (omega arith))
-
-good_from : (bytes : List ℕ) (first from : ℕ) (offsets : List ℕ) (k at : ℕ) → at ≡ first + k → texts_fault bytes first from offsets ≡ None → k < length offsets → text_fault bytes at (get_or (from ∷ offsets) k 0) (get_or offsets k 0) ≡ None
-good_from bytes first from [] k at same good small = absurd (omega arith)
-good_from bytes first from (to ∷ offsets) zero at same good small =
-    let both = or_none (text_fault bytes first from to) (texts_fault bytes (first + 1) to offsets) good in
-    let here : at ≡ first = omega arith in
-    ap (λ n. text_fault bytes n from to) here ∙ both.0
-good_from bytes first from (to ∷ offsets) (suc k) at same good small =
-    let both = or_none (text_fault bytes first from to) (texts_fault bytes (first + 1) to offsets) good in
-    good_from bytes (first + 1) to offsets k at (omega arith) both.1 (omega arith)
-
--- nothing is wrong with a text of a good layout
-pub good_at : (bytes offsets : List ℕ) (at : ℕ) → layout_fault bytes offsets ≡ None → at + 1 < length offsets → text_fault bytes at (get_or offsets at 0) (get_or offsets (at + 1) 0) ≡ None
-good_at bytes [] at good small = absurd (omega arith)
-good_at bytes (from ∷ offsets) at good small =
-    let both = or_none (start_fault bytes from) (texts_fault bytes 0 from offsets) good in
-    rw add-one (good_from bytes 0 from offsets at at (omega arith) both.1 (omega arith))
 
 length-texts_from : (bytes : List ℕ) (from : ℕ) (offsets : List ℕ) → length (texts_from bytes from offsets) ≡ length offsets
 length-texts_from bytes from [] = refl
@@ -85,18 +33,94 @@ length-layout_texts bytes (from ∷ offsets) = omega (arith, length-texts_from b
 pub lacks : (bytes offsets : List ℕ) (k : ℕ) → length offsets ≤ k + 1 → slice_get (layout_texts bytes offsets) k ≡ None
 lacks bytes offsets k far = slice_get_past (layout_texts bytes offsets) k (omega (arith, length-layout_texts bytes offsets))
 
--- one text further from an offset on
-pub fault_step : (bytes : List ℕ) (at from to : ℕ) (offsets : List ℕ) → text_fault bytes at from to ≡ None → texts_fault bytes at from (to ∷ offsets) ≡ texts_fault bytes (at + 1) to offsets
-fault_step bytes at from to offsets good = ap (λ o. option_or o (texts_fault bytes (at + 1) to offsets)) good
+module _ (greatest : ℕ) where
+  -- nothing is wrong with a text between two rising offsets that reach no further than the bytes
+  pub good_text : (bytes : List ℕ) (at from to : ℕ) → from ≤ to → to ≤ reach greatest bytes → IsUtf8 (slice_range bytes from to) → text_fault greatest bytes at from to ≡ None
+  good_text bytes at from to rises within utf8 = let is = is_utf8-from_IsUtf8 (slice_range bytes from to) utf8 in grind (arith, nat_tests)
 
--- the first text is the wrong one
-pub fault_here : (bytes : List ℕ) (at from to : ℕ) (offsets : List ℕ) (refusal : Refusal) → text_fault bytes at from to ≡ Some refusal → texts_fault bytes at from (to ∷ offsets) ≡ Some refusal
-fault_here bytes at from to offsets refusal wrong = ap (λ o. option_or o (texts_fault bytes (at + 1) to offsets)) wrong
+  pub not_text : (bytes : List ℕ) (at from to : ℕ) → from ≤ to → to ≤ reach greatest bytes → ¬ (IsUtf8 (slice_range bytes from to)) → text_fault greatest bytes at from to ≡ Some (NotUtf8 at)
+  not_text bytes at from to rises within not_utf8 = let is_not : is_utf8 (slice_range bytes from to) ≡ false = false_from_ne_true _ (λ e. not_utf8 (IsUtf8-from_is_utf8 (slice_range bytes from to) e)) in grind (arith, nat_tests)
 
--- nothing is wrong with the first offset
-pub start_step : (bytes : List ℕ) (from : ℕ) (offsets : List ℕ) → start_fault bytes from ≡ None → layout_fault bytes (from ∷ offsets) ≡ texts_fault bytes 0 from offsets
-start_step bytes from offsets good = ap (λ o. option_or o (texts_fault bytes 0 from offsets)) good
+  -- the offsets round a text with which nothing is wrong, and that it is a text
+  pub text_known : (bytes : List ℕ) (at from to : ℕ) → text_fault greatest bytes at from to ≡ None → (from ≤ to) × (to ≤ reach greatest bytes) × IsUtf8 (slice_range bytes from to)
+  text_known bytes at from to good =
+      let is : is_utf8 (slice_range bytes from to) ≡ true = grind (arith, nat_tests) in
+      (grind (arith, nat_tests), grind (arith, nat_tests), IsUtf8-from_is_utf8 (slice_range bytes from to) is)
 
--- the first offset is wrong
-pub start_here : (bytes : List ℕ) (from : ℕ) (offsets : List ℕ) (refusal : Refusal) → start_fault bytes from ≡ Some refusal → layout_fault bytes (from ∷ offsets) ≡ Some refusal
-start_here bytes from offsets refusal wrong = ap (λ o. option_or o (texts_fault bytes 0 from offsets)) wrong
+  -- where a text lies, and that it is there
+  pub record LiesBetween (bytes : List ℕ) (from to : ℕ) (text : Option Text) : Type 0 where
+    pub rises : from ≤ to
+    pub within : to ≤ reach greatest bytes
+    pub is : text ≡ Some (slice_range bytes from to)
+
+  lies_from : (bytes : List ℕ) (at from : ℕ) (offsets : List ℕ) (k : ℕ) → texts_fault greatest bytes at from offsets ≡ None → k < length offsets → LiesBetween bytes (get_or (from ∷ offsets) k 0) (get_or offsets k 0) (slice_get (texts_from bytes from offsets) k)
+  lies_from bytes at from [] k good small = absurd (omega arith)
+  lies_from bytes at from (to ∷ offsets) zero good small =
+      let both = or_none (text_fault greatest bytes at from to) (texts_fault greatest bytes (at + 1) to offsets) good in
+      let known = text_known bytes at from to both.0 in
+      record { rises = known.0; within = known.1; is = refl }
+  lies_from bytes at from (to ∷ offsets) (suc k) good small =
+      let both = or_none (text_fault greatest bytes at from to) (texts_fault greatest bytes (at + 1) to offsets) good in
+      lies_from bytes (at + 1) to offsets k both.1 (omega arith)
+
+  -- a text of a good layout lies between its two offsets
+  pub lies : (bytes offsets : List ℕ) (k : ℕ) → layout_fault greatest bytes offsets ≡ None → k + 1 < length offsets → LiesBetween bytes (get_or offsets k 0) (get_or offsets (k + 1) 0) (slice_get (layout_texts bytes offsets) k)
+  lies bytes [] k good small = absurd (omega arith)
+  lies bytes (from ∷ offsets) k good small =
+      let both = or_none (start_fault greatest bytes from) (texts_fault greatest bytes 0 from offsets) good in
+      rw add-one (lies_from bytes 0 from offsets k both.1 (omega arith))
+
+  good_from : (bytes : List ℕ) (first from : ℕ) (offsets : List ℕ) (k at : ℕ) → at ≡ first + k → texts_fault greatest bytes first from offsets ≡ None → k < length offsets → text_fault greatest bytes at (get_or (from ∷ offsets) k 0) (get_or offsets k 0) ≡ None
+  good_from bytes first from [] k at same good small = absurd (omega arith)
+  good_from bytes first from (to ∷ offsets) zero at same good small =
+      let both = or_none (text_fault greatest bytes first from to) (texts_fault greatest bytes (first + 1) to offsets) good in
+      let here : at ≡ first = omega arith in
+      ap (λ n. text_fault greatest bytes n from to) here ∙ both.0
+  good_from bytes first from (to ∷ offsets) (suc k) at same good small =
+      let both = or_none (text_fault greatest bytes first from to) (texts_fault greatest bytes (first + 1) to offsets) good in
+      good_from bytes (first + 1) to offsets k at (omega arith) both.1 (omega arith)
+
+  -- nothing is wrong with a text of a good layout
+  pub good_at : (bytes offsets : List ℕ) (at : ℕ) → layout_fault greatest bytes offsets ≡ None → at + 1 < length offsets → text_fault greatest bytes at (get_or offsets at 0) (get_or offsets (at + 1) 0) ≡ None
+  good_at bytes [] at good small = absurd (omega arith)
+  good_at bytes (from ∷ offsets) at good small =
+      let both = or_none (start_fault greatest bytes from) (texts_fault greatest bytes 0 from offsets) good in
+      rw add-one (good_from bytes 0 from offsets at at (omega arith) both.1 (omega arith))
+
+  -- one text further from an offset on
+  pub fault_step : (bytes : List ℕ) (at from to : ℕ) (offsets : List ℕ) → text_fault greatest bytes at from to ≡ None → texts_fault greatest bytes at from (to ∷ offsets) ≡ texts_fault greatest bytes (at + 1) to offsets
+  fault_step bytes at from to offsets good = ap (λ o. option_or o (texts_fault greatest bytes (at + 1) to offsets)) good
+
+  -- the first text is the wrong one
+  pub fault_here : (bytes : List ℕ) (at from to : ℕ) (offsets : List ℕ) (refusal : Refusal) → text_fault greatest bytes at from to ≡ Some refusal → texts_fault greatest bytes at from (to ∷ offsets) ≡ Some refusal
+  fault_here bytes at from to offsets refusal wrong = ap (λ o. option_or o (texts_fault greatest bytes (at + 1) to offsets)) wrong
+
+  -- nothing is wrong with the first offset
+  pub start_step : (bytes : List ℕ) (from : ℕ) (offsets : List ℕ) → start_fault greatest bytes from ≡ None → layout_fault greatest bytes (from ∷ offsets) ≡ texts_fault greatest bytes 0 from offsets
+  start_step bytes from offsets good = ap (λ o. option_or o (texts_fault greatest bytes 0 from offsets)) good
+
+  -- the first offset is wrong
+  pub start_here : (bytes : List ℕ) (from : ℕ) (offsets : List ℕ) (refusal : Refusal) → start_fault greatest bytes from ≡ Some refusal → layout_fault greatest bytes (from ∷ offsets) ≡ Some refusal
+  start_here bytes from offsets refusal wrong = ap (λ o. option_or o (texts_fault greatest bytes 0 from offsets)) wrong
+
+  -- a layout is asked from its first offset on, one text after another
+  pub fault_begins : (bytes offsets : List ℕ) → 0 < length offsets → start_fault greatest bytes (get_or offsets 0 0) ≡ None → layout_fault greatest bytes offsets ≡ texts_fault greatest bytes 0 (get_or offsets 0 0) (drop 1 offsets)
+  fault_begins bytes [] there good = absurd (omega arith)
+  fault_begins bytes (from ∷ offsets) there good = start_step bytes from offsets good
+
+  pub fault_at_start : (bytes offsets : List ℕ) (refusal : Refusal) → 0 < length offsets → start_fault greatest bytes (get_or offsets 0 0) ≡ Some refusal → layout_fault greatest bytes offsets ≡ Some refusal
+  fault_at_start bytes [] refusal there wrong = absurd (omega arith)
+  fault_at_start bytes (from ∷ offsets) refusal there wrong = start_here bytes from offsets refusal wrong
+
+  module _ (bytes offsets : List ℕ) (at from : ℕ) (small : at + 1 < length offsets) (before : layout_fault greatest bytes offsets ≡ texts_fault greatest bytes at from (drop (at + 1) offsets)) where
+    next : layout_fault greatest bytes offsets ≡ texts_fault greatest bytes at from (get_or offsets (at + 1) 0 ∷ drop ((at + 1) + 1) offsets)
+    next = before ∙ ap (λ (os : List ℕ). texts_fault greatest bytes at from os) (drop_more offsets (at + 1) 0 small)
+
+    pub fault_goes_on : text_fault greatest bytes at from (get_or offsets (at + 1) 0) ≡ None → layout_fault greatest bytes offsets ≡ texts_fault greatest bytes (at + 1) (get_or offsets (at + 1) 0) (drop ((at + 1) + 1) offsets)
+    fault_goes_on good = next ∙ fault_step bytes at from (get_or offsets (at + 1) 0) (drop ((at + 1) + 1) offsets) good
+
+    pub fault_is_here : (refusal : Refusal) → text_fault greatest bytes at from (get_or offsets (at + 1) 0) ≡ Some refusal → layout_fault greatest bytes offsets ≡ Some refusal
+    fault_is_here refusal wrong = next ∙ fault_here bytes at from (get_or offsets (at + 1) 0) (drop ((at + 1) + 1) offsets) refusal wrong
+
+  pub fault_none : (bytes offsets : List ℕ) (at from : ℕ) → length offsets ≤ at + 1 → layout_fault greatest bytes offsets ≡ texts_fault greatest bytes at from (drop (at + 1) offsets) → layout_fault greatest bytes offsets ≡ None
+  fault_none bytes offsets at from past before = before ∙ ap (λ (os : List ℕ). texts_fault greatest bytes at from os) (drop_all (at + 1) offsets past)

@@ -1,9 +1,13 @@
 pub mod Layouts
+pub mod Bits
 pub mod Writing
 pub mod Interning
 pub mod Measuring
 pub mod RoundTrip
+pub mod Rows
 pub mod BatchSteps
 pub mod LayoutSteps
+pub mod Columns
 pub mod SlotValues
 pub mod Loading
+pub mod NullsBack

@@ -1,7 +1,7 @@
 -- Texts that are saved and loaded have the same codes again.
 --
 -- A text of a distinct list is none of those before it. So each text that is interned is appended.
-use Rattle.std.proofs.Common.{ℕ, ◌≡◌, List, [], ◌∷◌, ◌++◌, length, slice_get, is_some, if◌then◌else◌, Some, None, refl, sym, ap, subst, ◌∙◌, append_assoc, append-nil}
+use Rattle.std.proofs.Common.{◌≡◌, List, [], ◌∷◌, ◌++◌, length, slice_get, is_some, if◌then◌else◌, Some, None, refl, sym, ap, subst, ◌∙◌, append_assoc, append-nil}
 use Rattle.std.proofs.Math.Seq.{take-append_seam}
 use Rattle.lasso_parts.specs.Texts.{Text, IsDistinct, position_of}
 use Rattle.lasso_parts.proofs.IndexLaws.{absent_before, position_of_at}

@@ -4,13 +4,13 @@
 -- those of all these texts.
 use Rattle.std.proofs.Common.{ℕ, zero, suc, ◌≡◌, ◌+◌, ◌<◌, ◌≤◌, List, [], ◌∷◌, length, get_or, IsOkAnd, slice_get, drop, Option, Some, None, Result, Ok, Err, refl, ap, ◌∙◌, lit≤, arith, length-append}
 use Rattle.std.specs.List.{concat}
-use Rattle.std.specs.Option.{option_map}
+use Rattle.std.specs.Option.{option_map, unwrap_or}
 use Rattle.std.proofs.lemmas.Bool.Decides.{nat_tests}
 use Rattle.std.proofs.lemmas.List.{drop_more, length-map}
-use Rattle.std.proofs.lemmas.Option.{get_or_from_slice_get, slice_get-get_or, slice_get-map}
+use Rattle.std.proofs.lemmas.Option.{slice_get-get_or, slice_get-map}
 use Rattle.lasso_parts.specs.Texts.{Text}
 use Rattle.lasso_c.specs.Layout.{greatest_offset}
-use Rattle.lasso_c.specs.Decoding.{nothing, texts_named, with_next, unless_refused, measured}
+use Rattle.lasso_c.specs.Decoding.{nothing, rows_named, text_of_code, with_next, unless_refused, measured}
 use Rattle.lasso_c.specs.declared.refusal.Sizes.{Sizes}
 use Rattle.lasso_c.specs.declared.refusal.Refusal.{Refusal}
 use Rattle.lasso_c.specs.declared.refusal.Refusal.TheVariants.{NoSuchCode}
@@ -31,65 +31,66 @@ both_known (Ok mid) next last is = (mid, refl, is)
 both_known {X} {Y} {E} (Err error) next last is = let no : ◌≡◌ {A = Result Y E} (Err error) (Ok last) = is in absurd cc
 
 -- each code names a text, and the sizes are those of all of them behind those before
-pub record Measured (dictionary : List Text) (sizes : Sizes) (codes : List ℕ) (whole : Sizes) : Type 0 where
-  pub named : (k : ℕ) → k < length codes → (text : Text) × (slice_get dictionary (get_or codes k 0) ≡ Some text)
+pub record Measured (null : Option ℕ) (dictionary : List Text) (sizes : Sizes) (codes : List ℕ) (whole : Sizes) : Type 0 where
+  pub named : (k : ℕ) → k < length codes → (text : Text) × (text_of_code null dictionary (get_or codes k 0) ≡ Some text)
   pub texts : whole.texts ≡ sizes.texts + length codes
-  pub bytes : whole.bytes ≡ sizes.bytes + length (concat (texts_named dictionary codes))
+  pub bytes : whole.bytes ≡ sizes.bytes + length (concat (rows_named null dictionary codes))
   pub small : sizes.bytes ≤ greatest_offset → whole.bytes ≤ greatest_offset
 
-named_first : (dictionary : List Text) (code : ℕ) (codes : List ℕ) (text : Text) → slice_get dictionary code ≡ Some text → ((k : ℕ) → k < length codes → (text : Text) × (slice_get dictionary (get_or codes k 0) ≡ Some text)) → (k : ℕ) → k < length (code ∷ codes) → (text : Text) × (slice_get dictionary (get_or (code ∷ codes) k 0) ≡ Some text)
-named_first dictionary code codes text is others zero small = (text, is)
-named_first dictionary code codes text is others (suc k) small = others k (omega arith)
+named_first : (null : Option ℕ) (dictionary : List Text) (code : ℕ) (codes : List ℕ) (text : Text) → text_of_code null dictionary code ≡ Some text → ((k : ℕ) → k < length codes → (text : Text) × (text_of_code null dictionary (get_or codes k 0) ≡ Some text)) → (k : ℕ) → k < length (code ∷ codes) → (text : Text) × (text_of_code null dictionary (get_or (code ∷ codes) k 0) ≡ Some text)
+named_first null dictionary code codes text is others zero small = (text, is)
+named_first null dictionary code codes text is others (suc k) small = others k (omega arith)
 
-pub measured_known : (dictionary : List Text) (sizes : Sizes) (codes : List ℕ) (whole : Sizes) → measured dictionary sizes codes ≡ Ok whole → Measured dictionary sizes codes whole
-measured_known dictionary sizes [] whole is =
+pub measured_known : (null : Option ℕ) (dictionary : List Text) (sizes : Sizes) (codes : List ℕ) (whole : Sizes) → measured null dictionary sizes codes ≡ Ok whole → Measured null dictionary sizes codes whole
+measured_known null dictionary sizes [] whole is =
     let same : sizes ≡ whole = cc in
     record { named = λ k small. absurd (omega arith); texts = omega (arith, ap (λ (s : Sizes). s.texts) same); bytes = omega (arith, ap (λ (s : Sizes). s.bytes) same); small = λ small. omega (arith, ap (λ (s : Sizes). s.bytes) same) }
-measured_known dictionary sizes (code ∷ codes) whole is =
-    let both = both_known (with_next sizes (slice_get dictionary code)) (λ more. measured dictionary more codes) whole is in
+measured_known null dictionary sizes (code ∷ codes) whole is =
+    let found = text_of_code null dictionary code in
+    let both = both_known (with_next sizes found) (λ more. measured null dictionary more codes) whole is in
     let mid = both.0 in
-    let next = next_known sizes mid (slice_get dictionary code) both.1 in
+    let next = next_known sizes mid found both.1 in
     let text = next.0 in
-    let rest = measured_known dictionary mid codes whole both.2 in
-    let here : get_or dictionary code [] ≡ text = get_or_from_slice_get dictionary code text [] next.1.is in
-    let one : length (get_or dictionary code []) ≡ length text = ap length here in
+    let rest = measured_known null dictionary mid codes whole both.2 in
+    let one : length (unwrap_or found []) ≡ length text = ap (λ o. length (unwrap_or o [])) next.1.is in
     record {
-      named = named_first dictionary code codes text next.1.is rest.named;
+      named = named_first null dictionary code codes text next.1.is rest.named;
       texts = omega (arith, rest.texts, next.1.texts);
-      bytes = omega (arith, rest.bytes, next.1.bytes, length-append (get_or dictionary code []) (concat (texts_named dictionary codes)));
+      bytes = omega (arith, rest.bytes, next.1.bytes, one, length-append (unwrap_or found []) (concat (rows_named null dictionary codes)));
       small = λ small. rest.small next.1.small;
     }
 
-module _ (dictionary : List Text) (sizes : Sizes) (codes : List ℕ) (at : ℕ) where
+module _ (null : Option ℕ) (dictionary : List Text) (sizes : Sizes) (codes : List ℕ) (at : ℕ) where
   -- the next code's text is there and fits
-  pub measured_more : (more : Sizes) → at < length codes → with_next sizes (slice_get dictionary (get_or codes at 0)) ≡ Ok more → measured dictionary sizes (drop at codes) ≡ measured dictionary more (drop (at + 1) codes)
-  measured_more more small is = ap (λ cs. measured dictionary sizes cs) (drop_more codes at 0 small) ∙ ap (λ r. unless_refused r (λ m. measured dictionary m (drop (at + 1) codes))) is
+  pub measured_more : (more : Sizes) → at < length codes → with_next sizes (text_of_code null dictionary (get_or codes at 0)) ≡ Ok more → measured null dictionary sizes (drop at codes) ≡ measured null dictionary more (drop (at + 1) codes)
+  measured_more more small is = ap (λ cs. measured null dictionary sizes cs) (drop_more codes at 0 small) ∙ ap (λ r. unless_refused r (λ m. measured null dictionary m (drop (at + 1) codes))) is
 
   -- the next code is the first wrong one
-  pub measured_stops : (refusal : Refusal) → at < length codes → with_next sizes (slice_get dictionary (get_or codes at 0)) ≡ Err refusal → measured dictionary sizes (drop at codes) ≡ Err refusal
-  measured_stops refusal small is = ap (λ cs. measured dictionary sizes cs) (drop_more codes at 0 small) ∙ ap (λ r. unless_refused r (λ m. measured dictionary m (drop (at + 1) codes))) is
+  pub measured_stops : (refusal : Refusal) → at < length codes → with_next sizes (text_of_code null dictionary (get_or codes at 0)) ≡ Err refusal → measured null dictionary sizes (drop at codes) ≡ Err refusal
+  measured_stops refusal small is = ap (λ cs. measured null dictionary sizes cs) (drop_more codes at 0 small) ∙ ap (λ r. unless_refused r (λ m. measured null dictionary m (drop (at + 1) codes))) is
 
 -- the text that a code names is that of its position
-pub named_at : (dictionary : List Text) (codes : List ℕ) (at : ℕ) (text : Text) → at < length codes → slice_get dictionary (get_or codes at 0) ≡ Some text → slice_get (texts_named dictionary codes) at ≡ Some text
-named_at dictionary codes at text small is =
-    slice_get-map (λ code. get_or dictionary code []) codes at ∙ ap (λ o. option_map (λ code. get_or dictionary code []) o) (slice_get-get_or codes at 0 small) ∙ ap (λ (t : Text). Some t) (get_or_from_slice_get dictionary (get_or codes at 0) text [] is)
+pub named_at : (null : Option ℕ) (dictionary : List Text) (codes : List ℕ) (at : ℕ) (text : Text) → at < length codes → text_of_code null dictionary (get_or codes at 0) ≡ Some text → slice_get (rows_named null dictionary codes) at ≡ Some text
+named_at null dictionary codes at text small is =
+    let named : ℕ → Text = λ code. unwrap_or (text_of_code null dictionary code) [] in
+    slice_get-map named codes at ∙ ap (λ o. option_map named o) (slice_get-get_or codes at 0 small) ∙ ap (λ o. Some (unwrap_or o [])) is
 
 ok_and_known : {X E : Type 0} (result : Result X E) (P : X → Type 0) → IsOkAnd result P → (x : X) × (result ≡ Ok x) × P x
 ok_and_known (Ok x) P holds = (x, refl, holds)
 ok_and_known (Err error) P holds = absurd holds
 
 -- each code names a text, and there is room for all of them
-pub record HasRoom (dictionary : List Text) (codes : List ℕ) (offsets bytes : ℕ) : Type 0 where
-  pub named : (k : ℕ) → k < length codes → (text : Text) × (slice_get dictionary (get_or codes k 0) ≡ Some text)
-  pub offsets_room : length (texts_named dictionary codes) < offsets
-  pub bytes_room : length (concat (texts_named dictionary codes)) ≤ bytes
-  pub small : length (concat (texts_named dictionary codes)) ≤ greatest_offset
+pub record HasRoom (null : Option ℕ) (dictionary : List Text) (codes : List ℕ) (offsets bytes : ℕ) : Type 0 where
+  pub named : (k : ℕ) → k < length codes → (text : Text) × (text_of_code null dictionary (get_or codes k 0) ≡ Some text)
+  pub offsets_room : length (rows_named null dictionary codes) < offsets
+  pub bytes_room : length (concat (rows_named null dictionary codes)) ≤ bytes
+  pub small : length (concat (rows_named null dictionary codes)) ≤ greatest_offset
 
-pub room_known : (dictionary : List Text) (codes : List ℕ) (offsets bytes : ℕ) → IsOkAnd (measured dictionary nothing codes) (λ sizes. (sizes.texts < offsets) × (sizes.bytes ≤ bytes)) → HasRoom dictionary codes offsets bytes
-room_known dictionary codes offsets bytes fits =
-    let ok = ok_and_known (measured dictionary nothing codes) (λ sizes. (sizes.texts < offsets) × (sizes.bytes ≤ bytes)) fits in
-    let m = measured_known dictionary nothing codes ok.0 ok.1 in
-    let n = length-map codes (λ code. get_or dictionary code []) in
+pub room_known : (null : Option ℕ) (dictionary : List Text) (codes : List ℕ) (offsets bytes : ℕ) → IsOkAnd (measured null dictionary nothing codes) (λ sizes. (sizes.texts < offsets) × (sizes.bytes ≤ bytes)) → HasRoom null dictionary codes offsets bytes
+room_known null dictionary codes offsets bytes fits =
+    let ok = ok_and_known (measured null dictionary nothing codes) (λ sizes. (sizes.texts < offsets) × (sizes.bytes ≤ bytes)) fits in
+    let m = measured_known null dictionary nothing codes ok.0 ok.1 in
+    let n = length-map codes (λ code. unwrap_or (text_of_code null dictionary code) []) in
     record {
       named = m.named;
       offsets_room = omega (arith, m.texts, ok.2.0, n);

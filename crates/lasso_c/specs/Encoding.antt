@@ -1,12 +1,13 @@
 -- What encoding answers and writes.
-use Rattle.std.specs.Prelude.{ℕ, List, [], ◌∷◌, ◌++◌, length, map, is_some, unwrap_or, nat_lt, if◌then◌else◌, Result, Err}
+use Rattle.std.specs.Prelude.{ℕ, ◌*◌, Option, None, Some, List, [], ◌∷◌, ◌++◌, length, map, is_some, unwrap_or, nat_lt, if◌then◌else◌, Result, Err}
 use Rattle.std.specs.List.{concat}
 use Rattle.lasso_parts.specs.Texts.{Text, position_of}
-use Rattle.lasso_c.specs.Layout.{layout_texts, layout_fault}
+use Rattle.lasso_c.specs.Bitmap.{bits_fit}
+use Rattle.lasso_c.specs.Layout.{greatest_offset, layout_texts, layout_fault, column_fault, column_rows, present_texts}
 use Rattle.lasso_c.specs.Decoding.{fitting, unless_faulty}
 use Rattle.lasso_c.specs.declared.refusal.Sizes.{Sizes}
 use Rattle.lasso_c.specs.declared.refusal.Refusal.{Refusal}
-use Rattle.lasso_c.specs.declared.refusal.Refusal.TheVariants.{CodesTooShort}
+use Rattle.lasso_c.specs.declared.refusal.Refusal.TheVariants.{CodesTooShort, BitmapTooShort, LimitReached, NoCodeLeft, NoMemory}
 
 -- the list with the text last, unless it is there
 abbrev pub with_new : List Text → Text → List Text
@@ -29,13 +30,44 @@ codes_or absent dictionary texts = map (λ text. unwrap_or (position_of dictiona
 abbrev pub codes_of : List Text → List Text → List ℕ
 codes_of dictionary texts = codes_or 0 dictionary texts
 
+-- the code of a row in the dictionary: the given one for a null
+abbrev pub row_code : ℕ → List Text → Option Text → ℕ
+row_code null dictionary None = null
+row_code null dictionary (Some text) = unwrap_or (position_of dictionary text) 0
+
+abbrev pub row_codes : ℕ → List Text → List (Option Text) → List ℕ
+row_codes null dictionary rows = map (λ row. row_code null dictionary row) rows
+
 abbrev pub sizes_of : List Text → Sizes
 sizes_of texts = record { texts = length texts; bytes = length (concat texts) }
+
+-- how encoding so many rows ends, of which these are the texts, where nothing is wrong with them and memory is found, and where there is room
+-- for so many codes, offsets and bytes
+abbrev pub rows_outcome : ℕ → List Text → ℕ → ℕ → ℕ → Result Sizes Refusal
+rows_outcome rows texts codes dictionary_offsets dictionary_bytes =
+    let sizes = sizes_of (dictionary_of texts) in
+    if nat_lt codes rows then Err (CodesTooShort sizes) else fitting sizes dictionary_offsets dictionary_bytes
 
 -- how encoding the texts of that layout ends where memory is found, and where there is room for so many codes, offsets and bytes
 abbrev pub encoding_outcome : List ℕ → List ℕ → ℕ → ℕ → ℕ → Result Sizes Refusal
 encoding_outcome bytes offsets codes dictionary_offsets dictionary_bytes =
     let texts = layout_texts bytes offsets in
-    let sizes = sizes_of (dictionary_of texts) in
-    unless_faulty (layout_fault bytes offsets)
-    (if nat_lt codes (length texts) then Err (CodesTooShort sizes) else fitting sizes dictionary_offsets dictionary_bytes)
+    unless_faulty (layout_fault greatest_offset bytes offsets) (rows_outcome (length texts) texts codes dictionary_offsets dictionary_bytes)
+
+-- why a column with this bitmap is refused, or nothing
+abbrev pub column_refusal : List ℕ → List ℕ → List ℕ → Option Refusal
+column_refusal bits bytes offsets =
+    if bits_fit bits (length (layout_texts bytes offsets)) then column_fault greatest_offset bits bytes offsets
+    else Some (BitmapTooShort (8 * length bits))
+
+-- how encoding a column with this bitmap ends, in the same way
+abbrev pub column_outcome : List ℕ → List ℕ → List ℕ → ℕ → ℕ → ℕ → Result Sizes Refusal
+column_outcome bits bytes offsets codes dictionary_offsets dictionary_bytes =
+    let rows = column_rows bits bytes offsets in
+    unless_faulty (column_refusal bits bytes offsets) (rows_outcome (length rows) (present_texts rows) codes dictionary_offsets dictionary_bytes)
+
+-- out of memory in place of a refusal by an interner
+abbrev pub of_column : Refusal → Refusal
+of_column (LimitReached _) = NoMemory
+of_column (NoCodeLeft _) = NoMemory
+of_column refusal = refusal

@@ -1,5 +1,5 @@
--- What interning a text, or the texts of a layout, leaves of an interner, and how it ends.
-use Rattle.std.specs.Prelude.{ℕ, ◌≡◌, ◌+◌, ◌⊎◌, Bool, true, false, List, length, take, slice_get, slice_index, nat_lt, if◌then◌else◌, Option, None, Some, Result, Ok, Err}
+-- What interning a text, or the rows of a column, leaves of an interner, and how it ends.
+use Rattle.std.specs.Prelude.{ℕ, ◌≡◌, ◌+◌, ◌*◌, ◌⊎◌, Bool, true, false, List, length, take, slice_get, slice_index, nat_lt, if◌then◌else◌, Option, None, Some, Result, Ok, Err}
 use Rattle.std.specs.List.{slice_range}
 use Rattle.lasso_parts.specs.Kept.{kept_at}
 use Rattle.lasso_parts.specs.Texts.{Text}
@@ -8,12 +8,13 @@ use Rattle.lasso_parts.specs.declared.util.LassoErrorKind.TheVariants.{MemoryLim
 use Rattle.lasso_single.specs.Filling.{extend}
 use Rattle.lasso_single.specs.Intern.{InternsIn}
 use Rattle.lasso_single.specs.Interner.{InternerView}
-use Rattle.lasso_c.specs.Layout.{layout_texts, layout_fault, start_fault, text_fault}
+use Rattle.lasso_c.specs.Bitmap.{bits_fit, present_at}
+use Rattle.lasso_c.specs.Layout.{layout_texts, start_fault, text_fault, null_fault, column_fault, column_rows, present_texts}
 use Rattle.lasso_c.specs.Decoding.{nothing}
 use Rattle.lasso_c.specs.Status.{Reports, outcome_status, outcome_report}
 use Rattle.lasso_c.specs.declared.refusal.LassoReport.{LassoReport}
 use Rattle.lasso_c.specs.declared.refusal.Refusal.{Refusal}
-use Rattle.lasso_c.specs.declared.refusal.Refusal.TheVariants.{CodesTooShort, LimitReached, NoCodeLeft, NoMemory, NoInterner}
+use Rattle.lasso_c.specs.declared.refusal.Refusal.TheVariants.{CodesTooShort, BitmapTooShort, LimitReached, NoCodeLeft, NoMemory, NoInterner}
 use Rattle.lasso_c.specs.declared.slot.Interner.{Interner}
 
 -- the key of a code, which is one more
@@ -36,49 +37,62 @@ abbrev pub InternsUnless : Option Refusal → ℕ → InternerView → Text → 
 InternsUnless None at old text outcome new = InternsCode at old text outcome new
 InternsUnless (Some refusal) at old text outcome new = (outcome ≡ Err refusal) × (new ≡ old)
 
--- the text of this number of a layout is interned, or refused
-abbrev pub InternsNext : List ℕ → List ℕ → ℕ → InternerView → Result ℕ Refusal → InternerView → Type 0
-InternsNext bytes offsets at old outcome new =
-    let from = slice_index offsets at in
-    let to = slice_index offsets (at + 1) in
-    InternsUnless (text_fault bytes at from to) at old (slice_range bytes from to) outcome new
+-- the code of a null, unless something is wrong with it
+abbrev pub null_outcome : Option Refusal → ℕ → Result ℕ Refusal
+null_outcome None null = Ok null
+null_outcome (Some refusal) null = Err refusal
 
--- why interning a layout ends after its first `done` texts: no text is left; or the layout is wrong there, for the first time;
--- or the interner refuses the next text, up to whose end the layout is good, and nothing changes
-abbrev pub EndsAfter : List ℕ → List ℕ → ℕ → InternerView → Result (Unit {0}) Refusal → Type 0
-EndsAfter bytes offsets done interner (Ok _) = (layout_fault bytes offsets ≡ None) × (done ≡ length (layout_texts bytes offsets))
-EndsAfter bytes offsets done interner (Err refusal) =
-    ((layout_fault bytes offsets ≡ Some refusal) × ((outcome_report (Err refusal)).at ≡ done))
-    ⊎ ((layout_fault bytes (take (done + 2) offsets) ≡ None) × ((text : Text) × (slice_get (layout_texts bytes offsets) done ≡ Some text) × InternsCode done interner text (Err refusal) interner))
+-- a row of this number between two offsets: it is interned if it is present, and a null changes nothing
+abbrev pub InternsRow : ℕ → Bool → ℕ → List ℕ → ℕ → ℕ → ℕ → InternerView → Result ℕ Refusal → InternerView → Type 0
+InternsRow greatest true null bytes at from to old outcome new = InternsUnless (text_fault greatest bytes at from to) at old (slice_range bytes from to) outcome new
+InternsRow greatest false null bytes at from to old outcome new = (outcome ≡ null_outcome (null_fault greatest bytes at from to) null) × (new ≡ old)
 
--- why a batch of that first offset is refused before its first text, or nothing
-abbrev pub batch_start_fault : List ℕ → ℕ → ℕ → ℕ → Option Refusal
-batch_start_fault bytes first texts room = if nat_lt room texts then Some (CodesTooShort nothing) else start_fault bytes first
+-- the row of this number of a column is interned, or refused
+abbrev pub InternsNext : ℕ → List ℕ → ℕ → List ℕ → List ℕ → ℕ → InternerView → Result ℕ Refusal → InternerView → Type 0
+InternsNext greatest bits null bytes offsets at old outcome new = InternsRow greatest (present_at bits at) null bytes at (slice_index offsets at) (slice_index offsets (at + 1)) old outcome new
 
--- the first `done` texts of a layout are interned in order, and then it ends
-pub record InternsLayout (bytes offsets : List ℕ) (done : ℕ) (old : InternerView) (outcome : Result (Unit {0}) Refusal) (new : InternerView) : Type 0 where
-  pub before : extend {K = ℕ} key_of_code old (take done (layout_texts bytes offsets)) (Ok tt) new
-  pub ends : EndsAfter bytes offsets done new outcome
+-- why interning a column ends after its first `done` rows: no row is left; or the column is wrong there, for the first time; or
+-- the interner refuses the next text, up to whose end the column is good, and nothing changes
+abbrev pub EndsAfter : ℕ → List ℕ → List ℕ → List ℕ → ℕ → InternerView → Result (Unit {0}) Refusal → Type 0
+EndsAfter greatest bits bytes offsets done interner (Ok _) = (column_fault greatest bits bytes offsets ≡ None) × (done ≡ length (layout_texts bytes offsets))
+EndsAfter greatest bits bytes offsets done interner (Err refusal) =
+    ((column_fault greatest bits bytes offsets ≡ Some refusal) × ((outcome_report (Err refusal)).at ≡ done))
+    ⊎ ((column_fault greatest bits bytes (take (done + 2) offsets) ≡ None) × ((text : Text) × (slice_get (column_rows bits bytes offsets) done ≡ Some (Some text)) × InternsCode done interner text (Err refusal) interner))
 
--- the same, unless the codes are too short
-abbrev pub InternsRoomed : Bool → List ℕ → List ℕ → ℕ → InternerView → Result (Unit {0}) Refusal → InternerView → Type 0
-InternsRoomed true bytes offsets done old outcome new = (done ≡ 0) × (outcome ≡ Err (CodesTooShort nothing)) × (new ≡ old)
-InternsRoomed false bytes offsets done old outcome new = InternsLayout bytes offsets done old outcome new
+-- why a batch of that first offset and so many rows is refused before its first row, or nothing
+abbrev pub batch_start_fault : ℕ → List ℕ → List ℕ → ℕ → ℕ → ℕ → Option Refusal
+batch_start_fault greatest bits bytes first rows room =
+    if nat_lt room rows then Some (CodesTooShort nothing)
+    else if bits_fit bits rows then start_fault greatest bytes first
+    else Some (BitmapTooShort (8 * length bits))
+
+-- the texts of the first `done` rows of a column are interned in order, and then it ends
+pub record InternsColumn (greatest : ℕ) (bits bytes offsets : List ℕ) (done : ℕ) (old : InternerView) (outcome : Result (Unit {0}) Refusal) (new : InternerView) : Type 0 where
+  pub before : extend {K = ℕ} key_of_code old (present_texts (take done (column_rows bits bytes offsets))) (Ok tt) new
+  pub ends : EndsAfter greatest bits bytes offsets done new outcome
+
+-- the same, unless the codes or the bitmap are too short
+abbrev pub InternsRoomed : ℕ → Bool → Bool → List ℕ → List ℕ → List ℕ → ℕ → InternerView → Result (Unit {0}) Refusal → InternerView → Type 0
+InternsRoomed greatest true fits bits bytes offsets done old outcome new = (done ≡ 0) × (outcome ≡ Err (CodesTooShort nothing)) × (new ≡ old)
+InternsRoomed greatest false false bits bytes offsets done old outcome new = (done ≡ 0) × (outcome ≡ Err (BitmapTooShort (8 * length bits))) × (new ≡ old)
+InternsRoomed greatest false true bits bytes offsets done old outcome new = InternsColumn greatest bits bytes offsets done old outcome new
 
 -- a batch is interned where there is room for so many codes
-abbrev pub InternsPart : ℕ → List ℕ → List ℕ → ℕ → InternerView → Result (Unit {0}) Refusal → InternerView → Type 0
-InternsPart room bytes offsets done old outcome new = InternsRoomed (nat_lt room (length (layout_texts bytes offsets))) bytes offsets done old outcome new
+abbrev pub InternsPart : ℕ → ℕ → List ℕ → List ℕ → List ℕ → ℕ → InternerView → Result (Unit {0}) Refusal → InternerView → Type 0
+InternsPart greatest room bits bytes offsets done old outcome new =
+    let rows = length (layout_texts bytes offsets) in
+    InternsRoomed greatest (nat_lt room rows) (bits_fit bits rows) bits bytes offsets done old outcome new
 
--- what a batch tells: how many of its texts were interned, and the number of the refused one
+-- what a batch tells: how many of its rows were done, and the number of the refused one
 abbrev pub batch_report : ℕ → Result (Unit {0}) Refusal → LassoReport
 batch_report done (Ok _) = record { texts = done; bytes = 0; at = 0 }
 batch_report done (Err _) = record { texts = done; bytes = 0; at = done }
 
--- how a batch ends on a handle: its status and report, and what the handle holds
-abbrev pub BatchEnds : Option Interner → List ℕ → List ℕ → ℕ → ℕ → LassoReport → Option Interner → Type 0
-BatchEnds None bytes offsets room status report new = Reports (Err NoInterner) status report × (new ≡ None)
-BatchEnds (Some old) bytes offsets room status report new =
-    (interner : Interner) × (outcome : Result (Unit {0}) Refusal) × (new ≡ Some interner) × InternsPart room bytes offsets report.texts old.rodeo outcome interner.rodeo
+-- how a batch ends on a handle, which has this bitmap or none: its status and report, and what the handle holds
+abbrev pub BatchEnds : ℕ → Option Interner → List ℕ → List ℕ → List ℕ → ℕ → ℕ → LassoReport → Option Interner → Type 0
+BatchEnds greatest None bits bytes offsets room status report new = Reports (Err NoInterner) status report × (new ≡ None)
+BatchEnds greatest (Some old) bits bytes offsets room status report new =
+    (interner : Interner) × (outcome : Result (Unit {0}) Refusal) × (new ≡ Some interner) × InternsPart greatest room bits bytes offsets report.texts old.rodeo outcome interner.rodeo
     × (status ≡ outcome_status outcome) × (report ≡ batch_report report.texts outcome)
 
 -- how interning one text ends on a handle: its status, and what the handle holds

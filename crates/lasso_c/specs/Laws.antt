@@ -1,10 +1,11 @@
 -- What decoding makes of what was encoded, and loading of what was saved.
-use Rattle.std.specs.Prelude.{ℕ, ◌≡◌, ◌<◌, ◌≤◌, List, [], length, slice_get, None, Some, Ok}
-use Rattle.std.specs.List.{concat}
+use Rattle.std.specs.Prelude.{ℕ, ◌≡◌, ◌<◌, ◌≤◌, List, [], length, map, is_some, slice_get, unwrap_or, Option, None, Some, Ok}
+use Rattle.std.specs.List.{concat, slice_index_or}
 use Rattle.lasso_parts.specs.Texts.{Text, IsDistinct, position_of}
-use Rattle.lasso_c.specs.Layout.{layout_texts, layout_fault, offsets_from}
-use Rattle.lasso_c.specs.Encoding.{with_all_new, dictionary_of, codes_of, sizes_of}
-use Rattle.lasso_c.specs.Decoding.{texts_named, decoding_outcome}
+use Rattle.lasso_c.specs.Bitmap.{bitmap_of, code_bits, present_at}
+use Rattle.lasso_c.specs.Layout.{greatest_offset, layout_texts, layout_fault, offsets_from, present_texts}
+use Rattle.lasso_c.specs.Encoding.{with_all_new, dictionary_of, codes_of, row_codes, sizes_of}
+use Rattle.lasso_c.specs.Decoding.{texts_named, rows_named, decoding_outcome}
 
 pub record DecodesBack (dictionary texts : List Text) (codes : List ℕ) : Type 0 where
   -- no text stands twice in the dictionary
@@ -18,7 +19,7 @@ pub record DecodesBack (dictionary texts : List Text) (codes : List ℕ) : Type 
 
 -- decoding what encoding writes of a layout with which nothing is wrong gives its texts
 abbrev pub DecodingUndoesEncoding : Type 0
-DecodingUndoesEncoding = (bytes offsets : List ℕ) → layout_fault bytes offsets ≡ None →
+DecodingUndoesEncoding = (bytes offsets : List ℕ) → layout_fault greatest_offset bytes offsets ≡ None →
     let texts = layout_texts bytes offsets in
     let dictionary = dictionary_of texts in
     DecodesBack dictionary texts (codes_of dictionary texts)
@@ -34,3 +35,15 @@ pub record LoadsBack (texts : List Text) : Type 0 where
 -- an interner's texts, saved and loaded, have the same codes again
 abbrev pub LoadingUndoesSaving : Type 0
 LoadingUndoesSaving = (texts : List Text) → IsDistinct texts → LoadsBack texts
+
+pub record RowsComeBack (null : ℕ) (rows : List (Option Text)) (dictionary : List Text) (codes : List ℕ) : Type 0 where
+  -- the codes name the texts, and an empty one for each null
+  pub named : rows_named (Some null) dictionary codes ≡ map (λ (row : Option Text). unwrap_or row []) rows
+  -- the bitmap that is written tells which rows are texts
+  pub present : (at : ℕ) → at < length rows → present_at (bitmap_of (code_bits null codes)) at ≡ is_some (slice_index_or rows at None)
+
+-- decoding what encoding writes of rows gives the rows, where the code of nulls is none of the dictionary's
+abbrev pub DecodingGivesNullsBack : Type 0
+DecodingGivesNullsBack = (null : ℕ) (rows : List (Option Text)) →
+    let dictionary = dictionary_of (present_texts rows) in
+    length dictionary ≤ null → RowsComeBack null rows dictionary (row_codes null dictionary rows)

@@ -5,16 +5,20 @@ use Rattle.std.specs.List.{slice_range}
 use Rattle.std.specs.Option.{option_or}
 use Rattle.std.specs.Str.{is_utf8}
 use Rattle.lasso_parts.specs.Texts.{Text}
+use Rattle.lasso_c.specs.Bitmap.{present_at}
 use Rattle.lasso_c.specs.declared.refusal.Refusal.{Refusal}
 use Rattle.lasso_c.specs.declared.refusal.Refusal.TheVariants.{OffsetsFall, OffsetPastBytes, NotUtf8}
 
--- the greatest offset: the greatest signed number of 32 bits
+-- the greatest offset of 32 bits, and that of 64 bits: the greatest signed numbers
 abbrev pub greatest_offset : ℕ
 greatest_offset = 2147483647
 
--- how far offsets may reach into the bytes
-abbrev pub reach : List ℕ → ℕ
-reach bytes = min (length bytes) greatest_offset
+abbrev pub greatest_large_offset : ℕ
+greatest_large_offset = 9223372036854775807
+
+-- how far offsets of that greatest one may reach into the bytes
+abbrev pub reach : ℕ → List ℕ → ℕ
+reach greatest bytes = min (length bytes) greatest
 
 -- the texts between an offset and those behind it
 abbrev pub texts_from : List ℕ → ℕ → List ℕ → List Text
@@ -27,26 +31,63 @@ layout_texts bytes [] = []
 layout_texts bytes (from ∷ offsets) = texts_from bytes from offsets
 
 -- what is wrong with the offset where the first text begins, or nothing
-abbrev pub start_fault : List ℕ → ℕ → Option Refusal
-start_fault bytes from = if nat_lt (reach bytes) from then Some (OffsetPastBytes 0) else None
+abbrev pub start_fault : ℕ → List ℕ → ℕ → Option Refusal
+start_fault greatest bytes from = if nat_lt (reach greatest bytes) from then Some (OffsetPastBytes 0) else None
 
 -- what is wrong with the text of this number between two offsets, or nothing
-abbrev pub text_fault : List ℕ → ℕ → ℕ → ℕ → Option Refusal
-text_fault bytes at from to =
+abbrev pub text_fault : ℕ → List ℕ → ℕ → ℕ → ℕ → Option Refusal
+text_fault greatest bytes at from to =
     if nat_lt to from then Some (OffsetsFall at)
-    else if nat_lt (reach bytes) to then Some (OffsetPastBytes at)
+    else if nat_lt (reach greatest bytes) to then Some (OffsetPastBytes at)
     else if is_utf8 (slice_range bytes from to) then None
     else Some (NotUtf8 at)
 
--- what is wrong with the first wrong one of the texts between an offset and those behind it, numbered from `at`
-abbrev pub texts_fault : List ℕ → ℕ → ℕ → List ℕ → Option Refusal
-texts_fault bytes at from [] = None
-texts_fault bytes at from (to ∷ offsets) = option_or (text_fault bytes at from to) (texts_fault bytes (at + 1) to offsets)
+-- the same of a null, whose bytes may be any
+abbrev pub null_fault : ℕ → List ℕ → ℕ → ℕ → ℕ → Option Refusal
+null_fault greatest bytes at from to =
+    if nat_lt to from then Some (OffsetsFall at)
+    else if nat_lt (reach greatest bytes) to then Some (OffsetPastBytes at)
+    else None
 
--- what is first wrong with a buffer of these offsets, or nothing
-abbrev pub layout_fault : List ℕ → List ℕ → Option Refusal
-layout_fault bytes [] = None
-layout_fault bytes (from ∷ offsets) = option_or (start_fault bytes from) (texts_fault bytes 0 from offsets)
+-- what is wrong with the row of this number, which is a text or a null, or nothing
+abbrev pub row_fault : ℕ → List ℕ → List ℕ → ℕ → ℕ → ℕ → Option Refusal
+row_fault greatest bits bytes at from to = if present_at bits at then text_fault greatest bytes at from to else null_fault greatest bytes at from to
+
+-- what is wrong with the first wrong one of the rows between an offset and those after it, numbered from `at`
+abbrev pub rows_fault : ℕ → List ℕ → List ℕ → ℕ → ℕ → List ℕ → Option Refusal
+rows_fault greatest bits bytes at from [] = None
+rows_fault greatest bits bytes at from (to ∷ offsets) = option_or (row_fault greatest bits bytes at from to) (rows_fault greatest bits bytes (at + 1) to offsets)
+
+-- what is first wrong with a buffer of these offsets and this bitmap, or nothing
+abbrev pub column_fault : ℕ → List ℕ → List ℕ → List ℕ → Option Refusal
+column_fault greatest bits bytes [] = None
+column_fault greatest bits bytes (from ∷ offsets) = option_or (start_fault greatest bytes from) (rows_fault greatest bits bytes 0 from offsets)
+
+-- the same without a bitmap
+abbrev pub texts_fault : ℕ → List ℕ → ℕ → ℕ → List ℕ → Option Refusal
+texts_fault greatest bytes at from offsets = rows_fault greatest [] bytes at from offsets
+
+abbrev pub layout_fault : ℕ → List ℕ → List ℕ → Option Refusal
+layout_fault greatest bytes offsets = column_fault greatest [] bytes offsets
+
+-- the rows of texts, numbered from `at`: each a text, or a null
+abbrev pub rows_from : List ℕ → ℕ → List Text → List (Option Text)
+rows_from bits at [] = []
+rows_from bits at (text ∷ texts) = (if present_at bits at then Some text else None) ∷ rows_from bits (at + 1) texts
+
+-- the rows of a buffer with these offsets and this bitmap
+abbrev pub column_rows : List ℕ → List ℕ → List ℕ → List (Option Text)
+column_rows bits bytes offsets = rows_from bits 0 (layout_texts bytes offsets)
+
+-- a row before some texts, of which a null is none
+abbrev pub with_row : Option Text → List Text → List Text
+with_row None texts = texts
+with_row (Some text) texts = text ∷ texts
+
+-- the texts of rows, without the nulls
+abbrev pub present_texts : List (Option Text) → List Text
+present_texts [] = []
+present_texts (row ∷ rows) = with_row row (present_texts rows)
 
 -- the offsets of texts that lie one behind the other from an offset on
 abbrev pub offsets_from : ℕ → List Text → List ℕ

@@ -1,3 +1,4 @@
+pub mod Bitmap
 pub mod Layout
 pub mod Status
 pub mod Decoding

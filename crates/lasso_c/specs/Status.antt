@@ -3,7 +3,7 @@ use Rattle.std.specs.Prelude.{ℕ, ◌≡◌, List, nat_eq, if◌then◌else◌,
 use Rattle.lasso_c.specs.declared.refusal.Sizes.{Sizes}
 use Rattle.lasso_c.specs.declared.refusal.LassoReport.{LassoReport}
 use Rattle.lasso_c.specs.declared.refusal.Refusal.{Refusal}
-use Rattle.lasso_c.specs.declared.refusal.Refusal.TheVariants.{OffsetsFall, OffsetPastBytes, NotUtf8, NoSuchCode, TooManyBytes, CodesTooShort, OffsetsTooShort, BytesTooShort, NoMemory, LimitReached, NoCodeLeft, NoInterner, NoSuchText}
+use Rattle.lasso_c.specs.declared.refusal.Refusal.TheVariants.{OffsetsFall, OffsetPastBytes, NotUtf8, NoSuchCode, TooManyBytes, CodesTooShort, OffsetsTooShort, BytesTooShort, NoMemory, LimitReached, NoCodeLeft, NoInterner, NoSuchText, BitmapTooShort}
 
 -- a number of its own for each kind of refusal
 abbrev pub refusal_status : Refusal → ℕ
@@ -20,6 +20,7 @@ refusal_status (LimitReached _) = 10
 refusal_status (NoCodeLeft _) = 11
 refusal_status NoInterner = 12
 refusal_status NoSuchText = 13
+refusal_status (BitmapTooShort _) = 14
 
 -- 0 where the call was done, and else the number of the refusal
 abbrev pub outcome_status : {X : Type 0} → Result X Refusal → ℕ
@@ -50,6 +51,7 @@ outcome_report (Err (LimitReached at)) = position_report at
 outcome_report (Err (NoCodeLeft at)) = position_report at
 outcome_report (Err NoInterner) = position_report 0
 outcome_report (Err NoSuchText) = position_report 0
+outcome_report (Err (BitmapTooShort at)) = position_report at
 
 -- a status and a report are those of how a call ended
 abbrev pub Reports : Result Sizes Refusal → ℕ → LassoReport → Type 0
@@ -72,4 +74,5 @@ status_text status =
     else if nat_eq status 11 then codes "there is a text for each code"
     else if nat_eq status 12 then codes "there is no interner"
     else if nat_eq status 13 then codes "the interner does not have the text"
+    else if nat_eq status 14 then codes "a bitmap has no bit for a row"
     else codes "not a status"

@@ -1,21 +1,24 @@
-//! Texts of a layout interned into a dictionary that has some already, and the texts of a dictionary from a code on.
-ghost use Rattle.std.specs.Prelude.{◌≡◌, ◌<◌, ◌≤◌, ◌+◌, None, Some, OnOk, IfOk, IfErr, IfSome, IsSome, length, slice_get, take, drop, is_ok, unwrap_or, if◌then◌else◌};
+//! Rows of a column interned into a dictionary that has some already, and the texts of a dictionary from a code on.
+ghost use Rattle.std.specs.Prelude.{◌≡◌, ◌<◌, ◌≤◌, ◌+◌, ◌^◌, [], None, Some, OnOk, IfOk, IfErr, IfSome, IsSome, IsTrue, length, slice_get, take, drop, is_ok, unwrap_or, if◌then◌else◌};
 ghost use Rattle.std.specs.List.{concat};
 ghost use Rattle.std.specs.Result.{result_err};
 ghost use Rattle.lasso_parts.specs.Texts.{position_of};
-ghost use Rattle.lasso_c.specs.Layout.{greatest_offset, layout_fault, layout_texts, offsets_from, over};
-ghost use Rattle.lasso_c.specs.Encoding.{with_new, with_all_new, codes_of, codes_or, sizes_of};
+ghost use Rattle.lasso_c.specs.Bitmap.{bits_fit};
+ghost use Rattle.lasso_c.specs.Layout.{column_rows, greatest_offset, layout_fault, layout_texts, offsets_from, over, present_texts};
+ghost use Rattle.lasso_c.specs.Encoding.{with_all_new, codes_of, codes_or, row_codes, sizes_of};
 ghost use Rattle.lasso_c.specs.Handles.{part_lookup_outcome, part_outcome};
 ghost use Rattle.lasso_c.specs.Interning.{InternsCode, InternsNext, InternsPart, batch_report, batch_start_fault};
 ghost use Rattle.lasso_c.specs.Status.{outcome_status};
 
 use crate::encoding::{Dictionary, text_at_code};
-use crate::layout::{GREATEST_OFFSET, check_layout, first_start, put_text, text_between};
+use crate::layout::{check_layout, first_start, put_text, text_between};
+use crate::nulls::{check_null, fit, is_present};
+use crate::offsets::Offset;
 use crate::refusal::{LassoReport, Refusal, Sizes, status_of};
 use lasso_parts::keys::Key;
 use lasso_parts::util::LassoErrorKind;
 
-// How many texts of a batch were interned, and why no more.
+// How many rows of a batch were done, and why no more.
 #[derive(Clone, Copy)]
 pub(crate) struct Progress {
     pub(crate) done: usize,
@@ -40,35 +43,39 @@ pub(crate) fn tell_batch(progress: Progress, report: &mut LassoReport) -> u32
     status
 }
 
-// Interns the texts of the layout up to the first that is refused, and writes their codes.
+// Interns the rows of the column up to the first that is refused, and writes their codes. A null has the given one.
 #[tactic(auto, using(crate::proofs::BatchSteps::layout_count, crate::proofs::BatchSteps::none_done))]
-pub(crate) fn intern_layout(
+pub(crate) fn intern_column<O: Offset>(
     dictionary: &mut Dictionary,
     bytes: &[u8],
-    offsets: &[u32],
+    offsets: &[O],
+    bits: &[u8],
+    null: u32,
     codes: &mut [u32],
 ) -> Progress
-    ensures interned { InternsPart (length codes.old) bytes.now offsets.now result.done dictionary.old result.outcome dictionary.new }
-    ensures texts { dictionary.new.texts ≡ with_all_new dictionary.old.texts (take result.done (layout_texts bytes.now offsets.now)) }
-    ensures codes { codes.new ≡ over (codes_of dictionary.new.texts (take result.done (layout_texts bytes.now offsets.now))) codes.old }
-    ensures whole { OnOk result.outcome (result.done ≡ length (layout_texts bytes.now offsets.now)) }
-    ensures within { result.done ≤ length (layout_texts bytes.now offsets.now) }
+    ensures interned { InternsPart O.greatest (length codes.old) bits.now bytes.now (O.numbers offsets.now) result.done dictionary.old result.outcome dictionary.new }
+    ensures texts { dictionary.new.texts ≡ with_all_new dictionary.old.texts (present_texts (take result.done (column_rows bits.now bytes.now (O.numbers offsets.now)))) }
+    ensures codes { codes.new ≡ over (row_codes null dictionary.new.texts (take result.done (column_rows bits.now bytes.now (O.numbers offsets.now)))) codes.old }
+    ensures whole { OnOk result.outcome (result.done ≡ length (layout_texts bytes.now (O.numbers offsets.now))) }
+    ensures within { result.done ≤ length (layout_texts bytes.now (O.numbers offsets.now)) }
 {
-    let Some((first, rest)) = offsets.split_first() else {
+    let count = O::count(offsets);
+    if count == 0 {
         return Progress {
             done: 0,
             outcome: Ok(()),
         };
-    };
-    let count = rest.len();
-    if let Err(refusal) = first_fault(bytes, *first, count, codes.len()) {
+    }
+    let rows = count - 1;
+    let first = O::number(offsets, 0);
+    if let Err(refusal) = first_fault::<O>(bytes, first, rows, bits, codes.len()) {
         return Progress {
             done: 0,
             outcome: Err(refusal),
         };
     }
-    for at in 0..count {
-        match code_at(dictionary, bytes, offsets, at) {
+    for at in 0..rows {
+        match code_at(dictionary, bytes, offsets, bits, null, at) {
             Ok(code) => codes[at] = code,
             Err(refusal) => return Progress {
                 done: at,
@@ -77,33 +84,67 @@ pub(crate) fn intern_layout(
         }
     }
     Progress {
-        done: count,
+        done: rows,
         outcome: Ok(()),
     }
 }
 
-// Why a batch of this first offset is refused before its first text, if it is.
-fn first_fault(bytes: &[u8], first: u32, texts: usize, room: usize) -> Result<(), Refusal>
-    ensures { result_err result ≡ batch_start_fault bytes.now first texts room }
+// Interns the texts of the layout up to the first that is refused, and writes their codes.
+pub(crate) fn intern_layout<O: Offset>(
+    dictionary: &mut Dictionary,
+    bytes: &[u8],
+    offsets: &[O],
+    codes: &mut [u32],
+) -> Progress
+    ensures interned { InternsPart O.greatest (length codes.old) [] bytes.now (O.numbers offsets.now) result.done dictionary.old result.outcome dictionary.new }
+    ensures texts { dictionary.new.texts ≡ with_all_new dictionary.old.texts (take result.done (layout_texts bytes.now (O.numbers offsets.now))) }
+    ensures codes { codes.new ≡ over (codes_of dictionary.new.texts (take result.done (layout_texts bytes.now (O.numbers offsets.now)))) codes.old }
+    ensures whole { OnOk result.outcome (result.done ≡ length (layout_texts bytes.now (O.numbers offsets.now))) }
+    ensures within { result.done ≤ length (layout_texts bytes.now (O.numbers offsets.now)) }
 {
-    if room < texts {
+    intern_column(dictionary, bytes, offsets, &[], 0, codes)
+}
+
+// Why a batch of this first offset and so many rows is refused before its first row, if it is.
+fn first_fault<O: Offset>(
+    bytes: &[u8],
+    first: usize,
+    rows: usize,
+    bits: &[u8],
+    room: usize,
+) -> Result<(), Refusal>
+    ensures { result_err result ≡ batch_start_fault O.greatest bits.now bytes.now first rows room }
+{
+    if room < rows {
         return Err(Refusal::CodesTooShort(Sizes { texts: 0, bytes: 0 }));
     }
-    first_start(bytes, first)?;
+    if !fit(bits, rows) {
+        return Err(Refusal::BitmapTooShort(8 * bits.len()));
+    }
+    first_start::<O>(bytes, first)?;
     Ok(())
 }
 
-// Interns the text of this number of the layout, and gives its code. Where it is refused nothing has changed.
-fn code_at(
+// Interns the row of this number of the column, and gives its code. Where it is refused nothing has changed.
+fn code_at<O: Offset>(
     dictionary: &mut Dictionary,
     bytes: &[u8],
-    offsets: &[u32],
+    offsets: &[O],
+    bits: &[u8],
+    null: u32,
     at: usize,
 ) -> Result<u32, Refusal>
-    requires { at + 1 < length offsets.now }
-    ensures { InternsNext bytes.now offsets.now at dictionary.old result dictionary.new }
+    requires within { at + 1 < length (O.numbers offsets.now) }
+    requires counted { at + 1 < 2 ^ 64 }
+    requires bit { IsTrue (bits_fit bits.now (at + 1)) }
+    ensures { InternsNext O.greatest bits.now null bytes.now (O.numbers offsets.now) at dictionary.old result dictionary.new }
 {
-    let text = text_between(bytes, at, offsets[at] as usize, offsets[at + 1] as usize)?;
+    let (from, to) = (O::number(offsets, at), O::number(offsets, at + 1));
+    if !is_present(bits, at) {
+        check_null::<O>(bytes, at, from, to)?;
+        return Ok(null);
+    }
+    let text = text_between::<O>(bytes, at, from, to)?;
     code_in(dictionary, text, at)
 }
 
@@ -124,17 +165,17 @@ pub(crate) fn code_in(dictionary: &mut Dictionary, text: &str, at: usize) -> Res
 
 // Writes the code of each text of the layout, and the given one for an absent text; or nothing.
 #[tactic(auto, using(crate::proofs::BatchSteps::layout_count))]
-pub(crate) fn find_layout(
+pub(crate) fn find_layout<O: Offset>(
     dictionary: &Dictionary,
     bytes: &[u8],
-    offsets: &[u32],
+    offsets: &[O],
     absent: u32,
     codes: &mut [u32],
 ) -> Result<Sizes, Refusal>
-    ensures outcome { result ≡ part_lookup_outcome bytes.now offsets.now (length codes.old) }
-    ensures codes { codes.new ≡ (if is_ok result then over (codes_or absent dictionary.now.texts (layout_texts bytes.now offsets.now)) codes.old else codes.old) }
+    ensures outcome { result ≡ part_lookup_outcome O.greatest bytes.now (O.numbers offsets.now) (length codes.old) }
+    ensures codes { codes.new ≡ (if is_ok result then over (codes_or absent dictionary.now.texts (layout_texts bytes.now (O.numbers offsets.now))) codes.old else codes.old) }
 {
-    let count = offsets.len().saturating_sub(1);
+    let count = O::count(offsets).saturating_sub(1);
     let needed = Sizes {
         texts: count,
         bytes: 0,
@@ -148,14 +189,20 @@ pub(crate) fn find_layout(
 }
 
 // Writes the code of each text of the layout, and the given one for an absent text. There must be room, and nothing wrong.
-fn put_codes(dictionary: &Dictionary, bytes: &[u8], offsets: &[u32], absent: u32, codes: &mut [u32])
-    requires layout { layout_fault bytes.now offsets.now ≡ None }
-    requires room { length (layout_texts bytes.now offsets.now) ≤ length codes.old }
-    ensures { codes.new ≡ over (codes_or absent dictionary.now.texts (layout_texts bytes.now offsets.now)) codes.old }
+fn put_codes<O: Offset>(
+    dictionary: &Dictionary,
+    bytes: &[u8],
+    offsets: &[O],
+    absent: u32,
+    codes: &mut [u32],
+)
+    requires layout { layout_fault O.greatest bytes.now (O.numbers offsets.now) ≡ None }
+    requires room { length (layout_texts bytes.now (O.numbers offsets.now)) ≤ length codes.old }
+    ensures { codes.new ≡ over (codes_or absent dictionary.now.texts (layout_texts bytes.now (O.numbers offsets.now))) codes.old }
 {
-    for at in 0..offsets.len().saturating_sub(1) {
-        let (from, to) = (offsets[at] as usize, offsets[at + 1] as usize);
-        let text = text_between(bytes, at, from, to).unwrap();
+    for at in 0..O::count(offsets).saturating_sub(1) {
+        let (from, to) = (O::number(offsets, at), O::number(offsets, at + 1));
+        let text = text_between::<O>(bytes, at, from, to).unwrap();
         codes[at] = code_or(dictionary, text, absent);
     }
 }
@@ -171,20 +218,20 @@ fn code_or(dictionary: &Dictionary, text: &str, absent: u32) -> u32
 }
 
 // Writes the texts from the code on, or nothing.
-pub(crate) fn write_from(
+pub(crate) fn write_from<O: Offset>(
     dictionary: &Dictionary,
     from: usize,
     bytes: &mut [u8],
-    offsets: &mut [u32],
+    offsets: &mut [O],
 ) -> Result<Sizes, Refusal>
-    ensures outcome { result ≡ part_outcome (drop from dictionary.now.texts) (length offsets.old) (length bytes.old) }
+    ensures outcome { result ≡ part_outcome O.greatest (drop from dictionary.now.texts) (length (O.numbers offsets.old)) (length bytes.old) }
     ensures bytes { bytes.new ≡ (if is_ok result then over (concat (drop from dictionary.now.texts)) bytes.old else bytes.old) }
-    ensures offsets { offsets.new ≡ (if is_ok result then over (offsets_from 0 (drop from dictionary.now.texts)) offsets.old else offsets.old) }
+    ensures offsets { O.numbers offsets.new ≡ (if is_ok result then over (offsets_from 0 (drop from dictionary.now.texts)) (O.numbers offsets.old) else O.numbers offsets.old) }
 {
-    let Some(sizes) = sizes_from(dictionary, from) else {
+    let Some(sizes) = sizes_from::<O>(dictionary, from) else {
         return Err(Refusal::TooManyBytes(0));
     };
-    if sizes.texts >= offsets.len() {
+    if sizes.texts >= O::count(offsets) {
         return Err(Refusal::OffsetsTooShort(sizes));
     }
     if bytes.len() < sizes.bytes {
@@ -195,16 +242,16 @@ pub(crate) fn write_from(
 }
 
 // How many texts there are from the code on, and their bytes, unless these are more than offsets can tell.
-fn sizes_from(dictionary: &Dictionary, from: usize) -> Option<Sizes>
+fn sizes_from<O: Offset>(dictionary: &Dictionary, from: usize) -> Option<Sizes>
     ensures sizes { IfSome result (λ sizes. sizes ≡ sizes_of (drop from dictionary.now.texts)) }
-    ensures small { IfSome result (λ sizes. sizes.bytes ≤ greatest_offset) }
-    ensures large { result ≡ None → greatest_offset < length (concat (drop from dictionary.now.texts)) }
+    ensures small { IfSome result (λ sizes. sizes.bytes ≤ O.greatest) }
+    ensures large { result ≡ None → O.greatest < length (concat (drop from dictionary.now.texts)) }
 {
     let mut bytes = 0;
     let count = dictionary.len().saturating_sub(from);
     for at in 0..count {
         let text = text_at_code(dictionary, from + at);
-        if text.len() > GREATEST_OFFSET - bytes {
+        if text.len() > O::greatest() - bytes {
             return None;
         }
         bytes += text.len();
@@ -216,12 +263,12 @@ fn sizes_from(dictionary: &Dictionary, from: usize) -> Option<Sizes>
 }
 
 // Writes the texts from the code on. There must be room.
-fn put_from(dictionary: &Dictionary, from: usize, bytes: &mut [u8], offsets: &mut [u32])
-    requires small { length (concat (drop from dictionary.now.texts)) ≤ greatest_offset }
+fn put_from<O: Offset>(dictionary: &Dictionary, from: usize, bytes: &mut [u8], offsets: &mut [O])
+    requires small { length (concat (drop from dictionary.now.texts)) ≤ O.greatest }
     requires bytes { length (concat (drop from dictionary.now.texts)) ≤ length bytes.old }
-    requires offsets { length (drop from dictionary.now.texts) < length offsets.old }
+    requires offsets { length (drop from dictionary.now.texts) < length (O.numbers offsets.old) }
     ensures bytes { bytes.new ≡ over (concat (drop from dictionary.now.texts)) bytes.old }
-    ensures offsets { offsets.new ≡ over (offsets_from 0 (drop from dictionary.now.texts)) offsets.old }
+    ensures offsets { O.numbers offsets.new ≡ over (offsets_from 0 (drop from dictionary.now.texts)) (O.numbers offsets.old) }
 {
     let mut start = 0;
     let count = dictionary.len().saturating_sub(from);
@@ -229,7 +276,7 @@ fn put_from(dictionary: &Dictionary, from: usize, bytes: &mut [u8], offsets: &mu
         let text = text_at_code(dictionary, from + at).as_bytes();
         start = put_text(text, at, start, offsets, bytes);
     }
-    offsets[count] = start as u32;
+    O::put(offsets, count, start);
 }
 
 // Writes the text of the code as far as there is room, and how many bytes it has.

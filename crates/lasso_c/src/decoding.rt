@@ -1,36 +1,79 @@
 //! Decoding: from codes and a dictionary to the texts that the codes name.
-ghost use Rattle.std.specs.Prelude.{◌≡◌, ◌+◌, ◌^◌, ◌<◌, ◌≤◌, None, IfOk, IsOkAnd, length, is_ok, if◌then◌else◌};
+ghost use Rattle.std.specs.Prelude.{◌≡◌, ◌+◌, ◌^◌, ◌<◌, ◌≤◌, None, Some, IfOk, IsOkAnd, length, is_ok, if◌then◌else◌};
 ghost use Rattle.std.specs.List.{concat};
 ghost use Rattle.std.specs.Option.{option_copied};
 ghost use Rattle.lasso_c.specs.Layout.{greatest_offset, layout_fault, layout_texts, offsets_from, over};
-ghost use Rattle.lasso_c.specs.Decoding.{with_next, measured, decoding_outcome, nothing, texts_named};
+ghost use Rattle.lasso_c.specs.Bitmap.{bitmap_of, code_bits};
+ghost use Rattle.lasso_c.specs.Decoding.{measured, nothing, nulls_decoding_outcome, rows_decoding_outcome, rows_named, text_of_code, with_next};
 
-use crate::layout::{GREATEST_OFFSET, check_layout, put_text, text_at};
+use crate::layout::{check_layout, put_text, text_at};
+use crate::nulls::put_bits;
+use crate::offsets::Offset;
 use crate::refusal::{Refusal, Sizes};
 
-// Writes the texts that the codes name, or nothing.
+// Writes the texts that the codes name, or nothing. The code of nulls, if there is one, names an empty text.
 pub(crate) fn decode(
     dictionary_bytes: &[u8],
     dictionary_offsets: &[u32],
     codes: &[u32],
+    null: Option<u32>,
     bytes: &mut [u8],
     offsets: &mut [u32],
 ) -> Result<Sizes, Refusal>
-    ensures outcome { result ≡ decoding_outcome dictionary_bytes.now dictionary_offsets.now codes.now (length offsets.old) (length bytes.old) }
-    ensures bytes { let texts = texts_named (layout_texts dictionary_bytes.now dictionary_offsets.now) codes.now in
+    ensures outcome { result ≡ rows_decoding_outcome null dictionary_bytes.now dictionary_offsets.now codes.now (length offsets.old) (length bytes.old) }
+    ensures bytes { let texts = rows_named null (layout_texts dictionary_bytes.now dictionary_offsets.now) codes.now in
         bytes.new ≡ (if is_ok result then over (concat texts) bytes.old else bytes.old) }
-    ensures offsets { let texts = texts_named (layout_texts dictionary_bytes.now dictionary_offsets.now) codes.now in
+    ensures offsets { let texts = rows_named null (layout_texts dictionary_bytes.now dictionary_offsets.now) codes.now in
         offsets.new ≡ (if is_ok result then over (offsets_from 0 texts) offsets.old else offsets.old) }
 {
     check_layout(dictionary_bytes, dictionary_offsets)?;
-    let sizes = measure(dictionary_bytes, dictionary_offsets, codes)?;
+    let sizes = measure(dictionary_bytes, dictionary_offsets, codes, null)?;
     if sizes.texts >= offsets.len() {
         return Err(Refusal::OffsetsTooShort(sizes));
     }
     if bytes.len() < sizes.bytes {
         return Err(Refusal::BytesTooShort(sizes));
     }
-    write_named(dictionary_bytes, dictionary_offsets, codes, bytes, offsets);
+    write_named(
+        dictionary_bytes,
+        dictionary_offsets,
+        codes,
+        null,
+        bytes,
+        offsets,
+    );
+    Ok(sizes)
+}
+
+// The same, and writes a bitmap in which a code of nulls has 0.
+pub(crate) fn decode_nulls(
+    dictionary_bytes: &[u8],
+    dictionary_offsets: &[u32],
+    codes: &[u32],
+    null: u32,
+    bytes: &mut [u8],
+    offsets: &mut [u32],
+    present: &mut [u8],
+) -> Result<Sizes, Refusal>
+    ensures outcome { result ≡ nulls_decoding_outcome null dictionary_bytes.now dictionary_offsets.now codes.now (length offsets.old) (length bytes.old) (length present.old) }
+    ensures bytes { let texts = rows_named (Some null) (layout_texts dictionary_bytes.now dictionary_offsets.now) codes.now in
+        bytes.new ≡ (if is_ok result then over (concat texts) bytes.old else bytes.old) }
+    ensures offsets { let texts = rows_named (Some null) (layout_texts dictionary_bytes.now dictionary_offsets.now) codes.now in
+        offsets.new ≡ (if is_ok result then over (offsets_from 0 texts) offsets.old else offsets.old) }
+    ensures present { present.new ≡ (if is_ok result then over (bitmap_of (code_bits null codes.now)) present.old else present.old) }
+{
+    if codes.len().div_ceil(8) > present.len() {
+        return Err(Refusal::BitmapTooShort(8 * present.len()));
+    }
+    let sizes = decode(
+        dictionary_bytes,
+        dictionary_offsets,
+        codes,
+        Some(null),
+        bytes,
+        offsets,
+    )?;
+    put_bits(codes, null, present);
     Ok(sizes)
 }
 
@@ -39,16 +82,30 @@ fn measure(
     dictionary_bytes: &[u8],
     dictionary_offsets: &[u32],
     codes: &[u32],
+    null: Option<u32>,
 ) -> Result<Sizes, Refusal>
-    requires { layout_fault dictionary_bytes.now dictionary_offsets.now ≡ None }
-    ensures { result ≡ measured (layout_texts dictionary_bytes.now dictionary_offsets.now) nothing codes.now }
+    requires { layout_fault greatest_offset dictionary_bytes.now dictionary_offsets.now ≡ None }
+    ensures { result ≡ measured null (layout_texts dictionary_bytes.now dictionary_offsets.now) nothing codes.now }
 {
     let mut sizes = Sizes { texts: 0, bytes: 0 };
     for code in codes {
-        let text = text_at(dictionary_bytes, dictionary_offsets, *code);
+        let text = text_of(dictionary_bytes, dictionary_offsets, *code, null);
         sizes = with_next(sizes, text)?;
     }
     Ok(sizes)
+}
+
+// The bytes of the text that the code names, if there is one. Nothing may be wrong with the layout.
+fn text_of<'a>(bytes: &'a [u8], offsets: &[u32], code: u32, null: Option<u32>) -> Option<&'a [u8]>
+    requires { layout_fault greatest_offset bytes.now offsets.now ≡ None }
+    ensures { option_copied result ≡ text_of_code null (layout_texts bytes.now offsets.now) code }
+{
+    if let Some(null) = null {
+        if code == null {
+            return Some(&bytes[..0]);
+        }
+    }
+    text_at(bytes, offsets, code)
 }
 
 // The sizes with one text more, which may lack.
@@ -61,7 +118,7 @@ fn with_next(sizes: Sizes, text: Option<&[u8]>) -> Result<Sizes, Refusal>
     let Some(text) = text else {
         return Err(Refusal::NoSuchCode(sizes.texts));
     };
-    if text.len() > GREATEST_OFFSET - sizes.bytes {
+    if text.len() > u32::greatest() - sizes.bytes {
         return Err(Refusal::TooManyBytes(sizes.texts));
     }
     Ok(Sizes {
@@ -75,18 +132,19 @@ fn write_named(
     dictionary_bytes: &[u8],
     dictionary_offsets: &[u32],
     codes: &[u32],
+    null: Option<u32>,
     bytes: &mut [u8],
     offsets: &mut [u32],
 )
-    requires layout { layout_fault dictionary_bytes.now dictionary_offsets.now ≡ None }
-    requires room { IsOkAnd (measured (layout_texts dictionary_bytes.now dictionary_offsets.now) nothing codes.now)
+    requires layout { layout_fault greatest_offset dictionary_bytes.now dictionary_offsets.now ≡ None }
+    requires room { IsOkAnd (measured null (layout_texts dictionary_bytes.now dictionary_offsets.now) nothing codes.now)
         (λ sizes. (sizes.texts < length offsets.old) × (sizes.bytes ≤ length bytes.old)) }
-    ensures bytes { bytes.new ≡ over (concat (texts_named (layout_texts dictionary_bytes.now dictionary_offsets.now) codes.now)) bytes.old }
-    ensures offsets { offsets.new ≡ over (offsets_from 0 (texts_named (layout_texts dictionary_bytes.now dictionary_offsets.now) codes.now)) offsets.old }
+    ensures bytes { bytes.new ≡ over (concat (rows_named null (layout_texts dictionary_bytes.now dictionary_offsets.now) codes.now)) bytes.old }
+    ensures offsets { offsets.new ≡ over (offsets_from 0 (rows_named null (layout_texts dictionary_bytes.now dictionary_offsets.now) codes.now)) offsets.old }
 {
     let mut start = 0;
     for (at, code) in codes.iter().enumerate() {
-        let text = text_at(dictionary_bytes, dictionary_offsets, *code).unwrap();
+        let text = text_of(dictionary_bytes, dictionary_offsets, *code, null).unwrap();
         start = put_text(text, at, start, offsets, bytes);
     }
     offsets[codes.len()] = start as u32;

@@ -1,12 +1,12 @@
 //! Encoding: from texts to a dictionary of the distinct ones and a code for each.
 ghost use Rattle.std.specs.Prelude.{◌≡◌, ◌⊎◌, ◌<◌, ◌≤◌, None, Some, Err, OnOk, IfOk, IfErr, length, slice_get, is_ok, if◌then◌else◌};
 ghost use Rattle.std.specs.List.{concat};
-ghost use Rattle.lasso_parts.specs.Texts.{position_of};
-ghost use Rattle.lasso_c.specs.Layout.{greatest_offset, layout_fault, layout_texts, offsets_from, over};
-ghost use Rattle.lasso_c.specs.Encoding.{with_new, dictionary_of, codes_of, sizes_of, encoding_outcome};
+ghost use Rattle.lasso_c.specs.Layout.{column_rows, greatest_offset, layout_texts, offsets_from, over, present_texts};
+ghost use Rattle.lasso_c.specs.Encoding.{codes_of, column_outcome, column_refusal, dictionary_of, encoding_outcome, of_column, row_codes, sizes_of};
 ghost use Rattle.lasso_c.specs.declared.refusal.Refusal.TheVariants.{NoMemory};
 
-use crate::layout::{first_start, put_text, text_between};
+use crate::batches::intern_column;
+use crate::layout::put_text;
 use crate::refusal::{Refusal, Sizes};
 use lasso_parts::keys::{Key, Spur};
 use lasso_parts::util::FixedState;
@@ -40,7 +40,38 @@ pub(crate) fn encode(
     ensures dictionary_offsets { let dictionary = dictionary_of (layout_texts bytes.now offsets.now) in
         dictionary_offsets.new ≡ (if is_ok result then over (offsets_from 0 dictionary) dictionary_offsets.old else dictionary_offsets.old) }
 {
-    let interned = intern_texts(alloc, bytes, offsets)?;
+    encode_rows(
+        alloc,
+        bytes,
+        offsets,
+        &[],
+        0,
+        codes,
+        dictionary_bytes,
+        dictionary_offsets,
+    )
+}
+
+// Writes the codes of the rows, and the dictionary of their texts; or nothing. A null has the given code.
+pub(crate) fn encode_rows(
+    alloc: Global,
+    bytes: &[u8],
+    offsets: &[u32],
+    bits: &[u8],
+    null: u32,
+    codes: &mut [u32],
+    dictionary_bytes: &mut [u8],
+    dictionary_offsets: &mut [u32],
+) -> Result<Sizes, Refusal>
+    ensures outcome { (result ≡ column_outcome bits.now bytes.now offsets.now (length codes.old) (length dictionary_offsets.old) (length dictionary_bytes.old)) ⊎ (result ≡ Err NoMemory) }
+    ensures codes { let rows = column_rows bits.now bytes.now offsets.now in
+        codes.new ≡ (if is_ok result then over (row_codes null (dictionary_of (present_texts rows)) rows) codes.old else codes.old) }
+    ensures dictionary_bytes { let dictionary = dictionary_of (present_texts (column_rows bits.now bytes.now offsets.now)) in
+        dictionary_bytes.new ≡ (if is_ok result then over (concat dictionary) dictionary_bytes.old else dictionary_bytes.old) }
+    ensures dictionary_offsets { let dictionary = dictionary_of (present_texts (column_rows bits.now bytes.now offsets.now)) in
+        dictionary_offsets.new ≡ (if is_ok result then over (offsets_from 0 dictionary) dictionary_offsets.old else dictionary_offsets.old) }
+{
+    let interned = intern_rows(alloc, bytes, offsets, bits, null)?;
     let found = interned.codes.as_slice();
     let sizes = sizes_of(&interned.dictionary);
     if codes.len() < found.len() {
@@ -57,38 +88,39 @@ pub(crate) fn encode(
     Ok(sizes)
 }
 
-// Interns the texts of the layout, up to the first with which something is wrong.
-fn intern_texts(alloc: Global, bytes: &[u8], offsets: &[u32]) -> Result<Interned, Refusal>
-    ensures refused { IfErr result (λ refusal. (layout_fault bytes.now offsets.now ≡ Some refusal) ⊎ (refusal ≡ NoMemory)) }
-    ensures layout { OnOk result (layout_fault bytes.now offsets.now ≡ None) }
-    ensures dictionary { IfOk result (λ interned. interned.dictionary.texts ≡ dictionary_of (layout_texts bytes.now offsets.now)) }
-    ensures codes { let texts = layout_texts bytes.now offsets.now in
-        IfOk result (λ interned. interned.codes.items ≡ codes_of (dictionary_of texts) texts) }
+// Interns the rows of the column into a new dictionary, unless something is wrong with one.
+fn intern_rows(
+    alloc: Global,
+    bytes: &[u8],
+    offsets: &[u32],
+    bits: &[u8],
+    null: u32,
+) -> Result<Interned, Refusal>
+    ensures refused { IfErr result (λ refusal. (column_refusal bits.now bytes.now offsets.now ≡ Some refusal) ⊎ (refusal ≡ NoMemory)) }
+    ensures layout { OnOk result (column_refusal bits.now bytes.now offsets.now ≡ None) }
+    ensures dictionary { IfOk result (λ interned. interned.dictionary.texts ≡ dictionary_of (present_texts (column_rows bits.now bytes.now offsets.now))) }
+    ensures codes { let rows = column_rows bits.now bytes.now offsets.now in
+        IfOk result (λ interned. interned.codes.items ≡ row_codes null (dictionary_of (present_texts rows)) rows) }
     ensures small { IfOk result (λ interned. length (concat interned.dictionary.texts) ≤ greatest_offset) }
 {
     let mut dictionary = Rodeo::default(alloc)?;
-    let mut codes = Vec::with_capacity(alloc, offsets.len())?;
-    let Some((first, rest)) = offsets.split_first() else {
-        return Ok(Interned { dictionary, codes });
-    };
-    let mut from = first_start(bytes, *first)?;
-    for (at, to) in rest.iter().enumerate() {
-        let to = *to as usize;
-        let text = text_between(bytes, at, from, to)?;
-        codes.push(code_of(&mut dictionary, text)?)?;
-        from = to;
+    let mut codes = vec![in alloc; 0u32; offsets.len().saturating_sub(1)]?;
+    let progress = intern_column(&mut dictionary, bytes, offsets, bits, null, &mut codes);
+    match progress.outcome {
+        Ok(()) => Ok(Interned { dictionary, codes }),
+        Err(refusal) => Err(of_column(refusal)),
     }
-    Ok(Interned { dictionary, codes })
 }
 
-// The code of the text, which goes last in the dictionary if it is not there.
-fn code_of(dictionary: &mut Dictionary, text: &str) -> Result<u32, Refusal>
-    ensures texts { OnOk result (dictionary.new.texts ≡ with_new dictionary.old.texts text.now) }
-    ensures code { IfOk result (λ code. position_of dictionary.new.texts text.now ≡ Some code) }
-    ensures refused { IfErr result (λ refusal. refusal ≡ NoMemory) }
+// The refusal, and out of memory for one by the dictionary: this has no limit below the greatest number, and a code for each text
+// that offsets can reach.
+fn of_column(refusal: Refusal) -> Refusal
+    ensures { result ≡ of_column refusal }
 {
-    let key = dictionary.try_get_or_intern(text)?;
-    Ok(key.into_inner() - 1)
+    match refusal {
+        Refusal::LimitReached(_) | Refusal::NoCodeLeft(_) => Refusal::NoMemory,
+        _ => refusal,
+    }
 }
 
 // How many texts and bytes the dictionary has.

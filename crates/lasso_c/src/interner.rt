@@ -6,16 +6,17 @@ ghost use Rattle.std.specs.List.{concat};
 ghost use Rattle.std.specs.Str.{is_utf8};
 ghost use Rattle.lasso_parts.specs.Account.{clear, fresh, with_limit};
 ghost use Rattle.lasso_parts.specs.Texts.{position_of};
-ghost use Rattle.lasso_c.specs.Layout.{layout_texts, offsets_from, over};
-ghost use Rattle.lasso_c.specs.Encoding.{with_new, with_all_new, codes_of, codes_or};
+ghost use Rattle.lasso_c.specs.Layout.{column_rows, greatest_offset, layout_texts, offsets_from, over, present_texts};
+ghost use Rattle.lasso_c.specs.Encoding.{with_new, with_all_new, codes_of, codes_or, row_codes};
 ghost use Rattle.lasso_c.specs.Handles.{account_in, dictionary_outcome, first_in, lookup_outcome, texts_in};
 ghost use Rattle.lasso_c.specs.Interning.{BatchEnds, TextEnds};
 ghost use Rattle.lasso_c.specs.Status.{Reports};
 
-use crate::batches::{code_in, copy_text, find_layout, intern_layout, tell_batch, write_from};
+use crate::batches::{code_in, copy_text};
 use crate::handle::Lasso;
-use crate::refusal::{LassoReport, Refusal, status_of, tell};
+use crate::refusal::{LassoReport, status_of};
 use crate::slot::Interner;
+use crate::widths;
 use lasso_parts::keys::Key;
 use lasso_parts::util::MemoryLimits;
 use lasso_single::rodeo::Rodeo;
@@ -82,18 +83,36 @@ pub extern "C" fn lasso_intern_batch(
     codes: &mut [u32],
     report: &mut LassoReport,
 ) -> u32
-    ensures outcome { BatchEnds lasso.old.slot.value bytes.now offsets.now (length codes.old) result report.new lasso.new.slot.value }
+    ensures outcome { BatchEnds greatest_offset lasso.old.slot.value [] bytes.now offsets.now (length codes.old) result report.new lasso.new.slot.value }
     ensures texts { texts_in lasso.new.slot.value ≡ with_all_new (texts_in lasso.old.slot.value) (take report.new.texts (layout_texts bytes.now offsets.now)) }
     ensures codes { codes.new ≡ over (codes_of (texts_in lasso.new.slot.value) (take report.new.texts (layout_texts bytes.now offsets.now))) codes.old }
     ensures whole { result ≡ 0 → report.new.texts ≡ length (layout_texts bytes.now offsets.now) }
     ensures within { report.new.texts ≤ length (layout_texts bytes.now offsets.now) }
 {
-    let Some(mut interner) = lasso.take(alloc) else {
-        return tell(&Err(Refusal::NoInterner), report);
-    };
-    let progress = intern_layout(&mut interner.rodeo, bytes, offsets, codes);
-    lasso.put(alloc, interner);
-    tell_batch(progress, report)
+    widths::intern_batch(alloc, lasso, bytes, offsets, codes, report)
+}
+
+/// The same for a column with nulls: bit i of byte i / 8 of `present`, counted from the least, is 1 where row i is present, and without
+/// a byte each is. A null has the code `null`, and no text is interned for it. It returns 14 and interns none where `present` has
+/// too few bits.
+#[unsafe(no_mangle)]
+pub extern "C" fn lasso_intern_batch_nulls(
+    alloc: Global,
+    lasso: &mut Lasso,
+    bytes: &[u8],
+    offsets: &[u32],
+    present: &[u8],
+    null: u32,
+    codes: &mut [u32],
+    report: &mut LassoReport,
+) -> u32
+    ensures outcome { BatchEnds greatest_offset lasso.old.slot.value present.now bytes.now offsets.now (length codes.old) result report.new lasso.new.slot.value }
+    ensures texts { texts_in lasso.new.slot.value ≡ with_all_new (texts_in lasso.old.slot.value) (present_texts (take report.new.texts (column_rows present.now bytes.now offsets.now))) }
+    ensures codes { codes.new ≡ over (row_codes null (texts_in lasso.new.slot.value) (take report.new.texts (column_rows present.now bytes.now offsets.now))) codes.old }
+    ensures whole { result ≡ 0 → report.new.texts ≡ length (layout_texts bytes.now offsets.now) }
+    ensures within { report.new.texts ≤ length (layout_texts bytes.now offsets.now) }
+{
+    widths::intern_batch_nulls(alloc, lasso, bytes, offsets, present, null, codes, report)
 }
 
 /// Writes the code of a text. It returns 3 where the text is not UTF-8, 12 without an interner, 13 where the text is absent, and
@@ -137,17 +156,12 @@ pub extern "C" fn lasso_get_batch(
     codes: &mut [u32],
     report: &mut LassoReport,
 ) -> u32
-    ensures outcome { Reports (lookup_outcome lasso.old.slot.value bytes.now offsets.now (length codes.old)) result report.new }
+    ensures outcome { Reports (lookup_outcome greatest_offset lasso.old.slot.value bytes.now offsets.now (length codes.old)) result report.new }
     ensures codes { result ≡ 0 → codes.new ≡ over (codes_or absent (texts_in lasso.old.slot.value) (layout_texts bytes.now offsets.now)) codes.old }
     ensures codes_kept { ¬ (result ≡ 0) → codes.new ≡ codes.old }
     ensures kept { lasso.new.slot.value ≡ lasso.old.slot.value }
 {
-    let Some(interner) = lasso.take(alloc) else {
-        return tell(&Err(Refusal::NoInterner), report);
-    };
-    let outcome = find_layout(&interner.rodeo, bytes, offsets, absent, codes);
-    lasso.put(alloc, interner);
-    tell(&outcome, report)
+    widths::get_batch(alloc, lasso, bytes, offsets, absent, codes, report)
 }
 
 /// Writes the text of a code as far as there is room, and how many bytes the whole text has. It returns 12 without an interner,
@@ -189,19 +203,14 @@ pub extern "C" fn lasso_dictionary(
     offsets: &mut [u32],
     report: &mut LassoReport,
 ) -> u32
-    ensures outcome { Reports (dictionary_outcome lasso.old.slot.value from (length offsets.old) (length bytes.old)) result report.new }
+    ensures outcome { Reports (dictionary_outcome greatest_offset lasso.old.slot.value from (length offsets.old) (length bytes.old)) result report.new }
     ensures bytes { result ≡ 0 → bytes.new ≡ over (concat (drop from (texts_in lasso.old.slot.value))) bytes.old }
     ensures offsets { result ≡ 0 → offsets.new ≡ over (offsets_from 0 (drop from (texts_in lasso.old.slot.value))) offsets.old }
     ensures bytes_kept { ¬ (result ≡ 0) → bytes.new ≡ bytes.old }
     ensures offsets_kept { ¬ (result ≡ 0) → offsets.new ≡ offsets.old }
     ensures kept { lasso.new.slot.value ≡ lasso.old.slot.value }
 {
-    let Some(interner) = lasso.take(alloc) else {
-        return tell(&Err(Refusal::NoInterner), report);
-    };
-    let outcome = write_from(&interner.rodeo, from, bytes, offsets);
-    lasso.put(alloc, interner);
-    tell(&outcome, report)
+    widths::dictionary(alloc, lasso, from, bytes, offsets, report)
 }
 
 /// How many texts the interner has; 0 without an interner.

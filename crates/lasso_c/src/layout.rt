@@ -5,39 +5,41 @@ ghost use Rattle.std.specs.Option.{option_copied};
 ghost use Rattle.std.specs.Result.{result_err};
 ghost use Rattle.lasso_c.specs.Layout.{greatest_offset, reach, layout_texts, start_fault, text_fault, layout_fault, over_from};
 
+use crate::offsets::Offset;
 use crate::refusal::Refusal;
 use std::str::from_utf8;
 
-// The greatest offset. Offsets are signed numbers of 32 bits, so a negative one is read as a number above it.
-pub(crate) const GREATEST_OFFSET: usize = 2_147_483_647;
-
 // How far offsets may reach into the bytes.
-fn reach(bytes: &[u8]) -> usize
-    ensures { result ≡ reach bytes.now }
+pub(crate) fn reach<O: Offset>(bytes: &[u8]) -> usize
+    ensures { result ≡ reach O.greatest bytes.now }
 {
-    bytes.len().min(GREATEST_OFFSET)
+    bytes.len().min(O::greatest())
 }
 
 // Where the first text begins, where its offset is good.
-pub(crate) fn first_start(bytes: &[u8], offset: u32) -> Result<usize, Refusal>
-    ensures { MatchResult result (λ from. (from ≡ offset) × (start_fault bytes.now offset ≡ None)) (λ refusal. start_fault bytes.now offset ≡ Some refusal) }
+pub(crate) fn first_start<O: Offset>(bytes: &[u8], from: usize) -> Result<usize, Refusal>
+    ensures { MatchResult result (λ start. (start ≡ from) × (start_fault O.greatest bytes.now from ≡ None)) (λ refusal. start_fault O.greatest bytes.now from ≡ Some refusal) }
 {
-    let from = offset as usize;
-    if from > reach(bytes) {
+    if from > reach::<O>(bytes) {
         return Err(Refusal::OffsetPastBytes(0));
     }
     Ok(from)
 }
 
 // The text of this number, between two offsets.
-pub(crate) fn text_between(bytes: &[u8], at: usize, from: usize, to: usize) -> Result<&str, Refusal>
-    ensures { MatchResult result (λ text. (text.now ≡ slice_range bytes.now from to) × (from ≤ to) × (to ≤ reach bytes.now) × (text_fault bytes.now at from to ≡ None))
-        (λ refusal. text_fault bytes.now at from to ≡ Some refusal) }
+pub(crate) fn text_between<O: Offset>(
+    bytes: &[u8],
+    at: usize,
+    from: usize,
+    to: usize,
+) -> Result<&str, Refusal>
+    ensures { MatchResult result (λ text. (text.now ≡ slice_range bytes.now from to) × (from ≤ to) × (to ≤ reach O.greatest bytes.now) × (text_fault O.greatest bytes.now at from to ≡ None))
+        (λ refusal. text_fault O.greatest bytes.now at from to ≡ Some refusal) }
 {
     if to < from {
         return Err(Refusal::OffsetsFall(at));
     }
-    if to > reach(bytes) {
+    if to > reach::<O>(bytes) {
         return Err(Refusal::OffsetPastBytes(at));
     }
     match from_utf8(&bytes[from..to]) {
@@ -47,16 +49,17 @@ pub(crate) fn text_between(bytes: &[u8], at: usize, from: usize, to: usize) -> R
 }
 
 // Finds what is first wrong with the layout.
-pub(crate) fn check_layout(bytes: &[u8], offsets: &[u32]) -> Result<(), Refusal>
-    ensures { result_err result ≡ layout_fault bytes.now offsets.now }
+pub(crate) fn check_layout<O: Offset>(bytes: &[u8], offsets: &[O]) -> Result<(), Refusal>
+    ensures { result_err result ≡ layout_fault O.greatest bytes.now (O.numbers offsets.now) }
 {
-    let Some((first, rest)) = offsets.split_first() else {
+    let count = O::count(offsets);
+    if count == 0 {
         return Ok(());
-    };
-    let mut from = first_start(bytes, *first)?;
-    for (at, to) in rest.iter().enumerate() {
-        let to = *to as usize;
-        text_between(bytes, at, from, to)?;
+    }
+    let mut from = first_start::<O>(bytes, O::number(offsets, 0))?;
+    for at in 0..count - 1 {
+        let to = O::number(offsets, at + 1);
+        text_between::<O>(bytes, at, from, to)?;
         from = to;
     }
     Ok(())
@@ -64,7 +67,7 @@ pub(crate) fn check_layout(bytes: &[u8], offsets: &[u32]) -> Result<(), Refusal>
 
 // The bytes of the text of this number, where there is one. Nothing may be wrong with the layout.
 pub(crate) fn text_at<'a>(bytes: &'a [u8], offsets: &[u32], number: u32) -> Option<&'a [u8]>
-    requires { layout_fault bytes.now offsets.now ≡ None }
+    requires { layout_fault greatest_offset bytes.now offsets.now ≡ None }
     ensures { option_copied result ≡ slice_get (layout_texts bytes.now offsets.now) number }
 {
     let number = number as usize;
@@ -75,22 +78,22 @@ pub(crate) fn text_at<'a>(bytes: &'a [u8], offsets: &[u32], number: u32) -> Opti
 }
 
 // Writes where the text of this number begins, and its bytes. It returns where they end.
-pub(crate) fn put_text(
+pub(crate) fn put_text<O: Offset>(
     text: &[u8],
     at: usize,
     start: usize,
-    offsets: &mut [u32],
+    offsets: &mut [O],
     bytes: &mut [u8],
 ) -> usize
-    requires offsets { at < length offsets.old }
+    requires offsets { at < length (O.numbers offsets.old) }
     requires bytes { start + length text.now ≤ length bytes.old }
-    requires small { start ≤ greatest_offset }
+    requires small { start ≤ O.greatest }
     ensures end { result ≡ start + length text.now }
-    ensures offsets { offsets.new ≡ slice_set offsets.old at start }
+    ensures offsets { O.numbers offsets.new ≡ slice_set (O.numbers offsets.old) at start }
     ensures bytes { bytes.new ≡ over_from start text.now bytes.old }
 {
     let end = start + text.len();
-    offsets[at] = start as u32;
+    O::put(offsets, at, start);
     bytes[start..end].copy_from_slice(text);
     end
 }

@@ -4,11 +4,12 @@
 //! is one more than there are texts. No call keeps a pointer, and each writes into its caller's memory alone.
 #![tactic(auto)]
 
-ghost use Rattle.std.specs.Prelude.{◌≡◌, ◌⊎◌, Err, length, take};
+ghost use Rattle.std.specs.Prelude.{◌≡◌, ◌⊎◌, Err, Some, length, take};
 ghost use Rattle.std.specs.List.{concat};
-ghost use Rattle.lasso_c.specs.Layout.{layout_texts, offsets_from, over};
-ghost use Rattle.lasso_c.specs.Encoding.{dictionary_of, codes_of, encoding_outcome};
-ghost use Rattle.lasso_c.specs.Decoding.{texts_named, decoding_outcome};
+ghost use Rattle.lasso_c.specs.Layout.{column_rows, layout_texts, offsets_from, over, present_texts};
+ghost use Rattle.lasso_c.specs.Encoding.{column_outcome, codes_of, dictionary_of, encoding_outcome, row_codes};
+ghost use Rattle.lasso_c.specs.Bitmap.{bitmap_of, code_bits};
+ghost use Rattle.lasso_c.specs.Decoding.{decoding_outcome, nulls_decoding_outcome, rows_named, texts_named};
 ghost use Rattle.lasso_c.specs.Status.{Reports, status_text};
 ghost use Rattle.lasso_c.specs.declared.refusal.Refusal.TheVariants.{NoMemory};
 
@@ -19,12 +20,20 @@ pub mod handle;
 pub mod interner;
 #[cfg(test)]
 mod interner_tests;
+pub mod large;
+#[cfg(test)]
+mod large_tests;
 pub mod laws;
 mod layout;
+#[cfg(test)]
+mod null_tests;
+mod nulls;
+mod offsets;
 pub mod refusal;
 pub mod slot;
 #[cfg(test)]
 mod tests;
+mod widths;
 
 use refusal::LassoReport;
 use std::alloc::Global;
@@ -65,6 +74,45 @@ pub extern "C" fn lasso_encode(
     refusal::tell(&outcome, report)
 }
 
+/// The same for a column with nulls: bit i of byte i / 8 of `present`, counted from the least, is 1 where row i is present, and without
+/// a byte each is. A null has the code `null`, and its bytes are in no dictionary.
+#[unsafe(no_mangle)]
+pub extern "C" fn lasso_encode_nulls(
+    alloc: Global,
+    bytes: &[u8],
+    offsets: &[u32],
+    present: &[u8],
+    null: u32,
+    codes: &mut [u32],
+    dictionary_bytes: &mut [u8],
+    dictionary_offsets: &mut [u32],
+    report: &mut LassoReport,
+) -> u32
+    ensures outcome { Reports (column_outcome present.now bytes.now offsets.now (length codes.old) (length dictionary_offsets.old) (length dictionary_bytes.old)) result report.new
+        ⊎ Reports (Err NoMemory) result report.new }
+
+    ensures codes { result ≡ 0 → (let rows = column_rows present.now bytes.now offsets.now in
+        codes.new ≡ over (row_codes null (dictionary_of (present_texts rows)) rows) codes.old) }
+    ensures dictionary_bytes { result ≡ 0 → dictionary_bytes.new ≡ over (concat (dictionary_of (present_texts (column_rows present.now bytes.now offsets.now)))) dictionary_bytes.old }
+    ensures dictionary_offsets { result ≡ 0 → dictionary_offsets.new ≡ over (offsets_from 0 (dictionary_of (present_texts (column_rows present.now bytes.now offsets.now)))) dictionary_offsets.old }
+
+    ensures codes_kept { ¬ (result ≡ 0) → codes.new ≡ codes.old }
+    ensures dictionary_bytes_kept { ¬ (result ≡ 0) → dictionary_bytes.new ≡ dictionary_bytes.old }
+    ensures dictionary_offsets_kept { ¬ (result ≡ 0) → dictionary_offsets.new ≡ dictionary_offsets.old }
+{
+    let outcome = encoding::encode_rows(
+        alloc,
+        bytes,
+        offsets,
+        present,
+        null,
+        codes,
+        dictionary_bytes,
+        dictionary_offsets,
+    );
+    refusal::tell(&outcome, report)
+}
+
 /// Writes the texts that codes name, in the layout of the dictionary. It returns a status, and where that is not 0 it writes
 /// nothing but the report.
 #[unsafe(no_mangle)]
@@ -84,7 +132,49 @@ pub extern "C" fn lasso_decode(
     ensures bytes_kept { ¬ (result ≡ 0) → bytes.new ≡ bytes.old }
     ensures offsets_kept { ¬ (result ≡ 0) → offsets.new ≡ offsets.old }
 {
-    let outcome = decoding::decode(dictionary_bytes, dictionary_offsets, codes, bytes, offsets);
+    let outcome = decoding::decode(
+        dictionary_bytes,
+        dictionary_offsets,
+        codes,
+        None,
+        bytes,
+        offsets,
+    );
+    refusal::tell(&outcome, report)
+}
+
+/// The same for a column with nulls: the code `null` gives an empty row, whose bit in `present` is 0; each other row has 1, and the
+/// bits of the last byte after the rows are 0. It returns 14 where `present` has too few bits.
+#[unsafe(no_mangle)]
+pub extern "C" fn lasso_decode_nulls(
+    dictionary_bytes: &[u8],
+    dictionary_offsets: &[u32],
+    codes: &[u32],
+    null: u32,
+    bytes: &mut [u8],
+    offsets: &mut [u32],
+    present: &mut [u8],
+    report: &mut LassoReport,
+) -> u32
+    ensures outcome { Reports (nulls_decoding_outcome null dictionary_bytes.now dictionary_offsets.now codes.now (length offsets.old) (length bytes.old) (length present.old)) result report.new }
+
+    ensures bytes { result ≡ 0 → bytes.new ≡ over (concat (rows_named (Some null) (layout_texts dictionary_bytes.now dictionary_offsets.now) codes.now)) bytes.old }
+    ensures offsets { result ≡ 0 → offsets.new ≡ over (offsets_from 0 (rows_named (Some null) (layout_texts dictionary_bytes.now dictionary_offsets.now) codes.now)) offsets.old }
+    ensures present { result ≡ 0 → present.new ≡ over (bitmap_of (code_bits null codes.now)) present.old }
+
+    ensures bytes_kept { ¬ (result ≡ 0) → bytes.new ≡ bytes.old }
+    ensures offsets_kept { ¬ (result ≡ 0) → offsets.new ≡ offsets.old }
+    ensures present_kept { ¬ (result ≡ 0) → present.new ≡ present.old }
+{
+    let outcome = decoding::decode_nulls(
+        dictionary_bytes,
+        dictionary_offsets,
+        codes,
+        null,
+        bytes,
+        offsets,
+        present,
+    );
     refusal::tell(&outcome, report)
 }
 

@@ -43,6 +43,8 @@ pub enum Refusal {
     NoInterner,
     /// The interner does not have the text.
     NoSuchText,
+    /// The bitmap has no bit for the row.
+    BitmapTooShort(usize),
 }
 
 impl From<AllocError> for Refusal {
@@ -101,6 +103,7 @@ pub(crate) fn tell(outcome: &Result<Sizes, Refusal>, report: &mut LassoReport) -
         Err(Refusal::NoCodeLeft(at)) => (11, 0, 0, *at),
         Err(Refusal::NoInterner) => (12, 0, 0, 0),
         Err(Refusal::NoSuchText) => (13, 0, 0, 0),
+        Err(Refusal::BitmapTooShort(at)) => (14, 0, 0, *at),
     };
     *report = LassoReport { texts, bytes, at };
     status
@@ -124,6 +127,7 @@ pub(crate) fn status_of(refusal: &Refusal) -> u32
         Refusal::NoCodeLeft(_) => 11,
         Refusal::NoInterner => 12,
         Refusal::NoSuchText => 13,
+        Refusal::BitmapTooShort(_) => 14,
     }
 }
 
@@ -146,6 +150,7 @@ pub(crate) fn message_of(status: u32) -> &'static str
         11 => "there is a text for each code",
         12 => "there is no interner",
         13 => "the interner does not have the text",
+        14 => "a bitmap has no bit for a row",
         _ => "not a status",
     }
 }

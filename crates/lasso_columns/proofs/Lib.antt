@@ -6,3 +6,6 @@ pub mod EncodedLines
 pub mod Shared
 pub mod PartLists
 pub mod Rewritten
+pub mod LayoutLaws
+pub mod Written
+pub mod Readings

@@ -4,3 +4,5 @@ pub mod Encoding
 pub mod Faults
 pub mod Sharing
 pub mod Parts
+pub mod Layout
+pub mod Dictionaries

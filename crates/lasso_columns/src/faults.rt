@@ -1,8 +1,10 @@
-//! Why bytes were not encoded, or codes not decoded.
-ghost use Rattle.std.specs.Prelude.{Some};
-ghost use Rattle.lasso_columns.specs.Faults.{line_error_text, decode_error_text};
+//! Why bytes were not encoded, codes not decoded, or a dictionary not written or not read.
+ghost use Rattle.std.specs.Prelude.{◌≡◌, Some};
+ghost use Rattle.lasso_columns.specs.Faults.{line_error_text, decode_error_text, write_error_text, read_error_text};
+ghost use Rattle.lasso_columns.specs.declared.faults.WriteError.TheVariants.{NoMemory};
 
-use lasso::LassoError;
+use lasso::{LassoError, LassoErrorKind};
+use std::alloc::{AllocError, AllocFailed};
 use std::error::Error;
 use std::fmt;
 
@@ -56,3 +58,74 @@ impl fmt::Display for DecodeError {
 }
 
 impl Error for DecodeError {}
+
+/// Why a dictionary was not written. Positions are those of the interner's list, counted from 0.
+#[derive(Clone, Copy, Debug, PartialEq, Eq, Hash)]
+pub enum WriteError {
+    /// The text at this position is the first that ends past the greatest offset.
+    TooManyBytes(usize),
+    /// There was no memory for the bytes or the offsets.
+    NoMemory,
+}
+
+impl fmt::Display for WriteError {
+    ghost output = { λ error. Some (write_error_text error) };
+
+    fn fmt<W: fmt::Write>(&self, f: &mut fmt::Formatter<W>) -> fmt::Result {
+        match self {
+            WriteError::TooManyBytes(at) => { write!(f, "Text {at} ends past the greatest offset") }
+            WriteError::NoMemory => f.write_str("Failed to allocate memory"),
+        }
+    }
+}
+
+impl Error for WriteError {}
+
+impl From<AllocError> for WriteError {
+    ghost from_gives = { λ _ error. error ≡ NoMemory };
+
+    fn from(_: AllocError) -> Self {
+        WriteError::NoMemory
+    }
+}
+
+impl<T: Drop> From<AllocFailed<T>> for WriteError {
+    ghost from_gives = { λ _ error. error ≡ NoMemory };
+
+    fn from(_: AllocFailed<T>) -> Self {
+        WriteError::NoMemory
+    }
+}
+
+/// Why a dictionary was not read. Positions are those of the dictionary's texts, counted from 0.
+#[derive(Clone, Copy, Debug, PartialEq, Eq, Hash)]
+pub enum ReadError {
+    /// The text at this position ends before it begins.
+    OffsetsFall(usize),
+    /// The text at this position ends past the bytes, or past the greatest offset. At 0 it may also
+    /// begin there.
+    OffsetPastBytes(usize),
+    /// The text at this position is not UTF-8.
+    NotText(usize),
+    /// The text at this position is one that the interner has: it came before in the dictionary, or was
+    /// there at first.
+    Doubled(usize),
+    /// The interner refused the text at this position: by its limit, for lack of a key, or out of memory.
+    Refused(usize, LassoErrorKind),
+}
+
+impl fmt::Display for ReadError {
+    ghost output = { λ error. Some (read_error_text error) };
+
+    fn fmt<W: fmt::Write>(&self, f: &mut fmt::Formatter<W>) -> fmt::Result {
+        match self {
+            ReadError::OffsetsFall(at) => write!(f, "Text {at} ends before it begins"),
+            ReadError::OffsetPastBytes(at) => write!(f, "Text {at} has an offset past the bytes"),
+            ReadError::NotText(at) => write!(f, "Text {at} is not UTF-8"),
+            ReadError::Doubled(at) => write!(f, "Text {at} is there already"),
+            ReadError::Refused(at, kind) => write!(f, "Text {at}: {kind}"),
+        }
+    }
+}
+
+impl Error for ReadError {}

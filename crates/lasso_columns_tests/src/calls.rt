@@ -1,9 +1,9 @@
 //! The calls that the tests make, each in a function of no contract: what a call leaves is looked at, and nothing of it is known before.
 use lasso::{
-    FixedState, LassoResult, Rodeo, Spur, SpurRodeo, SpurRodeoReader, SpurThreadedRodeo,
-    ThreadedRodeo,
+    FixedState, Key, LassoResult, MemoryLimits, Rodeo, Spur, SpurRodeo, SpurRodeoReader,
+    SpurThreadedRodeo, ThreadedRodeo,
 };
-use lasso_columns::{DecodeError, LineError};
+use lasso_columns::{DecodeError, Dictionary, Layout, LineError, Offset, ReadError, WriteError};
 use std::alloc::Allocator;
 use std::hash::BuildHasher;
 use std::sync::Wait;
@@ -91,4 +91,30 @@ pub(super) fn encode_shared_as<R: AllocGlobal + Threads + Wait + Sync>(
 ) -> LassoResult<()> {
     let mut pass = rodeo.pass();
     lasso_columns::encode_shared_as(rt, rodeo, &mut pass, texts, codes, workers)
+}
+
+pub(super) fn write_dictionary<R: AllocGlobal, O: Offset, D: Dictionary>(
+    rt: &R,
+    dictionary: &D,
+    from: usize,
+) -> Result<Layout<O>, WriteError> {
+    lasso_columns::write_dictionary(rt.alloc(), dictionary, from)
+}
+
+pub(super) fn append_dictionary<K: Key, A: Allocator + Clone, O: Offset>(
+    rodeo: &mut Rodeo<K, FixedState, A>,
+    bytes: &[u8],
+    offsets: &[O],
+) -> Result<(), ReadError> {
+    lasso_columns::append_dictionary(rodeo, bytes, offsets)
+}
+
+// With the hasher of fixed seed.
+pub(super) fn read_dictionary<K: Key, A: Allocator + Clone, O: Offset>(
+    alloc: A,
+    limits: MemoryLimits,
+    bytes: &[u8],
+    offsets: &[O],
+) -> Result<Rodeo<K, FixedState, A>, ReadError> {
+    lasso_columns::read_dictionary(alloc, limits, FixedState::new(), bytes, offsets)
 }

@@ -1,6 +1,9 @@
 //! The examples in the documents of the calls, in tests.
-use lasso::{Rodeo, SpurRodeo, SpurThreadedRodeo, ThreadedRodeo};
-use lasso_columns::{decode, encode, encode_in_parts, encode_lines, encode_shared, merge};
+use lasso::{FixedState, Key, MemoryLimits, Rodeo, SpurRodeo, SpurThreadedRodeo, ThreadedRodeo};
+use lasso_columns::{
+    Layout, ReadError, append_dictionary, decode, encode, encode_in_parts, encode_lines,
+    encode_shared, merge, read_dictionary, write_dictionary,
+};
 use std::test::Fail;
 
 #[test]
@@ -59,5 +62,37 @@ fn texts_encoded_by_threads(rt: HostRuntime) -> Result<(), Fail> {
     encode_shared(&rt, &rodeo, &["red", "green", "red"], &mut codes, 2)?;
     assert!(rt; codes.first() == codes.last());
     assert!(rt; rodeo.len() == 2);
+    Ok(())
+}
+
+#[test]
+fn dictionary_written(rt: HostRuntime) -> Result<(), Fail> {
+    let rodeo = SpurRodeo::from_iter(rt.alloc(), ["red", "", "blue"])?;
+    let layout: Layout<u32> = write_dictionary(rt.alloc(), &rodeo, 1)?;
+    assert!(rt; layout.bytes.as_slice() == b"blue".as_slice());
+    assert!(rt; layout.offsets.as_slice() == [0, 0, 4].as_slice());
+    Ok(())
+}
+
+#[test]
+fn dictionary_read(rt: HostRuntime) -> Result<(), Fail> {
+    let limits = MemoryLimits::default();
+    let hasher = FixedState::new();
+    let read = read_dictionary(rt.alloc(), limits, hasher, b"redblue", &[0u32, 3, 3, 7])?;
+    let rodeo: SpurRodeo = read;
+    assert!(rt; rodeo.len() == 3);
+    let blue = rodeo.get("blue").ok_or("not there")?;
+    assert!(rt; blue.into_usize() == 2);
+    Ok(())
+}
+
+#[test]
+fn dictionary_appended(rt: HostRuntime) -> Result<(), Fail> {
+    let mut rodeo = SpurRodeo::from_iter(rt.alloc(), ["red"])?;
+    append_dictionary(&mut rodeo, b"blue", &[0u32, 0, 4])?;
+    assert!(rt; rodeo.len() == 3);
+    let doubled = append_dictionary(&mut rodeo, b"greenred", &[0u32, 5, 8]);
+    assert!(rt; doubled == Err(ReadError::Doubled(1)));
+    assert!(rt; rodeo.contains("green"));
     Ok(())
 }

@@ -1,5 +1,5 @@
 //! Tests of `lasso_columns` by its public calls: whole columns, with values worked by hand, columns that several threads encode,
-//! together or in parts, and the examples in the documents.
+//! together or in parts, dictionaries that are written and read, and the examples in the documents.
 #![tactic(auto)]
 
 #[cfg(test)]
@@ -7,12 +7,16 @@ mod calls;
 #[cfg(test)]
 mod columns;
 #[cfg(test)]
+mod dictionaries;
+#[cfg(test)]
 mod examples;
 #[cfg(test)]
 mod hashers;
 pub mod limited;
 #[cfg(test)]
 mod long_columns;
+#[cfg(test)]
+mod narrow;
 #[cfg(test)]
 mod numbered;
 #[cfg(test)]

@@ -2,3 +2,4 @@ pub mod Words
 pub mod Scopes
 pub mod Compiling
 pub mod Lexing
+pub mod Pairs

@@ -6,6 +6,7 @@ pub mod closures;
 pub mod compiler;
 pub mod errors;
 pub mod lexer;
+pub mod pairs;
 pub mod passes;
 pub mod saving;
 pub mod scopes;

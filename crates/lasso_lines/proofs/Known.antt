@@ -88,6 +88,11 @@ pub on_ok : (result : Result (Unit {0}) RunFault) (P : Type 0) → P → OnOk re
 on_ok (Ok x) P p = p
 on_ok (Err fault) P p = tt
 
+-- what holds of each fault holds of the one that there is
+pub if_err : (result : Result (Unit {0}) RunFault) (P : RunFault → Type 0) → ((fault : RunFault) → P fault) → IfErr result P
+if_err (Ok x) P p = tt
+if_err (Err fault) P p = p fault
+
 -- what a writer into empty memory has delivered is the part
 pub delivered_part : (before pending after pending' : Option (List ℕ)) (bytes : List ℕ) (P : List ℕ → Type 0) → before ≡ Some [] → pending ≡ Some [] → after ≡ Some bytes → pending' ≡ Some [] → Grows (written before pending) (written after pending') P → P bytes
 delivered_part before pending after pending' bytes P none none' all all' grown =

@@ -2,7 +2,7 @@
 --
 -- A code names the text at its position. Where codes are the positions of some texts in a list, each of these texts is named, and a
 -- text that is named is one of them, since no two texts have one position.
-use Rattle.std.proofs.Common.{ℕ, zero, suc, ◌≡◌, ◌<◌, List, [], ◌∷◌, ◌++◌, length, map, get_or, Option, Some, Result, Ok, Err, OnOk, Bool, true, false, refl, sym, ap, subst, ◌∙◌, append-nil, arith}
+use Rattle.std.proofs.Common.{ℕ, zero, suc, ◌≡◌, ◌<◌, List, [], ◌∷◌, ◌++◌, length, map, get_or, Option, Some, Result, Ok, Err, OnOk, IfErr, Bool, true, false, refl, sym, ap, subst, ◌∙◌, append-nil, arith}
 use Rattle.std.specs.Prelude.{Contains, slice_get, ◌↔◌}
 use mathlib.Core.List.{IsPrefix}
 use Rattle.std.proofs.lemmas.Option.{slice_get_within}
@@ -10,10 +10,11 @@ use Rattle.lasso_parts.specs.Texts.{Text, position_of, IsDistinct}
 use Rattle.lasso_parts.proofs.TextLemmas.{position_here}
 use Rattle.lasso_columns.specs.Codes.{AreCodes}
 use Rattle.lasso_columns.proofs.Shared.{codes_past}
-use Rattle.lasso_lines.specs.Ordered.{AreSameTexts, IsNamed, AreNamed, WritesNamed, WritesOrdered}
+use Rattle.lasso_lines.specs.Ordered.{AreSameTexts, IsNamed, AreNamed, WritesNamed, WritesOrdered, BeginsNamed, BeginsOrdered}
 use Rattle.lasso_lines.specs.Shares.{AreCodesOf}
 use Rattle.lasso_lines.specs.Stream.{Grows, Stays}
 use Rattle.lasso_lines.specs.declared.fault.RunFault.{RunFault}
+use Rattle.lasso_lines.specs.declared.fault.RunFault.TheVariants.{WriteFailed}
 use Rattle.lasso_lines.proofs.Known.{grows_as, stays_grows}
 use Rattle.lasso_lines.proofs.Chosen.{chosen, chosen_marked, marked_chosen, distinct_chosen}
 
@@ -71,6 +72,12 @@ module _ (list later lines : List Text) (codes : List ℕ) (begins : IsPrefix li
   writes_lines before mid after (Ok x) stays grown =
       grows_as before after (WritesNamed later codes) (WritesOrdered lines) (stays_grows before mid after (WritesNamed later codes) stays grown) (λ part w. (w.0, w.1, named_are_lines w.0 w.2, w.3))
   writes_lines before mid after (Err fault) stays none = tt
+
+  -- and what was written of the named texts before a failed write is a beginning of the lines in order
+  pub begins_lines : (before mid after : Option (List ℕ)) (result : Result (Unit {0}) RunFault) → Stays before mid → IfErr result (λ fault. fault ≡ WriteFailed → Grows mid after (BeginsNamed later codes)) → IfErr result (λ fault. fault ≡ WriteFailed → Grows before after (BeginsOrdered lines))
+  begins_lines before mid after (Ok x) stays none = tt
+  begins_lines before mid after (Err fault) stays begun = λ failed.
+      grows_as before after (BeginsNamed later codes) (BeginsOrdered lines) (stays_grows before mid after (BeginsNamed later codes) stays (begun failed)) (λ part b some. (b.0, (b.1.0, b.1.1, named_are_lines b.1.0 b.1.2, b.1.3), b.2))
 
 -- ---- what the marks keep
 

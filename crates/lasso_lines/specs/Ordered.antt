@@ -4,6 +4,7 @@ use Rattle.std.specs.List.{AllAdjacentBelow}
 use Rattle.std.specs.declared.cmp.Ordering.TheVariants.{Less}
 use Rattle.lasso_parts.specs.Texts.{Text, IsDistinct}
 use Rattle.lasso_lines.specs.Fronts.{text_cmp}
+use Rattle.lasso_lines.specs.Stream.{Begins}
 
 -- each text comes before the next one, in the order of their bytes: so none comes twice
 abbrev pub IsAscending : List Text → Type 0
@@ -22,6 +23,10 @@ AreSameTexts texts others = (text : Text) → Contains texts text ↔ Contains o
 abbrev pub WritesOrdered : List Text → List ℕ → Type 0
 WritesOrdered lines part = (texts : List Text) × IsAscending texts × AreSameTexts texts lines × (part ≡ told texts)
 
+-- the part is a beginning of the lines in this order, if it is not empty
+abbrev pub BeginsOrdered : List Text → List ℕ → Type 0
+BeginsOrdered lines part = ¬ (part ≡ []) → (whole : List ℕ) × WritesOrdered lines whole × Begins part whole
+
 -- one of the codes is the text's position in the list
 abbrev pub IsNamed : List Text → List ℕ → Text → Type 0
 IsNamed list codes text = (code : ℕ) × Contains codes code × (slice_get list code ≡ Some text)
@@ -35,3 +40,7 @@ pub record AreNamed (list : List Text) (codes : List ℕ) (texts : List Text) : 
 abbrev pub WritesNamed : List Text → List ℕ → List ℕ → Type 0
 WritesNamed list codes part =
     (texts : List Text) × IsAscending texts × ((text : Text) → Contains texts text ↔ IsNamed list codes text) × (part ≡ told texts)
+
+-- the part is a beginning of these texts in this order
+abbrev pub BeginsNamed : List Text → List ℕ → List ℕ → Type 0
+BeginsNamed list codes part = (whole : List ℕ) × WritesNamed list codes whole × Begins part whole

@@ -5,7 +5,7 @@ ghost use Rattle.lasso_log.specs.Views.{PassView, InternerId, list_of};
 ghost use Rattle.lasso_lines.specs.Stream.{Grows, OnlyGrows, Stays, written};
 ghost use Rattle.lasso_lines.specs.Answer.{IsAnswerFault, WritesAll, failed_writes};
 ghost use Rattle.lasso_lines.specs.Fronts.{IsFronted};
-ghost use Rattle.lasso_lines.specs.Ordered.{told, AreNamed, WritesNamed};
+ghost use Rattle.lasso_lines.specs.Ordered.{told, AreNamed, WritesNamed, BeginsNamed};
 ghost use Rattle.lasso_lines.specs.declared.fault.RunFault.TheVariants.{WriteFailed};
 
 use crate::answers::write_line;
@@ -37,6 +37,8 @@ pub(crate) fn write_in_order<R: AllocGlobal + Threads + Sync, O: ByteWriter>(
     ensures grows { IsPrefix (list_of rodeo.now pass.old.notes) (list_of rodeo.now pass.new.notes) }
     ensures texts { OnOk result (Grows (written (O.delivered writer.old) (O.pending writer.old)) (written (O.delivered writer.new) (O.pending writer.new))
         (WritesNamed (list_of rodeo.now pass.new.notes) codes.now)) }
+    ensures begins { IfErr result (λ fault. fault ≡ WriteFailed → Grows (written (O.delivered writer.old) (O.pending writer.old)) (written (O.delivered writer.new) (O.pending writer.new))
+        (BeginsNamed (list_of rodeo.now pass.new.notes) codes.now)) }
 {
     let mut texts = collect(rt, rodeo, pass, codes)?;
     sort(rt, &mut texts, threads);

@@ -4,7 +4,7 @@ ghost use Rattle.lasso_lines.specs.Stream.{Grows, OnlyGrows, Stays, Ended, writt
 ghost use Rattle.lasso_lines.specs.Report.{Ends};
 ghost use Rattle.lasso_lines.specs.Answer.{failed_reads, failed_writes};
 ghost use Rattle.lasso_lines.specs.Arguments.{settings_of};
-ghost use Rattle.lasso_lines.specs.Ordered.{WritesOrdered};
+ghost use Rattle.lasso_lines.specs.Ordered.{WritesOrdered, BeginsOrdered};
 ghost use Rattle.lasso_columns.specs.Lines.{lines_of};
 ghost use Rattle.lasso_lines.specs.declared.fault.RunFault.TheVariants.{Usage, WriteFailed};
 
@@ -33,6 +33,8 @@ pub fn run_words<R: AllocGlobal + Threads + Wait + Sync, I: ByteReader, O: ByteW
         IfErr result (λ fault. ¬ (fault ≡ WriteFailed) → Stays (written (O.delivered writer.old) (O.pending writer.old)) (written (O.delivered writer.new) (O.pending writer.new))) }
     ensures lines { (limit workers : ℕ) (input : List ℕ) → settings_of (map string_bytes words.now) ≡ Some (limit, Some workers) → I.left reader.old ≡ Some input →
         OnOk result (Grows (written (O.delivered writer.old) (O.pending writer.old)) (written (O.delivered writer.new) (O.pending writer.new)) (WritesOrdered (lines_of input))) }
+    ensures begins { (limit workers : ℕ) (input : List ℕ) → settings_of (map string_bytes words.now) ≡ Some (limit, Some workers) → I.left reader.old ≡ Some input →
+        IfErr result (λ fault. fault ≡ WriteFailed → Grows (written (O.delivered writer.old) (O.pending writer.old)) (written (O.delivered writer.new) (O.pending writer.new)) (BeginsOrdered (lines_of input))) }
     ensures whole { OnOk result (Ended (I.left reader.old) (I.left reader.new)) }
     ensures reads { I.failures reader.new ≡ I.failures reader.old + failed_reads result }
     ensures writes { O.failures writer.new ≡ O.failures writer.old + failed_writes result }

@@ -4,7 +4,7 @@ ghost use Rattle.lasso_columns.specs.Lines.{lines_of};
 ghost use Rattle.lasso_log.specs.Views.{list_of};
 ghost use Rattle.lasso_lines.specs.Stream.{Grows, OnlyGrows, Stays, Ended, written};
 ghost use Rattle.lasso_lines.specs.Answer.{IsLineFault, failed_reads, failed_writes};
-ghost use Rattle.lasso_lines.specs.Ordered.{WritesOrdered};
+ghost use Rattle.lasso_lines.specs.Ordered.{WritesOrdered, BeginsOrdered};
 ghost use Rattle.lasso_lines.specs.Shares.{AreCodesOf};
 ghost use Rattle.lasso_lines.specs.declared.fault.RunFault.TheVariants.{Usage, WriteFailed};
 
@@ -41,7 +41,8 @@ impl Gate for OpenGate {
 ///
 /// The first line that is not UTF-8 ends the run before a worker starts. Each worker stops at the first of its lines that
 /// is refused, and the fault is that of the lowest one. Out of memory at no line has the number 0. Nothing is
-/// written then, nor after a failed read. Nothing is tried again after a failed read or write.
+/// written then, nor after a failed read. What was written before a failed write is a beginning of the output. Nothing is
+/// tried again after a failed read or write.
 pub fn run_workers<R: AllocGlobal + Threads + Wait + Sync, I: ByteReader, O: ByteWriter, G: Gate>(
     rt: &R,
     reader: &mut I,
@@ -59,6 +60,8 @@ pub fn run_workers<R: AllocGlobal + Threads + Wait + Sync, I: ByteReader, O: Byt
     ensures no_usage { ¬ (result ≡ Err Usage) }
     ensures lines { (input : List ℕ) → I.left reader.old ≡ Some input →
         OnOk result (Grows (written (O.delivered writer.old) (O.pending writer.old)) (written (O.delivered writer.new) (O.pending writer.new)) (WritesOrdered (lines_of input))) }
+    ensures begins { (input : List ℕ) → I.left reader.old ≡ Some input →
+        IfErr result (λ fault. fault ≡ WriteFailed → Grows (written (O.delivered writer.old) (O.pending writer.old)) (written (O.delivered writer.new) (O.pending writer.new)) (BeginsOrdered (lines_of input))) }
 {
     let workers = workers.max(1);
     flush_all(writer)?;

@@ -1,5 +1,5 @@
-use crate::passes::intern_names;
-use lasso::{SpurThreadedRodeo, ThreadedRodeo};
+use crate::passes::{declare, intern_names};
+use lasso::{Key, SpurThreadedRodeo, ThreadedRodeo};
 use std::sync::Arc;
 use std::test::Fail;
 use std::thread;
@@ -23,5 +23,18 @@ fn an_interner_that_two_threads_own(rt: HostRuntime) -> Result<(), Fail> {
     let there = child.join(&rt)?;
     assert!(rt; here == there);
     assert!(rt; rodeo.resolve(there) == Some("Hello, world!"));
+    Ok(())
+}
+
+#[test]
+fn a_name_by_a_pass(rt: HostRuntime) -> Result<(), Fail> {
+    let rodeo: SpurThreadedRodeo = ThreadedRodeo::default(rt.alloc())?;
+    let mut pass = rodeo.pass();
+    let width = declare(&rt, &rodeo, &mut pass, "width")?;
+    let height = declare(&rt, &rodeo, &mut pass, "height")?;
+    assert!(rt; width.into_usize() == 0 && height.into_usize() == 1);
+    assert!(rt; rodeo.try_resolve_as(&mut pass, width) == Some("width"));
+    assert!(rt; rodeo.try_resolve_as(&mut pass, height) == Some("height"));
+    assert!(rt; declare(&rt, &rodeo, &mut pass, "width")? == width);
     Ok(())
 }

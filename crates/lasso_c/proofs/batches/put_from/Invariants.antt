@@ -6,4 +6,4 @@ use Rattle.lasso_c.proofs.batches.put_from.Given as goal
 
 -- the texts from the code on are left
 abbrev pub invariant-loop-at : goal.invariant-loop-at
-invariant-loop-at l = Writes (over (offsets_from 0 (drop l.from l.dictionary.texts)) l.fn.offsets) (over (concat (drop l.from l.dictionary.texts)) l.fn.bytes) (drop l.at (drop l.from l.dictionary.texts)) l.at l.start l.offsets l.bytes
+invariant-loop-at g l = Writes g.O.Offset.greatest (over (offsets_from 0 (drop l.from l.dictionary.texts)) (g.O.Offset.numbers l.fn.offsets)) (over (concat (drop l.from l.dictionary.texts)) l.fn.bytes) (drop l.at (drop l.from l.dictionary.texts)) l.at l.start (g.O.Offset.numbers l.offsets) l.bytes

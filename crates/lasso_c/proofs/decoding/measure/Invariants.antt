@@ -8,7 +8,7 @@ abbrev pub invariant-loop-code : goal.invariant-loop-code
 invariant-loop-code l =
     let dictionary = layout_texts l.dictionary_bytes l.dictionary_offsets in
     record {
-      left : measured dictionary nothing l.codes ≡ measured dictionary l.sizes (drop l.code-index l.codes);
+      left : measured l.null dictionary nothing l.codes ≡ measured l.null dictionary l.sizes (drop l.code-index l.codes);
       counted : l.sizes.texts ≡ l.code-index;
       small : l.sizes.bytes ≤ greatest_offset;
     }

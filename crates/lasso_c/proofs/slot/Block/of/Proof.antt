@@ -1,24 +1,24 @@
 -- `of` calls `into_raw`, which lets the box go and gives what it owned of its memory.
-use Rattle.std.proofs.Common.{◌≡◌, List, [], ◌∷◌, ◌++◌, refl, sym, ap, subst}
+use Rattle.std.proofs.Common.{List, [], ◌∷◌, ◌++◌, refl, sym, ap, subst}
 use mir.Syntax.{a_type, dcons, dnil}
 use mir.MapTy.{inst_fn}
 use mir.Val.{Val}
 use base.Logic.{SProp, ent, emp, id⊢}
-use base.Fml.{Share, ftrue, flft}
+use base.Fml.{ftrue, flft}
 use base.Share
 use prog.Wp.{WpFn}
 use contract.Lifetimes.{Lfts}
 use contract.Monad.{fact, fact_i}
 use contract.BorrowLft.{◌⊑◌, ⊑_static}
 use contract.Running.{tables}
-use types.Kit.{Item, ‵, raw, ◌⊛◌, some, later, ◌$◌, ◌∵◌, !, qed, by, done, move, keep, drop, use0, use1, use2, split, join, pick, feq_l, await, rewrite, suffices}
+use types.Kit.{Item, ‵, raw, ◌⊛◌, some, later, ◌$◌, ◌∵◌, !, qed, done, move, keep, drop, use0, use1, use2, split, join, pick, feq_l, await, rewrite, suffices}
 use types.Run.{enter, of_opd, and_then, no_more, returns}
 use types.ByLocal.{alloc_all, pass_all, free_all, look_at, get, sets, lands_as}
 use types.Part.{agg}
 use denote.Exit.{no}
 use denote.RattleType.{RattleType}
 use denote.Builtin.{RawPtr}
-use denote.RawPtr.{Ptr, ptr_val}
+use denote.RawPtr.{Ptr}
 use denote.Param.{param, layout, bounded}
 use denote.Param.Laws.{param_laws}
 use denote.Param.NoDrop.{glues}

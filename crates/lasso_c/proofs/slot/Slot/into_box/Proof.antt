@@ -4,14 +4,14 @@ use Rattle.std.proofs.Common.{◌≡◌, List, [], ◌∷◌, refl, sym, ap, ◌
 use Rattle.std.specs.Prelude.{Option, None, Some}
 use mir.Val.{Val}
 use base.Logic.{SProp, emp, id⊢}
-use base.Fml.{Share, ftrue, flft}
+use base.Fml.{ftrue, flft}
 use base.Fraction.{full_share}
 use base.Share
 use contract.Lifetimes.{Lfts}
 use contract.Monad.{fact, fact_i}
 use contract.BorrowLft.{◌⊑◌, ⊑_static}
 use contract.Running.{tables}
-use types.Kit.{Item, ‵, raw, ◌⊛◌, some, later, at_ret, ◌$◌, ◌∵◌, !, qed, done, move, keep, drop, use0, use1, split, join, fsplit, fjoin, pick, feq_i, await, rewrite, suffices}
+use types.Kit.{Item, ‵, raw, ◌⊛◌, some, later, at_ret, ◌$◌, ◌∵◌, !, qed, done, move, keep, drop, use0, use1, split, join, fjoin, pick, feq_i, await, rewrite, suffices}
 use types.Run.{enter, of_opd, and_then, no_more, returns, stop, fld, first, blocks, exec}
 use types.ByLocal.{alloc_all, pass_all, free_all, look_at, get, get_in, sets, lands_last, env}
 use types.Part.{sub, whole}
@@ -20,7 +20,6 @@ use denote.Exit.{yes}
 use denote.RattleType.{RattleType}
 use denote.RawPtr.{ptr_val}
 use denote.Laws.{Is, shows}
-use denote.Param.{layout}
 use denote.Param.NoDrop.{glues}
 use denote.Signature.{plain}
 use denote.Steps.{nothing, heard, peeks}
@@ -28,7 +27,6 @@ use denote.Triple.Call.{calls_at_last}
 use denote.Triple.Clauses.{Lasts, lasts}
 use denote.Triple.Spec.{triple_of}
 use denote.Triple.Walked.{Stays, stay_dropped, walk_of, says, Goes-dropped, ends_at}
-use Rattle.core.proofs.alloc.Shapes.{after}
 use Rattle.core.proofs.atomic.Steps.{Ptr-Good, fm}
 use Rattle.std.proofs.raw_atomic.Walks.{proved}
 use Rattle.std_heap.proofs.Handle.{heap_val}

@@ -1,0 +1,109 @@
+//! The calls on a handle that read or write offsets, at either width of these.
+ghost use Rattle.std.specs.Prelude.{◌≡◌, ◌≤◌, [], length, take, drop};
+ghost use Rattle.std.specs.List.{concat};
+ghost use Rattle.lasso_c.specs.Layout.{column_rows, layout_texts, offsets_from, over, present_texts};
+ghost use Rattle.lasso_c.specs.Encoding.{codes_of, codes_or, row_codes, with_all_new};
+ghost use Rattle.lasso_c.specs.Handles.{dictionary_outcome, lookup_outcome, texts_in};
+ghost use Rattle.lasso_c.specs.Interning.{BatchEnds};
+ghost use Rattle.lasso_c.specs.Status.{Reports};
+
+use crate::batches::{find_layout, intern_column, intern_layout, tell_batch, write_from};
+use crate::handle::Lasso;
+use crate::offsets::Offset;
+use crate::refusal::{LassoReport, Refusal, tell};
+use std::alloc::Global;
+
+// Interns the texts of a layout, as `lasso_intern_batch` says.
+pub(crate) fn intern_batch<O: Offset>(
+    alloc: Global,
+    lasso: &mut Lasso,
+    bytes: &[u8],
+    offsets: &[O],
+    codes: &mut [u32],
+    report: &mut LassoReport,
+) -> u32
+    ensures outcome { BatchEnds O.greatest lasso.old.slot.value [] bytes.now (O.numbers offsets.now) (length codes.old) result report.new lasso.new.slot.value }
+    ensures texts { texts_in lasso.new.slot.value ≡ with_all_new (texts_in lasso.old.slot.value) (take report.new.texts (layout_texts bytes.now (O.numbers offsets.now))) }
+    ensures codes { codes.new ≡ over (codes_of (texts_in lasso.new.slot.value) (take report.new.texts (layout_texts bytes.now (O.numbers offsets.now)))) codes.old }
+    ensures whole { result ≡ 0 → report.new.texts ≡ length (layout_texts bytes.now (O.numbers offsets.now)) }
+    ensures within { report.new.texts ≤ length (layout_texts bytes.now (O.numbers offsets.now)) }
+{
+    let Some(mut interner) = lasso.take(alloc) else {
+        return tell(&Err(Refusal::NoInterner), report);
+    };
+    let progress = intern_layout(&mut interner.rodeo, bytes, offsets, codes);
+    lasso.put(alloc, interner);
+    tell_batch(progress, report)
+}
+
+// Interns the rows of a column, as `lasso_intern_batch_nulls` says.
+pub(crate) fn intern_batch_nulls<O: Offset>(
+    alloc: Global,
+    lasso: &mut Lasso,
+    bytes: &[u8],
+    offsets: &[O],
+    present: &[u8],
+    null: u32,
+    codes: &mut [u32],
+    report: &mut LassoReport,
+) -> u32
+    ensures outcome { BatchEnds O.greatest lasso.old.slot.value present.now bytes.now (O.numbers offsets.now) (length codes.old) result report.new lasso.new.slot.value }
+    ensures texts { texts_in lasso.new.slot.value ≡ with_all_new (texts_in lasso.old.slot.value) (present_texts (take report.new.texts (column_rows present.now bytes.now (O.numbers offsets.now)))) }
+    ensures codes { codes.new ≡ over (row_codes null (texts_in lasso.new.slot.value) (take report.new.texts (column_rows present.now bytes.now (O.numbers offsets.now)))) codes.old }
+    ensures whole { result ≡ 0 → report.new.texts ≡ length (layout_texts bytes.now (O.numbers offsets.now)) }
+    ensures within { report.new.texts ≤ length (layout_texts bytes.now (O.numbers offsets.now)) }
+{
+    let Some(mut interner) = lasso.take(alloc) else {
+        return tell(&Err(Refusal::NoInterner), report);
+    };
+    let progress = intern_column(&mut interner.rodeo, bytes, offsets, present, null, codes);
+    lasso.put(alloc, interner);
+    tell_batch(progress, report)
+}
+
+// Looks the texts of a layout up, as `lasso_get_batch` says.
+pub(crate) fn get_batch<O: Offset>(
+    alloc: Global,
+    lasso: &mut Lasso,
+    bytes: &[u8],
+    offsets: &[O],
+    absent: u32,
+    codes: &mut [u32],
+    report: &mut LassoReport,
+) -> u32
+    ensures outcome { Reports (lookup_outcome O.greatest lasso.old.slot.value bytes.now (O.numbers offsets.now) (length codes.old)) result report.new }
+    ensures codes { result ≡ 0 → codes.new ≡ over (codes_or absent (texts_in lasso.old.slot.value) (layout_texts bytes.now (O.numbers offsets.now))) codes.old }
+    ensures codes_kept { ¬ (result ≡ 0) → codes.new ≡ codes.old }
+    ensures kept { lasso.new.slot.value ≡ lasso.old.slot.value }
+{
+    let Some(interner) = lasso.take(alloc) else {
+        return tell(&Err(Refusal::NoInterner), report);
+    };
+    let outcome = find_layout(&interner.rodeo, bytes, offsets, absent, codes);
+    lasso.put(alloc, interner);
+    tell(&outcome, report)
+}
+
+// Writes the layout of the texts from a code on, as `lasso_dictionary` says.
+pub(crate) fn dictionary<O: Offset>(
+    alloc: Global,
+    lasso: &mut Lasso,
+    from: usize,
+    bytes: &mut [u8],
+    offsets: &mut [O],
+    report: &mut LassoReport,
+) -> u32
+    ensures outcome { Reports (dictionary_outcome O.greatest lasso.old.slot.value from (length (O.numbers offsets.old)) (length bytes.old)) result report.new }
+    ensures bytes { result ≡ 0 → bytes.new ≡ over (concat (drop from (texts_in lasso.old.slot.value))) bytes.old }
+    ensures offsets { result ≡ 0 → O.numbers offsets.new ≡ over (offsets_from 0 (drop from (texts_in lasso.old.slot.value))) (O.numbers offsets.old) }
+    ensures bytes_kept { ¬ (result ≡ 0) → bytes.new ≡ bytes.old }
+    ensures offsets_kept { ¬ (result ≡ 0) → O.numbers offsets.new ≡ O.numbers offsets.old }
+    ensures kept { lasso.new.slot.value ≡ lasso.old.slot.value }
+{
+    let Some(interner) = lasso.take(alloc) else {
+        return tell(&Err(Refusal::NoInterner), report);
+    };
+    let outcome = write_from(&interner.rodeo, from, bytes, offsets);
+    lasso.put(alloc, interner);
+    tell(&outcome, report)
+}

@@ -1,0 +1,106 @@
+-- How writing a list's texts as a layout ends, and reading a layout's texts into an interner.
+use Rattle.std.specs.Prelude.{ℕ, ◌≡◌, ◌+◌, ◌-◌, ◌<◌, ◌≤◌, ◌⊎◌, min, max, nat_eq, if◌then◌else◌, List, [], ◌∷◌, ◌++◌, length, take, drop, slice_get, slice_range, Option, None, Some, IfSome, IsSome, IsSomeAnd, Result, Ok, Err, MatchResult, All, IsUtf8}
+use Rattle.std.specs.List.{concat}
+use Rattle.lasso_parts.specs.Texts.{Text, IsDistinct, position_of}
+use Rattle.lasso_parts.specs.declared.util.LassoErrorKind.{LassoErrorKind}
+use Rattle.lasso_parts.specs.declared.util.LassoErrorKind.TheVariants.{FailedAllocation}
+use Rattle.lasso_single.specs.Filling.{extend}
+use Rattle.lasso_single.specs.Intern.{InternsIn}
+use Rattle.lasso_single.specs.Interner.{InternerView}
+use Rattle.lasso_columns.specs.Layout.{layout_texts, layout_fault, offsets_from}
+use Rattle.lasso_columns.specs.declared.faults.ReadError.{ReadError}
+use Rattle.lasso_columns.specs.declared.faults.ReadError.TheVariants.{OffsetsFall, OffsetPastBytes, NotText, Doubled, Refused}
+use Rattle.lasso_columns.specs.declared.faults.WriteError.{WriteError}
+use Rattle.lasso_columns.specs.declared.faults.WriteError.TheVariants.{TooManyBytes, NoMemory}
+
+-- why the list's texts from a position on were not written: the text at this position is the first whose end is past the
+-- greatest offset, or none's is and memory ran out
+abbrev pub IsWriteFault : ℕ → List Text → ℕ → WriteError → Type 0
+IsWriteFault most list from (TooManyBytes at) =
+    (from ≤ at) × (at < length list) × (length (concat (slice_range list from at)) ≤ most) × (most < length (concat (slice_range list from (at + 1))))
+IsWriteFault most list from NoMemory = length (concat (drop from list)) ≤ most
+
+-- how many texts went behind a list
+abbrev pub appended : List Text → List Text → ℕ
+appended old new = length new - length old
+
+-- the position of the text that a fault is of
+abbrev pub fault_position : ReadError → ℕ
+fault_position (OffsetsFall at) = at
+fault_position (OffsetPastBytes at) = at
+fault_position (NotText at) = at
+fault_position (Doubled at) = at
+fault_position (Refused at _) = at
+
+-- the layout has a text at this position, up to whose end nothing is wrong with it, and this holds of the text
+abbrev pub IsGoodAnd : ℕ → List ℕ → List ℕ → ℕ → (Text → Type 0) → Type 0
+IsGoodAnd most bytes offsets n P =
+    IfSome (layout_fault most bytes offsets) (λ error. n < fault_position error) × IsSomeAnd (slice_get (layout_texts bytes offsets) n) P
+
+-- why reading a layout ended after its first n texts, which the interner has: the next text is the first with which something
+-- is wrong in the layout; or it is good and the interner has it; or it is good and the interner refuses it
+abbrev pub IsFaultAfter : {K : Type 0} → (ℕ → Option K) → ℕ → List ℕ → List ℕ → ℕ → InternerView → ReadError → Type 0
+IsFaultAfter key_at most bytes offsets n now (OffsetsFall at) = (at ≡ n) × (layout_fault most bytes offsets ≡ Some (OffsetsFall at))
+IsFaultAfter key_at most bytes offsets n now (OffsetPastBytes at) = (at ≡ n) × (layout_fault most bytes offsets ≡ Some (OffsetPastBytes at))
+IsFaultAfter key_at most bytes offsets n now (NotText at) = (at ≡ n) × (layout_fault most bytes offsets ≡ Some (NotText at))
+IsFaultAfter key_at most bytes offsets n now (Doubled at) = (at ≡ n) × IsGoodAnd most bytes offsets n (λ text. IsSome (position_of now.texts text))
+IsFaultAfter {K} key_at most bytes offsets n now (Refused at error) =
+    (at ≡ n) × IsGoodAnd most bytes offsets n (λ text. InternsIn {K = K} key_at now text (Err error) now)
+
+-- why a new interner was not filled: there was no memory for it; or the first texts of the layout were appended, and the next
+-- ended it
+abbrev pub IsRefusedReading : {K : Type 0} → (ℕ → Option K) → ℕ → List ℕ → List ℕ → InternerView → ReadError → Type 0
+IsRefusedReading {K} key_at most bytes offsets made error =
+    (error ≡ Refused 0 FailedAllocation)
+    ⊎ ((now : InternerView) × extend {K = K} key_at made now.texts (Ok tt) now × (now.texts ≡ take (length now.texts) (layout_texts bytes offsets))
+    × IsFaultAfter key_at most bytes offsets (length now.texts) now error)
+
+-- the bytes of the first bucket of an interner for these bytes
+abbrev pub first_bucket : ℕ → List ℕ → ℕ
+first_bucket limit bytes = max (min (if nat_eq (length bytes) 0 then 4096 else length bytes) limit) 1
+
+-- a text goes last in the list; or it is refused, since it is there or by the interner, and nothing changes
+abbrev pub AppendsNew : {K : Type 0} → (ℕ → Option K) → ℕ → InternerView → Text → Result (Unit {0}) ReadError → InternerView → Type 0
+AppendsNew {K} key_at at old text outcome new =
+    MatchResult outcome
+    (λ _. ((key : K) × InternsIn key_at old text (Ok key) new) × (new.texts ≡ old.texts ++ text ∷ []))
+    (λ error. (new ≡ old) × (((error ≡ Doubled at) × IsSome (position_of old.texts text))
+    ⊎ ((kind : LassoErrorKind) × (error ≡ Refused at kind) × InternsIn {K = K} key_at old text (Err kind) old)))
+
+-- the same, unless something is wrong with the text
+abbrev pub AppendsUnless : {K : Type 0} → Option ReadError → (ℕ → Option K) → ℕ → InternerView → Text → Result (Unit {0}) ReadError → InternerView → Type 0
+AppendsUnless None key_at at old text outcome new = AppendsNew key_at at old text outcome new
+AppendsUnless (Some error) key_at at old text outcome new = (outcome ≡ Err error) × (new ≡ old)
+
+-- what reading makes of the layout that writing makes of the list's texts from a position on
+pub record ReadsBack (most : ℕ) (list : List Text) (from : ℕ) (bytes offsets : List ℕ) : Type 0 where
+  -- the texts before the position, and then those of the layout, are the list
+  pub list_again : take from list ++ layout_texts bytes offsets ≡ list
+  -- nothing is wrong with the layout
+  pub good : layout_fault most bytes offsets ≡ None
+  -- none of its texts is there once those before it are
+  pub new : (n : ℕ) (text : Text) → slice_get (layout_texts bytes offsets) n ≡ Some text → position_of (take from list ++ take n (layout_texts bytes offsets)) text ≡ None
+
+-- reading what was written gives the same list, so the same codes
+abbrev pub ReadingUndoesWriting : Type 0
+ReadingUndoesWriting =
+    (most : ℕ) (list : List Text) (from : ℕ)
+    → IsDistinct list → All IsUtf8 (drop from list) → length (concat (drop from list)) ≤ most
+    → ReadsBack most list from (concat (drop from list)) (offsets_from 0 (drop from list))
+
+-- rows worked by hand: `a` is 97, `b` 98, `c` 99, and `é` is 195 169. Tests have those of bytes that are no text
+pub record LayoutsByHand : Type 0 where
+  -- no text has one offset
+  pub none : offsets_from 0 [] ≡ 0 ∷ []
+  -- `a`, the empty text, `é`
+  pub three : offsets_from 0 ((97 ∷ []) ∷ [] ∷ (195 ∷ 169 ∷ []) ∷ []) ≡ 0 ∷ 1 ∷ 1 ∷ 3 ∷ []
+  pub three_bytes : concat ((97 ∷ []) ∷ [] ∷ (195 ∷ 169 ∷ []) ∷ []) ≡ 97 ∷ 195 ∷ 169 ∷ []
+  pub three_again : layout_texts (97 ∷ 195 ∷ 169 ∷ []) (0 ∷ 1 ∷ 1 ∷ 3 ∷ []) ≡ (97 ∷ []) ∷ [] ∷ (195 ∷ 169 ∷ []) ∷ []
+  -- a layout may begin behind the first byte, and end before the last
+  pub part : layout_texts (97 ∷ 98 ∷ 99 ∷ []) (1 ∷ 2 ∷ []) ≡ (98 ∷ []) ∷ []
+  pub no_offset : layout_fault 9 (97 ∷ []) [] ≡ None
+  pub one_offset : layout_fault 9 (97 ∷ []) (1 ∷ []) ≡ None
+  pub falls : layout_fault 9 (97 ∷ 98 ∷ []) (2 ∷ 1 ∷ []) ≡ Some (OffsetsFall 0)
+  pub past : layout_fault 9 (97 ∷ 98 ∷ []) (0 ∷ 3 ∷ []) ≡ Some (OffsetPastBytes 0)
+  pub past_most : layout_fault 1 (97 ∷ 98 ∷ []) (0 ∷ 2 ∷ []) ≡ Some (OffsetPastBytes 0)
+  pub first_past : layout_fault 9 (97 ∷ []) (2 ∷ 2 ∷ []) ≡ Some (OffsetPastBytes 0)

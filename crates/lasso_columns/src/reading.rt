@@ -1,0 +1,135 @@
+//! A layout's texts into an interner.
+ghost use Rattle.std.specs.Prelude.{◌≡◌, ◌+◌, ◌<◌, ◌++◌, None, Ok, Err, OnOk, IfOk, IfErr, map, take};
+ghost use Rattle.std.specs.List.{slice_range};
+ghost use Rattle.lasso_parts.specs.declared.util.LassoErrorKind.TheVariants.{FailedAllocation};
+ghost use Rattle.lasso_single.specs.Filling.{extend};
+ghost use Rattle.lasso_single.specs.Interner.{made_with};
+ghost use Rattle.lasso_columns.specs.Dictionaries.{AppendsNew, AppendsUnless, IsFaultAfter, IsRefusedReading, appended, first_bucket};
+ghost use Rattle.lasso_columns.specs.Layout.{layout_texts, layout_fault, text_fault};
+
+use crate::faults::ReadError;
+use crate::layout::{Offset, check_start, text_between};
+use lasso::{Capacity, Key, LassoErrorKind, MemoryLimits, Rodeo};
+use std::alloc::Allocator;
+use std::hash::BuildHasher;
+
+/// A new interner with the texts of the layout, in order: text n has the key of number n, so what was
+/// written from position 0 has its codes again. Its first bucket has as many bytes as there are, or 4096
+/// where there are none, but no more than the limit, and at least one.
+///
+/// It is refused at the first text with which something is wrong, which came before, or which the interner
+/// refuses; and out of memory for the interner, which is `Refused` at 0. Nothing is kept then.
+///
+/// ```rust
+/// let limits = MemoryLimits::default();
+/// let hasher = FixedState::new();
+/// let read = read_dictionary(rt.alloc(), limits, hasher, b"redblue", &[0u32, 3, 3, 7])?;
+/// let rodeo: SpurRodeo = read;
+/// assert!(rt; rodeo.len() == 3);
+/// let blue = rodeo.get("blue").ok_or("not there")?;
+/// assert!(rt; blue.into_usize() == 2);
+/// ```
+pub fn read_dictionary<K: Key, S: BuildHasher + Drop, A: Allocator + Clone, O: Offset>(
+    alloc: A,
+    limits: MemoryLimits,
+    hasher: S,
+    bytes: &[u8],
+    offsets: &[O],
+) -> Result<Rodeo<K, S, A>, ReadError>
+    ensures list { IfOk result (λ rodeo. extend K.key_at (made_with (first_bucket limits bytes.now) limits) (layout_texts bytes.now (map O.number offsets.now)) (Ok tt) rodeo) }
+    ensures texts { IfOk result (λ rodeo. rodeo.texts ≡ layout_texts bytes.now (map O.number offsets.now)) }
+    ensures good { OnOk result (layout_fault O.GREATEST bytes.now (map O.number offsets.now) ≡ None) }
+    ensures fault { IfErr result (IsRefusedReading K.key_at O.GREATEST bytes.now (map O.number offsets.now) (made_with (first_bucket limits bytes.now) limits)) }
+{
+    let capacity = Capacity::new(offsets.len(), first_bucket(bytes, limits));
+    let Ok(mut rodeo) = Rodeo::with_capacity_memory_limits_and_hasher(
+        alloc, capacity, limits, hasher,
+    ) else {
+        return Err(ReadError::Refused(0, LassoErrorKind::FailedAllocation));
+    };
+    match append_dictionary(&mut rodeo, bytes, offsets) {
+        Ok(()) => Ok(rodeo),
+        Err(error) => Err(error),
+    }
+}
+
+// The size of the first bucket of an interner for these bytes.
+fn first_bucket(bytes: &[u8], limits: MemoryLimits) -> usize
+    ensures value { result ≡ first_bucket limits bytes.now }
+    ensures some { 0 < result }
+{
+    let wanted = if bytes.is_empty() { 4096 } else { bytes.len() };
+    wanted.min(limits.max_memory_usage()).max(1)
+}
+
+/// Appends the texts of the layout to the interner's list, in order. None of them may be there yet. So what
+/// was written from position n goes into an interner that has the first n texts, and has its codes again.
+///
+/// It ends at the first text with which something is wrong, which the interner has, or which the interner
+/// refuses. The texts before it stay in the list, and nothing else changes.
+///
+/// ```rust
+/// let mut rodeo = SpurRodeo::from_iter(rt.alloc(), ["red"])?;
+/// append_dictionary(&mut rodeo, b"blue", &[0u32, 0, 4])?;
+/// assert!(rt; rodeo.len() == 3);
+/// let doubled = append_dictionary(&mut rodeo, b"greenred", &[0u32, 5, 8]);
+/// assert!(rt; doubled == Err(ReadError::Doubled(1)));
+/// assert!(rt; rodeo.contains("green"));
+/// ```
+pub fn append_dictionary<K: Key, S: BuildHasher, A: Allocator + Clone, O: Offset>(
+    rodeo: &mut Rodeo<K, S, A>,
+    bytes: &[u8],
+    offsets: &[O],
+) -> Result<(), ReadError>
+    ensures list { extend K.key_at rodeo.old (take (appended rodeo.old.texts rodeo.new.texts) (layout_texts bytes.now (map O.number offsets.now))) (Ok tt) rodeo.new }
+    ensures texts { rodeo.new.texts ≡ rodeo.old.texts ++ take (appended rodeo.old.texts rodeo.new.texts) (layout_texts bytes.now (map O.number offsets.now)) }
+    ensures whole { OnOk result (rodeo.new.texts ≡ rodeo.old.texts ++ layout_texts bytes.now (map O.number offsets.now)) }
+    ensures good { OnOk result (layout_fault O.GREATEST bytes.now (map O.number offsets.now) ≡ None) }
+    ensures fault { IfErr result (IsFaultAfter K.key_at O.GREATEST bytes.now (map O.number offsets.now) (appended rodeo.old.texts rodeo.new.texts) rodeo.new) }
+{
+    let Some((first, rest)) = offsets.split_first() else {
+        return Ok(());
+    };
+    let mut from = first.into_usize();
+    check_start(bytes, from, O::GREATEST)?;
+    for at in 0..rest.len() {
+        let to = rest[at].into_usize();
+        append_text(rodeo, bytes, at, from, to, O::GREATEST)?;
+        from = to;
+    }
+    Ok(())
+}
+
+// Appends the text of this number, between two offsets. Where it is refused nothing has changed.
+fn append_text<K: Key, S: BuildHasher, A: Allocator + Clone>(
+    rodeo: &mut Rodeo<K, S, A>,
+    bytes: &[u8],
+    at: usize,
+    from: usize,
+    to: usize,
+    most: usize,
+) -> Result<(), ReadError>
+    ensures { AppendsUnless (text_fault most bytes.now at from to) K.key_at at rodeo.old (slice_range bytes.now from to) result rodeo.new }
+{
+    let text = match text_between(bytes, at, from, to, most) {
+        Ok(text) => text,
+        Err(error) => return Err(error),
+    };
+    append_new(rodeo, text, at)
+}
+
+// Appends the text, which is that of this number. Where it is refused nothing has changed.
+fn append_new<K: Key, S: BuildHasher, A: Allocator + Clone>(
+    rodeo: &mut Rodeo<K, S, A>,
+    text: &str,
+    at: usize,
+) -> Result<(), ReadError>
+    ensures { AppendsNew K.key_at at rodeo.old text.now result rodeo.new }
+{
+    let count = rodeo.len();
+    match rodeo.try_get_or_intern(text) {
+        Ok(key) if key.into_usize() < count => Err(ReadError::Doubled(at)),
+        Ok(_) => Ok(()),
+        Err(error) => Err(ReadError::Refused(at, error.kind())),
+    }
+}

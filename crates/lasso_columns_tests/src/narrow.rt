@@ -1,0 +1,30 @@
+//! Offsets of a width of the tests' own, that reach no further than 9.
+use lasso_columns::Offset;
+
+#[derive(Clone, Copy)]
+pub(super) struct Narrow {
+    number: usize,
+}
+
+/// An offset past the greatest one.
+pub(super) fn past_greatest() -> Narrow {
+    Narrow { number: 10 }
+}
+
+impl Offset for Narrow {
+    const GREATEST: usize = 9;
+
+    ghost GREATEST = { 9 };
+
+    ghost number = { λ offset. offset.number };
+
+    fn into_usize(self) -> usize {
+        self.number
+    }
+
+    fn from_usize(number_of_bytes: usize) -> Self {
+        Narrow {
+            number: number_of_bytes,
+        }
+    }
+}
