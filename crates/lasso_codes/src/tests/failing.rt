@@ -168,3 +168,23 @@ fn each_write_fails_in_turn(rt: HostRuntime) -> Result<(), Fail> {
     }
     Ok(())
 }
+
+// A reader that is gone is told as such only where nothing else failed.
+#[test]
+fn a_fault_stays_one_where_the_reader_is_gone(rt: HostRuntime) -> Result<(), Fail> {
+    let rows: [(&[u8], &str, u8); 2] = [
+        (b"b\na\n", "the output's reader is gone", 0),
+        (b"b\n\xff\n", "write failed", 4),
+    ];
+    for (bytes, words, status) in rows {
+        let mut input = BufReader::new(rt.alloc(), bytes)?;
+        let target = ShortWrite::new(rt.alloc(), 0, Way::IsGone);
+        let mut writer = BufWriter::new(rt.alloc(), target)?;
+        let request = runs(Verb::Distinct, PLAIN);
+        let ended = run_request(rt.alloc(), &request, &mut input, &mut writer);
+        let (target, _) = writer.into_parts();
+        assert!(rt; target.taken.is_empty());
+        assert_fault(&rt, ended, words, status)?;
+    }
+    Ok(())
+}
