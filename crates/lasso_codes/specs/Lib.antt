@@ -4,4 +4,5 @@ pub mod Distinct
 pub mod Counts
 pub mod Columns
 pub mod Encode
+pub mod Whole
 pub mod Arguments

@@ -13,6 +13,7 @@ pub mod lines;
 pub mod numbers;
 pub mod output;
 pub mod program;
+pub mod whole;
 #[cfg(test)]
 mod tests;
 
@@ -23,6 +24,7 @@ use std::alloc::AllocError;
 use std::io::{BufReader, BufWriter, ErrorKind};
 use std::process::ExitCode;
 use std::rt::Env;
+use std::thread::Threads;
 use std::{env, io};
 
 // The status of bad arguments.
@@ -44,7 +46,7 @@ fn main(rt: HostRuntime) -> ExitCode {
 }
 
 // Does what is asked for over standard input and output.
-fn run_program<R: AllocGlobal + Input + Print>(
+fn run_program<R: AllocGlobal + Input + Print + Threads + Sync>(
     rt: &R,
     request: &Request<'_>,
 ) -> Result<(), RunFault> {
@@ -54,7 +56,7 @@ fn run_program<R: AllocGlobal + Input + Print>(
     let Ok(mut output) = BufWriter::with_capacity(rt.alloc(), BUFFER, io::writer(rt)) else {
         return Err(RunFault::no_memory(0));
     };
-    run_request(rt.alloc(), request, &mut input, &mut output)
+    run_request(rt, request, &mut input, &mut output)
 }
 
 // Says why the arguments are refused.
