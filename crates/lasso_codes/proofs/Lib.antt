@@ -5,4 +5,6 @@ pub mod Taken
 pub mod DistinctLines
 pub mod CountedLines
 pub mod EncodedLines
+pub mod WholeLines
+pub mod WholeCounts
 pub mod Words

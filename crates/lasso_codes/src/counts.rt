@@ -60,16 +60,34 @@ fn write_counts<H: AllocGlobal + Threads + Sync, R: Read + Drop, W: Write>(
 {
     let mut rodeo = new_rodeo(rt.alloc(), MemoryLimits::new(settings.limit))?;
     let mut counts = Vec::new(rt.alloc());
-    if settings.workers < 2 {
-        count_lines(rt.alloc(), input, &mut rodeo, &mut counts)?;
-    } else {
-        count_whole(rt, input, &mut rodeo, &mut counts, settings.workers)?;
-    }
+    count_all(rt, input, &mut rodeo, &mut counts, settings.workers)?;
     let Ok(ranked) = by_frequency(rt.alloc(), &rodeo, &counts) else {
         return Err(RunFault::no_memory(0));
     };
     let most = ranked.len().min(settings.top);
     write_ranked(output, &ranked[..most])
+}
+
+// Counts each line, line by line or by the workers.
+fn count_all<H: AllocGlobal + Threads + Sync, R: Read + Drop>(
+    rt: &H,
+    input: &mut BufReader<R>,
+    rodeo: &mut SpurRodeo,
+    counts: &mut Vec<u64>,
+    workers: usize,
+) -> Result<(), RunFault>
+    requires no_texts { rodeo.old.texts ≡ [] }
+    requires no_counts { counts.old.items ≡ [] }
+    ensures counted { OnOk result ((bytes : List ℕ) → reader_remaining R.remaining input.old ≡ Some bytes →
+        All IsUtf8 (lines_of bytes) × AreCounts (lines_of bytes) rodeo.new.texts counts.new.items) }
+    ensures beside { vec_len counts.new ≡ length rodeo.new.texts }
+    ensures fault { IfErr result (λ fault. (bytes : List ℕ) → reader_remaining R.remaining input.old ≡ Some bytes →
+        (limit : ℕ) → rodeo.old ≡ made_with 4096 limit → CountingFault limit (lines_of bytes) fault) }
+{
+    if workers < 2 {
+        return count_lines(rt.alloc(), input, rodeo, counts);
+    }
+    count_whole(rt, input, rodeo, counts, workers)
 }
 
 // Counts each line up to the end of the input.

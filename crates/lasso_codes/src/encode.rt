@@ -62,12 +62,30 @@ fn write_encoded<H: AllocGlobal + Threads + Sync, R: Read + Drop, W: Write>(
 {
     let mut rodeo = new_rodeo(rt.alloc(), MemoryLimits::new(settings.limit))?;
     let mut numbers = Vec::new(rt.alloc());
-    if settings.workers < 2 {
-        encode_lines(rt.alloc(), input, &mut rodeo, &mut numbers, null)?;
-    } else {
-        encode_whole(rt, input, &mut rodeo, &mut numbers, null, settings.workers)?;
-    }
+    number_lines(rt, input, &mut rodeo, &mut numbers, null, settings.workers)?;
     write_column(output, &rodeo, &numbers, settings.binary)
+}
+
+// Numbers each line, line by line or by the workers.
+fn number_lines<H: AllocGlobal + Threads + Sync, R: Read + Drop>(
+    rt: &H,
+    input: &mut BufReader<R>,
+    rodeo: &mut SpurRodeo,
+    numbers: &mut Vec<u32>,
+    null: Option<&[u8]>,
+    workers: usize,
+) -> Result<(), RunFault>
+    requires no_texts { rodeo.old.texts ≡ [] }
+    requires no_numbers { numbers.old.items ≡ [] }
+    ensures numbered { OnOk result ((bytes : List ℕ) → reader_remaining R.remaining input.old ≡ Some bytes →
+        All IsUtf8 (lines_of bytes) × AreNumbered (word_of null.entry) (lines_of bytes) rodeo.new.texts numbers.new.items) }
+    ensures fault { IfErr result (λ fault. (bytes : List ℕ) → reader_remaining R.remaining input.old ≡ Some bytes →
+        (limit : ℕ) → rodeo.old ≡ made_with 4096 limit → EncodingFault limit (word_of null.entry) (lines_of bytes) fault) }
+{
+    if workers < 2 {
+        return encode_lines(rt.alloc(), input, rodeo, numbers, null);
+    }
+    encode_whole(rt, input, rodeo, numbers, null, workers)
 }
 
 // Numbers each line up to the end of the input.
@@ -138,7 +156,10 @@ fn texts_of<'a>(
 {
     let mut texts = Vec::new(alloc);
     for line in lines {
-        if !is_null(null, line.as_bytes()) && texts.push(*line).is_err() {
+        if is_null(null, line.as_bytes()) {
+            continue;
+        }
+        if texts.push(*line).is_err() {
             return Err(RunFault::no_memory(0));
         }
     }

@@ -1,2 +1,4 @@
 pub mod Counted
+pub mod Added
+pub mod Rest
 pub mod Ranks

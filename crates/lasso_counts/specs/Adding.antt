@@ -1,5 +1,5 @@
 -- Texts that are counted on top of others.
-use Rattle.std.specs.Prelude.{ℕ, ◌≡◌, ◌+◌, List, [], ◌∷◌, ◌++◌, length, sum, take, codes, decimal, slice_index, slice_set, Result, Ok, Err}
+use Rattle.std.specs.Prelude.{ℕ, ◌≡◌, ◌+◌, List, [], ◌∷◌, ◌++◌, length, sum, take, codes, decimal, Result, Ok, Err}
 use Rattle.lasso_parts.specs.Errors.{error_text}
 use Rattle.lasso_parts.specs.Texts.{Text, position_of}
 use Rattle.lasso_counts.specs.Counts.{count_of, count_at}
@@ -19,8 +19,8 @@ pub record AddsCounts (texts before : List Text) (counts : List ℕ) (after : Li
   pub beside : length counts' ≡ length after
   pub total : sum counts' ≡ sum counts + length texts
 
--- so many more at each of the positions
-abbrev pub with_added : List ℕ → List ℕ → List ℕ → List ℕ
-with_added counts [] amounts = counts
-with_added counts (at ∷ positions) [] = counts
-with_added counts (at ∷ positions) (n ∷ amounts) = with_added (slice_set counts at (slice_index counts at + n)) positions amounts
+-- each text's count has grown by its amount beside another list
+pub record AddsAmounts (list from : List Text) (amounts old new : List ℕ) : Type 0 where
+  pub tell : (text : Text) → count_at new (position_of list text) ≡ count_at old (position_of list text) + count_at amounts (position_of from text)
+  pub long : length new ≡ length old
+  pub total : sum new ≡ sum old + sum amounts

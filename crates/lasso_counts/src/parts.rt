@@ -1,12 +1,13 @@
 //! Texts that are counted in parts, each by a thread with an interner of its own.
-ghost use Rattle.std.specs.Prelude.{◌≡◌, ℕ, [], ◌+◌, ◌-◌, ◌^◌, ◌<◌, ◌≤◌, ◌++◌, Ok, IfErr, IfSome, IsSome, IsSomeAnd, All, length, map, None, replicate, slice_get, sum, take, vec_len, vec_capacity};
-ghost use Rattle.lasso_parts.specs.Texts.{position_of};
+ghost use Rattle.std.specs.Prelude.{◌≡◌, ℕ, List, [], ◌+◌, ◌-◌, ◌^◌, ◌<◌, ◌≤◌, ◌++◌, Ok, IfErr, IfSome, IsSome, IsSomeAnd, All, length, map, None, replicate, slice_get, sum, take, vec_len, vec_capacity};
+ghost use Rattle.lasso_parts.specs.Texts.{IsDistinct, Text, key_of, position_of};
 ghost use Rattle.lasso_single.specs.Filling.{extend};
 ghost use Rattle.lasso_single.specs.Interner.{InternerView};
+ghost use Rattle.lasso_columns.specs.Codes.{AreCodes};
 ghost use Rattle.lasso_columns.specs.Encoding.{spur_at, IsRefused};
 ghost use Rattle.lasso_columns.specs.Parts.{new_texts};
 ghost use Rattle.lasso_counts.specs.Counts.{AreCounts};
-ghost use Rattle.lasso_counts.specs.Adding.{AddsCounts, counted_of, with_added};
+ghost use Rattle.lasso_counts.specs.Adding.{AddsAmounts, AddsCounts, counted_of};
 
 use crate::counting::count_texts;
 use crate::fault::CountError;
@@ -136,12 +137,12 @@ fn pad(counts: &mut Vec<u64>, len: usize)
     }
 }
 
-// Adds each amount to the count at its place.
+// Adds each amount to the count at its place: the places of the texts of one list in another.
 fn add_counts(counts: &mut Vec<u64>, places: &[u32], amounts: &[u64])
     requires inside { All (λ place. place < vec_len counts.old) places.now }
     requires each { length places.now ≡ length amounts.now }
     requires fits { sum counts.old.items + sum amounts.now < 2 ^ 64 }
-    ensures { counts.new.items ≡ with_added counts.old.items places.now amounts.now }
+    ensures { (list from : List Text) → length counts.old.items ≡ length list → IsDistinct from → AreCodes list from places.now → AddsAmounts list from amounts.now counts.old.items counts.new.items }
 {
     for position in 0..places.len() {
         counts[places[position] as usize] += amounts[position];
@@ -176,7 +177,7 @@ fn count_found<S: BuildHasher, A: Allocator>(
     requires beside { vec_len counts.old ≡ length rodeo.now.texts }
     requires fits { sum counts.old.items + length texts.now < 2 ^ 64 }
     ensures within { result ≤ length texts.now }
-    ensures found { All (λ text. IsSome (position_of rodeo.now.texts text)) (take result (map (λ t. t.now) texts.now)) }
+    ensures found { All (λ text. IsSome (key_of spur_at rodeo.now.texts text)) (take result (map (λ t. t.now) texts.now)) }
     ensures next { IfSome (slice_get (map (λ t. t.now) texts.now) result) (λ text. position_of rodeo.now.texts text ≡ None) }
     ensures counts { AddsCounts (take result (map (λ t. t.now) texts.now)) rodeo.now.texts counts.old.items rodeo.now.texts counts.new.items }
 {
