@@ -9,27 +9,15 @@ use Rattle.lasso_parts.specs.declared.util.LassoError.{LassoError}
 use Rattle.lasso_single.specs.Filling.{extend}
 use Rattle.lasso_single.specs.Interner.{InternerView, made_with}
 use Rattle.lasso_single.proofs.Filled.{accepted}
-use Rattle.lasso_columns.proofs.PartLists.{list_extended}
 use Rattle.lasso_columns.specs.Encoding.{spur_at, IsRefused}
-use Rattle.lasso_columns.specs.Parts.{new_texts}
 use Rattle.lasso_columns.specs.declared.faults.LineError.TheVariants.{Refused, NotText}
-use Rattle.lasso_counts.specs.Adding.{AddsCounts}
 use Rattle.lasso_counts.specs.Counts.{AreCounts}
-use Rattle.lasso_counts.proofs.Added.{adds_are}
 use Rattle.lasso_codes.specs.Counts.{CountingFault}
 use Rattle.lasso_codes.specs.Whole.{AreTextLines}
 use Rattle.lasso_codes.specs.declared.fault.RunFault.TheVariants.{Line}
 use Rattle.lasso_codes.proofs.WholeLines.{texts_begin, first_same, refused_line, bad_line}
 
--- the counts of texts, where none was counted before
-pub whole_are : (old now : InternerView) (texts : List Text) (before counts : List ℕ) → old.texts ≡ [] → before ≡ [] → extend spur_at old texts accepted now → AddsCounts texts old.texts before now.texts counts → AreCounts texts now.texts counts
-whole_are old now texts before counts none empty list adds = record {
-  list_is = list_extended old now texts list ∙ ap (λ (ts : List Text). ts ++ new_texts ts texts) none;
-  tell = adds_are texts now.texts counts old.texts before none empty adds;
-  beside = adds.beside;
-  total = let zero : sum before ≡ 0 = ap sum empty in omega (arith, adds.total, zero);
-}
-
+-- all lines were counted
 pub whole_counted : (texts lines list : List Text) (counts : List ℕ) (whole : Bool) → whole ≡ true → AreTextLines whole texts lines → AreCounts texts list counts → All IsUtf8 lines × AreCounts lines list counts
 whole_counted texts lines list counts whole is_whole are counted =
     let all : AreTextLines true texts lines = subst (λ b. AreTextLines b texts lines) is_whole are in

@@ -2,7 +2,7 @@
 --
 -- The codes of the texts are spread over the lines: each line that is no null takes the next code. So where codes are wanting, the first
 -- line without a number is the one whose text comes next after those that have codes; and where each text has one, each line has a number.
-use Rattle.std.proofs.Common.{ℕ, zero, suc, ◌≡◌, ◌+◌, ◌-◌, ◌<◌, ◌≤◌, Bool, true, false, not, cond, List, [], ◌∷◌, ◌++◌, length, map, take, drop, Option, Some, None, ◌⊎◌, Result, Ok, Err, refl, sym, ap, subst, ◌∙◌, arith, inl, inr, append_assoc, length-append}
+use Rattle.std.proofs.Common.{ℕ, zero, suc, ◌≡◌, ◌+◌, ◌-◌, ◌<◌, ◌≤◌, Bool, true, false, not, cond, List, [], ◌∷◌, ◌++◌, length, map, take, drop, is_some, Option, Some, None, ◌⊎◌, Result, Ok, Err, refl, sym, ap, subst, ◌∙◌, arith, inl, inr, append_assoc, length-append}
 use Rattle.std.specs.Prelude.{All, IsSome, slice_get, IsSomeAnd}
 use Rattle.std.specs.Str.{IsUtf8}
 use Rattle.std.proofs.Math.Seq.{take-append_seam}
@@ -25,7 +25,7 @@ use Rattle.lasso_columns.specs.Lines.{lines_of}
 use Rattle.lasso_columns.specs.Parts.{new_texts}
 use Rattle.lasso_columns.specs.declared.faults.LineError.{LineError}
 use Rattle.lasso_columns.specs.declared.faults.LineError.TheVariants.{Refused, NotText}
-use Rattle.lasso_counts.proofs.Rest.{first, found_extended}
+use Rattle.lasso_counts.proofs.Rest.{first, found_extended, take_front}
 use Rattle.lasso_codes.specs.Columns.{is_null, texts_of, dictionary_of, entry_of, entry_at}
 use Rattle.lasso_codes.specs.Encode.{AreNumbered, EncodingFault}
 use Rattle.lasso_codes.specs.Whole.{AreTextLines, on_code, spread}
@@ -71,11 +71,6 @@ pub texts_utf8 : (whole : Bool) (texts lines : List Text) → AreTextLines whole
 texts_utf8 true texts lines are = are.0
 texts_utf8 false texts lines are = are.0
 
-take_front : (n : ℕ) (front back : List Text) → n ≤ length front → take n (front ++ back) ≡ take n front
-take_front zero front back few = refl
-take_front (suc n) [] back few = absurd (omega (arith, few))
-take_front (suc n) (x ∷ front) back few = ap (λ (ts : List Text). x ∷ ts) (take_front n front back (omega (arith, few)))
-
 pub first_same : (n : ℕ) (texts lines : List Text) → Begin texts lines → n ≤ length texts → take n lines ≡ take n texts
 first_same n texts lines begin few = ap (λ (ls : List Text). take n ls) begin.1 ∙ take_front n texts begin.0 few
 
@@ -105,9 +100,6 @@ bad_line now texts lines are =
     subst (λ o. IsSomeAnd o (λ line. IsFaultOf now line (length texts + 1) (NotText (length texts + 1)))) (sym at) (refl, are.1.3)
 
 -- ---- the texts that are no null
-
-keeps : (b : Bool) (line : Text) (lines : List Text) → List Text
-keeps b line lines = cond (not b) (line ∷ lines) lines
 
 abbrev number_by : Option Text → List Text → List ℕ → Bool → List ℕ
 number_by null lines codes b = cond b (4294967295 ∷ spread null lines codes) (on_code codes (spread null lines))
@@ -170,7 +162,7 @@ codes_small old new (t ∷ texts) (c ∷ codes) h are =
     let here : position_of new.texts t ≡ Some c = cc in
     let at : position_of new.texts t ≡ Some found.0 = found.2 in
     let same : found.0 ≡ c = cc in
-    let some : IsSome (spur_at found.0) = subst (λ (o : Option ℕ). IsSome o) (sym found.3) tt in
+    let some : IsSome (spur_at found.0) = ap is_some found.3 in
     let small : found.0 < 4294967295 = (kept_range 4294967295 found.0).0 some in
     (omega (arith, small, same), codes_small f.1 new texts codes f.3 (cc))
 

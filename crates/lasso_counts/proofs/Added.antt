@@ -3,19 +3,29 @@
 -- Each text's count grows by how often it is among the texts. So of two lists of texts, one counted after the other, the growths add up.
 -- An interner that has grown gets a zero for each new text, which tells nothing else of any text. Then the counts of a part are added one
 -- after another: the first n texts of the part's list have their counts, and each other text has grown by nothing.
-use Rattle.std.proofs.Common.{ℕ, suc, ◌≡◌, ◌+◌, ◌-◌, ◌<◌, ◌≤◌, List, [], ◌∷◌, ◌++◌, length, take, drop, get_or, set, sum, map, Bor, Bool, true, false, cond, Option, Some, None, is_some, refl, sym, ap, subst, ◌∙◌, arith, append_assoc, add-zero, length-append}
-use Rattle.std.specs.Prelude.{slice_get, replicate}
+use Rattle.std.proofs.Common.{ℕ, zero, suc, ◌≡◌, ◌+◌, ◌-◌, ◌<◌, ◌≤◌, List, [], ◌∷◌, ◌++◌, length, take, drop, get_or, set, sum, map, Bor, Bool, true, false, cond, Option, Some, None, Result, Ok, Err, is_some, is_err, refl, sym, ap, subst, ◌∙◌, arith, append_assoc, add-zero, length-append}
+use Rattle.std.specs.Prelude.{option_and_then, slice_get, replicate}
+use Rattle.std.proofs.lemmas.Option.{slice_get_within}
 use Rattle.std.specs.Str.{bytes_eq}
-use Rattle.std.proofs.lemmas.List.{append-nil, length_push, length-set, length-replicate, get_or_append_left, take_more, get_or-map, length-map, length-take}
-use Rattle.std.proofs.lemmas.List.Sums.{sum_by_push, sum_by-append, sum_by-set}
+use Rattle.std.proofs.lemmas.List.{append-nil, length_push, length-set, get_or_append_left, take_more, take_all, length-take}
+use Rattle.std.proofs.lemmas.List.Sums.{sum_by_push, sum_by-append, sum_by-set, sum_by_more_le, get_or-le-sum_by}
 use Rattle.lasso_parts.proofs.IndexLaws.{absent_before}
-use Rattle.lasso_parts.proofs.TextLemmas.{position_last, take_more_at}
-use Rattle.lasso_parts.specs.Texts.{Text, position_of, IsDistinct}
+use Rattle.lasso_parts.proofs.TextLemmas.{position_here, position_last, take_more_at}
+use Rattle.lasso_parts.specs.Texts.{Text, position_of, key_of, IsDistinct}
+use Rattle.lasso_single.specs.Filling.{extend}
+use Rattle.lasso_single.specs.Interner.{InternerView}
+use Rattle.lasso_single.proofs.Filled.{accepted}
 use Rattle.lasso.specs.Interning.{with_last}
-use Rattle.lasso_columns.proofs.Coded.{position_stays, map_some_at}
+use Rattle.lasso_columns.proofs.Coded.{position_stays, map_some_at, map_some_length}
+use Rattle.lasso_columns.proofs.Encoded.{position_of_key}
+use Rattle.lasso_columns.proofs.PartLists.{list_extended}
 use Rattle.lasso_columns.specs.Codes.{AreCodes}
+use Rattle.lasso_columns.specs.Encoding.{spur_at}
+use Rattle.lasso_columns.specs.Parts.{new_texts}
+use Rattle.lasso_counts.specs.declared.fault.CountError.{CountError}
 use Rattle.lasso_counts.specs.Counts.{AreCounts, count_of, count_at, counted}
-use Rattle.lasso_counts.specs.Adding.{AddsAmounts, AddsCounts}
+use Rattle.lasso_counts.specs.Adding.{AddsAmounts, AddsCounts, counted_of}
+use Rattle.lasso_counts.proofs.Rest.{Grown}
 use Rattle.lasso_counts.proofs.Counted.{tells, tell_new, tell_old, position_absent, same_text, inside, last_one, counted_beside, counted_total, place_of}
 
 -- ---- growths that add up
@@ -44,10 +54,32 @@ adds_push texts before mid after old now new text so_far is grown = record {
       let here : count_at new (position_of after s) ≡ count_at now (position_of mid s) + cond (bytes_eq text s) 1 0 =
       ap (λ cs. count_at cs (position_of after s)) is ∙ ap (λ (ts : List Text). count_at (counted now (position_of mid text)) (position_of ts s)) grown ∙ tells mid now text s (position_of mid text) refl so_far.beside in
       let both = count_push texts text s in omega (arith, first, here, both);
-  beside = ap length is ∙ counted_beside mid now text so_far.beside ∙ sym (ap length grown);
+  beside =
+      let long : length new ≡ length (counted now (position_of mid text)) = ap (λ (cs : List ℕ). length cs) is in
+      let same : length after ≡ length (with_last mid text) = ap (λ (ts : List Text). length ts) grown in long ∙ counted_beside mid now text so_far.beside ∙ sym same;
   total =
       let here : sum new ≡ sum now + 1 = ap sum is ∙ counted_total now (position_of mid text) (place_of mid now text so_far.beside) in omega (arith, so_far.total, here, length_push texts text);
 }
+
+-- what is read at an index
+pub value_at : (xs : List ℕ) (i v : ℕ) → i < length xs → v ≡ get_or xs i v → v ≡ get_or xs i 0
+value_at [] i v small is = absurd (omega (arith, small))
+value_at (x ∷ xs) zero v small is = is
+value_at (x ∷ xs) (suc i) v small is = value_at xs i v (omega (arith, small)) is
+
+-- a text more that is there
+key_position : (list : List Text) (text : Text) (key : ℕ) (o : Option ℕ) → position_of list text ≡ o → option_and_then spur_at o ≡ Some key → o ≡ Some (key - 1)
+key_position list text key None at is = absurd (cc)
+key_position list text key (Some n) at is = ap (λ k. Some k) (position_of_key n key is)
+
+pub adds_found : (texts list : List Text) (old now new : List ℕ) (text : Text) (key at value : ℕ) → AddsCounts texts list old list now → key_of spur_at list text ≡ Some key → at ≡ key - 1 → value ≡ get_or now at value → new ≡ set now at (value + 1) → AddsCounts (texts ++ text ∷ []) list old list new
+adds_found texts list old now new text key at value so_far found at_is value_is is =
+    let here : position_of list text ≡ Some (key - 1) = key_position list text key (position_of list text) refl found in
+    let small : at < length now = let within = inside list now text (key - 1) so_far.beside here in omega (arith, within, at_is) in
+    let grown : list ≡ with_last list text = ap (λ o. cond (is_some o) list (list ++ text ∷ [])) (sym here) in
+    let counted_is : new ≡ counted now (position_of list text) =
+    is ∙ ap (λ v. set now at (v + 1)) (value_at now at value small value_is) ∙ ap (λ n. set now n (get_or now n 0 + 1)) at_is ∙ ap (λ o. counted now o) (sym here) in
+    adds_push texts list list list old now new text so_far counted_is grown
 
 -- the counts of all texts, where no other was counted
 pub adds_are : (texts list : List Text) (counts : List ℕ) (before : List Text) (old : List ℕ) → before ≡ [] → old ≡ [] → AddsCounts texts before old list counts → (s : Text) → count_of texts s ≡ count_at counts (position_of list s)
@@ -55,6 +87,24 @@ adds_are texts list counts before old none empty adds s =
     let is : AddsCounts texts [] [] list counts = subst (λ (ts : List Text). AddsCounts texts ts [] list counts) none (subst (λ cs. AddsCounts texts before cs list counts) empty adds) in
     let told = is.tell s in
     let zero : count_at [] (position_of [] s) ≡ 0 = refl in omega (arith, told, zero)
+
+not_err : (r : Result (Unit {0}) CountError) (texts : List Text) → is_err r ≡ false → counted_of r texts ≡ texts
+not_err (Ok done) texts fine = refl
+not_err (Err error) texts fine = absurd (cc)
+
+pub all_are : (old now : InternerView) (texts : List Text) (before counts : List ℕ) → old.texts ≡ [] → before ≡ [] → extend spur_at old texts accepted now → AddsCounts texts old.texts before now.texts counts → AreCounts texts now.texts counts
+all_are old now texts before counts none empty list adds = record {
+  list_is = list_extended old now texts list ∙ ap (λ (ts : List Text). ts ++ new_texts ts texts) none;
+  tell = adds_are texts now.texts counts old.texts before none empty adds;
+  beside = adds.beside;
+  total = let zero : sum before ≡ 0 = ap sum empty in omega (arith, adds.total, zero);
+}
+
+-- a part that was counted to its end
+pub part_are : (old now : InternerView) (texts : List Text) (before counts : List ℕ) (r : Result (Unit {0}) CountError) → old.texts ≡ [] → before ≡ [] → is_err r ≡ false → extend spur_at old (counted_of r texts) accepted now → AddsCounts (counted_of r texts) old.texts before now.texts counts → AreCounts texts now.texts counts
+part_are old now texts before counts r none empty fine list adds =
+    let whole : counted_of r texts ≡ texts = not_err r texts fine in
+    all_are old now texts before counts none empty (subst (λ (ts : List Text). extend spur_at old ts accepted now) whole list) (subst (λ (ts : List Text). AddsCounts ts old.texts before now.texts counts) whole adds)
 
 -- ---- zeros for new texts
 
@@ -91,6 +141,11 @@ padded list more counts now n after beside grown many is =
     let same : n ≡ length more = omega (arith, many, ap length grown, length-append list more, beside) in
     subst (λ (ts : List Text). AddsCounts [] list counts ts after) (sym grown) (subst (λ cs. AddsCounts [] list counts (list ++ more) cs) (sym (is ∙ ap (λ k. counts ++ replicate k 0) same)) (pads list counts more beside))
 
+-- the same after merging a list, with room made before
+pub put_padded : (old now : InternerView) (list : List Text) (counts reserved after : List ℕ) (n : ℕ) → length counts ≡ length old.texts → Grown old.texts now.texts (length list) → reserved ≡ counts → n ≡ length now.texts - length counts → after ≡ reserved ++ replicate n 0 → AddsCounts [] old.texts counts now.texts after
+put_padded old now list counts reserved after n beside grown same many is =
+    padded old.texts grown.0 counts now.texts n after beside grown.1 many (is ∙ ap (λ cs. cs ++ replicate n 0) same)
+
 -- ---- the counts of a list that are added
 
 pub amounts_none : (list : List Text) (counts : List ℕ) → AddsAmounts list [] [] counts counts
@@ -121,6 +176,40 @@ amounts_more list from places amounts old now new i place amount text beside dis
     let more : take (i + 1) amounts ≡ take i amounts ++ amount ∷ [] = take_more amounts i 0 small ∙ ap (λ n. take i amounts ++ n ∷ []) (sym amount_is) in
     subst (λ (ts : List Text). AddsAmounts list ts (take (i + 1) amounts) old new) (sym (take_more_at from i text at)) (subst (λ cs. AddsAmounts list (take i from ++ text ∷ []) cs old new) (sym more) pushed)
 
+pub at_index : {X : Type 0} (xs : List X) (i : ℕ) (d : X) → i < length xs → slice_get xs i ≡ Some (get_or xs i d)
+at_index [] i d small = absurd (omega (arith, small))
+at_index (x ∷ xs) zero d small = refl
+at_index (x ∷ xs) (suc i) d small = at_index xs i d (omega (arith, small))
+
+-- the sum with one of them more, which stays within that of all
+pub total_more : (old now amounts : List ℕ) (i place value amount : ℕ) → value ≡ get_or now place 0 → amount ≡ get_or amounts i 0 → place < length now → i < length amounts → sum now ≡ sum old + sum (take i amounts) → sum (set now place (value + amount)) ≡ sum old + sum (take (i + 1) amounts)
+total_more old now amounts i place value amount value_is amount_is small inside total =
+    let change = sum_by-set (λ x. x) now place (value + amount) 0 small in
+    let pushed : sum (take (i + 1) amounts) ≡ sum (take i amounts) + get_or amounts i 0 = ap sum (take_more amounts i 0 inside) ∙ sum_by_push (λ x. x) (take i amounts) (get_or amounts i 0) in
+    omega (arith, change, pushed, value_is, amount_is, total)
+
+pub total_fits : (old now amounts : List ℕ) (i place value amount bound : ℕ) → value ≡ get_or now place 0 → amount ≡ get_or amounts i 0 → place < length now → i < length amounts → sum now ≡ sum old + sum (take i amounts) → sum old + sum amounts < bound → value + amount < bound
+total_fits old now amounts i place value amount bound value_is amount_is small inside total fits =
+    let one : get_or now place 0 ≤ sum now = get_or-le-sum_by (λ x. x) now place 0 small in
+    let more : sum (take i amounts) + get_or amounts i 0 ≤ sum amounts = sum_by_more_le (λ x. x) amounts i 0 inside in
+    omega (arith, one, more, value_is, amount_is, total, fits)
+
+-- the amounts of all texts
+pub amounts_all : (list from : List Text) (places amounts old new : List ℕ) (i : ℕ) → AreCodes list from places → length places ≡ length amounts → length places ≤ i → AddsAmounts list (take i from) (take i amounts) old new → AddsAmounts list from amounts old new
+amounts_all list from places amounts old new i are each past adds =
+    let long = map_some_length (position_of list) from places are in
+    subst (λ (ts : List Text). AddsAmounts list ts amounts old new) (take_all i from (omega (arith, long, past)))
+    (subst (λ cs. AddsAmounts list (take i from) cs old new) (take_all i amounts (omega (arith, each, past))) adds)
+
+-- the places of a list's texts are places of the other's
+pub places_inside : (list from : List Text) (places : List ℕ) → AreCodes list from places → (k d : ℕ) → k < length places → get_or places k d < length list
+places_inside list [] [] are k d small = absurd (omega (arith, small))
+places_inside list [] (p ∷ places) are k d small = absurd (cc)
+places_inside list (t ∷ from) [] are k d small = absurd (omega (arith, small))
+places_inside list (t ∷ from) (p ∷ places) are zero d small =
+    let here : position_of list t ≡ Some p = cc in slice_get_within list p t (position_here list t p here)
+places_inside list (t ∷ from) (p ∷ places) are (suc k) d small = places_inside list from places (cc) k d (omega (arith, small))
+
 -- the counts of a part, added to padded counts
 pub adds_part : (part from list : List Text) (amounts old new : List ℕ) → length old ≡ length list → AreCounts part from amounts → AddsAmounts list from amounts old new → AddsCounts part list old list new
 adds_part part from list amounts old new beside are adds = record {
@@ -128,3 +217,14 @@ adds_part part from list amounts old new beside are adds = record {
   beside = adds.long ∙ beside;
   total = adds.total ∙ ap (λ n. sum old + n) are.total;
 }
+
+-- ---- a text at an index
+
+pub none_is : {X : Type 0} (o : Option X) → is_some o ≡ false → o ≡ None
+none_is None e = refl
+none_is (Some x) e = absurd (cc)
+
+pub text_here : (texts : List (Bor Text)) (i : ℕ) (d : Bor Text) → i < length texts → slice_get (map (λ t. t.now) texts) i ≡ Some (get_or texts i d).now
+text_here [] i d small = absurd (omega (arith, small))
+text_here (t ∷ texts) zero d small = refl
+text_here (t ∷ texts) (suc i) d small = text_here texts i d (omega (arith, small))

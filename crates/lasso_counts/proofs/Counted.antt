@@ -73,7 +73,9 @@ tell_new list counts amount text s true o none beside e at =
     let is : text ≡ s = same_text text s e in
     let absent : position_of list s ≡ None = subst (λ (t : Text). position_of list t ≡ None) is none in
     let here : position_of (list ++ text ∷ []) s ≡ Some (length list) = subst (λ (t : Text). position_of (list ++ text ∷ []) t ≡ Some (length list)) is (position_last list text none) in
-    ap (λ p. count_at (counts ++ amount ∷ []) p) here ∙ last_one counts (length list) amount beside ∙ ap (λ p. count_at counts p + amount) (sym absent ∙ at)
+    let nothing : count_at counts o ≡ 0 = ap (λ p. count_at counts p) (sym at ∙ absent) in
+    let whole : amount ≡ count_at counts o + amount = omega (arith, nothing) in
+    ap (λ p. count_at (counts ++ amount ∷ []) p) here ∙ last_one counts (length list) amount beside ∙ whole
 tell_new list counts amount text s false None none beside e at =
     ap (λ p. count_at (counts ++ amount ∷ []) p) (position_absent list text s at e)
 tell_new list counts amount text s false (Some n) none beside e at =

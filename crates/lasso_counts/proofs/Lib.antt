@@ -1,4 +1,4 @@
 pub mod Counted
-pub mod Added
 pub mod Rest
+pub mod Added
 pub mod Ranks

@@ -6,8 +6,10 @@
 use Rattle.std.proofs.Common.{ℕ, zero, suc, ◌≡◌, ◌+◌, ◌-◌, ◌<◌, ◌≤◌, List, [], ◌∷◌, ◌++◌, length, take, drop, get_or, map, Bor, Bool, true, false, cond, Option, Some, None, Result, Ok, Err, OnOk, IfErr, MatchResult, IfSome, IsSomeAnd, is_some, refl, sym, ap, subst, ◌∙◌, arith, length-append}
 use Rattle.std.specs.Prelude.{All, IsSome, option_and_then, slice_get}
 use Rattle.std.proofs.Math.Seq.{take-add}
-use Rattle.std.proofs.lemmas.List.{take-append-drop, length-map, length-take}
+use Rattle.std.proofs.lemmas.List.{length-take, length-drop, take_all, take-append-drop, take-map, drop-map}
 use Rattle.std.proofs.lemmas.List.Elements.{All-push}
+use Rattle.std.proofs.lemmas.Option.{slice_get_within, get_or_from_slice_get}
+use Rattle.lasso_parts.proofs.IndexLaws.{slice_get-append_left}
 use Rattle.lasso_parts.proofs.TextLemmas.{position_here}
 use Rattle.lasso_parts.specs.Texts.{Text, position_of, key_of}
 use Rattle.lasso_parts.specs.declared.util.LassoError.{LassoError}
@@ -15,7 +17,7 @@ use Rattle.lasso_single.specs.Filling.{extend}
 use Rattle.lasso_single.specs.Intern.{InternsIn}
 use Rattle.lasso_single.specs.Interner.{InternerView}
 use Rattle.lasso_single.proofs.Filled.{accepted}
-use Rattle.lasso_columns.proofs.PartLists.{Found, interns_found, found_stays, found_interned, all_at, there_at, extend_all, list_extended}
+use Rattle.lasso_columns.proofs.PartLists.{Found, interns_found, found_stays, found_interned, extend_all, list_extended}
 use Rattle.lasso_columns.specs.Encoding.{spur_at}
 use Rattle.lasso_columns.specs.Parts.{new_texts}
 
@@ -40,6 +42,13 @@ extend_both old mid new (text ∷ front) back h h' =
 
 -- ---- texts that are there
 
+there_at : (o : Option ℕ) → is_some o ≡ true → (n : ℕ) × (o ≡ Some n)
+there_at None e = absurd (cc)
+there_at (Some n) e = (n, refl)
+
+all_at : (P : Text → Type 0) (texts : List Text) (n : ℕ) (text : Text) → All P texts → slice_get texts n ≡ Some text → P text
+all_at P texts n text all e = subst P (get_or_from_slice_get texts n text text e) (all n text (slice_get_within texts n text e))
+
 pub found_extended : (old new : InternerView) (texts : List Text) (text : Text) → extend spur_at old texts accepted new → Found old text → Found new text
 found_extended old new [] text h found = subst (λ (i : InternerView). Found i text) (sym h.1) found
 found_extended old new (t ∷ texts) text h found =
@@ -50,11 +59,11 @@ not_found : (now : InternerView) (text : Text) → Found now text → position_o
 not_found now text found none = let at = found.2 in absurd (cc)
 
 key_is : (p : Option ℕ) → IsSome p → (key : ℕ) × (p ≡ Some key)
-key_is None some = absurd some
+key_is None some = absurd (cc)
 key_is (Some key) some = (key, refl)
 
 found_at : (now : InternerView) (text : Text) (o : Option ℕ) → position_of now.texts text ≡ o → IsSome (option_and_then spur_at o) → Found now text
-found_at now text None at some = absurd some
+found_at now text None at some = absurd (cc)
 found_at now text (Some n) at some = let key = key_is (spur_at n) some in (n, key.0, at, key.1)
 
 pub found_key : (now : InternerView) (text : Text) → IsSome (key_of spur_at now.texts text) → Found now text
@@ -72,7 +81,7 @@ still old now (suc n) h = h.1
 stops_here : (list : List Text) (t : Text) (part : List Text) (n : ℕ) (old now : InternerView) (there : Bool) → is_some (position_of list t) ≡ there → All (Found old) list → extend spur_at old (take n (cond there (new_texts list part) (t ∷ new_texts (list ++ t ∷ []) part))) accepted now → position_of now.texts t ≡ None → now ≡ old
 stops_here list t part n old now true e found h none =
     let at = there_at (position_of list t) e in
-    let here : Found old t = all_at (Found old) list at.0 t found (position_here list t at.0 at.1) in
+    let here : Found old t = all_at (λ x. Found old x) list at.0 t found (position_here list t at.0 at.1) in
     absurd (not_found now t (found_extended old now (take n (new_texts list part)) t h here) none)
 stops_here list t part zero old now false e found h none = h.1
 stops_here list t part (suc n) old now false e found h none =
@@ -87,7 +96,7 @@ GoesOn now part i =
 passes : (list : List Text) (t : Text) (part : List Text) (n i : ℕ) (old now : InternerView) (there : Bool) → is_some (position_of list t) ≡ there → All (Found old) list → extend spur_at old (take n (cond there (new_texts list part) (t ∷ new_texts (list ++ t ∷ []) part))) accepted now → Found now t → GoesOn now part i → extend spur_at old (t ∷ take i part) accepted now
 passes list t part n i old now true e found h here others =
     let at = there_at (position_of list t) e in
-    let before : Found old t = all_at (Found old) list at.0 t found (position_here list t at.0 at.1) in
+    let before : Found old t = all_at (λ x. Found old x) list at.0 t found (position_here list t at.0 at.1) in
     (Ok before.1, old, interns_found old t before, others list n old found h)
 passes list t part zero i old now false e found h here others =
     let before : Found old t = subst (λ (v : InternerView). Found v t) h.1 here in
@@ -156,3 +165,42 @@ next_after xs i k P holds = subst (λ o. IsSomeAnd o P) (slice_get_drop xs i k) 
 
 pub taken_both : (xs : List Text) (i k : ℕ) → take i xs ++ take k (drop i xs) ≡ take (i + k) xs
 taken_both xs i k = sym (take-add i k xs)
+
+-- the texts from an index on
+pub texts_after : (texts : List (Bor Text)) (i : ℕ) → map (λ t. t.now) (take (length texts - i) (drop i texts)) ≡ drop i (map (λ t. t.now) texts)
+texts_after texts i =
+    let whole : take (length texts - i) (drop i texts) ≡ drop i texts = take_all (length texts - i) (drop i texts) (omega (arith, length-drop i texts)) in
+    ap (map (λ (t : Bor Text). t.now)) whole ∙ sym (drop-map (λ (t : Bor Text). t.now) i texts)
+
+-- ---- a part among all texts
+
+pub part_here : (texts : List (Bor Text)) (start count : ℕ) → map (λ t. t.now) (take (start + count - start) (drop start texts)) ≡ take count (drop start (map (λ t. t.now) texts))
+part_here texts start count =
+    let now = λ (t : Bor Text). t.now in
+    let same : start + count - start ≡ count = omega arith in
+    ap (λ n. map now (take n (drop start texts))) same ∙ sym (take-map now count (drop start texts)) ∙ ap (take count) (sym (drop-map now start texts))
+
+pub take_front : (n : ℕ) (front back : List Text) → n ≤ length front → take n (front ++ back) ≡ take n front
+take_front zero front back few = refl
+take_front (suc n) [] back few = absurd (omega (arith, few))
+take_front (suc n) (x ∷ front) back few = ap (λ (ts : List Text). x ∷ ts) (take_front n front back (omega (arith, few)))
+
+-- the first texts of a part are the first ones from its start on
+pub first_here : (xs : List Text) (count k : ℕ) → k ≤ length (take count xs) → take k (take count xs) ≡ take k xs
+first_here xs count k few = sym (take_front k (take count xs) (drop count xs) few) ∙ ap (take k) (take-append-drop count xs)
+
+within_by : (P : Text → Type 0) (xs : List Text) (k : ℕ) (o : Option Text) → slice_get xs k ≡ o → IsSomeAnd o P → k < length xs
+within_by P xs k None at holds = absurd holds
+within_by P xs k (Some text) at holds = slice_get_within xs k text at
+
+pub within : (P : Text → Type 0) (xs : List Text) (k : ℕ) → IsSomeAnd (slice_get xs k) P → k < length xs
+within P xs k holds = within_by P xs k (slice_get xs k) refl holds
+
+-- a text of a part stands among all where the part's start and its own position say
+pub next_here : (P : Text → Type 0) (all : List Text) (start count k : ℕ) → IsSomeAnd (slice_get (take count (drop start all)) k) P → IsSomeAnd (slice_get all (start + k)) P
+next_here P all start count k holds =
+    let xs = drop start all in
+    let small = within P (take count xs) k holds in
+    let there : slice_get (take count xs) k ≡ slice_get xs k =
+    sym (slice_get-append_left (take count xs) (drop count xs) k small) ∙ ap (λ (ts : List Text). slice_get ts k) (take-append-drop count xs) in
+    next_after all start k P (subst (λ o. IsSomeAnd o P) there holds)

@@ -113,9 +113,9 @@ fn put_part<S: BuildHasher, A: Allocator + Clone>(
         return count_texts(rodeo, texts, counts);
     };
     // There is room for a count of each text of the part before one is interned.
-    if counts.reserve(part.list.len()).is_err() {
+    let Ok(()) = counts.reserve(part.list.len()) else {
         return count_texts(rodeo, texts, counts);
-    }
+    };
     let merged = merge(alloc, rodeo, &part.list);
     pad(counts, rodeo.len());
     match merged {

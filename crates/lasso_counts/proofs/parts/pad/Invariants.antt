@@ -8,4 +8,5 @@ invariant-loop l = record {
   items : l.counts.items ≡ l.fn.counts.items ++ replicate (l.counter - vec_len l.fn.counts) 0;
   room : vec_capacity l.counts ≡ vec_capacity l.fn.counts;
   from : vec_len l.fn.counts ≤ l.counter;
+  few : l.counter - vec_len l.fn.counts ≤ l.len - vec_len l.fn.counts;
 }
