@@ -56,7 +56,7 @@ adds_push texts before mid after old now new text so_far is grown = record {
       let both = count_push texts text s in omega (arith, first, here, both);
   beside =
       let long : length new ≡ length (counted now (position_of mid text)) = ap (λ (cs : List ℕ). length cs) is in
-      let same : length after ≡ length (with_last mid text) = ap (λ (ts : List Text). length ts) grown in long ∙ counted_beside mid now text so_far.beside ∙ sym same;
+      let same : length after ≡ length (with_last mid text) = ap (λ (ts : List Text). length ts) grown in long ∙ counted_beside now mid text so_far.beside ∙ sym same;
   total =
       let here : sum new ≡ sum now + 1 = ap sum is ∙ counted_total now (position_of mid text) (place_of mid now text so_far.beside) in omega (arith, so_far.total, here, length_push texts text);
 }

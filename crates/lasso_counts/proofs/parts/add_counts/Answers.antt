@@ -14,7 +14,7 @@ overflow_add-index_mut c =
     let below = c.requires.inside at.position 0 c.loop-position-test.true in
     let within : place < length at.counts.items = omega (arith, below, c.args.counts.now.ok.0, at.invariant.long) in
     let value = value_at at.counts.items place c.index_mut.result.now within c.index_mut.ensures.value in
-    total_fits c.args.counts.now.items at.counts.items amounts at.position place c.index_mut.result.now (get_or amounts at.position 0) (2 ^ 64) value refl within small at.invariant.total c.requires.fits
+    let fits = total_fits c.args.counts.now.items at.counts.items amounts at.position place c.index_mut.result.now (get_or amounts at.position 0) (2 ^ 64) value refl within small at.invariant.total c.requires.fits in omega (arith, fits)
 
 pub loop-position-preserved : goal.loop-position-preserved
 loop-position-preserved c =

@@ -1,4 +1,4 @@
-use Rattle.std.proofs.Common.{◌≡◌, ◌<◌, ◌++◌, ◌∷◌, [], List, Bor, IfSome, Some, None, false, is_some, map, take, length, refl, sym, ap, subst, arith}
+use Rattle.std.proofs.Common.{◌≡◌, ◌<◌, ◌+◌, ◌++◌, ◌∷◌, [], List, Bor, IfSome, Some, None, false, is_some, map, take, length, set, refl, sym, ap, subst, arith}
 use Rattle.std.specs.Prelude.{All, IsSome, slice_get}
 use Rattle.std.proofs.lemmas.List.{length-map}
 use Rattle.std.proofs.lemmas.List.Elements.{All-push}
@@ -26,7 +26,7 @@ loop-position-preserved g c =
     let counts = adds_found _ list c.args.counts.now.items at.counts.items _ _ c.in-Some.key c.into_usize.result c.index_mut.result.now at.invariant.counts (sym found) c.into_usize.ensures c.index_mut.ensures.value refl in
     record {
       found = subst (λ (ts : List Text). All (λ text. IsSome (key_of spur_at list text)) ts) (sym more) (All-push (λ text. IsSome (key_of spur_at list text)) _ _ at.invariant.found here);
-      counts = subst (λ (ts : List Text). AddsCounts ts list c.args.counts.now.items list _) (sym more) counts;
+      counts = subst (λ (ts : List Text). AddsCounts ts list c.args.counts.now.items list (set at.counts.items c.into_usize.result (c.index_mut.result.now + 1))) (sym more) counts;
     }
 
 pub returns-clause-next : goal.returns-clause-next
