@@ -2,11 +2,11 @@
 --
 -- The codes of the texts are spread over the lines: each line that is no null takes the next code. So where codes are wanting, the first
 -- line without a number is the one whose text comes next after those that have codes; and where each text has one, each line has a number.
-use Rattle.std.proofs.Common.{ℕ, zero, suc, ◌≡◌, ◌+◌, ◌-◌, ◌<◌, ◌≤◌, Bool, true, false, not, cond, List, [], ◌∷◌, ◌++◌, length, map, take, drop, is_some, Option, Some, None, ◌⊎◌, Result, Ok, Err, refl, sym, ap, subst, ◌∙◌, arith, inl, inr, append_assoc, length-append}
+use Rattle.std.proofs.Common.{ℕ, zero, suc, ◌≡◌, ◌+◌, ◌-◌, ◌<◌, ◌≤◌, Bool, true, false, not, cond, List, [], ◌∷◌, ◌++◌, length, map, take, drop, is_some, is_ok, is_err, Option, Some, None, Bor, get_or, ◌⊎◌, Result, Ok, Err, refl, sym, ap, subst, ◌∙◌, arith, inl, inr, append_assoc, length-append}
 use Rattle.std.specs.Prelude.{All, IsSome, slice_get, IsSomeAnd}
 use Rattle.std.specs.Str.{IsUtf8}
 use Rattle.std.proofs.Math.Seq.{take-append_seam}
-use Rattle.std.proofs.lemmas.List.{append-nil, take_all}
+use Rattle.std.proofs.lemmas.List.{append-nil, take_all, map_push}
 use Rattle.std.proofs.lemmas.List.Elements.{All-push}
 use Rattle.std.proofs.lemmas.Option.{slice_get_within}
 use Rattle.lasso_parts.proofs.IndexLaws.{slice_get-append_left}
@@ -17,6 +17,7 @@ use Rattle.lasso_parts.specs.declared.util.LassoErrorKind.TheVariants.{FailedAll
 use Rattle.lasso_single.specs.Filling.{extend}
 use Rattle.lasso_single.specs.Interner.{InternerView, made_with}
 use Rattle.lasso_single.proofs.Filled.{accepted}
+use Rattle.lasso_columns.proofs.Encoded.{texts_more}
 use Rattle.lasso_columns.proofs.PartLists.{found_interned, list_extended}
 use Rattle.lasso_columns.specs.Codes.{AreCodes, AddsCodes}
 use Rattle.lasso_columns.specs.Encoding.{spur_at, encoded_texts, IsRefused}
@@ -298,10 +299,58 @@ pub drop_code : (codes : List ℕ) (i : ℕ) (code : ℕ) → slice_get codes i 
 drop_code [] i code at = absurd (cc)
 drop_code (c ∷ codes) zero code at = let same : c ≡ code = cc in ap (λ n. n ∷ codes) same
 drop_code (c ∷ codes) (suc i) code at =
-    let next : suc (i + 1) ≡ suc i + 1 = omega arith in drop_code codes i code at ∙ ap (λ n. drop n (c ∷ codes)) next
+    let next : suc (i + 1) ≡ suc i + 1 = omega arith in drop_code codes i code at ∙ ap (λ n. code ∷ drop n (c ∷ codes)) next
 
 pub drop_none : (codes : List ℕ) (i : ℕ) → slice_get codes i ≡ None → drop i codes ≡ []
 drop_none [] zero at = refl
 drop_none [] (suc i) at = refl
 drop_none (c ∷ codes) zero at = absurd (cc)
 drop_none (c ∷ codes) (suc i) at = drop_none codes i at
+
+-- ---- a line more, as the code reads it
+
+-- what a push leaves that didn't fail
+pub pushed : {X E : Type 0} (r : Result (Unit {0}) E) (after grown before : List X) → after ≡ cond (is_ok r) grown before → is_err r ≡ false → after ≡ grown
+pushed (Ok done) after grown before is fine = is
+pushed (Err e) after grown before is fine = absurd (cc)
+
+pub null_pass : (null : Option Text) (lines : List (Bor Text)) (i : ℕ) (d : Bor Text) (texts : List (Bor Text)) → i < length lines → map (λ t. t.now) texts ≡ texts_of null (take i (map (λ t. t.now) lines)) → is_null null (get_or lines i d).now ≡ true → map (λ t. t.now) texts ≡ texts_of null (take (i + 1) (map (λ t. t.now) lines))
+null_pass null lines i d texts small so_far e =
+    let all = map (λ (t : Bor Text). t.now) lines in
+    so_far ∙ sym (ap (texts_of null) (texts_more lines i d small) ∙ kept_null null (take i all) (get_or lines i d).now e)
+
+pub text_push : (null : Option Text) (lines : List (Bor Text)) (i : ℕ) (d : Bor Text) (texts after : List (Bor Text)) → i < length lines → map (λ t. t.now) texts ≡ texts_of null (take i (map (λ t. t.now) lines)) → is_null null (get_or lines i d).now ≡ false → after ≡ texts ++ get_or lines i d ∷ [] → map (λ t. t.now) after ≡ texts_of null (take (i + 1) (map (λ t. t.now) lines))
+text_push null lines i d texts after small so_far e grown =
+    let now = λ (t : Bor Text). t.now in
+    let all = map now lines in
+    let line = (get_or lines i d).now in
+    ap (map now) grown ∙ map_push now texts (get_or lines i d) ∙ ap (λ (ts : List Text). ts ++ line ∷ []) so_far
+    ∙ sym (ap (texts_of null) (texts_more lines i d small) ∙ kept_text null (take i all) line e)
+
+lines_from : (lines : List (Bor Text)) (i : ℕ) (d : Bor Text) → i < length lines → drop i (map (λ t. t.now) lines) ≡ (get_or lines i d).now ∷ drop (i + 1) (map (λ t. t.now) lines)
+lines_from [] i d small = absurd (omega (arith, small))
+lines_from (l ∷ lines) zero d small = refl
+lines_from (l ∷ lines) (suc i) d small =
+    let next : suc (i + 1) ≡ suc i + 1 = omega arith in
+    lines_from lines i d (omega (arith, small)) ∙ ap (λ n. (get_or lines i d).now ∷ drop n (l.now ∷ map (λ (t : Bor Text). t.now) lines)) next
+
+pub number_null : (null : Option Text) (lines : List (Bor Text)) (i : ℕ) (d : Bor Text) (codes all before after : List ℕ) → i < length lines → all ≡ before ++ spread null (drop i (map (λ t. t.now) lines)) codes → is_null null (get_or lines i d).now ≡ true → after ≡ before ++ 4294967295 ∷ [] → all ≡ after ++ spread null (drop (i + 1) (map (λ t. t.now) lines)) codes
+number_null null lines i d codes all before after small so_far e grown =
+    let rest = drop (i + 1) (map (λ (t : Bor Text). t.now) lines) in
+    let here = ap (λ (ls : List Text). spread null ls codes) (lines_from lines i d small) ∙ spread_null null (get_or lines i d).now rest codes e in
+    numbers_push all before after (spread null (drop i (map (λ (t : Bor Text). t.now) lines)) codes) 4294967295 (spread null rest codes) so_far here grown
+
+pub number_code : (null : Option Text) (lines : List (Bor Text)) (i : ℕ) (d : Bor Text) (codes all before after : List ℕ) (used code : ℕ) → i < length lines → all ≡ before ++ spread null (drop i (map (λ t. t.now) lines)) (drop used codes) → is_null null (get_or lines i d).now ≡ false → slice_get codes used ≡ Some code → after ≡ before ++ code ∷ [] → all ≡ after ++ spread null (drop (i + 1) (map (λ t. t.now) lines)) (drop (used + 1) codes)
+number_code null lines i d codes all before after used code small so_far e at grown =
+    let rest = drop (i + 1) (map (λ (t : Bor Text). t.now) lines) in
+    let here =
+    ap (λ (ls : List Text). spread null ls (drop used codes)) (lines_from lines i d small) ∙ ap (λ (cs : List ℕ). spread null ((get_or lines i d).now ∷ rest) cs) (drop_code codes used code at)
+    ∙ spread_text null (get_or lines i d).now rest code (drop (used + 1) codes) e in
+    numbers_push all before after (spread null (drop i (map (λ (t : Bor Text). t.now) lines)) (drop used codes)) code (spread null rest (drop (used + 1) codes)) so_far here grown
+
+pub number_stop : (null : Option Text) (lines : List (Bor Text)) (i : ℕ) (d : Bor Text) (codes all before : List ℕ) (used : ℕ) → i < length lines → all ≡ before ++ spread null (drop i (map (λ t. t.now) lines)) (drop used codes) → is_null null (get_or lines i d).now ≡ false → slice_get codes used ≡ None → before ≡ all
+number_stop null lines i d codes all before used small so_far e at =
+    let rest = drop (i + 1) (map (λ (t : Bor Text). t.now) lines) in
+    let here =
+    ap (λ (ls : List Text). spread null ls (drop used codes)) (lines_from lines i d small) ∙ spread_none null (get_or lines i d).now rest (drop used codes) e (drop_none codes used at) in
+    sym (so_far ∙ ap (λ ns. before ++ ns) here ∙ append-nil before)

@@ -178,17 +178,19 @@ fn number_texts(
 {
     let mut used = 0;
     for line in lines {
-        let mut entry = NULL;
-        if !is_null(null, line.as_bytes()) {
-            let Some(code) = codes.get(used) else {
-                return Ok(());
-            };
-            entry = *code;
-            used += 1;
+        if is_null(null, line.as_bytes()) {
+            if numbers.push(NULL).is_err() {
+                return Err(RunFault::no_memory(0));
+            }
+            continue;
         }
-        if numbers.push(entry).is_err() {
+        let Some(code) = codes.get(used) else {
+            return Ok(());
+        };
+        if numbers.push(*code).is_err() {
             return Err(RunFault::no_memory(0));
         }
+        used += 1;
     }
     Ok(())
 }

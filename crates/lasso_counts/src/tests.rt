@@ -86,8 +86,11 @@ fn the_refused_text_is_told(rt: HostRuntime) -> Result<(), Fail> {
     for (texts, position, count) in rows {
         for workers in [1usize, 2, 3, 8] {
             let limits = MemoryLimits::new(4096);
-            let mut rodeo: SpurRodeo =
-                Rodeo::with_capacity_and_memory_limits(rt.alloc(), Capacity::default(), limits)?;
+            let mut rodeo: SpurRodeo = Rodeo::with_capacity_and_memory_limits(
+                rt.alloc(),
+                Capacity::default(),
+                limits,
+            )?;
             let mut counts = Vec::new(rt.alloc());
             let filler = vec![in rt.alloc(); b'f'; 4094]?;
             let Ok(filler) = from_utf8(&filler) else {
