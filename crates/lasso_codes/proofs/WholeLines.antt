@@ -220,9 +220,11 @@ module _ (old now : InternerView) (null : Option Text) (lines texts : List Text)
       most_by line ls cs true others = let rest = others cs in omega (arith, rest)
       most_by line ls [] false others = omega arith
       most_by line ls (c ∷ cs) false others = let rest = others cs in omega (arith, rest)
+
       most : (ls : List Text) (cs : List ℕ) → length (spread null ls cs) ≤ length ls
       most [] cs = omega arith
       most (line ∷ ls) cs = most_by line ls cs (is_null null line) (λ ds. most ls ds)
+
       numbers_most : (ls : List Text) (cs ns : List ℕ) → ns ≡ spread null ls cs → length ns ≤ length ls
       numbers_most ls cs ns same = let few = most ls cs in omega (arith, few, ap length same)
 

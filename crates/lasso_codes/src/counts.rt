@@ -162,10 +162,7 @@ fn count_whole<H: AllocGlobal + Threads + Sync, R: Read + Drop>(
     match count_in_parts(rt, rodeo, &lines.texts, counts, workers) {
         Ok(()) if lines.is_whole => Ok(()),
         Ok(()) => Err(RunFault::Line(LineError::NotText(lines.texts.len() + 1))),
-        Err(fault) => Err(RunFault::Line(LineError::Refused(
-            fault.position + 1,
-            fault.error,
-        ))),
+        Err(fault) => Err(RunFault::Line(LineError::Refused(fault.position + 1, fault.error))),
     }
 }
 

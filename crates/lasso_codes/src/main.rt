@@ -13,9 +13,9 @@ pub mod lines;
 pub mod numbers;
 pub mod output;
 pub mod program;
-pub mod whole;
 #[cfg(test)]
 mod tests;
+pub mod whole;
 
 use arguments::{ArgumentFault, Request, command_of};
 use fault::RunFault;
