@@ -2,6 +2,7 @@ use Rattle.std.proofs.Common.{◌≡◌, ◌∙◌, ap, sym, subst, map, take, l
 use Rattle.std.specs.Prelude.{flat_map}
 use Rattle.std.proofs.lemmas.Grind.{common_steps}
 use Rattle.std.proofs.lemmas.Result.{err_from_is_err_and}
+use Rattle.lasso_single.specs.Interner.{made_with}
 use Rattle.lasso_columns.specs.Lines.{lines_of}
 use Rattle.lasso_counts.specs.Counts.{AreCounts, pair_of}
 use Rattle.lasso_codes.specs.Counts.{CountsEnd, count_line}
@@ -20,7 +21,7 @@ pub returns-in_err-count_all : goal.returns-in_err-count_all
 returns-in_err-count_all g c = λ bytes e.
     let p = err_from_is_err_and c.from_residual-in_err-count_all.result c.from_residual-in_err-count_all.ensures.1 in
     let fault = c.in_err-count_all.field-0.0 in
-    rw (p.1, p.2) (writes_none _ _ (none_written bytes c.args.settings.limit c.args.settings.top fault (c.in_err-count_all.ensures.fault bytes e c.args.settings.limit c.in_ok-rodeo.ensures.made)))
+    rw (p.1, p.2) (writes_none _ _ (none_written bytes c.args.settings.limit c.args.settings.top fault (c.in_err-count_all.ensures.fault bytes e c.args.settings.limit (c.in_ok-rodeo.ensures.made ∙ ap (λ n. made_with 4096 n) c.new.ensures))))
 
 pub returns : goal.returns
 returns g c = λ bytes e.

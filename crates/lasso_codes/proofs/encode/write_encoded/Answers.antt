@@ -1,5 +1,6 @@
-use Rattle.std.proofs.Common.{◌≡◌, sym, subst}
+use Rattle.std.proofs.Common.{◌≡◌, ◌∙◌, ap, sym, subst}
 use Rattle.std.proofs.lemmas.Result.{err_from_is_err_and}
+use Rattle.lasso_single.specs.Interner.{made_with}
 use Rattle.lasso_columns.specs.Lines.{lines_of}
 use Rattle.lasso_codes.specs.Arguments.{word_of}
 use Rattle.lasso_codes.specs.Encode.{AreNumbered, EncodeEnd}
@@ -19,7 +20,7 @@ returns-in_err-number_lines g c = λ bytes e.
     let p = err_from_is_err_and c.from_residual-in_err-number_lines.result c.from_residual-in_err-number_lines.ensures.1 in
     let null = word_of c.args.null in
     let fault = c.in_err-number_lines.field-0.0 in
-    rw (p.1, p.2) (writes_none _ _ (none_written bytes c.args.settings.limit null c.args.settings.binary fault (c.in_err-number_lines.ensures.fault bytes e c.args.settings.limit c.in_ok-rodeo.ensures.made)))
+    rw (p.1, p.2) (writes_none _ _ (none_written bytes c.args.settings.limit null c.args.settings.binary fault (c.in_err-number_lines.ensures.fault bytes e c.args.settings.limit (c.in_ok-rodeo.ensures.made ∙ ap (λ n. made_with 4096 n) c.new.ensures))))
 
 pub returns : goal.returns
 returns g c = λ bytes e.
