@@ -74,7 +74,7 @@ entry_is false list line number is =
     let none : Option ℕ = None in
     ap (λ b. cond b none (Some number)) other ∙ sym is.0
 
-entries_are : (null : Option Text) (list lines : List Text) (numbers : List ℕ) → AreEntries null list lines numbers → map entry_at numbers ≡ map (entry_of null list) lines
+pub entries_are : (null : Option Text) (list lines : List Text) (numbers : List ℕ) → AreEntries null list lines numbers → map entry_at numbers ≡ map (entry_of null list) lines
 entries_are null list [] [] are = refl
 entries_are null list [] (n ∷ ns) are = absurd are
 entries_are null list (l ∷ ls) [] are = absurd are
@@ -100,7 +100,7 @@ encoding_none input null old numbers none = record {
   list = (refl, refl);
 }
 
-texts_push : (null : Option Text) (lines : List Text) (line : Text) (b : Bool) → is_null null line ≡ b → texts_of null (lines ++ line ∷ []) ≡ texts_of null lines ++ cond b [] (line ∷ [])
+pub texts_push : (null : Option Text) (lines : List Text) (line : Text) (b : Bool) → is_null null line ≡ b → texts_of null (lines ++ line ∷ []) ≡ texts_of null lines ++ cond b [] (line ∷ [])
 texts_push null lines line true e =
     filter-append (λ l. not (is_null null l)) lines (line ∷ []) ∙ ap (λ b. texts_of null lines ++ cond (not b) (line ∷ []) []) e
 texts_push null lines line false e =

@@ -1,11 +1,13 @@
 //! Why a run ends before all is written.
 ghost use Rattle.std.specs.Prelude.{◌≡◌, Some};
+ghost use Rattle.std.specs.IoError.{error_kind};
 ghost use Rattle.lasso_codes.specs.Fault.{column_fault_text, column_status, status_of, fault_text, IsWriteFault};
 ghost use Rattle.lasso_columns.specs.declared.faults.LineError.TheVariants.{Refused};
 ghost use Rattle.lasso_parts.specs.declared.util.LassoErrorKind.TheVariants.{FailedAllocation};
 
 use lasso::{LassoError, LassoErrorKind};
 use lasso_columns::LineError;
+use std::io::ErrorKind;
 use std::{fmt, io};
 
 /// Why a run ended before all was written. Lines are numbered from 1.
@@ -95,9 +97,11 @@ impl RunFault {
 
     /// The fault of a failed write: `ReaderGone` for a broken pipe.
     pub fn of_write(error: &io::Error) -> Self
-        ensures { IsWriteFault result }
+        ensures is_write { IsWriteFault result }
+        ensures gone { error_kind error.now ≡ ErrorKind.BrokenPipe → result ≡ RunFault.ReaderGone }
+        ensures failed { ¬ (error_kind error.now ≡ ErrorKind.BrokenPipe) → result ≡ RunFault.WriteFailed }
     {
-        if error.kind() == io::ErrorKind::BrokenPipe {
+        if error.kind() == ErrorKind::BrokenPipe {
             RunFault::ReaderGone
         } else {
             RunFault::WriteFailed

@@ -20,13 +20,14 @@ lasso_codes --version prints the version.
 pub const VERSION: &str = "lasso_codes 1\n";
 
 const COUNTS_HELP: &str = "\
-usage: lasso_codes counts [--limit N] [--top N] < INPUT > OUTPUT
+usage: lasso_codes counts [--limit N] [--top N] [--workers N] < INPUT > OUTPUT
 
 Writes each distinct line after how often it came, the most frequent first.
 Lines that came equally often are in the order of their bytes.
 
-  --limit N  the most bytes that the distinct lines may take
-  --top N    write at most N lines
+  --limit N    the most bytes that the distinct lines may take
+  --top N      write at most N lines
+  --workers N  read the whole input, and count by 1 to 64 threads
 
 N is a number below 2^64, or one with K, M or G after it, as 64K for 65536.
 ";
@@ -53,7 +54,7 @@ N is a number below 2^64, or one with K, M or G after it, as 64K for 65536.
 ";
 
 const ENCODE_HELP: &str = "\
-usage: lasso_codes encode [--limit N] [--null WORD] [--binary] < LINES > COLUMN
+usage: lasso_codes encode [OPTION..] < LINES > COLUMN
 
 Writes a column: a header, each distinct line once, and for each line its code,
 which is the position of the line among the distinct ones, from 0.
@@ -61,6 +62,7 @@ which is the position of the line among the distinct ones, from 0.
   --limit N    the most bytes that the distinct lines may take
   --null WORD  a line that is WORD is a null: it is no text of the column
   --binary     write codes as four bytes each, the least first
+  --workers N  read the whole input, and encode by 1 to 64 threads
 
 N is a number below 2^64, or one with K, M or G after it, as 64K for 65536.
 ";

@@ -23,8 +23,8 @@ use crate::help::{HELP, VERSION, verb_help};
 use crate::merge::merge;
 use crate::output::{flush, write_bytes};
 use lasso::MemoryLimits;
-use std::alloc::Global;
 use std::io::{BufReader, BufWriter, Read, Write};
+use std::thread::Threads;
 
 /// How many bytes the buffers of the reader and of the writer take.
 pub const BUFFER: usize = 65536;
@@ -33,8 +33,8 @@ pub const BUFFER: usize = 65536;
 ///
 /// # Errors
 /// As the verb. A help text fails as `write_bytes` does.
-pub fn run_request<R: Read + Drop, W: Write + Drop>(
-    alloc: Global,
+pub fn run_request<H: AllocGlobal + Threads + Sync, R: Read + Drop, W: Write + Drop>(
+    rt: &H,
     request: &Request<'_>,
     input: &mut BufReader<R>,
     output: &mut BufWriter<W>,
@@ -59,11 +59,11 @@ pub fn run_request<R: Read + Drop, W: Write + Drop>(
         Command::Run(verb, settings) => {
             let limits = MemoryLimits::new(settings.limit);
             match verb {
-                Verb::Counts => counts(alloc, input, output, limits, settings.top),
-                Verb::Decode => decode(alloc, input, output, limits, null),
-                Verb::Distinct => distinct(alloc, input, output, limits),
-                Verb::Encode => encode(alloc, input, output, limits, null, settings.binary),
-                Verb::Merge => merge(alloc, input, output, limits, settings.binary),
+                Verb::Counts => counts(rt, input, output, settings),
+                Verb::Decode => decode(rt.alloc(), input, output, limits, null),
+                Verb::Distinct => distinct(rt.alloc(), input, output, limits),
+                Verb::Encode => encode(rt, input, output, settings, null),
+                Verb::Merge => merge(rt.alloc(), input, output, limits, settings.binary),
             }
         }
     }

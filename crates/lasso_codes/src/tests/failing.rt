@@ -113,7 +113,7 @@ fn each_read_fails_in_turn(rt: HostRuntime) -> Result<(), Fail> {
             let target = ShortWrite::new(rt.alloc(), 100, Way::IsFull);
             let mut writer = BufWriter::with_capacity(rt.alloc(), 8, target)?;
             let request = runs(verb, PLAIN);
-            let ended = run_request(rt.alloc(), &request, &mut reader, &mut writer);
+            let ended = run_request(&rt, &request, &mut reader, &mut writer);
             let (target, pending) = writer.into_parts();
             assert!(rt; pending.is_empty());
             assert!(rt; target.flushed == target.taken.len());
@@ -140,7 +140,7 @@ fn lines_are_written_before_the_next_read(rt: HostRuntime) -> Result<(), Fail> {
         let mut input = BufReader::new(rt.alloc(), source)?;
         let mut writer = BufWriter::new(rt.alloc(), Vec::new(rt.alloc()))?;
         let request = runs(Verb::Distinct, PLAIN);
-        let ended = run_request(rt.alloc(), &request, &mut input, &mut writer);
+        let ended = run_request(&rt, &request, &mut input, &mut writer);
         assert_fault(&rt, ended, "read failed", 4)?;
         assert!(rt; writer.get_ref().as_slice() == written);
     }
@@ -162,7 +162,7 @@ fn each_write_fails_in_turn(rt: HostRuntime) -> Result<(), Fail> {
                 let target = ShortWrite::new(rt.alloc(), calls, way);
                 let mut writer = BufWriter::with_capacity(rt.alloc(), 4, target)?;
                 let request = runs(verb, PLAIN);
-                let ended = run_request(rt.alloc(), &request, &mut reader, &mut writer);
+                let ended = run_request(&rt, &request, &mut reader, &mut writer);
                 let (target, _) = writer.into_parts();
                 assert!(rt; output.starts_with(&target.taken));
                 if ended.is_ok() {
@@ -174,6 +174,26 @@ fn each_write_fails_in_turn(rt: HostRuntime) -> Result<(), Fail> {
             }
             assert!(rt; whole);
         }
+    }
+    Ok(())
+}
+
+// A reader that is gone is told as such only where nothing else failed.
+#[test]
+fn a_fault_stays_one_where_the_reader_is_gone(rt: HostRuntime) -> Result<(), Fail> {
+    let rows: [(&[u8], &str, u8); 2] = [
+        (b"b\na\n", "the output's reader is gone", 0),
+        (b"b\n\xff\n", "write failed", 4),
+    ];
+    for (bytes, words, status) in rows {
+        let mut input = BufReader::new(rt.alloc(), bytes)?;
+        let target = ShortWrite::new(rt.alloc(), 0, Way::IsGone);
+        let mut writer = BufWriter::new(rt.alloc(), target)?;
+        let request = runs(Verb::Distinct, PLAIN);
+        let ended = run_request(&rt, &request, &mut input, &mut writer);
+        let (target, _) = writer.into_parts();
+        assert!(rt; target.taken.is_empty());
+        assert_fault(&rt, ended, words, status)?;
     }
     Ok(())
 }

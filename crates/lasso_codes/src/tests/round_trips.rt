@@ -4,6 +4,7 @@ use crate::arguments::{Request, Settings, Verb};
 use crate::program::run_request;
 use std::process::Abort;
 use std::test::Fail;
+use std::thread::Threads;
 
 const INPUTS: [&[u8]; 5] = [
     b"",
@@ -14,14 +15,14 @@ const INPUTS: [&[u8]; 5] = [
 ];
 
 // What the request writes of the input.
-fn written_of<R: AllocGlobal + Abort>(
+fn written_of<R: AllocGlobal + Abort + Threads + Sync>(
     rt: &R,
     request: Request<'_>,
     input: &[u8],
 ) -> Result<Vec<u8>, Fail> {
     let mut reader = reader_of(rt.alloc(), input)?;
     let mut writer = writer_of(rt.alloc())?;
-    assert!(rt; run_request(rt.alloc(), &request, &mut reader, &mut writer) == Ok(()));
+    assert!(rt; run_request(rt, &request, &mut reader, &mut writer) == Ok(()));
     let (written, left) = writer.into_parts();
     assert!(rt; left.is_empty());
     Ok(written)

@@ -1,24 +1,27 @@
 //! What the verbs write.
-use super::{PLAIN, asks, assert_fault, reader_of, runs, writer_of};
+use super::{PLAIN, asks, assert_fault, by_workers, reader_of, runs, writer_of};
 use crate::arguments::{Command, Request, Settings, Verb};
 use crate::help::{HELP, VERSION, verb_help};
 use crate::program::run_request;
 use std::process::Abort;
 use std::test::Fail;
+use std::thread::Threads;
 
-// The request turns the input into the output.
-pub fn assert_writes<R: AllocGlobal + Abort>(
+// The request turns the input into the output, however many workers there are.
+pub fn assert_writes<R: AllocGlobal + Abort + Threads + Sync>(
     rt: &R,
     request: Request<'_>,
     input: &[u8],
     output: &[u8],
 ) -> Result<(), Fail> {
-    let mut reader = reader_of(rt.alloc(), input)?;
-    let mut writer = writer_of(rt.alloc())?;
-    assert!(rt; run_request(rt.alloc(), &request, &mut reader, &mut writer) == Ok(()));
-    let (written, left) = writer.into_parts();
-    assert!(rt; left.is_empty());
-    assert!(rt; written.as_slice() == output);
+    for request in by_workers(request) {
+        let mut reader = reader_of(rt.alloc(), input)?;
+        let mut writer = writer_of(rt.alloc())?;
+        assert!(rt; run_request(rt, &request, &mut reader, &mut writer) == Ok(()));
+        let (written, left) = writer.into_parts();
+        assert!(rt; left.is_empty());
+        assert!(rt; written.as_slice() == output);
+    }
     Ok(())
 }
 
@@ -117,21 +120,24 @@ fn help_texts(rt: HostRuntime) -> Result<(), Fail> {
     Ok(())
 }
 
-// What a run over the input writes before it ends with the fault of these words.
-pub fn assert_stops<R: AllocGlobal + Abort>(
+// What a run over the input writes before it ends with the fault of these words, however many workers there are.
+pub fn assert_stops<R: AllocGlobal + Abort + Threads + Sync>(
     rt: &R,
     request: Request<'_>,
     input: &[u8],
     output: &[u8],
     (words, status): (&str, u8),
 ) -> Result<(), Fail> {
-    let mut reader = reader_of(rt.alloc(), input)?;
-    let mut writer = writer_of(rt.alloc())?;
-    let ended = run_request(rt.alloc(), &request, &mut reader, &mut writer);
-    let (written, left) = writer.into_parts();
-    assert!(rt; left.is_empty());
-    assert!(rt; written.as_slice() == output);
-    assert_fault(rt, ended, words, status)
+    for request in by_workers(request) {
+        let mut reader = reader_of(rt.alloc(), input)?;
+        let mut writer = writer_of(rt.alloc())?;
+        let ended = run_request(rt, &request, &mut reader, &mut writer);
+        let (written, left) = writer.into_parts();
+        assert!(rt; left.is_empty());
+        assert!(rt; written.as_slice() == output);
+        assert_fault(rt, ended, words, status)?;
+    }
+    Ok(())
 }
 
 #[test]
