@@ -1,7 +1,8 @@
 #!/usr/bin/env python3
-"""Writes odd inputs into the folder that is given, and beside each what lasso_lines has to write: NAME, NAME.report, NAME.ordered.
+"""Writes odd inputs into the folder that is given, and beside each what lasso_lines has to write: NAME, NAME.report, NAME.ordered. Beside
+the shorter ones also what lasso_codes has to write: NAME.distinct, NAME.counts, NAME.encode.
 
-Prints the names of the shorter inputs. No byte of an answer comes from lasso_lines: it is worked out from the lines by a dictionary, a
+Prints the names of the shorter inputs. No byte of an answer comes from either program: it is worked out from the lines by a dictionary, a
 sort and lasso's rule for the sizes of buckets.
 """
 import sys
@@ -67,6 +68,22 @@ def ordered(lines):
     return b"".join(line + b"\n" for line in sorted(set(lines)))
 
 
+def codes_answers(lines):
+    """What each verb of lasso_codes has to write."""
+    numbers, counts = {}, {}
+    for line in lines:
+        numbers.setdefault(line, len(numbers))
+        counts[line] = counts.get(line, 0) + 1
+    distinct = b"".join(line + b"\n" for line in numbers)
+    ranked = sorted(counts, key=lambda line: (-counts[line], line))
+    header = b"lasso-codes 1 text %d %d\n" % (len(numbers), len(lines))
+    return {
+        "distinct": distinct,
+        "counts": b"".join(b"%d %s\n" % (counts[line], line) for line in ranked),
+        "encode": header + distinct + b"".join(b"%d\n" % numbers[line] for line in lines),
+    }
+
+
 def write(folder, name, text):
     lines = lines_of(text)
     (folder / name).write_bytes(text)
@@ -79,6 +96,8 @@ def main():
     folder.mkdir(parents=True, exist_ok=True)
     for name, text in shorter():
         write(folder, name, text)
+        for verb, answer in codes_answers(lines_of(text)).items():
+            (folder / f"{name}.{verb}").write_bytes(answer)
         print(name)
     write(folder, "long", b"b\n" + line_of(LONG) + b"\nA\n")
     write(folder, "long_alone", line_of(LONG))

@@ -26,7 +26,7 @@ use Rattle.lasso_codes.specs.Counts.{count_line, CountingFault, CountsEnd, IsBeg
 use Rattle.lasso_codes.specs.Fault.{IsReadFault, IsWriteEnd}
 use Rattle.lasso_codes.specs.Streams.{WritesAll}
 use Rattle.lasso_codes.specs.declared.fault.RunFault.{RunFault}
-use Rattle.lasso_codes.specs.declared.fault.RunFault.TheVariants.{Line, TooManyLines, ReadFailed, WriteFailed, ReaderGone}
+use Rattle.lasso_codes.specs.declared.fault.RunFault.TheVariants.{Line, TooManyLines, ReadFailed, WriteFailed, ReaderGone, Column}
 use Rattle.lasso_codes.proofs.Taken.{Taken, taken_none, taken_push, taken_all, taken_first, taken_next}
 
 -- these lines were read, interned and counted
@@ -66,6 +66,7 @@ module _ (input rest : List ℕ) (number : ℕ) (old now : InternerView) (counts
   counting_read_fails limit ReadFailed is = tt
   counting_read_fails limit WriteFailed is = absurd is
   counting_read_fails limit ReaderGone is = absurd is
+  counting_read_fails limit (Column column fault) is = absurd is
 
   -- the next line is faulty
   pub counting_line_fails : (limit : ℕ) (line left : List ℕ) (error : LineError) → old ≡ made_with 4096 limit → lines_of rest ≡ line ∷ lines_of left → IsFaultOf now line number error → CountingFault limit (lines_of input) (Line error)
@@ -112,6 +113,7 @@ report_written input limit top ranked part (Err TooManyLines) texts order sorted
 report_written input limit top ranked part (Err ReadFailed) texts order sorted total written = absurd written.0
 report_written input limit top ranked part (Err WriteFailed) texts order sorted total written = inr (flat_map count_line (take top ranked), (ranked, order, sorted, total, refl), written.1)
 report_written input limit top ranked part (Err ReaderGone) texts order sorted total written = inr (flat_map count_line (take top ranked), (ranked, order, sorted, total, refl), written.1)
+report_written input limit top ranked part (Err (Column column fault)) texts order sorted total written = absurd written.0
 
 -- lines were not counted, and nothing is written
 pub none_written : (input : List ℕ) (limit top : ℕ) (fault : RunFault) → CountingFault limit (lines_of input) fault → CountsEnd input limit top [] (Err fault)
@@ -120,6 +122,7 @@ none_written input limit top TooManyLines is = refl
 none_written input limit top ReadFailed is = refl
 none_written input limit top WriteFailed is = absurd is
 none_written input limit top ReaderGone is = absurd is
+none_written input limit top (Column column fault) is = absurd is
 
 -- there was no memory at no line
 pub unmade : (limit : ℕ) (lines : List Text) (fault : RunFault) → fault ≡ Line (Refused 0 FailedAllocation) → CountingFault limit lines fault
@@ -144,6 +147,7 @@ end_begun input limit top part (Err TooManyLines) end = inl end
 end_begun input limit top part (Err ReadFailed) end = inl end
 end_begun input limit top part (Err WriteFailed) end = end
 end_begun input limit top part (Err ReaderGone) end = end
+end_begun input limit top part (Err (Column column fault)) end = absurd end
 
 write_end : (input : List ℕ) (limit top : ℕ) (part : List ℕ) (result : Result (Unit {0}) RunFault) → IsBegun (lines_of input) top part → IsWriteEnd result → CountsEnd input limit top part result
 write_end input limit top part (Ok x) begun is = absurd is
@@ -152,6 +156,7 @@ write_end input limit top part (Err TooManyLines) begun is = absurd is
 write_end input limit top part (Err ReadFailed) begun is = absurd is
 write_end input limit top part (Err WriteFailed) begun is = begun
 write_end input limit top part (Err ReaderGone) begun is = begun
+write_end input limit top part (Err (Column column fault)) begun is = absurd is
 
 -- a run that ends as it did, or with a failed flush
 pub end_then : (input : List ℕ) (limit top : ℕ) (part : List ℕ) (given result : Result (Unit {0}) RunFault) → CountsEnd input limit top part given → (result ≡ given) ⊎ IsWriteEnd result → CountsEnd input limit top part result

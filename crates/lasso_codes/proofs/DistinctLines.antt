@@ -24,7 +24,7 @@ use Rattle.lasso_codes.specs.Distinct.{with_feed, distinct_report, passed, PassF
 use Rattle.lasso_codes.specs.Fault.{IsReadFault, IsWriteFault, IsWriteEnd}
 use Rattle.lasso_codes.specs.Streams.{Begins}
 use Rattle.lasso_codes.specs.declared.fault.RunFault.{RunFault}
-use Rattle.lasso_codes.specs.declared.fault.RunFault.TheVariants.{Line, TooManyLines, ReadFailed, WriteFailed, ReaderGone}
+use Rattle.lasso_codes.specs.declared.fault.RunFault.TheVariants.{Line, TooManyLines, ReadFailed, WriteFailed, ReaderGone, Column}
 use Rattle.lasso_codes.proofs.Taken.{Taken, taken_none, taken_push, taken_all, taken_first, taken_next}
 
 -- ---- the report of one line more
@@ -109,6 +109,7 @@ module _ (input : List ℕ) (limit : ℕ) (rest : List ℕ) (number : ℕ) (now 
   way_read_fails ReadFailed is = (length way.done, way_first)
   way_read_fails WriteFailed is = absurd is
   way_read_fails ReaderGone is = absurd is
+  way_read_fails (Column column fault) is = absurd is
 
   pub way_write_fails : (fault : RunFault) → IsWriteFault fault → DistinctEnd input limit part (Err fault)
   way_write_fails (Line error) is = absurd is
@@ -116,6 +117,7 @@ module _ (input : List ℕ) (limit : ℕ) (rest : List ℕ) (number : ℕ) (now 
   way_write_fails ReadFailed is = absurd is
   way_write_fails WriteFailed is = way_begins
   way_write_fails ReaderGone is = way_begins
+  way_write_fails (Column column fault) is = absurd is
 
   -- the next line is faulty, or was written in part
   passed_begins : (line more : List ℕ) (left : List (List ℕ)) → lines_of rest ≡ line ∷ left → Begins more (passed now.texts line) → Begins (part ++ more) (distinct_report (lines_of input))
@@ -140,6 +142,7 @@ module _ (input : List ℕ) (limit : ℕ) (rest : List ℕ) (number : ℕ) (now 
   way_pass_fails line more left ReadFailed cut is = absurd is
   way_pass_fails line more left WriteFailed cut is = passed_begins line more (lines_of left) cut is
   way_pass_fails line more left ReaderGone cut is = passed_begins line more (lines_of left) cut is
+  way_pass_fails line more left (Column column fault) cut is = absurd is
 
 -- ---- the end
 
@@ -155,6 +158,7 @@ end_begins input limit part (Err TooManyLines) end = first_begins (lines_of inpu
 end_begins input limit part (Err ReadFailed) end = first_begins (lines_of input) end.0 part end.1
 end_begins input limit part (Err WriteFailed) end = end
 end_begins input limit part (Err ReaderGone) end = end
+end_begins input limit part (Err (Column column fault)) end = absurd end
 
 write_end : (input : List ℕ) (limit : ℕ) (part : List ℕ) (result : Result (Unit {0}) RunFault) → Begins part (distinct_report (lines_of input)) → IsWriteEnd result → DistinctEnd input limit part result
 write_end input limit part (Ok x) begun is = absurd is
@@ -163,6 +167,7 @@ write_end input limit part (Err TooManyLines) begun is = absurd is
 write_end input limit part (Err ReadFailed) begun is = absurd is
 write_end input limit part (Err WriteFailed) begun is = begun
 write_end input limit part (Err ReaderGone) begun is = begun
+write_end input limit part (Err (Column column fault)) begun is = absurd is
 
 -- a run that ends as it did, or with a failed flush
 pub end_then : (input : List ℕ) (limit : ℕ) (part : List ℕ) (given result : Result (Unit {0}) RunFault) → DistinctEnd input limit part given → (result ≡ given) ⊎ IsWriteEnd result → DistinctEnd input limit part result

@@ -3,11 +3,11 @@
 -- A number is that of a null, or the position of its line in the list. The list only grows at its end, so a position stays that of its
 -- line, and the numbers stand for the entries of the lines. Where nothing of the input is left all lines were encoded, and the list is
 -- their dictionary. The column is written after that, from the front: what was written when a write fails is a beginning of it.
-use Rattle.std.proofs.Common.{ℕ, ◌≡◌, ◌+◌, ◌<◌, ◌==◌, Bool, true, false, not, cond, List, [], ◌∷◌, ◌++◌, length, map, take, is_some, Option, Some, None, ◌⊎◌, Result, Ok, Err, refl, sym, ap, subst, ◌∙◌, arith, inl, inr}
+use Rattle.std.proofs.Common.{ℕ, ◌≡◌, ◌+◌, ◌^◌, ◌<◌, ◌≤◌, ◌==◌, Bool, true, false, not, cond, List, [], ◌∷◌, ◌++◌, length, map, take, is_some, Option, Some, None, ◌⊎◌, Result, Ok, Err, refl, sym, ap, subst, ◌∙◌, arith, inl, inr}
 use Rattle.std.specs.Prelude.{All, slice_get, IsSomeAnd}
 use Rattle.std.specs.Str.{IsUtf8}
 use Rattle.std.proofs.lemmas.Bool.Decides.{nat_tests}
-use Rattle.std.proofs.lemmas.List.{append-nil}
+use Rattle.std.proofs.lemmas.List.{append-nil, length-map}
 use Rattle.std.proofs.lemmas.List.Elements.{filter-append}
 use Rattle.lasso_parts.specs.Texts.{Text, position_of}
 use Rattle.lasso_parts.specs.declared.util.LassoErrorKind.TheVariants.{FailedAllocation}
@@ -24,11 +24,12 @@ use Rattle.lasso_columns.specs.Parts.{new_texts}
 use Rattle.lasso_columns.specs.declared.faults.LineError.{LineError}
 use Rattle.lasso_columns.specs.declared.faults.LineError.TheVariants.{Refused}
 use Rattle.lasso_codes.specs.Columns.{is_null, texts_of, dictionary_of, entry_of, entry_at, column_of, column_bytes}
-use Rattle.lasso_codes.specs.Encode.{IsNumberedAs, IsNumbered, AreNumbered, EncodingFault, EncodeEnd}
+use Rattle.lasso_codes.specs.Encode.{IsNumberedAs, IsNumbered, AreNumbered, AreCodable, EncodingFault, EncodeEnd}
 use Rattle.lasso_codes.specs.Fault.{IsReadFault, IsWriteEnd}
 use Rattle.lasso_codes.specs.Streams.{Begins, WritesAll}
 use Rattle.lasso_codes.specs.declared.fault.RunFault.{RunFault}
-use Rattle.lasso_codes.specs.declared.fault.RunFault.TheVariants.{Line, TooManyLines, ReadFailed, WriteFailed, ReaderGone}
+use Rattle.lasso_codes.specs.declared.fault.RunFault.TheVariants.{Line, TooManyLines, ReadFailed, WriteFailed, ReaderGone, Column}
+use Rattle.lasso_codes.proofs.FewTexts.{few_texts}
 use Rattle.lasso_codes.proofs.Taken.{Taken, taken_none, taken_push, taken_all, taken_first, taken_next}
 
 -- ---- numbers of lines
@@ -73,7 +74,7 @@ entry_is false list line number is =
     let none : Option ℕ = None in
     ap (λ b. cond b none (Some number)) other ∙ sym is.0
 
-entries_are : (null : Option Text) (list lines : List Text) (numbers : List ℕ) → AreEntries null list lines numbers → map entry_at numbers ≡ map (entry_of null list) lines
+pub entries_are : (null : Option Text) (list lines : List Text) (numbers : List ℕ) → AreEntries null list lines numbers → map entry_at numbers ≡ map (entry_of null list) lines
 entries_are null list [] [] are = refl
 entries_are null list [] (n ∷ ns) are = absurd are
 entries_are null list (l ∷ ls) [] are = absurd are
@@ -99,7 +100,7 @@ encoding_none input null old numbers none = record {
   list = (refl, refl);
 }
 
-texts_push : (null : Option Text) (lines : List Text) (line : Text) (b : Bool) → is_null null line ≡ b → texts_of null (lines ++ line ∷ []) ≡ texts_of null lines ++ cond b [] (line ∷ [])
+pub texts_push : (null : Option Text) (lines : List Text) (line : Text) (b : Bool) → is_null null line ≡ b → texts_of null (lines ++ line ∷ []) ≡ texts_of null lines ++ cond b [] (line ∷ [])
 texts_push null lines line true e =
     filter-append (λ l. not (is_null null l)) lines (line ∷ []) ∙ ap (λ b. texts_of null lines ++ cond (not b) (line ∷ []) []) e
 texts_push null lines line false e =
@@ -144,9 +145,12 @@ module _ (input rest : List ℕ) (number : ℕ) (null : Option Text) (old now : 
       let list : now.texts ≡ dictionary_of null so_far.done =
       list_extended old now (texts_of null so_far.done) so_far.list ∙ ap (λ (ts : List Text). ts ++ new_texts ts (texts_of null so_far.done)) empty in
       let entries : map entry_at numbers ≡ map (entry_of null (dictionary_of null so_far.done)) so_far.done =
-      entries_are null now.texts so_far.done numbers so_far.entries ∙ ap (λ (ts : List Text). map (entry_of null ts) so_far.done) list in (
+      entries_are null now.texts so_far.done numbers so_far.entries ∙ ap (λ (ts : List Text). map (entry_of null ts) so_far.done) list in
+      let none_yet : length old.texts ≤ 4294967295 = subst (λ (ts : List Text). length ts ≤ 4294967295) (sym empty) (omega arith) in
+      let most : length now.texts ≤ 4294967295 = few_texts old now (texts_of null so_far.done) so_far.list none_yet in
+      let few : length now.texts < 2 ^ 32 = omega (arith, most) in (
         subst (λ (ls : List Text). All IsUtf8 ls) (sym all) so_far.taken.texts,
-        subst (λ (ls : List Text). AreNumbered null ls now.texts numbers) (sym all) (list, entries),
+        subst (λ (ls : List Text). AreNumbered null ls now.texts numbers) (sym all) (list, entries, few),
       )
 
   pub encoding_read_fails : (limit : ℕ) (fault : RunFault) → IsReadFault number fault → EncodingFault limit null (lines_of input) fault
@@ -155,6 +159,7 @@ module _ (input rest : List ℕ) (number : ℕ) (null : Option Text) (old now : 
   encoding_read_fails limit ReadFailed is = tt
   encoding_read_fails limit WriteFailed is = absurd is
   encoding_read_fails limit ReaderGone is = absurd is
+  encoding_read_fails limit (Column column fault) is = absurd is
 
   -- the next line is faulty
   pub encoding_line_fails : (limit : ℕ) (line left : List ℕ) (error : LineError) → old ≡ made_with 4096 limit → lines_of rest ≡ line ∷ lines_of left → IsFaultOf now line number error → EncodingFault limit null (lines_of input) (Line error)
@@ -169,22 +174,25 @@ module _ (input rest : List ℕ) (number : ℕ) (null : Option Text) (old now : 
 
 -- ---- the column
 
-written_end : (input : List ℕ) (limit : ℕ) (null : Option Text) (binary : Bool) (part : List ℕ) (result : Result (Unit {0}) RunFault) → All IsUtf8 (lines_of input) → WritesAll (column_bytes binary null (lines_of input)) result part → EncodeEnd input limit null binary part result
-written_end input limit null binary part (Ok x) texts written = (texts, written)
-written_end input limit null binary part (Err (Line error)) texts written = absurd written.0
-written_end input limit null binary part (Err TooManyLines) texts written = absurd written.0
-written_end input limit null binary part (Err ReadFailed) texts written = absurd written.0
-written_end input limit null binary part (Err WriteFailed) texts written = written.1
-written_end input limit null binary part (Err ReaderGone) texts written = written.1
+written_end : (input : List ℕ) (limit : ℕ) (null : Option Text) (binary : Bool) (part : List ℕ) (result : Result (Unit {0}) RunFault) → All IsUtf8 (lines_of input) → AreCodable null (lines_of input) → WritesAll (column_bytes binary null (lines_of input)) result part → EncodeEnd input limit null binary part result
+written_end input limit null binary part (Ok x) texts few written = (texts, written, few)
+written_end input limit null binary part (Err (Line error)) texts few written = absurd written.0
+written_end input limit null binary part (Err TooManyLines) texts few written = absurd written.0
+written_end input limit null binary part (Err ReadFailed) texts few written = absurd written.0
+written_end input limit null binary part (Err WriteFailed) texts few written = written.1
+written_end input limit null binary part (Err ReaderGone) texts few written = written.1
+written_end input limit null binary part (Err (Column column fault)) texts few written = absurd written.0
 
 -- a column is written, or a beginning of it
-pub column_written : (input : List ℕ) (limit : ℕ) (null : Option Text) (binary : Bool) (list : List Text) (numbers : List ℕ) (part : List ℕ) (result : Result (Unit {0}) RunFault) → All IsUtf8 (lines_of input) → AreNumbered null (lines_of input) list numbers → WritesAll (column_of binary list (map entry_at numbers)) result part → EncodeEnd input limit null binary part result
-column_written input limit null binary list numbers part result texts are written =
+pub column_written : (input : List ℕ) (limit : ℕ) (null : Option Text) (binary : Bool) (list : List Text) (numbers : List ℕ) (part : List ℕ) (result : Result (Unit {0}) RunFault) → All IsUtf8 (lines_of input) → AreNumbered null (lines_of input) list numbers → length numbers < 2 ^ 64 → WritesAll (column_of binary list (map entry_at numbers)) result part → EncodeEnd input limit null binary part result
+column_written input limit null binary list numbers part result texts are many written =
     let lines = lines_of input in
     let dictionary = dictionary_of null lines in
     let whole : column_of binary list (map entry_at numbers) ≡ column_bytes binary null lines =
     ap (λ (ts : List Text). column_of binary ts (map entry_at numbers)) are.0 ∙ ap (column_of binary dictionary) are.1 in
-    written_end input limit null binary part result texts (subst (λ bs. WritesAll bs result part) whole written)
+    let few : length dictionary < 2 ^ 32 = subst (λ (ts : List Text). length ts < 2 ^ 32) are.0 are.2 in
+    let count : length numbers ≡ length lines = sym (length-map numbers entry_at) ∙ ap length are.1 ∙ length-map lines (entry_of null dictionary) in
+    written_end input limit null binary part result texts (few, subst (λ n. n < 2 ^ 64) count many) (subst (λ bs. WritesAll bs result part) whole written)
 
 -- lines were not encoded, and nothing is written
 pub none_written : (input : List ℕ) (limit : ℕ) (null : Option Text) (binary : Bool) (fault : RunFault) → EncodingFault limit null (lines_of input) fault → EncodeEnd input limit null binary [] (Err fault)
@@ -193,6 +201,7 @@ none_written input limit null binary TooManyLines is = refl
 none_written input limit null binary ReadFailed is = refl
 none_written input limit null binary WriteFailed is = absurd is
 none_written input limit null binary ReaderGone is = absurd is
+none_written input limit null binary (Column column fault) is = absurd is
 
 -- there was no memory at no line
 pub unmade : (limit : ℕ) (null : Option Text) (lines : List Text) (fault : RunFault) → fault ≡ Line (Refused 0 FailedAllocation) → EncodingFault limit null lines fault
@@ -208,6 +217,7 @@ end_begun input limit null binary part (Err TooManyLines) end = nothing_begins p
 end_begun input limit null binary part (Err ReadFailed) end = nothing_begins part (column_bytes binary null (lines_of input)) end
 end_begun input limit null binary part (Err WriteFailed) end = end
 end_begun input limit null binary part (Err ReaderGone) end = end
+end_begun input limit null binary part (Err (Column column fault)) end = absurd end
 
 write_end : (input : List ℕ) (limit : ℕ) (null : Option Text) (binary : Bool) (part : List ℕ) (result : Result (Unit {0}) RunFault) → Begins part (column_bytes binary null (lines_of input)) → IsWriteEnd result → EncodeEnd input limit null binary part result
 write_end input limit null binary part (Ok x) begun is = absurd is
@@ -216,6 +226,7 @@ write_end input limit null binary part (Err TooManyLines) begun is = absurd is
 write_end input limit null binary part (Err ReadFailed) begun is = absurd is
 write_end input limit null binary part (Err WriteFailed) begun is = begun
 write_end input limit null binary part (Err ReaderGone) begun is = begun
+write_end input limit null binary part (Err (Column column fault)) begun is = absurd is
 
 -- a run that ends as it did, or with a failed flush
 pub end_then : (input : List ℕ) (limit : ℕ) (null : Option Text) (binary : Bool) (part : List ℕ) (given result : Result (Unit {0}) RunFault) → EncodeEnd input limit null binary part given → (result ≡ given) ⊎ IsWriteEnd result → EncodeEnd input limit null binary part result

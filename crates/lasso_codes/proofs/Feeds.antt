@@ -2,14 +2,17 @@
 --
 -- Bytes either have no line feed, and all of them are given; or they are a line without one, the first line feed and the rest, and
 -- the line and the line feed are given. In both cases the line is what is given without a line feed at its end.
-use Rattle.std.proofs.Common.{ℕ, zero, suc, ◌≡◌, ◌+◌, ◌-◌, ◌<◌, ◌==◌, Bool, true, false, cond, List, [], ◌∷◌, ◌++◌, length, get_or, Option, Some, None, refl, sym, ap, subst, ◌∙◌, arith}
+use Rattle.std.proofs.Common.{ℕ, zero, suc, ◌≡◌, ◌+◌, ◌-◌, ◌<◌, ◌≤◌, ◌==◌, Bool, true, false, cond, List, [], ◌∷◌, ◌++◌, length, get_or, Option, Some, None, option_map, refl, sym, ap, subst, ◌∙◌, arith, ◌⊎◌, inl, inr}
 use Rattle.std.specs.Prelude.{IfSome}
 use Rattle.std.specs.Io.BufRead.{take_through, drop_through}
 use Rattle.std.specs.Io.KnownBytes.{IsAtEnd}
 use Rattle.std.proofs.lemmas.Bool.Decides.{nat_tests}
+use Rattle.std.proofs.lemmas.List.{length_push}
 use Rattle.lasso_columns.specs.Lines.{lines_of, is_line_feed, NoFeed}
 use Rattle.lasso_columns.proofs.FirstLines.{lines_cut, lines_end}
-use Rattle.lasso_codes.specs.Streams.{TakesLine}
+use Rattle.lasso_codes.specs.Streams.{cut_line, CutsLine, TakesLine}
+use Rattle.lasso_codes.specs.declared.input.Cut.{Cut}
+use Rattle.lasso_codes.specs.declared.input.Cut.TheVariants.{Whole, Part, End}
 
 -- what is given of bytes, and what is left
 pub data Gives (bytes : List ℕ) : Type 0 where
@@ -76,6 +79,72 @@ one_line before after is_line line taken e = subst (λ b. TakesLine before after
 -- something was given
 pub some_given : (len held n many : ℕ) → len ≡ held + n → len ≡ many → (n ≡ 0 → ⊥) → 0 < many
 some_given len held n many is count some = omega (arith, is, count, some)
+
+-- ---- a line that a line feed ends
+
+-- a line without a line feed is cut off at the one that ends it
+pub cut_fed : (line rest : List ℕ) → NoFeed line → cut_line (line ++ 10 ∷ rest) ≡ Some (line, rest)
+cut_fed [] rest none = refl
+cut_fed (b ∷ line) rest none =
+    let stop : Option (List ℕ × List ℕ) = Some ([], line ++ 10 ∷ rest) in
+    let onto : List ℕ × List ℕ → List ℕ × List ℕ = λ cut. (b ∷ cut.0, cut.1) in
+    ap (λ t. cond t stop (option_map onto (cut_line (line ++ 10 ∷ rest)))) none.0 ∙ ap (option_map onto) (cut_fed line rest none.1)
+
+cut_open : (bytes : List ℕ) → NoFeed bytes → cut_line bytes ≡ None
+cut_open [] none = refl
+cut_open (b ∷ bytes) none =
+    let stop : Option (List ℕ × List ℕ) = Some ([], bytes) in
+    let onto : List ℕ × List ℕ → List ℕ × List ℕ = λ cut. (b ∷ cut.0, cut.1) in
+    ap (λ t. cond t stop (option_map onto (cut_line bytes))) none.0 ∙ ap (option_map onto) (cut_open bytes none.1)
+
+-- a line is shorter than what was given exactly where a line feed ended it
+whole_of : (bytes got line : List ℕ) → Gives bytes → got ≡ take_through 10 bytes → ((front : List ℕ) → got ≡ front ++ 10 ∷ [] → line ≡ front) → (NoFeed got → line ≡ got) → length line < length got → cut_line bytes ≡ Some (line, drop_through 10 bytes)
+whole_of bytes got line (ended front rest none is taken left) got_is at_end at_open shorter =
+    let line_is : line ≡ front = at_end front (got_is ∙ taken) in
+    rw (line_is, left) (ap cut_line is ∙ cut_fed front rest none)
+whole_of bytes got line (unended none taken left) got_is at_end at_open shorter =
+    let whole : got ≡ bytes = got_is ∙ taken in
+    let same : length line ≡ length got = ap length (at_open (subst NoFeed (sym whole) none)) in
+    absurd (omega (arith, same, shorter))
+
+part_of : (bytes got line : List ℕ) → Gives bytes → got ≡ take_through 10 bytes → ((front : List ℕ) → got ≡ front ++ 10 ∷ [] → line ≡ front) → 0 < length got → length got ≤ length line → (drop_through 10 bytes ≡ []) × (0 < length bytes) × (cut_line bytes ≡ None)
+part_of bytes got line (ended front rest none is taken left) got_is at_end some longer =
+    let line_is : length line ≡ length front = ap length (at_end front (got_is ∙ taken)) in
+    let count : length got ≡ length front + 1 = ap length (got_is ∙ taken) ∙ length_push front 10 in
+    absurd (omega (arith, line_is, count, longer))
+part_of bytes got line (unended none taken left) got_is at_end some longer =
+    (left, subst (λ bs. 0 < length bs) (got_is ∙ taken) some, cut_open bytes none)
+
+pub cuts_whole : (before after : Option (List ℕ)) (held got line : List ℕ) → held ≡ [] → IfSome before (λ bytes. got ≡ held ++ take_through 10 bytes) → IfSome before (λ bytes. after ≡ Some (drop_through 10 bytes)) → ((front : List ℕ) → got ≡ front ++ 10 ∷ [] → line ≡ front) → (NoFeed got → line ≡ got) → length line < length got → CutsLine before after Whole line
+cuts_whole None after held got line none got_is after_is at_end at_open shorter = λ bytes e. absurd (cc)
+cuts_whole (Some known) after held got line none got_is after_is at_end at_open shorter = λ bytes e.
+    let same : known ≡ bytes = cc in
+    let taken : got ≡ take_through 10 bytes = subst (λ bs. got ≡ held ++ take_through 10 bs) same got_is ∙ ap (λ hs. hs ++ take_through 10 bytes) none in
+    let left : after ≡ Some (drop_through 10 bytes) = subst (λ bs. after ≡ Some (drop_through 10 bs)) same after_is in
+    (drop_through 10 bytes, left, whole_of bytes got line (gives bytes) taken at_end at_open shorter)
+
+pub cuts_part : (before after : Option (List ℕ)) (held got line : List ℕ) → held ≡ [] → IfSome before (λ bytes. got ≡ held ++ take_through 10 bytes) → IfSome before (λ bytes. after ≡ Some (drop_through 10 bytes)) → ((front : List ℕ) → got ≡ front ++ 10 ∷ [] → line ≡ front) → 0 < length got → length got ≤ length line → CutsLine before after Part line
+cuts_part None after held got line none got_is after_is at_end some longer = λ bytes e. absurd (cc)
+cuts_part (Some known) after held got line none got_is after_is at_end some longer = λ bytes e.
+    let same : known ≡ bytes = cc in
+    let taken : got ≡ take_through 10 bytes = subst (λ bs. got ≡ held ++ take_through 10 bs) same got_is ∙ ap (λ hs. hs ++ take_through 10 bytes) none in
+    let left : after ≡ Some (drop_through 10 bytes) = subst (λ bs. after ≡ Some (drop_through 10 bs)) same after_is in
+    let told = part_of bytes got line (gives bytes) taken at_end some longer in
+    (left ∙ ap (λ bs. Some bs) told.0, told.1, told.2)
+
+-- the bytes have ended
+pub cuts_none : (before after : Option (List ℕ)) (line : List ℕ) → IfSome before (λ bytes. after ≡ Some (drop_through 10 bytes)) → IsAtEnd before → CutsLine before after End line
+cuts_none None after line after_is end = λ bytes e. absurd (cc)
+cuts_none (Some known) after line after_is end = λ bytes e. let same : known ≡ bytes = cc in (after_is ∙ ap (λ bs. Some (drop_through 10 bs)) end, sym same ∙ end)
+
+-- what a call told of the line, by its answer
+pub cut_as : (before after : Option (List ℕ)) (cut other : Cut) (line : List ℕ) → CutsLine before after cut line → cut ≡ other → CutsLine before after other line
+cut_as before after cut other line cuts e = subst (λ c. CutsLine before after c line) e cuts
+
+-- there was no line that a line feed ends
+pub no_cut : (before after : Option (List ℕ)) (cut : Cut) (line : List ℕ) → CutsLine before after cut line → (cut ≡ Part) ⊎ (cut ≡ End) → (bytes : List ℕ) → before ≡ Some bytes → (after ≡ Some []) × (cut_line bytes ≡ None)
+no_cut before after cut line cuts (inl is) bytes e = let told = cut_as before after cut Part line cuts is bytes e in (told.0, told.2)
+no_cut before after cut line cuts (inr is) bytes e = let told = cut_as before after cut End line cuts is bytes e in (told.0, ap cut_line told.1)
 
 -- ---- the line feed at the end of what is given
 

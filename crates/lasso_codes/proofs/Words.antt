@@ -3,13 +3,10 @@
 -- A word is read with those after it: what it leaves to be read is asked of the others. A search for an equals sign finds the first one.
 use Rattle.std.proofs.Common.{ℕ, zero, suc, ◌≡◌, ◌+◌, ◌<◌, ◌==◌, false, cond, List, [], ◌∷◌, length, map, drop, get_or, Option, Some, None, Ok, Err, sym, ap, subst, ◌∙◌, arith}
 use Rattle.std.specs.Prelude.{slice_get, MatchOption, position, codes, bytes_eq}
-use Rattle.std.specs.List.{position_or_len}
-use Rattle.std.proofs.lemmas.Bool.{false_from_ne_true}
-use Rattle.std.proofs.lemmas.Bool.Decides.{nat_tests}
-use Rattle.std.proofs.lemmas.List.Sums.{position_or_len_is}
 use Rattle.memchr.specs.Find.{IsFirstByte, is_byte}
 use Rattle.lasso_parts.specs.Texts.{Text}
 use Rattle.lasso_codes.specs.Arguments.{Asked, command_of, verb_of, on_verb, not_verb, is_binary, meaning_of, at_equals}
+use Rattle.lasso_codes.proofs.FirstBytes.{first_byte_at}
 use Rattle.lasso_codes.specs.declared.arguments.Verb.{Verb}
 use Rattle.lasso_codes.specs.declared.arguments.Meaning.TheVariants.{AsksHelp, IsBinary}
 use Rattle.lasso_codes.specs.declared.arguments.Command.TheVariants.{Help, Version}
@@ -47,20 +44,8 @@ told_some o after asked done go e told = subst (λ p. MatchOption p (asked ≡ d
 
 -- ---- the equals sign of a word
 
-equals_at : (word : Text) (at : ℕ) → IsFirstByte (is_byte 61) word (Some at) → position (λ b. b == 61) word ≡ Some at
-equals_at word at found =
-    let small : at < length word = found.0.high in
-    let here : position_or_len (λ b. b == 61) word ≡ at = position_or_len_is (λ b. b == 61) word at 0 (omega (arith, small)) (λ k below. false_from_ne_true _ (found.0.before k (omega arith) below)) (λ _. found.1) in
-    rw (here) (grind (arith, nat_tests))
-
-equals_none : (word : Text) → IsFirstByte (is_byte 61) word None → position (λ b. b == 61) word ≡ None
-equals_none word found =
-    let here : position_or_len (λ b. b == 61) word ≡ length word = position_or_len_is (λ b. b == 61) word (length word) 0 (omega arith) (λ k below. false_from_ne_true _ (found k (omega arith) below)) (λ small. absurd (omega (arith, small))) in
-    rw (here) (grind (arith, nat_tests))
-
 equals_is : (word : Text) (o : Option ℕ) → IsFirstByte (is_byte 61) word o → position (λ b. b == 61) word ≡ o
-equals_is word None found = equals_none word found
-equals_is word (Some at) found = equals_at word at found
+equals_is word o found = first_byte_at 61 word o found
 
 -- the meaning of a word that does not ask for help
 pub meaning_is : (verb : Verb) (word bytes : Text) (o : Option ℕ) → bytes ≡ word → bytes_eq word (codes "--help") ≡ false → is_binary verb word ≡ false → IsFirstByte (is_byte 61) bytes o → meaning_of verb word ≡ at_equals verb word o

@@ -1,19 +1,19 @@
 -- What the words of the command line ask for, and why they are refused.
-use Rattle.std.specs.Prelude.{ℕ, ◌+◌, ◌-◌, ◌*◌, ◌^◌, ◌<◌, ◌==◌, Bool, true, false, ◌&&◌, List, [], ◌∷◌, ◌++◌, length, take, drop, nat_le, nat_lt, Option, Some, None, Result, Ok, Err, slice_get, option_and_then, option_map, position, codes, bytes_eq, if◌then◌else◌}
+use Rattle.std.specs.Prelude.{ℕ, ◌+◌, ◌-◌, ◌*◌, ◌^◌, ◌<◌, ◌==◌, Bool, true, false, ◌&&◌, List, [], ◌∷◌, ◌++◌, length, take, drop, nat_le, nat_lt, Option, Some, None, Result, Ok, Err, slice_get, option_and_then, option_map, position, codes, decimal, bytes_eq, if◌then◌else◌}
 use denote.Ref.{Bor}
 use Rattle.lasso_parts.specs.Texts.{Text}
 use Rattle.lasso_codes.specs.declared.arguments.Verb.{Verb}
-use Rattle.lasso_codes.specs.declared.arguments.Verb.TheVariants.{Counts, Distinct, Encode}
+use Rattle.lasso_codes.specs.declared.arguments.Verb.TheVariants.{Counts, Decode, Distinct, Encode, Merge}
 use Rattle.lasso_codes.specs.declared.arguments.Settings.{Settings}
 use Rattle.lasso_codes.specs.declared.arguments.Command.{Command}
 use Rattle.lasso_codes.specs.declared.arguments.Command.TheVariants.{Help, VerbHelp, Version, Run}
 use Rattle.lasso_codes.specs.declared.arguments.Setting.{Setting}
-use Rattle.lasso_codes.specs.declared.arguments.Setting.TheVariants.{Limit, Top, Null}
+use Rattle.lasso_codes.specs.declared.arguments.Setting.TheVariants.{Limit, Top, Null, Workers}
 use Rattle.lasso_codes.specs.declared.arguments.Reading.{Reading}
 use Rattle.lasso_codes.specs.declared.arguments.Meaning.{Meaning}
 use Rattle.lasso_codes.specs.declared.arguments.Meaning.TheVariants.{AsksHelp, IsBinary, Wants, Has, Nothing}
 use Rattle.lasso_codes.specs.declared.arguments.ArgumentFault.{ArgumentFault}
-use Rattle.lasso_codes.specs.declared.arguments.ArgumentFault.TheVariants.{NoVerb, NotVerb, NotOption, NoNumber, NoWord, NotNumber, NotText}
+use Rattle.lasso_codes.specs.declared.arguments.ArgumentFault.TheVariants.{NoVerb, NotVerb, NotOption, NoNumber, NoWord, NotNumber, NoWorkers, PastWorkers, NotText}
 
 -- an ASCII digit
 abbrev pub is_digit : ℕ → Bool
@@ -66,6 +66,12 @@ no_word word = word ++ codes ": a word is missing"
 abbrev pub not_number : Text → List ℕ
 not_number word = word ++ codes ": not a number below 2^64"
 
+abbrev pub no_workers : List ℕ
+no_workers = codes "--workers: 0 is below 1"
+
+abbrev pub past_workers : ℕ → List ℕ
+past_workers count = codes "--workers: " ++ (decimal count ++ codes " is past 64")
+
 abbrev pub argument_text : ArgumentFault → List ℕ
 argument_text NoVerb = no_verb
 argument_text (NotVerb word) = not_verb word.now
@@ -73,30 +79,47 @@ argument_text (NotOption word) = not_option word.now
 argument_text (NoNumber word) = no_number word.now
 argument_text (NoWord word) = no_word word.now
 argument_text (NotNumber word) = not_number word.now
+argument_text NoWorkers = no_workers
+argument_text (PastWorkers count) = past_workers count
 argument_text NotText = codes "an argument is not UTF-8"
 
 -- ---- options
 
 abbrev pub takes_top : Verb → Bool
 takes_top Counts = true
+takes_top Decode = false
 takes_top Distinct = false
 takes_top Encode = false
+takes_top Merge = false
 
 abbrev pub takes_null : Verb → Bool
 takes_null Counts = false
+takes_null Decode = true
 takes_null Distinct = false
 takes_null Encode = true
+takes_null Merge = false
 
 abbrev pub takes_binary : Verb → Bool
 takes_binary Counts = false
+takes_binary Decode = false
 takes_binary Distinct = false
 takes_binary Encode = true
+takes_binary Merge = true
+
+abbrev pub takes_workers : Verb → Bool
+takes_workers Counts = true
+takes_workers Decode = false
+takes_workers Distinct = false
+takes_workers Encode = true
+takes_workers Merge = false
 
 -- the verb's setting of this name
 abbrev pub setting_of : Verb → Text → Option Setting
 setting_of verb name =
     if bytes_eq name (codes "--limit") then Some Limit
-    else (if bytes_eq name (codes "--top") && takes_top verb then Some Top else (if bytes_eq name (codes "--null") && takes_null verb then Some Null else None))
+    else (if bytes_eq name (codes "--top") && takes_top verb then Some Top
+    else (if bytes_eq name (codes "--null") && takes_null verb then Some Null
+    else (if bytes_eq name (codes "--workers") && takes_workers verb then Some Workers else None)))
 
 abbrev pub wants : Option Setting → Meaning
 wants None = Nothing
@@ -137,25 +160,41 @@ word_of word = option_map (λ w. w.now) word
 abbrev pub wanted_of : Reading → Option (Setting × Text)
 wanted_of reading = option_map (λ wanted. (wanted.0, wanted.1.now)) reading.wanted
 
--- the settings and the null with the value that the bytes say
-abbrev pub value_of : Settings → Option Text → Setting → Text → Option (Settings × Option Text)
-value_of settings null Limit value = option_map (λ n. (record settings { limit = n }, null)) (number_of value)
-value_of settings null Top value = option_map (λ n. (record settings { top = n }, null)) (number_of value)
-value_of settings null Null value = Some (settings, Some value)
+-- so many workers, where that is 1 to 64; or why there can't be so many
+abbrev pub workers_of : ℕ → Result ℕ (List ℕ)
+workers_of count = if nat_lt count 1 then Err no_workers else (if nat_le count 64 then Ok count else Err (past_workers count))
+
+-- what goes on with a number, or else the message
+abbrev pub on_number : {X : Type 0} → Option ℕ → Text → (ℕ → Result X (List ℕ)) → Result X (List ℕ)
+on_number None word go = Err (not_number word)
+on_number (Some n) word go = go n
+
+-- the settings with so many workers
+abbrev pub with_workers : Settings → Option Text → Result ℕ (List ℕ) → Result (Settings × Option Text) (List ℕ)
+with_workers settings null (Ok n) = Ok (record settings { workers = n }, null)
+with_workers settings null (Err message) = Err message
+
+-- the settings and the null with the value that the bytes say, which are of this word; or why it is refused
+abbrev pub value_of : Settings → Option Text → Setting → Text → Text → Result (Settings × Option Text) (List ℕ)
+value_of settings null Limit value word = on_number (number_of value) word (λ n. Ok (record settings { limit = n }, null))
+value_of settings null Top value word = on_number (number_of value) word (λ n. Ok (record settings { top = n }, null))
+value_of settings null Null value word = Ok (settings, Some value)
+value_of settings null Workers value word = on_number (number_of value) word (λ n. with_workers settings null (workers_of n))
 
 -- why an option without a value is refused
 abbrev pub no_value : Setting → Text → List ℕ
 no_value Limit word = no_number word
 no_value Top word = no_number word
 no_value Null word = no_word word
+no_value Workers word = no_number word
 
 -- what a verb is asked for, and its null; or why the words are refused
 abbrev pub Asked : Type 0
 Asked = Result (Command × Option Text) (List ℕ)
 
-abbrev pub on_value : Option (Settings × Option Text) → (Settings → Option Text → Asked) → List ℕ → Asked
-on_value None go message = Err message
-on_value (Some value) go message = go value.0 value.1
+abbrev pub on_value : Result (Settings × Option Text) (List ℕ) → (Settings → Option Text → Asked) → Asked
+on_value (Ok value) go = go value.0 value.1
+on_value (Err message) go = Err message
 
 abbrev pub on_meaning : Meaning → Asked → Asked → (Setting → Asked) → (Setting → ℕ → Asked) → Asked → Asked
 on_meaning AsksHelp help binary wants has nothing = help
@@ -170,12 +209,12 @@ abbrev pub options_of : Verb → Settings → Option Text → Option (Setting ×
 options_of verb settings null None [] = Ok (Run verb settings, null)
 options_of verb settings null (Some wanted) [] = Err (no_value wanted.0 wanted.1)
 options_of verb settings null (Some wanted) (word ∷ words) =
-    on_value (value_of settings null wanted.0 word) (λ after given. options_of verb after given None words) (not_number word)
+    on_value (value_of settings null wanted.0 word word) (λ after given. options_of verb after given None words)
 options_of verb settings null None (word ∷ words) =
     on_meaning (meaning_of verb word) (Ok (VerbHelp verb, None))
     (options_of verb (record settings { binary = true }) null None words)
     (λ setting. options_of verb settings null (Some (setting, word)) words)
-    (λ setting at. on_value (value_of settings null setting (drop (at + 1) word)) (λ after given. options_of verb after given None words) (not_number word))
+    (λ setting at. on_value (value_of settings null setting (drop (at + 1) word) word) (λ after given. options_of verb after given None words))
     (Err (not_option word))
 
 -- ---- verbs
@@ -183,11 +222,13 @@ options_of verb settings null None (word ∷ words) =
 abbrev pub verb_of : Text → Option Verb
 verb_of word =
     if bytes_eq word (codes "counts") then Some Counts
-    else (if bytes_eq word (codes "distinct") then Some Distinct else (if bytes_eq word (codes "encode") then Some Encode else None))
+    else (if bytes_eq word (codes "decode") then Some Decode
+    else (if bytes_eq word (codes "distinct") then Some Distinct
+    else (if bytes_eq word (codes "encode") then Some Encode else (if bytes_eq word (codes "merge") then Some Merge else None))))
 
--- no limit, all lines, and codes as text
+-- no limit, all lines, codes as text, and one worker
 abbrev pub unset : Settings
-unset = record { limit = 2 ^ 64 - 1; top = 2 ^ 64 - 1; binary = false }
+unset = record { limit = 2 ^ 64 - 1; top = 2 ^ 64 - 1; binary = false; workers = 1 }
 
 abbrev pub on_verb : Option Verb → Text → List Text → Asked
 on_verb None word words = Err (not_verb word)

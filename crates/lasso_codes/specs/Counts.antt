@@ -8,7 +8,7 @@ use Rattle.lasso_counts.specs.Counts.{count_of, ranked_cmp}
 use Rattle.lasso_codes.specs.Distinct.{IsFaultAfter}
 use Rattle.lasso_codes.specs.Streams.{Begins}
 use Rattle.lasso_codes.specs.declared.fault.RunFault.{RunFault}
-use Rattle.lasso_codes.specs.declared.fault.RunFault.TheVariants.{Line, TooManyLines, ReadFailed, WriteFailed, ReaderGone}
+use Rattle.lasso_codes.specs.declared.fault.RunFault.TheVariants.{Line, TooManyLines, ReadFailed, WriteFailed, ReaderGone, Column}
 
 -- a line with its count: the count's digits, a space, the line and a line feed
 abbrev pub count_line : ℕ × Text → List ℕ
@@ -32,6 +32,7 @@ CountingFault limit lines TooManyLines = Unit {0}
 CountingFault limit lines ReadFailed = Unit {0}
 CountingFault limit lines WriteFailed = ⊥
 CountingFault limit lines ReaderGone = ⊥
+CountingFault limit lines (Column column fault) = ⊥
 
 -- nothing is written, or a beginning of a report
 abbrev pub IsBegun : List Text → ℕ → List ℕ → Type 0
@@ -44,6 +45,7 @@ CountsFault limit lines top part TooManyLines = part ≡ []
 CountsFault limit lines top part ReadFailed = part ≡ []
 CountsFault limit lines top part WriteFailed = IsBegun lines top part
 CountsFault limit lines top part ReaderGone = IsBegun lines top part
+CountsFault limit lines top part (Column column fault) = ⊥
 
 -- without a fault all lines are text, and the part is a report of them
 abbrev pub CountsEnd : List ℕ → ℕ → ℕ → List ℕ → Result (Unit {0}) RunFault → Type 0

@@ -14,7 +14,7 @@ use Rattle.lasso_columns.specs.declared.faults.LineError.{LineError}
 use Rattle.lasso_columns.specs.declared.faults.LineError.TheVariants.{Refused}
 use Rattle.lasso_codes.specs.Streams.{Begins}
 use Rattle.lasso_codes.specs.declared.fault.RunFault.{RunFault}
-use Rattle.lasso_codes.specs.declared.fault.RunFault.TheVariants.{Line, TooManyLines, ReadFailed, WriteFailed, ReaderGone}
+use Rattle.lasso_codes.specs.declared.fault.RunFault.TheVariants.{Line, TooManyLines, ReadFailed, WriteFailed, ReaderGone, Column}
 
 abbrev pub with_feed : List ℕ → List ℕ
 with_feed line = line ++ 10 ∷ []
@@ -34,6 +34,7 @@ PassFault now line number part TooManyLines = ⊥
 PassFault now line number part ReadFailed = ⊥
 PassFault now line number part WriteFailed = Begins part (passed now.texts line)
 PassFault now line number part ReaderGone = Begins part (passed now.texts line)
+PassFault now line number part (Column column fault) = ⊥
 
 -- the line is interned, and written if it was new
 abbrev pub PassesLine : InternerView → Text → ℕ → List ℕ → InternerView → Result (Unit {0}) RunFault → Type 0
@@ -57,6 +58,7 @@ DistinctFault limit lines part TooManyLines = (n : ℕ) × (part ≡ distinct_re
 DistinctFault limit lines part ReadFailed = (n : ℕ) × (part ≡ distinct_report (take n lines))
 DistinctFault limit lines part WriteFailed = Begins part (distinct_report lines)
 DistinctFault limit lines part ReaderGone = Begins part (distinct_report lines)
+DistinctFault limit lines part (Column column fault) = ⊥
 
 -- without a fault all lines are text, and the part is the report
 abbrev pub DistinctEnd : List ℕ → ℕ → List ℕ → Result (Unit {0}) RunFault → Type 0

@@ -1,5 +1,5 @@
 -- What `encode` writes, and how it ends.
-use Rattle.std.specs.Prelude.{ℕ, ◌≡◌, ◌+◌, ◌<◌, ◌⊎◌, Bool, true, false, List, [], map, All, take, Option, Some, Result, Ok, MatchResult, IsSomeAnd, slice_get}
+use Rattle.std.specs.Prelude.{ℕ, ◌≡◌, ◌+◌, ◌^◌, ◌<◌, ◌⊎◌, Bool, true, false, List, [], length, map, All, take, Option, Some, Result, Ok, MatchResult, IsSomeAnd, slice_get}
 use Rattle.std.specs.Str.{IsUtf8}
 use Rattle.lasso_parts.specs.Texts.{Text, position_of}
 use Rattle.lasso_parts.specs.declared.util.LassoErrorKind.TheVariants.{FailedAllocation}
@@ -14,7 +14,7 @@ use Rattle.lasso_columns.specs.declared.faults.LineError.TheVariants.{Refused}
 use Rattle.lasso_codes.specs.Columns.{is_null, texts_of, dictionary_of, entry_of, entry_at, column_bytes}
 use Rattle.lasso_codes.specs.Streams.{Begins}
 use Rattle.lasso_codes.specs.declared.fault.RunFault.{RunFault}
-use Rattle.lasso_codes.specs.declared.fault.RunFault.TheVariants.{Line, TooManyLines, ReadFailed, WriteFailed, ReaderGone}
+use Rattle.lasso_codes.specs.declared.fault.RunFault.TheVariants.{Line, TooManyLines, ReadFailed, WriteFailed, ReaderGone, Column}
 
 -- a null changes nothing, and its number is no code; another line is interned, and its number is its code
 abbrev pub IsNumberedAs : Bool → InternerView → Text → InternerView → ℕ → Type 0
@@ -26,9 +26,10 @@ IsNumberedAs false old line new number =
 abbrev pub IsNumbered : Option Text → InternerView → Text → InternerView → ℕ → Type 0
 IsNumbered null old line new number = IsNumberedAs (is_null null line) old line new number
 
--- the list is the dictionary of the lines, and the numbers stand for their entries
+-- the list is the dictionary of the lines, and the numbers stand for their entries; each text has a code
 abbrev pub AreNumbered : Option Text → List Text → List Text → List ℕ → Type 0
-AreNumbered null lines list numbers = (list ≡ dictionary_of null lines) × (map entry_at numbers ≡ map (entry_of null (dictionary_of null lines)) lines)
+AreNumbered null lines list numbers =
+    (list ≡ dictionary_of null lines) × (map entry_at numbers ≡ map (entry_of null (dictionary_of null lines)) lines) × (length list < 2 ^ 32)
 
 -- so many lines were encoded with this limit, and there was no memory for the next one, or it is faulty; number 0: there was no
 -- memory at no line
@@ -46,6 +47,7 @@ EncodingFault limit null lines TooManyLines = Unit {0}
 EncodingFault limit null lines ReadFailed = Unit {0}
 EncodingFault limit null lines WriteFailed = ⊥
 EncodingFault limit null lines ReaderGone = ⊥
+EncodingFault limit null lines (Column column fault) = ⊥
 
 -- how a run ends that has written the part: nothing is written where the lines were not all encoded
 abbrev pub EncodeFault : ℕ → Option Text → Bool → List Text → List ℕ → RunFault → Type 0
@@ -54,9 +56,14 @@ EncodeFault limit null binary lines part TooManyLines = part ≡ []
 EncodeFault limit null binary lines part ReadFailed = part ≡ []
 EncodeFault limit null binary lines part WriteFailed = Begins part (column_bytes binary null lines)
 EncodeFault limit null binary lines part ReaderGone = Begins part (column_bytes binary null lines)
+EncodeFault limit null binary lines part (Column column fault) = ⊥
+
+-- the lines are so few that codes and the header can tell them
+abbrev pub AreCodable : Option Text → List Text → Type 0
+AreCodable null lines = (length (dictionary_of null lines) < 2 ^ 32) × (length lines < 2 ^ 64)
 
 -- without a fault all lines are text, and the part is their column
 abbrev pub EncodeEnd : List ℕ → ℕ → Option Text → Bool → List ℕ → Result (Unit {0}) RunFault → Type 0
 EncodeEnd input limit null binary part result =
-    MatchResult result (λ _. All IsUtf8 (lines_of input) × (part ≡ column_bytes binary null (lines_of input)))
+    MatchResult result (λ _. All IsUtf8 (lines_of input) × (part ≡ column_bytes binary null (lines_of input)) × AreCodable null (lines_of input))
     (EncodeFault limit null binary (lines_of input) part)

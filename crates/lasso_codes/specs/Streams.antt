@@ -1,8 +1,10 @@
 -- What a call does to the bytes that a reader has left, and to those that a writer has, where they are known.
-use Rattle.std.specs.Prelude.{ℕ, ◌≡◌, Bool, true, false, List, [], ◌∷◌, ◌++◌, Option, Some, Result, MatchResult}
+use Rattle.std.specs.Prelude.{ℕ, ◌≡◌, ◌<◌, Bool, true, false, List, [], ◌∷◌, ◌++◌, length, Option, Some, None, Result, MatchResult, option_map, if◌then◌else◌}
 use Rattle.std.specs.Io.KnownBytes.{Appends}
-use Rattle.lasso_columns.specs.Lines.{lines_of}
+use Rattle.lasso_columns.specs.Lines.{lines_of, is_line_feed}
 use Rattle.lasso_codes.specs.Fault.{IsWriteFault}
+use Rattle.lasso_codes.specs.declared.input.Cut.{Cut}
+use Rattle.lasso_codes.specs.declared.input.Cut.TheVariants.{Whole, Part, End}
 use Rattle.lasso_codes.specs.declared.fault.RunFault.{RunFault}
 
 -- the first list begins the second
@@ -22,3 +24,20 @@ abbrev pub TakesLine : Option (List ℕ) → Option (List ℕ) → Bool → List
 TakesLine before after true line =
     (bytes : List ℕ) → before ≡ Some bytes → (rest : List ℕ) × (after ≡ Some rest) × (lines_of bytes ≡ line ∷ lines_of rest)
 TakesLine before after false line = (bytes : List ℕ) → before ≡ Some bytes → bytes ≡ []
+
+-- the first line, if a line feed ends it, and the bytes after that
+abbrev pub cut_line : List ℕ → Option (List ℕ × List ℕ)
+cut_line [] = None
+cut_line (b ∷ bytes) = if is_line_feed b then Some ([], bytes) else option_map (λ cut. (b ∷ cut.0, cut.1)) (cut_line bytes)
+
+-- the line that a line feed ends was read; or there were bytes without one; or there were none
+abbrev pub CutsLine : Option (List ℕ) → Option (List ℕ) → Cut → List ℕ → Type 0
+CutsLine before after Whole line =
+    (bytes : List ℕ) → before ≡ Some bytes → (rest : List ℕ) × (after ≡ Some rest) × (cut_line bytes ≡ Some (line, rest))
+CutsLine before after Part line = (bytes : List ℕ) → before ≡ Some bytes → (after ≡ Some []) × (0 < length bytes) × (cut_line bytes ≡ None)
+CutsLine before after End line = (bytes : List ℕ) → before ≡ Some bytes → (after ≡ Some []) × (bytes ≡ [])
+
+-- the first byte was read; or there were none
+abbrev pub TakesByte : Option (List ℕ) → Option (List ℕ) → Option ℕ → Type 0
+TakesByte before after (Some byte) = (bytes : List ℕ) → before ≡ Some bytes → (rest : List ℕ) × (after ≡ Some rest) × (bytes ≡ byte ∷ rest)
+TakesByte before after None = (bytes : List ℕ) → before ≡ Some bytes → (after ≡ Some []) × (bytes ≡ [])

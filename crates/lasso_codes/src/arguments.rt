@@ -1,7 +1,7 @@
 //! The program's arguments.
 ghost use Rattle.std.specs.Prelude.{◌≡◌, ◌+◌, ◌≤◌, ◌∷◌, ℕ, List, None, Some, Ok, Err, IfSome, IsSome, MatchOption, MatchResult, drop, length, map, string_bytes};
 ghost use Rattle.lasso_parts.specs.Texts.{Text};
-ghost use Rattle.lasso_codes.specs.Arguments.{IsWithin, argument_text, command_of, is_binary, meaning_of, no_value, not_number, options_of, setting_of, unset, value_of, verb_of, wanted_of, word_of};
+ghost use Rattle.lasso_codes.specs.Arguments.{IsWithin, argument_text, command_of, is_binary, meaning_of, no_value, not_number, number_of, options_of, setting_of, takes_binary, takes_null, takes_workers, unset, value_of, verb_of, wanted_of, word_of, workers_of};
 
 use crate::numbers::parse_number;
 use memchr::memchr;
@@ -12,11 +12,18 @@ use std::fmt;
 pub enum Verb {
     /// How often each distinct line came.
     Counts,
+    /// The lines of columns.
+    Decode,
     /// The distinct lines.
     Distinct,
     /// The lines as a column.
     Encode,
+    /// The columns as one.
+    Merge,
 }
+
+/// The most threads that may share the work.
+pub const MOST_WORKERS: usize = 64;
 
 /// What the options of a verb say.
 #[derive(Clone, Copy, Debug, PartialEq, Eq)]
@@ -27,6 +34,8 @@ pub struct Settings {
     pub top: usize,
     /// Whether codes are written as four bytes each.
     pub binary: bool,
+    /// How many threads share the work, from 1 to 64.
+    pub workers: usize,
 }
 
 /// What the arguments ask for.
@@ -66,6 +75,10 @@ pub enum ArgumentFault<'a> {
     NoWord(&'a str),
     /// The word's number is not one, or is not below 2^64.
     NotNumber(&'a str),
+    /// There are to be no workers.
+    NoWorkers,
+    /// There are to be more than 64 workers: this many.
+    PastWorkers(usize),
     /// A word is not UTF-8.
     NotText,
 }
@@ -81,6 +94,8 @@ impl fmt::Display for ArgumentFault<'_> {
             ArgumentFault::NoNumber(word) => write!(f, "{word}: a number is missing"),
             ArgumentFault::NoWord(word) => write!(f, "{word}: a word is missing"),
             ArgumentFault::NotNumber(word) => write!(f, "{word}: not a number below 2^64"),
+            ArgumentFault::NoWorkers => write!(f, "--workers: 0 is below 1"),
+            ArgumentFault::PastWorkers(count) => write!(f, "--workers: {count} is past 64"),
             ArgumentFault::NotText => write!(f, "an argument is not UTF-8"),
         }
     }
@@ -92,6 +107,7 @@ enum Setting {
     Limit,
     Top,
     Null,
+    Workers,
 }
 
 // What a word among the options means.
@@ -110,8 +126,8 @@ enum Meaning {
 }
 
 /// What the words ask for: `--help`, `--version`, or a verb and its options. Words after `--help` and `--version` are not read. Of
-/// an option that is given twice the last one counts. Without them the limit and the most lines are the greatest numbers, and no
-/// line is a null.
+/// an option that is given twice the last one counts. Without them the limit and the most lines are the greatest numbers, no line is
+/// a null, and one worker does the work.
 ///
 /// # Errors
 /// The first word that is at fault.
@@ -148,8 +164,10 @@ fn verb_of(word: &str) -> Option<Verb>
 {
     match word {
         "counts" => Some(Verb::Counts),
+        "decode" => Some(Verb::Decode),
         "distinct" => Some(Verb::Distinct),
         "encode" => Some(Verb::Encode),
+        "merge" => Some(Verb::Merge),
         _ => None,
     }
 }
@@ -173,6 +191,7 @@ fn options_of(verb: Verb, words: &[String]) -> Result<Request<'_>, ArgumentFault
             limit: usize::MAX,
             top: usize::MAX,
             binary: false,
+            workers: 1,
         },
         null: None,
         wanted: None,
@@ -203,7 +222,7 @@ fn no_value<'a>(setting: Setting, word: &'a str) -> ArgumentFault<'a>
     ensures { argument_text result ≡ no_value setting word.now }
 {
     match setting {
-        Setting::Limit | Setting::Top => ArgumentFault::NoNumber(word),
+        Setting::Limit | Setting::Top | Setting::Workers => ArgumentFault::NoNumber(word),
         Setting::Null => ArgumentFault::NoWord(word),
     }
 }
@@ -269,7 +288,7 @@ fn meaning_of(verb: Verb, word: &str) -> Meaning
 fn is_binary(verb: Verb, word: &str) -> bool
     ensures { result ≡ is_binary verb word.now }
 {
-    word == "--binary" && verb == Verb::Encode
+    word == "--binary" && takes_binary(verb)
 }
 
 // The verb's setting of this name.
@@ -280,10 +299,42 @@ fn setting_of(verb: Verb, name: &[u8]) -> Option<Setting>
         Some(Setting::Limit)
     } else if name == b"--top".as_slice() && verb == Verb::Counts {
         Some(Setting::Top)
-    } else if name == b"--null".as_slice() && verb == Verb::Encode {
+    } else if name == b"--null".as_slice() && takes_null(verb) {
         Some(Setting::Null)
+    } else if name == b"--workers".as_slice() && takes_workers(verb) {
+        Some(Setting::Workers)
     } else {
         None
+    }
+}
+
+// Whether the verb has nulls.
+fn takes_null(verb: Verb) -> bool
+    ensures { result ≡ takes_null verb }
+{
+    match verb {
+        Verb::Counts | Verb::Distinct | Verb::Merge => false,
+        Verb::Decode | Verb::Encode => true,
+    }
+}
+
+// Whether the verb writes columns.
+fn takes_binary(verb: Verb) -> bool
+    ensures { result ≡ takes_binary verb }
+{
+    match verb {
+        Verb::Counts | Verb::Decode | Verb::Distinct => false,
+        Verb::Encode | Verb::Merge => true,
+    }
+}
+
+// Whether threads may share the work of the verb.
+fn takes_workers(verb: Verb) -> bool
+    ensures { result ≡ takes_workers verb }
+{
+    match verb {
+        Verb::Counts | Verb::Encode => true,
+        Verb::Decode | Verb::Distinct | Verb::Merge => false,
     }
 }
 
@@ -296,32 +347,48 @@ fn with_value<'a>(
 ) -> Result<Option<Reading<'a>>, ArgumentFault<'a>>
     requires { from ≤ length word.now }
     ensures { MatchResult result
-        (λ next. IfSome next (λ after. (value_of reading.entry.settings (word_of reading.entry.null) setting (drop from word.now) ≡ Some (after.settings, word_of after.null)) × (after.wanted ≡ None)) × IsSome next)
-        (λ fault. (value_of reading.entry.settings (word_of reading.entry.null) setting (drop from word.now) ≡ None) × (argument_text fault ≡ not_number word.now)) }
+        (λ next. IfSome next (λ after. (value_of reading.entry.settings (word_of reading.entry.null) setting (drop from word.now) word.now ≡ Ok (after.settings, word_of after.null)) × (after.wanted ≡ None)) × IsSome next)
+        (λ fault. value_of reading.entry.settings (word_of reading.entry.null) setting (drop from word.now) word.now ≡ Err (argument_text fault)) }
 {
     let value = &word.as_bytes()[from..];
-    let settings = reading.settings;
+    let mut null = reading.null;
+    let mut settings = reading.settings;
     match setting {
-        Setting::Limit => match parse_number(value) {
-            Some(limit) => Ok(Some(Reading {
-                settings: Settings { limit, ..settings },
-                null: reading.null,
-                wanted: None,
-            })),
-            None => Err(ArgumentFault::NotNumber(word)),
-        },
-        Setting::Top => match parse_number(value) {
-            Some(top) => Ok(Some(Reading {
-                settings: Settings { top, ..settings },
-                null: reading.null,
-                wanted: None,
-            })),
-            None => Err(ArgumentFault::NotNumber(word)),
-        },
-        Setting::Null => Ok(Some(Reading {
-            settings,
-            null: Some(value),
-            wanted: None,
-        })),
+        Setting::Limit => settings.limit = number_in(value, word)?,
+        Setting::Top => settings.top = number_in(value, word)?,
+        Setting::Workers => settings.workers = workers_in(number_in(value, word)?)?,
+        Setting::Null => null = Some(value),
     }
+    Ok(Some(Reading {
+        settings,
+        null,
+        wanted: None,
+    }))
+}
+
+// The number that the value says.
+fn number_in<'a>(value: &[u8], word: &'a str) -> Result<usize, ArgumentFault<'a>>
+    ensures { MatchResult result
+        (λ number. number_of value.now ≡ Some number)
+        (λ fault. (number_of value.now ≡ None) × (argument_text fault ≡ not_number word.now)) }
+{
+    match parse_number(value) {
+        Some(number) => Ok(number),
+        None => Err(ArgumentFault::NotNumber(word)),
+    }
+}
+
+// So many workers, where that is 1 to 64.
+fn workers_in(count: usize) -> Result<usize, ArgumentFault<'static>>
+    ensures { MatchResult result
+        (λ workers. workers_of count ≡ Ok workers)
+        (λ fault. workers_of count ≡ Err (argument_text fault)) }
+{
+    if count == 0 {
+        return Err(ArgumentFault::NoWorkers);
+    }
+    if count > MOST_WORKERS {
+        return Err(ArgumentFault::PastWorkers(count));
+    }
+    Ok(count)
 }

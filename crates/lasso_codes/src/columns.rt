@@ -13,6 +13,12 @@ use std::io::Write;
 /// The number of a null, which is no code.
 pub const NULL: u32 = u32::MAX;
 
+/// What is before the numbers in the header of a column whose entries are lines.
+pub const TEXT_FRONT: &[u8] = b"lasso-codes 1 text ";
+
+/// What is before the numbers in the header of a column whose entries are bytes.
+pub const BINARY_FRONT: &[u8] = b"lasso-codes 1 binary ";
+
 /// Writes the column of the interner's texts and of the entries with these numbers: codes, and `NULL` for a null.
 ///
 /// # Errors
@@ -51,9 +57,9 @@ fn write_front<W: Write>(output: &mut W, binary: bool) -> Result<(), RunFault>
     ensures { Writes (W.contents output.old) (W.contents output.new) (WritesAll (header_front binary) result) }
 {
     if binary {
-        write_bytes(output, b"lasso-codes 1 binary ")
+        write_bytes(output, BINARY_FRONT)
     } else {
-        write_bytes(output, b"lasso-codes 1 text ")
+        write_bytes(output, TEXT_FRONT)
     }
 }
 

@@ -12,58 +12,82 @@ ghost use Rattle.lasso_codes.specs.Counts.{CountsEnd, CountingFault, count_line}
 ghost use Rattle.lasso_codes.specs.Streams.{Writes, WritesAll};
 ghost use Rattle.lasso_codes.specs.Fault.{IsWriteEnd};
 
+use crate::arguments::Settings;
 use crate::distinct::new_rodeo;
 use crate::fault::RunFault;
 use crate::input::next_line;
 use crate::output::{end_flushed, write_bytes, write_line, write_number};
+use crate::whole::{read_whole, text_lines};
 use lasso::{MemoryLimits, SpurRodeo};
 use lasso_columns::LineError;
-use lasso_counts::{Ranked, by_frequency, count_text};
+use lasso_counts::{Ranked, by_frequency, count_in_parts, count_text};
 use std::alloc::Global;
 use std::cmp::Reverse;
 use std::io::{BufReader, BufWriter, Read, Write};
 use std::str::from_utf8;
+use std::thread::Threads;
 
 /// Reads all lines, and then writes each distinct one once after the number of times that it came, the most frequent first. Lines
-/// that came equally often are in the order of their bytes. At most `top` of them are written.
+/// that came equally often are in the order of their bytes. At most `top` of them are written. Of more than one worker each counts
+/// a part of the lines, and the input is read as a whole first.
 ///
 /// # Errors
 /// A line that is refused or is not UTF-8, a failed read and out of memory end the run, and nothing is written. After a failed
 /// write, what was written is a beginning of the list.
-pub fn counts<R: Read + Drop, W: Write + Drop>(
-    alloc: Global,
+pub fn counts<H: AllocGlobal + Threads + Sync, R: Read + Drop, W: Write + Drop>(
+    rt: &H,
     input: &mut BufReader<R>,
     output: &mut BufWriter<W>,
-    limits: MemoryLimits,
-    top: usize,
+    settings: Settings,
 ) -> Result<(), RunFault>
     ensures report { (bytes : List ℕ) → reader_remaining R.remaining input.old ≡ Some bytes →
-        Writes (writer_contents W.contents output.old) (writer_contents W.contents output.new) (λ part. CountsEnd bytes limits top part result) }
+        Writes (writer_contents W.contents output.old) (writer_contents W.contents output.new) (λ part. CountsEnd bytes settings.limit settings.top part result) }
     ensures flushed { ¬ (IsWriteEnd result) → writer_buffer output.new ≡ [] }
 {
-    let result = write_counts(alloc, input, output, limits, top);
+    let result = write_counts(rt, input, output, settings);
     end_flushed(output, result)
 }
 
 // Counts the lines and writes them, and leaves the last of what is written in the buffer.
-fn write_counts<R: Read + Drop, W: Write>(
-    alloc: Global,
+fn write_counts<H: AllocGlobal + Threads + Sync, R: Read + Drop, W: Write>(
+    rt: &H,
     input: &mut BufReader<R>,
     output: &mut W,
-    limits: MemoryLimits,
-    top: usize,
+    settings: Settings,
 ) -> Result<(), RunFault>
     ensures { (bytes : List ℕ) → reader_remaining R.remaining input.old ≡ Some bytes →
-        Writes (W.contents output.old) (W.contents output.new) (λ part. CountsEnd bytes limits top part result) }
+        Writes (W.contents output.old) (W.contents output.new) (λ part. CountsEnd bytes settings.limit settings.top part result) }
 {
-    let mut rodeo = new_rodeo(alloc, limits)?;
-    let mut counts = Vec::new(alloc);
-    count_lines(alloc, input, &mut rodeo, &mut counts)?;
-    let Ok(ranked) = by_frequency(alloc, &rodeo, &counts) else {
+    let mut rodeo = new_rodeo(rt.alloc(), MemoryLimits::new(settings.limit))?;
+    let mut counts = Vec::new(rt.alloc());
+    count_all(rt, input, &mut rodeo, &mut counts, settings.workers)?;
+    let Ok(ranked) = by_frequency(rt.alloc(), &rodeo, &counts) else {
         return Err(RunFault::no_memory(0));
     };
-    let most = ranked.len().min(top);
+    let most = ranked.len().min(settings.top);
     write_ranked(output, &ranked[..most])
+}
+
+// Counts each line, line by line or by the workers.
+fn count_all<H: AllocGlobal + Threads + Sync, R: Read + Drop>(
+    rt: &H,
+    input: &mut BufReader<R>,
+    rodeo: &mut SpurRodeo,
+    counts: &mut Vec<u64>,
+    workers: usize,
+) -> Result<(), RunFault>
+    requires no_texts { rodeo.old.texts ≡ [] }
+    requires no_counts { counts.old.items ≡ [] }
+    ensures counted { OnOk result ((bytes : List ℕ) → reader_remaining R.remaining input.old ≡ Some bytes →
+        All IsUtf8 (lines_of bytes) × AreCounts (lines_of bytes) rodeo.new.texts counts.new.items) }
+    ensures beside { vec_len counts.new ≡ length rodeo.new.texts }
+    ensures fault { IfErr result (λ fault. (bytes : List ℕ) → reader_remaining R.remaining input.old ≡ Some bytes →
+        (limit : ℕ) → rodeo.old ≡ made_with 4096 limit → CountingFault limit (lines_of bytes) fault) }
+{
+    if workers < 2 {
+        return count_lines(rt.alloc(), input, rodeo, counts);
+    }
+    count_whole(rt, input, rodeo, counts, workers)
 }
 
 // Counts each line up to the end of the input.
@@ -114,6 +138,31 @@ fn count_line(
     match count_text(rodeo, text, counts) {
         Ok(()) => Ok(()),
         Err(error) => Err(LineError::Refused(number, error)),
+    }
+}
+
+// Counts each line of the input, which is read as a whole, by the workers.
+fn count_whole<H: AllocGlobal + Threads + Sync, R: Read + Drop>(
+    rt: &H,
+    input: &mut BufReader<R>,
+    rodeo: &mut SpurRodeo,
+    counts: &mut Vec<u64>,
+    workers: usize,
+) -> Result<(), RunFault>
+    requires no_texts { rodeo.old.texts ≡ [] }
+    requires no_counts { counts.old.items ≡ [] }
+    ensures counted { OnOk result ((bytes : List ℕ) → reader_remaining R.remaining input.old ≡ Some bytes →
+        All IsUtf8 (lines_of bytes) × AreCounts (lines_of bytes) rodeo.new.texts counts.new.items) }
+    ensures beside { vec_len counts.new ≡ length rodeo.new.texts }
+    ensures fault { IfErr result (λ fault. (bytes : List ℕ) → reader_remaining R.remaining input.old ≡ Some bytes →
+        (limit : ℕ) → rodeo.old ≡ made_with 4096 limit → CountingFault limit (lines_of bytes) fault) }
+{
+    let whole = read_whole(rt.alloc(), input)?;
+    let lines = text_lines(rt.alloc(), &whole)?;
+    match count_in_parts(rt, rodeo, &lines.texts, counts, workers) {
+        Ok(()) if lines.is_whole => Ok(()),
+        Ok(()) => Err(RunFault::Line(LineError::NotText(lines.texts.len() + 1))),
+        Err(fault) => Err(RunFault::Line(LineError::Refused(fault.position + 1, fault.error))),
     }
 }
 

@@ -7,8 +7,10 @@ usage: lasso_codes VERB [OPTION..] < INPUT > OUTPUT
 
 Verbs:
   counts    each distinct line after how often it came, the most frequent first
+  decode    the lines of columns
   distinct  each distinct line once, where it first came
   encode    a column: each distinct line once, and for each line its code
+  merge     columns as one column
 
 lasso_codes VERB --help lists the options of a verb.
 lasso_codes --version prints the version.
@@ -18,13 +20,25 @@ lasso_codes --version prints the version.
 pub const VERSION: &str = "lasso_codes 1\n";
 
 const COUNTS_HELP: &str = "\
-usage: lasso_codes counts [--limit N] [--top N] < INPUT > OUTPUT
+usage: lasso_codes counts [--limit N] [--top N] [--workers N] < INPUT > OUTPUT
 
 Writes each distinct line after how often it came, the most frequent first.
 Lines that came equally often are in the order of their bytes.
 
-  --limit N  the most bytes that the distinct lines may take
-  --top N    write at most N lines
+  --limit N    the most bytes that the distinct lines may take
+  --top N      write at most N lines
+  --workers N  read the whole input, and count by 1 to 64 threads
+
+N is a number below 2^64, or one with K, M or G after it, as 64K for 65536.
+";
+
+const DECODE_HELP: &str = "\
+usage: lasso_codes decode [--limit N] [--null WORD] < COLUMNS > LINES
+
+Writes the lines of columns, one or several one after another.
+
+  --limit N    the most bytes that the texts of a column may take
+  --null WORD  write a null as WORD; without it, a null is a fault
 
 N is a number below 2^64, or one with K, M or G after it, as 64K for 65536.
 ";
@@ -40,7 +54,7 @@ N is a number below 2^64, or one with K, M or G after it, as 64K for 65536.
 ";
 
 const ENCODE_HELP: &str = "\
-usage: lasso_codes encode [--limit N] [--null WORD] [--binary] < LINES > COLUMN
+usage: lasso_codes encode [OPTION..] < LINES > COLUMN
 
 Writes a column: a header, each distinct line once, and for each line its code,
 which is the position of the line among the distinct ones, from 0.
@@ -48,6 +62,18 @@ which is the position of the line among the distinct ones, from 0.
   --limit N    the most bytes that the distinct lines may take
   --null WORD  a line that is WORD is a null: it is no text of the column
   --binary     write codes as four bytes each, the least first
+  --workers N  read the whole input, and encode by 1 to 64 threads
+
+N is a number below 2^64, or one with K, M or G after it, as 64K for 65536.
+";
+
+const MERGE_HELP: &str = "\
+usage: lasso_codes merge [--limit N] [--binary] < COLUMNS > COLUMN
+
+Writes one column of the lines of columns, one or several one after another.
+
+  --limit N  the most bytes that the texts of all columns may take
+  --binary   write codes as four bytes each, the least first
 
 N is a number below 2^64, or one with K, M or G after it, as 64K for 65536.
 ";
@@ -56,7 +82,9 @@ N is a number below 2^64, or one with K, M or G after it, as 64K for 65536.
 pub fn verb_help(verb: Verb) -> &'static str {
     match verb {
         Verb::Counts => COUNTS_HELP,
+        Verb::Decode => DECODE_HELP,
         Verb::Distinct => DISTINCT_HELP,
         Verb::Encode => ENCODE_HELP,
+        Verb::Merge => MERGE_HELP,
     }
 }

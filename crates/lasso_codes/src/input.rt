@@ -1,8 +1,8 @@
-//! The lines of a reader, one after another.
+//! The lines and bytes of a reader, one after another.
 ghost use Rattle.std.specs.Prelude.{◌≡◌, ℕ, List, [], ◌∷◌, ◌++◌, IfOk, IfErr};
 ghost use Rattle.std.specs.Io.Buffered.{reader_remaining};
 ghost use Rattle.lasso_columns.specs.Lines.{NoFeed};
-ghost use Rattle.lasso_codes.specs.Streams.{TakesLine};
+ghost use Rattle.lasso_codes.specs.Streams.{CutsLine, TakesByte, TakesLine};
 ghost use Rattle.lasso_codes.specs.Fault.{IsReadFault};
 
 use crate::fault::RunFault;
@@ -32,6 +32,65 @@ pub fn next_line<R: Read + Drop>(
         Err(error) if error.kind() == ErrorKind::OutOfMemory => Err(RunFault::no_memory(number)),
         Err(_) => Err(RunFault::ReadFailed),
     }
+}
+
+/// What was read up to a line feed.
+#[derive(Clone, Copy, Debug, PartialEq, Eq)]
+pub enum Cut {
+    /// A line that a line feed ends.
+    Whole,
+    /// The last bytes, which no line feed ends.
+    Part,
+    /// Nothing: the reader was at its end.
+    End,
+}
+
+/// Reads the next line into `line`, without the line feed that ends it.
+///
+/// # Errors
+/// The reader failed, or there is no memory for the line.
+pub fn next_whole_line<R: Read + Drop>(
+    input: &mut BufReader<R>,
+    line: &mut Vec<u8>,
+) -> Result<Cut, RunFault>
+    ensures taken { IfOk result (λ cut. CutsLine (reader_remaining R.remaining input.old) (reader_remaining R.remaining input.new) cut line.new.items) }
+    ensures faults { IfErr result (IsReadFault 0) }
+{
+    line.clear();
+    match input.read_until(b'\n', line) {
+        Ok(0) => Ok(Cut::End),
+        Ok(_) => {
+            let count = line.len();
+            strip_feed(line);
+            if line.len() < count {
+                Ok(Cut::Whole)
+            } else {
+                Ok(Cut::Part)
+            }
+        }
+        Err(error) if error.kind() == ErrorKind::OutOfMemory => Err(RunFault::no_memory(0)),
+        Err(_) => Err(RunFault::ReadFailed),
+    }
+}
+
+/// Reads the next byte, or `None` at the end.
+///
+/// # Errors
+/// The reader failed.
+pub fn next_byte<R: Read + Drop>(input: &mut BufReader<R>) -> Result<Option<u8>, RunFault>
+    ensures taken { IfOk result (TakesByte (reader_remaining R.remaining input.old) (reader_remaining R.remaining input.new)) }
+    ensures faults { IfErr result (λ fault. fault ≡ RunFault.ReadFailed) }
+{
+    let mut byte = [0];
+    for _ in 0..u64::MAX {
+        match input.read(&mut byte) {
+            Ok(0) => return Ok(None),
+            Ok(_) => return Ok(Some(byte[0])),
+            Err(error) if error.kind() == ErrorKind::Interrupted => {}
+            Err(_) => return Err(RunFault::ReadFailed),
+        }
+    }
+    Err(RunFault::ReadFailed)
 }
 
 // Takes the line feed off the end of the line.

@@ -1,20 +1,26 @@
-//! A filter over the lines of standard input: the distinct ones, how often each came, and all of them as a column.
+//! A filter over the lines of standard input: the distinct ones, how often each came, or all of them as a column; and back.
 #![tactic(auto)]
 
 pub mod arguments;
 pub mod columns;
 pub mod counts;
+pub mod decode;
 pub mod distinct;
 pub mod encode;
+pub mod entries;
 pub mod fault;
 pub mod help;
 pub mod input;
+pub mod laws;
 pub mod lines;
+pub mod merge;
 pub mod numbers;
 pub mod output;
 pub mod program;
+pub mod reading;
 #[cfg(test)]
 mod tests;
+pub mod whole;
 
 use arguments::{ArgumentFault, Request, command_of};
 use fault::RunFault;
@@ -23,6 +29,7 @@ use std::alloc::AllocError;
 use std::io::{BufReader, BufWriter, ErrorKind};
 use std::process::ExitCode;
 use std::rt::Env;
+use std::thread::Threads;
 use std::{env, io};
 
 // The status of bad arguments.
@@ -44,7 +51,7 @@ fn main(rt: HostRuntime) -> ExitCode {
 }
 
 // Does what is asked for over standard input and output.
-fn run_program<R: AllocGlobal + Input + Print>(
+fn run_program<R: AllocGlobal + Input + Print + Threads + Sync>(
     rt: &R,
     request: &Request<'_>,
 ) -> Result<(), RunFault> {
@@ -54,7 +61,7 @@ fn run_program<R: AllocGlobal + Input + Print>(
     let Ok(mut output) = BufWriter::with_capacity(rt.alloc(), BUFFER, io::writer(rt)) else {
         return Err(RunFault::no_memory(0));
     };
-    run_request(rt.alloc(), request, &mut input, &mut output)
+    run_request(rt, request, &mut input, &mut output)
 }
 
 // Says why the arguments are refused.

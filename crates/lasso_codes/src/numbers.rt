@@ -28,8 +28,8 @@ fn unit_of(word: &[u8]) -> usize
     }
 }
 
-// The value of 1 to 20 digits.
-fn parse_digits(digits: &[u8]) -> Option<usize>
+/// The value of 1 to 20 digits, or `None` for other words, and where it is not below 2^64.
+pub fn parse_digits(digits: &[u8]) -> Option<usize>
     ensures { result ≡ digits_value digits.now }
 {
     if digits.is_empty() || digits.len() > 20 {

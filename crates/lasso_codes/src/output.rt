@@ -1,5 +1,5 @@
 //! Bytes to a writer.
-ghost use Rattle.std.specs.Prelude.{◌≡◌, ◌⊎◌, ◌++◌, ◌∷◌, [], OnOk, IfErr, decimal};
+ghost use Rattle.std.specs.Prelude.{◌≡◌, ◌⊎◌, ◌++◌, ◌∷◌, [], Err, OnOk, IfErr, decimal};
 ghost use Rattle.std.specs.Io.Buffered.{writer_contents, writer_buffer};
 ghost use Rattle.std.specs.Io.KnownBytes.{Keeps};
 ghost use Rattle.lasso_codes.specs.Streams.{Writes, WritesAll};
@@ -64,18 +64,23 @@ pub fn flush<W: Write + Drop>(output: &mut BufWriter<W>) -> Result<(), RunFault>
     }
 }
 
-/// Flushes what is written, unless the run ended because a write failed. How the run ends: as it did, or with the failed flush.
+/// Flushes what is written, unless the run ended because a write failed. How the run ends: as it did, or with the failed flush. A
+/// reader that is gone is told only where nothing else failed: after another fault it is a failed write.
 pub fn end_flushed<W: Write + Drop>(
     output: &mut BufWriter<W>,
     ended: Result<(), RunFault>,
 ) -> Result<(), RunFault>
     ensures kept { Keeps (writer_contents W.contents output.old) (writer_contents W.contents output.new) }
     ensures ends { (result ≡ ended) ⊎ IsWriteEnd result }
+    ensures told { IfErr ended (λ fault. (result ≡ Err fault) ⊎ (result ≡ Err RunFault.WriteFailed)) }
     ensures flushed { ¬ (IsWriteEnd result) → writer_buffer output.new ≡ [] }
 {
-    if let Err(RunFault::WriteFailed | RunFault::ReaderGone) = ended {
-        return ended;
+    match ended {
+        Ok(()) => flush(output),
+        Err(RunFault::WriteFailed | RunFault::ReaderGone) => ended,
+        Err(_) => match flush(output) {
+            Ok(()) => ended,
+            Err(_) => Err(RunFault::WriteFailed),
+        },
     }
-    flush(output)?;
-    ended
 }

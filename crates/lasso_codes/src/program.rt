@@ -3,24 +3,28 @@ ghost use Rattle.std.specs.Prelude.{◌≡◌, ℕ, List, [], Some};
 ghost use Rattle.std.specs.Io.Buffered.{reader_remaining, writer_contents, writer_buffer};
 ghost use Rattle.lasso_codes.specs.Arguments.{word_of};
 ghost use Rattle.lasso_codes.specs.Counts.{CountsEnd};
+ghost use Rattle.lasso_codes.specs.Decode.{DecodeEnd};
 ghost use Rattle.lasso_codes.specs.Distinct.{DistinctEnd};
 ghost use Rattle.lasso_codes.specs.Encode.{EncodeEnd};
 ghost use Rattle.lasso_codes.specs.Fault.{IsWriteEnd};
+ghost use Rattle.lasso_codes.specs.Merge.{MergeEnd};
 ghost use Rattle.lasso_codes.specs.Streams.{Writes};
 ghost use Rattle.lasso_codes.specs.declared.arguments.Settings.{Settings};
 ghost use Rattle.lasso_codes.specs.declared.arguments.Command.TheVariants.{Run};
-ghost use Rattle.lasso_codes.specs.declared.arguments.Verb.TheVariants.{Counts, Distinct, Encode};
+ghost use Rattle.lasso_codes.specs.declared.arguments.Verb.TheVariants.{Counts, Decode, Distinct, Encode, Merge};
 
 use crate::arguments::{Command, Request, Verb};
 use crate::counts::counts;
+use crate::decode::decode;
 use crate::distinct::distinct;
 use crate::encode::encode;
 use crate::fault::RunFault;
 use crate::help::{HELP, VERSION, verb_help};
+use crate::merge::merge;
 use crate::output::{flush, write_bytes};
 use lasso::MemoryLimits;
-use std::alloc::Global;
 use std::io::{BufReader, BufWriter, Read, Write};
+use std::thread::Threads;
 
 /// How many bytes the buffers of the reader and of the writer take.
 pub const BUFFER: usize = 65536;
@@ -29,8 +33,8 @@ pub const BUFFER: usize = 65536;
 ///
 /// # Errors
 /// As the verb. A help text fails as `write_bytes` does.
-pub fn run_request<R: Read + Drop, W: Write + Drop>(
-    alloc: Global,
+pub fn run_request<H: AllocGlobal + Threads + Sync, R: Read + Drop, W: Write + Drop>(
+    rt: &H,
     request: &Request<'_>,
     input: &mut BufReader<R>,
     output: &mut BufWriter<W>,
@@ -39,8 +43,12 @@ pub fn run_request<R: Read + Drop, W: Write + Drop>(
         Writes (writer_contents W.contents output.old) (writer_contents W.contents output.new) (λ part. DistinctEnd bytes settings.limit part result) }
     ensures counts { (settings : Settings) (bytes : List ℕ) → request.now.command ≡ Run Counts settings → reader_remaining R.remaining input.old ≡ Some bytes →
         Writes (writer_contents W.contents output.old) (writer_contents W.contents output.new) (λ part. CountsEnd bytes settings.limit settings.top part result) }
+    ensures decode { (settings : Settings) (bytes : List ℕ) → request.now.command ≡ Run Decode settings → reader_remaining R.remaining input.old ≡ Some bytes →
+        Writes (writer_contents W.contents output.old) (writer_contents W.contents output.new) (λ part. DecodeEnd bytes settings.limit (word_of request.now.null) part result) }
     ensures encode { (settings : Settings) (bytes : List ℕ) → request.now.command ≡ Run Encode settings → reader_remaining R.remaining input.old ≡ Some bytes →
         Writes (writer_contents W.contents output.old) (writer_contents W.contents output.new) (λ part. EncodeEnd bytes settings.limit (word_of request.now.null) settings.binary part result) }
+    ensures merge { (settings : Settings) (bytes : List ℕ) → request.now.command ≡ Run Merge settings → reader_remaining R.remaining input.old ≡ Some bytes →
+        Writes (writer_contents W.contents output.old) (writer_contents W.contents output.new) (λ part. MergeEnd bytes settings.limit settings.binary part result) }
     ensures flushed { ¬ (IsWriteEnd result) → writer_buffer output.new ≡ [] }
 {
     let null = request.null;
@@ -51,9 +59,11 @@ pub fn run_request<R: Read + Drop, W: Write + Drop>(
         Command::Run(verb, settings) => {
             let limits = MemoryLimits::new(settings.limit);
             match verb {
-                Verb::Counts => counts(alloc, input, output, limits, settings.top),
-                Verb::Distinct => distinct(alloc, input, output, limits),
-                Verb::Encode => encode(alloc, input, output, limits, null, settings.binary),
+                Verb::Counts => counts(rt, input, output, settings),
+                Verb::Decode => decode(rt.alloc(), input, output, limits, null),
+                Verb::Distinct => distinct(rt.alloc(), input, output, limits),
+                Verb::Encode => encode(rt, input, output, settings, null),
+                Verb::Merge => merge(rt.alloc(), input, output, limits, settings.binary),
             }
         }
     }

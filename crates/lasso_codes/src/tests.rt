@@ -1,6 +1,9 @@
 //! The program's words, runs over small and long inputs, and readers and writers that fail.
 mod columns;
+mod damaged;
 mod failing;
+mod merging;
+mod round_trips;
 mod verbs;
 mod words;
 
@@ -11,11 +14,12 @@ use std::io::{BufReader, BufWriter};
 use std::process::Abort;
 use std::test::Fail;
 
-// All lines, with no limit and no null, and codes as text.
+// All lines, with no limit and no null, codes as text, and one worker.
 const PLAIN: Settings = Settings {
     limit: usize::MAX,
     top: usize::MAX,
     binary: false,
+    workers: 1,
 };
 
 // The request of the command, with no null.
@@ -29,6 +33,27 @@ fn asks<'a>(command: Command) -> Request<'a> {
 // The request of the verb, with no null.
 fn runs<'a>(verb: Verb, settings: Settings) -> Request<'a> {
     asks(Command::Run(verb, settings))
+}
+
+// The request, and the same of several workers where the verb has workers.
+fn by_workers(request: Request<'_>) -> [Request<'_>; 4] {
+    let Command::Run(verb, settings) = request.command else {
+        return [request; 4];
+    };
+    let most = match verb {
+        Verb::Counts | Verb::Encode => 64,
+        Verb::Decode | Verb::Distinct | Verb::Merge => 1,
+    };
+    [1, 2, 3, 64].map(|workers: usize| Request {
+        command: Command::Run(
+            verb,
+            Settings {
+                workers: workers.min(most),
+                ..settings
+            },
+        ),
+        null: request.null,
+    })
 }
 
 // A reader of these bytes. Its buffer is so small that most lines are longer.

@@ -55,28 +55,31 @@ distinct_new list (t ∷ texts) distinct =
 
 -- ---- the count of each text
 
-same_text : (a b : Text) → bytes_eq a b ≡ true → a ≡ b
+pub same_text : (a b : Text) → bytes_eq a b ≡ true → a ≡ b
 same_text a b e = (bytes_eq-Decides a b).0 e
 
-position_absent : (list : List Text) (last text : Text) → position_of list text ≡ None → bytes_eq last text ≡ false → position_of (list ++ last ∷ []) text ≡ None
+pub position_absent : (list : List Text) (last text : Text) → position_of list text ≡ None → bytes_eq last text ≡ false → position_of (list ++ last ∷ []) text ≡ None
 position_absent list last text none other = grind (arith, nat_tests, position_or_len_push (λ t. bytes_eq t text) list last, length_push list last)
 
-inside : (list : List Text) (counts : List ℕ) (text : Text) (n : ℕ) → length counts ≡ length list → position_of list text ≡ Some n → n < length counts
+pub inside : (list : List Text) (counts : List ℕ) (text : Text) (n : ℕ) → length counts ≡ length list → position_of list text ≡ Some n → n < length counts
 inside list counts text n beside at = let small = slice_get_within list n text (position_here list text n at) in omega (arith, small, beside)
 
-last_one : (counts : List ℕ) (n : ℕ) → length counts ≡ n → get_or (counts ++ 1 ∷ []) n 0 ≡ 1
-last_one counts n e = ap (λ k. get_or (counts ++ 1 ∷ []) k 0) (sym e) ∙ get_or-append_seam counts 1 [] 0
+pub last_one : (counts : List ℕ) (n amount : ℕ) → length counts ≡ n → get_or (counts ++ amount ∷ []) n 0 ≡ amount
+last_one counts n amount e = ap (λ k. get_or (counts ++ amount ∷ []) k 0) (sym e) ∙ get_or-append_seam counts amount [] 0
 
-tell_new : (list : List Text) (counts : List ℕ) (text s : Text) (same : Bool) (o : Option ℕ) → position_of list text ≡ None → length counts ≡ length list → bytes_eq text s ≡ same → position_of list s ≡ o → count_at (counts ++ 1 ∷ []) (position_of (list ++ text ∷ []) s) ≡ count_at counts o + cond same 1 0
-tell_new list counts text s true o none beside e at =
+-- a text that goes last, with a count of so much
+pub tell_new : (list : List Text) (counts : List ℕ) (amount : ℕ) (text s : Text) (same : Bool) (o : Option ℕ) → position_of list text ≡ None → length counts ≡ length list → bytes_eq text s ≡ same → position_of list s ≡ o → count_at (counts ++ amount ∷ []) (position_of (list ++ text ∷ []) s) ≡ count_at counts o + cond same amount 0
+tell_new list counts amount text s true o none beside e at =
     let is : text ≡ s = same_text text s e in
     let absent : position_of list s ≡ None = subst (λ (t : Text). position_of list t ≡ None) is none in
     let here : position_of (list ++ text ∷ []) s ≡ Some (length list) = subst (λ (t : Text). position_of (list ++ text ∷ []) t ≡ Some (length list)) is (position_last list text none) in
-    ap (λ p. count_at (counts ++ 1 ∷ []) p) here ∙ last_one counts (length list) beside ∙ ap (λ p. count_at counts p + 1) (sym absent ∙ at)
-tell_new list counts text s false None none beside e at =
-    ap (λ p. count_at (counts ++ 1 ∷ []) p) (position_absent list text s at e)
-tell_new list counts text s false (Some n) none beside e at =
-    ap (λ p. count_at (counts ++ 1 ∷ []) p) (position_stays list text s n at) ∙ get_or_append_left counts (1 ∷ []) 0 n (inside list counts s n beside at) ∙ sym (add-zero (get_or counts n 0))
+    let nothing : count_at counts o ≡ 0 = ap (λ p. count_at counts p) (sym at ∙ absent) in
+    let whole : amount ≡ count_at counts o + amount = omega (arith, nothing) in
+    ap (λ p. count_at (counts ++ amount ∷ []) p) here ∙ last_one counts (length list) amount beside ∙ whole
+tell_new list counts amount text s false None none beside e at =
+    ap (λ p. count_at (counts ++ amount ∷ []) p) (position_absent list text s at e)
+tell_new list counts amount text s false (Some n) none beside e at =
+    ap (λ p. count_at (counts ++ amount ∷ []) p) (position_stays list text s n at) ∙ get_or_append_left counts (amount ∷ []) 0 n (inside list counts s n beside at) ∙ sym (add-zero (get_or counts n 0))
 
 apart : (list : List Text) (text s : Text) (n k : ℕ) → position_of list text ≡ Some n → position_of list s ≡ Some k → bytes_eq text s ≡ false → k ≢ n
 apart list text s n k at at' other = λ e.
@@ -85,14 +88,15 @@ apart list text s n k at at' other = λ e.
     let is : text ≡ s = cc in
     let equal : bytes_eq text s ≡ true = (bytes_eq-Decides text s).1 is in cc
 
-tell_old : (list : List Text) (counts : List ℕ) (text s : Text) (n : ℕ) (same : Bool) (o : Option ℕ) → position_of list text ≡ Some n → length counts ≡ length list → bytes_eq text s ≡ same → position_of list s ≡ o → count_at (set counts n (get_or counts n 0 + 1)) o ≡ count_at counts o + cond same 1 0
-tell_old list counts text s n true o here beside e at =
+-- a present text, whose count grows by so much
+pub tell_old : (list : List Text) (counts : List ℕ) (amount : ℕ) (text s : Text) (n : ℕ) (same : Bool) (o : Option ℕ) → position_of list text ≡ Some n → length counts ≡ length list → bytes_eq text s ≡ same → position_of list s ≡ o → count_at (set counts n (get_or counts n 0 + amount)) o ≡ count_at counts o + cond same amount 0
+tell_old list counts amount text s n true o here beside e at =
     let is : text ≡ s = same_text text s e in
     let found : o ≡ Some n = sym at ∙ subst (λ (t : Text). position_of list t ≡ Some n) is here in
-    rw (found) (get_or-set_same counts n (get_or counts n 0 + 1) 0 (inside list counts text n beside here))
-tell_old list counts text s n false None here beside e at = refl
-tell_old list counts text s n false (Some k) here beside e at =
-    get_or-set_other counts n k (get_or counts n 0 + 1) 0 (apart list text s n k here at e) ∙ sym (add-zero (get_or counts k 0))
+    rw (found) (get_or-set_same counts n (get_or counts n 0 + amount) 0 (inside list counts text n beside here))
+tell_old list counts amount text s n false None here beside e at = refl
+tell_old list counts amount text s n false (Some k) here beside e at =
+    get_or-set_other counts n k (get_or counts n 0 + amount) 0 (apart list text s n k here at e) ∙ sym (add-zero (get_or counts k 0))
 
 -- ---- one text more is counted
 
@@ -112,9 +116,9 @@ counted_length counts list text (Some n) beside = length-set counts n (get_or co
 pub counted_beside : (counts : List ℕ) (list : List Text) (text : Text) → length counts ≡ length list → length (counted counts (position_of list text)) ≡ length (with_last list text)
 counted_beside counts list text beside = counted_length counts list text (position_of list text) beside
 
-tells : (list : List Text) (counts : List ℕ) (text s : Text) (o : Option ℕ) → position_of list text ≡ o → length counts ≡ length list → count_at (counted counts o) (position_of (cond (is_some o) list (list ++ text ∷ [])) s) ≡ count_at counts (position_of list s) + cond (bytes_eq text s) 1 0
-tells list counts text s None at beside = tell_new list counts text s (bytes_eq text s) (position_of list s) at beside refl refl
-tells list counts text s (Some n) at beside = tell_old list counts text s n (bytes_eq text s) (position_of list s) at beside refl refl
+pub tells : (list : List Text) (counts : List ℕ) (text s : Text) (o : Option ℕ) → position_of list text ≡ o → length counts ≡ length list → count_at (counted counts o) (position_of (cond (is_some o) list (list ++ text ∷ [])) s) ≡ count_at counts (position_of list s) + cond (bytes_eq text s) 1 0
+tells list counts text s None at beside = tell_new list counts 1 text s (bytes_eq text s) (position_of list s) at beside refl refl
+tells list counts text s (Some n) at beside = tell_old list counts 1 text s n (bytes_eq text s) (position_of list s) at beside refl refl
 
 pub counts_push : (texts list : List Text) (counts : List ℕ) (text : Text) → AreCounts texts list counts → AreCounts (texts ++ text ∷ []) (with_last list text) (counted counts (position_of list text))
 counts_push texts list counts text are = record {

@@ -1,2 +1,4 @@
 pub mod Counted
+pub mod Rest
+pub mod Added
 pub mod Ranks

@@ -1,10 +1,13 @@
 //! Texts that are interned and counted.
-ghost use Rattle.std.specs.Prelude.{◌≡◌, ◌+◌, ◌-◌, ◌^◌, ◌<◌, ◌++◌, ◌∷◌, [], ℕ, List, Ok, OnOk, OnErr, IfErr, MatchResult, length, sum, vec_len, vec_capacity};
+ghost use Rattle.std.specs.Prelude.{◌≡◌, ◌+◌, ◌-◌, ◌^◌, ◌<◌, ◌++◌, ◌∷◌, [], ℕ, List, Ok, OnOk, OnErr, IfErr, IsSomeAnd, length, map, slice_get, sum, vec_len, vec_capacity};
 ghost use Rattle.lasso_parts.specs.Texts.{Text, position_of};
 ghost use Rattle.lasso_single.specs.Intern.{InternsIn};
 ghost use Rattle.lasso_columns.specs.Encoding.{spur_at, IsRefused};
+ghost use Rattle.lasso_single.specs.Filling.{extend};
 ghost use Rattle.lasso_counts.specs.Counts.{AreCounts, counted, added};
+ghost use Rattle.lasso_counts.specs.Adding.{AddsCounts, counted_of};
 
+use crate::fault::CountError;
 use lasso::{Key, LassoResult, Rodeo, Spur};
 use std::alloc::Allocator;
 use std::hash::BuildHasher;
@@ -43,6 +46,38 @@ pub fn count_text<S: BuildHasher, A: Allocator + Clone>(
     counts.reserve(1)?;
     let key = rodeo.try_get_or_intern(text)?;
     add_one(counts, key.into_usize());
+    Ok(())
+}
+
+/// Interns and counts each of the texts in order, as `count_text` does.
+///
+/// The counts must be one for each text of the interner, and their sum and the number of texts together below 2^64.
+///
+/// # Errors
+/// The first text that is refused ends it. The texts before it are interned and counted, and no text after it is taken.
+///
+/// ```rust
+/// let mut rodeo: SpurRodeo = Rodeo::default(rt.alloc())?;
+/// let mut counts = Vec::new(rt.alloc());
+/// assert!(rt; count_texts(&mut rodeo, &["red", "green", "red"], &mut counts).is_ok());
+/// assert!(rt; counts.as_slice() == [2, 1].as_slice());
+/// ```
+pub fn count_texts<S: BuildHasher, A: Allocator + Clone>(
+    rodeo: &mut Rodeo<Spur, S, A>,
+    texts: &[&str],
+    counts: &mut Vec<u64>,
+) -> Result<(), CountError>
+    requires beside { vec_len counts.old ≡ length rodeo.old.texts }
+    requires fits { sum counts.old.items + length texts.now < 2 ^ 64 }
+    ensures list { extend spur_at rodeo.old (counted_of result (map (λ t. t.now) texts.now)) (Ok tt) rodeo.new }
+    ensures counts { AddsCounts (counted_of result (map (λ t. t.now) texts.now)) rodeo.old.texts counts.old.items rodeo.new.texts counts.new.items }
+    ensures refused { IfErr result (λ error. IsSomeAnd (slice_get (map (λ t. t.now) texts.now) error.position) (λ text. IsRefused rodeo.new text error.error)) }
+{
+    for position in 0..texts.len() {
+        if let Err(error) = count_text(rodeo, texts[position], counts) {
+            return Err(CountError { position, error });
+        }
+    }
     Ok(())
 }
 

@@ -1,7 +1,9 @@
 //! Small texts, counted and ranked.
-use crate::{by_frequency, count_text};
-use lasso::{Rodeo, SpurRodeo};
+use crate::{CountError, by_frequency, count_in_parts, count_text};
+use lasso::index::Texts;
+use lasso::{Capacity, LassoError, LassoErrorKind, MemoryLimits, Rodeo, SpurRodeo};
 use std::cmp::Reverse;
+use std::str::from_utf8;
 use std::test::Fail;
 
 #[test]
@@ -33,5 +35,92 @@ fn equal_counts_go_by_bytes(rt: HostRuntime) -> Result<(), Fail> {
         let (count, text) = expected[position];
         assert!(rt; ranked[position] == (Reverse(count), text));
     }
+    Ok(())
+}
+
+// What some of 500 texts leave, however many workers count them: text n is "text k" for k = n modulo 60, but that the last hundred
+// are those of k = n modulo 7.
+#[test]
+fn parts_count_as_one(rt: HostRuntime) -> Result<(), Fail> {
+    let mut names = Vec::new(rt.alloc());
+    for k in 0..60u32 {
+        names.push(format!(in rt.alloc(); "text {k}")?)?;
+    }
+    let mut texts = Vec::new(rt.alloc());
+    for n in 0..500usize {
+        let k = if n < 400 { n % 60 } else { n % 7 };
+        texts.push(names[k].as_str())?;
+    }
+    for workers in [0usize, 1, 2, 3, 7, 64] {
+        let mut rodeo: SpurRodeo = Rodeo::default(rt.alloc())?;
+        let mut counts = Vec::new(rt.alloc());
+        count_text(&mut rodeo, "text 1", &mut counts)?;
+        assert!(rt; count_in_parts(&rt, &mut rodeo, &texts, &mut counts, workers) == Ok(()));
+        assert!(rt; rodeo.len() == 60);
+        assert!(rt; rodeo.text_at(0) == "text 1");
+        assert!(rt; rodeo.text_at(1) == "text 0");
+        assert!(rt; rodeo.text_at(2) == "text 2");
+        // 400 = 6 * 60 + 40, and 100 = 14 * 7 + 2: n from 400 begins at 1 modulo 7.
+        assert!(rt; counts[0] == 1 + 7 + 15);
+        assert!(rt; counts[1] == 7 + 14);
+        assert!(rt; counts[2] == 7 + 15);
+        assert!(rt; counts[6] == 7 + 14);
+        assert!(rt; counts[39] == 7);
+        assert!(rt; counts[40] == 6);
+        assert!(rt; counts[59] == 6);
+        assert!(rt; counts.len() == 60);
+    }
+    Ok(())
+}
+
+// The limit lets in one bucket, which the first texts fill. The text past it is refused, and those before it are counted: also where
+// the text is of a later part, or comes again after it.
+#[test]
+fn the_refused_text_is_told(rt: HostRuntime) -> Result<(), Fail> {
+    let long = "a long text that takes some bytes";
+    let rows = [
+        ([long, "b", "b", "b", "b", "b", "b", "b"], 0, 0),
+        (["b", long, "b", long, "c", "b", "d", long], 1, 1),
+        (["b", "b", "b", "b", "b", "b", long, "b"], 6, 6),
+    ];
+    for (texts, position, count) in rows {
+        for workers in [1usize, 2, 3, 8] {
+            let limits = MemoryLimits::new(4096);
+            let mut rodeo: SpurRodeo = Rodeo::with_capacity_and_memory_limits(
+                rt.alloc(),
+                Capacity::default(),
+                limits,
+            )?;
+            let mut counts = Vec::new(rt.alloc());
+            let filler = vec![in rt.alloc(); b'f'; 4094]?;
+            let Ok(filler) = from_utf8(&filler) else {
+                return Err(Fail::from("letters are no text"));
+            };
+            count_text(&mut rodeo, filler, &mut counts)?;
+            let ended = count_in_parts(&rt, &mut rodeo, &texts, &mut counts, workers);
+            let Err(fault) = ended else {
+                return Err(Fail::from("no text is refused"));
+            };
+            assert!(rt; fault.position == position);
+            assert!(rt; fault.error.kind() == LassoErrorKind::MemoryLimitReached);
+            let len = if count > 0 { 2 } else { 1 };
+            assert!(rt; rodeo.len() == len);
+            assert!(rt; counts.len() == len);
+            assert!(rt; counts[0] == 1);
+            assert!(rt; counts[len - 1] == count.max(1));
+        }
+    }
+    Ok(())
+}
+
+#[test]
+fn a_refused_text_is_printed(rt: HostRuntime) -> Result<(), Fail> {
+    let fault = CountError {
+        position: 7,
+        error: LassoError::new(LassoErrorKind::MemoryLimitReached),
+    };
+    let words =
+        "Text at position 7: Lasso encountered an error: The configured memory limit was reached";
+    assert!(rt; fault.to_string(rt.alloc())?.as_str() == words);
     Ok(())
 }

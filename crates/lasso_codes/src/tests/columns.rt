@@ -1,5 +1,5 @@
 //! Columns, written.
-use super::verbs::assert_writes;
+use super::verbs::{assert_stops, assert_writes};
 use super::{PLAIN, runs};
 use crate::arguments::{Request, Settings, Verb};
 use std::test::Fail;
@@ -85,4 +85,63 @@ fn codes_past_a_byte(rt: HostRuntime) -> Result<(), Fail> {
     }
     output.extend_from_slice(&codes)?;
     assert_writes(&rt, runs(Verb::Encode, BINARY), &input, &output)
+}
+
+// The line that is refused or is not UTF-8 is told by its number among all lines, nulls too.
+#[test]
+fn faults_are_counted_with_the_nulls(rt: HostRuntime) -> Result<(), Fail> {
+    let with_null = |settings| Request {
+        null: Some(b"NA"),
+        ..runs(Verb::Encode, settings)
+    };
+    let not_text = ("line 6: not UTF-8", 2);
+    let input = b"NA\na\nNA\nb\nNA\n\xff\nNA\n\xff";
+    assert_stops(&rt, with_null(PLAIN), input, b"", not_text)?;
+    let mut input = Vec::new(rt.alloc());
+    input.extend_from_slice(b"NA\nNA\n")?;
+    for n in 0..4096u32 {
+        input.push(b'a' + (n % 26) as u8)?;
+    }
+    input.extend_from_slice(b"\nNA\nb\nc\nNA\n\xff")?;
+    let limited = Settings {
+        limit: 4096,
+        ..PLAIN
+    };
+    let refused = (
+        "line 5: Lasso encountered an error: The configured memory limit was reached",
+        1,
+    );
+    assert_stops(&rt, with_null(limited), &input, b"", refused)
+}
+
+// 3000 lines of 700 texts with nulls among them: the same column, however many workers there are.
+#[test]
+fn many_lines_with_nulls(rt: HostRuntime) -> Result<(), Fail> {
+    let mut input = Vec::new(rt.alloc());
+    let mut texts = Vec::new(rt.alloc());
+    let mut entries = Vec::new(rt.alloc());
+    for n in 0..3000u32 {
+        if n % 5 == 0 {
+            input.extend_from_slice(b"NA\n")?;
+            entries.extend_from_slice(b"-\n")?;
+            continue;
+        }
+        let code = n % 700;
+        let line = format!(in rt.alloc(); "text {code}\n")?;
+        input.extend_from_slice(line.as_bytes())?;
+        if n < 700 {
+            texts.extend_from_slice(line.as_bytes())?;
+        }
+        let entry = format!(in rt.alloc(); "{}\n", code - code / 5 - 1)?;
+        entries.extend_from_slice(entry.as_bytes())?;
+    }
+    let mut output = Vec::new(rt.alloc());
+    output.extend_from_slice(b"lasso-codes 1 text 560 3000\n")?;
+    output.extend_from_slice(&texts)?;
+    output.extend_from_slice(&entries)?;
+    let request = Request {
+        null: Some(b"NA"),
+        ..runs(Verb::Encode, PLAIN)
+    };
+    assert_writes(&rt, request, &input, &output)
 }

@@ -9,12 +9,21 @@ use std::test::Fail;
 
 const INPUT: &[u8] = b"b\na\nb\nc";
 
-const VERBS: [(Verb, &[u8]); 3] = [
-    (Verb::Distinct, b"b\na\nc\n"),
-    (Verb::Counts, b"2 b\n1 a\n1 c\n"),
+const COLUMN: &[u8] = b"lasso-codes 1 text 3 4\nb\na\nc\n0\n1\n0\n2\n";
+
+const BINARY_COLUMN: &[u8] = b"lasso-codes 1 binary 2 2\nb\na\n\x01\0\0\0\0\0\0\0";
+
+// Verbs, and what they write of an input.
+const VERBS: [(Verb, &[u8], &[u8]); 6] = [
+    (Verb::Distinct, INPUT, b"b\na\nc\n"),
+    (Verb::Counts, INPUT, b"2 b\n1 a\n1 c\n"),
+    (Verb::Encode, INPUT, COLUMN),
+    (Verb::Decode, COLUMN, b"b\na\nb\nc\n"),
+    (Verb::Decode, BINARY_COLUMN, b"a\nb\n"),
     (
-        Verb::Encode,
-        b"lasso-codes 1 text 3 4\nb\na\nc\n0\n1\n0\n2\n",
+        Verb::Merge,
+        BINARY_COLUMN,
+        b"lasso-codes 1 text 2 2\nb\na\n1\n0\n",
     ),
 ];
 
@@ -96,15 +105,15 @@ impl Write for ShortWrite {
 
 #[test]
 fn each_read_fails_in_turn(rt: HostRuntime) -> Result<(), Fail> {
-    for (verb, output) in VERBS {
+    for (verb, input, output) in VERBS {
         let mut whole = false;
         for calls in 0..100 {
-            let source = ShortRead { left: INPUT, calls };
-            let mut input = BufReader::with_capacity(rt.alloc(), 8, source)?;
+            let source = ShortRead { left: input, calls };
+            let mut reader = BufReader::with_capacity(rt.alloc(), 8, source)?;
             let target = ShortWrite::new(rt.alloc(), 100, Way::IsFull);
             let mut writer = BufWriter::with_capacity(rt.alloc(), 8, target)?;
             let request = runs(verb, PLAIN);
-            let ended = run_request(rt.alloc(), &request, &mut input, &mut writer);
+            let ended = run_request(&rt, &request, &mut reader, &mut writer);
             let (target, pending) = writer.into_parts();
             assert!(rt; pending.is_empty());
             assert!(rt; target.flushed == target.taken.len());
@@ -131,7 +140,7 @@ fn lines_are_written_before_the_next_read(rt: HostRuntime) -> Result<(), Fail> {
         let mut input = BufReader::new(rt.alloc(), source)?;
         let mut writer = BufWriter::new(rt.alloc(), Vec::new(rt.alloc()))?;
         let request = runs(Verb::Distinct, PLAIN);
-        let ended = run_request(rt.alloc(), &request, &mut input, &mut writer);
+        let ended = run_request(&rt, &request, &mut input, &mut writer);
         assert_fault(&rt, ended, "read failed", 4)?;
         assert!(rt; writer.get_ref().as_slice() == written);
     }
@@ -145,15 +154,15 @@ fn each_write_fails_in_turn(rt: HostRuntime) -> Result<(), Fail> {
         (Way::IsFull, "write failed", 4),
         (Way::IsGone, "the output's reader is gone", 0),
     ];
-    for (verb, output) in VERBS {
+    for (verb, input, output) in VERBS {
         for (way, words, status) in ways {
             let mut whole = false;
             for calls in 0..100 {
-                let mut input = BufReader::new(rt.alloc(), INPUT)?;
+                let mut reader = BufReader::new(rt.alloc(), input)?;
                 let target = ShortWrite::new(rt.alloc(), calls, way);
                 let mut writer = BufWriter::with_capacity(rt.alloc(), 4, target)?;
                 let request = runs(verb, PLAIN);
-                let ended = run_request(rt.alloc(), &request, &mut input, &mut writer);
+                let ended = run_request(&rt, &request, &mut reader, &mut writer);
                 let (target, _) = writer.into_parts();
                 assert!(rt; output.starts_with(&target.taken));
                 if ended.is_ok() {
@@ -165,6 +174,26 @@ fn each_write_fails_in_turn(rt: HostRuntime) -> Result<(), Fail> {
             }
             assert!(rt; whole);
         }
+    }
+    Ok(())
+}
+
+// A reader that is gone is told as such only where nothing else failed.
+#[test]
+fn a_fault_stays_one_where_the_reader_is_gone(rt: HostRuntime) -> Result<(), Fail> {
+    let rows: [(&[u8], &str, u8); 2] = [
+        (b"b\na\n", "the output's reader is gone", 0),
+        (b"b\n\xff\n", "write failed", 4),
+    ];
+    for (bytes, words, status) in rows {
+        let mut input = BufReader::new(rt.alloc(), bytes)?;
+        let target = ShortWrite::new(rt.alloc(), 0, Way::IsGone);
+        let mut writer = BufWriter::new(rt.alloc(), target)?;
+        let request = runs(Verb::Distinct, PLAIN);
+        let ended = run_request(&rt, &request, &mut input, &mut writer);
+        let (target, _) = writer.into_parts();
+        assert!(rt; target.taken.is_empty());
+        assert_fault(&rt, ended, words, status)?;
     }
     Ok(())
 }

@@ -1,24 +1,27 @@
 //! What the verbs write.
-use super::{PLAIN, asks, assert_fault, reader_of, runs, writer_of};
+use super::{PLAIN, asks, assert_fault, by_workers, reader_of, runs, writer_of};
 use crate::arguments::{Command, Request, Settings, Verb};
 use crate::help::{HELP, VERSION, verb_help};
 use crate::program::run_request;
 use std::process::Abort;
 use std::test::Fail;
+use std::thread::Threads;
 
-// The request turns the input into the output.
-pub fn assert_writes<R: AllocGlobal + Abort>(
+// The request turns the input into the output, however many workers there are.
+pub fn assert_writes<R: AllocGlobal + Abort + Threads + Sync>(
     rt: &R,
     request: Request<'_>,
     input: &[u8],
     output: &[u8],
 ) -> Result<(), Fail> {
-    let mut reader = reader_of(rt.alloc(), input)?;
-    let mut writer = writer_of(rt.alloc())?;
-    assert!(rt; run_request(rt.alloc(), &request, &mut reader, &mut writer) == Ok(()));
-    let (written, left) = writer.into_parts();
-    assert!(rt; left.is_empty());
-    assert!(rt; written.as_slice() == output);
+    for request in by_workers(request) {
+        let mut reader = reader_of(rt.alloc(), input)?;
+        let mut writer = writer_of(rt.alloc())?;
+        assert!(rt; run_request(rt, &request, &mut reader, &mut writer) == Ok(()));
+        let (written, left) = writer.into_parts();
+        assert!(rt; left.is_empty());
+        assert!(rt; written.as_slice() == output);
+    }
     Ok(())
 }
 
@@ -94,7 +97,14 @@ fn many_lines(rt: HostRuntime) -> Result<(), Fail> {
 fn help_texts(rt: HostRuntime) -> Result<(), Fail> {
     assert_writes(&rt, asks(Command::Help), b"a\n", HELP.as_bytes())?;
     assert_writes(&rt, asks(Command::Version), b"a\n", VERSION.as_bytes())?;
-    for verb in [Verb::Counts, Verb::Distinct, Verb::Encode] {
+    let verbs = [
+        Verb::Counts,
+        Verb::Decode,
+        Verb::Distinct,
+        Verb::Encode,
+        Verb::Merge,
+    ];
+    for verb in verbs {
         assert_writes(
             &rt,
             asks(Command::VerbHelp(verb)),
@@ -103,36 +113,40 @@ fn help_texts(rt: HostRuntime) -> Result<(), Fail> {
         )?;
     }
     assert!(rt; verb_help(Verb::Counts).starts_with("usage: lasso_codes counts "));
+    assert!(rt; verb_help(Verb::Decode).starts_with("usage: lasso_codes decode "));
     assert!(rt; verb_help(Verb::Distinct).starts_with("usage: lasso_codes distinct "));
     assert!(rt; verb_help(Verb::Encode).starts_with("usage: lasso_codes encode "));
+    assert!(rt; verb_help(Verb::Merge).starts_with("usage: lasso_codes merge "));
     Ok(())
 }
 
-// What a run over the input writes before it ends with the fault of these words.
-fn assert_stops<R: AllocGlobal + Abort>(
+// What a run over the input writes before it ends with the fault of these words, however many workers there are.
+pub fn assert_stops<R: AllocGlobal + Abort + Threads + Sync>(
     rt: &R,
-    (verb, settings): (Verb, Settings),
+    request: Request<'_>,
     input: &[u8],
     output: &[u8],
     (words, status): (&str, u8),
 ) -> Result<(), Fail> {
-    let mut reader = reader_of(rt.alloc(), input)?;
-    let mut writer = writer_of(rt.alloc())?;
-    let request = runs(verb, settings);
-    let ended = run_request(rt.alloc(), &request, &mut reader, &mut writer);
-    let (written, left) = writer.into_parts();
-    assert!(rt; left.is_empty());
-    assert!(rt; written.as_slice() == output);
-    assert_fault(rt, ended, words, status)
+    for request in by_workers(request) {
+        let mut reader = reader_of(rt.alloc(), input)?;
+        let mut writer = writer_of(rt.alloc())?;
+        let ended = run_request(rt, &request, &mut reader, &mut writer);
+        let (written, left) = writer.into_parts();
+        assert!(rt; left.is_empty());
+        assert!(rt; written.as_slice() == output);
+        assert_fault(rt, ended, words, status)?;
+    }
+    Ok(())
 }
 
 #[test]
 fn faulty_lines(rt: HostRuntime) -> Result<(), Fail> {
     let not_text = ("line 3: not UTF-8", 2);
     let input = b"a\na\n\xff\nb\n";
-    assert_stops(&rt, (Verb::Distinct, PLAIN), input, b"a\n", not_text)?;
-    assert_stops(&rt, (Verb::Counts, PLAIN), input, b"", not_text)?;
-    assert_stops(&rt, (Verb::Encode, PLAIN), input, b"", not_text)
+    assert_stops(&rt, runs(Verb::Distinct, PLAIN), input, b"a\n", not_text)?;
+    assert_stops(&rt, runs(Verb::Counts, PLAIN), input, b"", not_text)?;
+    assert_stops(&rt, runs(Verb::Encode, PLAIN), input, b"", not_text)
 }
 
 // The first bucket has 4096 bytes, which the first line fills.
@@ -152,7 +166,7 @@ fn past_the_limit(rt: HostRuntime) -> Result<(), Fail> {
         "line 3: Lasso encountered an error: The configured memory limit was reached",
         1,
     );
-    assert_stops(&rt, (Verb::Distinct, settings), &input, &both, refused)?;
-    assert_stops(&rt, (Verb::Counts, settings), &input, b"", refused)?;
-    assert_stops(&rt, (Verb::Encode, settings), &input, b"", refused)
+    assert_stops(&rt, runs(Verb::Distinct, settings), &input, &both, refused)?;
+    assert_stops(&rt, runs(Verb::Counts, settings), &input, b"", refused)?;
+    assert_stops(&rt, runs(Verb::Encode, settings), &input, b"", refused)
 }

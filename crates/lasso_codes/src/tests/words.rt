@@ -52,7 +52,7 @@ fn numbers(rt: HostRuntime) -> Result<(), Fail> {
 
 #[test]
 fn good_words(rt: HostRuntime) -> Result<(), Fail> {
-    let cases: [(&[&str], Command); 15] = [
+    let cases: [(&[&str], Command); 21] = [
         (&["--help"], Command::Help),
         (&["--help", "x"], Command::Help),
         (&["--version"], Command::Version),
@@ -62,6 +62,9 @@ fn good_words(rt: HostRuntime) -> Result<(), Fail> {
             Command::VerbHelp(Verb::Distinct),
         ),
         (&["encode", "--help"], Command::VerbHelp(Verb::Encode)),
+        (&["decode", "--help"], Command::VerbHelp(Verb::Decode)),
+        (&["merge", "--limit", "9"], limited(Verb::Merge, 9)),
+        (&["decode", "--limit=1K"], limited(Verb::Decode, 1024)),
         (&["distinct"], Command::Run(Verb::Distinct, PLAIN)),
         (&["counts"], Command::Run(Verb::Counts, PLAIN)),
         (&["encode"], Command::Run(Verb::Encode, PLAIN)),
@@ -80,6 +83,12 @@ fn good_words(rt: HostRuntime) -> Result<(), Fail> {
             &["distinct", "--limit=2G"],
             limited(Verb::Distinct, 2147483648),
         ),
+        (&["counts", "--workers", "64"], worked(Verb::Counts, 64)),
+        (&["encode", "--workers=1"], worked(Verb::Encode, 1)),
+        (
+            &["encode", "--workers=9", "--workers", "002"],
+            worked(Verb::Encode, 2),
+        ),
     ];
     for (words, command) in cases {
         let words = owned_words(&rt, words)?;
@@ -94,6 +103,10 @@ fn good_words(rt: HostRuntime) -> Result<(), Fail> {
 
 fn limited(verb: Verb, limit: usize) -> Command {
     Command::Run(verb, Settings { limit, ..PLAIN })
+}
+
+fn worked(verb: Verb, workers: usize) -> Command {
+    Command::Run(verb, Settings { workers, ..PLAIN })
 }
 
 fn topped(limit: Option<usize>, top: usize) -> Command {
@@ -132,7 +145,7 @@ fn words_of_a_null(rt: HostRuntime) -> Result<(), Fail> {
 
 #[test]
 fn bad_words_are_named(rt: HostRuntime) -> Result<(), Fail> {
-    let cases: [(&[&str], &str); 21] = [
+    let cases: [(&[&str], &str); 30] = [
         (&[], "no verb (see lasso_codes --help)"),
         (&["count"], "count: no such verb"),
         (&[""], ": no such verb"),
@@ -143,6 +156,8 @@ fn bad_words_are_named(rt: HostRuntime) -> Result<(), Fail> {
         (&["distinct", "--top=1"], "--top=1: no such option"),
         (&["distinct", "--null", "x"], "--null: no such option"),
         (&["counts", "--binary"], "--binary: no such option"),
+        (&["merge", "--null=x"], "--null=x: no such option"),
+        (&["decode", "--binary"], "--binary: no such option"),
         (&["encode", "--top=1"], "--top=1: no such option"),
         (&["encode", "--binary=1"], "--binary=1: no such option"),
         (&["encode", "--null"], "--null: a word is missing"),
@@ -165,6 +180,19 @@ fn bad_words_are_named(rt: HostRuntime) -> Result<(), Fail> {
         (
             &["counts", "--top", "1", "17179869184G"],
             "17179869184G: no such option",
+        ),
+        (&["distinct", "--workers", "2"], "--workers: no such option"),
+        (&["counts", "--workers"], "--workers: a number is missing"),
+        (&["encode", "--workers=0"], "--workers: 0 is below 1"),
+        (&["encode", "--workers", "65"], "--workers: 65 is past 64"),
+        (&["counts", "--workers=1K"], "--workers: 1024 is past 64"),
+        (
+            &["counts", "--workers", "two"],
+            "two: not a number below 2^64",
+        ),
+        (
+            &["counts", "--workers=-1"],
+            "--workers=-1: not a number below 2^64",
         ),
     ];
     for (words, told) in cases {

@@ -2,6 +2,7 @@ use Rattle.std.proofs.Common.{◌≡◌, ◌∙◌, ap, sym, subst, map, take, l
 use Rattle.std.specs.Prelude.{flat_map}
 use Rattle.std.proofs.lemmas.Grind.{common_steps}
 use Rattle.std.proofs.lemmas.Result.{err_from_is_err_and}
+use Rattle.lasso_single.specs.Interner.{made_with}
 use Rattle.lasso_columns.specs.Lines.{lines_of}
 use Rattle.lasso_counts.specs.Counts.{AreCounts, pair_of}
 use Rattle.lasso_codes.specs.Counts.{CountsEnd, count_line}
@@ -14,22 +15,22 @@ pub returns-in_err-rodeo : goal.returns-in_err-rodeo
 returns-in_err-rodeo g c = λ bytes e.
     let p = err_from_is_err_and c.from_residual.result c.from_residual.ensures.1 in
     let fault = c.in_err-rodeo.field-0.0 in
-    rw (p.1, p.2) (writes_none _ _ (none_written bytes c.args.limits c.args.top fault (unmade c.args.limits (lines_of bytes) fault c.in_err-rodeo.ensures.refused)))
+    rw (p.1, p.2) (writes_none _ _ (none_written bytes c.args.settings.limit c.args.settings.top fault (unmade c.args.settings.limit (lines_of bytes) fault c.in_err-rodeo.ensures.refused)))
 
-pub returns-in_err-count_lines : goal.returns-in_err-count_lines
-returns-in_err-count_lines g c = λ bytes e.
-    let p = err_from_is_err_and c.from_residual-in_err-count_lines.result c.from_residual-in_err-count_lines.ensures.1 in
-    let fault = c.in_err-count_lines.field-0.0 in
-    rw (p.1, p.2) (writes_none _ _ (none_written bytes c.args.limits c.args.top fault (c.in_err-count_lines.ensures.fault bytes e c.args.limits c.in_ok-rodeo.ensures.made)))
+pub returns-in_err-count_all : goal.returns-in_err-count_all
+returns-in_err-count_all g c = λ bytes e.
+    let p = err_from_is_err_and c.from_residual-in_err-count_all.result c.from_residual-in_err-count_all.ensures.1 in
+    let fault = c.in_err-count_all.field-0.0 in
+    rw (p.1, p.2) (writes_none _ _ (none_written bytes c.args.settings.limit c.args.settings.top fault (c.in_err-count_all.ensures.fault bytes e c.args.settings.limit (c.in_ok-rodeo.ensures.made ∙ ap (λ n. made_with 4096 n) c.new.ensures))))
 
 pub returns : goal.returns
 returns g c = λ bytes e.
-    let counted = c.in_ok-count_lines.ensures.counted bytes e in
+    let counted = c.in_ok-count_all.ensures.counted bytes e in
     let items = c.in-Ok.ranked.items in
-    let counts_are = subst (λ cs. AreCounts (lines_of bytes) c.count_lines.new.rodeo.texts cs) (sym c.deref.ensures.value) counted.1 in
+    let counts_are = subst (λ cs. AreCounts (lines_of bytes) c.count_all.new.rodeo.texts cs) (sym c.deref.ensures.value) counted.1 in
     let total = c.in-Ok.ensures.total ∙ ap sum c.deref.ensures.value ∙ counted.1.total in
-    let most_is : c.min-most.result ≡ min (length items) c.args.top = grind (arith, common_steps, c.min-most.ensures, c.len.ensures, c.in-Ok.ranked.ok.0) in
-    let slice_is = first_ranked pair_of items c.deref-2.result.now c.args.top c.min-most.result most_is c.deref-2.ensures.value in
+    let most_is : c.min-most.result ≡ min (length items) c.args.settings.top = grind (arith, common_steps, c.min-most.ensures, c.len.ensures, c.in-Ok.ranked.ok.0) in
+    let slice_is = first_ranked pair_of items c.deref-2.result.now c.args.settings.top c.min-most.result most_is c.deref-2.ensures.value in
     let result = c.write_ranked.result in
-    writes_as _ _ (WritesAll (flat_map count_line (map pair_of (take c.min-most.result c.deref-2.result.now))) result) (λ part. CountsEnd bytes c.args.limits c.args.top part result) c.write_ranked.ensures (λ part w.
-    report_written bytes c.args.limits c.args.top (map pair_of items) part result counted.0 (c.in-Ok.ensures.counted (lines_of bytes) counts_are) c.in-Ok.ensures.order total (subst (λ ps. WritesAll (flat_map count_line ps) result part) slice_is w))
+    writes_as _ _ (WritesAll (flat_map count_line (map pair_of (take c.min-most.result c.deref-2.result.now))) result) (λ part. CountsEnd bytes c.args.settings.limit c.args.settings.top part result) c.write_ranked.ensures (λ part w.
+    report_written bytes c.args.settings.limit c.args.settings.top (map pair_of items) part result counted.0 (c.in-Ok.ensures.counted (lines_of bytes) counts_are) c.in-Ok.ensures.order total (subst (λ ps. WritesAll (flat_map count_line ps) result part) slice_is w))

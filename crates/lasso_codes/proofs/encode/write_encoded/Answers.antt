@@ -1,5 +1,6 @@
-use Rattle.std.proofs.Common.{◌≡◌, sym, subst}
+use Rattle.std.proofs.Common.{ℕ, ◌≡◌, ◌^◌, ◌<◌, ◌∙◌, List, length, ap, sym, subst, arith}
 use Rattle.std.proofs.lemmas.Result.{err_from_is_err_and}
+use Rattle.lasso_single.specs.Interner.{made_with}
 use Rattle.lasso_columns.specs.Lines.{lines_of}
 use Rattle.lasso_codes.specs.Arguments.{word_of}
 use Rattle.lasso_codes.specs.Encode.{AreNumbered, EncodeEnd}
@@ -12,22 +13,25 @@ returns-in_err-rodeo g c = λ bytes e.
     let p = err_from_is_err_and c.from_residual.result c.from_residual.ensures.1 in
     let null = word_of c.args.null in
     let fault = c.in_err-rodeo.field-0.0 in
-    rw (p.1, p.2) (writes_none _ _ (none_written bytes c.args.limits null c.args.binary fault (unmade c.args.limits null (lines_of bytes) fault c.in_err-rodeo.ensures.refused)))
+    rw (p.1, p.2) (writes_none _ _ (none_written bytes c.args.settings.limit null c.args.settings.binary fault (unmade c.args.settings.limit null (lines_of bytes) fault c.in_err-rodeo.ensures.refused)))
 
-pub returns-in_err-encode_lines : goal.returns-in_err-encode_lines
-returns-in_err-encode_lines g c = λ bytes e.
-    let p = err_from_is_err_and c.from_residual-in_err-encode_lines.result c.from_residual-in_err-encode_lines.ensures.1 in
+pub returns-in_err-number_lines : goal.returns-in_err-number_lines
+returns-in_err-number_lines g c = λ bytes e.
+    let p = err_from_is_err_and c.from_residual-in_err-number_lines.result c.from_residual-in_err-number_lines.ensures.1 in
     let null = word_of c.args.null in
-    let fault = c.in_err-encode_lines.field-0.0 in
-    rw (p.1, p.2) (writes_none _ _ (none_written bytes c.args.limits null c.args.binary fault (c.in_err-encode_lines.ensures.fault bytes e c.args.limits c.in_ok-rodeo.ensures.made)))
+    let fault = c.in_err-number_lines.field-0.0 in
+    rw (p.1, p.2) (writes_none _ _ (none_written bytes c.args.settings.limit null c.args.settings.binary fault (c.in_err-number_lines.ensures.fault bytes e c.args.settings.limit (c.in_ok-rodeo.ensures.made ∙ ap (λ n. made_with 4096 n) c.new.ensures))))
 
 pub returns : goal.returns
 returns g c = λ bytes e.
     let null = word_of c.args.null in
-    let numbered = c.in_ok-encode_lines.ensures.numbered bytes e in
+    let numbered = c.in_ok-number_lines.ensures.numbered bytes e in
+    let held = c.number_lines.new.numbers in
     let numbers = c.deref.result.now in
-    let list = c.encode_lines.new.rodeo.texts in
+    let list = c.number_lines.new.rodeo.texts in
     let are = subst (λ ns. AreNumbered null (lines_of bytes) list ns) (sym c.deref.ensures.value) numbered.1 in
+    let few : length held.items < 2 ^ 64 = omega (arith, held.ok.0, held.ok.1, held.small) in
+    let many = subst (λ (ns : List ℕ). length ns < 2 ^ 64) (sym c.deref.ensures.value) few in
     let result = c.write_column.result in
-    writes_as _ _ _ (λ part. EncodeEnd bytes c.args.limits null c.args.binary part result) c.write_column.ensures (λ part w.
-    column_written bytes c.args.limits null c.args.binary list numbers part result numbered.0 are w)
+    writes_as _ _ _ (λ part. EncodeEnd bytes c.args.settings.limit null c.args.settings.binary part result) c.write_column.ensures (λ part w.
+    column_written bytes c.args.settings.limit null c.args.settings.binary list numbers part result numbered.0 are many w)

@@ -1,0 +1,273 @@
+-- The lines of columns, written one after another.
+--
+-- After each column the lines so far are written, and the bytes after it are left. Within a column the lines of the entries so far are
+-- written after those. So a run that ends early has written lines that are whole, up to the fault, or a beginning of them.
+use Rattle.std.proofs.Common.{ℕ, zero, suc, ◌≡◌, ◌+◌, Bool, List, [], ◌∷◌, ◌++◌, length, take, drop, Option, Some, None, Result, Ok, Err, ◌⊎◌, refl, sym, ap, subst, ◌∙◌, arith, append_assoc, inl, inr}
+use Rattle.std.specs.Prelude.{flat_map, slice_get}
+use Rattle.std.proofs.lemmas.Grind.{flat_map-append}
+use Rattle.std.proofs.lemmas.List.{append-nil, take-append-drop}
+use Rattle.lasso_parts.specs.Texts.{Text}
+use Rattle.lasso_parts.specs.declared.util.LassoErrorKind.TheVariants.{FailedAllocation}
+use Rattle.lasso_columns.specs.declared.faults.LineError.TheVariants.{Refused}
+use Rattle.lasso_codes.specs.Decode.{text_or_past, null_line, line_at, decoded, Reads, fed_lines, LinesFault, WritesLines, IsWhole, IsBegun, lines_before, DecodeEnd}
+use Rattle.lasso_codes.specs.Distinct.{with_feed}
+use Rattle.lasso_codes.specs.Fault.{IsReadFault, IsWriteFault, IsWriteEnd}
+use Rattle.lasso_codes.specs.Reading.{ReadItems, head_of, on_head, texts_from, HasNoHeader, IsTextFault, TextsFault, IsEntryFault, IsColumnFault}
+use Rattle.lasso_codes.specs.Streams.{Begins, WritesAll}
+use Rattle.lasso_codes.specs.declared.entries.Entry.{Entry}
+use Rattle.lasso_codes.specs.declared.entries.Entry.TheVariants.{Missing, Bad, Null, Code}
+use Rattle.lasso_codes.specs.declared.fault.ColumnFault.{ColumnFault}
+use Rattle.lasso_codes.specs.declared.fault.ColumnFault.TheVariants.{NoHeader, NoText, NotUtf8, Doubled, TextRefused, NoEntry, NotEntry, PastTexts, IsNull, NotMerged}
+use Rattle.lasso_codes.specs.declared.fault.RunFault.{RunFault}
+use Rattle.lasso_codes.specs.declared.fault.RunFault.TheVariants.{Line, TooManyLines, ReadFailed, WriteFailed, ReaderGone, Column}
+use Rattle.lasso_codes.specs.declared.reading.Header.{Header}
+use Rattle.lasso_codes.proofs.Items.{IsAhead, ahead_first, column_unread, entry_fault}
+
+-- ---- the bytes of lines
+
+pub fed_both : (xs ys : List Text) → fed_lines (xs ++ ys) ≡ fed_lines xs ++ fed_lines ys
+fed_both xs ys = flat_map-append with_feed xs ys
+
+pub fed_push : (lines : List Text) (line : Text) → fed_lines (lines ++ line ∷ []) ≡ fed_lines lines ++ with_feed line
+fed_push lines line = fed_both lines (line ∷ []) ∙ ap (λ bs. fed_lines lines ++ bs) (append-nil (with_feed line))
+
+fed_begins : (xs ys : List Text) → Begins (fed_lines xs) (fed_lines (xs ++ ys))
+fed_begins xs ys = (fed_lines ys, fed_both xs ys)
+
+begins_self : (part whole : List ℕ) → part ≡ whole → Begins part whole
+begins_self part whole same = ([], sym same ∙ sym (append-nil part))
+
+-- a beginning of lines after other lines
+begins_after : (part more : List ℕ) (xs ys : List Text) → part ≡ fed_lines xs → Begins more (fed_lines ys) → Begins (part ++ more) (fed_lines (xs ++ ys))
+begins_after part more xs ys is b =
+    (b.0, fed_both xs ys ∙ ap (λ bs. bs ++ fed_lines ys) (sym is) ∙ ap (λ bs. part ++ bs) b.1 ∙ sym (append_assoc part more b.0))
+
+-- ---- the lines of a column on their way
+
+-- the lines that are done are written
+pub record LinesAhead (others read : ReadItems Text) (part : List ℕ) : Type 0 where
+  pub done : List Text
+  pub ahead : IsAhead done others read
+  pub part_is : part ≡ fed_lines done
+
+pub lines_none : (others read : ReadItems Text) → IsAhead [] others read → LinesAhead others read []
+lines_none others read ahead = record { done = []; ahead = ahead; part_is = refl }
+
+module _ (others read : ReadItems Text) (part : List ℕ) (so_far : LinesAhead others read part) where
+  -- one line more
+  pub lines_push : (later : ReadItems Text) (more : List ℕ) (line : Text) → IsAhead (so_far.done ++ line ∷ []) later read → more ≡ with_feed line → LinesAhead later read (part ++ more)
+  lines_push later more line ahead is = record {
+    done = so_far.done ++ line ∷ [];
+    ahead = ahead;
+    part_is = ap (λ bs. bs ++ more) so_far.part_is ∙ ap (λ bs. fed_lines so_far.done ++ bs) is ∙ sym (fed_push so_far.done line);
+  }
+
+  -- a line is written in part
+  line_begun : (later : ReadItems Text) (more : List ℕ) (line : Text) → IsAhead (so_far.done ++ line ∷ []) later read → Begins more (with_feed line) → Begins (part ++ more) (fed_lines read.0)
+  line_begun later more line ahead b =
+      let front : fed_lines (so_far.done ++ line ∷ []) ≡ (part ++ more) ++ b.0 =
+      fed_push so_far.done line ∙ ap (λ bs. bs ++ with_feed line) (sym so_far.part_is) ∙ ap (λ bs. part ++ bs) b.1 ∙ sym (append_assoc part more b.0) in (
+        b.0 ++ fed_lines later.0,
+        ap fed_lines ahead.0 ∙ fed_both (so_far.done ++ line ∷ []) later.0 ∙ ap (λ bs. bs ++ fed_lines later.0) front ∙ append_assoc (part ++ more) b.0 (fed_lines later.0),
+      )
+
+  pub lines_write_fails : (later : ReadItems Text) (more : List ℕ) (line : Text) (column : ℕ) (fault : RunFault) → IsAhead (so_far.done ++ line ∷ []) later read → WritesAll (with_feed line) (Err fault) more → LinesFault read column (part ++ more) fault
+  lines_write_fails later more line column (Line error) ahead written = absurd written.0
+  lines_write_fails later more line column TooManyLines ahead written = absurd written.0
+  lines_write_fails later more line column ReadFailed ahead written = absurd written.0
+  lines_write_fails later more line column WriteFailed ahead written = line_begun later more line ahead written.1
+  lines_write_fails later more line column ReaderGone ahead written = line_begun later more line ahead written.1
+  lines_write_fails later more line column (Column number fault) ahead written = absurd written.0
+
+  first_lines : part ≡ fed_lines (take (length so_far.done) read.0)
+  first_lines = so_far.part_is ∙ ap fed_lines (sym (ahead_first others read so_far.done so_far.ahead))
+
+  -- a read failed
+  pub lines_read_fails : (column : ℕ) (fault : RunFault) → IsReadFault 0 fault → LinesFault read column part fault
+  lines_read_fails column (Line error) is = (is, (length so_far.done, first_lines))
+  lines_read_fails column TooManyLines is = absurd is
+  lines_read_fails column ReadFailed is = (length so_far.done, first_lines)
+  lines_read_fails column WriteFailed is = absurd is
+  lines_read_fails column ReaderGone is = absurd is
+  lines_read_fails column (Column number fault) is = absurd is
+
+  -- an entry is faulty
+  pub lines_entry_fails : (column : ℕ) (fault : ColumnFault) → IsEntryFault fault → (read.0 ≡ so_far.done) × (read.1 ≡ Err fault) → LinesFault read column part (Column column fault)
+  lines_entry_fails column fault is ended = (refl, is, ended.1, so_far.part_is ∙ ap fed_lines (sym ended.0))
+
+  -- no entry is left
+  pub lines_end : (column : ℕ) (after : Option (List ℕ)) (rest : List ℕ) → after ≡ Some rest → (read.0 ≡ so_far.done) × (read.1 ≡ Ok rest) → WritesLines read column after part (Ok tt)
+  lines_end column after rest left ended = (rest, left, ended.1, so_far.part_is ∙ ap fed_lines (sym ended.0))
+
+-- the fault of a line's entry
+same_fault : (fault other : ColumnFault) → IsEntryFault fault → ◌≡◌ {A = Result Text ColumnFault} (Err fault) (Err other) → IsEntryFault other
+same_fault fault other is e = let same : fault ≡ other = cc in subst IsEntryFault same is
+
+past_fault : (o : Option Text) (number : ℕ) (fault : ColumnFault) → text_or_past o number ≡ Err fault → IsEntryFault fault
+past_fault None number fault e = same_fault (PastTexts number) fault tt e
+past_fault (Some text) number fault e = absurd (cc)
+
+null_fault : (null : Option Text) (number : ℕ) (fault : ColumnFault) → null_line null number ≡ Err fault → IsEntryFault fault
+null_fault None number fault e = same_fault (IsNull number) fault tt e
+null_fault (Some word) number fault e = absurd (cc)
+
+pub line_fault : (null : Option Text) (list : List Text) (entry : Entry) (number : ℕ) (fault : ColumnFault) → line_at null list entry number ≡ Err fault → IsEntryFault fault
+line_fault null list Missing number fault e = same_fault (NoEntry number) fault tt e
+line_fault null list Bad number fault e = same_fault (NotEntry number) fault tt e
+line_fault null list Null number fault e = null_fault null number fault e
+line_fault null list (Code code) number fault e = past_fault (slice_get list code) number fault e
+
+-- ---- columns on their way
+
+-- the lines of the columns before this one are written, and the rest is left
+pub record ColumnsAhead (input : List ℕ) (null : Option Text) (rest : List ℕ) (column : ℕ) (part : List ℕ) : Type 0 where
+  pub count : ℕ
+  pub lines : List Text
+  pub reads : Reads null count input lines rest
+  pub counted : count + 1 ≡ column
+  pub part_is : part ≡ fed_lines lines
+
+pub columns_none : (input : List ℕ) (null : Option Text) → ColumnsAhead input null input 1 []
+columns_none input null = record { count = 0; lines = []; reads = (refl, refl); counted = refl; part_is = refl }
+
+module _ (input : List ℕ) (limit : ℕ) (null : Option Text) (rest : List ℕ) (column : ℕ) (part : List ℕ) (way : ColumnsAhead input null rest column part) where
+  -- one column more
+  pub columns_push : (read : ReadItems Text) (left more : List ℕ) → decoded null rest ≡ read → read.1 ≡ Ok left → more ≡ fed_lines read.0 → ColumnsAhead input null left (column + 1) (part ++ more)
+  columns_push read left more is ended written = record {
+    count = suc way.count;
+    lines = way.lines ++ (decoded null rest).0;
+    reads = (way.lines, rest, way.reads, ap (λ (r : ReadItems Text). r.1) is ∙ ended, refl);
+    counted = let before : way.count + 1 ≡ column = way.counted in omega (arith, before);
+    part_is =
+        ap (λ bs. bs ++ more) way.part_is ∙ ap (λ bs. fed_lines way.lines ++ bs) (written ∙ ap (λ (r : ReadItems Text). fed_lines r.0) (sym is))
+        ∙ sym (fed_both way.lines (decoded null rest).0);
+  }
+
+  -- the input has ended
+  pub columns_end : rest ≡ [] → DecodeEnd input limit null part (Ok tt)
+  columns_end none = (way.count, way.lines, subst (λ bs. Reads null way.count input way.lines bs) none way.reads, way.part_is)
+
+  whole_so_far : IsWhole input null part
+  whole_so_far = (way.count, way.lines, rest, way.reads, (0, way.part_is ∙ ap fed_lines (sym (append-nil way.lines))))
+
+  -- there are more columns than numbers
+  pub columns_many : DecodeEnd input limit null part (Err TooManyLines)
+  columns_many = whole_so_far
+
+  -- a read failed, or there was no memory
+  pub columns_read_fails : (fault : RunFault) → IsReadFault 0 fault → DecodeEnd input limit null part (Err fault)
+  columns_read_fails (Line error) is = (is, whole_so_far)
+  columns_read_fails TooManyLines is = absurd is
+  columns_read_fails ReadFailed is = whole_so_far
+  columns_read_fails WriteFailed is = absurd is
+  columns_read_fails ReaderGone is = absurd is
+  columns_read_fails (Column number fault) is = absurd is
+
+  pub columns_unmade : (fault : RunFault) → fault ≡ Line (Refused 0 FailedAllocation) → DecodeEnd input limit null part (Err fault)
+  columns_unmade fault is = subst (λ f. DecodeEnd input limit null part (Err f)) (sym is) (refl, whole_so_far)
+
+  -- a column is faulty before its lines
+  no_lines : (fault : ColumnFault) → lines_before null rest fault ≡ [] → part ≡ fed_lines (way.lines ++ lines_before null rest fault)
+  no_lines fault none = way.part_is ∙ ap fed_lines (sym (append-nil way.lines)) ∙ ap (λ (ls : List Text). fed_lines (way.lines ++ ls)) (sym none)
+
+  pub columns_header_fails : (fault : RunFault) → IsReadFault 0 fault ⊎ ((fault ≡ Column column NoHeader) × HasNoHeader rest) → DecodeEnd input limit null part (Err fault)
+  columns_header_fails fault (inl is) = columns_read_fails fault is
+  columns_header_fails fault (inr is) =
+      subst (λ f. DecodeEnd input limit null part (Err f)) (sym is.0)
+      (way.count, way.lines, rest, way.reads, sym way.counted, is.1, no_lines NoHeader (ap (λ (h : Option (Header × List ℕ)). (on_head (line_at null) h).0) is.1.1))
+
+  module _ (header : Header) (left : List ℕ) (head : head_of rest ≡ Some (header, left)) where
+    text_fails : (reason : ColumnFault) → IsTextFault limit header.distinct left reason → IsColumnFault (line_at null) limit rest reason × (lines_before null rest reason ≡ [])
+    text_fails NoHeader is = absurd is
+    text_fails (NotMerged error) is = absurd is
+    text_fails (TextRefused number error) is = (((header, left), head, is), refl)
+    text_fails reason is =
+        let read : decoded null rest ≡ ([], Err reason) = column_unread (line_at null) rest left header head reason is in
+        (ap (λ (r : ReadItems Text). r.1) read, ap (λ (r : ReadItems Text). r.0) read)
+
+    pub columns_texts_fail : (fault : RunFault) → TextsFault limit header.distinct column left fault → DecodeEnd input limit null part (Err fault)
+    columns_texts_fail fault (inl is) = columns_read_fails fault is
+    columns_texts_fail fault (inr is) =
+        let told = text_fails is.0 is.2 in
+        subst (λ f. DecodeEnd input limit null part (Err f)) (sym is.1) (way.count, way.lines, rest, way.reads, sym way.counted, told.0, no_lines is.0 told.1)
+
+  -- not all lines of the column are written
+  some_lines : (read : ReadItems Text) (more : List ℕ) (m : ℕ) → decoded null rest ≡ read → more ≡ fed_lines (take m read.0) → IsWhole input null (part ++ more)
+  some_lines read more m is written = (
+    way.count,
+    way.lines,
+    rest,
+    way.reads,
+    (
+      m,
+      ap (λ bs. bs ++ more) way.part_is ∙ ap (λ bs. fed_lines way.lines ++ bs) (written ∙ ap (λ (r : ReadItems Text). fed_lines (take m r.0)) (sym is))
+          ∙ sym (fed_both way.lines (take m (decoded null rest).0)),
+    ),
+  )
+
+  lines_begun : (read : ReadItems Text) (more : List ℕ) → decoded null rest ≡ read → Begins more (fed_lines read.0) → IsBegun input null (part ++ more)
+  lines_begun read more is b =
+      let begun : Begins more (fed_lines (decoded null rest).0) = subst (λ (r : ReadItems Text). Begins more (fed_lines r.0)) (sym is) b in
+      (way.count, way.lines, rest, way.reads, begins_after part more way.lines (decoded null rest).0 way.part_is begun)
+
+  entry_lines : (fault : ColumnFault) → IsEntryFault fault → lines_before null rest fault ≡ (decoded null rest).0
+  entry_lines (TextRefused number error) is = absurd is
+  entry_lines fault is = refl
+
+  pub columns_lines_fail : (read : ReadItems Text) (more : List ℕ) (fault : RunFault) → decoded null rest ≡ read → LinesFault read column more fault → DecodeEnd input limit null (part ++ more) (Err fault)
+  columns_lines_fail read more (Line error) is told = (told.0, some_lines read more told.1.0 is told.1.1)
+  columns_lines_fail read more TooManyLines is told = absurd told
+  columns_lines_fail read more ReadFailed is told = some_lines read more told.0 is told.1
+  columns_lines_fail read more WriteFailed is told = lines_begun read more is told
+  columns_lines_fail read more ReaderGone is told = lines_begun read more is told
+  columns_lines_fail read more (Column number fault) is told = (
+    way.count,
+    way.lines,
+    rest,
+    way.reads,
+    told.0 ∙ sym way.counted,
+    entry_fault (line_at null) limit rest fault told.1 (ap (λ (r : ReadItems Text). r.1) is ∙ told.2),
+    ap (λ bs. bs ++ more) way.part_is ∙ ap (λ bs. fed_lines way.lines ++ bs) (told.3 ∙ ap (λ (r : ReadItems Text). fed_lines r.0) (sym is))
+        ∙ sym (fed_both way.lines (decoded null rest).0) ∙ ap (λ (ls : List Text). fed_lines (way.lines ++ ls)) (sym (entry_lines fault told.1)),
+  )
+
+-- ---- the end
+
+before_begins : (null : Option Text) (rest : List ℕ) (lines : List Text) (fault : ColumnFault) → Begins (fed_lines (lines ++ lines_before null rest fault)) (fed_lines (lines ++ (decoded null rest).0))
+before_begins null rest lines (TextRefused number error) =
+    subst (λ (ls : List Text). Begins (fed_lines ls) (fed_lines (lines ++ (decoded null rest).0))) (sym (append-nil lines)) (fed_begins lines (decoded null rest).0)
+before_begins null rest lines fault = begins_self _ (fed_lines (lines ++ (decoded null rest).0)) refl
+
+some_begin : (lines all : List Text) (m : ℕ) → Begins (fed_lines (lines ++ take m all)) (fed_lines (lines ++ all))
+some_begin lines all m =
+    subst (λ (ls : List Text). Begins (fed_lines (lines ++ take m all)) (fed_lines ls)) (append_assoc lines (take m all) (drop m all) ∙ ap (λ (ls : List Text). lines ++ ls) (take-append-drop m all))
+    (fed_begins (lines ++ take m all) (drop m all))
+
+whole_begun : (input : List ℕ) (null : Option Text) (part : List ℕ) → IsWhole input null part → IsBegun input null part
+whole_begun input null part w =
+    let all = (decoded null w.2).0 in
+    (w.0, w.1, w.2, w.3, subst (λ bs. Begins bs (fed_lines (w.1 ++ all))) (sym w.4.1) (some_begin w.1 all w.4.0))
+
+end_begun : (input : List ℕ) (limit : ℕ) (null : Option Text) (part : List ℕ) (result : Result (Unit {0}) RunFault) → DecodeEnd input limit null part result → IsBegun input null part
+end_begun input limit null part (Ok x) end = (end.0, end.1, [], end.2, begins_self part (fed_lines (end.1 ++ [])) (end.3 ∙ ap fed_lines (sym (append-nil end.1))))
+end_begun input limit null part (Err (Line error)) end = whole_begun input null part end.1
+end_begun input limit null part (Err TooManyLines) end = whole_begun input null part end
+end_begun input limit null part (Err ReadFailed) end = whole_begun input null part end
+end_begun input limit null part (Err WriteFailed) end = end
+end_begun input limit null part (Err ReaderGone) end = end
+end_begun input limit null part (Err (Column column fault)) end =
+    (end.0, end.1, end.2, end.3, subst (λ bs. Begins bs (fed_lines (end.1 ++ (decoded null end.2).0))) (sym end.6) (before_begins null end.2 end.1 fault))
+
+write_end : (input : List ℕ) (limit : ℕ) (null : Option Text) (part : List ℕ) (result : Result (Unit {0}) RunFault) → IsBegun input null part → IsWriteEnd result → DecodeEnd input limit null part result
+write_end input limit null part (Ok x) begun is = absurd is
+write_end input limit null part (Err (Line error)) begun is = absurd is
+write_end input limit null part (Err TooManyLines) begun is = absurd is
+write_end input limit null part (Err ReadFailed) begun is = absurd is
+write_end input limit null part (Err WriteFailed) begun is = begun
+write_end input limit null part (Err ReaderGone) begun is = begun
+write_end input limit null part (Err (Column column fault)) begun is = absurd is
+
+-- a run that ends as it did, or with a failed flush
+pub end_then : (input : List ℕ) (limit : ℕ) (null : Option Text) (part : List ℕ) (given result : Result (Unit {0}) RunFault) → DecodeEnd input limit null part given → (result ≡ given) ⊎ IsWriteEnd result → DecodeEnd input limit null part result
+end_then input limit null part given result end (inl same) = subst (DecodeEnd input limit null part) (sym same) end
+end_then input limit null part given result end (inr is) = write_end input limit null part result (end_begun input limit null part given end) is

@@ -1,0 +1,299 @@
+-- Columns that were merged one after another, and their one column.
+--
+-- The texts of each dictionary are interned in order, and the table has the code that each has then. So an entry's code is rewritten to
+-- that of its text. The list only grows at its end, and a text keeps its code: the entries of the columns before stay as they are.
+-- Where nothing of the input is left all columns were merged, and the list is that of the distinct texts of all dictionaries.
+use Rattle.std.proofs.Common.{ℕ, zero, suc, ◌≡◌, ◌+◌, ◌-◌, ◌^◌, ◌<◌, ◌≤◌, ◌==◌, Bool, true, false, cond, List, [], ◌∷◌, ◌++◌, length, get_or, map, take, is_some, Option, Some, None, ◌⊎◌, Result, Ok, Err, MatchResult, refl, sym, ap, subst, ◌∙◌, arith, append_assoc, inl, inr}
+use Rattle.std.specs.Prelude.{slice_get, unwrap_or, IsSomeAnd}
+use Rattle.std.proofs.lemmas.Bool.Decides.{nat_tests}
+use Rattle.std.proofs.lemmas.List.{append-nil, length_push, length-map, map_push}
+use Rattle.std.proofs.lemmas.Option.{slice_get_within, slice_get-get_or}
+use Rattle.std.proofs.lemmas.Result.{MatchResult-weaker}
+use Rattle.lasso_parts.proofs.TextLemmas.{position_here}
+use Rattle.lasso_parts.specs.Kept.{kept_made}
+use Rattle.lasso_parts.specs.Texts.{Text, position_of}
+use Rattle.lasso_parts.specs.declared.util.LassoError.{LassoError}
+use Rattle.lasso_parts.specs.declared.util.LassoErrorKind.TheVariants.{FailedAllocation}
+use Rattle.lasso_single.specs.Filling.{extend}
+use Rattle.lasso_single.specs.Intern.{InternsIn}
+use Rattle.lasso_single.specs.Interner.{InternerView, made_with}
+use Rattle.lasso_single.proofs.Filled.{accepted}
+use Rattle.lasso.proofs.Calling.{list_interned}
+use Rattle.lasso_columns.proofs.Coded.{map_some_length}
+use Rattle.lasso_columns.proofs.PartLists.{list_extended}
+use Rattle.lasso_columns.specs.Codes.{AreCodes}
+use Rattle.lasso_columns.specs.Encoding.{spur_at, IsRefused}
+use Rattle.lasso_columns.specs.Parts.{new_texts}
+use Rattle.lasso_columns.specs.declared.faults.LineError.TheVariants.{Refused}
+use Rattle.lasso_codes.specs.Columns.{entry_at, column_of}
+use Rattle.lasso_codes.specs.Fault.{IsReadFault, IsWriteEnd}
+use Rattle.lasso_codes.specs.Merge.{code_or_past, recoded, entries_of, read_list, head_list, texts_at, distinct_of, Merges, EntriesFault, AddsEntries, AreMerged, IsNotMerged, IsMergeFault, IsMergeBegun, MergingFault, MergeEnd}
+use Rattle.lasso_codes.specs.Reading.{Makes, ReadItems, head_of, on_head, texts_from, items_from, HasNoHeader, IsTextFault, TextsFault, IsEntryFault, IsColumnFault}
+use Rattle.lasso_codes.specs.Streams.{Begins, WritesAll}
+use Rattle.lasso_codes.specs.declared.entries.Entry.{Entry}
+use Rattle.lasso_codes.specs.declared.entries.Entry.TheVariants.{Missing, Bad, Null, Code}
+use Rattle.lasso_codes.specs.declared.fault.ColumnFault.{ColumnFault}
+use Rattle.lasso_codes.specs.declared.fault.ColumnFault.TheVariants.{NoHeader, NoText, NotUtf8, Doubled, TextRefused, NoEntry, NotEntry, PastTexts, IsNull, NotMerged}
+use Rattle.lasso_codes.specs.declared.fault.RunFault.{RunFault}
+use Rattle.lasso_codes.specs.declared.fault.RunFault.TheVariants.{Line, TooManyLines, ReadFailed, WriteFailed, ReaderGone, Column}
+use Rattle.lasso_codes.specs.declared.reading.Header.{Header}
+use Rattle.lasso_codes.proofs.FewTexts.{few_texts}
+use Rattle.lasso_codes.proofs.Items.{IsAhead, column_read, column_unread, entry_fault}
+
+-- ---- interning texts, and then others
+
+pub extend_both : (old mid new : InternerView) (front back : List Text) → extend spur_at old front accepted mid → extend spur_at mid back accepted new → extend spur_at old (front ++ back) accepted new
+extend_both old mid new [] back first second = subst (λ (i : InternerView). extend spur_at i back accepted new) first.1 second
+extend_both old mid new (t ∷ ts) back first second = (
+  first.0,
+  first.1,
+  first.2,
+  MatchResult-weaker first.0 first.3 (λ k others. extend_both first.1 mid new ts back others second) (λ error last. let e = last.0 in absurd (cc)),
+)
+
+-- ---- the table of codes
+
+code_there : (list texts : List Text) (table : List ℕ) (code number : ℕ) → AreCodes list texts table → slice_get table code ≡ Some number → (text : Text) × (slice_get texts code ≡ Some text) × (position_of list text ≡ Some number)
+code_there list texts [] code number are at = absurd (cc)
+code_there list [] (n ∷ ns) code number are at = absurd (cc)
+code_there list (t ∷ ts) (n ∷ ns) zero number are at = let here : position_of list t ≡ Some number = cc in (t, refl, here)
+code_there list (t ∷ ts) (n ∷ ns) (suc code) number are at = code_there list ts ns code number (cc) at
+
+none_past : (texts : List Text) (code : ℕ) → length texts ≤ code → slice_get texts code ≡ None
+none_past [] code past = refl
+none_past (t ∷ ts) zero past = absurd (omega (arith, past))
+none_past (t ∷ ts) (suc code) past = none_past ts code (omega (arith, past))
+
+-- an entry's code is rewritten
+pub code_rewritten : (list texts : List Text) (table : List ℕ) (code number : ℕ) → AreCodes list texts table → length list < 2 ^ 32 → code < length table → recoded list texts (Code code) number ≡ Ok (entry_at (get_or table code 0))
+code_rewritten list texts table code number are few small =
+    let rewritten = get_or table code 0 in
+    let at : slice_get table code ≡ Some rewritten = slice_get-get_or table code 0 small in
+    let there = code_there list texts table code rewritten are at in
+    let inside : rewritten < length list = slice_get_within list rewritten there.0 (position_here list there.0 rewritten there.2) in
+    let other : rewritten == 4294967295 ≡ false = let small : rewritten < 4294967295 = omega (arith, inside, few) in grind (arith, nat_tests) in
+    let none : Option ℕ = None in
+    let entry : entry_at rewritten ≡ Some rewritten = ap (λ b. cond b none (Some rewritten)) other in
+    ap (λ o. code_or_past list o number) there.1 ∙ ap (λ (o : Option ℕ). Ok o) (there.2 ∙ sym entry)
+
+pub code_past : (list texts : List Text) (table : List ℕ) (code number : ℕ) → AreCodes list texts table → length table ≤ code → recoded list texts (Code code) number ≡ Err (PastTexts number)
+code_past list texts table code number are past = ap (λ o. code_or_past list o number) (none_past texts code (omega (arith, past, map_some_length (position_of list) texts table are)))
+
+same_fault : (fault other : ColumnFault) → IsEntryFault fault → ◌≡◌ {A = Result (Option ℕ) ColumnFault} (Err fault) (Err other) → IsEntryFault other
+same_fault fault other is e = let same : fault ≡ other = cc in subst IsEntryFault same is
+
+past_fault : (list : List Text) (o : Option Text) (number : ℕ) (fault : ColumnFault) → code_or_past list o number ≡ Err fault → IsEntryFault fault
+past_fault list None number fault e = same_fault (PastTexts number) fault tt e
+past_fault list (Some text) number fault e = absurd (cc)
+
+pub recode_fault : (list texts : List Text) (entry : Entry) (number : ℕ) (fault : ColumnFault) → recoded list texts entry number ≡ Err fault → IsEntryFault fault
+recode_fault list texts Missing number fault e = same_fault (NoEntry number) fault tt e
+recode_fault list texts Bad number fault e = same_fault (NotEntry number) fault tt e
+recode_fault list texts Null number fault e = absurd (cc)
+recode_fault list texts (Code code) number fault e = past_fault list (slice_get texts code) number fault e
+
+-- ---- the entries of a column on their way
+
+-- the numbers of the entries that are done were added
+pub record EntriesAhead (others read : ReadItems (Option ℕ)) (before numbers : List ℕ) : Type 0 where
+  pub done : List (Option ℕ)
+  pub ahead : IsAhead done others read
+  pub numbers_are : map entry_at numbers ≡ map entry_at before ++ done
+
+pub entries_none : (others read : ReadItems (Option ℕ)) (before : List ℕ) → IsAhead [] others read → EntriesAhead others read before before
+entries_none others read before ahead = record { done = []; ahead = ahead; numbers_are = sym (append-nil (map entry_at before)) }
+
+module _ (others read : ReadItems (Option ℕ)) (before numbers : List ℕ) (so_far : EntriesAhead others read before numbers) where
+  pub entries_push : (later : ReadItems (Option ℕ)) (number : ℕ) (after : List ℕ) → IsAhead (so_far.done ++ entry_at number ∷ []) later read → after ≡ numbers ++ number ∷ [] → EntriesAhead later read before after
+  entries_push later number after ahead is = record {
+    done = so_far.done ++ entry_at number ∷ [];
+    ahead = ahead;
+    numbers_are =
+        ap (map entry_at) is ∙ map_push entry_at numbers number ∙ ap (λ (es : List (Option ℕ)). es ++ entry_at number ∷ []) so_far.numbers_are
+        ∙ append_assoc (map entry_at before) so_far.done (entry_at number ∷ []);
+  }
+
+  pub entries_end : (column : ℕ) (left : Option (List ℕ)) (rest : List ℕ) → left ≡ Some rest → (read.0 ≡ so_far.done) × (read.1 ≡ Ok rest) → AddsEntries read column left before numbers (Ok tt)
+  entries_end column left rest is ended = (rest, is, ended.1, so_far.numbers_are ∙ ap (λ (es : List (Option ℕ)). map entry_at before ++ es) (sym ended.0))
+
+pub entries_read_fails : (read : ReadItems (Option ℕ)) (column : ℕ) (fault : RunFault) → IsReadFault 0 fault → EntriesFault read column fault
+entries_read_fails read column (Line error) is = is
+entries_read_fails read column TooManyLines is = absurd is
+entries_read_fails read column ReadFailed is = tt
+entries_read_fails read column WriteFailed is = absurd is
+entries_read_fails read column ReaderGone is = absurd is
+entries_read_fails read column (Column number fault) is = absurd is
+
+-- ---- columns on their way
+
+-- the columns before this one were merged, and the rest is left
+pub record Merging (input rest : List ℕ) (limit column : ℕ) (now : InternerView) (numbers : List ℕ) : Type 0 where
+  pub count : ℕ
+  pub texts : List Text
+  pub merges : Merges count input texts (map entry_at numbers) rest
+  pub counted : count + 1 ≡ column
+  pub list : extend spur_at (made_with 4096 limit) texts accepted now
+
+pub merging_none : (input : List ℕ) (limit : ℕ) (now : InternerView) (numbers : List ℕ) → now ≡ made_with 4096 limit → numbers ≡ [] → Merging input input limit 1 now numbers
+merging_none input limit now numbers made none = record {
+  count = 0;
+  texts = [];
+  merges = (refl, ap (map entry_at) none, refl);
+  counted = refl;
+  list = (refl, made);
+}
+
+module _ (input rest : List ℕ) (limit column : ℕ) (now : InternerView) (numbers : List ℕ) (way : Merging input rest limit column now numbers) where
+  -- the list is that of the distinct texts, which are few
+  list_is : now.texts ≡ distinct_of way.texts
+  list_is = list_extended (made_with 4096 limit) now way.texts way.list
+
+  pub merging_few : length now.texts < 2 ^ 32
+  merging_few = let few : length now.texts ≤ 4294967295 = few_texts (made_with 4096 limit) now way.texts way.list (omega arith) in omega (arith, few)
+
+  -- the input has ended
+  pub merging_ends : rest ≡ [] → AreMerged input now.texts numbers
+  merging_ends none = (way.count, way.texts, subst (λ bs. Merges way.count input way.texts (map entry_at numbers) bs) none way.merges, list_is, merging_few)
+
+  -- a read failed, or there was no memory
+  pub merging_read_fails : (fault : RunFault) → IsReadFault 0 fault → MergingFault input limit fault
+  merging_read_fails (Line error) is = is
+  merging_read_fails TooManyLines is = absurd is
+  merging_read_fails ReadFailed is = tt
+  merging_read_fails WriteFailed is = absurd is
+  merging_read_fails ReaderGone is = absurd is
+  merging_read_fails (Column number fault) is = absurd is
+
+  pub merging_unmade : (fault : RunFault) → fault ≡ Line (Refused 0 FailedAllocation) → MergingFault input limit fault
+  merging_unmade fault is = subst (MergingFault input limit) (sym is) refl
+
+  -- the column is faulty
+  column_fails : (fault : ColumnFault) → IsMergeFault limit way.texts rest fault → MergingFault input limit (Column column fault)
+  column_fails fault is = (way.count, way.texts, map entry_at numbers, rest, way.merges, sym way.counted, is)
+
+  pub merging_header_fails : (fault : RunFault) → IsReadFault 0 fault ⊎ ((fault ≡ Column column NoHeader) × HasNoHeader rest) → MergingFault input limit fault
+  merging_header_fails fault (inl is) = merging_read_fails fault is
+  merging_header_fails fault (inr is) = subst (MergingFault input limit) (sym is.0) (column_fails NoHeader is.1)
+
+  module _ (header : Header) (left : List ℕ) (head : head_of rest ≡ Some (header, left)) where
+    text_fails : (reason : ColumnFault) → IsTextFault limit header.distinct left reason → IsMergeFault limit way.texts rest reason
+    text_fails NoHeader is = absurd is
+    text_fails (TextRefused number error) is = ((header, left), head, is)
+    text_fails (NotMerged error) is = absurd is
+    text_fails reason is =
+        ap (λ (r : ReadItems (Option ℕ)). r.1) (column_unread (recoded (distinct_of (way.texts ++ texts_at rest))) rest left header head reason is)
+
+    pub merging_texts_fail : (fault : RunFault) → TextsFault limit header.distinct column left fault → MergingFault input limit fault
+    merging_texts_fail fault (inl is) = merging_read_fails fault is
+    merging_texts_fail fault (inr is) = subst (MergingFault input limit) (sym is.1) (column_fails is.0 (text_fails is.0 is.2))
+
+    module _ (dictionary : List Text) (body : List ℕ) (read : texts_from header.distinct [] left ≡ Ok (dictionary, body)) where
+      texts_are : texts_at rest ≡ dictionary
+      texts_are = ap head_list head ∙ ap read_list read
+
+      -- a text is refused by the interner of all
+      pub merging_refused : (error : LassoError) (n : ℕ) (after : InternerView) → extend spur_at now (take n dictionary) accepted after → IsSomeAnd (slice_get dictionary n) (λ text. IsRefused after text error) → MergingFault input limit (Column column (NotMerged error))
+      merging_refused error n after list refused =
+          column_fails (NotMerged error)
+          (subst (λ (ts : List Text). IsNotMerged limit way.texts ts error) (sym texts_are) (n, after, extend_both (made_with 4096 limit) now after way.texts (take n dictionary) way.list list, refused))
+
+      module _ (after : InternerView) (list : extend spur_at now dictionary accepted after) where
+        all : extend spur_at (made_with 4096 limit) (way.texts ++ texts_at rest) accepted after
+        all =
+            subst (λ (ts : List Text). extend spur_at (made_with 4096 limit) (way.texts ++ ts) accepted after) (sym texts_are)
+            (extend_both (made_with 4096 limit) now after way.texts dictionary way.list list)
+
+        pub merged_few : length after.texts < 2 ^ 32
+        merged_few =
+            let few : length after.texts ≤ 4294967295 = few_texts (made_with 4096 limit) after (way.texts ++ texts_at rest) all (omega arith) in omega (arith, few)
+
+        entries_are : entries_of (distinct_of (way.texts ++ texts_at rest)) rest ≡ items_from (recoded after.texts dictionary) header.lines header.binary 1 body
+        entries_are =
+            ap (λ (ts : List Text). entries_of ts rest) (sym (list_extended (made_with 4096 limit) after (way.texts ++ texts_at rest) all))
+            ∙ column_read (recoded after.texts) rest left header head dictionary body read
+
+        -- one column more
+        pub merging_push : (others : List ℕ) (numbers' : List ℕ) → (items_from (recoded after.texts dictionary) header.lines header.binary 1 body).1 ≡ Ok others → map entry_at numbers' ≡ map entry_at numbers ++ (items_from (recoded after.texts dictionary) header.lines header.binary 1 body).0 → Merging input others limit (column + 1) after numbers'
+        merging_push others numbers' ended added = record {
+          count = suc way.count;
+          texts = way.texts ++ texts_at rest;
+          merges = (
+            way.texts,
+            map entry_at numbers,
+            rest,
+            way.merges,
+            refl,
+            ap (λ (r : ReadItems (Option ℕ)). r.1) entries_are ∙ ended,
+            added ∙ ap (λ (r : ReadItems (Option ℕ)). map entry_at numbers ++ r.0) (sym entries_are),
+          );
+          counted = let before : way.count + 1 ≡ column = way.counted in omega (arith, before);
+          list = all;
+        }
+
+        entry_fails : (fault : ColumnFault) → IsEntryFault fault → (items_from (recoded after.texts dictionary) header.lines header.binary 1 body).1 ≡ Err fault → IsMergeFault limit way.texts rest fault
+        entry_fails (NotMerged error) is e = absurd is
+        entry_fails fault is e =
+            entry_fault (recoded (distinct_of (way.texts ++ texts_at rest))) limit rest fault is (ap (λ (r : ReadItems (Option ℕ)). r.1) entries_are ∙ e)
+
+        pub merging_entries_fail : (fault : RunFault) → EntriesFault (items_from (recoded after.texts dictionary) header.lines header.binary 1 body) column fault → MergingFault input limit fault
+        merging_entries_fail (Line error) is = is
+        merging_entries_fail TooManyLines is = absurd is
+        merging_entries_fail ReadFailed is = tt
+        merging_entries_fail WriteFailed is = absurd is
+        merging_entries_fail ReaderGone is = absurd is
+        merging_entries_fail (Column number fault) is = subst (λ n. MergingFault input limit (Column n fault)) (sym is.0) (column_fails fault (entry_fails fault is.1 is.2))
+
+-- ---- the one column
+
+written_end : (input : List ℕ) (limit : ℕ) (binary : Bool) (n : ℕ) (texts : List Text) (entries : List (Option ℕ)) (part : List ℕ) (result : Result (Unit {0}) RunFault) → Merges n input texts entries [] → length (distinct_of texts) < 2 ^ 32 → length entries < 2 ^ 64 → WritesAll (column_of binary (distinct_of texts) entries) result part → MergeEnd input limit binary part result
+written_end input limit binary n texts entries part (Ok x) merges few few' written = (n, texts, entries, merges, (few, few'), written)
+written_end input limit binary n texts entries part (Err (Line error)) merges few few' written = absurd written.0
+written_end input limit binary n texts entries part (Err TooManyLines) merges few few' written = absurd written.0
+written_end input limit binary n texts entries part (Err ReadFailed) merges few few' written = absurd written.0
+written_end input limit binary n texts entries part (Err WriteFailed) merges few few' written = inr (n, texts, entries, merges, written.1)
+written_end input limit binary n texts entries part (Err ReaderGone) merges few few' written = inr (n, texts, entries, merges, written.1)
+written_end input limit binary n texts entries part (Err (Column column fault)) merges few few' written = absurd written.0
+
+-- the column is written, or a beginning of it
+pub merged_written : (input : List ℕ) (limit : ℕ) (binary : Bool) (list : List Text) (numbers part : List ℕ) (result : Result (Unit {0}) RunFault) → AreMerged input list numbers → length numbers < 2 ^ 64 → WritesAll (column_of binary list (map entry_at numbers)) result part → MergeEnd input limit binary part result
+merged_written input limit binary list numbers part result are few written =
+    let texts = are.1 in
+    let entries = map entry_at numbers in
+    written_end input limit binary are.0 texts entries part result are.2 (subst (λ (ts : List Text). length ts < 2 ^ 32) are.3 are.4) (subst (λ n. n < 2 ^ 64) (sym (length-map numbers entry_at)) few)
+    (subst (λ (ts : List Text). WritesAll (column_of binary ts entries) result part) are.3 written)
+
+-- columns were not merged, and nothing is written
+pub none_merged : (input : List ℕ) (limit : ℕ) (binary : Bool) (fault : RunFault) → MergingFault input limit fault → MergeEnd input limit binary [] (Err fault)
+none_merged input limit binary (Line error) is = (refl, is)
+none_merged input limit binary TooManyLines is = refl
+none_merged input limit binary ReadFailed is = refl
+none_merged input limit binary WriteFailed is = absurd is
+none_merged input limit binary ReaderGone is = absurd is
+none_merged input limit binary (Column column fault) is = (refl, is)
+
+-- there was no memory for the interner
+pub unmade : (input : List ℕ) (limit : ℕ) (fault : RunFault) → fault ≡ Line (Refused 0 FailedAllocation) → MergingFault input limit fault
+unmade input limit fault is = subst (MergingFault input limit) (sym is) refl
+
+end_begun : (input : List ℕ) (limit : ℕ) (binary : Bool) (part : List ℕ) (result : Result (Unit {0}) RunFault) → MergeEnd input limit binary part result → IsMergeBegun input binary part
+end_begun input limit binary part (Ok x) end = inr (end.0, end.1, end.2, end.3, ([], sym end.5 ∙ sym (append-nil part)))
+end_begun input limit binary part (Err (Line error)) end = inl end.0
+end_begun input limit binary part (Err TooManyLines) end = inl end
+end_begun input limit binary part (Err ReadFailed) end = inl end
+end_begun input limit binary part (Err WriteFailed) end = end
+end_begun input limit binary part (Err ReaderGone) end = end
+end_begun input limit binary part (Err (Column column fault)) end = inl end.0
+
+write_end : (input : List ℕ) (limit : ℕ) (binary : Bool) (part : List ℕ) (result : Result (Unit {0}) RunFault) → IsMergeBegun input binary part → IsWriteEnd result → MergeEnd input limit binary part result
+write_end input limit binary part (Ok x) begun is = absurd is
+write_end input limit binary part (Err (Line error)) begun is = absurd is
+write_end input limit binary part (Err TooManyLines) begun is = absurd is
+write_end input limit binary part (Err ReadFailed) begun is = absurd is
+write_end input limit binary part (Err WriteFailed) begun is = begun
+write_end input limit binary part (Err ReaderGone) begun is = begun
+write_end input limit binary part (Err (Column column fault)) begun is = absurd is
+
+-- a run that ends as it did, or with a failed flush
+pub end_then : (input : List ℕ) (limit : ℕ) (binary : Bool) (part : List ℕ) (given result : Result (Unit {0}) RunFault) → MergeEnd input limit binary part given → (result ≡ given) ⊎ IsWriteEnd result → MergeEnd input limit binary part result
+end_then input limit binary part given result end (inl same) = subst (MergeEnd input limit binary part) (sym same) end
+end_then input limit binary part given result end (inr is) = write_end input limit binary part result (end_begun input limit binary part given end) is

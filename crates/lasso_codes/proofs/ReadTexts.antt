@@ -1,0 +1,169 @@
+-- The texts of a dictionary, read one after another.
+--
+-- After the first texts the others are read from the bytes that are left, with the first ones before them. So one more text is read
+-- after those, and a fault of the next text is the fault of all.
+use Rattle.std.proofs.Common.{ℕ, zero, suc, ◌≡◌, ◌+◌, ◌-◌, ◌<◌, Bool, true, false, cond, List, [], ◌∷◌, ◌++◌, length, is_some, Option, Some, None, option_map, Ok, Err, refl, sym, ap, subst, ◌∙◌, arith, inr}
+use Rattle.std.specs.Str.{IsUtf8, is_utf8}
+use Rattle.std.proofs.lemmas.Bool.{false_from_ne_true}
+use Rattle.std.proofs.lemmas.List.{length_push}
+use Rattle.std.proofs.lemmas.Str.{is_utf8-from_IsUtf8, IsUtf8-from_is_utf8}
+use Rattle.lasso_parts.specs.Texts.{Text, position_of}
+use Rattle.lasso_single.specs.Filling.{extend}
+use Rattle.lasso_single.specs.Interner.{InternerView, made_with}
+use Rattle.lasso_single.proofs.Filled.{accepted, extend_push}
+use Rattle.lasso.proofs.Calling.{list_interned}
+use Rattle.lasso_columns.specs.Encoding.{spur_at}
+use Rattle.lasso_columns.specs.Lines.{NoFeed, is_line_feed}
+use Rattle.lasso_codes.specs.Reading.{ReadTexts, on_text, texts_from, AddsText, AddFault, IsTextFault, TextsFault}
+use Rattle.lasso_codes.specs.Streams.{cut_line}
+use Rattle.lasso_codes.specs.declared.fault.ColumnFault.{ColumnFault}
+use Rattle.lasso_codes.specs.declared.fault.ColumnFault.TheVariants.{NoHeader, NoText, NotUtf8, Doubled, TextRefused, NoEntry, NotEntry, PastTexts, IsNull, NotMerged}
+use Rattle.lasso_codes.specs.declared.fault.RunFault.TheVariants.{Column}
+
+-- ---- texts after the first ones
+
+tested : (text there : Bool) (doubled bad : ColumnFault) (first whole res : ReadTexts) (read : List Text × List ℕ) → cond text (cond there (Err doubled) first) (Err bad) ≡ Ok read → (first ≡ Ok read → whole ≡ res) → cond text (cond there (Err doubled) whole) (Err bad) ≡ res
+tested true true doubled bad first whole res read e then = cc
+tested true false doubled bad first whole res read e then = then e
+tested false there doubled bad first whole res read e then = cc
+
+after_text : (cut : Option (Text × List ℕ)) (list : List Text) (first whole : List Text → List ℕ → ReadTexts) (res : ReadTexts) (read : List Text × List ℕ) → on_text cut list first ≡ Ok read → ((ts : List Text) (bs : List ℕ) → first ts bs ≡ Ok read → whole ts bs ≡ res) → on_text cut list whole ≡ res
+after_text None list first whole res read e then = cc
+after_text (Some cut) list first whole res read e then =
+    tested (is_utf8 cut.0) (is_some (position_of list cut.0)) (Doubled (length list + 1)) (NotUtf8 (length list + 1)) (first (list ++ cut.0 ∷ []) cut.1) (whole (list ++ cut.0 ∷ []) cut.1) res read e
+    (then (list ++ cut.0 ∷ []) cut.1)
+
+texts_split : (n m : ℕ) (list : List Text) (bytes : List ℕ) (read : List Text × List ℕ) → texts_from n list bytes ≡ Ok read → texts_from (n + m) list bytes ≡ texts_from m read.0 read.1
+texts_split zero m list bytes read e =
+    let same : (list, bytes) ≡ read = cc in
+    let count : zero + m ≡ m = omega arith in
+    ap (λ k. texts_from k list bytes) count ∙ ap (λ (p : List Text × List ℕ). texts_from m p.0 p.1) same
+texts_split (suc n) m list bytes read e =
+    let count : suc n + m ≡ suc (n + m) = omega arith in
+    ap (λ k. texts_from k list bytes) count
+    ∙ after_text (cut_line bytes) list (texts_from n) (texts_from (n + m)) (texts_from m read.0 read.1) read e (λ ts bs is. texts_split n m ts bs read is)
+
+-- ---- the next text
+
+module _ (m : ℕ) (list : List Text) (bytes left : List ℕ) (line : Text) (cut : cut_line bytes ≡ Some (line, left)) where
+  on_it : texts_from (suc m) list bytes ≡ on_text (Some (line, left)) list (texts_from m)
+  on_it = ap (λ c. on_text c list (texts_from m)) cut
+
+  by_tests : (text there : Bool) → is_utf8 line ≡ text → is_some (position_of list line) ≡ there
+      → texts_from (suc m) list bytes ≡ cond text (cond there (Err (Doubled (length list + 1))) (texts_from m (list ++ line ∷ []) left)) (Err (NotUtf8 (length list + 1)))
+  by_tests text there is at =
+      let doubled : ReadTexts = Err (Doubled (length list + 1)) in
+      let bad : ReadTexts = Err (NotUtf8 (length list + 1)) in
+      let others : ReadTexts = texts_from m (list ++ line ∷ []) left in
+      on_it ∙ ap (λ b. cond b (cond (is_some (position_of list line)) doubled others) bad) is ∙ ap (λ b. cond text (cond b doubled others) bad) at
+
+pub texts_missing : (m : ℕ) (list : List Text) (bytes : List ℕ) → cut_line bytes ≡ None → texts_from (suc m) list bytes ≡ Err (NoText (length list + 1))
+texts_missing m list bytes cut = ap (λ c. on_text c list (texts_from m)) cut
+
+not_utf8 : (line : Text) → ¬ (IsUtf8 line) → is_utf8 line ≡ false
+not_utf8 line not = false_from_ne_true _ (λ e. not (IsUtf8-from_is_utf8 line e))
+
+-- ---- a dictionary on its way
+
+-- a text that was added went last
+added_last : (now after : InternerView) (line : Text) → AddsText now line after → after.texts ≡ now.texts ++ line ∷ []
+added_last now after line adds =
+    list_interned spur_at now after line adds.2.0 adds.2.1 ∙ ap (λ (o : Option ℕ). cond (is_some o) now.texts (now.texts ++ line ∷ [])) adds.1
+
+pub adds_more : (old now after : InternerView) (line : Text) → extend spur_at old now.texts accepted now → AddsText now line after → extend spur_at old after.texts accepted after
+adds_more old now after line list adds =
+    subst (λ (ts : List Text). extend spur_at old ts accepted after) (sym (added_last now after line adds)) (extend_push spur_at old now after now.texts line (Ok adds.2.0) accepted list adds.2.1 refl)
+
+-- these texts were read and interned, and the rest is left
+pub record Reading (bytes rest : List ℕ) (position : ℕ) (now : InternerView) : Type 0 where
+  pub read : texts_from position [] bytes ≡ Ok (now.texts, rest)
+  pub counted : length now.texts ≡ position
+
+pub reading_none : (bytes : List ℕ) (now : InternerView) → now.texts ≡ [] → Reading bytes bytes 0 now
+reading_none bytes now none = record {
+  read = ap (λ (ts : List Text). Ok (ts, bytes)) (sym none);
+  counted = ap length none;
+}
+
+module _ (bytes rest : List ℕ) (position distinct : ℕ) (now : InternerView) (small : position < distinct) (so_far : Reading bytes rest position now) where
+  others_ahead : (m : ℕ) → position + m ≡ distinct → texts_from distinct [] bytes ≡ texts_from m now.texts rest
+  others_ahead m count = ap (λ k. texts_from k [] bytes) (sym count) ∙ texts_split position m [] bytes (now.texts, rest) so_far.read
+
+  next_ahead : texts_from distinct [] bytes ≡ texts_from (suc (distinct - (position + 1))) now.texts rest
+  next_ahead = others_ahead (suc (distinct - (position + 1))) (omega (arith, small))
+
+  -- one text more
+  pub reading_push : (line : Text) (left : List ℕ) (after : InternerView) → cut_line rest ≡ Some (line, left) → AddsText now line after → Reading bytes left (position + 1) after
+  reading_push line left after cut adds =
+      let list : after.texts ≡ now.texts ++ line ∷ [] = added_last now after line adds in
+      let one : texts_from 1 now.texts rest ≡ Ok (now.texts ++ line ∷ [], left) =
+      by_tests 0 now.texts rest left line cut true false (is_utf8-from_IsUtf8 line adds.0) (ap is_some adds.1) in
+      record {
+        read = texts_split position 1 [] bytes (now.texts, rest) so_far.read ∙ one ∙ ap (λ (ts : List Text). Ok (ts, left)) (sym list);
+        counted = ap length list ∙ length_push now.texts line ∙ ap (λ n. n + 1) so_far.counted;
+      }
+
+  -- the next text is missing
+  pub reading_misses : (limit column : ℕ) → cut_line rest ≡ None → TextsFault limit distinct column bytes (Column column (NoText (position + 1)))
+  reading_misses limit column cut =
+      let fault : texts_from distinct [] bytes ≡ Err (NoText (length now.texts + 1)) = next_ahead ∙ texts_missing (distinct - (position + 1)) now.texts rest cut in
+      inr (NoText (position + 1), refl, fault ∙ ap (λ n. Err (NoText (n + 1))) so_far.counted)
+
+  -- the next text is faulty
+  faulty : (limit : ℕ) (line : Text) (left : List ℕ) (fault : ColumnFault) → extend spur_at (made_with 4096 limit) now.texts accepted now → cut_line rest ≡ Some (line, left) → AddFault now line (position + 1) fault → IsTextFault limit distinct bytes fault
+  faulty limit line left NoHeader list cut is = absurd is
+  faulty limit line left (NoText number) list cut is = absurd is
+  faulty limit line left (NotUtf8 number) list cut is =
+      let bad : texts_from distinct [] bytes ≡ Err (NotUtf8 (length now.texts + 1)) =
+      next_ahead ∙ by_tests (distinct - (position + 1)) now.texts rest left line cut false (is_some (position_of now.texts line)) (not_utf8 line is.1) refl in
+      bad ∙ ap (λ n. Err (NotUtf8 n)) (ap (λ n. n + 1) so_far.counted ∙ sym is.0)
+  faulty limit line left (Doubled number) list cut is =
+      let bad : texts_from distinct [] bytes ≡ Err (Doubled (length now.texts + 1)) =
+      next_ahead ∙ by_tests (distinct - (position + 1)) now.texts rest left line cut true true (is_utf8-from_IsUtf8 line is.1) is.2 in
+      bad ∙ ap (λ n. Err (Doubled n)) (ap (λ n. n + 1) so_far.counted ∙ sym is.0)
+  faulty limit line left (TextRefused number error) list cut is =
+      (position, is.0, small, (now.texts, rest, so_far.read, (line, left, cut, is.1, (now, list, is.2))))
+  faulty limit line left (NoEntry number) list cut is = absurd is
+  faulty limit line left (NotEntry number) list cut is = absurd is
+  faulty limit line left (PastTexts number) list cut is = absurd is
+  faulty limit line left (IsNull number) list cut is = absurd is
+  faulty limit line left (NotMerged error) list cut is = absurd is
+
+  pub reading_fails : (limit column : ℕ) (line : Text) (left : List ℕ) (fault : ColumnFault) → extend spur_at (made_with 4096 limit) now.texts accepted now → cut_line rest ≡ Some (line, left) → AddFault now line (position + 1) fault → TextsFault limit distinct column bytes (Column column fault)
+  reading_fails limit column line left fault list cut is = inr (fault, refl, faulty limit line left fault list cut is)
+
+-- ---- texts that were read
+
+-- each is text without a line feed
+abbrev pub ArePlain : List Text → Type 0
+ArePlain [] = Unit {0}
+ArePlain (t ∷ ts) = (is_utf8 t ≡ true) × NoFeed t × ArePlain ts
+
+pub plain_both : (xs ys : List Text) → ArePlain xs → ArePlain ys → ArePlain (xs ++ ys)
+plain_both [] ys plain others = others
+plain_both (x ∷ xs) ys plain others = (plain.0, plain.1, plain_both xs ys plain.2 others)
+
+feed_free : (b : ℕ) (bytes line left : List ℕ) (feed : Bool) (cut : Option (List ℕ × List ℕ)) → is_line_feed b ≡ feed → cond {A = Option (List ℕ × List ℕ)} feed (Some ([], bytes)) (option_map (λ (c : List ℕ × List ℕ). (b ∷ c.0, c.1)) cut) ≡ Some (line, left) → ((front rest : List ℕ) → cut ≡ Some (front, rest) → NoFeed front) → NoFeed line
+feed_free b bytes line left true cut is e then = let both : ◌≡◌ {A = List ℕ × List ℕ} ([], bytes) (line, left) = cc in subst NoFeed (ap (λ (p : List ℕ × List ℕ). p.0) both) tt
+feed_free b bytes line left false None is e then = absurd (cc)
+feed_free b bytes line left false (Some c) is e then = let both : ◌≡◌ {A = List ℕ × List ℕ} (b ∷ c.0, c.1) (line, left) = cc in subst NoFeed (ap (λ (p : List ℕ × List ℕ). p.0) both) (is, then c.0 c.1 refl)
+
+-- a line that was cut off has no line feed
+cut_free : (bytes line left : List ℕ) → cut_line bytes ≡ Some (line, left) → NoFeed line
+cut_free [] line left e = absurd (cc)
+cut_free (b ∷ bytes) line left e = feed_free b bytes line left (is_line_feed b) (cut_line bytes) refl e (λ front rest is. cut_free bytes front rest is)
+
+plain_tests : (text there : Bool) (doubled bad : ColumnFault) (line : Text) (others : ReadTexts) (read : List Text × List ℕ) → is_utf8 line ≡ text → cond text (cond there (Err doubled) others) (Err bad) ≡ Ok read → (is_utf8 line ≡ true) × (others ≡ Ok read)
+plain_tests true true doubled bad line others read is e = absurd (cc)
+plain_tests true false doubled bad line others read is e = (is, e)
+plain_tests false there doubled bad line others read is e = absurd (cc)
+
+plain_text : (cut : Option (Text × List ℕ)) (bytes : List ℕ) (list : List Text) (go : List Text → List ℕ → ReadTexts) (read : List Text × List ℕ) → cut_line bytes ≡ cut → on_text cut list go ≡ Ok read → ArePlain list → ((ts : List Text) (bs : List ℕ) → go ts bs ≡ Ok read → ArePlain ts → ArePlain read.0) → ArePlain read.0
+plain_text None bytes list go read at e plain then = absurd (cc)
+plain_text (Some cut) bytes list go read at e plain then =
+    let told = plain_tests (is_utf8 cut.0) (is_some (position_of list cut.0)) (Doubled (length list + 1)) (NotUtf8 (length list + 1)) cut.0 (go (list ++ cut.0 ∷ []) cut.1) read refl e in
+    then (list ++ cut.0 ∷ []) cut.1 told.1 (plain_both list (cut.0 ∷ []) plain (told.0, cut_free bytes cut.0 cut.1 at, tt))
+
+pub texts_plain : (n : ℕ) (list : List Text) (bytes : List ℕ) (read : List Text × List ℕ) → texts_from n list bytes ≡ Ok read → ArePlain list → ArePlain read.0
+texts_plain zero list bytes read e plain = let same : (list, bytes) ≡ read = cc in subst (λ (r : List Text × List ℕ). ArePlain r.0) same plain
+texts_plain (suc n) list bytes read e plain = plain_text (cut_line bytes) bytes list (texts_from n) read refl e plain (λ ts bs is so. texts_plain n ts bs read is so)

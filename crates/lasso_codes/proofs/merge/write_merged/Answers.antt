@@ -1,0 +1,29 @@
+use Rattle.std.proofs.Common.{ℕ, ◌≡◌, ◌^◌, ◌<◌, List, length, sym, subst, arith}
+use Rattle.std.proofs.lemmas.Result.{err_from_is_err_and}
+use Rattle.lasso_codes.specs.Merge.{AreMerged, MergeEnd}
+use Rattle.lasso_codes.proofs.Written.{writes_none, writes_as}
+use Rattle.lasso_codes.proofs.MergedColumns.{none_merged, unmade, merged_written}
+use Rattle.lasso_codes.proofs.merge.write_merged.Goals as goal
+
+pub returns-in_err-rodeo : goal.returns-in_err-rodeo
+returns-in_err-rodeo g c = λ bytes e.
+    let p = err_from_is_err_and c.from_residual.result c.from_residual.ensures.1 in
+    let fault = c.in_err-rodeo.field-0.0 in
+    rw (p.1, p.2) (writes_none _ _ (none_merged bytes c.args.limits c.args.binary fault (unmade bytes c.args.limits fault c.in_err-rodeo.ensures.refused)))
+
+pub returns-in_err-merge_columns : goal.returns-in_err-merge_columns
+returns-in_err-merge_columns g c = λ bytes e.
+    let p = err_from_is_err_and c.from_residual-in_err-merge_columns.result c.from_residual-in_err-merge_columns.ensures.1 in
+    let fault = c.in_err-merge_columns.field-0.0 in
+    rw (p.1, p.2) (writes_none _ _ (none_merged bytes c.args.limits c.args.binary fault (c.in_err-merge_columns.ensures.fault bytes e)))
+
+pub returns : goal.returns
+returns g c = λ bytes e.
+    let held = c.merge_columns.new.numbers in
+    let numbers = c.deref.result.now in
+    let list = c.merge_columns.new.rodeo.texts in
+    let are = subst (λ ns. AreMerged bytes list ns) (sym c.deref.ensures.value) (c.in_ok-merge_columns.ensures.merged bytes e) in
+    let few : length held.items < 2 ^ 64 = omega (arith, held.ok.0, held.ok.1, held.small) in
+    let result = c.write_column.result in
+    writes_as _ _ _ (λ part. MergeEnd bytes c.args.limits c.args.binary part result) c.write_column.ensures (λ part w.
+    merged_written bytes c.args.limits c.args.binary list numbers part result are (subst (λ (ns : List ℕ). length ns < 2 ^ 64) (sym c.deref.ensures.value) few) w)

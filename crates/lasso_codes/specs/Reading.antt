@@ -1,0 +1,216 @@
+-- How a column is read from bytes: a header line, so many texts, and so many entries.
+use Rattle.std.specs.Prelude.{ℕ, zero, suc, ◌≡◌, ◌+◌, ◌<◌, ◌==◌, ◌⊎◌, Bool, true, false, List, [], ◌∷◌, ◌++◌, length, take, drop, is_some, Option, Some, None, Result, Ok, Err, option_map, position, bytes_eq, if◌then◌else◌}
+use Rattle.std.specs.Int.{w32, from_le_bytes}
+use Rattle.std.specs.Str.{IsUtf8, is_utf8}
+use Rattle.lasso_parts.specs.Texts.{Text, position_of}
+use Rattle.lasso_parts.specs.declared.util.LassoError.{LassoError}
+use Rattle.lasso_single.specs.Filling.{extend}
+use Rattle.lasso_single.specs.Intern.{InternsIn}
+use Rattle.lasso_single.specs.Interner.{InternerView, made_with}
+use Rattle.lasso_columns.specs.Encoding.{spur_at, IsRefused}
+use Rattle.lasso_codes.specs.Arguments.{digits_value}
+use Rattle.lasso_codes.specs.Columns.{header_front}
+use Rattle.lasso_codes.specs.Fault.{IsReadFault}
+use Rattle.lasso_codes.specs.Streams.{cut_line}
+use Rattle.lasso_codes.specs.declared.fault.ColumnFault.{ColumnFault}
+use Rattle.lasso_codes.specs.declared.fault.ColumnFault.TheVariants.{NoHeader, NoText, NotUtf8, Doubled, TextRefused, NoEntry, NotEntry, PastTexts, IsNull, NotMerged}
+use Rattle.lasso_codes.specs.declared.fault.RunFault.{RunFault}
+use Rattle.lasso_codes.specs.declared.fault.RunFault.TheVariants.{Column}
+use Rattle.lasso_codes.specs.declared.entries.Entry.{Entry}
+use Rattle.lasso_codes.specs.declared.entries.Entry.TheVariants.{Missing, Bad, Null, Code}
+use Rattle.lasso_codes.specs.declared.reading.Header.{Header}
+
+-- ---- the header
+
+-- what follows the front of the line
+abbrev pub after_front : List ℕ → Text → Option (List ℕ)
+after_front front line = if bytes_eq (take (length front) line) front then Some (drop (length front) line) else None
+
+abbrev pub header_with : Bool → Option ℕ → Option ℕ → Option Header
+header_with binary None lines = None
+header_with binary (Some distinct) None = None
+header_with binary (Some distinct) (Some lines) = Some (record { binary = binary; distinct = distinct; lines = lines })
+
+-- the numbers before and after the space
+abbrev pub header_at : Bool → List ℕ → Option ℕ → Option Header
+header_at binary numbers None = None
+header_at binary numbers (Some at) = header_with binary (digits_value (take at numbers)) (digits_value (drop (at + 1) numbers))
+
+-- byte 32 is a space
+abbrev pub header_in : Bool → List ℕ → Option Header
+header_in binary numbers = header_at binary numbers (position (λ b. b == 32) numbers)
+
+abbrev pub header_or : Option (List ℕ) → Option (List ℕ) → Option Header
+header_or (Some numbers) other = header_in false numbers
+header_or None (Some numbers) = header_in true numbers
+header_or None None = None
+
+-- what the header line says, where it is one
+abbrev pub header_of : Text → Option Header
+header_of line = header_or (after_front (header_front false) line) (after_front (header_front true) line)
+
+abbrev pub on_header_line : Option (Text × List ℕ) → Option (Header × List ℕ)
+on_header_line None = None
+on_header_line (Some cut) = option_map (λ header. (header, cut.1)) (header_of cut.0)
+
+-- the header that the bytes begin with, and the bytes after it
+abbrev pub head_of : List ℕ → Option (Header × List ℕ)
+head_of bytes = on_header_line (cut_line bytes)
+
+-- the header was read, and the bytes after it are left; or there were no bytes
+abbrev pub TakesHeader : Option (List ℕ) → Option (List ℕ) → Option Header → Type 0
+TakesHeader before after None = (bytes : List ℕ) → before ≡ Some bytes → bytes ≡ []
+TakesHeader before after (Some header) = (bytes : List ℕ) → before ≡ Some bytes → (rest : List ℕ) × (after ≡ Some rest) × (head_of bytes ≡ Some (header, rest))
+
+-- the bytes do not begin with a header
+abbrev pub HasNoHeader : List ℕ → Type 0
+HasNoHeader bytes = (0 < length bytes) × (head_of bytes ≡ None)
+
+-- why the header of the column of this number was not read
+abbrev pub HeaderFault : Option (List ℕ) → ℕ → RunFault → Type 0
+HeaderFault before column fault = IsReadFault 0 fault ⊎ ((fault ≡ Column column NoHeader) × ((bytes : List ℕ) → before ≡ Some bytes → HasNoHeader bytes))
+
+-- ---- the dictionary
+
+-- texts and the bytes after them, or why there are none
+abbrev pub ReadTexts : Type 0
+ReadTexts = Result (List Text × List ℕ) ColumnFault
+
+-- a text has to be new, and UTF-8
+abbrev pub on_text : Option (Text × List ℕ) → List Text → (List Text → List ℕ → ReadTexts) → ReadTexts
+on_text None list go = Err (NoText (length list + 1))
+on_text (Some cut) list go =
+    if is_utf8 cut.0 then (if is_some (position_of list cut.0) then Err (Doubled (length list + 1)) else go (list ++ cut.0 ∷ []) cut.1)
+    else Err (NotUtf8 (length list + 1))
+
+-- so many texts more, after these
+abbrev pub texts_from : ℕ → List Text → List ℕ → ReadTexts
+texts_from zero list bytes = Ok (list, bytes)
+texts_from (suc n) list bytes = on_text (cut_line bytes) list (texts_from n)
+
+-- the text goes last in an interner that lacks it
+abbrev pub AddsText : InternerView → Text → InternerView → Type 0
+AddsText old text new = IsUtf8 text × (position_of old.texts text ≡ None) × ((key : ℕ) × InternsIn {K = ℕ} spur_at old text (Ok key) new)
+
+-- why the text of this number was not added
+abbrev pub AddFault : InternerView → Text → ℕ → ColumnFault → Type 0
+AddFault old text number NoHeader = ⊥
+AddFault old text number (NoText at) = ⊥
+AddFault old text number (NotUtf8 at) = (at ≡ number) × ¬ (IsUtf8 text)
+AddFault old text number (Doubled at) = (at ≡ number) × IsUtf8 text × (is_some (position_of old.texts text) ≡ true)
+AddFault old text number (TextRefused at error) = (at ≡ number) × IsUtf8 text × IsRefused old text error
+AddFault old text number (NoEntry at) = ⊥
+AddFault old text number (NotEntry at) = ⊥
+AddFault old text number (PastTexts at) = ⊥
+AddFault old text number (IsNull at) = ⊥
+AddFault old text number (NotMerged error) = ⊥
+
+-- the text of this number is refused by an interner with this limit that holds those before it
+abbrev pub IsTextRefused : ℕ → ℕ → List ℕ → ℕ → LassoError → Type 0
+IsTextRefused limit distinct bytes number error =
+    (n : ℕ) × (number ≡ n + 1) × (n < distinct) × ((list : List Text) × (rest : List ℕ) × (texts_from n [] bytes ≡ Ok (list, rest))
+    × ((line : Text) × (left : List ℕ) × (cut_line rest ≡ Some (line, left)) × IsUtf8 line
+    × ((now : InternerView) × extend spur_at (made_with 4096 limit) list (Ok tt) now × IsRefused now line error)))
+
+-- so many texts were read, and the bytes after them are left
+abbrev pub TakesTexts : Option (List ℕ) → Option (List ℕ) → ℕ → List Text → Type 0
+TakesTexts before after distinct list = (bytes : List ℕ) → before ≡ Some bytes → (rest : List ℕ) × (after ≡ Some rest) × (texts_from distinct [] bytes ≡ Ok (list, rest))
+
+-- why so many texts were not read from these bytes
+abbrev pub IsTextFault : ℕ → ℕ → List ℕ → ColumnFault → Type 0
+IsTextFault limit distinct bytes NoHeader = ⊥
+IsTextFault limit distinct bytes (NotMerged error) = ⊥
+IsTextFault limit distinct bytes (TextRefused number error) = IsTextRefused limit distinct bytes number error
+IsTextFault limit distinct bytes fault = texts_from distinct [] bytes ≡ Err fault
+
+abbrev pub TextsFault : ℕ → ℕ → ℕ → List ℕ → RunFault → Type 0
+TextsFault limit distinct column bytes fault = IsReadFault 0 fault ⊎ ((reason : ColumnFault) × (fault ≡ Column column reason) × IsTextFault limit distinct bytes reason)
+
+-- ---- entries
+
+-- 4294967295 is a null
+abbrev pub number_entry : ℕ → Entry
+number_entry n = if n == 4294967295 then Null else Code n
+
+abbrev pub code_in : Option ℕ → Entry
+code_in None = Bad
+code_in (Some n) = Code n
+
+-- the entry that a line says; byte 45 is a minus sign
+abbrev pub entry_in : Text → Entry
+entry_in line = if bytes_eq line (45 ∷ []) then Null else code_in (digits_value line)
+
+abbrev pub on_entry_line : Option (Text × List ℕ) → Entry × List ℕ
+on_entry_line None = (Missing, [])
+on_entry_line (Some cut) = (entry_in cut.0, cut.1)
+
+abbrev pub cut_number : List ℕ → Entry × List ℕ
+cut_number [] = (Missing, [])
+cut_number (a ∷ []) = (Missing, [])
+cut_number (a ∷ b ∷ []) = (Missing, [])
+cut_number (a ∷ b ∷ c ∷ []) = (Missing, [])
+cut_number (a ∷ b ∷ c ∷ d ∷ bytes) = (number_entry (from_le_bytes w32 (a ∷ b ∷ c ∷ d ∷ [])), bytes)
+
+-- the entry that the bytes begin with, and the bytes after it
+abbrev pub cut_entry : Bool → List ℕ → Entry × List ℕ
+cut_entry true bytes = cut_number bytes
+cut_entry false bytes = on_entry_line (cut_line bytes)
+
+-- the entry was read, and the bytes after it are left
+abbrev pub TakesEntry : Bool → Option (List ℕ) → Option (List ℕ) → Entry → Type 0
+TakesEntry binary before after entry = (bytes : List ℕ) → before ≡ Some bytes → (rest : List ℕ) × (after ≡ Some rest) × (cut_entry binary bytes ≡ (entry, rest))
+
+-- ---- what is made of the entries
+
+-- what an entry of this number stands for, or what is wrong with it
+abbrev pub Makes : Type 0 → Type 0
+Makes X = Entry → ℕ → Result X ColumnFault
+
+-- items, and the bytes after them or what is wrong there
+abbrev pub ReadItems : Type 0 → Type 0
+ReadItems X = List X × Result (List ℕ) ColumnFault
+
+abbrev pub on_item : {X : Type 0} → Result X ColumnFault → ReadItems X → ReadItems X
+on_item (Err fault) others = ([], Err fault)
+on_item (Ok item) others = (item ∷ others.0, others.1)
+
+-- what so many entries stand for, the first of which has this number
+abbrev pub items_from : {X : Type 0} → Makes X → ℕ → Bool → ℕ → List ℕ → ReadItems X
+items_from make zero binary number bytes = ([], Ok bytes)
+items_from make (suc n) binary number bytes =
+    let cut = cut_entry binary bytes in on_item (make cut.0 number) (items_from make n binary (number + 1) cut.1)
+
+-- it is the fault of an entry
+abbrev pub IsEntryFault : ColumnFault → Type 0
+IsEntryFault NoHeader = ⊥
+IsEntryFault (NoText number) = ⊥
+IsEntryFault (NotUtf8 number) = ⊥
+IsEntryFault (Doubled number) = ⊥
+IsEntryFault (TextRefused number error) = ⊥
+IsEntryFault (NoEntry number) = Unit {0}
+IsEntryFault (NotEntry number) = Unit {0}
+IsEntryFault (PastTexts number) = Unit {0}
+IsEntryFault (IsNull number) = Unit {0}
+IsEntryFault (NotMerged error) = ⊥
+
+-- ---- columns
+
+abbrev pub on_texts : {X : Type 0} → (List Text → Makes X) → Header → ReadTexts → ReadItems X
+on_texts make header (Err fault) = ([], Err fault)
+on_texts make header (Ok texts) = items_from (make texts.0) header.lines header.binary 1 texts.1
+
+abbrev pub on_head : {X : Type 0} → (List Text → Makes X) → Option (Header × List ℕ) → ReadItems X
+on_head make None = ([], Err NoHeader)
+on_head make (Some head) = on_texts make head.0 (texts_from head.0.distinct [] head.1)
+
+-- what the entries of the column that the bytes begin with stand for, where the dictionary says it, and the bytes after it; or the
+-- items up to a fault
+abbrev pub read_column : {X : Type 0} → (List Text → Makes X) → List ℕ → ReadItems X
+read_column make bytes = on_head make (head_of bytes)
+
+-- why the column that the bytes begin with was not read
+abbrev pub IsColumnFault : {X : Type 0} → (List Text → Makes X) → ℕ → List ℕ → ColumnFault → Type 0
+IsColumnFault make limit bytes (TextRefused number error) =
+    (head : Header × List ℕ) × (head_of bytes ≡ Some head) × IsTextRefused limit head.0.distinct head.1 number error
+IsColumnFault make limit bytes NoHeader = HasNoHeader bytes
+IsColumnFault make limit bytes fault = (read_column make bytes).1 ≡ Err fault

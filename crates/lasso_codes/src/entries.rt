@@ -1,0 +1,124 @@
+//! The entries of a column, read from a reader one after another.
+ghost use Rattle.std.specs.Prelude.{◌≡◌, true, Some, Ok, Err, IfOk, IfErr, MatchResult};
+ghost use Rattle.std.specs.Io.Buffered.{reader_remaining};
+ghost use Rattle.lasso_codes.specs.Arguments.{word_of};
+ghost use Rattle.lasso_codes.specs.Decode.{line_at};
+ghost use Rattle.lasso_codes.specs.Reading.{entry_in, number_entry, TakesEntry};
+ghost use Rattle.lasso_codes.specs.Fault.{IsReadFault};
+
+use crate::columns::NULL;
+use crate::fault::{ColumnFault, RunFault};
+use crate::input::{Cut, next_byte, next_whole_line};
+use crate::numbers::parse_digits;
+use lasso::SpurRodeo;
+use lasso::index::Texts;
+use std::io::{BufReader, Read};
+
+/// What the next bytes of a column say of a line.
+#[derive(Clone, Copy, Debug, PartialEq, Eq)]
+pub enum Entry {
+    /// The bytes end before the entry does.
+    Missing,
+    /// A line that is neither a number nor a minus sign.
+    Bad,
+    /// A null.
+    Null,
+    /// The code of a text.
+    Code(usize),
+}
+
+/// Reads the next entry. `line` is used for its bytes.
+///
+/// # Errors
+/// The reader failed, or there is no memory for the entry.
+pub fn next_entry<R: Read + Drop>(
+    input: &mut BufReader<R>,
+    line: &mut Vec<u8>,
+    binary: bool,
+) -> Result<Entry, RunFault>
+    ensures taken { IfOk result (TakesEntry binary (reader_remaining R.remaining input.old) (reader_remaining R.remaining input.new)) }
+    ensures faults { IfErr result (IsReadFault 0) }
+{
+    if binary {
+        return next_number(input);
+    }
+    match next_whole_line(input, line)? {
+        Cut::Whole => Ok(entry_in(line)),
+        Cut::Part | Cut::End => Ok(Entry::Missing),
+    }
+}
+
+// Reads an entry of four bytes.
+fn next_number<R: Read + Drop>(input: &mut BufReader<R>) -> Result<Entry, RunFault>
+    ensures taken { IfOk result (TakesEntry true (reader_remaining R.remaining input.old) (reader_remaining R.remaining input.new)) }
+    ensures faults { IfErr result (IsReadFault 0) }
+{
+    let Some(first) = next_byte(input)? else {
+        return Ok(Entry::Missing);
+    };
+    let Some(second) = next_byte(input)? else {
+        return Ok(Entry::Missing);
+    };
+    let Some(third) = next_byte(input)? else {
+        return Ok(Entry::Missing);
+    };
+    let Some(fourth) = next_byte(input)? else {
+        return Ok(Entry::Missing);
+    };
+    let number = u32::from_le_bytes([first, second, third, fourth]);
+    Ok(number_entry(number))
+}
+
+// The entry that the number stands for.
+fn number_entry(number: u32) -> Entry
+    ensures { result ≡ number_entry number }
+{
+    if number == NULL {
+        Entry::Null
+    } else {
+        Entry::Code(number as usize)
+    }
+}
+
+// The entry that the line says.
+fn entry_in(line: &[u8]) -> Entry
+    ensures { result ≡ entry_in line.now }
+{
+    if line == b"-".as_slice() {
+        return Entry::Null;
+    }
+    match parse_digits(line) {
+        Some(code) => Entry::Code(code),
+        None => Entry::Bad,
+    }
+}
+
+/// The line of the entry of this number: the text of its code, or the null's word.
+///
+/// # Errors
+/// The entry is missing or is none, its code is past the texts, or it is a null, for which there is no word.
+pub fn line_at<'a>(
+    rodeo: &'a SpurRodeo,
+    null: Option<&'a [u8]>,
+    entry: Entry,
+    number: usize,
+) -> Result<&'a [u8], ColumnFault>
+    ensures { MatchResult result
+        (λ line. line_at (word_of null.entry) rodeo.now.texts entry number ≡ Ok line.now)
+        (λ fault. line_at (word_of null.entry) rodeo.now.texts entry number ≡ Err fault) }
+{
+    match entry {
+        Entry::Missing => Err(ColumnFault::NoEntry(number)),
+        Entry::Bad => Err(ColumnFault::NotEntry(number)),
+        Entry::Null => match null {
+            Some(word) => Ok(word),
+            None => Err(ColumnFault::IsNull(number)),
+        },
+        Entry::Code(code) => {
+            if code >= rodeo.len() {
+                return Err(ColumnFault::PastTexts(number));
+            }
+            Ok(rodeo.text_at(code).as_bytes())
+        }
+    }
+}

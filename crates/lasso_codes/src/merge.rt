@@ -1,0 +1,144 @@
+//! Columns to one column.
+ghost use Rattle.std.specs.Prelude.{◌≡◌, ◌<◌, ◌^◌, ◌++◌, ◌∷◌, [], ℕ, List, length, Some, Ok, Err, OnOk, IfErr, MatchResult};
+ghost use Rattle.std.specs.Io.Buffered.{reader_remaining, writer_contents, writer_buffer};
+ghost use Rattle.lasso_parts.specs.Texts.{Text};
+ghost use Rattle.lasso_single.specs.Interner.{made_with};
+ghost use Rattle.lasso_columns.specs.Codes.{AreCodes};
+ghost use Rattle.lasso_columns.specs.declared.faults.LineError.TheVariants.{Refused};
+ghost use Rattle.lasso_parts.specs.declared.util.LassoErrorKind.TheVariants.{FailedAllocation};
+ghost use Rattle.lasso_codes.specs.Columns.{entry_at};
+ghost use Rattle.lasso_codes.specs.Fault.{IsWriteEnd};
+ghost use Rattle.lasso_codes.specs.Merge.{recoded, AddsEntries, AreMerged, MergeEnd, MergingFault};
+ghost use Rattle.lasso_codes.specs.Reading.{items_from};
+ghost use Rattle.lasso_codes.specs.Streams.{Writes};
+
+use crate::columns::{NULL, write_column};
+use crate::distinct::new_rodeo;
+use crate::encode::append;
+use crate::entries::{Entry, next_entry};
+use crate::fault::{ColumnFault, RunFault};
+use crate::output::end_flushed;
+use crate::reading::{Header, next_header, read_texts};
+use lasso::{MemoryLimits, SpurRodeo};
+use lasso_columns::merge as merge_texts;
+use std::alloc::Global;
+use std::io::{BufReader, BufWriter, Read, Write};
+
+/// Reads columns, one or several one after another, and then writes one column, with one dictionary, of the lines of all.
+///
+/// # Errors
+/// A damaged column, a text that is refused, a failed read and out of memory end the run, and nothing is written. After a failed
+/// write, what was written is a beginning of the column.
+pub fn merge<R: Read + Drop, W: Write + Drop>(
+    alloc: Global,
+    input: &mut BufReader<R>,
+    output: &mut BufWriter<W>,
+    limits: MemoryLimits,
+    binary: bool,
+) -> Result<(), RunFault>
+    ensures report { (bytes : List ℕ) → reader_remaining R.remaining input.old ≡ Some bytes →
+        Writes (writer_contents W.contents output.old) (writer_contents W.contents output.new) (λ part. MergeEnd bytes limits binary part result) }
+    ensures flushed { ¬ (IsWriteEnd result) → writer_buffer output.new ≡ [] }
+{
+    let result = write_merged(alloc, input, output, limits, binary);
+    end_flushed(output, result)
+}
+
+// Merges the columns and writes the one, and leaves the last of it in the buffer.
+fn write_merged<R: Read + Drop, W: Write>(
+    alloc: Global,
+    input: &mut BufReader<R>,
+    output: &mut W,
+    limits: MemoryLimits,
+    binary: bool,
+) -> Result<(), RunFault>
+    ensures { (bytes : List ℕ) → reader_remaining R.remaining input.old ≡ Some bytes →
+        Writes (W.contents output.old) (W.contents output.new) (λ part. MergeEnd bytes limits binary part result) }
+{
+    let mut rodeo = new_rodeo(alloc, limits)?;
+    let mut numbers = Vec::new(alloc);
+    merge_columns(alloc, input, &mut rodeo, &mut numbers, limits)?;
+    write_column(output, &rodeo, &numbers, binary)
+}
+
+// Interns the texts of each column, and appends the numbers that stand for its entries then.
+fn merge_columns<R: Read + Drop>(
+    alloc: Global,
+    input: &mut BufReader<R>,
+    rodeo: &mut SpurRodeo,
+    numbers: &mut Vec<u32>,
+    limits: MemoryLimits,
+) -> Result<(), RunFault>
+    requires made { rodeo.old ≡ made_with 4096 limits }
+    requires no_numbers { numbers.old.items ≡ [] }
+    ensures merged { OnOk result ((bytes : List ℕ) → reader_remaining R.remaining input.old ≡ Some bytes → AreMerged bytes rodeo.new.texts numbers.new.items) }
+    ensures fault { IfErr result (λ fault. (bytes : List ℕ) → reader_remaining R.remaining input.old ≡ Some bytes → MergingFault bytes limits fault) }
+{
+    let mut line = Vec::new(alloc);
+    for column in 1..usize::MAX {
+        let Some(header) = next_header(input, &mut line, column)? else {
+            return Ok(());
+        };
+        let mut texts = new_rodeo(alloc, limits)?;
+        read_texts(input, &mut line, &mut texts, header.distinct, column)?;
+        match merge_texts(alloc, rodeo, &texts.into_reader()) {
+            Ok(table) => add_numbers(input, &mut line, numbers, &table, header, column)?,
+            Err(error) => return Err(RunFault::Column(column, ColumnFault::NotMerged(error))),
+        }
+    }
+    Err(RunFault::TooManyLines)
+}
+
+// Appends the number of each entry, whose code the table rewrites.
+fn add_numbers<R: Read + Drop>(
+    input: &mut BufReader<R>,
+    line: &mut Vec<u8>,
+    numbers: &mut Vec<u32>,
+    table: &[u32],
+    header: Header,
+    column: usize,
+) -> Result<(), RunFault>
+    ensures { (list texts : List Text) → AreCodes list texts table.now → length list < 2 ^ 32 →
+        (bytes : List ℕ) → reader_remaining R.remaining input.old ≡ Some bytes →
+        AddsEntries (items_from (recoded list texts) header.lines header.binary 1 bytes) column (reader_remaining R.remaining input.new) numbers.old.items numbers.new.items result }
+{
+    for position in 0..header.lines {
+        let entry = next_entry(input, line, header.binary)?;
+        match number_at(table, entry, position + 1) {
+            Ok(number) => append_number(numbers, number)?,
+            Err(fault) => return Err(RunFault::Column(column, fault)),
+        }
+    }
+    Ok(())
+}
+
+// Appends the number, where there is memory for it.
+fn append_number(numbers: &mut Vec<u32>, number: u32) -> Result<(), RunFault>
+    ensures items { OnOk result (numbers.new.items ≡ numbers.old.items ++ number ∷ []) }
+    ensures fault { IfErr result (λ fault. fault ≡ RunFault.Line (Refused 0 FailedAllocation)) }
+{
+    match append(numbers, number, 0) {
+        Ok(()) => Ok(()),
+        Err(error) => Err(RunFault::Line(error)),
+    }
+}
+
+// The number of the entry of this number: what the table has for its code.
+fn number_at(table: &[u32], entry: Entry, number: usize) -> Result<u32, ColumnFault>
+    ensures { (list texts : List Text) → AreCodes list texts table.now → length list < 2 ^ 32 → MatchResult result
+        (λ rewritten. recoded list texts entry number ≡ Ok (entry_at rewritten))
+        (λ fault. recoded list texts entry number ≡ Err fault) }
+{
+    match entry {
+        Entry::Missing => Err(ColumnFault::NoEntry(number)),
+        Entry::Bad => Err(ColumnFault::NotEntry(number)),
+        Entry::Null => Ok(NULL),
+        Entry::Code(code) => {
+            if code < table.len() {
+                Ok(table[code])
+            } else {
+                Err(ColumnFault::PastTexts(number))
+            }
+        }
+    }
+}

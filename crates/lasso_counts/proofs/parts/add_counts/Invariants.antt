@@ -1,0 +1,13 @@
+use Rattle.std.proofs.Common.{◌≡◌, ◌+◌, List, length, take, sum}
+use Rattle.lasso_parts.specs.Texts.{Text, IsDistinct}
+use Rattle.lasso_columns.specs.Codes.{AreCodes}
+use Rattle.lasso_counts.specs.Adding.{AddsAmounts}
+use Rattle.lasso_counts.proofs.parts.add_counts.Given as goal
+
+-- the amounts before the position were added
+abbrev pub invariant-loop-position : goal.invariant-loop-position
+invariant-loop-position l = record {
+  added : (list from : List Text) → length l.fn.counts.items ≡ length list → IsDistinct from → AreCodes list from l.places → AddsAmounts list (take l.position from) (take l.position l.amounts) l.fn.counts.items l.counts.items;
+  long : length l.counts.items ≡ length l.fn.counts.items;
+  total : sum l.counts.items ≡ sum l.fn.counts.items + sum (take l.position l.amounts);
+}

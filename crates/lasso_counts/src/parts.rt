@@ -1,0 +1,191 @@
+//! Texts that are counted in parts, each by a thread with an interner of its own.
+ghost use Rattle.std.specs.Prelude.{◌≡◌, ℕ, List, [], ◌+◌, ◌-◌, ◌^◌, ◌<◌, ◌≤◌, ◌++◌, Ok, IfErr, IfSome, IsSome, IsSomeAnd, All, length, map, None, replicate, slice_get, sum, take, vec_len, vec_capacity};
+ghost use Rattle.lasso_parts.specs.Texts.{IsDistinct, Text, key_of, position_of};
+ghost use Rattle.lasso_single.specs.Filling.{extend};
+ghost use Rattle.lasso_single.specs.Interner.{InternerView};
+ghost use Rattle.lasso_columns.specs.Codes.{AreCodes};
+ghost use Rattle.lasso_columns.specs.Encoding.{spur_at, IsRefused};
+ghost use Rattle.lasso_columns.specs.Parts.{new_texts};
+ghost use Rattle.lasso_counts.specs.Counts.{AreCounts};
+ghost use Rattle.lasso_counts.specs.Adding.{AddsAmounts, AddsCounts, counted_of};
+
+use crate::counting::count_texts;
+use crate::fault::CountError;
+use lasso::{Key, Rodeo, Spur, SpurRodeoReader};
+use lasso_columns::merge;
+use std::alloc::{Allocator, Global};
+use std::hash::BuildHasher;
+use std::thread::{Threads, map_chunks};
+
+/// Does what `count_texts` does, with up to `workers` threads: the list and the counts are the same, whatever the number of threads.
+/// Each thread counts a part of the texts with an interner of its own. Then the caller interns the distinct texts of each part, in
+/// the order of the parts, and adds its counts.
+///
+/// It pays where most texts repeat within their part. A part that runs out of memory, or for which no thread can be started, is
+/// counted by the caller. With one worker, or none, it is `count_texts`.
+///
+/// The counts must be one for each text of the interner, and their sum and the number of texts together below 2^64.
+///
+/// # Errors
+/// The first text that is refused ends it, as in `count_texts`: the texts before it are interned and counted.
+///
+/// ```rust
+/// let mut rodeo: SpurRodeo = Rodeo::default(rt.alloc())?;
+/// let mut counts = Vec::new(rt.alloc());
+/// assert!(rt; count_in_parts(&rt, &mut rodeo, &["red", "green", "red"], &mut counts, 2).is_ok());
+/// assert!(rt; counts.as_slice() == [2, 1].as_slice());
+/// ```
+pub fn count_in_parts<R: AllocGlobal + Threads + Sync, S: BuildHasher, A: Allocator + Clone>(
+    rt: &R,
+    rodeo: &mut Rodeo<Spur, S, A>,
+    texts: &[&str],
+    counts: &mut Vec<u64>,
+    workers: usize,
+) -> Result<(), CountError>
+    requires beside { vec_len counts.old ≡ length rodeo.old.texts }
+    requires fits { sum counts.old.items + length texts.now < 2 ^ 64 }
+    ensures list { extend spur_at rodeo.old (counted_of result (map (λ t. t.now) texts.now)) (Ok tt) rodeo.new }
+    ensures counts { AddsCounts (counted_of result (map (λ t. t.now) texts.now)) rodeo.old.texts counts.old.items rodeo.new.texts counts.new.items }
+    ensures refused { IfErr result (λ error. IsSomeAnd (slice_get (map (λ t. t.now) texts.now) error.position) (λ text. IsRefused rodeo.new text error.error)) }
+{
+    if workers < 2 {
+        return count_texts(rodeo, texts, counts);
+    }
+    let size = texts.len().div_ceil(workers).max(1);
+    let work = move |_: usize, part: &[&str]| -> Option<Part>
+        ensures { IfSome result (λ counted. AreCounts (map (λ t. t.now) part.entry.now) counted.list counted.counts.items) }
+    { count_part(rt.alloc(), part) };
+    let Ok(parts) = map_chunks(rt, rt.alloc(), texts, size, &work) else {
+        return count_texts(rodeo, texts, counts);
+    };
+    let mut start = 0;
+    for part in 0..parts.len() {
+        let count = size.min(texts.len() - start);
+        let here = &texts[start..start + count];
+        if let Err(fault) = put_part(rt.alloc(), rodeo, here, &parts[part], counts) {
+            return Err(fault.after(start));
+        }
+        start += count;
+    }
+    Ok(())
+}
+
+// The distinct texts of a part, and how often each came.
+#[derive(Drop)]
+struct Part {
+    list: SpurRodeoReader,
+    counts: Vec<u64>,
+}
+
+// Counts the texts with an interner of their own. `None` where memory runs out.
+fn count_part(alloc: Global, texts: &[&str]) -> Option<Part>
+    ensures { IfSome result (λ counted. AreCounts (map (λ t. t.now) texts.now) counted.list counted.counts.items) }
+{
+    let Ok(mut rodeo) = Rodeo::default(alloc) else {
+        return None;
+    };
+    let mut counts = Vec::new(alloc);
+    if count_texts(&mut rodeo, texts, &mut counts).is_err() {
+        return None;
+    }
+    Some(Part {
+        list: rodeo.into_reader(),
+        counts,
+    })
+}
+
+// Does what `count_texts` does with the texts, which are those of the part where there is one.
+fn put_part<S: BuildHasher, A: Allocator + Clone>(
+    alloc: Global,
+    rodeo: &mut Rodeo<Spur, S, A>,
+    texts: &[&str],
+    part: &Option<Part>,
+    counts: &mut Vec<u64>,
+) -> Result<(), CountError>
+    requires beside { vec_len counts.old ≡ length rodeo.old.texts }
+    requires fits { sum counts.old.items + length texts.now < 2 ^ 64 }
+    requires counted { IfSome part.now (λ counted. AreCounts (map (λ t. t.now) texts.now) counted.list counted.counts.items) }
+    ensures list { extend spur_at rodeo.old (counted_of result (map (λ t. t.now) texts.now)) (Ok tt) rodeo.new }
+    ensures counts { AddsCounts (counted_of result (map (λ t. t.now) texts.now)) rodeo.old.texts counts.old.items rodeo.new.texts counts.new.items }
+    ensures refused { IfErr result (λ error. IsSomeAnd (slice_get (map (λ t. t.now) texts.now) error.position) (λ text. IsRefused rodeo.new text error.error)) }
+{
+    let Some(part) = part else {
+        return count_texts(rodeo, texts, counts);
+    };
+    // There is room for a count of each text of the part before one is interned.
+    let Ok(()) = counts.reserve(part.list.len()) else {
+        return count_texts(rodeo, texts, counts);
+    };
+    let merged = merge(alloc, rodeo, &part.list);
+    pad(counts, rodeo.len());
+    match merged {
+        Ok(places) => {
+            add_counts(counts, &places, &part.counts);
+            Ok(())
+        }
+        Err(_) => count_rest(rodeo, texts, counts),
+    }
+}
+
+// Appends zeros, up to so many counts.
+fn pad(counts: &mut Vec<u64>, len: usize)
+    requires room { len ≤ vec_capacity counts.old }
+    ensures { counts.new.items ≡ counts.old.items ++ replicate (len - vec_len counts.old) 0 }
+{
+    for _ in counts.len()..len {
+        counts.push_reserved(0);
+    }
+}
+
+// Adds each amount to the count at its place: the places of the texts of one list in another.
+fn add_counts(counts: &mut Vec<u64>, places: &[u32], amounts: &[u64])
+    requires inside { All (λ place. place < vec_len counts.old) places.now }
+    requires each { length places.now ≡ length amounts.now }
+    requires fits { sum counts.old.items + sum amounts.now < 2 ^ 64 }
+    ensures { (list from : List Text) → length counts.old.items ≡ length list → IsDistinct from → AreCodes list from places.now → AddsAmounts list from amounts.now counts.old.items counts.new.items }
+{
+    for position in 0..places.len() {
+        counts[places[position] as usize] += amounts[position];
+    }
+}
+
+// Does what `count_texts` does, where some texts that come first are interned and not counted.
+fn count_rest<S: BuildHasher, A: Allocator + Clone>(
+    rodeo: &mut Rodeo<Spur, S, A>,
+    texts: &[&str],
+    counts: &mut Vec<u64>,
+) -> Result<(), CountError>
+    requires beside { vec_len counts.old ≡ length rodeo.old.texts }
+    requires fits { sum counts.old.items + length texts.now < 2 ^ 64 }
+    ensures list { (before : InternerView) (n : ℕ) → extend spur_at before (take n (new_texts [] (map (λ t. t.now) texts.now))) (Ok tt) rodeo.old → extend spur_at before (counted_of result (map (λ t. t.now) texts.now)) (Ok tt) rodeo.new }
+    ensures counts { AddsCounts (counted_of result (map (λ t. t.now) texts.now)) rodeo.old.texts counts.old.items rodeo.new.texts counts.new.items }
+    ensures refused { IfErr result (λ error. IsSomeAnd (slice_get (map (λ t. t.now) texts.now) error.position) (λ text. IsRefused rodeo.new text error.error)) }
+{
+    let found = count_found(rodeo, texts, counts);
+    match count_texts(rodeo, &texts[found..], counts) {
+        Ok(()) => Ok(()),
+        Err(fault) => Err(fault.after(found)),
+    }
+}
+
+// Counts the texts up to the first that is not interned, and returns how many these are.
+fn count_found<S: BuildHasher, A: Allocator>(
+    rodeo: &Rodeo<Spur, S, A>,
+    texts: &[&str],
+    counts: &mut Vec<u64>,
+) -> usize
+    requires beside { vec_len counts.old ≡ length rodeo.now.texts }
+    requires fits { sum counts.old.items + length texts.now < 2 ^ 64 }
+    ensures within { result ≤ length texts.now }
+    ensures found { All (λ text. IsSome (key_of spur_at rodeo.now.texts text)) (take result (map (λ t. t.now) texts.now)) }
+    ensures next { IfSome (slice_get (map (λ t. t.now) texts.now) result) (λ text. position_of rodeo.now.texts text ≡ None) }
+    ensures counts { AddsCounts (take result (map (λ t. t.now) texts.now)) rodeo.now.texts counts.old.items rodeo.now.texts counts.new.items }
+{
+    for position in 0..texts.len() {
+        let Some(key) = rodeo.get(texts[position]) else {
+            return position;
+        };
+        counts[key.into_usize()] += 1;
+    }
+    texts.len()
+}
