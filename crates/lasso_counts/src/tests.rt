@@ -49,7 +49,8 @@ fn parts_count_as_one(rt: HostRuntime) -> Result<(), Fail> {
     let mut texts = Vec::new(rt.alloc());
     for n in 0..500usize {
         let k = if n < 400 { n % 60 } else { n % 7 };
-        texts.push(names[k].as_str())?;
+        let name = names.get(k).ok_or("a name is missing")?;
+        texts.push(name.as_str())?;
     }
     for workers in [0usize, 1, 2, 3, 7, 64] {
         let mut rodeo: SpurRodeo = Rodeo::default(rt.alloc())?;
@@ -78,10 +79,10 @@ fn parts_count_as_one(rt: HostRuntime) -> Result<(), Fail> {
 #[test]
 fn the_refused_text_is_told(rt: HostRuntime) -> Result<(), Fail> {
     let long = "a long text that takes some bytes";
-    let rows = [
-        ([long, "b", "b", "b", "b", "b", "b", "b"], 0, 0),
-        (["b", long, "b", long, "c", "b", "d", long], 1, 1),
-        (["b", "b", "b", "b", "b", "b", long, "b"], 6, 6),
+    let rows: [(&[&str], usize, u64); 3] = [
+        (&[long, "b", "b", "b", "b", "b", "b", "b"], 0, 0),
+        (&["b", long, "b", long, "c", "b", "d", long], 1, 1),
+        (&["b", "b", "b", "b", "b", "b", long, "b"], 6, 6),
     ];
     for (texts, position, count) in rows {
         for workers in [1usize, 2, 3, 8] {
@@ -97,7 +98,8 @@ fn the_refused_text_is_told(rt: HostRuntime) -> Result<(), Fail> {
                 return Err(Fail::from("letters are no text"));
             };
             count_text(&mut rodeo, filler, &mut counts)?;
-            let ended = count_in_parts(&rt, &mut rodeo, &texts, &mut counts, workers);
+            assert!(rt; texts.len() == 8);
+            let ended = count_in_parts(&rt, &mut rodeo, texts, &mut counts, workers);
             let Err(fault) = ended else {
                 return Err(Fail::from("no text is refused"));
             };
