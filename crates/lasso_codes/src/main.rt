@@ -61,7 +61,10 @@ fn run_program<R: AllocGlobal + Input + Print + Threads + Sync>(
     let Ok(mut output) = BufWriter::with_capacity(rt.alloc(), BUFFER, io::writer(rt)) else {
         return Err(RunFault::no_memory(0));
     };
-    run_request(rt, request, &mut input, &mut output)
+    let ended = run_request(rt, request, &mut input, &mut output);
+    // To drop the writer would hand on what a failed write left, and nothing is tried again.
+    let (_writer, _left) = output.into_parts();
+    ended
 }
 
 // Says why the arguments are refused.
