@@ -105,7 +105,7 @@ pub(crate) fn intern_layout<O: Offset>(
     intern_column(dictionary, bytes, offsets, &[], 0, codes)
 }
 
-// Why a batch of this first offset and so many rows is refused before its first row, if it is.
+// Why a batch with this first offset and `rows` rows is refused before its first row, if it is.
 fn first_fault<O: Offset>(
     bytes: &[u8],
     first: usize,

@@ -8,7 +8,7 @@ use crate::layout::reach;
 use crate::offsets::Offset;
 use crate::refusal::Refusal;
 
-// Whether the bitmap has a bit for each of so many rows, or is none.
+// Whether the bitmap has a bit for each of `rows` rows, or is empty.
 pub(crate) fn fit(bits: &[u8], rows: usize) -> bool
     ensures { result ≡ bits_fit bits.now rows }
 {

@@ -378,7 +378,7 @@ fn number_in<'a>(value: &[u8], word: &'a str) -> Result<usize, ArgumentFault<'a>
     }
 }
 
-// So many workers, where that is 1 to 64.
+// `count` as a number of workers, if it is 1 to 64.
 fn workers_in(count: usize) -> Result<usize, ArgumentFault<'static>>
     ensures { MatchResult result
         (λ workers. workers_of count ≡ Ok workers)

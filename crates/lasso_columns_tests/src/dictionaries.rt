@@ -189,7 +189,7 @@ fn the_limit_ends_a_reading(rt: HostRuntime) -> Result<(), Fail> {
     let ended = append_dictionary(&mut rodeo, b"firstother!", &offsets);
     limit_refuses(Some(refusal(ended.err(), 3)?))?;
     has_texts(&rt, &rodeo, &["first", "other", ""]);
-    // A text that is there is not refused by the limit.
+    // The limit never refuses a present text.
     assert!(rt; append_dictionary(&mut rodeo, b"other", &[0u32, 5]) == Err(ReadError::Doubled(0)));
     let read: Result<SpurRodeo, ReadError> = read_dictionary(
         rt.alloc(),

@@ -15,7 +15,7 @@ pub struct CountError {
 }
 
 impl CountError {
-    // The same, where so many texts stand before the others.
+    // The same fault, `count` texts later.
     pub(crate) fn after(self, count: usize) -> CountError
         requires { count + self.position < 2 ^ 64 }
         ensures position { result.position ≡ count + self.position }

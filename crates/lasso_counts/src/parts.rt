@@ -127,7 +127,7 @@ fn put_part<S: BuildHasher, A: Allocator + Clone>(
     }
 }
 
-// Appends zeros, up to so many counts.
+// Appends zeros until there are `len` counts.
 fn pad(counts: &mut Vec<u64>, len: usize)
     requires room { len ≤ vec_capacity counts.old }
     ensures { counts.new.items ≡ counts.old.items ++ replicate (len - vec_len counts.old) 0 }
