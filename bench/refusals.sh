@@ -97,6 +97,7 @@ is_usual() {
 # Runs the script with each request refused in turn.
 refuse_in_turn() {
     local number=1
+    [ "$REPLAY" != - ] || return 0
     scripts=$((scripts + 1))
     printf '%s\n' "${script[@]}" > "$OUT/input"
     printf '%s\n' "${worked[@]}" > "$OUT/worked"
@@ -202,12 +203,14 @@ goes_on_as() {
 # Runs lasso_lines over the lines with each request refused in turn. The last one, which no line feed ends, is held until the end of the input:
 # memory has to be wanting for that once.
 lines() {
+    [ "$LINES_PROGRAM" != - ] || return 0
     lines_in_turn "$LINES_PROGRAM" -- "$@"
     grep -q "^line $#: " "$OUT/ends" || fail "memory was never wanting at line $#"
 }
 
 # The same with two workers.
 lines_with_workers() {
+    [ "$LINES_PROGRAM" != - ] || return 0
     lines_in_turn "$LINES_PROGRAM" --workers 2 -- "$@"
 }
 
@@ -223,22 +226,30 @@ ends_at_line() {
 # Runs the words before `--` over the lines behind it, the last of them without a line feed, which are answered as `worked` says. A refusal
 # ends the program at a line, or makes no difference.
 lines_in_turn() {
-    local number=1 program=()
+    local program=()
     while [ "$1" != -- ]; do
         program+=("$1")
         shift
     done
     shift
-    scripts=$((scripts + 1))
     printf '%s\n' "$@" | head -c -1 > "$OUT/input"
     printf '%s\n' "${worked[@]}" > "$OUT/worked"
+    filter_in_turn "ends_at_line ${#program[@]}" "${program[@]}"
+}
+
+# Runs the words behind the first one over the input, which has to be answered as worked, with each request refused in turn. A refusal makes
+# no difference, or ends the program as the first word allows. What is then told is kept, with those of the other runs.
+filter_in_turn() {
+    local is_allowed=$1 number=1
+    shift
+    scripts=$((scripts + 1))
     : > "$OUT/ends"
-    run 0 "$OUT/input" "${program[@]}"
+    run 0 "$OUT/input" "$@"
     is_usual && [ ! -s "$OUT/told" ] || fail "a run without a refusal"
-    while run "$number" "$OUT/input" "${program[@]}" && [ -s "$OUT/told" ]; do
+    while run "$number" "$OUT/input" "$@" && [ -s "$OUT/told" ]; do
         if is_usual; then
             unneeded=$((unneeded + 1))
-        elif ends_at_line "${#program[@]}"; then
+        elif $is_allowed; then
             ended=$((ended + 1))
             cat "$OUT/error" >> "$OUT/ends"
         else
@@ -250,11 +261,87 @@ lines_in_turn() {
     refused=$((refused + number - 1))
 }
 
+# Runs a verb of lasso_codes with its options over the input. Memory has to be wanting at each of the places in `needed` once.
+codes() {
+    local place
+    [ "$CODES_PROGRAM" != - ] || return 0
+    filter_in_turn "ends_verb $1" "$CODES_PROGRAM" "$@"
+    for place in "${needed[@]}"; do
+        grep -qx "$place: $NO_MEMORY" "$OUT/ends" || fail "memory was never wanting at $place"
+    done
+}
+
+# The same with two workers, which do a part again for which there is no memory: memory has to be wanting at no line.
+codes_with_workers() {
+    local needed=('line 0')
+    codes "$@" --workers 2
+}
+
+# Whether the verb was refused memory at a place that the input has, and wrote no more and no less than before that.
+ends_verb() {
+    local verb=$1 place number text
+    [ "$status" -eq 1 ] && [[ $(< "$OUT/error") =~ $CODES_ERROR ]] || return 1
+    place=${BASH_REMATCH[2]} number=${BASH_REMATCH[3]} text=${BASH_REMATCH[5]}
+    case $verb-$place in
+        distinct-line)
+            [ -z "$text" ] && has_lines "$number" && lines_before "$number" | awk '!seen[$0]++' | cmp -s - "$OUT/answers"
+            ;;
+        counts-line | encode-line)
+            [ -z "$text" ] && has_lines "$number" && [ ! -s "$OUT/answers" ]
+            ;;
+        decode-line)
+            [ "$number" -eq 0 ] && ends_whole
+            ;;
+        decode-column)
+            [ -n "$text" ] && has_columns "$number" && columns_before "$number" | cmp -s - "$OUT/answers"
+            ;;
+        merge-line)
+            [ "$number" -eq 0 ] && [ ! -s "$OUT/answers" ]
+            ;;
+        merge-column)
+            has_columns "$number" && [ ! -s "$OUT/answers" ]
+            ;;
+        *)
+            return 1
+            ;;
+    esac
+}
+
+# Whether the input has this number of lines, of which the last one has no line feed.
+has_lines() {
+    [ "$1" -le $(($(wc -l < "$OUT/input") + 1)) ]
+}
+
+# The lines of the input before the one of this number: none where it is 0.
+lines_before() {
+    [ "$1" -le 1 ] || head -n $(($1 - 1)) "$OUT/input"
+}
+
+# Whether the input has a column of this number: `entries` tells how many entries each has.
+has_columns() {
+    [ "$1" -ge 1 ] && [ "$1" -le ${#entries[@]} ]
+}
+
+# What is worked for the entries of the columns before the one of this number.
+columns_before() {
+    local at count=0
+    for ((at = 0; at < $1 - 1; at++)); do
+        count=$((count + entries[at]))
+    done
+    head -n "$count" "$OUT/worked"
+}
+
+# Whether what was written are first lines of what is worked, each whole.
+ends_whole() {
+    head -n "$(wc -l < "$OUT/answers")" "$OUT/worked" | cmp -s - "$OUT/answers"
+}
+
 # Runs a script of lasso_refused with each request refused in turn. The program says itself at which call memory was wanting and that all
 # stands then; or it ends before the script begins, or a request makes no difference. At each of these calls memory has to be wanting once.
 calls() {
     local number=1 name=$1 stood=0
     shift
+    [ "$REFUSED_PROGRAM" != - ] || return 0
     scripts=$((scripts + 1))
     echo "$name" > "$OUT/input"
     run 0 /dev/null "$REFUSED_PROGRAM" "$name"

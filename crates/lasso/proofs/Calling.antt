@@ -1,8 +1,8 @@
 -- What callers of an interner cite of the text that they interned, and of those from before.
 --
--- Interning a text leaves the list as it is, or puts the text last. So each text from before keeps its position, and
--- the text itself stands at the position of the key that was answered. Two keys of one list with the same number then
--- resolve to the same text, and the same text was given one key.
+-- Interning a text leaves the list as it is, or puts the text last. So each text from before keeps its
+-- position, and the text itself is at the position of the key that was returned. Two keys of one list with
+-- the same number then resolve to the same text, and the same text was given one key.
 use Rattle.std.proofs.Common.{ℕ, ◌≡◌, ◌↔◌, ◌≤◌, ◌++◌, ◌∷◌, [], suc, List, length, map, Bool, true, false, Option, Some, None, Result, Ok, Err, IfSome, IfOk, is_some, cond, max, refl, sym, ap, subst, ◌∙◌, arith}
 use Rattle.std.specs.Prelude.{slice_get}
 use Rattle.std.proofs.lemmas.Option.{slice_get_within}
@@ -35,14 +35,14 @@ module _ {K : Type 0} (key_at : ℕ → Option K) where
   pub key_answered : (old new : InternerView) (text : Text) (k : K) → InternsIn key_at old text (Ok k) new → key_of key_at new.texts text ≡ Some k
   key_answered old new text k h = key_left key_at old new text k h
 
-  -- and each text from before keeps its position, whatever the call answers
+  -- and each text from before keeps its position, whatever the call returns
   pub texts_stay : (old new : InternerView) (text : Text) (reply : Result K LassoError) → InternsIn key_at old text reply new → (n : ℕ) (kept : Text) → slice_get old.texts n ≡ Some kept → slice_get new.texts n ≡ Some kept
   texts_stay old new text (Ok k) h n kept at =
       subst (λ (ts : List Text). slice_get ts n ≡ Some kept) (sym (list_interned old new text k h)) (position_kept old.texts text n kept at)
   texts_stay old new text (Err error) h n kept at = subst (λ (ts : List Text). slice_get ts n ≡ Some kept) (sym h.0.0) at
 
 module _ {K : Type 0} (key_at : ℕ → Option K) (number : K → ℕ) (made : (n : ℕ) (k : K) → key_at n ≡ Some k → number k ≡ n) where
-  -- the key that an intern call of a `Rodeo` answers, if it answers one, resolves to the text
+  -- the key that an intern call of a `Rodeo` returns, if it returns one, resolves to the text
   pub answer_resolves : (old new : InternerView) (text : Text) (reply : Result K LassoError) → InternsIn key_at old text reply new → IfOk reply (λ k. slice_get new.texts (number k) ≡ Some text)
   answer_resolves old new text (Ok k) h =
       key_resolves key_at number made new.texts text k (key_answered key_at old new text k h)

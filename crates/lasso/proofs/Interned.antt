@@ -1,7 +1,7 @@
 -- What code over the interfaces knows of a text that it interned.
 --
--- Once a text is in the list, it stands at its position there: where it was found, or else last. So its key is that
--- of its position, the key resolves to it, and a second call finds it again and changes nothing.
+-- Once a text is in the list, it is at its position there: where it was found, or else last. So its key is
+-- that of its position, the key resolves to it, and a second call finds it again and changes nothing.
 use Rattle.std.proofs.Common.{ℕ, ◌≡◌, List, Option, Some, None, Ok, Err, IfSome, refl, ap, subst}
 use Rattle.std.specs.Prelude.{slice_get, option_and_then}
 use Rattle.lasso_parts.proofs.TextLemmas.{position_here, position_last}
@@ -10,7 +10,7 @@ use Rattle.lasso_parts.specs.declared.util.LassoError.{LassoError}
 use Rattle.lasso_single.specs.Intern.{interned_position}
 use Rattle.lasso.specs.Interning.{with_last, InternsAmong}
 
--- a text that was interned stands at its position
+-- a text that was interned is at its position
 pub position_with_last : (texts : List Text) (text : Text) (o : Option ℕ) → position_of texts text ≡ o → position_of (with_last texts text) text ≡ Some (interned_position texts text)
 position_with_last texts text None e = rw (e) (position_last texts text e)
 position_with_last texts text (Some i) e = rw (e) e
@@ -29,7 +29,7 @@ module _ {K : Type 0} (key_at : ℕ → Option K) (number : K → ℕ) (made : (
   key_resolves texts text k h = resolves_at texts text k (position_of texts text) refl h
 
 module _ {K : Type 0} (key_at : ℕ → Option K) where
-  -- the key that an intern answers is the text's key in the list that it leaves
+  -- the key that an intern returns is the text's key in the list that it leaves
   pub key_interned : (texts after : List Text) (text : Text) (k : K) → InternsAmong key_at texts text (Ok k) (Some after) → key_of key_at after text ≡ Some k
   key_interned texts after text k h =
       let left : after ≡ with_last texts text = cc in
@@ -67,7 +67,7 @@ module _ {K : Type 0} (key_at : ℕ → Option K) where
       let known = twice texts after new text first again h j in
       (ap (λ (ts : List Text). Some ts) known.0, known.1, subst (λ (ts : List Text). key_of key_at ts text ≡ Some first) known.0 known.2)
 
-  -- the key that an intern answered is the text's key in the list that is frozen then
+  -- the key that an intern returned is the text's key in the list that is frozen then
   pub key_in_frozen : (old mid frozen : Option (List Text)) (text : Text) (k : K) → IfSome old (λ texts. InternsAmong key_at texts text (Ok k) mid) → IfSome mid (λ texts. frozen ≡ Some texts) → IfSome old (λ texts. (frozen ≡ Some (with_last texts text)) × (key_of key_at (with_last texts text) text ≡ Some k))
   key_in_frozen None mid frozen text k h j = tt
   key_in_frozen (Some texts) None frozen text k h j = absurd (cc)
@@ -75,12 +75,12 @@ module _ {K : Type 0} (key_at : ℕ → Option K) where
       let left : after ≡ with_last texts text = cc in
       (cc, subst (λ (ts : List Text). key_of key_at ts text ≡ Some k) left (key_interned texts after text k h))
 
--- what holds of a value that is there, where none is
+-- what holds of a present value, where there is none
 pub if_none : {A : Type 0} (P : A → Type 0) (o : Option A) → o ≡ None → IfSome o P
 if_none P None e = tt
 if_none P (Some x) e = absurd (cc)
 
--- what holds of the value that is there
+-- what holds of the present value
 pub if_some_at : {A : Type 0} (P : A → Type 0) (o : Option A) (x : A) → o ≡ Some x → IfSome o P → P x
 if_some_at P None x e h = absurd (cc)
 if_some_at P (Some y) x e h = let same : y ≡ x = cc in subst P same h

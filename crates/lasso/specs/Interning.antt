@@ -1,16 +1,16 @@
--- What interning a text answers and leaves of a list of texts, where nothing is known of its memory.
+-- What interning a text returns and leaves of a list of texts, where nothing is known of its memory.
 use Rattle.std.specs.Prelude.{ℕ, ◌≡◌, ◌↔◌, ◌⊎◌, List, [], ◌∷◌, ◌++◌, length, Option, Some, None, is_some, if◌then◌else◌, Result, MatchResult, IfErr}
 use Rattle.lasso_parts.specs.Texts.{Text, position_of}
 use Rattle.lasso_parts.specs.declared.util.LassoError.{LassoError}
 use Rattle.lasso_parts.specs.declared.util.LassoErrorKind.TheVariants.{KeySpaceExhaustion, FailedAllocation}
 use Rattle.lasso_single.specs.Intern.{interned_position}
 
--- the list once the text is in it: the same where it is there, else the text goes last
+-- the list once the text is in it: the same if it is present, else the text goes last
 abbrev pub with_last : List Text → Text → List Text
 with_last texts text = if is_some (position_of texts text) then texts else texts ++ text ∷ []
 
--- interning the text answers the key of its position and leaves the list with it; or it is refused, which
--- no text that is there is, and leaves the list as it was, for want of a key exactly where a new text finds none
+-- interning the text returns the key of its position and leaves the list with it; or it is refused, which no
+-- present text is, and leaves the list as it was, for lack of a key exactly where a new text finds none
 abbrev pub InternsAmong : {K : Type 0} → (ℕ → Option K) → List Text → Text → Result K LassoError → Option (List Text) → Type 0
 InternsAmong key_at texts text reply after =
     MatchResult reply

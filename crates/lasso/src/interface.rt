@@ -1,9 +1,9 @@
 //! Interfaces of interners: code that is written once for each interner takes one of these traits.
 //!
 //! Their meaning is a list of texts, where a value has one of its own: an interner for one thread and a
-//! frozen one have, one that other threads fill meanwhile has none. Each call says what it does to the
-//! list where there is one. Calls that an interner for many threads can only answer by waiting take a
-//! handle for it; the others never wait.
+//! frozen one have, one that other threads fill meanwhile has none. Each call says what it does to the list
+//! where there is one. Calls for which an interner for many threads may have to wait take a handle for it;
+//! the others never wait.
 ghost use Rattle.std.specs.Prelude.{◌≡◌, ◌<◌, ◌↔◌, Option, Some, List, length, is_some, IfSome, IfErr, IsOkAnd, IsTrue, slice_get, option_map};
 ghost use Rattle.lasso_parts.specs.Texts.{Text, position_of, key_of};
 ghost use Rattle.lasso_parts.specs.declared.util.LassoErrorKind.TheVariants.{FailedAllocation};
@@ -67,38 +67,39 @@ pub trait Resolver<K: Key> {
 
 /// What finds the keys of texts too.
 pub trait Reader<K: Key>: Resolver<K> {
-    /// The key of the text, or `None` where it is not there.
+    /// The key of the text, or `None` if it is absent.
     fn get<R: Wait>(&self, rt: &R, text: &str) -> Option<K>
         ensures { IfSome (Self.meaning self.now) (λ texts. result ≡ key_of K.key_at texts text.now) };
 
-    /// Whether the text is there.
+    /// Whether the text is present.
     fn contains<R: Wait>(&self, rt: &R, text: &str) -> bool
         ensures { IfSome (Self.meaning self.now) (λ texts. result ≡ is_some (position_of texts text.now)) };
 }
 
 /// What interns texts too.
 pub trait Interner<K: Key>: Reader<K> {
-    /// The key of the text, which goes last if it is not there. A text that is there is never refused. A new
-    /// one is refused where the key type has no key for its position, else where a memory limit leaves no
-    /// room for its bytes, else for want of memory; no text is added then.
+    /// Returns the text's key, and appends the text first if it is new. Interning a present text never fails.
+    /// A new text fails when the key type has no key for its position (`KeySpaceExhaustion`), else when it
+    /// would pass a memory limit (`MemoryLimitReached`), else when out of memory (`FailedAllocation`). No
+    /// text is added then.
     fn try_get_or_intern<R: Wait>(&mut self, rt: &R, text: &str) -> LassoResult<K>
         ensures { IfSome (Self.meaning self.old) (λ texts. InternsAmong K.key_at texts text.now result (Self.meaning self.new)) };
 
-    /// The key of the text, which goes last if it is not there. The text is kept as it is, with no copy, so
-    /// that no memory limit refuses it. All else is as for `try_get_or_intern`.
+    /// Returns the text's key, and appends the text first if it is new. The text is kept as it is, with no
+    /// copy, so that no memory limit refuses it. All else is as for `try_get_or_intern`.
     fn try_get_or_intern_static<R: Wait>(&mut self, rt: &R, text: &'static str) -> LassoResult<K>
         ensures { IfSome (Self.meaning self.old) (λ texts. InternsStaticAmong K.key_at texts text.now result (Self.meaning self.new)) };
 
-    /// The key of the text, which goes last if it is not there: the same call as `try_get_or_intern`, with
-    /// the same refusals.
+    /// Returns the text's key, and appends the text first if it is new: the same call as `try_get_or_intern`,
+    /// with the same refusals.
     fn get_or_intern<R: Wait>(&mut self, rt: &R, text: &str) -> LassoResult<K>
         ensures { IfSome (Self.meaning self.old) (λ texts. InternsAmong K.key_at texts text.now result (Self.meaning self.new)) }
     {
         self.try_get_or_intern(rt, text)
     }
 
-    /// The key of the text, which goes last if it is not there: the same call as `try_get_or_intern_static`,
-    /// with the same refusals.
+    /// Returns the text's key, and appends the text first if it is new: the same call as
+    /// `try_get_or_intern_static`, with the same refusals.
     fn get_or_intern_static<R: Wait>(&mut self, rt: &R, text: &'static str) -> LassoResult<K>
         ensures { IfSome (Self.meaning self.old) (λ texts. InternsStaticAmong K.key_at texts text.now result (Self.meaning self.new)) }
     {
@@ -111,8 +112,8 @@ pub trait IntoReader<K: Key>: Interner<K> + Sized {
     /// The frozen form.
     type Reader: Reader<K>;
 
-    /// The same texts under the same keys, frozen. What has a list of its own is never refused; another is
-    /// refused for want of memory alone, and is gone then.
+    /// The same texts under the same keys, frozen. A value with a list of its own is never refused. For
+    /// another the only error is `FailedAllocation`, and it is gone then.
     fn into_reader<R: Wait>(self, rt: &R) -> LassoResult<Self::Reader>
         ensures frozen { IfSome (Self.meaning self) (λ texts. IsOkAnd result (λ reader. ⟦<Self::Reader as Resolver<K>>⟧.meaning reader ≡ Some texts)) }
         ensures refused { IfErr result (λ error. error ≡ FailedAllocation) };
@@ -128,8 +129,8 @@ pub trait IntoResolver<K: Key>: Reader<K> + Sized {
     /// The frozen form.
     type Resolver: Resolver<K>;
 
-    /// The same texts under the same keys, frozen, and no keys are found any more. What has a list of its
-    /// own is never refused; another is refused for want of memory alone, and is gone then.
+    /// The same texts under the same keys, frozen, and no keys are found any more. A value with a list of its
+    /// own is never refused. For another the only error is `FailedAllocation`, and it is gone then.
     fn into_resolver<R: Wait>(self, rt: &R) -> LassoResult<Self::Resolver>
         ensures frozen { IfSome (Self.meaning self) (λ texts. IsOkAnd result (λ resolver. ⟦<Self::Resolver as Resolver<K>>⟧.meaning resolver ≡ Some texts)) }
         ensures refused { IfErr result (λ error. error ≡ FailedAllocation) };

@@ -56,6 +56,7 @@ pub use interface::{
     Interner, IntoReader, IntoReaderAndResolver, IntoResolver, Reader, Resolver, SpurInterner,
     SpurReader, SpurResolver,
 };
+pub use lasso_log::log::{Pass, Snapshot};
 pub use lasso_log::{log, shared_arena};
 pub use lasso_parts::iter::{Iter, Strings};
 pub use lasso_parts::json::{JsonError, JsonKey};
@@ -71,6 +72,7 @@ pub use lasso_single::reader::RodeoReader;
 pub use lasso_single::resolver::RodeoResolver;
 pub use lasso_single::rodeo::Rodeo;
 pub use lasso_single::words::{are_distinct, have_keys};
+pub use lasso_single::{commands, reader, resolver, rodeo, words};
 use std::alloc::Global;
 
 /// A `Rodeo` with `Spur` keys, the hasher of fixed seed and the global allocator.

@@ -5,8 +5,8 @@ ghost use Rattle.lasso_log.specs.Views.{InternerId};
 
 use crate::timing::{ROUNDS, tenths_a_call};
 use anyhow::{Result, ensure};
+use lasso_log::log::bucket::SharedBucket;
 use lasso_log::log::{Log, NewLog, OpeningTexts};
-use lasso_log::shared_arena::bucket::SharedBucket;
 use lasso_parts::keys::Spur;
 use std::rt::Clock;
 use std::sync::Wait;

@@ -3,9 +3,8 @@
 //! `round` those of one round of the interner and its frozen forms alone, with `refill` those of an interner that is cleared and filled
 //! again, with `collide` those of filling one with texts that collide, with `shared` those of a call of the lists that are shared, with `interners` those of one round of the
 //! interner that threads share, over the lines of standard input; with `walks` those of walks over it and of freezing it; with `columns` those of encoding and decoding them; with
-//! `fill` it interns these lines as they come and prints how many texts there are; with `soak` and a number of seconds it has threads make
-//! random calls for so long and checks what they answer; with `small` it does all of this over a few texts and prints what the calls
-//! answered; and without words nothing.
+//! `fill` it interns these lines as they come and prints how many texts there are; with `small` it does all of this over a few texts and
+//! prints what the calls answered; and without words nothing.
 #![tactic(auto)]
 
 ghost use Rattle.std.specs.Prelude.{◌<◌};
@@ -20,7 +19,6 @@ mod lines;
 mod pools;
 mod positions;
 mod refill;
-mod rounds;
 mod shared;
 mod small;
 mod texts;
@@ -38,7 +36,6 @@ use interners::{time_filled, time_filling};
 use lines::Lines;
 use pools::{MapPool, RodeoPool, SetPool};
 use refill::best_refill_timings;
-use rounds::{THREADS as SOAKERS, rounds_in};
 use shared::Shelf;
 use small::print_small;
 use std::env;
@@ -60,9 +57,6 @@ const REFILLED_TEXTS: u32 = 10_000;
 
 const REFILLS: u32 = 1000;
 
-// How many calls a thread makes in a round of random calls.
-const SOAK_CALLS: u32 = 10_000;
-
 fn main(rt: HostRuntime) -> Result<()> {
     let mut words = env::args(&rt)?;
     let _program = words.next();
@@ -79,9 +73,8 @@ fn main(rt: HostRuntime) -> Result<()> {
         [word] if word.as_str() == "columns" => print_codes(&rt),
         [word] if word.as_str() == "fill" => print_fill(&rt),
         [word] if word.as_str() == "small" => print_small(&rt),
-        [word, seconds] if word.as_str() == "soak" => print_soak(&rt, seconds.as_str()),
         _ => bail!(
-            "usage: lasso_bench [measure|round|refill|collide|shared|interners|walks|columns|fill|small|soak SECONDS]"
+            "usage: lasso_bench [measure|round|refill|collide|shared|interners|walks|columns|fill|small]"
         ),
     }
 }
@@ -295,22 +288,6 @@ fn print_codes<R: AllocGlobal + Clock + Input + Print + Threads + Wait + Sync>(
 fn print_fill<R: AllocGlobal + Input + Print + Wait>(rt: &R) -> Result<()> {
     let count = fill(rt, BufReader::new(rt.alloc(), rt.reader())?)?;
     println!(rt; "{count}")?;
-    Ok(())
-}
-
-// Has threads make random calls until so many seconds are over, and prints how many rounds and calls it were.
-fn print_soak<R: AllocGlobal + Clock + Print + Threads + Wait + Sync>(
-    rt: &R,
-    seconds: &str,
-) -> Result<()> {
-    let Ok(seconds) = seconds.parse::<u64>() else {
-        bail!("soak: not a number of seconds: {seconds}");
-    };
-    let rounds = rounds_in(rt, seconds, SOAK_CALLS)?;
-    let calls = rounds
-        .saturating_mul(SOAKERS as u64)
-        .saturating_mul(u64::from(SOAK_CALLS));
-    println!(rt; "{rounds} rounds, {calls} calls")?;
     Ok(())
 }
 

@@ -10,13 +10,12 @@ use crate::lines::Lines;
 use crate::pools::{KeyedTexts, MapPool, RodeoPool, SetPool, TextPool};
 use crate::positions::random_positions;
 use crate::refill::best_refill_timings;
-use crate::rounds::{calls_in_round, print_verdicts};
 use crate::shared::{SharedTexts, Shelf};
 use crate::texts::{Sample, jumped};
 use crate::threads::{Walk, best_shared_timings};
 use crate::timing::best_timings;
 use crate::walks::{best_walk_timings, walk_entries, walk_texts};
-use anyhow::{Context, Result, ensure};
+use anyhow::{Context, Result};
 use lasso::{SpurThreadedRodeo, ThreadedRodeo};
 use std::rt::Clock;
 use std::sync::Wait;
@@ -24,9 +23,6 @@ use std::thread::Threads;
 
 // How many texts there are where more than a few are wanted.
 const COUNT: u32 = 1000;
-
-// How many calls a thread makes in a round of random calls.
-const CALLS: u32 = 10_000;
 
 const LINES: &str = "b\nab\nb\n\nabc\nab\nb";
 
@@ -42,8 +38,7 @@ pub fn print_small<R: AllocGlobal + Clock + Print + Threads + Wait + Sync>(rt: &
     print_walks(rt)?;
     time_columns(rt, LINES.as_bytes())?;
     time_collisions(rt, 100)?;
-    print_verdicts(rt)?;
-    print_random_calls(rt)
+    Ok(())
 }
 
 // Prints positions in the orders in which texts are asked for.
@@ -175,15 +170,5 @@ fn print_walks<R: AllocGlobal + Clock + Print + Wait>(rt: &R) -> Result<()> {
     let rodeo: SpurThreadedRodeo = ThreadedRodeo::default(rt.alloc())?;
     rodeo.extend(rt, ["b", "a", "c"])?;
     println!(rt; "walks: {:?}, {}", walk_entries(&rodeo), walk_texts(&rodeo))?;
-    Ok(())
-}
-
-// Makes three rounds of random calls, one of them with few keys and one in which a thread sets limits alone.
-fn print_random_calls<R: AllocGlobal + Print + Threads + Wait + Sync>(rt: &R) -> Result<()> {
-    for seed in [0u64, 1, 2] {
-        let len = calls_in_round(rt, seed, CALLS)?;
-        ensure!(len > 200, "round {seed} has {len} texts alone");
-        println!(rt; "round {seed}: one list explains all answers")?;
-    }
     Ok(())
 }

@@ -16,8 +16,8 @@ use Rattle.lasso_c.specs.Layout.{greatest_offset, layout_texts, start_fault, tex
 use Rattle.lasso_c.specs.Decoding.{nothing}
 use Rattle.lasso_c.specs.Encoding.{column_refusal, dictionary_of, of_column, row_codes, with_all_new}
 use Rattle.lasso_c.specs.Interning.{InternsRoomed, InternsPart, refusal_at}
-use Rattle.lasso_c.specs.declared.refusal.Refusal.{Refusal}
-use Rattle.lasso_c.specs.declared.refusal.Refusal.TheVariants.{CodesTooShort, BitmapTooShort, NoMemory}
+use Rattle.lasso_c.specs.declared.error.CallError.{CallError}
+use Rattle.lasso_c.specs.declared.error.CallError.TheVariants.{CodesTooShort, BitmapTooShort, NoMemory}
 use Rattle.lasso_c.proofs.BatchSteps.{length-row_codes}
 use Rattle.lasso_c.proofs.Layouts.{length-layout_texts}
 use Rattle.lasso_c.proofs.RoundTrip.{all_bytes}
@@ -28,33 +28,33 @@ of_interner at MemoryLimitReached = refl
 of_interner at KeySpaceExhaustion = refl
 of_interner at FailedAllocation = refl
 
-is_of_start : (bytes : List ℕ) (from : ℕ) (refusal : Refusal) → start_fault greatest_offset bytes from ≡ Some refusal → of_column refusal ≡ refusal
+is_of_start : (bytes : List ℕ) (from : ℕ) (refusal : CallError) → start_fault greatest_offset bytes from ≡ Some refusal → of_column refusal ≡ refusal
 is_of_start bytes from refusal is = grind (arith, nat_tests)
 
-is_of_text : (bytes : List ℕ) (at from to : ℕ) (refusal : Refusal) → text_fault greatest_offset bytes at from to ≡ Some refusal → of_column refusal ≡ refusal
+is_of_text : (bytes : List ℕ) (at from to : ℕ) (refusal : CallError) → text_fault greatest_offset bytes at from to ≡ Some refusal → of_column refusal ≡ refusal
 is_of_text bytes at from to refusal is = grind (arith, nat_tests)
 
-is_of_null : (bytes : List ℕ) (at from to : ℕ) (refusal : Refusal) → null_fault greatest_offset bytes at from to ≡ Some refusal → of_column refusal ≡ refusal
+is_of_null : (bytes : List ℕ) (at from to : ℕ) (refusal : CallError) → null_fault greatest_offset bytes at from to ≡ Some refusal → of_column refusal ≡ refusal
 is_of_null bytes at from to refusal is = grind (arith, nat_tests)
 
-is_of_row : (there : Bool) (bytes : List ℕ) (at from to : ℕ) (refusal : Refusal) → (if there then text_fault greatest_offset bytes at from to else null_fault greatest_offset bytes at from to) ≡ Some refusal → of_column refusal ≡ refusal
+is_of_row : (there : Bool) (bytes : List ℕ) (at from to : ℕ) (refusal : CallError) → (if there then text_fault greatest_offset bytes at from to else null_fault greatest_offset bytes at from to) ≡ Some refusal → of_column refusal ≡ refusal
 is_of_row true bytes at from to refusal is = is_of_text bytes at from to refusal is
 is_of_row false bytes at from to refusal is = is_of_null bytes at from to refusal is
 
-or_some : (one other : Option Refusal) (refusal : Refusal) → option_or one other ≡ Some refusal → (one ≡ Some refusal) ⊎ (other ≡ Some refusal)
+or_some : (one other : Option CallError) (refusal : CallError) → option_or one other ≡ Some refusal → (one ≡ Some refusal) ⊎ (other ≡ Some refusal)
 or_some None other refusal is = inr is
 or_some (Some one) other refusal is = inl is
 
-is_of_rows : (bits bytes : List ℕ) (at from : ℕ) (offsets : List ℕ) (refusal : Refusal) → rows_fault greatest_offset bits bytes at from offsets ≡ Some refusal → of_column refusal ≡ refusal
-is_of_rows bits bytes at from [] refusal is = let no : ◌≡◌ {A = Option Refusal} None (Some refusal) = is in absurd cc
+is_of_rows : (bits bytes : List ℕ) (at from : ℕ) (offsets : List ℕ) (refusal : CallError) → rows_fault greatest_offset bits bytes at from offsets ≡ Some refusal → of_column refusal ≡ refusal
+is_of_rows bits bytes at from [] refusal is = let no : ◌≡◌ {A = Option CallError} None (Some refusal) = is in absurd cc
 is_of_rows bits bytes at from (to ∷ offsets) refusal is =
     elim (or_some (row_fault greatest_offset bits bytes at from to) (rows_fault greatest_offset bits bytes (at + 1) to offsets) refusal is) [
       | inl w ↦ is_of_row (present_at bits at) bytes at from to refusal w
       | inr w ↦ is_of_rows bits bytes (at + 1) to offsets refusal w
     ]
 
-is_of_column : (bits bytes offsets : List ℕ) (refusal : Refusal) → column_fault greatest_offset bits bytes offsets ≡ Some refusal → of_column refusal ≡ refusal
-is_of_column bits bytes [] refusal is = let no : ◌≡◌ {A = Option Refusal} None (Some refusal) = is in absurd cc
+is_of_column : (bits bytes offsets : List ℕ) (refusal : CallError) → column_fault greatest_offset bits bytes offsets ≡ Some refusal → of_column refusal ≡ refusal
+is_of_column bits bytes [] refusal is = let no : ◌≡◌ {A = Option CallError} None (Some refusal) = is in absurd cc
 is_of_column bits bytes (from ∷ offsets) refusal is =
     elim (or_some (start_fault greatest_offset bytes from) (rows_fault greatest_offset bits bytes 0 from offsets) refusal is) [
       | inl w ↦ is_of_start bytes from refusal w
@@ -62,13 +62,13 @@ is_of_column bits bytes (from ∷ offsets) refusal is =
     ]
 
 ok_by : (short fits : Bool) (bits bytes offsets : List ℕ) (done : ℕ) (old new : InternerView) → InternsRoomed greatest_offset short fits bits bytes offsets done old (Ok tt) new → ((if fits then column_fault greatest_offset bits bytes offsets else Some (BitmapTooShort (8 * length bits))) ≡ None) × (done ≡ length (layout_texts bytes offsets))
-ok_by true fits bits bytes offsets done old new h = let no : ◌≡◌ {A = Result (Unit {0}) Refusal} (Ok tt) (Err (CodesTooShort nothing)) = h.1 in absurd cc
-ok_by false false bits bytes offsets done old new h = let no : ◌≡◌ {A = Result (Unit {0}) Refusal} (Ok tt) (Err (BitmapTooShort (8 * length bits))) = h.1 in absurd cc
+ok_by true fits bits bytes offsets done old new h = let no : ◌≡◌ {A = Result (Unit {0}) CallError} (Ok tt) (Err (CodesTooShort nothing)) = h.1 in absurd cc
+ok_by false false bits bytes offsets done old new h = let no : ◌≡◌ {A = Result (Unit {0}) CallError} (Ok tt) (Err (BitmapTooShort (8 * length bits))) = h.1 in absurd cc
 ok_by false true bits bytes offsets done old new h = h.ends
 
-err_by : (short fits : Bool) (bits bytes offsets : List ℕ) (done : ℕ) (old new : InternerView) (refusal : Refusal) → short ≡ false → InternsRoomed greatest_offset short fits bits bytes offsets done old (Err refusal) new → ((if fits then column_fault greatest_offset bits bytes offsets else Some (BitmapTooShort (8 * length bits))) ≡ Some (of_column refusal)) ⊎ (of_column refusal ≡ NoMemory)
+err_by : (short fits : Bool) (bits bytes offsets : List ℕ) (done : ℕ) (old new : InternerView) (refusal : CallError) → short ≡ false → InternsRoomed greatest_offset short fits bits bytes offsets done old (Err refusal) new → ((if fits then column_fault greatest_offset bits bytes offsets else Some (BitmapTooShort (8 * length bits))) ≡ Some (of_column refusal)) ⊎ (of_column refusal ≡ NoMemory)
 err_by true fits bits bytes offsets done old new refusal room h = absurd cc
-err_by false false bits bytes offsets done old new refusal room h = let same : refusal ≡ BitmapTooShort (8 * length bits) = let e : ◌≡◌ {A = Result (Unit {0}) Refusal} (Err refusal) (Err (BitmapTooShort (8 * length bits))) = h.1 in cc in inl (ap (λ r. Some (of_column r)) (sym same))
+err_by false false bits bytes offsets done old new refusal room h = let same : refusal ≡ BitmapTooShort (8 * length bits) = let e : ◌≡◌ {A = Result (Unit {0}) CallError} (Err refusal) (Err (BitmapTooShort (8 * length bits))) = h.1 in cc in inl (ap (λ r. Some (of_column r)) (sym same))
 err_by false true bits bytes offsets done old new refusal room h =
     elim h.ends [
       | inl w ↦ inl (w.0 ∙ ap (λ r. Some r) (sym (is_of_column bits bytes offsets refusal w.0)))
@@ -79,12 +79,12 @@ err_by false true bits bytes offsets done old new refusal room h =
 pub part_ok : (room : ℕ) (bits bytes offsets : List ℕ) (done : ℕ) (old new : InternerView) → InternsPart greatest_offset room bits bytes offsets done old (Ok tt) new → (column_refusal bits bytes offsets ≡ None) × (done ≡ length (layout_texts bytes offsets))
 part_ok room bits bytes offsets done old new h = ok_by (nat_lt room (length (layout_texts bytes offsets))) (bits_fit bits (length (layout_texts bytes offsets))) bits bytes offsets done old new h
 
-pub part_err : (room : ℕ) (bits bytes offsets : List ℕ) (done : ℕ) (old new : InternerView) (refusal : Refusal) → length (layout_texts bytes offsets) ≤ room → InternsPart greatest_offset room bits bytes offsets done old (Err refusal) new → (column_refusal bits bytes offsets ≡ Some (of_column refusal)) ⊎ (of_column refusal ≡ NoMemory)
+pub part_err : (room : ℕ) (bits bytes offsets : List ℕ) (done : ℕ) (old new : InternerView) (refusal : CallError) → length (layout_texts bytes offsets) ≤ room → InternsPart greatest_offset room bits bytes offsets done old (Err refusal) new → (column_refusal bits bytes offsets ≡ Some (of_column refusal)) ⊎ (of_column refusal ≡ NoMemory)
 part_err room bits bytes offsets done old new refusal enough h =
     err_by (nat_lt room (length (layout_texts bytes offsets))) (bits_fit bits (length (layout_texts bytes offsets))) bits bytes offsets done old new refusal (grind (arith, nat_tests)) h
 
 -- where nothing is wrong with the rows, the bitmap has their bits
-good_by : (fits : Bool) (fault : Option Refusal) (at : ℕ) → (if fits then fault else Some (BitmapTooShort at)) ≡ None → fault ≡ None
+good_by : (fits : Bool) (fault : Option CallError) (at : ℕ) → (if fits then fault else Some (BitmapTooShort at)) ≡ None → fault ≡ None
 good_by true fault at is = is
 good_by false fault at is = let no : Some (BitmapTooShort at) ≡ None = is in absurd cc
 

@@ -21,9 +21,9 @@ use Rattle.lasso_c.specs.Layout.{layout_texts, start_fault, text_fault, null_fau
 use Rattle.lasso_c.specs.Encoding.{with_new}
 use Rattle.lasso_c.specs.Interning.{key_of_code, InternsCode, InternsUnless, InternsRow, InternsNext, InternsColumn, InternsRoomed, InternsPart, batch_start_fault, null_outcome}
 use Rattle.lasso_c.specs.Decoding.{nothing}
-use Rattle.lasso_c.specs.declared.refusal.Refusal.TheVariants.{CodesTooShort, BitmapTooShort}
+use Rattle.lasso_c.specs.declared.error.CallError.TheVariants.{CodesTooShort, BitmapTooShort}
 use Rattle.lasso_c.specs.Status.{outcome_report}
-use Rattle.lasso_c.specs.declared.refusal.Refusal.{Refusal}
+use Rattle.lasso_c.specs.declared.error.CallError.{CallError}
 use Rattle.lasso_c.proofs.BatchSteps.{text_is, RowDone}
 use Rattle.lasso_c.proofs.Interning.{position_interned}
 use Rattle.lasso_c.proofs.Layouts.{length-layout_texts, or_none}
@@ -40,7 +40,7 @@ unchanged old new text error h =
     rw (h.0.0, h.0.1, h.2.0, h.1, h.2.2, h.2.1) refl in
     same
 
-pub unchanged_code : (at : ℕ) (old new : InternerView) (text : Text) (refusal : Refusal) → InternsCode at old text (Err refusal) new → new ≡ old
+pub unchanged_code : (at : ℕ) (old new : InternerView) (text : Text) (refusal : CallError) → InternsCode at old text (Err refusal) new → new ≡ old
 unchanged_code at old new text refusal h = unchanged old new text h.0 h.1
 
 -- the list with a text, and its code
@@ -51,22 +51,22 @@ pub code_found : (at : ℕ) (old new : InternerView) (text : Text) (code : ℕ) 
 code_found at old new text code h = position_interned old.texts text (code + 1) h.0.1 ∙ ap (λ n. Some n) (let n : (code + 1) - 1 ≡ code = omega arith in n)
 
 -- which of both an interned text, and a refused one, comes of
-pub unless_ok : (fault : Option Refusal) (at : ℕ) (old new : InternerView) (text : Text) (code : ℕ) → InternsUnless fault at old text (Ok code) new → (fault ≡ None) × InternsCode at old text (Ok code) new
+pub unless_ok : (fault : Option CallError) (at : ℕ) (old new : InternerView) (text : Text) (code : ℕ) → InternsUnless fault at old text (Ok code) new → (fault ≡ None) × InternsCode at old text (Ok code) new
 unless_ok None at old new text code h = (refl, h)
 unless_ok (Some refusal) at old new text code h = let no = h.0 in absurd cc
 
-pub unless_refused : (fault : Option Refusal) (at : ℕ) (old new : InternerView) (text : Text) (refusal : Refusal) → InternsUnless fault at old text (Err refusal) new → ((fault ≡ Some refusal) × (new ≡ old)) ⊎ ((fault ≡ None) × InternsCode at old text (Err refusal) new)
+pub unless_refused : (fault : Option CallError) (at : ℕ) (old new : InternerView) (text : Text) (refusal : CallError) → InternsUnless fault at old text (Err refusal) new → ((fault ≡ Some refusal) × (new ≡ old)) ⊎ ((fault ≡ None) × InternsCode at old text (Err refusal) new)
 unless_refused None at old new text refusal h = inr (refl, h)
 unless_refused (Some other) at old new text refusal h = let is = h.0 in let same : Some other ≡ Some refusal = cc in inl (same, h.1)
 
 -- what comes of a null
-null_ok : (fault : Option Refusal) (null code : ℕ) → Ok code ≡ null_outcome fault null → (fault ≡ None) × (code ≡ null)
+null_ok : (fault : Option CallError) (null code : ℕ) → Ok code ≡ null_outcome fault null → (fault ≡ None) × (code ≡ null)
 null_ok None null code is = (refl, cc)
-null_ok (Some refusal) null code is = let no : ◌≡◌ {A = Result ℕ Refusal} (Ok code) (Err refusal) = is in absurd cc
+null_ok (Some refusal) null code is = let no : ◌≡◌ {A = Result ℕ CallError} (Ok code) (Err refusal) = is in absurd cc
 
-null_refused : (fault : Option Refusal) (null : ℕ) (refusal : Refusal) → Err refusal ≡ null_outcome fault null → fault ≡ Some refusal
-null_refused None null refusal is = let no : ◌≡◌ {A = Result ℕ Refusal} (Err refusal) (Ok null) = is in absurd cc
-null_refused (Some other) null refusal is = let same : ◌≡◌ {A = Result ℕ Refusal} (Err refusal) (Err other) = is in cc
+null_refused : (fault : Option CallError) (null : ℕ) (refusal : CallError) → Err refusal ≡ null_outcome fault null → fault ≡ Some refusal
+null_refused None null refusal is = let no : ◌≡◌ {A = Result ℕ CallError} (Err refusal) (Ok null) = is in absurd cc
+null_refused (Some other) null refusal is = let same : ◌≡◌ {A = Result ℕ CallError} (Err refusal) (Err other) = is in cc
 
 -- a row that is done: nothing is wrong with it, and a text is interned
 abbrev pub RowGood : Bool → ℕ → ℕ → InternerView → Text → ℕ → InternerView → Type 0
@@ -102,7 +102,7 @@ module _ (greatest : ℕ) where
       ap (λ o. option_or o (rows_fault greatest bits bytes (first + 1) to (take (suc k) offsets))) both.0 ∙ more_from bits bytes (first + 1) to offsets k at (omega arith) both.1 (omega arith) is
 
   -- the row after some good ones is the first wrong one
-  wrong_from : (bits bytes : List ℕ) (first from : ℕ) (offsets : List ℕ) (k at : ℕ) (refusal : Refusal) → at ≡ first + k → rows_fault greatest bits bytes first from (take k offsets) ≡ None → k < length offsets → row_fault greatest bits bytes at (get_or (from ∷ offsets) k 0) (get_or offsets k 0) ≡ Some refusal → rows_fault greatest bits bytes first from offsets ≡ Some refusal
+  wrong_from : (bits bytes : List ℕ) (first from : ℕ) (offsets : List ℕ) (k at : ℕ) (refusal : CallError) → at ≡ first + k → rows_fault greatest bits bytes first from (take k offsets) ≡ None → k < length offsets → row_fault greatest bits bytes at (get_or (from ∷ offsets) k 0) (get_or offsets k 0) ≡ Some refusal → rows_fault greatest bits bytes first from offsets ≡ Some refusal
   wrong_from bits bytes first from [] k at refusal same good small is = absurd (omega arith)
   wrong_from bits bytes first from (to ∷ offsets) zero at refusal same good small is =
       let here : first ≡ at = omega arith in
@@ -126,7 +126,7 @@ module _ (greatest : ℕ) where
       let two : at + 2 ≡ suc (suc at) = omega arith in
       subst (λ n. column_fault greatest bits bytes (take n (from ∷ offsets)) ≡ None) (sym two) (ap (λ o. option_or o (rows_fault greatest bits bytes 0 from (take (suc at) offsets))) known.0 ∙ more)
 
-  pub first_wrong : (bits bytes offsets : List ℕ) (at : ℕ) (refusal : Refusal) → column_fault greatest bits bytes (take (at + 1) offsets) ≡ None → at + 1 < length offsets → row_fault greatest bits bytes at (get_or offsets at 0) (get_or offsets (at + 1) 0) ≡ Some refusal → column_fault greatest bits bytes offsets ≡ Some refusal
+  pub first_wrong : (bits bytes offsets : List ℕ) (at : ℕ) (refusal : CallError) → column_fault greatest bits bytes (take (at + 1) offsets) ≡ None → at + 1 < length offsets → row_fault greatest bits bytes at (get_or offsets at 0) (get_or offsets (at + 1) 0) ≡ Some refusal → column_fault greatest bits bytes offsets ≡ Some refusal
   first_wrong bits bytes [] at refusal good small is = absurd (omega arith)
   first_wrong bits bytes (from ∷ offsets) at refusal good small is =
       let known = known_at bits bytes from offsets at good in
@@ -134,13 +134,13 @@ module _ (greatest : ℕ) where
       ap (λ o. option_or o (rows_fault greatest bits bytes 0 from offsets)) known.0 ∙ wrong
 
   -- a refusal of a layout tells the number of the text, and that of a first offset is of the first
-  pub told_at : (bytes : List ℕ) (at from to : ℕ) (refusal : Refusal) → text_fault greatest bytes at from to ≡ Some refusal → (outcome_report (Err refusal)).at ≡ at
+  pub told_at : (bytes : List ℕ) (at from to : ℕ) (refusal : CallError) → text_fault greatest bytes at from to ≡ Some refusal → (outcome_report (Err refusal)).at ≡ at
   told_at bytes at from to refusal is = grind (arith, nat_tests)
 
-  told_null : (bytes : List ℕ) (at from to : ℕ) (refusal : Refusal) → null_fault greatest bytes at from to ≡ Some refusal → (outcome_report (Err refusal)).at ≡ at
+  told_null : (bytes : List ℕ) (at from to : ℕ) (refusal : CallError) → null_fault greatest bytes at from to ≡ Some refusal → (outcome_report (Err refusal)).at ≡ at
   told_null bytes at from to refusal is = grind (arith, nat_tests)
 
-  pub told_first : (bytes : List ℕ) (from : ℕ) (refusal : Refusal) → start_fault greatest bytes from ≡ Some refusal → (outcome_report (Err refusal)).at ≡ 0
+  pub told_first : (bytes : List ℕ) (from : ℕ) (refusal : CallError) → start_fault greatest bytes from ≡ Some refusal → (outcome_report (Err refusal)).at ≡ 0
   told_first bytes from refusal is = grind (arith, nat_tests)
 
   row_good : (there : Bool) (null : ℕ) (bytes : List ℕ) (at from to : ℕ) (old new : InternerView) (code : ℕ) → InternsRow greatest there null bytes at from to old (Ok code) new → ((if there then text_fault greatest bytes at from to else null_fault greatest bytes at from to) ≡ None) × RowGood there null at old (slice_range bytes from to) code new
@@ -148,7 +148,7 @@ module _ (greatest : ℕ) where
   row_good false null bytes at from to old new code h = let known = null_ok (null_fault greatest bytes at from to) null code h.0 in (known.0, (h.1, known.1))
 
   -- a row that is refused: something is wrong with it, or it is a text that the interner refuses
-  row_refused : (there : Bool) (null : ℕ) (bytes : List ℕ) (at from to : ℕ) (old new : InternerView) (refusal : Refusal) → InternsRow greatest there null bytes at from to old (Err refusal) new
+  row_refused : (there : Bool) (null : ℕ) (bytes : List ℕ) (at from to : ℕ) (old new : InternerView) (refusal : CallError) → InternsRow greatest there null bytes at from to old (Err refusal) new
       → (new ≡ old) × ((((if there then text_fault greatest bytes at from to else null_fault greatest bytes at from to) ≡ Some refusal) × ((outcome_report (Err refusal)).at ≡ at))
       ⊎ (((if there then text_fault greatest bytes at from to else null_fault greatest bytes at from to) ≡ None) × (there ≡ true) × InternsCode at old (slice_range bytes from to) (Err refusal) new))
   row_refused true null bytes at from to old new refusal h =
@@ -191,7 +191,7 @@ module _ (greatest : ℕ) where
         )
 
     -- the next row is refused
-    pub next_ends : (refusal : Refusal) → InternsNext greatest bits null bytes offsets at mid (Err refusal) new → InternsColumn greatest bits bytes offsets at old (Err refusal) new
+    pub next_ends : (refusal : CallError) → InternsNext greatest bits null bytes offsets at mid (Err refusal) new → InternsColumn greatest bits bytes offsets at old (Err refusal) new
     unfolding from to
     next_ends refusal h =
         let text : Text = slice_range bytes from to in
@@ -213,7 +213,7 @@ module _ (greatest : ℕ) where
   }
 
   -- there is room for the codes, and a bit for each row
-  pub roomed : (room : ℕ) (bits bytes offsets : List ℕ) (done : ℕ) (old : InternerView) (outcome : Result (Unit {0}) Refusal) (new : InternerView) → length offsets ≤ room + 1 → bits_fit bits (length offsets - 1) ≡ true → InternsColumn greatest bits bytes offsets done old outcome new → InternsPart greatest room bits bytes offsets done old outcome new
+  pub roomed : (room : ℕ) (bits bytes offsets : List ℕ) (done : ℕ) (old : InternerView) (outcome : Result (Unit {0}) CallError) (new : InternerView) → length offsets ≤ room + 1 → bits_fit bits (length offsets - 1) ≡ true → InternsColumn greatest bits bytes offsets done old outcome new → InternsPart greatest room bits bytes offsets done old outcome new
   roomed room bits bytes offsets done old outcome new enough fits h =
       let count = length-layout_texts bytes offsets in
       let within : length (layout_texts bytes offsets) ≤ room = omega arith in
@@ -223,23 +223,23 @@ module _ (greatest : ℕ) where
       (subst (λ b. InternsRoomed greatest false b bits bytes offsets done old outcome new) (sym bit) h)
 
   -- a refused row changes nothing
-  pub next_unchanged : (bits : List ℕ) (null : ℕ) (bytes offsets : List ℕ) (at : ℕ) (old new : InternerView) (refusal : Refusal) → InternsNext greatest bits null bytes offsets at old (Err refusal) new → new ≡ old
+  pub next_unchanged : (bits : List ℕ) (null : ℕ) (bytes offsets : List ℕ) (at : ℕ) (old new : InternerView) (refusal : CallError) → InternsNext greatest bits null bytes offsets at old (Err refusal) new → new ≡ old
   next_unchanged bits null bytes offsets at old new refusal h = (row_refused (present_at bits at) null bytes at (get_or offsets at 0) (get_or offsets (at + 1) 0) old new refusal h).0
 
   -- no row is done: there is no room for the codes, no bit for a row, or the first offset is wrong
-  not_begun_by : (short fits : Bool) (bits bytes : List ℕ) (first : ℕ) (rest : List ℕ) (old : InternerView) (refusal : Refusal) → (if short then Some (CodesTooShort nothing) else if fits then start_fault greatest bytes first else Some (BitmapTooShort (8 * length bits))) ≡ Some refusal → InternsRoomed greatest short fits bits bytes (first ∷ rest) 0 old (Err refusal) old
+  not_begun_by : (short fits : Bool) (bits bytes : List ℕ) (first : ℕ) (rest : List ℕ) (old : InternerView) (refusal : CallError) → (if short then Some (CodesTooShort nothing) else if fits then start_fault greatest bytes first else Some (BitmapTooShort (8 * length bits))) ≡ Some refusal → InternsRoomed greatest short fits bits bytes (first ∷ rest) 0 old (Err refusal) old
   not_begun_by true fits bits bytes first rest old refusal is = let same : CodesTooShort nothing ≡ refusal = cc in (refl, ap (λ r. Err r) (sym same), refl)
   not_begun_by false false bits bytes first rest old refusal is = let same : BitmapTooShort (8 * length bits) ≡ refusal = cc in (refl, ap (λ r. Err r) (sym same), refl)
   not_begun_by false true bits bytes first rest old refusal is = record { before = (refl, refl); ends = inl (ap (λ o. option_or o (rows_fault greatest bits bytes 0 first rest)) is, told_first bytes first refusal is) }
 
-  pub not_begun : (room : ℕ) (bits bytes : List ℕ) (first : ℕ) (rest : List ℕ) (old : InternerView) (refusal : Refusal) → batch_start_fault greatest bits bytes first (length rest) room ≡ Some refusal → InternsPart greatest room bits bytes (first ∷ rest) 0 old (Err refusal) old
+  pub not_begun : (room : ℕ) (bits bytes : List ℕ) (first : ℕ) (rest : List ℕ) (old : InternerView) (refusal : CallError) → batch_start_fault greatest bits bytes first (length rest) room ≡ Some refusal → InternsPart greatest room bits bytes (first ∷ rest) 0 old (Err refusal) old
   not_begun room bits bytes first rest old refusal is =
       let count : length (layout_texts bytes (first ∷ rest)) ≡ length rest = omega (arith, length-layout_texts bytes (first ∷ rest)) in
       subst (λ n. InternsRoomed greatest (nat_lt room n) (bits_fit bits n) bits bytes (first ∷ rest) 0 old (Err refusal) old) (sym count)
       (not_begun_by (nat_lt room (length rest)) (bits_fit bits (length rest)) bits bytes first rest old refusal is)
 
   -- the same, by the offsets as they are
-  pub not_begun_at : (room : ℕ) (bits bytes offsets : List ℕ) (old : InternerView) (refusal : Refusal) → 0 < length offsets → batch_start_fault greatest bits bytes (get_or offsets 0 0) (length offsets - 1) room ≡ Some refusal → InternsPart greatest room bits bytes offsets 0 old (Err refusal) old
+  pub not_begun_at : (room : ℕ) (bits bytes offsets : List ℕ) (old : InternerView) (refusal : CallError) → 0 < length offsets → batch_start_fault greatest bits bytes (get_or offsets 0 0) (length offsets - 1) room ≡ Some refusal → InternsPart greatest room bits bytes offsets 0 old (Err refusal) old
   not_begun_at room bits bytes [] old refusal there is = absurd (omega arith)
   not_begun_at room bits bytes (first ∷ rest) old refusal there is =
       let count : length (first ∷ rest) - 1 ≡ length rest = omega arith in

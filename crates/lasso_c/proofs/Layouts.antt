@@ -13,10 +13,10 @@ use Rattle.std.proofs.lemmas.List.{drop_all, drop_more}
 use Rattle.std.proofs.lemmas.Option.{slice_get_past}
 use Rattle.lasso_parts.specs.Texts.{Text}
 use Rattle.lasso_c.specs.Layout.{reach, texts_from, layout_texts, start_fault, text_fault, texts_fault, layout_fault}
-use Rattle.lasso_c.specs.declared.refusal.Refusal.{Refusal}
-use Rattle.lasso_c.specs.declared.refusal.Refusal.TheVariants.{NotUtf8}
+use Rattle.lasso_c.specs.declared.error.CallError.{CallError}
+use Rattle.lasso_c.specs.declared.error.CallError.TheVariants.{NotUtf8}
 
-pub or_none : (one other : Option Refusal) → option_or one other ≡ None → (one ≡ None) × (other ≡ None)
+pub or_none : (one other : Option CallError) → option_or one other ≡ None → (one ≡ None) × (other ≡ None)
 or_none None other e = (refl, e)
 or_none (Some refusal) other e = let no : Some refusal ≡ None = e in absurd cc
 
@@ -92,7 +92,7 @@ module _ (greatest : ℕ) where
   fault_step bytes at from to offsets good = ap (λ o. option_or o (texts_fault greatest bytes (at + 1) to offsets)) good
 
   -- the first text is the wrong one
-  pub fault_here : (bytes : List ℕ) (at from to : ℕ) (offsets : List ℕ) (refusal : Refusal) → text_fault greatest bytes at from to ≡ Some refusal → texts_fault greatest bytes at from (to ∷ offsets) ≡ Some refusal
+  pub fault_here : (bytes : List ℕ) (at from to : ℕ) (offsets : List ℕ) (refusal : CallError) → text_fault greatest bytes at from to ≡ Some refusal → texts_fault greatest bytes at from (to ∷ offsets) ≡ Some refusal
   fault_here bytes at from to offsets refusal wrong = ap (λ o. option_or o (texts_fault greatest bytes (at + 1) to offsets)) wrong
 
   -- nothing is wrong with the first offset
@@ -100,7 +100,7 @@ module _ (greatest : ℕ) where
   start_step bytes from offsets good = ap (λ o. option_or o (texts_fault greatest bytes 0 from offsets)) good
 
   -- the first offset is wrong
-  pub start_here : (bytes : List ℕ) (from : ℕ) (offsets : List ℕ) (refusal : Refusal) → start_fault greatest bytes from ≡ Some refusal → layout_fault greatest bytes (from ∷ offsets) ≡ Some refusal
+  pub start_here : (bytes : List ℕ) (from : ℕ) (offsets : List ℕ) (refusal : CallError) → start_fault greatest bytes from ≡ Some refusal → layout_fault greatest bytes (from ∷ offsets) ≡ Some refusal
   start_here bytes from offsets refusal wrong = ap (λ o. option_or o (texts_fault greatest bytes 0 from offsets)) wrong
 
   -- a layout is asked from its first offset on, one text after another
@@ -108,7 +108,7 @@ module _ (greatest : ℕ) where
   fault_begins bytes [] there good = absurd (omega arith)
   fault_begins bytes (from ∷ offsets) there good = start_step bytes from offsets good
 
-  pub fault_at_start : (bytes offsets : List ℕ) (refusal : Refusal) → 0 < length offsets → start_fault greatest bytes (get_or offsets 0 0) ≡ Some refusal → layout_fault greatest bytes offsets ≡ Some refusal
+  pub fault_at_start : (bytes offsets : List ℕ) (refusal : CallError) → 0 < length offsets → start_fault greatest bytes (get_or offsets 0 0) ≡ Some refusal → layout_fault greatest bytes offsets ≡ Some refusal
   fault_at_start bytes [] refusal there wrong = absurd (omega arith)
   fault_at_start bytes (from ∷ offsets) refusal there wrong = start_here bytes from offsets refusal wrong
 
@@ -119,7 +119,7 @@ module _ (greatest : ℕ) where
     pub fault_goes_on : text_fault greatest bytes at from (get_or offsets (at + 1) 0) ≡ None → layout_fault greatest bytes offsets ≡ texts_fault greatest bytes (at + 1) (get_or offsets (at + 1) 0) (drop ((at + 1) + 1) offsets)
     fault_goes_on good = next ∙ fault_step bytes at from (get_or offsets (at + 1) 0) (drop ((at + 1) + 1) offsets) good
 
-    pub fault_is_here : (refusal : Refusal) → text_fault greatest bytes at from (get_or offsets (at + 1) 0) ≡ Some refusal → layout_fault greatest bytes offsets ≡ Some refusal
+    pub fault_is_here : (refusal : CallError) → text_fault greatest bytes at from (get_or offsets (at + 1) 0) ≡ Some refusal → layout_fault greatest bytes offsets ≡ Some refusal
     fault_is_here refusal wrong = next ∙ fault_here bytes at from (get_or offsets (at + 1) 0) (drop ((at + 1) + 1) offsets) refusal wrong
 
   pub fault_none : (bytes offsets : List ℕ) (at from : ℕ) → length offsets ≤ at + 1 → layout_fault greatest bytes offsets ≡ texts_fault greatest bytes at from (drop (at + 1) offsets) → layout_fault greatest bytes offsets ≡ None

@@ -11,9 +11,9 @@ use Rattle.std.proofs.lemmas.Option.{slice_get-get_or, slice_get-map}
 use Rattle.lasso_parts.specs.Texts.{Text}
 use Rattle.lasso_c.specs.Layout.{greatest_offset}
 use Rattle.lasso_c.specs.Decoding.{nothing, rows_named, text_of_code, with_next, unless_refused, measured}
-use Rattle.lasso_c.specs.declared.refusal.Sizes.{Sizes}
-use Rattle.lasso_c.specs.declared.refusal.Refusal.{Refusal}
-use Rattle.lasso_c.specs.declared.refusal.Refusal.TheVariants.{NoSuchCode}
+use Rattle.lasso_c.specs.declared.error.Sizes.{Sizes}
+use Rattle.lasso_c.specs.declared.error.CallError.{CallError}
+use Rattle.lasso_c.specs.declared.error.CallError.TheVariants.{NoSuchCode}
 
 -- the sizes with one text more, which is there
 pub record Next (sizes : Sizes) (found : Option Text) (text : Text) (more : Sizes) : Type 0 where
@@ -66,7 +66,7 @@ module _ (null : Option ℕ) (dictionary : List Text) (sizes : Sizes) (codes : L
   measured_more more small is = ap (λ cs. measured null dictionary sizes cs) (drop_more codes at 0 small) ∙ ap (λ r. unless_refused r (λ m. measured null dictionary m (drop (at + 1) codes))) is
 
   -- the next code is the first wrong one
-  pub measured_stops : (refusal : Refusal) → at < length codes → with_next sizes (text_of_code null dictionary (get_or codes at 0)) ≡ Err refusal → measured null dictionary sizes (drop at codes) ≡ Err refusal
+  pub measured_stops : (refusal : CallError) → at < length codes → with_next sizes (text_of_code null dictionary (get_or codes at 0)) ≡ Err refusal → measured null dictionary sizes (drop at codes) ≡ Err refusal
   measured_stops refusal small is = ap (λ cs. measured null dictionary sizes cs) (drop_more codes at 0 small) ∙ ap (λ r. unless_refused r (λ m. measured null dictionary m (drop (at + 1) codes))) is
 
 -- the text that a code names is that of its position

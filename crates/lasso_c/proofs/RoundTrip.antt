@@ -17,8 +17,8 @@ use Rattle.lasso_c.specs.Layout.{greatest_offset, reach, texts_from, layout_text
 use Rattle.lasso_c.specs.Encoding.{with_new, with_all_new, dictionary_of, codes_of, sizes_of}
 use Rattle.lasso_c.specs.Decoding.{texts_named, with_next, unless_refused, measured, fitting, unless_faulty, nothing}
 use Rattle.lasso_c.specs.Laws.{DecodesBack, DecodingUndoesEncoding}
-use Rattle.lasso_c.specs.declared.refusal.Sizes.{Sizes}
-use Rattle.lasso_c.specs.declared.refusal.Refusal.{Refusal}
+use Rattle.lasso_c.specs.declared.error.Sizes.{Sizes}
+use Rattle.lasso_c.specs.declared.error.CallError.{CallError}
 use Rattle.lasso_c.proofs.Layouts.{good_text, text_known, or_none}
 use Rattle.lasso_c.proofs.Interning.{position_stays, new_bytes}
 
@@ -49,7 +49,7 @@ texts_back front (text ∷ texts) at e =
     cut_first (front ++ (text ++ concat texts)) at end texts ∙ ap (λ (t : Text). t ∷ layout_texts (front ++ (text ++ concat texts)) (offsets_from end texts)) (slice_here front text (concat texts) at e) ∙ ap (λ ts. text ∷ ts) others
 
 -- the faults from the first of some offsets on
-faults_at : List ℕ → ℕ → List ℕ → Option Refusal
+faults_at : List ℕ → ℕ → List ℕ → Option CallError
 faults_at bytes k [] = None
 faults_at bytes k (from ∷ offsets) = texts_fault greatest_offset bytes k from offsets
 

@@ -2,9 +2,9 @@
 use Rattle.std.specs.Prelude.{ℕ, ◌+◌, ◌*◌, List, [], ◌∷◌, length, map, slice_get, unwrap_or, nat_eq, nat_le, nat_lt, if◌then◌else◌, Option, Some, None, Result, Ok, Err}
 use Rattle.lasso_parts.specs.Texts.{Text}
 use Rattle.lasso_c.specs.Layout.{greatest_offset, layout_texts, layout_fault}
-use Rattle.lasso_c.specs.declared.refusal.Sizes.{Sizes}
-use Rattle.lasso_c.specs.declared.refusal.Refusal.{Refusal}
-use Rattle.lasso_c.specs.declared.refusal.Refusal.TheVariants.{NoSuchCode, TooManyBytes, OffsetsTooShort, BytesTooShort, BitmapTooShort}
+use Rattle.lasso_c.specs.declared.error.Sizes.{Sizes}
+use Rattle.lasso_c.specs.declared.error.CallError.{CallError}
+use Rattle.lasso_c.specs.declared.error.CallError.TheVariants.{NoSuchCode, TooManyBytes, OffsetsTooShort, BytesTooShort, BitmapTooShort}
 
 -- the text of a code: an empty one for the code of nulls, if there is one
 abbrev pub text_of_code : Option ℕ → List Text → ℕ → Option Text
@@ -20,7 +20,7 @@ abbrev pub texts_named : List Text → List ℕ → List Text
 texts_named dictionary codes = rows_named None dictionary codes
 
 -- what goes on from the sizes of some texts to those with the next code's text, or why that is refused
-abbrev pub with_next : Sizes → Option Text → Result Sizes Refusal
+abbrev pub with_next : Sizes → Option Text → Result Sizes CallError
 with_next sizes None = Err (NoSuchCode sizes.texts)
 with_next sizes (Some text) =
     if nat_lt greatest_offset (sizes.bytes + length text) then Err (TooManyBytes sizes.texts)
@@ -32,12 +32,12 @@ unless_refused (Ok x) next = next x
 unless_refused (Err e) next = Err e
 
 -- the sizes of some texts and then those of the codes, or why the first wrong code is refused
-abbrev pub measured : Option ℕ → List Text → Sizes → List ℕ → Result Sizes Refusal
+abbrev pub measured : Option ℕ → List Text → Sizes → List ℕ → Result Sizes CallError
 measured null dictionary sizes [] = Ok sizes
 measured null dictionary sizes (code ∷ codes) = unless_refused (with_next sizes (text_of_code null dictionary code)) (λ more. measured null dictionary more codes)
 
 -- sizes that fit into so many offsets and bytes, or which of them is too short
-abbrev pub fitting : Sizes → ℕ → ℕ → Result Sizes Refusal
+abbrev pub fitting : Sizes → ℕ → ℕ → Result Sizes CallError
 fitting sizes offsets bytes =
     if nat_lt sizes.texts offsets then (if nat_lt bytes sizes.bytes then Err (BytesTooShort sizes) else Ok sizes)
     else Err (OffsetsTooShort sizes)
@@ -46,23 +46,23 @@ abbrev pub nothing : Sizes
 nothing = record { texts = 0; bytes = 0 }
 
 -- a refusal for what is wrong with a layout, or else what follows
-abbrev pub unless_faulty : Option Refusal → Result Sizes Refusal → Result Sizes Refusal
+abbrev pub unless_faulty : Option CallError → Result Sizes CallError → Result Sizes CallError
 unless_faulty None result = result
 unless_faulty (Some refusal) result = Err refusal
 
 -- how decoding the codes, of which one may be that of nulls, by the dictionary of that layout ends, where there is room for so many
 -- offsets and bytes
-abbrev pub rows_decoding_outcome : Option ℕ → List ℕ → List ℕ → List ℕ → ℕ → ℕ → Result Sizes Refusal
+abbrev pub rows_decoding_outcome : Option ℕ → List ℕ → List ℕ → List ℕ → ℕ → ℕ → Result Sizes CallError
 rows_decoding_outcome null dictionary_bytes dictionary_offsets codes offsets bytes =
     unless_faulty (layout_fault greatest_offset dictionary_bytes dictionary_offsets)
     (unless_refused (measured null (layout_texts dictionary_bytes dictionary_offsets) nothing codes) (λ sizes. fitting sizes offsets bytes))
 
 -- the same without nulls
-abbrev pub decoding_outcome : List ℕ → List ℕ → List ℕ → ℕ → ℕ → Result Sizes Refusal
+abbrev pub decoding_outcome : List ℕ → List ℕ → List ℕ → ℕ → ℕ → Result Sizes CallError
 decoding_outcome dictionary_bytes dictionary_offsets codes offsets bytes = rows_decoding_outcome None dictionary_bytes dictionary_offsets codes offsets bytes
 
 -- the same of a column with nulls, where there is also room for a bitmap of so many bytes
-abbrev pub nulls_decoding_outcome : ℕ → List ℕ → List ℕ → List ℕ → ℕ → ℕ → ℕ → Result Sizes Refusal
+abbrev pub nulls_decoding_outcome : ℕ → List ℕ → List ℕ → List ℕ → ℕ → ℕ → ℕ → Result Sizes CallError
 nulls_decoding_outcome null dictionary_bytes dictionary_offsets codes offsets bytes present =
     if nat_le (length codes) (8 * present) then rows_decoding_outcome (Some null) dictionary_bytes dictionary_offsets codes offsets bytes
     else Err (BitmapTooShort (8 * present))

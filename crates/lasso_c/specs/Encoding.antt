@@ -5,9 +5,9 @@ use Rattle.lasso_parts.specs.Texts.{Text, position_of}
 use Rattle.lasso_c.specs.Bitmap.{bits_fit}
 use Rattle.lasso_c.specs.Layout.{greatest_offset, layout_texts, layout_fault, column_fault, column_rows, present_texts}
 use Rattle.lasso_c.specs.Decoding.{fitting, unless_faulty}
-use Rattle.lasso_c.specs.declared.refusal.Sizes.{Sizes}
-use Rattle.lasso_c.specs.declared.refusal.Refusal.{Refusal}
-use Rattle.lasso_c.specs.declared.refusal.Refusal.TheVariants.{CodesTooShort, BitmapTooShort, LimitReached, NoCodeLeft, NoMemory}
+use Rattle.lasso_c.specs.declared.error.Sizes.{Sizes}
+use Rattle.lasso_c.specs.declared.error.CallError.{CallError}
+use Rattle.lasso_c.specs.declared.error.CallError.TheVariants.{CodesTooShort, BitmapTooShort, LimitReached, NoCodeLeft, NoMemory}
 
 -- the list with the text last, unless it is there
 abbrev pub with_new : List Text → Text → List Text
@@ -43,31 +43,31 @@ sizes_of texts = record { texts = length texts; bytes = length (concat texts) }
 
 -- how encoding so many rows ends, of which these are the texts, where nothing is wrong with them and memory is found, and where there is room
 -- for so many codes, offsets and bytes
-abbrev pub rows_outcome : ℕ → List Text → ℕ → ℕ → ℕ → Result Sizes Refusal
+abbrev pub rows_outcome : ℕ → List Text → ℕ → ℕ → ℕ → Result Sizes CallError
 rows_outcome rows texts codes dictionary_offsets dictionary_bytes =
     let sizes = sizes_of (dictionary_of texts) in
     if nat_lt codes rows then Err (CodesTooShort sizes) else fitting sizes dictionary_offsets dictionary_bytes
 
 -- how encoding the texts of that layout ends where memory is found, and where there is room for so many codes, offsets and bytes
-abbrev pub encoding_outcome : List ℕ → List ℕ → ℕ → ℕ → ℕ → Result Sizes Refusal
+abbrev pub encoding_outcome : List ℕ → List ℕ → ℕ → ℕ → ℕ → Result Sizes CallError
 encoding_outcome bytes offsets codes dictionary_offsets dictionary_bytes =
     let texts = layout_texts bytes offsets in
     unless_faulty (layout_fault greatest_offset bytes offsets) (rows_outcome (length texts) texts codes dictionary_offsets dictionary_bytes)
 
 -- why a column with this bitmap is refused, or nothing
-abbrev pub column_refusal : List ℕ → List ℕ → List ℕ → Option Refusal
+abbrev pub column_refusal : List ℕ → List ℕ → List ℕ → Option CallError
 column_refusal bits bytes offsets =
     if bits_fit bits (length (layout_texts bytes offsets)) then column_fault greatest_offset bits bytes offsets
     else Some (BitmapTooShort (8 * length bits))
 
 -- how encoding a column with this bitmap ends, in the same way
-abbrev pub column_outcome : List ℕ → List ℕ → List ℕ → ℕ → ℕ → ℕ → Result Sizes Refusal
+abbrev pub column_outcome : List ℕ → List ℕ → List ℕ → ℕ → ℕ → ℕ → Result Sizes CallError
 column_outcome bits bytes offsets codes dictionary_offsets dictionary_bytes =
     let rows = column_rows bits bytes offsets in
     unless_faulty (column_refusal bits bytes offsets) (rows_outcome (length rows) (present_texts rows) codes dictionary_offsets dictionary_bytes)
 
 -- out of memory in place of a refusal by an interner
-abbrev pub of_column : Refusal → Refusal
+abbrev pub of_column : CallError → CallError
 of_column (LimitReached _) = NoMemory
 of_column (NoCodeLeft _) = NoMemory
 of_column refusal = refusal

@@ -12,9 +12,9 @@ use Rattle.lasso_c.specs.Bitmap.{bits_fit, present_at}
 use Rattle.lasso_c.specs.Layout.{layout_texts, start_fault, text_fault, null_fault, column_fault, column_rows, present_texts}
 use Rattle.lasso_c.specs.Decoding.{nothing}
 use Rattle.lasso_c.specs.Status.{Reports, outcome_status, outcome_report}
-use Rattle.lasso_c.specs.declared.refusal.LassoReport.{LassoReport}
-use Rattle.lasso_c.specs.declared.refusal.Refusal.{Refusal}
-use Rattle.lasso_c.specs.declared.refusal.Refusal.TheVariants.{CodesTooShort, BitmapTooShort, LimitReached, NoCodeLeft, NoMemory, NoInterner}
+use Rattle.lasso_c.specs.declared.error.LassoReport.{LassoReport}
+use Rattle.lasso_c.specs.declared.error.CallError.{CallError}
+use Rattle.lasso_c.specs.declared.error.CallError.TheVariants.{CodesTooShort, BitmapTooShort, LimitReached, NoCodeLeft, NoMemory, NoInterner}
 use Rattle.lasso_c.specs.declared.slot.Interner.{Interner}
 
 -- the key of a code, which is one more
@@ -22,69 +22,69 @@ abbrev pub key_of_code : ℕ → Option ℕ
 key_of_code = kept_at 4294967295
 
 -- what C is told of an interner that refuses the text of this number in a batch
-abbrev pub refusal_at : ℕ → LassoError → Refusal
+abbrev pub refusal_at : ℕ → LassoError → CallError
 refusal_at at MemoryLimitReached = LimitReached at
 refusal_at at KeySpaceExhaustion = NoCodeLeft at
 refusal_at at FailedAllocation = NoMemory
 
 -- an interner interns the text of this number and gives its code, or refuses it
-abbrev pub InternsCode : ℕ → InternerView → Text → Result ℕ Refusal → InternerView → Type 0
+abbrev pub InternsCode : ℕ → InternerView → Text → Result ℕ CallError → InternerView → Type 0
 InternsCode at old text (Ok code) new = InternsIn {K = ℕ} key_of_code old text (Ok (code + 1)) new
 InternsCode at old text (Err refusal) new = (error : LassoError) × InternsIn {K = ℕ} key_of_code old text (Err error) new × (refusal ≡ refusal_at at error)
 
 -- the same, unless something is wrong with the text
-abbrev pub InternsUnless : Option Refusal → ℕ → InternerView → Text → Result ℕ Refusal → InternerView → Type 0
+abbrev pub InternsUnless : Option CallError → ℕ → InternerView → Text → Result ℕ CallError → InternerView → Type 0
 InternsUnless None at old text outcome new = InternsCode at old text outcome new
 InternsUnless (Some refusal) at old text outcome new = (outcome ≡ Err refusal) × (new ≡ old)
 
 -- the code of a null, unless something is wrong with it
-abbrev pub null_outcome : Option Refusal → ℕ → Result ℕ Refusal
+abbrev pub null_outcome : Option CallError → ℕ → Result ℕ CallError
 null_outcome None null = Ok null
 null_outcome (Some refusal) null = Err refusal
 
 -- a row of this number between two offsets: it is interned if it is present, and a null changes nothing
-abbrev pub InternsRow : ℕ → Bool → ℕ → List ℕ → ℕ → ℕ → ℕ → InternerView → Result ℕ Refusal → InternerView → Type 0
+abbrev pub InternsRow : ℕ → Bool → ℕ → List ℕ → ℕ → ℕ → ℕ → InternerView → Result ℕ CallError → InternerView → Type 0
 InternsRow greatest true null bytes at from to old outcome new = InternsUnless (text_fault greatest bytes at from to) at old (slice_range bytes from to) outcome new
 InternsRow greatest false null bytes at from to old outcome new = (outcome ≡ null_outcome (null_fault greatest bytes at from to) null) × (new ≡ old)
 
 -- the row of this number of a column is interned, or refused
-abbrev pub InternsNext : ℕ → List ℕ → ℕ → List ℕ → List ℕ → ℕ → InternerView → Result ℕ Refusal → InternerView → Type 0
+abbrev pub InternsNext : ℕ → List ℕ → ℕ → List ℕ → List ℕ → ℕ → InternerView → Result ℕ CallError → InternerView → Type 0
 InternsNext greatest bits null bytes offsets at old outcome new = InternsRow greatest (present_at bits at) null bytes at (slice_index offsets at) (slice_index offsets (at + 1)) old outcome new
 
 -- why interning a column ends after its first `done` rows: no row is left; or the column is wrong there, for the first time; or
 -- the interner refuses the next text, up to whose end the column is good, and nothing changes
-abbrev pub EndsAfter : ℕ → List ℕ → List ℕ → List ℕ → ℕ → InternerView → Result (Unit {0}) Refusal → Type 0
+abbrev pub EndsAfter : ℕ → List ℕ → List ℕ → List ℕ → ℕ → InternerView → Result (Unit {0}) CallError → Type 0
 EndsAfter greatest bits bytes offsets done interner (Ok _) = (column_fault greatest bits bytes offsets ≡ None) × (done ≡ length (layout_texts bytes offsets))
 EndsAfter greatest bits bytes offsets done interner (Err refusal) =
     ((column_fault greatest bits bytes offsets ≡ Some refusal) × ((outcome_report (Err refusal)).at ≡ done))
     ⊎ ((column_fault greatest bits bytes (take (done + 2) offsets) ≡ None) × ((text : Text) × (slice_get (column_rows bits bytes offsets) done ≡ Some (Some text)) × InternsCode done interner text (Err refusal) interner))
 
 -- why a batch of that first offset and so many rows is refused before its first row, or nothing
-abbrev pub batch_start_fault : ℕ → List ℕ → List ℕ → ℕ → ℕ → ℕ → Option Refusal
+abbrev pub batch_start_fault : ℕ → List ℕ → List ℕ → ℕ → ℕ → ℕ → Option CallError
 batch_start_fault greatest bits bytes first rows room =
     if nat_lt room rows then Some (CodesTooShort nothing)
     else if bits_fit bits rows then start_fault greatest bytes first
     else Some (BitmapTooShort (8 * length bits))
 
 -- the texts of the first `done` rows of a column are interned in order, and then it ends
-pub record InternsColumn (greatest : ℕ) (bits bytes offsets : List ℕ) (done : ℕ) (old : InternerView) (outcome : Result (Unit {0}) Refusal) (new : InternerView) : Type 0 where
+pub record InternsColumn (greatest : ℕ) (bits bytes offsets : List ℕ) (done : ℕ) (old : InternerView) (outcome : Result (Unit {0}) CallError) (new : InternerView) : Type 0 where
   pub before : extend {K = ℕ} key_of_code old (present_texts (take done (column_rows bits bytes offsets))) (Ok tt) new
   pub ends : EndsAfter greatest bits bytes offsets done new outcome
 
 -- the same, unless the codes or the bitmap are too short
-abbrev pub InternsRoomed : ℕ → Bool → Bool → List ℕ → List ℕ → List ℕ → ℕ → InternerView → Result (Unit {0}) Refusal → InternerView → Type 0
+abbrev pub InternsRoomed : ℕ → Bool → Bool → List ℕ → List ℕ → List ℕ → ℕ → InternerView → Result (Unit {0}) CallError → InternerView → Type 0
 InternsRoomed greatest true fits bits bytes offsets done old outcome new = (done ≡ 0) × (outcome ≡ Err (CodesTooShort nothing)) × (new ≡ old)
 InternsRoomed greatest false false bits bytes offsets done old outcome new = (done ≡ 0) × (outcome ≡ Err (BitmapTooShort (8 * length bits))) × (new ≡ old)
 InternsRoomed greatest false true bits bytes offsets done old outcome new = InternsColumn greatest bits bytes offsets done old outcome new
 
 -- a batch is interned where there is room for so many codes
-abbrev pub InternsPart : ℕ → ℕ → List ℕ → List ℕ → List ℕ → ℕ → InternerView → Result (Unit {0}) Refusal → InternerView → Type 0
+abbrev pub InternsPart : ℕ → ℕ → List ℕ → List ℕ → List ℕ → ℕ → InternerView → Result (Unit {0}) CallError → InternerView → Type 0
 InternsPart greatest room bits bytes offsets done old outcome new =
     let rows = length (layout_texts bytes offsets) in
     InternsRoomed greatest (nat_lt room rows) (bits_fit bits rows) bits bytes offsets done old outcome new
 
 -- what a batch tells: how many of its rows were done, and the number of the refused one
-abbrev pub batch_report : ℕ → Result (Unit {0}) Refusal → LassoReport
+abbrev pub batch_report : ℕ → Result (Unit {0}) CallError → LassoReport
 batch_report done (Ok _) = record { texts = done; bytes = 0; at = 0 }
 batch_report done (Err _) = record { texts = done; bytes = 0; at = done }
 
@@ -92,14 +92,14 @@ batch_report done (Err _) = record { texts = done; bytes = 0; at = done }
 abbrev pub BatchEnds : ℕ → Option Interner → List ℕ → List ℕ → List ℕ → ℕ → ℕ → LassoReport → Option Interner → Type 0
 BatchEnds greatest None bits bytes offsets room status report new = Reports (Err NoInterner) status report × (new ≡ None)
 BatchEnds greatest (Some old) bits bytes offsets room status report new =
-    (interner : Interner) × (outcome : Result (Unit {0}) Refusal) × (new ≡ Some interner) × InternsPart greatest room bits bytes offsets report.texts old.rodeo outcome interner.rodeo
+    (interner : Interner) × (outcome : Result (Unit {0}) CallError) × (new ≡ Some interner) × InternsPart greatest room bits bytes offsets report.texts old.rodeo outcome interner.rodeo
     × (status ≡ outcome_status outcome) × (report ≡ batch_report report.texts outcome)
 
 -- how interning one text ends on a handle: its status, and what the handle holds
 abbrev pub TextInterned : Option Interner → Text → ℕ → Option Interner → Type 0
 TextInterned None text status new = (status ≡ 12) × (new ≡ None)
 TextInterned (Some old) text status new =
-    (interner : Interner) × (outcome : Result ℕ Refusal) × (new ≡ Some interner) × InternsCode 0 old.rodeo text outcome interner.rodeo × (status ≡ outcome_status outcome)
+    (interner : Interner) × (outcome : Result ℕ CallError) × (new ≡ Some interner) × InternsCode 0 old.rodeo text outcome interner.rodeo × (status ≡ outcome_status outcome)
 
 -- the same, unless the bytes are not UTF-8
 abbrev pub TextEnds : Bool → Option Interner → Text → ℕ → Option Interner → Type 0

@@ -6,8 +6,8 @@ use Rattle.std.specs.Option.{option_or}
 use Rattle.std.specs.Str.{is_utf8}
 use Rattle.lasso_parts.specs.Texts.{Text}
 use Rattle.lasso_c.specs.Bitmap.{present_at}
-use Rattle.lasso_c.specs.declared.refusal.Refusal.{Refusal}
-use Rattle.lasso_c.specs.declared.refusal.Refusal.TheVariants.{OffsetsFall, OffsetPastBytes, NotUtf8}
+use Rattle.lasso_c.specs.declared.error.CallError.{CallError}
+use Rattle.lasso_c.specs.declared.error.CallError.TheVariants.{OffsetsFall, OffsetPastBytes, NotUtf8}
 
 -- the greatest offset of 32 bits, and that of 64 bits: the greatest signed numbers
 abbrev pub greatest_offset : ℕ
@@ -31,11 +31,11 @@ layout_texts bytes [] = []
 layout_texts bytes (from ∷ offsets) = texts_from bytes from offsets
 
 -- what is wrong with the offset where the first text begins, or nothing
-abbrev pub start_fault : ℕ → List ℕ → ℕ → Option Refusal
+abbrev pub start_fault : ℕ → List ℕ → ℕ → Option CallError
 start_fault greatest bytes from = if nat_lt (reach greatest bytes) from then Some (OffsetPastBytes 0) else None
 
 -- what is wrong with the text of this number between two offsets, or nothing
-abbrev pub text_fault : ℕ → List ℕ → ℕ → ℕ → ℕ → Option Refusal
+abbrev pub text_fault : ℕ → List ℕ → ℕ → ℕ → ℕ → Option CallError
 text_fault greatest bytes at from to =
     if nat_lt to from then Some (OffsetsFall at)
     else if nat_lt (reach greatest bytes) to then Some (OffsetPastBytes at)
@@ -43,31 +43,31 @@ text_fault greatest bytes at from to =
     else Some (NotUtf8 at)
 
 -- the same of a null, whose bytes may be any
-abbrev pub null_fault : ℕ → List ℕ → ℕ → ℕ → ℕ → Option Refusal
+abbrev pub null_fault : ℕ → List ℕ → ℕ → ℕ → ℕ → Option CallError
 null_fault greatest bytes at from to =
     if nat_lt to from then Some (OffsetsFall at)
     else if nat_lt (reach greatest bytes) to then Some (OffsetPastBytes at)
     else None
 
 -- what is wrong with the row of this number, which is a text or a null, or nothing
-abbrev pub row_fault : ℕ → List ℕ → List ℕ → ℕ → ℕ → ℕ → Option Refusal
+abbrev pub row_fault : ℕ → List ℕ → List ℕ → ℕ → ℕ → ℕ → Option CallError
 row_fault greatest bits bytes at from to = if present_at bits at then text_fault greatest bytes at from to else null_fault greatest bytes at from to
 
 -- what is wrong with the first wrong one of the rows between an offset and those after it, numbered from `at`
-abbrev pub rows_fault : ℕ → List ℕ → List ℕ → ℕ → ℕ → List ℕ → Option Refusal
+abbrev pub rows_fault : ℕ → List ℕ → List ℕ → ℕ → ℕ → List ℕ → Option CallError
 rows_fault greatest bits bytes at from [] = None
 rows_fault greatest bits bytes at from (to ∷ offsets) = option_or (row_fault greatest bits bytes at from to) (rows_fault greatest bits bytes (at + 1) to offsets)
 
 -- what is first wrong with a buffer of these offsets and this bitmap, or nothing
-abbrev pub column_fault : ℕ → List ℕ → List ℕ → List ℕ → Option Refusal
+abbrev pub column_fault : ℕ → List ℕ → List ℕ → List ℕ → Option CallError
 column_fault greatest bits bytes [] = None
 column_fault greatest bits bytes (from ∷ offsets) = option_or (start_fault greatest bytes from) (rows_fault greatest bits bytes 0 from offsets)
 
 -- the same without a bitmap
-abbrev pub texts_fault : ℕ → List ℕ → ℕ → ℕ → List ℕ → Option Refusal
+abbrev pub texts_fault : ℕ → List ℕ → ℕ → ℕ → List ℕ → Option CallError
 texts_fault greatest bytes at from offsets = rows_fault greatest [] bytes at from offsets
 
-abbrev pub layout_fault : ℕ → List ℕ → List ℕ → Option Refusal
+abbrev pub layout_fault : ℕ → List ℕ → List ℕ → Option CallError
 layout_fault greatest bytes offsets = column_fault greatest [] bytes offsets
 
 -- the rows of texts, numbered from `at`: each a text, or a null

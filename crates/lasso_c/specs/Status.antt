@@ -1,31 +1,31 @@
 -- What C sees of how a call ended: a number, and a report.
 use Rattle.std.specs.Prelude.{ℕ, ◌≡◌, List, nat_eq, if◌then◌else◌, Result, Ok, Err, codes}
-use Rattle.lasso_c.specs.declared.refusal.Sizes.{Sizes}
-use Rattle.lasso_c.specs.declared.refusal.LassoReport.{LassoReport}
-use Rattle.lasso_c.specs.declared.refusal.Refusal.{Refusal}
-use Rattle.lasso_c.specs.declared.refusal.Refusal.TheVariants.{OffsetsFall, OffsetPastBytes, NotUtf8, NoSuchCode, TooManyBytes, CodesTooShort, OffsetsTooShort, BytesTooShort, NoMemory, LimitReached, NoCodeLeft, NoInterner, NoSuchText, BitmapTooShort}
+use Rattle.lasso_c.specs.declared.error.Sizes.{Sizes}
+use Rattle.lasso_c.specs.declared.error.LassoReport.{LassoReport}
+use Rattle.lasso_c.specs.declared.error.CallError.{CallError}
+use Rattle.lasso_c.specs.declared.error.CallError.TheVariants.{OffsetsFall, OffsetPastBytes, NotUtf8, NoSuchCode, TooManyBytes, CodesTooShort, OffsetsTooShort, BytesTooShort, NoMemory, LimitReached, NoCodeLeft, NoInterner, NoSuchText, BitmapTooShort}
 
 -- a number of its own for each kind of refusal
-abbrev pub refusal_status : Refusal → ℕ
-refusal_status (OffsetsFall _) = 1
-refusal_status (OffsetPastBytes _) = 2
-refusal_status (NotUtf8 _) = 3
-refusal_status (NoSuchCode _) = 4
-refusal_status (TooManyBytes _) = 5
-refusal_status (CodesTooShort _) = 6
-refusal_status (OffsetsTooShort _) = 7
-refusal_status (BytesTooShort _) = 8
-refusal_status NoMemory = 9
-refusal_status (LimitReached _) = 10
-refusal_status (NoCodeLeft _) = 11
-refusal_status NoInterner = 12
-refusal_status NoSuchText = 13
-refusal_status (BitmapTooShort _) = 14
+abbrev pub error_status : CallError → ℕ
+error_status (OffsetsFall _) = 1
+error_status (OffsetPastBytes _) = 2
+error_status (NotUtf8 _) = 3
+error_status (NoSuchCode _) = 4
+error_status (TooManyBytes _) = 5
+error_status (CodesTooShort _) = 6
+error_status (OffsetsTooShort _) = 7
+error_status (BytesTooShort _) = 8
+error_status NoMemory = 9
+error_status (LimitReached _) = 10
+error_status (NoCodeLeft _) = 11
+error_status NoInterner = 12
+error_status NoSuchText = 13
+error_status (BitmapTooShort _) = 14
 
 -- 0 where the call was done, and else the number of the refusal
-abbrev pub outcome_status : {X : Type 0} → Result X Refusal → ℕ
+abbrev pub outcome_status : {X : Type 0} → Result X CallError → ℕ
 outcome_status (Ok _) = 0
-outcome_status (Err refusal) = refusal_status refusal
+outcome_status (Err refusal) = error_status refusal
 
 -- a report of sizes alone
 abbrev pub sizes_report : Sizes → LassoReport
@@ -36,7 +36,7 @@ abbrev pub position_report : ℕ → LassoReport
 position_report at = record { texts = 0; bytes = 0; at = at }
 
 -- the sizes that were written or are needed, or the position of the text or code that was refused
-abbrev pub outcome_report : Result Sizes Refusal → LassoReport
+abbrev pub outcome_report : Result Sizes CallError → LassoReport
 outcome_report (Ok sizes) = sizes_report sizes
 outcome_report (Err (OffsetsFall at)) = position_report at
 outcome_report (Err (OffsetPastBytes at)) = position_report at
@@ -54,7 +54,7 @@ outcome_report (Err NoSuchText) = position_report 0
 outcome_report (Err (BitmapTooShort at)) = position_report at
 
 -- a status and a report are those of how a call ended
-abbrev pub Reports : Result Sizes Refusal → ℕ → LassoReport → Type 0
+abbrev pub Reports : Result Sizes CallError → ℕ → LassoReport → Type 0
 Reports outcome status report = (status ≡ outcome_status outcome) × (report ≡ outcome_report outcome)
 
 -- what a status means

@@ -11,10 +11,10 @@ ghost use Rattle.lasso_c.specs.Interning.{InternsCode, InternsNext, InternsPart,
 ghost use Rattle.lasso_c.specs.Status.{outcome_status};
 
 use crate::encoding::{Dictionary, text_at_code};
+use crate::error::{CallError, LassoReport, Sizes, status_of};
 use crate::layout::{check_layout, first_start, put_text, text_between};
 use crate::nulls::{check_null, fit, is_present};
 use crate::offsets::Offset;
-use crate::refusal::{LassoReport, Refusal, Sizes, status_of};
 use lasso_parts::keys::Key;
 use lasso_parts::util::LassoErrorKind;
 
@@ -22,7 +22,7 @@ use lasso_parts::util::LassoErrorKind;
 #[derive(Clone, Copy)]
 pub(crate) struct Progress {
     pub(crate) done: usize,
-    pub(crate) outcome: Result<(), Refusal>,
+    pub(crate) outcome: Result<(), CallError>,
 }
 
 // Fills the report of a batch, and returns its status.
@@ -112,14 +112,14 @@ fn first_fault<O: Offset>(
     rows: usize,
     bits: &[u8],
     room: usize,
-) -> Result<(), Refusal>
+) -> Result<(), CallError>
     ensures { result_err result ≡ batch_start_fault O.greatest bits.now bytes.now first rows room }
 {
     if room < rows {
-        return Err(Refusal::CodesTooShort(Sizes { texts: 0, bytes: 0 }));
+        return Err(CallError::CodesTooShort(Sizes { texts: 0, bytes: 0 }));
     }
     if !fit(bits, rows) {
-        return Err(Refusal::BitmapTooShort(8 * bits.len()));
+        return Err(CallError::BitmapTooShort(8 * bits.len()));
     }
     first_start::<O>(bytes, first)?;
     Ok(())
@@ -133,7 +133,7 @@ fn code_at<O: Offset>(
     bits: &[u8],
     null: u32,
     at: usize,
-) -> Result<u32, Refusal>
+) -> Result<u32, CallError>
     requires within { at + 1 < length (O.numbers offsets.now) }
     requires counted { at + 1 < 2 ^ 64 }
     requires bit { IsTrue (bits_fit bits.now (at + 1)) }
@@ -150,15 +150,15 @@ fn code_at<O: Offset>(
 
 // The code of the text, which goes last in the dictionary if it is new. `at` is its number in a batch. Where the text is
 // refused nothing has changed.
-pub(crate) fn code_in(dictionary: &mut Dictionary, text: &str, at: usize) -> Result<u32, Refusal>
+pub(crate) fn code_in(dictionary: &mut Dictionary, text: &str, at: usize) -> Result<u32, CallError>
     ensures { InternsCode at dictionary.old text.now result dictionary.new }
 {
     match dictionary.try_get_or_intern(text) {
         Ok(key) => Ok(key.into_inner() - 1),
         Err(error) => match error.kind() {
-            LassoErrorKind::MemoryLimitReached => Err(Refusal::LimitReached(at)),
-            LassoErrorKind::KeySpaceExhaustion => Err(Refusal::NoCodeLeft(at)),
-            LassoErrorKind::FailedAllocation => Err(Refusal::NoMemory),
+            LassoErrorKind::MemoryLimitReached => Err(CallError::LimitReached(at)),
+            LassoErrorKind::KeySpaceExhaustion => Err(CallError::NoCodeLeft(at)),
+            LassoErrorKind::FailedAllocation => Err(CallError::NoMemory),
         },
     }
 }
@@ -171,7 +171,7 @@ pub(crate) fn find_layout<O: Offset>(
     offsets: &[O],
     absent: u32,
     codes: &mut [u32],
-) -> Result<Sizes, Refusal>
+) -> Result<Sizes, CallError>
     ensures outcome { result ≡ part_lookup_outcome O.greatest bytes.now (O.numbers offsets.now) (length codes.old) }
     ensures codes { codes.new ≡ (if is_ok result then over (codes_or absent dictionary.now.texts (layout_texts bytes.now (O.numbers offsets.now))) codes.old else codes.old) }
 {
@@ -181,7 +181,7 @@ pub(crate) fn find_layout<O: Offset>(
         bytes: 0,
     };
     if codes.len() < count {
-        return Err(Refusal::CodesTooShort(needed));
+        return Err(CallError::CodesTooShort(needed));
     }
     check_layout(bytes, offsets)?;
     put_codes(dictionary, bytes, offsets, absent, codes);
@@ -223,19 +223,19 @@ pub(crate) fn write_from<O: Offset>(
     from: usize,
     bytes: &mut [u8],
     offsets: &mut [O],
-) -> Result<Sizes, Refusal>
+) -> Result<Sizes, CallError>
     ensures outcome { result ≡ part_outcome O.greatest (drop from dictionary.now.texts) (length (O.numbers offsets.old)) (length bytes.old) }
     ensures bytes { bytes.new ≡ (if is_ok result then over (concat (drop from dictionary.now.texts)) bytes.old else bytes.old) }
     ensures offsets { O.numbers offsets.new ≡ (if is_ok result then over (offsets_from 0 (drop from dictionary.now.texts)) (O.numbers offsets.old) else O.numbers offsets.old) }
 {
     let Some(sizes) = sizes_from::<O>(dictionary, from) else {
-        return Err(Refusal::TooManyBytes(0));
+        return Err(CallError::TooManyBytes(0));
     };
     if sizes.texts >= O::count(offsets) {
-        return Err(Refusal::OffsetsTooShort(sizes));
+        return Err(CallError::OffsetsTooShort(sizes));
     }
     if bytes.len() < sizes.bytes {
-        return Err(Refusal::BytesTooShort(sizes));
+        return Err(CallError::BytesTooShort(sizes));
     }
     put_from(dictionary, from, bytes, offsets);
     Ok(sizes)

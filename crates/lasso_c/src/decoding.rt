@@ -6,10 +6,10 @@ ghost use Rattle.lasso_c.specs.Layout.{greatest_offset, layout_fault, layout_tex
 ghost use Rattle.lasso_c.specs.Bitmap.{bitmap_of, code_bits};
 ghost use Rattle.lasso_c.specs.Decoding.{measured, nothing, nulls_decoding_outcome, rows_decoding_outcome, rows_named, text_of_code, with_next};
 
+use crate::error::{CallError, Sizes};
 use crate::layout::{check_layout, put_text, text_at};
 use crate::nulls::put_bits;
 use crate::offsets::Offset;
-use crate::refusal::{Refusal, Sizes};
 
 // Writes the texts that the codes name, or nothing. The code of nulls, if there is one, names an empty text.
 pub(crate) fn decode(
@@ -19,7 +19,7 @@ pub(crate) fn decode(
     null: Option<u32>,
     bytes: &mut [u8],
     offsets: &mut [u32],
-) -> Result<Sizes, Refusal>
+) -> Result<Sizes, CallError>
     ensures outcome { result ≡ rows_decoding_outcome null dictionary_bytes.now dictionary_offsets.now codes.now (length offsets.old) (length bytes.old) }
     ensures bytes { let texts = rows_named null (layout_texts dictionary_bytes.now dictionary_offsets.now) codes.now in
         bytes.new ≡ (if is_ok result then over (concat texts) bytes.old else bytes.old) }
@@ -29,10 +29,10 @@ pub(crate) fn decode(
     check_layout(dictionary_bytes, dictionary_offsets)?;
     let sizes = measure(dictionary_bytes, dictionary_offsets, codes, null)?;
     if sizes.texts >= offsets.len() {
-        return Err(Refusal::OffsetsTooShort(sizes));
+        return Err(CallError::OffsetsTooShort(sizes));
     }
     if bytes.len() < sizes.bytes {
-        return Err(Refusal::BytesTooShort(sizes));
+        return Err(CallError::BytesTooShort(sizes));
     }
     write_named(
         dictionary_bytes,
@@ -54,7 +54,7 @@ pub(crate) fn decode_nulls(
     bytes: &mut [u8],
     offsets: &mut [u32],
     present: &mut [u8],
-) -> Result<Sizes, Refusal>
+) -> Result<Sizes, CallError>
     ensures outcome { result ≡ nulls_decoding_outcome null dictionary_bytes.now dictionary_offsets.now codes.now (length offsets.old) (length bytes.old) (length present.old) }
     ensures bytes { let texts = rows_named (Some null) (layout_texts dictionary_bytes.now dictionary_offsets.now) codes.now in
         bytes.new ≡ (if is_ok result then over (concat texts) bytes.old else bytes.old) }
@@ -63,7 +63,7 @@ pub(crate) fn decode_nulls(
     ensures present { present.new ≡ (if is_ok result then over (bitmap_of (code_bits null codes.now)) present.old else present.old) }
 {
     if codes.len().div_ceil(8) > present.len() {
-        return Err(Refusal::BitmapTooShort(8 * present.len()));
+        return Err(CallError::BitmapTooShort(8 * present.len()));
     }
     let sizes = decode(
         dictionary_bytes,
@@ -83,7 +83,7 @@ fn measure(
     dictionary_offsets: &[u32],
     codes: &[u32],
     null: Option<u32>,
-) -> Result<Sizes, Refusal>
+) -> Result<Sizes, CallError>
     requires { layout_fault greatest_offset dictionary_bytes.now dictionary_offsets.now ≡ None }
     ensures { result ≡ measured null (layout_texts dictionary_bytes.now dictionary_offsets.now) nothing codes.now }
 {
@@ -109,17 +109,17 @@ fn text_of<'a>(bytes: &'a [u8], offsets: &[u32], code: u32, null: Option<u32>) -
 }
 
 // The sizes with one text more, which may lack.
-fn with_next(sizes: Sizes, text: Option<&[u8]>) -> Result<Sizes, Refusal>
+fn with_next(sizes: Sizes, text: Option<&[u8]>) -> Result<Sizes, CallError>
     requires counted { sizes.texts + 1 < 2 ^ 64 }
     requires small { sizes.bytes ≤ greatest_offset }
     ensures next { result ≡ with_next sizes (option_copied text.entry) }
     ensures small { IfOk result (λ more. more.bytes ≤ greatest_offset) }
 {
     let Some(text) = text else {
-        return Err(Refusal::NoSuchCode(sizes.texts));
+        return Err(CallError::NoSuchCode(sizes.texts));
     };
     if text.len() > u32::greatest() - sizes.bytes {
-        return Err(Refusal::TooManyBytes(sizes.texts));
+        return Err(CallError::TooManyBytes(sizes.texts));
     }
     Ok(Sizes {
         texts: sizes.texts + 1,

@@ -3,11 +3,11 @@ ghost use Rattle.std.specs.Prelude.{◌≡◌, ◌⊎◌, ◌<◌, ◌≤◌, No
 ghost use Rattle.std.specs.List.{concat};
 ghost use Rattle.lasso_c.specs.Layout.{column_rows, greatest_offset, layout_texts, offsets_from, over, present_texts};
 ghost use Rattle.lasso_c.specs.Encoding.{codes_of, column_outcome, column_refusal, dictionary_of, encoding_outcome, of_column, row_codes, sizes_of};
-ghost use Rattle.lasso_c.specs.declared.refusal.Refusal.TheVariants.{NoMemory};
+ghost use Rattle.lasso_c.specs.declared.error.CallError.TheVariants.{NoMemory};
 
 use crate::batches::intern_column;
+use crate::error::{CallError, Sizes};
 use crate::layout::put_text;
-use crate::refusal::{Refusal, Sizes};
 use lasso_parts::keys::{Key, Spur};
 use lasso_parts::util::FixedState;
 use lasso_single::rodeo::Rodeo;
@@ -31,7 +31,7 @@ pub(crate) fn encode(
     codes: &mut [u32],
     dictionary_bytes: &mut [u8],
     dictionary_offsets: &mut [u32],
-) -> Result<Sizes, Refusal>
+) -> Result<Sizes, CallError>
     ensures outcome { (result ≡ encoding_outcome bytes.now offsets.now (length codes.old) (length dictionary_offsets.old) (length dictionary_bytes.old)) ⊎ (result ≡ Err NoMemory) }
     ensures codes { let texts = layout_texts bytes.now offsets.now in
         codes.new ≡ (if is_ok result then over (codes_of (dictionary_of texts) texts) codes.old else codes.old) }
@@ -62,7 +62,7 @@ pub(crate) fn encode_rows(
     codes: &mut [u32],
     dictionary_bytes: &mut [u8],
     dictionary_offsets: &mut [u32],
-) -> Result<Sizes, Refusal>
+) -> Result<Sizes, CallError>
     ensures outcome { (result ≡ column_outcome bits.now bytes.now offsets.now (length codes.old) (length dictionary_offsets.old) (length dictionary_bytes.old)) ⊎ (result ≡ Err NoMemory) }
     ensures codes { let rows = column_rows bits.now bytes.now offsets.now in
         codes.new ≡ (if is_ok result then over (row_codes null (dictionary_of (present_texts rows)) rows) codes.old else codes.old) }
@@ -75,13 +75,13 @@ pub(crate) fn encode_rows(
     let found = interned.codes.as_slice();
     let sizes = sizes_of(&interned.dictionary);
     if codes.len() < found.len() {
-        return Err(Refusal::CodesTooShort(sizes));
+        return Err(CallError::CodesTooShort(sizes));
     }
     if sizes.texts >= dictionary_offsets.len() {
-        return Err(Refusal::OffsetsTooShort(sizes));
+        return Err(CallError::OffsetsTooShort(sizes));
     }
     if dictionary_bytes.len() < sizes.bytes {
-        return Err(Refusal::BytesTooShort(sizes));
+        return Err(CallError::BytesTooShort(sizes));
     }
     codes[..found.len()].copy_from_slice(found);
     write_dictionary(&interned.dictionary, dictionary_bytes, dictionary_offsets);
@@ -95,7 +95,7 @@ fn intern_rows(
     offsets: &[u32],
     bits: &[u8],
     null: u32,
-) -> Result<Interned, Refusal>
+) -> Result<Interned, CallError>
     ensures refused { IfErr result (λ refusal. (column_refusal bits.now bytes.now offsets.now ≡ Some refusal) ⊎ (refusal ≡ NoMemory)) }
     ensures layout { OnOk result (column_refusal bits.now bytes.now offsets.now ≡ None) }
     ensures dictionary { IfOk result (λ interned. interned.dictionary.texts ≡ dictionary_of (present_texts (column_rows bits.now bytes.now offsets.now))) }
@@ -114,11 +114,11 @@ fn intern_rows(
 
 // The refusal, and out of memory for one by the dictionary: this has no limit below the greatest number, and a code for each text
 // that offsets can reach.
-fn of_column(refusal: Refusal) -> Refusal
+fn of_column(refusal: CallError) -> CallError
     ensures { result ≡ of_column refusal }
 {
     match refusal {
-        Refusal::LimitReached(_) | Refusal::NoCodeLeft(_) => Refusal::NoMemory,
+        CallError::LimitReached(_) | CallError::NoCodeLeft(_) => CallError::NoMemory,
         _ => refusal,
     }
 }

@@ -13,8 +13,8 @@ ghost use Rattle.lasso_c.specs.Interning.{BatchEnds, TextEnds};
 ghost use Rattle.lasso_c.specs.Status.{Reports};
 
 use crate::batches::{code_in, copy_text};
+use crate::error::{LassoReport, status_of};
 use crate::handle::Lasso;
-use crate::refusal::{LassoReport, status_of};
 use crate::slot::Interner;
 use crate::widths;
 use lasso_parts::keys::Key;

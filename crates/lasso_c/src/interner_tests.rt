@@ -1,13 +1,13 @@
 //! Calls on interners that C holds, on inputs that were worked by hand.
 ghost use Rattle.std.specs.Prelude.{◌≤◌};
 
+use crate::error::LassoReport;
 use crate::handle::Lasso;
 use crate::interner::{
     lasso_clear, lasso_dictionary, lasso_free, lasso_get, lasso_get_batch, lasso_intern,
     lasso_intern_batch, lasso_len, lasso_limit, lasso_memory, lasso_new, lasso_resolve,
     lasso_set_limit,
 };
-use crate::refusal::LassoReport;
 use std::process::Abort;
 use std::test::Fail;
 

@@ -8,8 +8,8 @@ ghost use Rattle.lasso_c.specs.Handles.{dictionary_outcome, lookup_outcome, text
 ghost use Rattle.lasso_c.specs.Interning.{BatchEnds};
 ghost use Rattle.lasso_c.specs.Status.{Reports};
 
+use crate::error::LassoReport;
 use crate::handle::Lasso;
-use crate::refusal::LassoReport;
 use crate::widths;
 use std::alloc::Global;
 

@@ -1,12 +1,12 @@
 //! Calls with offsets of 64 bits, on inputs that were worked by hand. Outputs are filled with 9s.
 
+use crate::error::LassoReport;
 use crate::handle::Lasso;
 use crate::interner::lasso_new;
 use crate::large::{
     lasso_dictionary_large, lasso_get_batch_large, lasso_intern_batch_large,
     lasso_intern_batch_nulls_large,
 };
-use crate::refusal::LassoReport;
 use std::process::Abort;
 use std::test::Fail;
 

@@ -5,8 +5,8 @@ ghost use Rattle.std.specs.Option.{option_copied};
 ghost use Rattle.std.specs.Result.{result_err};
 ghost use Rattle.lasso_c.specs.Layout.{greatest_offset, reach, layout_texts, start_fault, text_fault, layout_fault, over_from};
 
+use crate::error::CallError;
 use crate::offsets::Offset;
-use crate::refusal::Refusal;
 use std::str::from_utf8;
 
 // How far offsets may reach into the bytes.
@@ -17,11 +17,11 @@ pub(crate) fn reach<O: Offset>(bytes: &[u8]) -> usize
 }
 
 // Where the first text begins, where its offset is good.
-pub(crate) fn first_start<O: Offset>(bytes: &[u8], from: usize) -> Result<usize, Refusal>
+pub(crate) fn first_start<O: Offset>(bytes: &[u8], from: usize) -> Result<usize, CallError>
     ensures { MatchResult result (λ start. (start ≡ from) × (start_fault O.greatest bytes.now from ≡ None)) (λ refusal. start_fault O.greatest bytes.now from ≡ Some refusal) }
 {
     if from > reach::<O>(bytes) {
-        return Err(Refusal::OffsetPastBytes(0));
+        return Err(CallError::OffsetPastBytes(0));
     }
     Ok(from)
 }
@@ -32,24 +32,24 @@ pub(crate) fn text_between<O: Offset>(
     at: usize,
     from: usize,
     to: usize,
-) -> Result<&str, Refusal>
+) -> Result<&str, CallError>
     ensures { MatchResult result (λ text. (text.now ≡ slice_range bytes.now from to) × (from ≤ to) × (to ≤ reach O.greatest bytes.now) × (text_fault O.greatest bytes.now at from to ≡ None))
         (λ refusal. text_fault O.greatest bytes.now at from to ≡ Some refusal) }
 {
     if to < from {
-        return Err(Refusal::OffsetsFall(at));
+        return Err(CallError::OffsetsFall(at));
     }
     if to > reach::<O>(bytes) {
-        return Err(Refusal::OffsetPastBytes(at));
+        return Err(CallError::OffsetPastBytes(at));
     }
     match from_utf8(&bytes[from..to]) {
         Ok(text) => Ok(text),
-        Err(_) => Err(Refusal::NotUtf8(at)),
+        Err(_) => Err(CallError::NotUtf8(at)),
     }
 }
 
 // Finds what is first wrong with the layout.
-pub(crate) fn check_layout<O: Offset>(bytes: &[u8], offsets: &[O]) -> Result<(), Refusal>
+pub(crate) fn check_layout<O: Offset>(bytes: &[u8], offsets: &[O]) -> Result<(), CallError>
     ensures { result_err result ≡ layout_fault O.greatest bytes.now (O.numbers offsets.now) }
 {
     let count = O::count(offsets);

@@ -11,11 +11,12 @@ ghost use Rattle.lasso_c.specs.Encoding.{column_outcome, codes_of, dictionary_of
 ghost use Rattle.lasso_c.specs.Bitmap.{bitmap_of, code_bits};
 ghost use Rattle.lasso_c.specs.Decoding.{decoding_outcome, nulls_decoding_outcome, rows_named, texts_named};
 ghost use Rattle.lasso_c.specs.Status.{Reports, status_text};
-ghost use Rattle.lasso_c.specs.declared.refusal.Refusal.TheVariants.{NoMemory};
+ghost use Rattle.lasso_c.specs.declared.error.CallError.TheVariants.{NoMemory};
 
 mod batches;
 mod decoding;
 mod encoding;
+pub mod error;
 pub mod handle;
 pub mod interner;
 #[cfg(test)]
@@ -29,13 +30,12 @@ mod layout;
 mod null_tests;
 mod nulls;
 mod offsets;
-pub mod refusal;
 pub mod slot;
 #[cfg(test)]
 mod tests;
 mod widths;
 
-use refusal::LassoReport;
+use error::LassoReport;
 use std::alloc::Global;
 
 /// Writes a code for each text of a layout, and a dictionary in the same layout: each distinct text once, in the order in
@@ -71,7 +71,7 @@ pub extern "C" fn lasso_encode(
         dictionary_bytes,
         dictionary_offsets,
     );
-    refusal::tell(&outcome, report)
+    error::tell(&outcome, report)
 }
 
 /// The same for a column with nulls: bit i of byte i / 8 of `present`, counted from the least, is 1 where row i is present, and without
@@ -110,7 +110,7 @@ pub extern "C" fn lasso_encode_nulls(
         dictionary_bytes,
         dictionary_offsets,
     );
-    refusal::tell(&outcome, report)
+    error::tell(&outcome, report)
 }
 
 /// Writes the texts that codes name, in the layout of the dictionary. It returns a status, and where that is not 0 it writes
@@ -140,7 +140,7 @@ pub extern "C" fn lasso_decode(
         bytes,
         offsets,
     );
-    refusal::tell(&outcome, report)
+    error::tell(&outcome, report)
 }
 
 /// The same for a column with nulls: the code `null` gives an empty row, whose bit in `present` is 0; each other row has 1, and the
@@ -175,7 +175,7 @@ pub extern "C" fn lasso_decode_nulls(
         offsets,
         present,
     );
-    refusal::tell(&outcome, report)
+    error::tell(&outcome, report)
 }
 
 /// Writes what a status means, as far as there is room. It returns how many bytes the whole text has.
@@ -184,7 +184,7 @@ pub extern "C" fn lasso_status_text(status: u32, text: &mut [u8]) -> usize
     ensures len { result ≡ length (status_text status) }
     ensures text { text.new ≡ over (take (length text.old) (status_text status)) text.old }
 {
-    let whole = refusal::message_of(status).as_bytes();
+    let whole = error::message_of(status).as_bytes();
     let room = whole.len().min(text.len());
     text[..room].copy_from_slice(&whole[..room]);
     whole.len()

@@ -1,8 +1,8 @@
 //! Columns with nulls, on inputs that were worked by hand. The code of a null is 7, and outputs are filled with 9s.
 
+use crate::error::LassoReport;
 use crate::handle::Lasso;
 use crate::interner::{lasso_intern_batch_nulls, lasso_len, lasso_new};
-use crate::refusal::LassoReport;
 use crate::{lasso_decode_nulls, lasso_encode_nulls};
 use std::process::Abort;
 use std::test::Fail;

@@ -4,9 +4,9 @@ ghost use Rattle.std.specs.Result.{result_err};
 ghost use Rattle.lasso_c.specs.Bitmap.{bitmap_of, bits_fit, byte_of, code_bits, present_at};
 ghost use Rattle.lasso_c.specs.Layout.{null_fault, over};
 
+use crate::error::CallError;
 use crate::layout::reach;
 use crate::offsets::Offset;
-use crate::refusal::Refusal;
 
 // Whether the bitmap has a bit for each of `rows` rows, or is empty.
 pub(crate) fn fit(bits: &[u8], rows: usize) -> bool
@@ -29,14 +29,14 @@ pub(crate) fn check_null<O: Offset>(
     at: usize,
     from: usize,
     to: usize,
-) -> Result<(), Refusal>
+) -> Result<(), CallError>
     ensures { result_err result ≡ null_fault O.greatest bytes.now at from to }
 {
     if to < from {
-        return Err(Refusal::OffsetsFall(at));
+        return Err(CallError::OffsetsFall(at));
     }
     if to > reach::<O>(bytes) {
-        return Err(Refusal::OffsetPastBytes(at));
+        return Err(CallError::OffsetPastBytes(at));
     }
     Ok(())
 }

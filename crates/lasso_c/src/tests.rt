@@ -1,7 +1,7 @@
 //! Calls as C makes them, on inputs that were worked by hand. Each output is longer than what is written to it, and filled with 9s.
 ghost use Rattle.std.specs.Prelude.{◌≤◌};
 
-use crate::refusal::LassoReport;
+use crate::error::LassoReport;
 use crate::{lasso_decode, lasso_encode, lasso_status_text};
 use std::process::Abort;
 use std::test::Fail;

@@ -8,9 +8,9 @@ ghost use Rattle.lasso_c.specs.Interning.{BatchEnds};
 ghost use Rattle.lasso_c.specs.Status.{Reports};
 
 use crate::batches::{find_layout, intern_column, intern_layout, tell_batch, write_from};
+use crate::error::{CallError, LassoReport, tell};
 use crate::handle::Lasso;
 use crate::offsets::Offset;
-use crate::refusal::{LassoReport, Refusal, tell};
 use std::alloc::Global;
 
 // Interns the texts of a layout, as `lasso_intern_batch` says.
@@ -29,7 +29,7 @@ pub(crate) fn intern_batch<O: Offset>(
     ensures within { report.new.texts ≤ length (layout_texts bytes.now (O.numbers offsets.now)) }
 {
     let Some(mut interner) = lasso.take(alloc) else {
-        return tell(&Err(Refusal::NoInterner), report);
+        return tell(&Err(CallError::NoInterner), report);
     };
     let progress = intern_layout(&mut interner.rodeo, bytes, offsets, codes);
     lasso.put(alloc, interner);
@@ -54,7 +54,7 @@ pub(crate) fn intern_batch_nulls<O: Offset>(
     ensures within { report.new.texts ≤ length (layout_texts bytes.now (O.numbers offsets.now)) }
 {
     let Some(mut interner) = lasso.take(alloc) else {
-        return tell(&Err(Refusal::NoInterner), report);
+        return tell(&Err(CallError::NoInterner), report);
     };
     let progress = intern_column(&mut interner.rodeo, bytes, offsets, present, null, codes);
     lasso.put(alloc, interner);
@@ -77,7 +77,7 @@ pub(crate) fn get_batch<O: Offset>(
     ensures kept { lasso.new.slot.value ≡ lasso.old.slot.value }
 {
     let Some(interner) = lasso.take(alloc) else {
-        return tell(&Err(Refusal::NoInterner), report);
+        return tell(&Err(CallError::NoInterner), report);
     };
     let outcome = find_layout(&interner.rodeo, bytes, offsets, absent, codes);
     lasso.put(alloc, interner);
@@ -101,7 +101,7 @@ pub(crate) fn dictionary<O: Offset>(
     ensures kept { lasso.new.slot.value ≡ lasso.old.slot.value }
 {
     let Some(interner) = lasso.take(alloc) else {
-        return tell(&Err(Refusal::NoInterner), report);
+        return tell(&Err(CallError::NoInterner), report);
     };
     let outcome = write_from(&interner.rodeo, from, bytes, offsets);
     lasso.put(alloc, interner);

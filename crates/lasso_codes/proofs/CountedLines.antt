@@ -24,17 +24,11 @@ use Rattle.lasso_counts.specs.Counts.{AreCounts, counted_texts, ranked_cmp}
 use Rattle.lasso_counts.proofs.Counted.{counts_none}
 use Rattle.lasso_codes.specs.Counts.{count_line, CountingFault, CountsEnd, IsBegun}
 use Rattle.lasso_codes.specs.Fault.{IsReadFault, IsWriteEnd}
+use Rattle.lasso_codes.specs.Stages.{Counting}
 use Rattle.lasso_codes.specs.Streams.{WritesAll}
 use Rattle.lasso_codes.specs.declared.fault.RunFault.{RunFault}
 use Rattle.lasso_codes.specs.declared.fault.RunFault.TheVariants.{Line, TooManyLines, ReadFailed, WriteFailed, ReaderGone, Column}
-use Rattle.lasso_codes.proofs.Taken.{Taken, taken_none, taken_push, taken_all, taken_first, taken_next}
-
--- these lines were read, interned and counted
-pub record Counting (input rest : List ℕ) (number : ℕ) (old now : InternerView) (counts : List ℕ) : Type 0 where
-  pub done : List Text
-  pub taken : Taken input rest number done
-  pub counted : AreCounts done now.texts counts
-  pub list : extend spur_at old done accepted now
+use Rattle.lasso_codes.proofs.Taken.{taken_none, taken_push, taken_all, taken_first, taken_next}
 
 pub counting_none : (input : List ℕ) (old : InternerView) (counts : List ℕ) → old.texts ≡ [] → counts ≡ [] → Counting input input 1 old old counts
 counting_none input old counts no_texts no_counts = record {

@@ -2,26 +2,27 @@
 --
 -- After each column the lines so far are written, and the bytes after it are left. Within a column the lines of the entries so far are
 -- written after those. So a run that ends early has written lines that are whole, up to the fault, or a beginning of them.
-use Rattle.std.proofs.Common.{ℕ, zero, suc, ◌≡◌, ◌+◌, Bool, List, [], ◌∷◌, ◌++◌, length, take, drop, Option, Some, None, Result, Ok, Err, ◌⊎◌, refl, sym, ap, subst, ◌∙◌, arith, append_assoc, inl, inr}
-use Rattle.std.specs.Prelude.{flat_map, slice_get}
+use Rattle.std.proofs.Common.{ℕ, suc, ◌≡◌, ◌+◌, ◌-◌, ◌<◌, Bool, List, [], ◌∷◌, ◌++◌, length, take, drop, Option, Some, None, Result, Ok, Err, ◌⊎◌, refl, sym, ap, subst, ◌∙◌, arith, append_assoc, inl, inr}
+use Rattle.std.specs.Prelude.{slice_get}
 use Rattle.std.proofs.lemmas.Grind.{flat_map-append}
 use Rattle.std.proofs.lemmas.List.{append-nil, take-append-drop}
 use Rattle.lasso_parts.specs.Texts.{Text}
 use Rattle.lasso_parts.specs.declared.util.LassoErrorKind.TheVariants.{FailedAllocation}
 use Rattle.lasso_columns.specs.declared.faults.LineError.TheVariants.{Refused}
-use Rattle.lasso_codes.specs.Decode.{text_or_past, null_line, line_at, decoded, Reads, fed_lines, LinesFault, WritesLines, IsWhole, IsBegun, lines_before, DecodeEnd}
+use Rattle.lasso_codes.specs.Decode.{text_or_past, null_line, line_at, decoded, Reads, fed_lines, LinesFault, WritesEntry, WritesLines, IsWhole, IsBegun, lines_before, DecodeEnd}
 use Rattle.lasso_codes.specs.Distinct.{with_feed}
-use Rattle.lasso_codes.specs.Fault.{IsReadFault, IsWriteFault, IsWriteEnd}
-use Rattle.lasso_codes.specs.Reading.{ReadItems, head_of, on_head, texts_from, HasNoHeader, IsTextFault, TextsFault, IsEntryFault, IsColumnFault}
+use Rattle.lasso_codes.specs.Fault.{IsReadFault, IsWriteEnd}
+use Rattle.lasso_codes.specs.Stages.{IsAhead, LinesAhead}
+use Rattle.lasso_codes.specs.Reading.{ReadItems, cut_entry, items_from, head_of, on_head, HasNoHeader, IsTextFault, TextsFault, IsEntryFault, IsColumnFault}
 use Rattle.lasso_codes.specs.Streams.{Begins, WritesAll}
 use Rattle.lasso_codes.specs.declared.entries.Entry.{Entry}
 use Rattle.lasso_codes.specs.declared.entries.Entry.TheVariants.{Missing, Bad, Null, Code}
 use Rattle.lasso_codes.specs.declared.fault.ColumnFault.{ColumnFault}
-use Rattle.lasso_codes.specs.declared.fault.ColumnFault.TheVariants.{NoHeader, NoText, NotUtf8, Doubled, TextRefused, NoEntry, NotEntry, PastTexts, IsNull, NotMerged}
+use Rattle.lasso_codes.specs.declared.fault.ColumnFault.TheVariants.{NoHeader, TextRefused, NoEntry, NotEntry, PastTexts, IsNull, NotMerged}
 use Rattle.lasso_codes.specs.declared.fault.RunFault.{RunFault}
 use Rattle.lasso_codes.specs.declared.fault.RunFault.TheVariants.{Line, TooManyLines, ReadFailed, WriteFailed, ReaderGone, Column}
 use Rattle.lasso_codes.specs.declared.reading.Header.{Header}
-use Rattle.lasso_codes.proofs.Items.{IsAhead, ahead_first, column_unread, entry_fault}
+use Rattle.lasso_codes.proofs.Items.{ahead_first, ahead_push, ahead_fault, one_fewer, column_unread, entry_fault}
 
 -- ---- the bytes of lines
 
@@ -43,12 +44,6 @@ begins_after part more xs ys is b =
     (b.0, fed_both xs ys ∙ ap (λ bs. bs ++ fed_lines ys) (sym is) ∙ ap (λ bs. part ++ bs) b.1 ∙ sym (append_assoc part more b.0))
 
 -- ---- the lines of a column on their way
-
--- the lines that are done are written
-pub record LinesAhead (others read : ReadItems Text) (part : List ℕ) : Type 0 where
-  pub done : List Text
-  pub ahead : IsAhead done others read
-  pub part_is : part ≡ fed_lines done
 
 pub lines_none : (others read : ReadItems Text) → IsAhead [] others read → LinesAhead others read []
 lines_none others read ahead = record { done = []; ahead = ahead; part_is = refl }
@@ -116,6 +111,29 @@ line_fault null list Missing number fault e = same_fault (NoEntry number) fault 
 line_fault null list Bad number fault e = same_fault (NotEntry number) fault tt e
 line_fault null list Null number fault e = null_fault null number fault e
 line_fault null list (Code code) number fault e = past_fault (slice_get list code) number fault e
+
+-- the entry at a position, whose line is written or is not
+module _ (null : Option Text) (texts : List Text) (lines position : ℕ) (binary : Bool) (bytes rest : List ℕ) (entry : Entry) (read : ReadItems Text) (part : List ℕ) (small : position < lines) (cut : cut_entry binary bytes ≡ (entry, rest)) (so_far : LinesAhead (items_from (line_at null texts) (lines - position) binary (position + 1) bytes) read part) where
+  abbrev others : ReadItems Text
+  others = items_from (line_at null texts) (lines - position) binary (position + 1) bytes
+
+  abbrev later : ReadItems Text
+  later = items_from (line_at null texts) (lines - (position + 1)) binary (position + 1 + 1) rest
+
+  one_more : (line : Text) → line_at null texts entry (position + 1) ≡ Ok line → IsAhead (so_far.done ++ line ∷ []) later read
+  one_more line is = ahead_push (line_at null texts) (lines - position) (lines - (position + 1)) binary (position + 1) bytes rest entry read so_far.done (one_fewer lines position small) cut so_far.ahead line is
+
+  pub entry_done : (made : Result Text ColumnFault) (column : ℕ) (more : List ℕ) → line_at null texts entry (position + 1) ≡ made → WritesEntry made column (Ok tt) more → LinesAhead later read (part ++ more)
+  entry_done (Ok line) column more is written = lines_push others read part so_far later more line (one_more line is) written
+  entry_done (Err fault) column more is written = absurd (cc)
+
+  pub entry_fails : (made : Result Text ColumnFault) (column : ℕ) (more : List ℕ) (fault : RunFault) → line_at null texts entry (position + 1) ≡ made → WritesEntry made column (Err fault) more → LinesFault read column (part ++ more) fault
+  entry_fails (Ok line) column more fault is written = lines_write_fails others read part so_far later more line column fault (one_more line is) written
+  entry_fails (Err reason) column more fault is written =
+      let told : fault ≡ Column column reason = cc in
+      let none : part ++ more ≡ part = ap (λ bs. part ++ bs) written.1 ∙ append-nil part in
+      let ended = ahead_fault (line_at null texts) (lines - position) (lines - (position + 1)) binary (position + 1) bytes rest entry read so_far.done (one_fewer lines position small) cut so_far.ahead reason is in
+      rw (told, none) (lines_entry_fails others read part so_far column reason (line_fault null texts entry (position + 1) reason is) ended)
 
 -- ---- columns on their way
 

@@ -22,10 +22,11 @@ use Rattle.lasso_parts.specs.declared.util.LassoErrorKind.TheVariants.{FailedAll
 use Rattle.lasso_counts.proofs.Counted.{list_push}
 use Rattle.lasso_codes.specs.Distinct.{with_feed, distinct_report, passed, PassFault, DistinctEnd}
 use Rattle.lasso_codes.specs.Fault.{IsReadFault, IsWriteFault, IsWriteEnd}
+use Rattle.lasso_codes.specs.Stages.{OnTheWay}
 use Rattle.lasso_codes.specs.Streams.{Begins}
 use Rattle.lasso_codes.specs.declared.fault.RunFault.{RunFault}
 use Rattle.lasso_codes.specs.declared.fault.RunFault.TheVariants.{Line, TooManyLines, ReadFailed, WriteFailed, ReaderGone, Column}
-use Rattle.lasso_codes.proofs.Taken.{Taken, taken_none, taken_push, taken_all, taken_first, taken_next}
+use Rattle.lasso_codes.proofs.Taken.{taken_none, taken_push, taken_all, taken_first, taken_next}
 
 -- ---- the report of one line more
 
@@ -56,13 +57,6 @@ first_begins lines n part is =
     subst (λ bs. Begins bs (distinct_report lines)) (sym is) whole
 
 -- ---- a run on its way
-
--- these lines were read and interned, and the part is their report
-pub record OnTheWay (input : List ℕ) (limit : ℕ) (rest : List ℕ) (number : ℕ) (now : InternerView) (part : List ℕ) : Type 0 where
-  pub done : List Text
-  pub taken : Taken input rest number done
-  pub list : extend spur_at (made_with 4096 limit) done accepted now
-  pub part_is : part ≡ distinct_report done
 
 pub way_none : (input : List ℕ) (limit : ℕ) (now : InternerView) → now ≡ made_with 4096 limit → OnTheWay input limit input 1 now []
 way_none input limit now made = record { done = []; taken = taken_none input; list = (refl, made); part_is = refl }

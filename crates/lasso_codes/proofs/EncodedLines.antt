@@ -26,24 +26,14 @@ use Rattle.lasso_columns.specs.declared.faults.LineError.TheVariants.{Refused}
 use Rattle.lasso_codes.specs.Columns.{is_null, texts_of, dictionary_of, entry_of, entry_at, column_of, column_bytes}
 use Rattle.lasso_codes.specs.Encode.{IsNumberedAs, IsNumbered, AreNumbered, AreCodable, EncodingFault, EncodeEnd}
 use Rattle.lasso_codes.specs.Fault.{IsReadFault, IsWriteEnd}
+use Rattle.lasso_codes.specs.Stages.{IsEntryAs, AreEntries, Encoding}
 use Rattle.lasso_codes.specs.Streams.{Begins, WritesAll}
 use Rattle.lasso_codes.specs.declared.fault.RunFault.{RunFault}
 use Rattle.lasso_codes.specs.declared.fault.RunFault.TheVariants.{Line, TooManyLines, ReadFailed, WriteFailed, ReaderGone, Column}
 use Rattle.lasso_codes.proofs.FewTexts.{few_texts}
-use Rattle.lasso_codes.proofs.Taken.{Taken, taken_none, taken_push, taken_all, taken_first, taken_next}
+use Rattle.lasso_codes.proofs.Taken.{taken_none, taken_push, taken_all, taken_first, taken_next}
 
 -- ---- numbers of lines
-
--- the number of a line is that of a null, or its position, which is not that
-abbrev pub IsEntryAs : Bool → List Text → Text → ℕ → Type 0
-IsEntryAs true list line number = number ≡ 4294967295
-IsEntryAs false list line number = (position_of list line ≡ Some number) × (number < 4294967295)
-
-abbrev pub AreEntries : Option Text → List Text → List Text → List ℕ → Type 0
-AreEntries null list [] [] = Unit {0}
-AreEntries null list [] (n ∷ ns) = ⊥
-AreEntries null list (l ∷ ls) [] = ⊥
-AreEntries null list (l ∷ ls) (n ∷ ns) = IsEntryAs (is_null null l) list l n × AreEntries null list ls ns
 
 entry_stays : (b : Bool) (list : List Text) (last line : Text) (number : ℕ) → IsEntryAs b list line number → IsEntryAs b (list ++ last ∷ []) line number
 entry_stays true list last line number is = is
@@ -84,13 +74,6 @@ entries_are null list (l ∷ ls) (n ∷ ns) are =
     cc
 
 -- ---- a run on its way
-
--- these lines were read, and have these numbers
-pub record Encoding (input rest : List ℕ) (number : ℕ) (null : Option Text) (old now : InternerView) (numbers : List ℕ) : Type 0 where
-  pub done : List Text
-  pub taken : Taken input rest number done
-  pub entries : AreEntries null now.texts done numbers
-  pub list : extend spur_at old (texts_of null done) accepted now
 
 pub encoding_none : (input : List ℕ) (null : Option Text) (old : InternerView) (numbers : List ℕ) → numbers ≡ [] → Encoding input input 1 null old old numbers
 encoding_none input null old numbers none = record {

@@ -2,27 +2,24 @@
 --
 -- What all entries stand for is what those before stand for, and what the others stand for after them. One more entry goes from the
 -- others to those before. At a faulty entry those before are all, and the fault is that of all.
-use Rattle.std.proofs.Common.{ℕ, suc, ◌≡◌, ◌+◌, ◌-◌, ◌<◌, Bool, false, ◌⊎◌, List, [], ◌∷◌, ◌++◌, take, length, Option, Some, None, Result, Ok, Err, refl, sym, ap, subst, ◌∙◌, append_assoc, arith, inl, inr}
+use Rattle.std.proofs.Common.{ℕ, suc, ◌≡◌, ◌+◌, ◌-◌, ◌<◌, Bool, false, ◌⊎◌, List, [], ◌∷◌, ◌++◌, take, length, Option, Some, None, Result, Ok, Err, sym, ap, subst, ◌∙◌, append_assoc, arith, inl, inr}
 use Rattle.std.proofs.Math.Seq.{take-append_seam}
 use Rattle.std.proofs.lemmas.List.{append-nil}
 use Rattle.lasso_parts.specs.Texts.{Text}
 use Rattle.lasso_codes.specs.Reading.{Makes, ReadItems, ReadTexts, TakesEntry, TakesHeader, HeaderFault, HasNoHeader, cut_entry, on_entry_line, on_item, items_from, texts_from, head_of, on_texts, on_head, read_column, IsEntryFault, IsColumnFault}
+use Rattle.lasso_codes.specs.Stages.{IsAhead}
 use Rattle.lasso_codes.specs.Streams.{CutsLine}
 use Rattle.lasso_codes.specs.declared.entries.Entry.{Entry}
 use Rattle.lasso_codes.specs.declared.entries.Entry.TheVariants.{Missing}
 use Rattle.lasso_codes.specs.declared.input.Cut.{Cut}
 use Rattle.lasso_codes.specs.declared.input.Cut.TheVariants.{Part, End}
 use Rattle.lasso_codes.specs.declared.fault.ColumnFault.{ColumnFault}
-use Rattle.lasso_codes.specs.declared.fault.ColumnFault.TheVariants.{NoHeader, NoText, NotUtf8, Doubled, TextRefused, NoEntry, NotEntry, PastTexts, IsNull, NotMerged}
+use Rattle.lasso_codes.specs.declared.fault.ColumnFault.TheVariants.{NoHeader, TextRefused}
 use Rattle.lasso_codes.specs.declared.fault.RunFault.{RunFault}
 use Rattle.lasso_codes.specs.declared.fault.RunFault.TheVariants.{Column}
 use Rattle.lasso_codes.specs.Fault.{IsReadFault}
 use Rattle.lasso_codes.specs.declared.reading.Header.{Header}
 use Rattle.lasso_codes.proofs.Feeds.{no_cut}
-
--- these are done, and the others are ahead
-abbrev pub IsAhead : {X : Type 0} → List X → ReadItems X → ReadItems X → Type 0
-IsAhead done others read = (read.0 ≡ done ++ others.0) × (read.1 ≡ others.1)
 
 pub ahead_none : {X : Type 0} (make : Makes X) (k n : ℕ) (binary : Bool) (bytes : List ℕ) → k ≡ n → IsAhead [] (items_from make k binary 1 bytes) (items_from make n binary 1 bytes)
 ahead_none make k n binary bytes same = let e = ap (λ m. items_from make m binary 1 bytes) (sym same) in (ap (λ r. r.0) e, ap (λ r. r.1) e)

@@ -1,7 +1,9 @@
 pub mod FirstBytes
 pub mod Feeds
+pub mod Stretches
 pub mod Written
 pub mod Flat
+pub mod Blocks
 pub mod FewTexts
 pub mod Taken
 pub mod DistinctLines

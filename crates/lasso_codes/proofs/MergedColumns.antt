@@ -3,42 +3,39 @@
 -- The texts of each dictionary are interned in order, and the table has the code that each has then. So an entry's code is rewritten to
 -- that of its text. The list only grows at its end, and a text keeps its code: the entries of the columns before stay as they are.
 -- Where nothing of the input is left all columns were merged, and the list is that of the distinct texts of all dictionaries.
-use Rattle.std.proofs.Common.{ℕ, zero, suc, ◌≡◌, ◌+◌, ◌-◌, ◌^◌, ◌<◌, ◌≤◌, ◌==◌, Bool, true, false, cond, List, [], ◌∷◌, ◌++◌, length, get_or, map, take, is_some, Option, Some, None, ◌⊎◌, Result, Ok, Err, MatchResult, refl, sym, ap, subst, ◌∙◌, arith, append_assoc, inl, inr}
-use Rattle.std.specs.Prelude.{slice_get, unwrap_or, IsSomeAnd}
+use Rattle.std.proofs.Common.{ℕ, zero, suc, ◌≡◌, ◌+◌, ◌-◌, ◌^◌, ◌<◌, ◌≤◌, ◌==◌, Bool, false, cond, List, [], ◌∷◌, ◌++◌, length, get_or, map, take, Option, Some, None, ◌⊎◌, Result, Ok, Err, refl, sym, ap, subst, ◌∙◌, arith, append_assoc, inl, inr}
+use Rattle.std.specs.Prelude.{slice_get, IsSomeAnd}
 use Rattle.std.proofs.lemmas.Bool.Decides.{nat_tests}
-use Rattle.std.proofs.lemmas.List.{append-nil, length_push, length-map, map_push}
+use Rattle.std.proofs.lemmas.List.{append-nil, length-map, map_push}
 use Rattle.std.proofs.lemmas.Option.{slice_get_within, slice_get-get_or}
 use Rattle.std.proofs.lemmas.Result.{MatchResult-weaker}
 use Rattle.lasso_parts.proofs.TextLemmas.{position_here}
-use Rattle.lasso_parts.specs.Kept.{kept_made}
 use Rattle.lasso_parts.specs.Texts.{Text, position_of}
 use Rattle.lasso_parts.specs.declared.util.LassoError.{LassoError}
 use Rattle.lasso_parts.specs.declared.util.LassoErrorKind.TheVariants.{FailedAllocation}
 use Rattle.lasso_single.specs.Filling.{extend}
-use Rattle.lasso_single.specs.Intern.{InternsIn}
 use Rattle.lasso_single.specs.Interner.{InternerView, made_with}
 use Rattle.lasso_single.proofs.Filled.{accepted}
-use Rattle.lasso.proofs.Calling.{list_interned}
 use Rattle.lasso_columns.proofs.Coded.{map_some_length}
 use Rattle.lasso_columns.proofs.PartLists.{list_extended}
 use Rattle.lasso_columns.specs.Codes.{AreCodes}
 use Rattle.lasso_columns.specs.Encoding.{spur_at, IsRefused}
-use Rattle.lasso_columns.specs.Parts.{new_texts}
 use Rattle.lasso_columns.specs.declared.faults.LineError.TheVariants.{Refused}
 use Rattle.lasso_codes.specs.Columns.{entry_at, column_of}
 use Rattle.lasso_codes.specs.Fault.{IsReadFault, IsWriteEnd}
-use Rattle.lasso_codes.specs.Merge.{code_or_past, recoded, entries_of, read_list, head_list, texts_at, distinct_of, Merges, EntriesFault, AddsEntries, AreMerged, IsNotMerged, IsMergeFault, IsMergeBegun, MergingFault, MergeEnd}
-use Rattle.lasso_codes.specs.Reading.{Makes, ReadItems, head_of, on_head, texts_from, items_from, HasNoHeader, IsTextFault, TextsFault, IsEntryFault, IsColumnFault}
-use Rattle.lasso_codes.specs.Streams.{Begins, WritesAll}
+use Rattle.lasso_codes.specs.Merge.{code_or_past, recoded, entries_of, read_list, head_list, texts_at, distinct_of, Merges, EntriesFault, AddsEntry, AddsEntries, AreMerged, IsNotMerged, IsMergeFault, IsMergeBegun, MergingFault, MergeEnd}
+use Rattle.lasso_codes.specs.Stages.{IsAhead, EntriesAhead}
+use Rattle.lasso_codes.specs.Reading.{ReadItems, cut_entry, head_of, texts_from, items_from, HasNoHeader, IsTextFault, TextsFault, IsEntryFault}
+use Rattle.lasso_codes.specs.Streams.{WritesAll}
 use Rattle.lasso_codes.specs.declared.entries.Entry.{Entry}
 use Rattle.lasso_codes.specs.declared.entries.Entry.TheVariants.{Missing, Bad, Null, Code}
 use Rattle.lasso_codes.specs.declared.fault.ColumnFault.{ColumnFault}
-use Rattle.lasso_codes.specs.declared.fault.ColumnFault.TheVariants.{NoHeader, NoText, NotUtf8, Doubled, TextRefused, NoEntry, NotEntry, PastTexts, IsNull, NotMerged}
+use Rattle.lasso_codes.specs.declared.fault.ColumnFault.TheVariants.{NoHeader, TextRefused, NoEntry, NotEntry, PastTexts, NotMerged}
 use Rattle.lasso_codes.specs.declared.fault.RunFault.{RunFault}
 use Rattle.lasso_codes.specs.declared.fault.RunFault.TheVariants.{Line, TooManyLines, ReadFailed, WriteFailed, ReaderGone, Column}
 use Rattle.lasso_codes.specs.declared.reading.Header.{Header}
 use Rattle.lasso_codes.proofs.FewTexts.{few_texts}
-use Rattle.lasso_codes.proofs.Items.{IsAhead, column_read, column_unread, entry_fault}
+use Rattle.lasso_codes.proofs.Items.{ahead_push, ahead_fault, one_fewer, column_read, column_unread, entry_fault}
 
 -- ---- interning texts, and then others
 
@@ -94,12 +91,6 @@ recode_fault list texts (Code code) number fault e = past_fault list (slice_get 
 
 -- ---- the entries of a column on their way
 
--- the numbers of the entries that are done were added
-pub record EntriesAhead (others read : ReadItems (Option ℕ)) (before numbers : List ℕ) : Type 0 where
-  pub done : List (Option ℕ)
-  pub ahead : IsAhead done others read
-  pub numbers_are : map entry_at numbers ≡ map entry_at before ++ done
-
 pub entries_none : (others read : ReadItems (Option ℕ)) (before : List ℕ) → IsAhead [] others read → EntriesAhead others read before before
 entries_none others read before ahead = record { done = []; ahead = ahead; numbers_are = sym (append-nil (map entry_at before)) }
 
@@ -123,6 +114,27 @@ entries_read_fails read column ReadFailed is = tt
 entries_read_fails read column WriteFailed is = absurd is
 entries_read_fails read column ReaderGone is = absurd is
 entries_read_fails read column (Column number fault) is = absurd is
+
+-- the entry at a position, whose number is added or is not
+module _ (list texts : List Text) (lines position : ℕ) (binary : Bool) (bytes rest : List ℕ) (entry : Entry) (read : ReadItems (Option ℕ)) (before numbers : List ℕ) (small : position < lines) (cut : cut_entry binary bytes ≡ (entry, rest)) (so_far : EntriesAhead (items_from (recoded list texts) (lines - position) binary (position + 1) bytes) read before numbers) where
+  abbrev others : ReadItems (Option ℕ)
+  others = items_from (recoded list texts) (lines - position) binary (position + 1) bytes
+
+  abbrev later : ReadItems (Option ℕ)
+  later = items_from (recoded list texts) (lines - (position + 1)) binary (position + 1 + 1) rest
+
+  pub number_added : (made : Result (Option ℕ) ColumnFault) (column : ℕ) (after : List ℕ) → recoded list texts entry (position + 1) ≡ made → AddsEntry made column numbers after (Ok tt) → EntriesAhead later read before after
+  number_added (Ok item) column after is added =
+      let ahead = ahead_push (recoded list texts) (lines - position) (lines - (position + 1)) binary (position + 1) bytes rest entry read so_far.done (one_fewer lines position small) cut so_far.ahead (entry_at added.0) (is ∙ ap (λ (o : Option ℕ). Ok o) added.1) in
+      entries_push others read before numbers so_far later added.0 after ahead added.2
+  number_added (Err fault) column after is added = absurd (cc)
+
+  pub number_fails : (made : Result (Option ℕ) ColumnFault) (column : ℕ) (after : List ℕ) (fault : RunFault) → recoded list texts entry (position + 1) ≡ made → AddsEntry made column numbers after (Err fault) → EntriesFault read column fault
+  number_fails (Ok item) column after fault is added = subst (λ f. EntriesFault read column f) (sym added) refl
+  number_fails (Err reason) column after fault is added =
+      let told : fault ≡ Column column reason = cc in
+      let ended = ahead_fault (recoded list texts) (lines - position) (lines - (position + 1)) binary (position + 1) bytes rest entry read so_far.done (one_fewer lines position small) cut so_far.ahead reason is in
+      rw told (refl, recode_fault list texts entry (position + 1) reason is, ended.1)
 
 -- ---- columns on their way
 

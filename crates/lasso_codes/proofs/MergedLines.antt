@@ -2,7 +2,7 @@
 --
 -- An entry of a column and its entry in the one column stand for the same line: both are a null, or the text at the one code is the text
 -- at the other. That holds still where the list has grown. So the entries of all columns stand for the lines of all, one after the other.
-use Rattle.std.proofs.Common.{ℕ, zero, suc, ◌≡◌, ◌+◌, ◌^◌, ◌<◌, ◌≤◌, Bool, true, false, cond, List, [], ◌∷◌, ◌++◌, length, map, is_some, Option, Some, None, Result, Ok, Err, refl, sym, ap, subst, ◌∙◌, arith, append_assoc}
+use Rattle.std.proofs.Common.{ℕ, zero, suc, ◌≡◌, ◌+◌, ◌^◌, ◌<◌, Bool, true, false, cond, List, [], ◌∷◌, ◌++◌, length, is_some, Option, Some, None, Result, Ok, Err, refl, sym, ap, subst, ◌∙◌, arith, append_assoc}
 use Rattle.std.specs.Prelude.{slice_get}
 use Rattle.std.proofs.lemmas.List.{append-nil, length-append}
 use Rattle.std.proofs.lemmas.Option.{slice_get_within}
@@ -14,7 +14,7 @@ use Rattle.lasso_columns.specs.Parts.{new_texts}
 use Rattle.lasso_counts.proofs.Counted.{distinct_new}
 use Rattle.lasso_codes.specs.Decode.{text_or_past, null_line, line_at, decoded, Reads}
 use Rattle.lasso_codes.specs.Merge.{code_or_past, recoded, entries_of, read_list, head_list, texts_at, distinct_of, Merges, MergingKeepsLines, MergedColumnsDecode, DictionariesAreDistinct}
-use Rattle.lasso_codes.specs.Reading.{Makes, ReadItems, ReadTexts, cut_entry, on_item, items_from, head_of, on_texts, on_head, texts_from}
+use Rattle.lasso_codes.specs.Reading.{ReadItems, ReadTexts, cut_entry, on_item, items_from, head_of, on_texts, on_head, texts_from}
 use Rattle.lasso_codes.specs.declared.entries.Entry.{Entry}
 use Rattle.lasso_codes.specs.declared.entries.Entry.TheVariants.{Missing, Bad, Null, Code}
 use Rattle.lasso_codes.specs.declared.fault.ColumnFault.{ColumnFault}

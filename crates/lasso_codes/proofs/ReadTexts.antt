@@ -14,6 +14,7 @@ use Rattle.lasso_single.proofs.Filled.{accepted, extend_push}
 use Rattle.lasso.proofs.Calling.{list_interned}
 use Rattle.lasso_columns.specs.Encoding.{spur_at}
 use Rattle.lasso_columns.specs.Lines.{NoFeed, is_line_feed}
+use Rattle.lasso_codes.specs.Stages.{Reading}
 use Rattle.lasso_codes.specs.Reading.{ReadTexts, on_text, texts_from, AddsText, AddFault, IsTextFault, TextsFault}
 use Rattle.lasso_codes.specs.Streams.{cut_line}
 use Rattle.lasso_codes.specs.declared.fault.ColumnFault.{ColumnFault}
@@ -73,11 +74,6 @@ added_last now after line adds =
 pub adds_more : (old now after : InternerView) (line : Text) → extend spur_at old now.texts accepted now → AddsText now line after → extend spur_at old after.texts accepted after
 adds_more old now after line list adds =
     subst (λ (ts : List Text). extend spur_at old ts accepted after) (sym (added_last now after line adds)) (extend_push spur_at old now after now.texts line (Ok adds.2.0) accepted list adds.2.1 refl)
-
--- these texts were read and interned, and the rest is left
-pub record Reading (bytes rest : List ℕ) (position : ℕ) (now : InternerView) : Type 0 where
-  pub read : texts_from position [] bytes ≡ Ok (now.texts, rest)
-  pub counted : length now.texts ≡ position
 
 pub reading_none : (bytes : List ℕ) (now : InternerView) → now.texts ≡ [] → Reading bytes bytes 0 now
 reading_none bytes now none = record {

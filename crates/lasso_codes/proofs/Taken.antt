@@ -3,19 +3,14 @@
 -- The lines of the input are those that were read and those of the rest. So the first ones, as many as were read, are these; the next
 -- one is the first of the rest; and where nothing is left they are all.
 use Rattle.std.proofs.Common.{ℕ, ◌≡◌, ◌+◌, List, [], ◌∷◌, ◌++◌, length, take, Some, refl, sym, ap, ◌∙◌, append_assoc}
-use Rattle.std.specs.Prelude.{All, slice_get}
+use Rattle.std.specs.Prelude.{slice_get}
 use Rattle.std.specs.Str.{IsUtf8}
 use Rattle.std.proofs.Math.Seq.{take-append_seam}
 use Rattle.std.proofs.lemmas.List.{append-nil, length_push}
 use Rattle.std.proofs.lemmas.List.Elements.{All-nil, All-push}
 use Rattle.lasso_parts.specs.Texts.{Text}
 use Rattle.lasso_columns.specs.Lines.{lines_of}
-
--- these lines were read and are text, the rest is left, and its first line has this number
-pub record Taken (input rest : List ℕ) (number : ℕ) (done : List Text) : Type 0 where
-  pub split : lines_of input ≡ done ++ lines_of rest
-  pub texts : All IsUtf8 done
-  pub counted : length done + 1 ≡ number
+use Rattle.lasso_codes.specs.Stages.{Taken}
 
 pub taken_none : (input : List ℕ) → Taken input input 1 []
 taken_none input = record { split = refl; texts = All-nil IsUtf8; counted = refl }

@@ -2,10 +2,9 @@
 --
 -- The codes of the texts are spread over the lines: each line that is no null takes the next code. So where codes are wanting, the first
 -- line without a number is the one whose text comes next after those that have codes; and where each text has one, each line has a number.
-use Rattle.std.proofs.Common.{ℕ, zero, suc, ◌≡◌, ◌+◌, ◌-◌, ◌^◌, ◌<◌, ◌≤◌, Bool, true, false, not, cond, List, [], ◌∷◌, ◌++◌, length, map, take, drop, is_some, is_ok, is_err, Option, Some, None, Bor, get_or, ◌⊎◌, Result, Ok, Err, refl, sym, ap, subst, ◌∙◌, arith, inl, inr, append_assoc, length-append}
+use Rattle.std.proofs.Common.{ℕ, zero, suc, ◌≡◌, ◌+◌, ◌-◌, ◌^◌, ◌<◌, ◌≤◌, Bool, true, false, not, cond, List, [], ◌∷◌, ◌++◌, length, map, take, drop, is_some, is_ok, is_err, Option, Some, None, Bor, get_or, Result, Ok, Err, refl, sym, ap, subst, ◌∙◌, arith, inr, append_assoc}
 use Rattle.std.specs.Prelude.{All, IsSome, slice_get, IsSomeAnd}
 use Rattle.std.specs.Str.{IsUtf8}
-use Rattle.std.proofs.Math.Seq.{take-append_seam}
 use Rattle.std.proofs.lemmas.List.{append-nil, take_all, map_push}
 use Rattle.std.proofs.lemmas.List.Elements.{All-push}
 use Rattle.std.proofs.lemmas.Option.{slice_get_within}
@@ -13,7 +12,6 @@ use Rattle.lasso_parts.proofs.IndexLaws.{slice_get-append_left}
 use Rattle.lasso_parts.specs.Kept.{kept_range}
 use Rattle.lasso_parts.specs.Texts.{Text, position_of}
 use Rattle.lasso_parts.specs.declared.util.LassoError.{LassoError}
-use Rattle.lasso_parts.specs.declared.util.LassoErrorKind.TheVariants.{FailedAllocation}
 use Rattle.lasso_single.specs.Filling.{extend}
 use Rattle.lasso_single.specs.Interner.{InternerView, made_with}
 use Rattle.lasso_single.proofs.Filled.{accepted}
@@ -24,14 +22,14 @@ use Rattle.lasso_columns.specs.Encoding.{spur_at, encoded_texts, IsRefused}
 use Rattle.lasso_columns.specs.Faults.{IsFaultOf}
 use Rattle.lasso_columns.specs.Lines.{lines_of}
 use Rattle.lasso_columns.specs.Parts.{new_texts}
-use Rattle.lasso_columns.specs.declared.faults.LineError.{LineError}
 use Rattle.lasso_columns.specs.declared.faults.LineError.TheVariants.{Refused, NotText}
 use Rattle.lasso_counts.proofs.Rest.{first, found_extended, take_front}
 use Rattle.lasso_codes.specs.Columns.{is_null, texts_of, dictionary_of, entry_of, entry_at}
 use Rattle.lasso_codes.specs.Encode.{AreNumbered, EncodingFault}
 use Rattle.lasso_codes.specs.Whole.{AreTextLines, on_code, spread}
 use Rattle.lasso_codes.specs.declared.fault.RunFault.TheVariants.{Line}
-use Rattle.lasso_codes.proofs.EncodedLines.{AreEntries, IsEntryAs, entries_are, texts_push}
+use Rattle.lasso_codes.specs.Stages.{AreEntries, IsEntryAs}
+use Rattle.lasso_codes.proofs.EncodedLines.{entries_are, texts_push}
 use Rattle.lasso_codes.proofs.FewTexts.{few_texts}
 
 -- ---- the lines as texts

@@ -8,7 +8,7 @@ use Rattle.lasso_parts.specs.Texts.{Text}
 use Rattle.lasso_codes.specs.Arguments.{Asked, command_of, verb_of, on_verb, not_verb, is_binary, meaning_of, at_equals}
 use Rattle.lasso_codes.proofs.FirstBytes.{first_byte_at}
 use Rattle.lasso_codes.specs.declared.arguments.Verb.{Verb}
-use Rattle.lasso_codes.specs.declared.arguments.Meaning.TheVariants.{AsksHelp, IsBinary}
+use Rattle.lasso_codes.specs.declared.arguments.Meaning.TheVariants.{AsksHelp, IsBinary, IsQuiet}
 use Rattle.lasso_codes.specs.declared.arguments.Command.TheVariants.{Help, Version}
 
 -- the first word
@@ -47,8 +47,9 @@ told_some o after asked done go e told = subst (λ p. MatchOption p (asked ≡ d
 equals_is : (word : Text) (o : Option ℕ) → IsFirstByte (is_byte 61) word o → position (λ b. b == 61) word ≡ o
 equals_is word o found = first_byte_at 61 word o found
 
--- the meaning of a word that does not ask for help
-pub meaning_is : (verb : Verb) (word bytes : Text) (o : Option ℕ) → bytes ≡ word → bytes_eq word (codes "--help") ≡ false → is_binary verb word ≡ false → IsFirstByte (is_byte 61) bytes o → meaning_of verb word ≡ at_equals verb word o
-meaning_is verb word bytes o same help binary found =
-    ap (λ b. cond b AsksHelp (cond (is_binary verb word) IsBinary (at_equals verb word (position (λ c. c == 61) word)))) help
-    ∙ ap (λ b. cond b IsBinary (at_equals verb word (position (λ c. c == 61) word))) binary ∙ ap (at_equals verb word) (equals_is word o (subst (λ bs. IsFirstByte (is_byte 61) bs o) same found))
+-- the meaning of a word that does not ask for help, for no line, or for codes as bytes
+pub meaning_is : (verb : Verb) (word bytes : Text) (o : Option ℕ) → bytes ≡ word → bytes_eq word (codes "--help") ≡ false → bytes_eq word (codes "--quiet") ≡ false → is_binary verb word ≡ false → IsFirstByte (is_byte 61) bytes o → meaning_of verb word ≡ at_equals verb word o
+meaning_is verb word bytes o same help quiet binary found =
+    let value = at_equals verb word (position (λ c. c == 61) word) in
+    ap (λ b. cond b AsksHelp (cond (bytes_eq word (codes "--quiet")) IsQuiet (cond (is_binary verb word) IsBinary value))) help
+    ∙ ap (λ b. cond b IsQuiet (cond (is_binary verb word) IsBinary value)) quiet ∙ ap (λ b. cond b IsBinary value) binary ∙ ap (at_equals verb word) (equals_is word o (subst (λ bs. IsFirstByte (is_byte 61) bs o) same found))

@@ -11,7 +11,7 @@ use Rattle.lasso_codes.specs.declared.arguments.Setting.{Setting}
 use Rattle.lasso_codes.specs.declared.arguments.Setting.TheVariants.{Limit, Top, Null, Workers}
 use Rattle.lasso_codes.specs.declared.arguments.Reading.{Reading}
 use Rattle.lasso_codes.specs.declared.arguments.Meaning.{Meaning}
-use Rattle.lasso_codes.specs.declared.arguments.Meaning.TheVariants.{AsksHelp, IsBinary, Wants, Has, Nothing}
+use Rattle.lasso_codes.specs.declared.arguments.Meaning.TheVariants.{AsksHelp, IsBinary, IsQuiet, Wants, Has, Nothing}
 use Rattle.lasso_codes.specs.declared.arguments.ArgumentFault.{ArgumentFault}
 use Rattle.lasso_codes.specs.declared.arguments.ArgumentFault.TheVariants.{NoVerb, NotVerb, NotOption, NoNumber, NoWord, NotNumber, NoWorkers, PastWorkers, NotText}
 
@@ -142,12 +142,14 @@ is_binary verb word = bytes_eq word (codes "--binary") && takes_binary verb
 abbrev pub meaning_of : Verb → Text → Meaning
 meaning_of verb word =
     if bytes_eq word (codes "--help") then AsksHelp
-    else (if is_binary verb word then IsBinary else at_equals verb word (position (λ b. b == 61) word))
+    else (if bytes_eq word (codes "--quiet") then IsQuiet
+    else (if is_binary verb word then IsBinary else at_equals verb word (position (λ b. b == 61) word)))
 
 -- the equals sign is within the word
 abbrev pub IsWithin : Meaning → Text → Type 0
 IsWithin AsksHelp word = Unit {0}
 IsWithin IsBinary word = Unit {0}
+IsWithin IsQuiet word = Unit {0}
 IsWithin (Wants setting) word = Unit {0}
 IsWithin (Has setting at) word = at < length word
 IsWithin Nothing word = Unit {0}
@@ -196,12 +198,13 @@ abbrev pub on_value : Result (Settings × Option Text) (List ℕ) → (Settings 
 on_value (Ok value) go = go value.0 value.1
 on_value (Err message) go = Err message
 
-abbrev pub on_meaning : Meaning → Asked → Asked → (Setting → Asked) → (Setting → ℕ → Asked) → Asked → Asked
-on_meaning AsksHelp help binary wants has nothing = help
-on_meaning IsBinary help binary wants has nothing = binary
-on_meaning (Wants setting) help binary wants has nothing = wants setting
-on_meaning (Has setting at) help binary wants has nothing = has setting at
-on_meaning Nothing help binary wants has nothing = nothing
+abbrev pub on_meaning : Meaning → Asked → Asked → Asked → (Setting → Asked) → (Setting → ℕ → Asked) → Asked → Asked
+on_meaning AsksHelp help binary quiet wants has nothing = help
+on_meaning IsBinary help binary quiet wants has nothing = binary
+on_meaning IsQuiet help binary quiet wants has nothing = quiet
+on_meaning (Wants setting) help binary quiet wants has nothing = wants setting
+on_meaning (Has setting at) help binary quiet wants has nothing = has setting at
+on_meaning Nothing help binary quiet wants has nothing = nothing
 
 -- what the verb is asked for by the words, where the settings and the null are these so far and this setting waits for its value; or
 -- why the words are refused
@@ -213,6 +216,7 @@ options_of verb settings null (Some wanted) (word ∷ words) =
 options_of verb settings null None (word ∷ words) =
     on_meaning (meaning_of verb word) (Ok (VerbHelp verb, None))
     (options_of verb (record settings { binary = true }) null None words)
+    (options_of verb (record settings { quiet = true }) null None words)
     (λ setting. options_of verb settings null (Some (setting, word)) words)
     (λ setting at. on_value (value_of settings null setting (drop (at + 1) word) word) (λ after given. options_of verb after given None words))
     (Err (not_option word))
@@ -226,9 +230,9 @@ verb_of word =
     else (if bytes_eq word (codes "distinct") then Some Distinct
     else (if bytes_eq word (codes "encode") then Some Encode else (if bytes_eq word (codes "merge") then Some Merge else None))))
 
--- no limit, all lines, codes as text, and one worker
+-- no limit, all lines, codes as text, one worker, and a progress line
 abbrev pub unset : Settings
-unset = record { limit = 2 ^ 64 - 1; top = 2 ^ 64 - 1; binary = false; workers = 1 }
+unset = record { limit = 2 ^ 64 - 1; top = 2 ^ 64 - 1; binary = false; workers = 1; quiet = false }
 
 abbrev pub on_verb : Option Verb → Text → List Text → Asked
 on_verb None word words = Err (not_verb word)

@@ -7,7 +7,7 @@ use Rattle.lasso_columns.specs.declared.faults.LineError.TheVariants.{Refused}
 use Rattle.lasso_codes.specs.Distinct.{with_feed}
 use Rattle.lasso_codes.specs.Encode.{EncodeEnd}
 use Rattle.lasso_codes.specs.Reading.{Makes, ReadItems, read_column, IsEntryFault, IsColumnFault}
-use Rattle.lasso_codes.specs.Streams.{Begins}
+use Rattle.lasso_codes.specs.Streams.{Begins, WritesAll}
 use Rattle.lasso_codes.specs.declared.entries.Entry.TheVariants.{Missing, Bad, Null, Code}
 use Rattle.lasso_codes.specs.declared.fault.ColumnFault.{ColumnFault}
 use Rattle.lasso_codes.specs.declared.fault.ColumnFault.TheVariants.{TextRefused, NoEntry, NotEntry, PastTexts, IsNull}
@@ -55,6 +55,11 @@ LinesFault read column part ReadFailed = (m : ℕ) × (part ≡ fed_lines (take 
 LinesFault read column part WriteFailed = Begins part (fed_lines read.0)
 LinesFault read column part ReaderGone = Begins part (fed_lines read.0)
 LinesFault read column part (Column number fault) = (number ≡ column) × IsEntryFault fault × (read.1 ≡ Err fault) × (part ≡ fed_lines read.0)
+
+-- the line is written, or its entry is faulty and nothing is
+abbrev pub WritesEntry : Result Text ColumnFault → ℕ → Result (Unit {0}) RunFault → List ℕ → Type 0
+WritesEntry (Ok line) column result part = WritesAll (with_feed line) result part
+WritesEntry (Err fault) column result part = (result ≡ Err (Column column fault)) × (part ≡ [])
 
 -- all lines of the column of this number are written, and the bytes after it are left
 abbrev pub WritesLines : ReadItems Text → ℕ → Option (List ℕ) → List ℕ → Result (Unit {0}) RunFault → Type 0

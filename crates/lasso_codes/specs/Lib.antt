@@ -9,3 +9,5 @@ pub mod Arguments
 pub mod Reading
 pub mod Decode
 pub mod Merge
+pub mod Progress
+pub mod Stages

@@ -1,5 +1,5 @@
 -- What `merge` writes, and how it ends.
-use Rattle.std.specs.Prelude.{ℕ, zero, suc, ◌≡◌, ◌+◌, ◌^◌, ◌<◌, ◌⊎◌, Bool, List, [], ◌++◌, length, map, take, Option, Some, None, Result, Ok, Err, MatchResult, IsSomeAnd, slice_get}
+use Rattle.std.specs.Prelude.{ℕ, zero, suc, ◌≡◌, ◌+◌, ◌^◌, ◌<◌, ◌⊎◌, Bool, List, [], ◌∷◌, ◌++◌, length, map, take, Option, Some, None, Result, Ok, Err, MatchResult, IsSomeAnd, slice_get}
 use Rattle.lasso_parts.specs.Texts.{Text, IsDistinct, position_of}
 use Rattle.lasso_parts.specs.declared.util.LassoError.{LassoError}
 use Rattle.lasso_parts.specs.declared.util.LassoErrorKind.TheVariants.{FailedAllocation}
@@ -71,6 +71,12 @@ EntriesFault read column ReadFailed = Unit {0}
 EntriesFault read column WriteFailed = ⊥
 EntriesFault read column ReaderGone = ⊥
 EntriesFault read column (Column number fault) = (number ≡ column) × IsEntryFault fault × (read.1 ≡ Err fault)
+
+-- the number of the entry was added, or there is no memory for it; or the entry is faulty
+abbrev pub AddsEntry : Result (Option ℕ) ColumnFault → ℕ → List ℕ → List ℕ → Result (Unit {0}) RunFault → Type 0
+AddsEntry (Ok entry) column before after result =
+    MatchResult result (λ _. (number : ℕ) × (entry ≡ entry_at number) × (after ≡ before ++ number ∷ [])) (λ fault. fault ≡ Line (Refused 0 FailedAllocation))
+AddsEntry (Err fault) column before after result = result ≡ Err (Column column fault)
 
 -- the entries of the column of this number were added, and the bytes after them are left
 abbrev pub AddsEntries : ReadItems (Option ℕ) → ℕ → Option (List ℕ) → List ℕ → List ℕ → Result (Unit {0}) RunFault → Type 0

@@ -36,6 +36,8 @@ pub struct Settings {
     pub binary: bool,
     /// How many threads share the work, from 1 to 64.
     pub workers: usize,
+    /// Whether no progress line is shown.
+    pub quiet: bool,
 }
 
 /// What the arguments ask for.
@@ -117,6 +119,8 @@ enum Meaning {
     AsksHelp,
     // Codes as bytes.
     IsBinary,
+    // No progress line.
+    IsQuiet,
     // A setting, whose value is the next word.
     Wants(Setting),
     // A setting, whose value follows the `=` at this position.
@@ -127,7 +131,7 @@ enum Meaning {
 
 /// What the words ask for: `--help`, `--version`, or a verb and its options. Words after `--help` and `--version` are not read. Of
 /// an option that is given twice the last one counts. Without them the limit and the most lines are the greatest numbers, no line is
-/// a null, and one worker does the work.
+/// a null, one worker does the work, and a progress line may be shown.
 ///
 /// # Errors
 /// The first word that is at fault.
@@ -192,6 +196,7 @@ fn options_of(verb: Verb, words: &[String]) -> Result<Request<'_>, ArgumentFault
             top: usize::MAX,
             binary: false,
             workers: 1,
+            quiet: false,
         },
         null: None,
         wanted: None,
@@ -247,13 +252,18 @@ fn read_word<'a>(
                 binary: true,
                 ..reading.settings
             },
-            null: reading.null,
-            wanted: None,
+            ..reading
+        })),
+        Meaning::IsQuiet => Ok(Some(Reading {
+            settings: Settings {
+                quiet: true,
+                ..reading.settings
+            },
+            ..reading
         })),
         Meaning::Wants(setting) => Ok(Some(Reading {
-            settings: reading.settings,
-            null: reading.null,
             wanted: Some((setting, word)),
+            ..reading
         })),
         Meaning::Has(setting, at) => with_value(reading, setting, word, at + 1),
         Meaning::Nothing => Err(ArgumentFault::NotOption(word)),
@@ -267,6 +277,9 @@ fn meaning_of(verb: Verb, word: &str) -> Meaning
 {
     if word == "--help" {
         return Meaning::AsksHelp;
+    }
+    if word == "--quiet" {
+        return Meaning::IsQuiet;
     }
     if is_binary(verb, word) {
         return Meaning::IsBinary;

@@ -1,11 +1,12 @@
 //! A column: a header line, the dictionary's lines in the order of their codes, and an entry for each line.
-ghost use Rattle.std.specs.Prelude.{◌≡◌, ◌++◌, ◌∷◌, [], map, decimal, flat_map};
+ghost use Rattle.std.specs.Prelude.{◌≡◌, ◌+◌, ◌≤◌, ◌++◌, ◌∷◌, [], Err, IfOk, MatchResult, length, map, take, decimal, flat_map};
 ghost use Rattle.lasso_codes.specs.Columns.{column_of, entry_at, entry_bytes, header, header_front};
 ghost use Rattle.lasso_codes.specs.Distinct.{with_feed};
 ghost use Rattle.lasso_codes.specs.Streams.{Writes, WritesAll};
 
 use crate::fault::RunFault;
 use crate::output::{write_bytes, write_line, write_number};
+use itoa::Buffer;
 use lasso::SpurRodeo;
 use lasso::index::Texts;
 use std::io::Write;
@@ -81,25 +82,71 @@ fn write_texts<W: Write>(output: &mut W, rodeo: &SpurRodeo) -> Result<(), RunFau
     Ok(())
 }
 
+// How many bytes of entries are written at once.
+const BLOCK: usize = 4096;
+
+// The most bytes that an entry takes: ten digits and a line feed.
+const LONGEST_ENTRY: usize = 11;
+
 // Writes the entry of each number.
 fn write_entries<W: Write>(output: &mut W, binary: bool, numbers: &[u32]) -> Result<(), RunFault>
     ensures { Writes (W.contents output.old) (W.contents output.new) (WritesAll (flat_map (λ n. entry_bytes binary (entry_at n)) numbers.now) result) }
 {
+    let mut block = [0; BLOCK];
+    let mut filled = 0;
     for number in numbers {
-        write_entry(output, binary, *number)?;
+        filled = make_room(output, &block, filled)?;
+        filled = put_entry(&mut block, filled, binary, *number);
     }
-    Ok(())
+    write_bytes(output, &block[..filled])
 }
 
-// Writes the entry of the number.
-fn write_entry<W: Write>(output: &mut W, binary: bool, number: u32) -> Result<(), RunFault>
-    ensures { Writes (W.contents output.old) (W.contents output.new) (WritesAll (entry_bytes binary (entry_at number)) result) }
+// Writes the first bytes of the block, those that are filled, where there is no room for an entry after them. Returns how many are filled
+// then.
+#[inline]
+fn make_room<W: Write>(output: &mut W, block: &[u8], filled: usize) -> Result<usize, RunFault>
+    requires fits { filled ≤ 4096 }
+    requires long { length block.now ≡ 4096 }
+    ensures room { IfOk result (λ left. left + 11 ≤ 4096) }
+    ensures written { MatchResult result
+        (λ left. Writes (W.contents output.old) (W.contents output.new) (λ part. part ++ take left block.now ≡ take filled block.now))
+        (λ fault. Writes (W.contents output.old) (W.contents output.new) (WritesAll (take filled block.now) (Err fault))) }
+{
+    if filled <= BLOCK - LONGEST_ENTRY {
+        return Ok(filled);
+    }
+    write_bytes(output, &block[..filled])?;
+    Ok(0)
+}
+
+// Puts the entry of the number into the block, at this position. Returns the position after it.
+#[inline]
+fn put_entry(block: &mut [u8], at: usize, binary: bool, number: u32) -> usize
+    requires { at + 11 ≤ length block.old }
+    ensures put { take result block.new ≡ take at block.old ++ entry_bytes binary (entry_at number) }
+    ensures within { result ≤ at + 11 }
+    ensures len { length block.new ≡ length block.old }
 {
     if binary {
-        return write_bytes(output, &number.to_le_bytes());
+        return put(block, at, &number.to_le_bytes());
     }
     if number == NULL {
-        return write_bytes(output, b"-\n");
+        return put(block, at, b"-\n");
     }
-    write_number_and(output, u64::from(number), b"\n")
+    let mut digits = Buffer::new();
+    let after = put(block, at, digits.format(number).as_bytes());
+    put(block, after, b"\n")
+}
+
+// Puts the bytes into the block, at this position. Returns the position after them.
+#[inline]
+fn put(block: &mut [u8], at: usize, bytes: &[u8]) -> usize
+    requires { at + length bytes.now ≤ length block.old }
+    ensures put { take result block.new ≡ take at block.old ++ bytes.now }
+    ensures after { result ≡ at + length bytes.now }
+    ensures len { length block.new ≡ length block.old }
+{
+    let end = at + bytes.len();
+    block[at..end].copy_from_slice(bytes);
+    end
 }

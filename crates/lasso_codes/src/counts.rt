@@ -1,30 +1,32 @@
 //! How often each distinct line came.
-ghost use Rattle.std.specs.Prelude.{◌≡◌, ◌+◌, ◌-◌, ◌^◌, ◌<◌, ◌++◌, ◌∷◌, [], ℕ, List, Some, Ok, OnOk, IfErr, MatchResult, All, IsUtf8, length, map, sum, flat_map, vec_len};
+ghost use Rattle.std.specs.Prelude.{◌≡◌, ◌+◌, ◌-◌, ◌^◌, ◌<◌, ◌≤◌, ◌++◌, ◌∷◌, [], ℕ, List, Some, Ok, OnOk, IfOk, IfErr, MatchResult, All, IsTrue, IsUtf8, length, drop, map, sum, flat_map, vec_len};
 ghost use Rattle.std.specs.Io.Buffered.{reader_remaining, writer_contents, writer_buffer};
 ghost use Rattle.lasso_parts.specs.Texts.{Text};
 ghost use Rattle.lasso_single.specs.Intern.{InternsIn};
-ghost use Rattle.lasso_single.specs.Interner.{made_with};
+ghost use Rattle.lasso_single.specs.Interner.{InternerView, made_with};
 ghost use Rattle.lasso_columns.specs.Encoding.{spur_at};
 ghost use Rattle.lasso_columns.specs.Faults.{IsFaultOf};
 ghost use Rattle.lasso_columns.specs.Lines.{lines_of};
 ghost use Rattle.lasso_counts.specs.Counts.{AreCounts, pair_of};
 ghost use Rattle.lasso_codes.specs.Counts.{CountsEnd, CountingFault, count_line};
+ghost use Rattle.lasso_codes.specs.Stages.{Counting};
 ghost use Rattle.lasso_codes.specs.Streams.{Writes, WritesAll};
 ghost use Rattle.lasso_codes.specs.Fault.{IsWriteEnd};
 
 use crate::arguments::Settings;
 use crate::distinct::new_rodeo;
 use crate::fault::RunFault;
-use crate::input::next_line;
+use crate::input::{at_hand, next_line, use_up};
+use crate::lines::{line_text, untested_len};
 use crate::output::{end_flushed, write_bytes, write_line, write_number};
 use crate::whole::{read_whole, text_lines};
 use lasso::{MemoryLimits, SpurRodeo};
 use lasso_columns::LineError;
+use lasso_columns::lines::find_newline;
 use lasso_counts::{Ranked, by_frequency, count_in_parts, count_text};
 use std::alloc::Global;
 use std::cmp::Reverse;
 use std::io::{BufReader, BufWriter, Read, Write};
-use std::str::from_utf8;
 use std::thread::Threads;
 
 /// Reads all lines, and then writes each distinct one once after the number of times that it came, the most frequent first. Lines
@@ -106,24 +108,65 @@ fn count_lines<R: Read + Drop>(
         (limit : ℕ) → rodeo.old ≡ made_with 4096 limit → CountingFault limit (lines_of bytes) fault) }
 {
     let mut line = Vec::new(alloc);
-    for number in 1..usize::MAX {
-        if !next_line(input, &mut line, number)? {
+    let mut number = 1;
+    for _ in 1..usize::MAX {
+        let (next, used) = count_stretch(rodeo, counts, at_hand(input), number)?;
+        use_up(input, used);
+        if !next_line(input, &mut line, next)? {
             return Ok(());
         }
-        if let Err(error) = count_line(rodeo, counts, &line, number) {
+        if let Err(error) = count_line(rodeo, counts, &line, false, next) {
             return Err(RunFault::Line(error));
         }
+        number = next + 1;
     }
     Err(RunFault::TooManyLines)
 }
 
-// Counts the line of this number.
+// Counts the lines that end in the stretch, the first of which has this number. Returns the number of the line after them, and where
+// it begins.
+fn count_stretch(
+    rodeo: &mut SpurRodeo,
+    counts: &mut Vec<u64>,
+    stretch: &[u8],
+    first: usize,
+) -> Result<(usize, usize), RunFault>
+    requires beside { vec_len counts.old ≡ length rodeo.old.texts }
+    requires total { sum counts.old.items + 1 ≡ first }
+    ensures counted { IfOk result (λ at. (input later : List ℕ) (start : InternerView) →
+        Counting input (stretch.now ++ later) first start rodeo.old counts.old.items → Counting input (drop at.1 stretch.now ++ later) at.0 start rodeo.new counts.new.items) }
+    ensures beside { vec_len counts.new ≡ length rodeo.new.texts }
+    ensures total { IfOk result (λ at. sum counts.new.items + 1 ≡ at.0) }
+    ensures number { IfOk result (λ at. at.0 < 2 ^ 64 - 1) }
+    ensures within { IfOk result (λ at. at.1 ≤ length stretch.now) }
+    ensures fault { IfErr result (λ fault. (input later : List ℕ) (limit : ℕ) →
+        Counting input (stretch.now ++ later) first (made_with 4096 limit) rodeo.old counts.old.items → CountingFault limit (lines_of input) fault) }
+{
+    let untested = untested_len(stretch);
+    let mut used = 0;
+    for number in first..usize::MAX {
+        let rest = &stretch[used..];
+        let Some(len) = find_newline(rest) else {
+            return Ok((number, used));
+        };
+        let is_text = untested < rest.len() - len;
+        if let Err(error) = count_line(rodeo, counts, &rest[..len], is_text, number) {
+            return Err(RunFault::Line(error));
+        }
+        used += len + 1;
+    }
+    Err(RunFault::TooManyLines)
+}
+
+// Counts the line of this number. `is_text`: the caller has checked that it is UTF-8.
 fn count_line(
     rodeo: &mut SpurRodeo,
     counts: &mut Vec<u64>,
     line: &[u8],
+    is_text: bool,
     number: usize,
 ) -> Result<(), LineError>
+    requires text { IsTrue is_text → IsUtf8 line.now }
     requires beside { vec_len counts.old ≡ length rodeo.old.texts }
     requires fits { sum counts.old.items < 2 ^ 64 - 1 }
     ensures interned { OnOk result (IsUtf8 line.now × ((key : ℕ) × InternsIn {K = ℕ} spur_at rodeo.old line.now (Ok key) rodeo.new)) }
@@ -132,7 +175,7 @@ fn count_line(
     ensures beside { vec_len counts.new ≡ length rodeo.new.texts }
     ensures fault { IfErr result (IsFaultOf rodeo.old line.now number) }
 {
-    let Ok(text) = from_utf8(line) else {
+    let Ok(text) = line_text(line, is_text) else {
         return Err(LineError::NotText(number));
     };
     match count_text(rodeo, text, counts) {

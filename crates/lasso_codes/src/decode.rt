@@ -1,15 +1,18 @@
 //! Columns to lines.
-ghost use Rattle.std.specs.Prelude.{◌≡◌, [], ℕ, List, Some};
+ghost use Rattle.std.specs.Prelude.{◌≡◌, ◌+◌, ◌-◌, ◌≤◌, ◌++◌, [], ℕ, List, Option, Some, IfOk, IfErr, drop, length};
 ghost use Rattle.std.specs.Io.Buffered.{reader_remaining, writer_contents, writer_buffer};
 ghost use Rattle.lasso_codes.specs.Arguments.{word_of};
-ghost use Rattle.lasso_codes.specs.Decode.{line_at, DecodeEnd, WritesLines};
+ghost use Rattle.lasso_codes.specs.Decode.{line_at, DecodeEnd, LinesFault, WritesEntry, WritesLines};
 ghost use Rattle.lasso_codes.specs.Fault.{IsWriteEnd};
-ghost use Rattle.lasso_codes.specs.Reading.{items_from};
+ghost use Rattle.lasso_codes.specs.Reading.{items_from, ReadItems};
+ghost use Rattle.lasso_codes.specs.Stages.{LinesAhead};
+ghost use Rattle.lasso_parts.specs.Texts.{Text};
 ghost use Rattle.lasso_codes.specs.Streams.{Writes};
 
 use crate::distinct::new_rodeo;
-use crate::entries::{line_at, next_entry};
+use crate::entries::{Entry, first_entry, line_at, next_entry};
 use crate::fault::RunFault;
+use crate::input::{at_hand, use_up};
 use crate::output::{end_flushed, write_line};
 use crate::reading::{Header, next_header, read_texts};
 use lasso::{MemoryLimits, SpurRodeo};
@@ -74,12 +77,67 @@ fn write_lines<R: Read + Drop, W: Write>(
         Writes (W.contents output.old) (W.contents output.new) (λ part. WritesLines (items_from (line_at (word_of null.entry) rodeo.now.texts) header.lines header.binary 1 bytes)
         column (reader_remaining R.remaining input.new) part result) }
 {
-    for position in 0..header.lines {
-        let entry = next_entry(input, line, header.binary)?;
-        match line_at(rodeo, null, entry, position + 1) {
-            Ok(decoded) => write_line(output, decoded)?,
-            Err(fault) => return Err(RunFault::Column(column, fault)),
+    let mut count = 0;
+    while count < header.lines {
+        let shown = at_hand(input);
+        let (next, used) = write_stretch(output, rodeo, header, null, column, shown, count)?;
+        use_up(input, used);
+        if next == header.lines {
+            return Ok(());
         }
+        let entry = next_entry(input, line, header.binary)?;
+        write_entry_line(output, rodeo, null, column, entry, next + 1)?;
+        count = next + 1;
     }
     Ok(())
+}
+
+// Writes the lines of the entries that end in the stretch, `count` entries after the first. Returns how many are before the next one
+// then, and where it begins.
+fn write_stretch<W: Write>(
+    output: &mut W,
+    rodeo: &SpurRodeo,
+    header: Header,
+    null: Option<&[u8]>,
+    column: usize,
+    stretch: &[u8],
+    count: usize,
+) -> Result<(usize, usize), RunFault>
+    requires { count ≤ header.lines }
+    ensures written { IfOk result (λ at. (read : ReadItems Text) (later : List ℕ) (before : Option (List ℕ)) →
+        Writes before (W.contents output.old) (LinesAhead (items_from (line_at (word_of null.entry) rodeo.now.texts) (header.lines - count) header.binary (count + 1) (stretch.now ++ later)) read) →
+        Writes before (W.contents output.new) (LinesAhead (items_from (line_at (word_of null.entry) rodeo.now.texts) (header.lines - at.0) header.binary (at.0 + 1) (drop at.1 stretch.now ++ later)) read)) }
+    ensures more { IfOk result (λ at. (count ≤ at.0) × (at.0 ≤ header.lines)) }
+    ensures within { IfOk result (λ at. at.1 ≤ length stretch.now) }
+    ensures fault { IfErr result (λ fault. (read : ReadItems Text) (later : List ℕ) (before : Option (List ℕ)) →
+        Writes before (W.contents output.old) (LinesAhead (items_from (line_at (word_of null.entry) rodeo.now.texts) (header.lines - count) header.binary (count + 1) (stretch.now ++ later)) read) →
+        Writes before (W.contents output.new) (λ part. LinesFault read column part fault)) }
+{
+    let mut used = 0;
+    for position in count..header.lines {
+        let Some((entry, len)) = first_entry(&stretch[used..], header.binary) else {
+            return Ok((position, used));
+        };
+        write_entry_line(output, rodeo, null, column, entry, position + 1)?;
+        used += len;
+    }
+    Ok((header.lines, used))
+}
+
+// Writes the line of the entry of this number.
+#[inline]
+fn write_entry_line<W: Write>(
+    output: &mut W,
+    rodeo: &SpurRodeo,
+    null: Option<&[u8]>,
+    column: usize,
+    entry: Entry,
+    number: usize,
+) -> Result<(), RunFault>
+    ensures { Writes (W.contents output.old) (W.contents output.new) (WritesEntry (line_at (word_of null.entry) rodeo.now.texts entry number) column result) }
+{
+    match line_at(rodeo, null, entry, number) {
+        Ok(decoded) => write_line(output, decoded),
+        Err(fault) => Err(RunFault::Column(column, fault)),
+    }
 }

@@ -1,19 +1,20 @@
 //! The distinct lines.
-ghost use Rattle.std.specs.Prelude.{◌≡◌, ℕ, List, [], Some, IfOk, IfErr};
-ghost use Rattle.std.specs.Io.KnownBytes.{Keeps};
+ghost use Rattle.std.specs.Prelude.{◌≡◌, ◌<◌, ◌≤◌, ◌-◌, ◌^◌, ◌++◌, ℕ, List, [], Option, Some, Err, IfOk, IfErr, IsTrue, IsUtf8, drop, length};
 ghost use Rattle.lasso_single.specs.Interner.{made_with};
 ghost use Rattle.lasso_columns.specs.declared.faults.LineError.TheVariants.{Refused};
 ghost use Rattle.lasso_parts.specs.declared.util.LassoErrorKind.TheVariants.{FailedAllocation};
 ghost use Rattle.std.specs.Io.Buffered.{reader_remaining, writer_contents, writer_buffer};
+ghost use Rattle.lasso_codes.specs.Stages.{OnTheWay};
 ghost use Rattle.lasso_codes.specs.Streams.{Writes};
 ghost use Rattle.lasso_codes.specs.Distinct.{DistinctEnd, PassesLine};
-ghost use Rattle.lasso_codes.specs.Fault.{IsWriteEnd, IsWriteFault};
+ghost use Rattle.lasso_codes.specs.Fault.{IsWriteEnd};
 
 use crate::fault::RunFault;
-use crate::input::{may_wait, next_line};
-use crate::lines::intern_line;
+use crate::input::{at_hand, next_line, use_up};
+use crate::lines::{intern_line, untested_len};
 use crate::output::{end_flushed, flush, write_line};
 use lasso::{Capacity, MemoryLimits, Rodeo, SpurRodeo};
+use lasso_columns::lines::find_newline;
 use std::alloc::Global;
 use std::io::{BufReader, BufWriter, Read, Write};
 
@@ -49,40 +50,64 @@ fn write_distinct<R: Read + Drop, W: Write + Drop>(
 {
     let mut rodeo = new_rodeo(alloc, limits)?;
     let mut line = Vec::new(alloc);
-    for number in 1..usize::MAX {
-        flush_before_wait(input, output)?;
-        if !next_line(input, &mut line, number)? {
+    let mut number = 1;
+    for _ in 1..usize::MAX {
+        let (next, used) = pass_stretch(&mut rodeo, at_hand(input), number, output)?;
+        use_up(input, used);
+        // The next line is not at hand as a whole, so reading it may wait.
+        flush(output)?;
+        if !next_line(input, &mut line, next)? {
             return Ok(());
         }
-        pass_line(&mut rodeo, &line, number, output)?;
+        pass_line(&mut rodeo, &line, false, next, output)?;
+        number = next + 1;
     }
     Err(RunFault::TooManyLines)
 }
 
-// Flushes what is written, where the next line is not at hand as a whole.
-fn flush_before_wait<R: Read + Drop, W: Write + Drop>(
-    input: &BufReader<R>,
-    output: &mut BufWriter<W>,
-) -> Result<(), RunFault>
-    ensures kept { Keeps (writer_contents W.contents output.old) (writer_contents W.contents output.new) }
-    ensures faults { IfErr result IsWriteFault }
+// Interns the lines that end in the stretch, the first of which has this number, and writes those that are new. Returns the number of
+// the line after them, and where it begins.
+fn pass_stretch<W: Write>(
+    rodeo: &mut SpurRodeo,
+    stretch: &[u8],
+    first: usize,
+    output: &mut W,
+) -> Result<(usize, usize), RunFault>
+    ensures passed { IfOk result (λ at. (input later : List ℕ) (limit : ℕ) (before : Option (List ℕ)) →
+        Writes before (W.contents output.old) (OnTheWay input limit (stretch.now ++ later) first rodeo.old) →
+        Writes before (W.contents output.new) (OnTheWay input limit (drop at.1 stretch.now ++ later) at.0 rodeo.new)) }
+    ensures number { IfOk result (λ at. at.0 < 2 ^ 64 - 1) }
+    ensures within { IfOk result (λ at. at.1 ≤ length stretch.now) }
+    ensures fault { IfErr result (λ fault. (input later : List ℕ) (limit : ℕ) (before : Option (List ℕ)) →
+        Writes before (W.contents output.old) (OnTheWay input limit (stretch.now ++ later) first rodeo.old) →
+        Writes before (W.contents output.new) (λ part. DistinctEnd input limit part (Err fault))) }
 {
-    if may_wait(input) {
-        return flush(output);
+    let untested = untested_len(stretch);
+    let mut used = 0;
+    for number in first..usize::MAX {
+        let rest = &stretch[used..];
+        let Some(len) = find_newline(rest) else {
+            return Ok((number, used));
+        };
+        let is_text = untested < rest.len() - len;
+        pass_line(rodeo, &rest[..len], is_text, number, output)?;
+        used += len + 1;
     }
-    Ok(())
+    Err(RunFault::TooManyLines)
 }
 
-// Interns the line of this number, and writes it if it is new.
+// Interns the line of this number, and writes it if it is new. `is_text`: the caller has checked that it is UTF-8.
 fn pass_line<W: Write>(
     rodeo: &mut SpurRodeo,
     line: &[u8],
+    is_text: bool,
     number: usize,
     output: &mut W,
 ) -> Result<(), RunFault>
+    requires { IsTrue is_text → IsUtf8 line.now }
     ensures { Writes (W.contents output.old) (W.contents output.new) (λ part. PassesLine rodeo.old line.now number part rodeo.new result) }
 {
-    match intern_line(rodeo, line, number) {
+    match intern_line(rodeo, line, is_text, number) {
         Ok(true) => write_line(output, line),
         Ok(false) => Ok(()),
         Err(error) => Err(RunFault::Line(error)),

@@ -1,7 +1,7 @@
 //! Lines to a column.
-ghost use Rattle.std.specs.Prelude.{◌≡◌, ◌<◌, ◌++◌, ◌∷◌, [], ℕ, List, Some, OnOk, IfOk, IfErr, MatchResult, All, IsUtf8, map};
+ghost use Rattle.std.specs.Prelude.{◌≡◌, ◌<◌, ◌≤◌, ◌-◌, ◌^◌, ◌++◌, ◌∷◌, [], ℕ, List, Some, OnOk, IfOk, IfErr, MatchResult, All, IsTrue, IsUtf8, drop, length, map};
 ghost use Rattle.std.specs.Io.Buffered.{reader_remaining, writer_contents, writer_buffer};
-ghost use Rattle.lasso_single.specs.Interner.{made_with};
+ghost use Rattle.lasso_single.specs.Interner.{InternerView, made_with};
 ghost use Rattle.lasso_columns.specs.Encoding.{IsRefused};
 ghost use Rattle.lasso_columns.specs.Faults.{IsFaultOf};
 ghost use Rattle.lasso_columns.specs.Lines.{lines_of};
@@ -11,6 +11,7 @@ ghost use Rattle.lasso_codes.specs.Arguments.{word_of};
 ghost use Rattle.lasso_codes.specs.Columns.{is_null, texts_of};
 ghost use Rattle.lasso_codes.specs.Encode.{AreNumbered, EncodeEnd, EncodingFault, IsNumbered};
 ghost use Rattle.lasso_codes.specs.Fault.{IsWriteEnd};
+ghost use Rattle.lasso_codes.specs.Stages.{Encoding};
 ghost use Rattle.lasso_codes.specs.Streams.{Writes};
 ghost use Rattle.lasso_codes.specs.Whole.{spread};
 
@@ -18,14 +19,15 @@ use crate::arguments::Settings;
 use crate::columns::{NULL, write_column};
 use crate::distinct::new_rodeo;
 use crate::fault::RunFault;
-use crate::input::next_line;
+use crate::input::{at_hand, next_line, use_up};
+use crate::lines::{line_text, untested_len};
 use crate::output::end_flushed;
 use crate::whole::{read_whole, text_lines};
 use lasso::{LassoError, LassoErrorKind, LassoResult, MemoryLimits, SpurRodeo};
+use lasso_columns::lines::find_newline;
 use lasso_columns::{LineError, encode_in_parts};
 use std::alloc::Global;
 use std::io::{BufReader, BufWriter, Read, Write};
-use std::str::from_utf8;
 use std::thread::Threads;
 
 /// Reads all lines, and then writes them as a column. A line that is the word `null` is a null. Of more than one worker each encodes a
@@ -104,13 +106,51 @@ fn encode_lines<R: Read + Drop>(
         (limit : ℕ) → rodeo.old ≡ made_with 4096 limit → EncodingFault limit (word_of null.entry) (lines_of bytes) fault) }
 {
     let mut line = Vec::new(alloc);
-    for number in 1..usize::MAX {
-        if !next_line(input, &mut line, number)? {
+    let mut number = 1;
+    for _ in 1..usize::MAX {
+        let (next, used) = encode_stretch(rodeo, numbers, null, at_hand(input), number)?;
+        use_up(input, used);
+        if !next_line(input, &mut line, next)? {
             return Ok(());
         }
-        if let Err(error) = encode_line(rodeo, numbers, null, &line, number) {
+        if let Err(error) = encode_line(rodeo, numbers, null, &line, false, next) {
             return Err(RunFault::Line(error));
         }
+        number = next + 1;
+    }
+    Err(RunFault::TooManyLines)
+}
+
+// Numbers the lines that end in the stretch, the first of which has this number. Returns the number of the line after them, and where
+// it begins.
+fn encode_stretch(
+    rodeo: &mut SpurRodeo,
+    numbers: &mut Vec<u32>,
+    null: Option<&[u8]>,
+    stretch: &[u8],
+    first: usize,
+) -> Result<(usize, usize), RunFault>
+    ensures numbered { IfOk result (λ at. (input later : List ℕ) (start : InternerView) →
+        Encoding input (stretch.now ++ later) first (word_of null.entry) start rodeo.old numbers.old.items →
+        Encoding input (drop at.1 stretch.now ++ later) at.0 (word_of null.entry) start rodeo.new numbers.new.items) }
+    ensures number { IfOk result (λ at. at.0 < 2 ^ 64 - 1) }
+    ensures within { IfOk result (λ at. at.1 ≤ length stretch.now) }
+    ensures fault { IfErr result (λ fault. (input later : List ℕ) (limit : ℕ) →
+        Encoding input (stretch.now ++ later) first (word_of null.entry) (made_with 4096 limit) rodeo.old numbers.old.items →
+        EncodingFault limit (word_of null.entry) (lines_of input) fault) }
+{
+    let untested = untested_len(stretch);
+    let mut used = 0;
+    for number in first..usize::MAX {
+        let rest = &stretch[used..];
+        let Some(len) = find_newline(rest) else {
+            return Ok((number, used));
+        };
+        let is_text = untested < rest.len() - len;
+        if let Err(error) = encode_line(rodeo, numbers, null, &rest[..len], is_text, number) {
+            return Err(RunFault::Line(error));
+        }
+        used += len + 1;
     }
     Err(RunFault::TooManyLines)
 }
@@ -195,18 +235,20 @@ fn number_texts(
     Ok(())
 }
 
-// Appends the number that stands for the entry of the line, which has this number.
+// Appends the number that stands for the entry of the line, which has this number. `is_text`: the caller has checked that it is UTF-8.
 fn encode_line(
     rodeo: &mut SpurRodeo,
     numbers: &mut Vec<u32>,
     null: Option<&[u8]>,
     line: &[u8],
+    is_text: bool,
     number: usize,
 ) -> Result<(), LineError>
+    requires { IsTrue is_text → IsUtf8 line.now }
     ensures numbered { OnOk result (IsUtf8 line.now × ((entry : ℕ) × IsNumbered (word_of null.entry) rodeo.old line.now rodeo.new entry × (numbers.new.items ≡ numbers.old.items ++ entry ∷ []))) }
     ensures fault { IfErr result (IsFaultOf rodeo.old line.now number) }
 {
-    let entry = entry_of(rodeo, null, line, number)?;
+    let entry = entry_of(rodeo, null, line, is_text, number)?;
     append(numbers, entry, number)?;
     Ok(())
 }
@@ -216,13 +258,15 @@ fn entry_of(
     rodeo: &mut SpurRodeo,
     null: Option<&[u8]>,
     line: &[u8],
+    is_text: bool,
     number: usize,
 ) -> Result<u32, LineError>
+    requires { IsTrue is_text → IsUtf8 line.now }
     ensures { MatchResult result
         (λ entry. IsUtf8 line.now × IsNumbered (word_of null.entry) rodeo.old line.now rodeo.new entry)
         (IsFaultOf rodeo.old line.now number) }
 {
-    let Ok(text) = from_utf8(line) else {
+    let Ok(text) = line_text(line, is_text) else {
         return Err(LineError::NotText(number));
     };
     match number_of(rodeo, null, text) {

@@ -1,9 +1,9 @@
 //! The entries of a column, read from a reader one after another.
-ghost use Rattle.std.specs.Prelude.{◌≡◌, true, Some, Ok, Err, IfOk, IfErr, MatchResult};
+ghost use Rattle.std.specs.Prelude.{◌≡◌, ◌≤◌, ◌++◌, ℕ, List, true, Some, Ok, Err, IfOk, IfErr, IfSome, MatchResult, drop, length};
 ghost use Rattle.std.specs.Io.Buffered.{reader_remaining};
 ghost use Rattle.lasso_codes.specs.Arguments.{word_of};
 ghost use Rattle.lasso_codes.specs.Decode.{line_at};
-ghost use Rattle.lasso_codes.specs.Reading.{entry_in, number_entry, TakesEntry};
+ghost use Rattle.lasso_codes.specs.Reading.{cut_entry, cut_number, entry_in, number_entry, TakesEntry};
 ghost use Rattle.lasso_codes.specs.Fault.{IsReadFault};
 
 use crate::columns::NULL;
@@ -12,6 +12,7 @@ use crate::input::{Cut, next_byte, next_whole_line};
 use crate::numbers::parse_digits;
 use lasso::SpurRodeo;
 use lasso::index::Texts;
+use lasso_columns::lines::find_newline;
 use std::io::{BufReader, Read};
 
 /// What the next bytes of a column say of a line.
@@ -67,6 +68,34 @@ fn next_number<R: Read + Drop>(input: &mut BufReader<R>) -> Result<Entry, RunFau
     };
     let number = u32::from_le_bytes([first, second, third, fourth]);
     Ok(number_entry(number))
+}
+
+/// The entry that the stretch begins with, and how many bytes it takes; or `None`, where the stretch does not have all of it.
+#[inline]
+pub fn first_entry(stretch: &[u8], binary: bool) -> Option<(Entry, usize)>
+    ensures cut { IfSome result (λ first. (later : List ℕ) → cut_entry binary (stretch.now ++ later) ≡ (first.0, drop first.1 stretch.now ++ later)) }
+    ensures within { IfSome result (λ first. first.1 ≤ length stretch.now) }
+{
+    if binary {
+        return first_number(stretch);
+    }
+    match find_newline(stretch) {
+        Some(len) => Some((entry_in(&stretch[..len]), len + 1)),
+        None => None,
+    }
+}
+
+// The same of an entry of four bytes.
+#[inline]
+fn first_number(stretch: &[u8]) -> Option<(Entry, usize)>
+    ensures cut { IfSome result (λ first. (later : List ℕ) → cut_number (stretch.now ++ later) ≡ (first.0, drop first.1 stretch.now ++ later)) }
+    ensures within { IfSome result (λ first. first.1 ≤ length stretch.now) }
+{
+    if stretch.len() < 4 {
+        return None;
+    }
+    let number = u32::from_le_bytes([stretch[0], stretch[1], stretch[2], stretch[3]]);
+    Some((number_entry(number), 4))
 }
 
 // The entry that the number stands for.

@@ -12,6 +12,8 @@ Verbs:
   encode    a column: each distinct line once, and for each line its code
   merge     columns as one column
 
+On a terminal, a line tells how much was read so far; --quiet turns it off.
+
 lasso_codes VERB --help lists the options of a verb.
 lasso_codes --version prints the version.
 ";
@@ -20,7 +22,7 @@ lasso_codes --version prints the version.
 pub const VERSION: &str = "lasso_codes 1\n";
 
 const COUNTS_HELP: &str = "\
-usage: lasso_codes counts [--limit N] [--top N] [--workers N] < INPUT > OUTPUT
+usage: lasso_codes counts [OPTION..] < INPUT > OUTPUT
 
 Writes each distinct line after how often it came, the most frequent first.
 Lines that came equally often are in the order of their bytes.
@@ -28,27 +30,30 @@ Lines that came equally often are in the order of their bytes.
   --limit N    the most bytes that the distinct lines may take
   --top N      write at most N lines
   --workers N  read the whole input, and count by 1 to 64 threads
+  --quiet      show no progress on a terminal
 
 N is a number below 2^64, or one with K, M or G after it, as 64K for 65536.
 ";
 
 const DECODE_HELP: &str = "\
-usage: lasso_codes decode [--limit N] [--null WORD] < COLUMNS > LINES
+usage: lasso_codes decode [OPTION..] < COLUMNS > LINES
 
 Writes the lines of columns, one or several one after another.
 
   --limit N    the most bytes that the texts of a column may take
   --null WORD  write a null as WORD; without it, a null is a fault
+  --quiet      show no progress on a terminal
 
 N is a number below 2^64, or one with K, M or G after it, as 64K for 65536.
 ";
 
 const DISTINCT_HELP: &str = "\
-usage: lasso_codes distinct [--limit N] < INPUT > OUTPUT
+usage: lasso_codes distinct [OPTION..] < INPUT > OUTPUT
 
 Writes each distinct line once, where it first came.
 
   --limit N  the most bytes that the distinct lines may take
+  --quiet    show no progress on a terminal
 
 N is a number below 2^64, or one with K, M or G after it, as 64K for 65536.
 ";
@@ -63,17 +68,19 @@ which is the position of the line among the distinct ones, from 0.
   --null WORD  a line that is WORD is a null: it is no text of the column
   --binary     write codes as four bytes each, the least first
   --workers N  read the whole input, and encode by 1 to 64 threads
+  --quiet      show no progress on a terminal
 
 N is a number below 2^64, or one with K, M or G after it, as 64K for 65536.
 ";
 
 const MERGE_HELP: &str = "\
-usage: lasso_codes merge [--limit N] [--binary] < COLUMNS > COLUMN
+usage: lasso_codes merge [OPTION..] < COLUMNS > COLUMN
 
 Writes one column of the lines of columns, one or several one after another.
 
   --limit N  the most bytes that the texts of all columns may take
   --binary   write codes as four bytes each, the least first
+  --quiet    show no progress on a terminal
 
 N is a number below 2^64, or one with K, M or G after it, as 64K for 65536.
 ";

@@ -1,12 +1,11 @@
 //! The lines and bytes of a reader, one after another.
-ghost use Rattle.std.specs.Prelude.{◌≡◌, ℕ, List, [], ◌∷◌, ◌++◌, IfOk, IfErr};
-ghost use Rattle.std.specs.Io.Buffered.{reader_remaining};
+ghost use Rattle.std.specs.Prelude.{◌≡◌, ◌≤◌, ℕ, List, [], ◌∷◌, ◌++◌, Some, IfOk, IfErr, drop, length};
+ghost use Rattle.std.specs.Io.Buffered.{reader_buffer, reader_remaining};
 ghost use Rattle.lasso_columns.specs.Lines.{NoFeed};
 ghost use Rattle.lasso_codes.specs.Streams.{CutsLine, TakesByte, TakesLine};
 ghost use Rattle.lasso_codes.specs.Fault.{IsReadFault};
 
 use crate::fault::RunFault;
-use lasso_columns::lines::next_feed;
 use std::io::{BufRead, BufReader, ErrorKind, Read};
 
 /// Reads the next line into `line`, without its line feed, and returns whether there was one. Bytes after the last line feed are
@@ -104,7 +103,20 @@ fn strip_feed(line: &mut Vec<u8>)
     }
 }
 
-/// Whether the next line is not at hand as a whole, so that reading it may wait.
-pub fn may_wait<R: Read + Drop>(input: &BufReader<R>) -> bool {
-    next_feed(input.buffer()).is_none()
+/// The bytes at hand, which are the first of those that are left.
+#[inline]
+pub fn at_hand<R: Read + Drop>(input: &BufReader<R>) -> &[u8]
+    ensures value { result.now ≡ reader_buffer input.now }
+    ensures first { (bytes : List ℕ) → reader_remaining R.remaining input.now ≡ Some bytes → (later : List ℕ) × (bytes ≡ result.now ++ later) }
+{
+    input.buffer()
+}
+
+/// Uses up the first `count` bytes at hand.
+pub fn use_up<R: Read + Drop>(input: &mut BufReader<R>, count: usize)
+    requires { count ≤ length (reader_buffer input.old) }
+    ensures { (later : List ℕ) → reader_remaining R.remaining input.old ≡ Some (reader_buffer input.old ++ later) →
+        reader_remaining R.remaining input.new ≡ Some (drop count (reader_buffer input.old) ++ later) }
+{
+    input.consume(count);
 }

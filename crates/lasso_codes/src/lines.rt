@@ -1,5 +1,5 @@
-//! A line as a text of an interner.
-ghost use Rattle.std.specs.Prelude.{◌≡◌, ℕ, Ok, MatchResult, IsUtf8, is_none};
+//! Lines as texts, and as texts of an interner.
+ghost use Rattle.std.specs.Prelude.{◌≡◌, ◌-◌, ℕ, Ok, MatchResult, IsTrue, IsUtf8, is_none, length, take};
 ghost use Rattle.lasso_parts.specs.Texts.{position_of};
 ghost use Rattle.lasso_single.specs.Intern.{InternsIn};
 ghost use Rattle.lasso_columns.specs.Encoding.{spur_at};
@@ -9,27 +9,55 @@ use lasso::{Rodeo, Spur};
 use lasso_columns::LineError;
 use std::alloc::Allocator;
 use std::hash::BuildHasher;
-use std::str::from_utf8;
+use std::str::{Utf8Error, from_utf8, from_utf8_unchecked};
 
-/// Interns the line of this number, and returns whether it is new.
+/// Interns the line of this number, and returns whether it is new. `is_text`: the caller has checked that it is UTF-8.
 ///
 /// # Errors
 /// The line is not UTF-8, or it is refused. The interner is as it was.
 pub fn intern_line<S: BuildHasher, A: Allocator + Clone>(
     rodeo: &mut Rodeo<Spur, S, A>,
     line: &[u8],
+    is_text: bool,
     number: usize,
 ) -> Result<bool, LineError>
+    requires { IsTrue is_text → IsUtf8 line.now }
     ensures { MatchResult result
         (λ is_new. IsUtf8 line.now × ((key : ℕ) × InternsIn {K = ℕ} spur_at rodeo.old line.now (Ok key) rodeo.new) × (is_new ≡ is_none (position_of rodeo.old.texts line.now)))
         (λ error. (rodeo.new ≡ rodeo.old) × IsFaultOf rodeo.old line.now number error) }
 {
-    let Ok(text) = from_utf8(line) else {
+    let Ok(text) = line_text(line, is_text) else {
         return Err(LineError::NotText(number));
     };
     let count = rodeo.len();
     match rodeo.try_get_or_intern(text) {
         Ok(_) => Ok(rodeo.len() > count),
         Err(error) => Err(LineError::Refused(number, error)),
+    }
+}
+
+/// The line as a text, if it is UTF-8. `is_text`: the caller has checked that it is.
+#[inline]
+pub fn line_text(line: &[u8], is_text: bool) -> Result<&str, Utf8Error>
+    requires { IsTrue is_text → IsUtf8 line.now }
+    ensures cases { MatchResult result (λ text. (text.now ≡ line.now) × IsUtf8 line.now) (λ _. ¬ (IsUtf8 line.now)) }
+{
+    if is_text {
+        return Ok(unsafe { from_utf8_unchecked(line) });
+    }
+    from_utf8(line)
+}
+
+/// How many bytes at the end are not known to be UTF-8. Those before them are.
+pub fn untested_len(bytes: &[u8]) -> usize
+    ensures { IsUtf8 (take (length bytes.now - result) bytes.now) }
+{
+    // ASCII is the faster test.
+    if bytes.is_ascii() {
+        return 0;
+    }
+    match from_utf8(bytes) {
+        Ok(_) => 0,
+        Err(error) => bytes.len() - error.valid_up_to(),
     }
 }

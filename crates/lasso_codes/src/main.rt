@@ -17,6 +17,7 @@ pub mod merge;
 pub mod numbers;
 pub mod output;
 pub mod program;
+pub mod progress;
 pub mod reading;
 #[cfg(test)]
 mod tests;
@@ -25,10 +26,11 @@ pub mod whole;
 use arguments::{ArgumentFault, Request, command_of};
 use fault::RunFault;
 use program::{BUFFER, run_request};
+use progress::{Terminals, Watched, shows_progress};
 use std::alloc::AllocError;
-use std::io::{BufReader, BufWriter, ErrorKind};
+use std::io::{BufReader, BufWriter, ErrorKind, IsTerminal};
 use std::process::ExitCode;
-use std::rt::Env;
+use std::rt::{Clock, Env};
 use std::thread::Threads;
 use std::{env, io};
 
@@ -42,7 +44,7 @@ fn main(rt: HostRuntime) -> ExitCode {
         Err(fault) => return end(&rt, &fault),
     };
     match command_of(&words) {
-        Ok(request) => match run_program(&rt, &request) {
+        Ok(request) => match run_program(&rt, &request, terminals(&rt)) {
             Ok(()) => ExitCode::SUCCESS,
             Err(fault) => end(&rt, &fault),
         },
@@ -50,18 +52,31 @@ fn main(rt: HostRuntime) -> ExitCode {
     }
 }
 
-// Does what is asked for over standard input and output.
-fn run_program<R: AllocGlobal + Input + Print + Threads + Sync>(
+// Which of the standard streams are terminals.
+fn terminals(rt: &HostRuntime) -> Terminals {
+    Terminals {
+        input: rt.stdin().is_terminal(),
+        output: rt.stdout().is_terminal(),
+        error: rt.stderr().is_terminal(),
+    }
+}
+
+// Does what is asked for over standard input and output. It may show a progress line, which is gone when it returns.
+fn run_program<R: AllocGlobal + Input + Print + Eprint + Clock + Threads + Sync>(
     rt: &R,
     request: &Request<'_>,
+    terminals: Terminals,
 ) -> Result<(), RunFault> {
-    let Ok(mut input) = BufReader::with_capacity(rt.alloc(), BUFFER, rt.reader()) else {
+    let is_shown = shows_progress(request.command, terminals);
+    let watched = Watched::new(rt.reader(), rt, is_shown);
+    let Ok(mut input) = BufReader::with_capacity(rt.alloc(), BUFFER, watched) else {
         return Err(RunFault::no_memory(0));
     };
     let Ok(mut output) = BufWriter::with_capacity(rt.alloc(), BUFFER, io::writer(rt)) else {
         return Err(RunFault::no_memory(0));
     };
     let ended = run_request(rt, request, &mut input, &mut output);
+    input.get_mut().wipe();
     // To drop the writer would hand on what a failed write left, and nothing is tried again.
     let (_writer, _left) = output.into_parts();
     ended

@@ -1,5 +1,5 @@
 //! Columns to one column.
-ghost use Rattle.std.specs.Prelude.{◌≡◌, ◌<◌, ◌^◌, ◌++◌, ◌∷◌, [], ℕ, List, length, Some, Ok, Err, OnOk, IfErr, MatchResult};
+ghost use Rattle.std.specs.Prelude.{◌≡◌, ◌+◌, ◌-◌, ◌<◌, ◌≤◌, ◌^◌, ◌++◌, ◌∷◌, [], ℕ, List, drop, length, Option, Some, Ok, Err, OnOk, IfOk, IfErr, MatchResult};
 ghost use Rattle.std.specs.Io.Buffered.{reader_remaining, writer_contents, writer_buffer};
 ghost use Rattle.lasso_parts.specs.Texts.{Text};
 ghost use Rattle.lasso_single.specs.Interner.{made_with};
@@ -8,15 +8,17 @@ ghost use Rattle.lasso_columns.specs.declared.faults.LineError.TheVariants.{Refu
 ghost use Rattle.lasso_parts.specs.declared.util.LassoErrorKind.TheVariants.{FailedAllocation};
 ghost use Rattle.lasso_codes.specs.Columns.{entry_at};
 ghost use Rattle.lasso_codes.specs.Fault.{IsWriteEnd};
-ghost use Rattle.lasso_codes.specs.Merge.{recoded, AddsEntries, AreMerged, MergeEnd, MergingFault};
-ghost use Rattle.lasso_codes.specs.Reading.{items_from};
+ghost use Rattle.lasso_codes.specs.Merge.{recoded, AddsEntries, AddsEntry, AreMerged, EntriesFault, MergeEnd, MergingFault};
+ghost use Rattle.lasso_codes.specs.Stages.{EntriesAhead};
+ghost use Rattle.lasso_codes.specs.Reading.{items_from, ReadItems};
 ghost use Rattle.lasso_codes.specs.Streams.{Writes};
 
 use crate::columns::{NULL, write_column};
 use crate::distinct::new_rodeo;
 use crate::encode::append;
-use crate::entries::{Entry, next_entry};
+use crate::entries::{Entry, first_entry, next_entry};
 use crate::fault::{ColumnFault, RunFault};
+use crate::input::{at_hand, use_up};
 use crate::output::end_flushed;
 use crate::reading::{Header, next_header, read_texts};
 use lasso::{MemoryLimits, SpurRodeo};
@@ -102,14 +104,69 @@ fn add_numbers<R: Read + Drop>(
         (bytes : List ℕ) → reader_remaining R.remaining input.old ≡ Some bytes →
         AddsEntries (items_from (recoded list texts) header.lines header.binary 1 bytes) column (reader_remaining R.remaining input.new) numbers.old.items numbers.new.items result }
 {
-    for position in 0..header.lines {
-        let entry = next_entry(input, line, header.binary)?;
-        match number_at(table, entry, position + 1) {
-            Ok(number) => append_number(numbers, number)?,
-            Err(fault) => return Err(RunFault::Column(column, fault)),
+    let mut count = 0;
+    while count < header.lines {
+        let (next, used) = add_stretch(numbers, table, header, column, at_hand(input), count)?;
+        use_up(input, used);
+        if next == header.lines {
+            return Ok(());
         }
+        let entry = next_entry(input, line, header.binary)?;
+        add_number(numbers, table, column, entry, next + 1)?;
+        count = next + 1;
     }
     Ok(())
+}
+
+// Appends the numbers of the entries that end in the stretch, `count` entries after the first. Returns how many are before the next
+// one then, and where it begins.
+fn add_stretch(
+    numbers: &mut Vec<u32>,
+    table: &[u32],
+    header: Header,
+    column: usize,
+    stretch: &[u8],
+    count: usize,
+) -> Result<(usize, usize), RunFault>
+    requires { count ≤ header.lines }
+    ensures added { IfOk result (λ at. (list texts : List Text) → AreCodes list texts table.now → length list < 2 ^ 32 →
+        (read : ReadItems (Option ℕ)) (later before : List ℕ) →
+        EntriesAhead (items_from (recoded list texts) (header.lines - count) header.binary (count + 1) (stretch.now ++ later)) read before numbers.old.items →
+        EntriesAhead (items_from (recoded list texts) (header.lines - at.0) header.binary (at.0 + 1) (drop at.1 stretch.now ++ later)) read before numbers.new.items) }
+    ensures more { IfOk result (λ at. (count ≤ at.0) × (at.0 ≤ header.lines)) }
+    ensures within { IfOk result (λ at. at.1 ≤ length stretch.now) }
+    ensures fault { IfErr result (λ fault. (list texts : List Text) → AreCodes list texts table.now → length list < 2 ^ 32 →
+        (read : ReadItems (Option ℕ)) (later before : List ℕ) →
+        EntriesAhead (items_from (recoded list texts) (header.lines - count) header.binary (count + 1) (stretch.now ++ later)) read before numbers.old.items →
+        EntriesFault read column fault) }
+{
+    let mut used = 0;
+    for position in count..header.lines {
+        let Some((entry, len)) = first_entry(&stretch[used..], header.binary) else {
+            return Ok((position, used));
+        };
+        add_number(numbers, table, column, entry, position + 1)?;
+        used += len;
+    }
+    Ok((header.lines, used))
+}
+
+// Appends the number of the entry of this number.
+#[inline]
+fn add_number(
+    numbers: &mut Vec<u32>,
+    table: &[u32],
+    column: usize,
+    entry: Entry,
+    number: usize,
+) -> Result<(), RunFault>
+    ensures { (list texts : List Text) → AreCodes list texts table.now → length list < 2 ^ 32 →
+        AddsEntry (recoded list texts entry number) column numbers.old.items numbers.new.items result }
+{
+    match number_at(table, entry, number) {
+        Ok(number) => append_number(numbers, number),
+        Err(fault) => Err(RunFault::Column(column, fault)),
+    }
 }
 
 // Appends the number, where there is memory for it.

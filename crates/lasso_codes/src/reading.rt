@@ -1,17 +1,21 @@
 //! The header and the dictionary of a column, read from a reader.
-ghost use Rattle.std.specs.Prelude.{◌≡◌, ◌++◌, ◌∷◌, [], ℕ, List, Some, IfOk, IfErr, OnOk, MatchResult};
+ghost use Rattle.std.specs.Prelude.{◌≡◌, ◌≤◌, ◌-◌, ◌++◌, ◌∷◌, [], ℕ, List, Some, Ok, IfOk, IfErr, IsTrue, IsUtf8, OnOk, MatchResult, drop, length};
 ghost use Rattle.std.specs.Io.Buffered.{reader_remaining};
-ghost use Rattle.lasso_single.specs.Interner.{made_with};
+ghost use Rattle.lasso_single.specs.Filling.{extend};
+ghost use Rattle.lasso_single.specs.Interner.{InternerView, made_with};
+ghost use Rattle.lasso_columns.specs.Encoding.{spur_at};
 ghost use Rattle.lasso_codes.specs.Arguments.{word_of};
+ghost use Rattle.lasso_codes.specs.Stages.{Reading};
 ghost use Rattle.lasso_codes.specs.Reading.{after_front, header_in, header_of, header_with, AddFault, AddsText, HeaderFault, TakesHeader, TakesTexts, TextsFault};
 
 use crate::columns::{BINARY_FRONT, TEXT_FRONT};
 use crate::fault::{ColumnFault, RunFault};
-use crate::input::{Cut, next_whole_line};
-use crate::lines::intern_line;
+use crate::input::{Cut, at_hand, next_whole_line, use_up};
+use crate::lines::{intern_line, untested_len};
 use crate::numbers::parse_digits;
 use lasso::SpurRodeo;
 use lasso_columns::LineError;
+use lasso_columns::lines::find_newline;
 use memchr::memchr;
 use std::io::{BufReader, Read};
 
@@ -64,11 +68,17 @@ pub fn read_texts<R: Read + Drop>(
     ensures fault { IfErr result (λ fault. (bytes : List ℕ) → reader_remaining R.remaining input.old ≡ Some bytes →
         (limit : ℕ) → rodeo.old ≡ made_with 4096 limit → TextsFault limit distinct column bytes fault) }
 {
-    for position in 0..distinct {
-        let number = position + 1;
+    let mut count = 0;
+    while count < distinct {
+        let (next, used) = add_texts(rodeo, at_hand(input), distinct, count, column)?;
+        use_up(input, used);
+        if next == distinct {
+            return Ok(());
+        }
+        let number = next + 1;
         match next_whole_line(input, line)? {
             Cut::Whole => {
-                if let Err(fault) = add_text(rodeo, line, number) {
+                if let Err(fault) = add_text(rodeo, line, false, number) {
                     return Err(RunFault::Column(column, fault));
                 }
             }
@@ -76,15 +86,55 @@ pub fn read_texts<R: Read + Drop>(
                 return Err(RunFault::Column(column, ColumnFault::NoText(number)));
             }
         }
+        count = number;
     }
     Ok(())
 }
 
-// Interns the text of this number, which has to be new.
-fn add_text(rodeo: &mut SpurRodeo, line: &[u8], number: usize) -> Result<(), ColumnFault>
+// Interns the texts that end in the stretch, of which `count` came before. Returns how many these are then, and where the next one
+// begins.
+fn add_texts(
+    rodeo: &mut SpurRodeo,
+    stretch: &[u8],
+    distinct: usize,
+    count: usize,
+    column: usize,
+) -> Result<(usize, usize), RunFault>
+    requires { count ≤ distinct }
+    ensures added { IfOk result (λ at. (bytes later : List ℕ) → Reading bytes (stretch.now ++ later) count rodeo.old → Reading bytes (drop at.1 stretch.now ++ later) at.0 rodeo.new) }
+    ensures list { OnOk result ((start : InternerView) → extend spur_at start rodeo.old.texts (Ok tt) rodeo.old → extend spur_at start rodeo.new.texts (Ok tt) rodeo.new) }
+    ensures more { IfOk result (λ at. (count ≤ at.0) × (at.0 ≤ distinct)) }
+    ensures within { IfOk result (λ at. at.1 ≤ length stretch.now) }
+    ensures fault { IfErr result (λ fault. (bytes later : List ℕ) (limit : ℕ) → Reading bytes (stretch.now ++ later) count rodeo.old →
+        extend spur_at (made_with 4096 limit) rodeo.old.texts (Ok tt) rodeo.old → TextsFault limit distinct column bytes fault) }
+{
+    let untested = untested_len(stretch);
+    let mut used = 0;
+    for position in count..distinct {
+        let rest = &stretch[used..];
+        let Some(len) = find_newline(rest) else {
+            return Ok((position, used));
+        };
+        let is_text = untested < rest.len() - len;
+        if let Err(fault) = add_text(rodeo, &rest[..len], is_text, position + 1) {
+            return Err(RunFault::Column(column, fault));
+        }
+        used += len + 1;
+    }
+    Ok((distinct, used))
+}
+
+// Interns the text of this number, which has to be new. `is_text`: the caller has checked that it is UTF-8.
+fn add_text(
+    rodeo: &mut SpurRodeo,
+    line: &[u8],
+    is_text: bool,
+    number: usize,
+) -> Result<(), ColumnFault>
+    requires { IsTrue is_text → IsUtf8 line.now }
     ensures { MatchResult result (λ _. AddsText rodeo.old line.now rodeo.new) (AddFault rodeo.old line.now number) }
 {
-    match intern_line(rodeo, line, number) {
+    match intern_line(rodeo, line, is_text, number) {
         Ok(true) => Ok(()),
         Ok(false) => Err(ColumnFault::Doubled(number)),
         Err(LineError::NotText(_)) => Err(ColumnFault::NotUtf8(number)),

@@ -3,6 +3,7 @@ mod columns;
 mod damaged;
 mod failing;
 mod merging;
+mod progress;
 mod round_trips;
 mod verbs;
 mod words;
@@ -20,6 +21,7 @@ const PLAIN: Settings = Settings {
     top: usize::MAX,
     binary: false,
     workers: 1,
+    quiet: false,
 };
 
 // The request of the command, with no null.

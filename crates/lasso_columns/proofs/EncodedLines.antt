@@ -2,8 +2,8 @@
 --
 -- The lines of the bytes are those that were cut off and those of the rest. Each that was cut off was found to be text and was encoded, so
 -- their number is that of the codes. Where nothing is left these are all lines; else the next one is that at which it ended.
-use Rattle.std.proofs.Common.{ℕ, ◌≡◌, ◌+◌, ◌-◌, List, [], ◌∷◌, ◌++◌, length, Ok, Some, refl, sym, ap, subst, ◌∙◌, arith, append_assoc}
-use Rattle.std.specs.Prelude.{All}
+use Rattle.std.proofs.Common.{ℕ, ◌≡◌, ◌+◌, ◌-◌, List, [], ◌∷◌, ◌++◌, length, Ok, Some, IsSomeAnd, refl, sym, ap, subst, ◌∙◌, arith, append_assoc}
+use Rattle.std.specs.Prelude.{All, slice_get}
 use Rattle.std.specs.Str.{IsUtf8}
 use Rattle.std.proofs.lemmas.List.{length_push}
 use Rattle.std.proofs.lemmas.List.Elements.{All-push}
@@ -57,10 +57,15 @@ module _ (old new : InternerView) (bytes before : List ℕ) (count : ℕ) (rest 
   pub told_texts : All IsUtf8 (encoded_texts before after (lines_of bytes))
   told_texts = subst (λ (ts : List Text). All IsUtf8 ts) (sym (encoded_are (lines_of bytes) lines.done (lines_of rest) lines.split old new before after lines.so_far)) lines.texts
 
+  -- what holds of the next line
+  pub told_next : (P : Text → Type 0) (line behind : List ℕ) → lines_of rest ≡ line ∷ lines_of behind → P line → IsSomeAnd (slice_get (lines_of bytes) (length after - length before)) P
+  told_next P line behind cut holds =
+      let split : lines_of bytes ≡ lines.done ++ line ∷ lines_of behind = lines.split ∙ ap (λ (ls : List Text). lines.done ++ ls) cut in
+      next_at (lines_of bytes) lines.done line (lines_of behind) split old new before after lines.so_far P holds
+
   -- the fault of the next line
   pub told_fault : (line behind : List ℕ) (fault : LineError) → lines_of rest ≡ line ∷ lines_of behind → IsFaultOf new line (count + 1) fault → IsNextFault new before after (lines_of bytes) fault
   told_fault line behind fault cut is =
-      let split : lines_of bytes ≡ lines.done ++ line ∷ lines_of behind = lines.split ∙ ap (λ (ls : List Text). lines.done ++ ls) cut in
       let many : length after - length before ≡ count = omega (arith, encoded_length old new lines.done before after lines.so_far, lines.counted) in
       let here : IsFaultOf new line (length after - length before + 1) fault = subst (λ n. IsFaultOf new line (n + 1) fault) (sym many) is in
-      next_at (lines_of bytes) lines.done line (lines_of behind) split old new before after lines.so_far (λ l. IsFaultOf new l (length after - length before + 1) fault) here
+      told_next (λ l. IsFaultOf new l (length after - length before + 1) fault) line behind cut here

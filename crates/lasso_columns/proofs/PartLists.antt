@@ -2,7 +2,7 @@
 --
 -- A text that an interner has changes nothing. So interning the distinct texts of a list, in the order in which they first stand there,
 -- leaves what interning the list leaves; and where that stops at a text, interning the list stops where this text first stands.
-use Rattle.std.proofs.Common.{ℕ, zero, suc, ◌≡◌, ◌+◌, ◌-◌, ◌<◌, ◌≤◌, List, [], ◌∷◌, ◌++◌, map, take, length, Bool, true, false, cond, is_some, is_err, Option, Some, None, Bor, Result, Ok, Err, MatchResult, IfSome, IfErr, OnOk, IsSomeAnd, refl, sym, ap, subst, ◌∙◌, arith, append_assoc, get_or, drop, min, length-append}
+use Rattle.std.proofs.Common.{ℕ, zero, suc, ◌≡◌, ◌+◌, ◌-◌, ◌<◌, ◌≤◌, List, [], ◌∷◌, ◌++◌, map, take, length, Bool, true, false, cond, is_some, is_err, Option, Some, None, Bor, Result, Ok, Err, MatchResult, IfSome, IfErr, OnOk, IsSomeAnd, refl, sym, ap, subst, ◌∙◌, arith, append_assoc, get_or, drop, min, length-append, ◌⊎◌, inl, inr}
 use Rattle.std.specs.Prelude.{slice_get, All}
 use Rattle.std.proofs.lemmas.List.{append-nil, take-map, drop-map, take_all, length-map, length-take, length_push, take-append-drop}
 use Rattle.std.proofs.Math.Seq.{take-add}
@@ -18,7 +18,7 @@ use Rattle.lasso_single.specs.Interner.{InternerView}
 use Rattle.lasso_single.proofs.Filled.{accepted}
 use Rattle.lasso.proofs.Calling.{list_interned}
 use Rattle.lasso.proofs.Interned.{position_with_last}
-use Rattle.lasso_columns.proofs.Coded.{position_stays, map_some_at, map_some_length, map_some_push, map_some_both, codes_longer}
+use Rattle.lasso_columns.proofs.Coded.{position_stays, map_some_at, map_some_length, map_some_both, codes_longer}
 use Rattle.lasso_columns.specs.Codes.{AreCodes, AddsCodes}
 use Rattle.lasso_columns.specs.Encoding.{spur_at, encoded_texts}
 use Rattle.lasso_columns.specs.Parts.{new_texts, IsEncoded, AddsRewritten}
@@ -269,6 +269,15 @@ pub list_next : (old new : InternerView) (from : List Text) (n : ℕ) (codes : L
 list_next old new from n codes b text at P holds =
     let here : length codes ≡ n = omega (arith, b.long, slice_get_within from n text at) in
     subst (λ o. IsSomeAnd o P) (sym (ap (λ k. slice_get from k) here ∙ at)) holds
+
+pub some_and_then : {X : Type 0} (P Q : X → Type 0) (o : Option X) → IsSomeAnd o P → ((x : X) → P x → Q x) → IsSomeAnd o Q
+some_and_then P Q None holds then = absurd (holds)
+some_and_then P Q (Some x) holds then = then x holds
+
+-- of two, the second: the codes have room
+pub not_full : (P : Type 0) (room long : ℕ) → (room ≤ long) ⊎ P → long < room → P
+not_full P room long (inl full) some = absurd (omega (arith, full, some))
+not_full P room long (inr holds) some = holds
 
 -- ---- parts one after another
 

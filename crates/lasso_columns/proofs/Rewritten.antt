@@ -2,7 +2,7 @@
 --
 -- A part's codes are positions in its own list, so each lies below the list's length. Where the table has a new code for each of the
 -- first texts of that list, the codes before the first that is too great are rewritten one by one, and each is found in the table.
-use Rattle.std.proofs.Common.{ℕ, zero, suc, ◌≡◌, ◌+◌, ◌-◌, ◌<◌, ◌≤◌, List, [], ◌∷◌, ◌++◌, map, take, drop, length, Some, Option, None, IfSome, refl, sym, ap, subst, ◌∙◌, arith, get_or}
+use Rattle.std.proofs.Common.{ℕ, zero, suc, ◌≡◌, ◌-◌, ◌<◌, ◌≤◌, List, [], ◌∷◌, ◌++◌, map, take, drop, length, Some, Option, None, IfSome, refl, sym, ap, subst, ◌∙◌, arith, get_or}
 use Rattle.std.specs.List.{AllWithin}
 use Rattle.std.specs.Prelude.{slice_get, All}
 use Rattle.std.proofs.lemmas.List.{append-nil, length-append, get_or-take, length-take-le, take_all}

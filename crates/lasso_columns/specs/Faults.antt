@@ -1,10 +1,10 @@
 -- The faults of lines and of codes: when they come, and what they print.
-use Rattle.std.specs.Prelude.{ℕ, ◌≡◌, ◌+◌, ◌-◌, ◌<◌, List, ◌++◌, length, None, Some, IsSomeAnd, slice_get, codes, decimal}
+use Rattle.std.specs.Prelude.{ℕ, ◌≡◌, ◌+◌, ◌-◌, ◌<◌, List, ◌++◌, length, None, Some, IsSomeAnd, Vec, slice_get, codes, decimal}
 use Rattle.std.specs.Str.{IsUtf8}
 use Rattle.lasso_parts.specs.Errors.{error_text, kind_text}
 use Rattle.lasso_parts.specs.Texts.{Text}
 use Rattle.lasso_single.specs.Interner.{InternerView}
-use Rattle.lasso_columns.specs.Encoding.{IsRefused}
+use Rattle.lasso_columns.specs.Encoding.{IsRefused, MayLackMemory}
 use Rattle.lasso_columns.specs.declared.faults.LineError.{LineError}
 use Rattle.lasso_columns.specs.declared.faults.LineError.TheVariants.{Refused, NotText}
 use Rattle.lasso_columns.specs.declared.faults.DecodeError.{DecodeError}
@@ -42,6 +42,16 @@ IsFaultOf now line number (NotText at) = (at ≡ number) × ¬ (IsUtf8 line)
 abbrev pub IsNextFault : InternerView → List ℕ → List ℕ → List Text → LineError → Type 0
 IsNextFault now before after lines fault =
     let n = length after - length before in IsSomeAnd (slice_get lines n) (λ line. IsFaultOf now line (n + 1) fault)
+
+-- when memory may be wanting for a line, once these codes are there: as for a text
+abbrev pub LineMayLackMemory : {A : Type 0} → InternerView → Vec ℕ A → Text → LineError → Type 0
+LineMayLackMemory now codes line (Refused _ error) = MayLackMemory now codes line error
+LineMayLackMemory now codes line (NotText _) = Unit {0}
+
+-- the same of the line behind those that were encoded
+abbrev pub NextLineMayLackMemory : {A : Type 0} → InternerView → List ℕ → Vec ℕ A → List Text → LineError → Type 0
+NextLineMayLackMemory now before codes lines fault =
+    IsSomeAnd (slice_get lines (length codes.items - length before)) (λ line. LineMayLackMemory now codes line fault)
 
 -- why the code at this position was not decoded: the list has no such position, or it has and memory was wanting
 abbrev pub IsFaultAt : List Text → List ℕ → ℕ → DecodeError → Type 0

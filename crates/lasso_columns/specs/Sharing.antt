@@ -6,7 +6,7 @@ use Rattle.lasso_parts.specs.declared.util.LassoErrorKind.TheVariants.{FailedAll
 use Rattle.lasso_log.specs.History.{History, Totals, totals, IsLegal}
 use Rattle.lasso_log.specs.Notes.{history}
 use Rattle.lasso_log.specs.Replies.{Copied, Intern, Interned, MayReply}
-use Rattle.lasso_log.specs.Views.{InternerId, KnownView, list_of}
+use Rattle.lasso_log.specs.Views.{InternerId, SnapshotView, list_of}
 use Rattle.lasso_columns.specs.Codes.{AreCodes, AddsCodes}
 use Rattle.lasso_columns.specs.Encoding.{spur_at}
 
@@ -22,7 +22,7 @@ IsRefusalIn opening past texts error =
     ⊎ ((text : Text) × (front back : History) × Contains texts text × (front ++ back ≡ past) × MayReply spur_at (totals opening front) (Intern Copied text) (Interned (Err error)))
 
 -- what was seen of the interner, in whose list the texts have these codes; or interning one of them may be refused there
-abbrev pub IsPartOf : {A : Type 0} → InternerId → List Text → KnownView → Result (Vec ℕ A) LassoErrorKind → Type 0
+abbrev pub IsPartOf : {A : Type 0} → InternerId → List Text → SnapshotView → Result (Vec ℕ A) LassoErrorKind → Type 0
 IsPartOf of texts known outcome =
     (known.of ≡ of)
     × MatchResult outcome (λ codes. AreCodes (list_of of known.notes) texts codes.items) (λ error. IsRefusalIn of.opening (history known.notes) texts error)

@@ -1,11 +1,11 @@
 //! Texts to codes.
-ghost use Rattle.std.specs.Prelude.{◌≡◌, ℕ, ◌+◌, ◌<◌, ◌^◌, ◌∷◌, ◌++◌, [], Some, Ok, OnOk, IfErr, MatchResult, All, IsUtf8, length, map, vec_len};
+ghost use Rattle.std.specs.Prelude.{◌≡◌, ℕ, ◌+◌, ◌<◌, ◌≤◌, ◌^◌, ◌∷◌, ◌++◌, [], Some, Ok, OnOk, IfErr, MatchResult, All, IsUtf8, length, map, vec_len, vec_capacity};
 ghost use Rattle.lasso_parts.specs.Texts.{position_of};
 ghost use Rattle.lasso_single.specs.Filling.{extend};
 ghost use Rattle.lasso_single.specs.Intern.{InternsIn};
 ghost use Rattle.lasso_columns.specs.Codes.{AddsCodes};
 ghost use Rattle.lasso_columns.specs.Encoding.{spur_at, encoded_texts, IsRefused, IsNextRefused, MayLackMemory, MayLackMemoryNext};
-ghost use Rattle.lasso_columns.specs.Faults.{IsFaultOf, IsNextFault};
+ghost use Rattle.lasso_columns.specs.Faults.{IsFaultOf, IsNextFault, LineMayLackMemory, NextLineMayLackMemory};
 ghost use Rattle.lasso_columns.specs.Lines.{lines_of};
 
 use crate::faults::LineError;
@@ -52,7 +52,8 @@ pub fn encode<S: BuildHasher, A: Allocator + Clone>(
 /// behind the last one are a line too.
 ///
 /// The first line that is refused or is not UTF-8 ends it, and the error has its number, counted from 1. The lines before it are
-/// interned and have their codes, and no line after it is taken.
+/// interned and have their codes, and no line after it is taken. Out of memory (`FailedAllocation`) comes only where it may come
+/// in `encode`.
 ///
 /// ```rust
 /// let mut rodeo: SpurRodeo = Rodeo::default(rt.alloc())?;
@@ -70,6 +71,7 @@ pub fn encode_lines<S: BuildHasher, A: Allocator + Clone>(
     ensures texts { All IsUtf8 (encoded_texts codes.old.items codes.new.items (lines_of bytes.now)) }
     ensures whole { OnOk result (vec_len codes.new ≡ vec_len codes.old + length (lines_of bytes.now)) }
     ensures fault { IfErr result (IsNextFault rodeo.new codes.old.items codes.new.items (lines_of bytes.now)) }
+    ensures memory { IfErr result (NextLineMayLackMemory rodeo.new codes.old.items codes.new (lines_of bytes.now)) }
 {
     let mut number = 0;
     let mut rest = bytes;
@@ -91,7 +93,7 @@ fn encode_line<S: BuildHasher, A: Allocator + Clone>(
     ensures { MatchResult result
         (λ _. IsUtf8 line.now × ((key : ℕ) × InternsIn {K = ℕ} spur_at rodeo.old line.now (Ok key) rodeo.new)
         × ((code : ℕ) × (position_of rodeo.new.texts line.now ≡ Some code) × (codes.new.items ≡ codes.old.items ++ code ∷ [])))
-        (λ error. (rodeo.new ≡ rodeo.old) × (codes.new.items ≡ codes.old.items) × IsFaultOf rodeo.old line.now number error) }
+        (λ error. (rodeo.new ≡ rodeo.old) × (codes.new.items ≡ codes.old.items) × IsFaultOf rodeo.old line.now number error × LineMayLackMemory rodeo.old codes.new line.now error) }
 {
     let Ok(text) = from_utf8(line) else {
         return Err(LineError::NotText(number));
@@ -102,7 +104,8 @@ fn encode_line<S: BuildHasher, A: Allocator + Clone>(
     }
 }
 
-// Interns the text and puts its code behind the others. There is room for the code before the text is interned.
+// Interns the text and puts its code behind the others. There is room for the code before the text is interned,
+// and the codes lose no room.
 pub(crate) fn encode_text<S: BuildHasher, A: Allocator + Clone>(
     rodeo: &mut Rodeo<Spur, S, A>,
     text: &str,
@@ -110,8 +113,10 @@ pub(crate) fn encode_text<S: BuildHasher, A: Allocator + Clone>(
 ) -> LassoResult<()>
     ensures { MatchResult result
         (λ _. ((key : ℕ) × InternsIn {K = ℕ} spur_at rodeo.old text.now (Ok key) rodeo.new)
-        × ((code : ℕ) × (position_of rodeo.new.texts text.now ≡ Some code) × (codes.new.items ≡ codes.old.items ++ code ∷ [])))
-        (λ error. (rodeo.new ≡ rodeo.old) × (codes.new.items ≡ codes.old.items) × IsRefused rodeo.old text.now error × MayLackMemory rodeo.old codes.new text.now error) }
+        × ((code : ℕ) × (position_of rodeo.new.texts text.now ≡ Some code) × (codes.new.items ≡ codes.old.items ++ code ∷ []))
+        × (vec_capacity codes.old ≤ vec_capacity codes.new))
+        (λ error. (rodeo.new ≡ rodeo.old) × (codes.new.items ≡ codes.old.items) × IsRefused rodeo.old text.now error
+        × MayLackMemory rodeo.old codes.new text.now error × (vec_capacity codes.old ≤ vec_capacity codes.new)) }
 {
     codes.reserve(1)?;
     let key = rodeo.try_get_or_intern(text)?;

@@ -7,7 +7,7 @@ use memchr::memchr_iter;
 
 /// Where the first line feed stands. It is mostly near, and this is the search that looks there first.
 #[inline]
-pub fn next_feed(bytes: &[u8]) -> Option<usize>
+pub fn find_newline(bytes: &[u8]) -> Option<usize>
     ensures { IsFirstByte (is_byte 10) bytes.now result }
 {
     memchr_iter(b'\n', bytes).next()
@@ -15,7 +15,7 @@ pub fn next_feed(bytes: &[u8]) -> Option<usize>
 
 /// The bytes behind the one at this position.
 #[inline]
-pub fn behind(bytes: &[u8], at: usize) -> &[u8]
+pub fn after_newline(bytes: &[u8], at: usize) -> &[u8]
     requires { at < length bytes.now }
     ensures value { result.now ≡ drop (at + 1) bytes.now }
     ensures less { length result.now < length bytes.now }
@@ -34,8 +34,8 @@ pub fn first_line(bytes: &[u8]) -> Option<(&[u8], &[u8])>
     if bytes.is_empty() {
         return None;
     }
-    match next_feed(bytes) {
-        Some(at) => Some((&bytes[..at], behind(bytes, at))),
+    match find_newline(bytes) {
+        Some(at) => Some((&bytes[..at], after_newline(bytes, at))),
         None => Some((bytes, &[])),
     }
 }

@@ -1,8 +1,8 @@
 //! The codes of one interner in another.
-ghost use Rattle.std.specs.Prelude.{◌≡◌, ℕ, [], Ok, OnOk, IfOk, IfErr, IsSomeAnd, slice_get, take, length};
+ghost use Rattle.std.specs.Prelude.{◌≡◌, ℕ, ◌≤◌, [], Ok, OnOk, IfOk, IfErr, IsSomeAnd, slice_get, take, length, vec_capacity};
 ghost use Rattle.lasso_single.specs.Filling.{extend};
 ghost use Rattle.lasso_columns.specs.Codes.{AreCodes, StandFor};
-ghost use Rattle.lasso_columns.specs.Encoding.{spur_at, IsRefused};
+ghost use Rattle.lasso_columns.specs.Encoding.{spur_at, IsRefused, MayLackMemoryWithRoom, MayLackMemoryMerging};
 
 use crate::encoding::encode_text;
 use lasso::index::Texts;
@@ -13,7 +13,9 @@ use std::hash::BuildHasher;
 /// Interns the texts of one interner in another, in order, and answers the code that each has there: for the code n of `from` the
 /// number at position n. So columns of both are joined by rewriting codes alone.
 ///
-/// The first text that is refused ends it, as in `encode`, and is the answer. The texts before it stay in `into`.
+/// The first text that is refused ends it, as in `encode`, and is the answer. The texts before it stay in `into`. Out of memory
+/// (`FailedAllocation`) comes only before the first text, where there is none for the codes and `into` is unchanged, or for an
+/// absent text that neither the keys nor the limit refuse.
 ///
 /// ```rust
 /// let mut into: SpurRodeo = Rodeo::default(rt.alloc())?;
@@ -32,27 +34,30 @@ pub fn merge<S: BuildHasher, A: Allocator + Clone, T: BuildHasher, B: Allocator>
     ensures codes { IfOk result (λ codes. AreCodes into.new.texts from.now codes.items) }
     ensures texts { IfOk result (λ codes. StandFor into.new.texts codes.items from.now) }
     ensures refused { IfErr result (λ error. (n : ℕ) × extend spur_at into.old (take n from.now) (Ok tt) into.new × IsSomeAnd (slice_get from.now n) (λ text. IsRefused into.new text error)) }
+    ensures memory { IfErr result (MayLackMemoryMerging into.old into.new from.now) }
 {
     let mut codes = Vec::new(alloc);
+    codes.reserve(from.len())?;
     encode_list(into, from, &mut codes)?;
     Ok(codes)
 }
 
-// Interns the texts of the reader in order, and puts the codes that they then have into `codes`, which is empty before.
+// Interns the texts of the reader in order, and puts the codes that they then have into `codes`, which is empty before and
+// has room for all of them.
 pub(crate) fn encode_list<S: BuildHasher, A: Allocator + Clone, T: BuildHasher, B: Allocator>(
     into: &mut Rodeo<Spur, S, A>,
     from: &RodeoReader<Spur, T, B>,
     codes: &mut Vec<u32>,
 ) -> LassoResult<()>
-    requires { codes.old.items ≡ [] }
+    requires empty { codes.old.items ≡ [] }
+    requires room { length from.now ≤ vec_capacity codes.old }
     ensures list { extend spur_at into.old (take (length codes.new.items) from.now) (Ok tt) into.new }
     ensures codes { AreCodes into.new.texts (take (length codes.new.items) from.now) codes.new.items }
     ensures whole { OnOk result (length codes.new.items ≡ length from.now) }
     ensures refused { IfErr result (λ error. IsSomeAnd (slice_get from.now (length codes.new.items)) (λ text. IsRefused into.new text error)) }
+    ensures memory { IfErr result (MayLackMemoryWithRoom into.new codes.new.items from.now) }
 {
     let count = from.len();
-    // Where there is no memory for the codes of all texts, each asks for its own.
-    let _ = codes.reserve(count);
     for position in 0..count {
         encode_text(into, from.text_at(position), codes)?;
     }

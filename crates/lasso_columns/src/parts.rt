@@ -3,7 +3,7 @@ ghost use Rattle.std.specs.Prelude.{◌≡◌, ℕ, ◌+◌, ◌<◌, ◌≤◌,
 ghost use Rattle.std.specs.List.{AllWithin};
 ghost use Rattle.lasso_single.specs.Filling.{extend};
 ghost use Rattle.lasso_columns.specs.Codes.{AddsCodes};
-ghost use Rattle.lasso_columns.specs.Encoding.{spur_at, encoded_texts, IsNextRefused};
+ghost use Rattle.lasso_columns.specs.Encoding.{spur_at, encoded_texts, IsNextRefused, MayLackMemoryNext};
 ghost use Rattle.lasso_columns.specs.Parts.{IsEncoded, AddsRewritten};
 
 use crate::encoding::encode;
@@ -30,7 +30,7 @@ const CODES_A_THREAD: usize = 65_536;
 /// interner that other threads use meanwhile there is `encode_shared`.
 ///
 /// The first text that is refused ends it, as in `encode`: the texts before it are interned and have their
-/// codes.
+/// codes. Out of memory (`FailedAllocation`) comes only where it may come in `encode`.
 ///
 /// ```rust
 /// let mut rodeo: SpurRodeo = Rodeo::default(rt.alloc())?;
@@ -49,6 +49,7 @@ pub fn encode_in_parts<R: AllocGlobal + Threads + Sync, S: BuildHasher, A: Alloc
     ensures codes { AddsCodes rodeo.new.texts (encoded_texts codes.old.items codes.new.items (map (λ t. t.now) texts.now)) codes.old.items codes.new.items }
     ensures whole { OnOk result (vec_len codes.new ≡ vec_len codes.old + length texts.now) }
     ensures refused { IfErr result (IsNextRefused rodeo.new codes.old.items codes.new.items (map (λ t. t.now) texts.now)) }
+    ensures memory { IfErr result (MayLackMemoryNext rodeo.new codes.old.items codes.new (map (λ t. t.now) texts.now)) }
 {
     if workers < 2 {
         return encode(rodeo, texts, codes);
@@ -116,15 +117,19 @@ fn put_part<R: AllocGlobal + Threads + Sync, S: BuildHasher, A: Allocator + Clon
     ensures codes { AddsCodes rodeo.new.texts (encoded_texts codes.old.items codes.new.items (map (λ t. t.now) texts.now)) codes.old.items codes.new.items }
     ensures whole { OnOk result (vec_len codes.new ≡ vec_len codes.old + length texts.now) }
     ensures refused { IfErr result (IsNextRefused rodeo.new codes.old.items codes.new.items (map (λ t. t.now) texts.now)) }
+    ensures memory { IfErr result (MayLackMemoryNext rodeo.new codes.old.items codes.new (map (λ t. t.now) texts.now)) }
 {
     let Some(part) = part else {
         return encode(rodeo, texts, codes);
     };
-    // There is room for all codes before a text is interned.
+    // There is room for all codes, and for the table, before a text is interned.
     if codes.reserve(part.codes.len()).is_err() {
         return encode(rodeo, texts, codes);
     }
     let mut table = Vec::new(rt.alloc());
+    if table.reserve(part.list.len()).is_err() {
+        return encode(rodeo, texts, codes);
+    }
     let outcome = encode_list(rodeo, &part.list, &mut table);
     append_rewritten(rt, codes, &part.codes, part.list.len(), &table, workers);
     outcome

@@ -7,7 +7,7 @@ ghost use Rattle.lasso_columns.specs.Codes.{AreCodes, AddsCodes};
 ghost use Rattle.lasso_columns.specs.Encoding.{spur_at};
 ghost use Rattle.lasso_columns.specs.Sharing.{AddsSharedCodes, IsPartOf, IsRefusalIn};
 
-use lasso::log::{Known, Pass};
+use lasso::log::{Pass, Snapshot};
 use lasso::{LassoError, LassoResult, Spur, ThreadedRodeo};
 use std::hash::BuildHasher;
 use std::sync::Wait;
@@ -44,7 +44,7 @@ where
     ensures reason { IfErr result (λ error. (past : History) × IsLegal spur_at rodeo.now.opening past × IsRefusalIn rodeo.now.opening past (map (λ t. t.now) texts.now) error) }
 {
     let mut pass = rodeo.pass();
-    pass.show_legal();
+    pass.prove_legal();
     encode_shared_as(rt, rodeo, &mut pass, texts, codes, workers)
 }
 
@@ -72,7 +72,7 @@ where
     ensures reason { IfErr result (λ error. IsRefusalIn rodeo.now.opening (seen pass.new) (map (λ t. t.now) texts.now) error) }
     ensures legal { IsLegal spur_at rodeo.now.opening (seen pass.new) }
 {
-    pass.show_legal();
+    pass.prove_legal();
     let size = texts.len().div_ceil(workers.max(1)).max(1);
     let work = move |_: usize, part: &[&str]| -> Part
         ensures { IsPartOf rodeo.entry.now (map (λ t. t.now) part.entry.now) result.known result.codes }
@@ -81,7 +81,7 @@ where
     let mut added = Vec::new(rt.alloc());
     for part in 0..parts.len() {
         let done = &parts[part];
-        pass.recall(&done.known);
+        pass.learn(&done.known);
         match &done.codes {
             Ok(part_codes) => added.extend_from_slice(part_codes)?,
             Err(error) => return Err(LassoError::new(error.kind())),
@@ -94,7 +94,7 @@ where
 // What a worker gives back: what its pass has seen of the interner, and the codes of its texts, or why one of them was refused.
 #[derive(Drop)]
 struct Part {
-    known: Known<Spur>,
+    known: Snapshot<Spur>,
     codes: LassoResult<Vec<u32>>,
 }
 
@@ -109,7 +109,7 @@ fn encode_part<R: AllocGlobal + Wait, S: BuildHasher + Drop>(
     let mut pass = rodeo.pass();
     let codes = encode_by(rt, rodeo, &mut pass, texts);
     Part {
-        known: pass.known(),
+        known: pass.snapshot(),
         codes,
     }
 }

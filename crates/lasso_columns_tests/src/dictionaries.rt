@@ -9,13 +9,10 @@ use lasso::{
     FixedState, Key, LassoError, LassoErrorKind, MemoryLimits, MicroSpur, Rodeo, Spur, SpurRodeo,
 };
 use lasso_columns::{Dictionary, Layout, Offset, ReadError, WriteError};
-use lasso_single_tests::refusing::Refusing;
+use lasso_testing::refusing::{Refusing, each_refused};
 use std::alloc::{Allocator, Global};
 use std::process::Abort;
 use std::test::Fail;
-
-// More requests than an interner of the texts makes.
-const MOST_REQUESTS: u64 = 1000;
 
 // `é` is the bytes c3 a9.
 const TEXTS: [&str; 5] = ["red", "", "blé", "a\n", "\0"];
@@ -305,14 +302,10 @@ fn a_refused_request_leaves_the_first_texts(rt: HostRuntime) -> Result<(), Fail>
     )?;
     let texts = slices(rt.alloc(), &printed)?;
     let layout: Layout<u32> = write_dictionary(&rt, &interner(&rt, &texts)?, 0)?;
-    for refused in 1..MOST_REQUESTS {
-        let memory = Refusing::new(rt.alloc(), refused);
-        appended_in_two(&rt, &memory, &layout, &texts)?;
-        if memory.refusals() == 0 {
-            return Ok(());
-        }
-    }
-    Err(Fail::from("each run met a refusal"))
+    each_refused(
+        &rt,
+        |rt: &HostRuntime, memory: &Refusing<Global>| appended_in_two(rt, memory, &layout, &texts),
+    )
 }
 
 fn appended_in_two<R: Abort>(
@@ -338,26 +331,21 @@ fn appended_in_two<R: Abort>(
 // The same of an interner that the reading makes, which is gone then with its memory.
 #[test]
 fn a_refused_request_ends_a_reading(rt: HostRuntime) -> Result<(), Fail> {
-    for refused in 1..MOST_REQUESTS {
-        let memory = Refusing::new(rt.alloc(), refused);
-        let read: Result<Rodeo<Spur, FixedState, &Refusing<Global>>, ReadError> = read_dictionary(
-            &memory,
-            MemoryLimits::default(),
-            &BYTES,
-            &[0u32, 3, 3, 7, 9, 10],
-        );
-        match read {
-            Ok(rodeo) => has_texts(&rt, &rodeo, &TEXTS),
-            Err(error) => assert!(rt;
-                error == ReadError::Refused(0, LassoErrorKind::FailedAllocation)
-            ),
-        }
-        assert!(rt; memory.bytes_out() == 0);
-        if memory.refusals() == 0 {
-            return Ok(());
-        }
+    each_refused(&rt, read_or_refused)
+}
+
+fn read_or_refused<R: Abort>(rt: &R, memory: &Refusing<Global>) -> Result<(), Fail> {
+    let read: Result<Rodeo<Spur, FixedState, &Refusing<Global>>, ReadError> = read_dictionary(
+        memory,
+        MemoryLimits::default(),
+        &BYTES,
+        &[0u32, 3, 3, 7, 9, 10],
+    );
+    match read {
+        Ok(rodeo) => has_texts(rt, &rodeo, &TEXTS),
+        Err(error) => assert!(rt; error == ReadError::Refused(0, LassoErrorKind::FailedAllocation)),
     }
-    Err(Fail::from("each run met a refusal"))
+    Ok(())
 }
 
 #[test]

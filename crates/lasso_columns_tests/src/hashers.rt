@@ -5,7 +5,7 @@ use crate::shared::{TWENTY, stand_for};
 use lasso::index::hash_text;
 use lasso::{FixedState, Spur, ThreadedRodeo};
 use lasso_examples::keyed::{colliding, keyed_by};
-use lasso_single_tests::fixtures::SameState;
+use lasso_testing::hashers::SameState;
 use std::hash::{BuildHasher, RandomState};
 use std::process::Abort;
 use std::sync::Wait;

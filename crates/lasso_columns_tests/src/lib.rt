@@ -23,3 +23,5 @@ mod numbered;
 mod parts;
 #[cfg(test)]
 mod shared;
+#[cfg(test)]
+mod shared_columns;

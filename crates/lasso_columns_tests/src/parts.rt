@@ -6,16 +6,13 @@ use crate::numbered::{codes_of, distinct, mixed, printed, repeated};
 use lasso::{
     Capacity, FixedState, Key, LassoErrorKind, LassoResult, MemoryLimits, Rodeo, Spur, SpurRodeo,
 };
-use lasso_single_tests::refusing::Refusing;
+use lasso_testing::refusing::{Refusing, each_refused};
 use std::alloc::{Allocator, Global};
 use std::process::Abort;
 use std::test::Fail;
 use std::thread::Threads;
 
 const WORKERS: [usize; 5] = [1, 2, 3, 4, 7];
-
-// More requests than an interner of the texts makes.
-const MOST_REQUESTS: u64 = 1000;
 
 // How many texts have these codes: codes are given in order.
 fn distinct_of(codes: &[u32]) -> usize {
@@ -188,14 +185,10 @@ fn a_refused_request_leaves_a_beginning(rt: HostRuntime) -> Result<(), Fail> {
         .map(|text| text.as_str())
         .collect(rt.alloc())?;
     let expected = codes_of(rt.alloc(), numbers)?;
-    for refused in 1..MOST_REQUESTS {
-        let memory = Refusing::new(rt.alloc(), refused);
-        ends_early(&rt, &memory, &texts, &expected)?;
-        if memory.refusals() == 0 {
-            return Ok(());
-        }
-    }
-    Err(Fail::from("each run met a refusal"))
+    each_refused(
+        &rt,
+        |rt: &HostRuntime, memory: &Refusing<Global>| ends_early(rt, memory, &texts, &expected),
+    )
 }
 
 fn ends_early<R: AllocGlobal + Threads + Sync + Abort>(

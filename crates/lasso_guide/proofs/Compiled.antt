@@ -1,7 +1,7 @@
 -- Code that grows token by token.
 use Rattle.std.proofs.Common.{ℕ, ◌≡◌, ◌-◌, List, [], ◌∷◌, ◌++◌, take, Option, sym, subst}
 use Rattle.std.proofs.lemmas.List.{append-nil}
-use Rattle.lasso_parts.specs.Texts.{Text}
+use Rattle.lasso.specs.Texts.{Text}
 use Rattle.lasso_guide.specs.declared.compiler.Token.{Token}
 use Rattle.lasso_guide.specs.declared.compiler.Token.TheVariants.{Close}
 use Rattle.lasso_guide.specs.declared.compiler.Instruction.{Instruction}

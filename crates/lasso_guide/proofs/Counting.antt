@@ -8,10 +8,10 @@ use Rattle.std.specs.Prelude.{Vec, slice_get}
 use Rattle.std.proofs.lemmas.List.{map_push, map-append, take-append-drop, take_more, get_or-map, length-map}
 use Rattle.std.proofs.lemmas.Option.{slice_get_within}
 use mathlib.Core.List.{IsPrefix}
-use Rattle.lasso_parts.specs.Texts.{Text}
-use Rattle.lasso_parts.specs.declared.util.LassoErrorKind.{LassoErrorKind}
-use Rattle.lasso_log.specs.Notes.{NoteView}
-use Rattle.lasso_log.specs.Views.{InternerId, list_of}
+use Rattle.lasso.specs.Texts.{Text}
+use Rattle.lasso.specs.LassoErrorKind.{LassoErrorKind}
+use Rattle.lasso.specs.Notes.{NoteView}
+use Rattle.lasso.specs.Views.{InternerId, list_of}
 use Rattle.lasso.proofs.CallingShared.{seen_texts_stay}
 use Rattle.lasso_guide.specs.Words.{Resolve}
 

@@ -5,9 +5,9 @@
 use Rattle.std.proofs.Common.{ℕ, ◌≡◌, ◌<◌, List, [], length, get_or, Some, ap, subst, ◌∙◌}
 use Rattle.std.specs.Prelude.{slice_get}
 use Rattle.std.proofs.lemmas.Option.{slice_get-get_or}
-use Rattle.lasso_parts.proofs.IndexLaws.{position_of_at}
-use Rattle.lasso_parts.specs.Spurs.{spur_number}
-use Rattle.lasso_parts.specs.Texts.{Text, IsDistinct, position_of}
+use Rattle.lasso.proofs.IndexLaws.{position_of_at}
+use Rattle.lasso.specs.Spurs.{spur_number}
+use Rattle.lasso.specs.Texts.{Text, IsDistinct, position_of}
 use Rattle.lasso_guide.specs.Lexing.{Keep, IsKeyword, keywords}
 
 -- the text below that position is a keyword

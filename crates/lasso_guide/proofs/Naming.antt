@@ -9,9 +9,9 @@ use Rattle.std.proofs.lemmas.Bool.Decides.{nat_tests}
 use Rattle.std.proofs.lemmas.List.{map_push}
 use Rattle.std.proofs.lemmas.List.Elements.{recursion_from_All}
 use Rattle.std.proofs.lemmas.Option.{slice_get-map, slice_get-get_or, none-some}
-use Rattle.lasso_log.proofs.Tickets.{by_cases}
-use Rattle.lasso_parts.proofs.IndexLaws.{position_of_at}
-use Rattle.lasso_parts.specs.Texts.{Text, IsDistinct, position_of}
+use Rattle.lasso.proofs.Tickets.{by_cases}
+use Rattle.lasso.proofs.IndexLaws.{position_of_at}
+use Rattle.lasso.specs.Texts.{Text, IsDistinct, position_of}
 use Rattle.lasso_guide.specs.Scopes.{IsLast, IsNamed, names_of}
 
 -- ---- the last number for which something holds

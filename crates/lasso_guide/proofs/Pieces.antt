@@ -9,7 +9,7 @@ use Rattle.std.proofs.lemmas.Bool.Decides.{nat_tests}
 use Rattle.std.proofs.lemmas.List.Elements.{All-append, All-from_get_or, All-nil}
 use Rattle.std.proofs.lemmas.Str.{lead_after_ascii}
 use Rattle.std.proofs.str.Laws.{order}
-use Rattle.lasso_parts.specs.Texts.{Text}
+use Rattle.lasso.specs.Texts.{Text}
 use Rattle.lasso_guide.specs.declared.lexer.Kind.{Kind}
 use Rattle.lasso_guide.specs.declared.lexer.Kind.TheVariants.{Letters, Digits, Mark, Space}
 use Rattle.lasso_guide.specs.declared.lexer.Token.{Token}

@@ -1,7 +1,7 @@
 -- The code of a program, by the names of the variables in scope.
 use denote.Ref.{Bor}
 use Rattle.std.specs.Prelude.{◌≡◌, ℕ, List, [], ◌∷◌, ◌++◌, length, take, Option, Some}
-use Rattle.lasso_parts.specs.Texts.{Text}
+use Rattle.lasso.specs.Texts.{Text}
 use Rattle.lasso_guide.specs.Scopes.{IsLast, IsNamed}
 use Rattle.lasso_guide.specs.declared.compiler.Token.{Token}
 use Rattle.lasso_guide.specs.declared.compiler.Token.TheVariants.{Number, Name, Plus, Let, Open, Close}

@@ -1,8 +1,8 @@
 -- How a source text is cut into tokens.
 use Rattle.std.specs.Prelude.{◌≡◌, ℕ, ◌<◌, ◌==◌, ◌||◌, ◌++◌, List, [], ◌∷◌, Bool, true, false, if◌then◌else◌, nat_le, length, map, All, Contains, Some, slice_get, slice_index}
 use Rattle.std.specs.Char.{is_ascii_alphabetic, is_ascii_digit, is_ascii_whitespace}
-use Rattle.lasso_parts.specs.Spurs.{spur_number}
-use Rattle.lasso_parts.specs.Texts.{Text}
+use Rattle.lasso.specs.Spurs.{spur_number}
+use Rattle.lasso.specs.Texts.{Text}
 use Rattle.lasso_guide.specs.declared.lexer.Kind.{Kind}
 use Rattle.lasso_guide.specs.declared.lexer.Kind.TheVariants.{Letters, Digits, Space, Mark}
 use Rattle.lasso_guide.specs.declared.lexer.Token.{Token}

@@ -1,6 +1,6 @@
 -- The variables in scope, by their names.
 use Rattle.std.specs.Prelude.{◌≡◌, ℕ, ◌<◌, List, map, Option, Some, None, slice_get}
-use Rattle.lasso_parts.specs.Texts.{Text}
+use Rattle.lasso.specs.Texts.{Text}
 
 -- the names of variables whose keys these are
 abbrev pub names_of : {K : Type 0} → (K → ℕ) → List Text → List K → List (Option Text)

@@ -1,14 +1,13 @@
 //! Two threads that intern a name each, by a pass of its own. Then the caller's pass learns what theirs have seen. There both
 //! names have their keys, which are equal exactly where the names are.
 ghost use Rattle.std.specs.Prelude.{◌≡◌, ◌↔◌, ℕ, IfErr, IfOk, Some, slice_get};
-ghost use Rattle.lasso_parts.specs.Texts.{Text};
-ghost use Rattle.lasso_log.specs.Views.{InternerId, IsSamePass, KnownView, PassView, list_of, seen};
-ghost use Rattle.lasso_shared.specs.CallerLaws.{HasKey};
+ghost use Rattle.lasso.specs.Texts.{Text};
+ghost use Rattle.lasso.specs.Views.{InternerId, IsSamePass, SnapshotView, PassView, list_of, seen};
+ghost use Rattle.lasso.specs.CallerLaws.{HasKey};
 ghost use Rattle.lasso_guide.specs.Pairs.{IsFind};
 
 use lasso::laws::keys_are_equal_where_texts_are;
-use lasso::log::{Known, Pass};
-use lasso::{FixedState, Key, LassoResult, ThreadedRodeo};
+use lasso::{FixedState, Key, LassoResult, Pass, Snapshot, ThreadedRodeo};
 use std::sync::Wait;
 use std::thread::{Threads, join};
 
@@ -41,8 +40,8 @@ pub fn intern_pair<R: Threads + Wait + Sync, K: Key + Send + Sync + Drop>(
     let (first, second) = join(rt, here, there);
     let one = first?;
     let other = second?;
-    pass.recall(&one.known);
-    pass.recall(&other.known);
+    pass.learn(&one.known);
+    pass.learn(&other.known);
     keys_are_equal_where_texts_are::<K>();
     Ok((one.key, other.key))
 }
@@ -51,7 +50,7 @@ pub fn intern_pair<R: Threads + Wait + Sync, K: Key + Send + Sync + Drop>(
 #[derive(Drop)]
 struct Find<K: Key + Drop> {
     key: K,
-    known: Known<K>,
+    known: Snapshot<K>,
 }
 
 // Interns the name by a pass of its own.
@@ -66,6 +65,6 @@ fn intern_alone<R: Wait, K: Key + Drop>(
     let key = rodeo.try_get_or_intern_as(rt, &mut pass, name)?;
     Ok(Find {
         key,
-        known: pass.known(),
+        known: pass.snapshot(),
     })
 }

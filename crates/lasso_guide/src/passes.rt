@@ -1,10 +1,9 @@
 //! A call with a pass, a pass in a loop, and an interner that threads own together.
 ghost use Rattle.std.specs.Prelude.{◌≡◌, ℕ, IfOk, Some, slice_get};
-ghost use Rattle.lasso_parts.specs.Texts.{Text};
-ghost use Rattle.lasso_log.specs.Views.{IsSamePass, list_of};
+ghost use Rattle.lasso.specs.Texts.{Text};
+ghost use Rattle.lasso.specs.Views.{IsSamePass, list_of};
 
-use lasso::log::Pass;
-use lasso::{FixedState, Key, LassoResult, ThreadedRodeo};
+use lasso::{FixedState, Key, LassoResult, Pass, ThreadedRodeo};
 use std::sync::Wait;
 
 #[cfg(test)]

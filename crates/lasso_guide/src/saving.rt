@@ -3,7 +3,7 @@
 ghost use Rattle.std.specs.Prelude.{◌≡◌, Some, Ok, IfOk, true, string_bytes};
 ghost use Rattle.serde_json.specs.Data.{Data};
 ghost use Rattle.serde_json.specs.Read.{read as read_text};
-ghost use Rattle.lasso_parts.specs.Json.{read_array};
+ghost use Rattle.lasso.specs.Json.{read_array};
 
 use lasso::json::json_reads_back;
 use lasso::{FixedState, JsonError, Key, Rodeo};

@@ -1,8 +1,8 @@
 //! A symbol table whose keys are `Spur`s. In a contract a `Spur` is the number that it keeps, and `spur_number` is the
 //! position that it stands for.
 ghost use Rattle.std.specs.Prelude.{◌≡◌, ℕ, [], Some, IfErr, IfOk, option_map, slice_get};
-ghost use Rattle.lasso_parts.specs.Spurs.{spur_number};
-ghost use Rattle.lasso_parts.specs.Texts.{Text};
+ghost use Rattle.lasso.specs.Spurs.{spur_number};
+ghost use Rattle.lasso.specs.Texts.{Text};
 
 use lasso::{LassoResult, Rodeo, Spur, SpurRodeo};
 use std::alloc::Global;

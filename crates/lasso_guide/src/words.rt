@@ -2,12 +2,11 @@
 //! threads meet, a pass learns what both have seen, and so does the caller's in the end.
 ghost use Rattle.std.specs.Prelude.{◌≡◌, ℕ, ◌<◌, ◌==◌, ◌++◌, List, All, IfOk, get_or, length, map, sum};
 ghost use Rattle.std.specs.List.{count_by};
-ghost use Rattle.lasso_parts.specs.Texts.{Text};
-ghost use Rattle.lasso_log.specs.Views.{PassView, InternerId, IsSamePass, list_of};
+ghost use Rattle.lasso.specs.Texts.{Text};
+ghost use Rattle.lasso.specs.Views.{PassView, InternerId, IsSamePass, list_of};
 ghost use Rattle.lasso_guide.specs.Words.{Resolve, IsShareOf};
 
-use lasso::log::{Known, Pass};
-use lasso::{FixedState, Key, LassoResult, ThreadedRodeo};
+use lasso::{FixedState, Key, LassoResult, Pass, Snapshot, ThreadedRodeo};
 use std::alloc::{AllocError, Global};
 use std::sync::Wait;
 use std::thread::{Threads, join};
@@ -40,7 +39,7 @@ pub fn count_words<R: AllocGlobal + Threads + Wait + Sync, K: Key + Send + Sync 
     ensures whole { IfOk result (λ counted. sum counted.counts.items ≡ length words.now) }
 {
     let share = intern_by_four(rt, rodeo, words);
-    pass.recall(&share.known);
+    pass.learn(&share.known);
     let keys = share.keys?;
     let texts = rodeo.len_as(pass);
     let counts = tally(rt.alloc(), &keys, texts)?;
@@ -50,7 +49,7 @@ pub fn count_words<R: AllocGlobal + Threads + Wait + Sync, K: Key + Send + Sync 
 // A share of the words: what the pass that interned them has seen, and their keys, or why one was refused.
 #[derive(Drop)]
 struct Share<K: Key + Drop> {
-    known: Known<K>,
+    known: Snapshot<K>,
     keys: LassoResult<Vec<K>>,
 }
 
@@ -102,10 +101,10 @@ fn both<K: Key + Drop>(
     ensures { (front back : List Text) → IsShareOf K.number rodeo.now front first.known first.keys → IsShareOf K.number rodeo.now back second.known second.keys → IsShareOf K.number rodeo.now (front ++ back) result.known result.keys }
 {
     let mut pass = rodeo.pass();
-    pass.recall(&first.known);
-    pass.recall(&second.known);
+    pass.learn(&first.known);
+    pass.learn(&second.known);
     Share {
-        known: pass.known(),
+        known: pass.snapshot(),
         keys: joined(first.keys, second.keys),
     }
 }
@@ -134,7 +133,7 @@ fn intern_share<R: AllocGlobal + Wait, K: Key + Drop>(
     let mut pass = rodeo.pass();
     let keys = intern_all(rt, rodeo, &mut pass, words);
     Share {
-        known: pass.known(),
+        known: pass.snapshot(),
         keys,
     }
 }

@@ -18,9 +18,9 @@ take_drop_whole (suc n) (b ∷ bytes) = ap (λ bs. b ∷ bs) (take_drop_whole n 
 
 -- a reader
 
-pub shows_front : (bs shown : List ℕ) (known : Option (List ℕ)) → shown ≡ bs → ComeFirst shown (prepend_known bs known)
-shows_front bs shown None is = λ held e. cc
-shows_front bs shown (Some xs) is = λ held e. let same : bs ++ xs ≡ held = cc in (xs, sym same ∙ ap (λ b. b ++ xs) (sym is))
+pub shows_front : (bs buffer : List ℕ) (known : Option (List ℕ)) → buffer ≡ bs → ComeFirst buffer (prepend_known bs known)
+shows_front bs buffer None is = λ held e. cc
+shows_front bs buffer (Some xs) is = λ held e. let same : bs ++ xs ≡ held = cc in (xs, sym same ∙ ap (λ b. b ++ xs) (sym is))
 
 pub loses_front : (bs bs' : List ℕ) (known : Option (List ℕ)) (count : ℕ) → count ≤ length bs → bs' ≡ drop count bs → Loses count (prepend_known bs known) (prepend_known bs' known)
 loses_front bs bs' None count small is = λ held e. cc
@@ -110,7 +110,7 @@ take_drop (suc used) zero n bytes e = absurd (omega arith)
 take_drop (suc used) (suc filled) n [] e = take_nil n
 take_drop (suc used) (suc filled) n (b ∷ bytes) e = take_drop used filled n bytes (omega arith)
 
--- the bytes that are shown, as the code cuts them out
+-- the bytes that are buffer, as the code cuts them out
 pub cut_out : (used filled : ℕ) (bytes buffer : List ℕ) → used ≤ filled → bytes ≡ buffer → take (filled - used) (drop used bytes) ≡ drop used (take filled buffer)
 cut_out used filled bytes buffer small same = take_drop used filled (filled - used) bytes (omega arith) ∙ ap (λ bs. drop used (take filled bs)) same
 

@@ -8,7 +8,6 @@ use Rattle.std.specs.Str.{IsUtf8}
 use Rattle.std.proofs.lemmas.Str.{IsUtf8-from_is_utf8, is_utf8-from_IsUtf8}
 use Rattle.std.proofs.lemmas.Bool.{false_from_ne_true}
 use Rattle.lasso_parts.specs.Texts.{Text}
-use Rattle.lasso_parts.specs.declared.util.LassoErrorKind.{LassoErrorKind}
 use Rattle.lasso_parts.specs.declared.util.LassoErrorKind.TheVariants.{FailedAllocation}
 use Rattle.lasso_log.specs.History.{History, Totals}
 use Rattle.lasso_lines.specs.Answer.{IsInputFault, IsEndFault}
@@ -43,15 +42,19 @@ fault_here before more all line number fault is counted same (inr lacks) =
 -- a line that was refused, where all lines are text
 pub refusal_is : (o : Totals) (past : History) (lines : List Text) (fault : RunFault) → AreTexts lines → IsRefusalOf o past lines fault → IsFaultOf lines fault
 refusal_is o past lines (Refused number error) texts (inl lacks) = (omega (arith, lacks.0), inl texts)
-refusal_is o past lines (Refused number error) texts (inr why) = (omega (arith, why.1, why.2), inl texts)
+refusal_is o past lines (Refused number error) texts (inr why) = (omega (arith, why.0.1, why.0.2), inl texts)
 refusal_is o past lines (NotText number) texts why = absurd why
 refusal_is o past lines Usage texts why = absurd why
 refusal_is o past lines ReadFailed texts why = absurd why
 refusal_is o past lines WriteFailed texts why = absurd why
 
+pub share_fault_is : {X : Type 0} (o : Totals) (past : History) (lines : List Text) (result : Result X RunFault) → AreTexts lines → IfErr result (IsRefusalOf o past lines) → IfErr result (IsFaultOf lines)
+share_fault_is o past lines (Ok done) texts none = tt
+share_fault_is o past lines (Err fault) texts why = refusal_is o past lines fault texts why
+
 -- memory was not found for the interner
-pub no_interner : (lines : List Text) (error : LassoErrorKind) → AreTexts lines → IsFaultOf lines (Refused 0 error)
-no_interner lines error texts = (omega arith, inl texts)
+pub no_interner : (lines : List Text) (fault : RunFault) → fault ≡ Refused 0 FailedAllocation → IsFaultOf lines fault
+no_interner lines fault is = subst (IsFaultOf lines) (sym is) (omega arith, inr refl)
 
 -- a read failed, or memory was not found for what was read
 pub input_fault_is : (lines : List Text) (fault : RunFault) → IsInputFault fault → IsFaultOf lines fault

@@ -17,3 +17,5 @@ pub mod Told
 pub mod InOrder
 pub mod FirstFaults
 pub mod Refusals
+pub mod Lowest
+pub mod Explaining

@@ -36,7 +36,7 @@ module _ {X Y : Type 0} (f : X → Option Y) where
   found_for (x ∷ xs) (z ∷ ys) y e (suc k, small, is) = later_found x xs y (found_for xs ys y (cc) (k, omega arith, is))
 
   -- and for each element something is
-  each_found : (xs : List X) (ys : List Y) (x : X) → map f xs ≡ map Some ys → Contains xs x → (y : Y) × Contains ys y × (f x ≡ Some y)
+  pub each_found : (xs : List X) (ys : List Y) (x : X) → map f xs ≡ map Some ys → Contains xs x → (y : Y) × Contains ys y × (f x ≡ Some y)
   each_found [] ys x e there = absurd (omega (arith, there.1))
   each_found (z ∷ xs) [] x e there = cc
   each_found (z ∷ xs) (y ∷ ys) x e (zero, small, is) = (y, (0, omega arith, refl), (let here : f z ≡ Some y = cc in ap f (sym is) ∙ here))

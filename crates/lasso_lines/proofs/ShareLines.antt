@@ -34,7 +34,7 @@ share_more lines worker workers n j small (inr last) has =
     subst (λ k. Contains (share lines worker workers (suc n)) (line_at lines (worker + k * workers))) (sym is) (Contains-push (share lines worker workers n) (line_at lines (worker + n * workers)))
 
 -- each of them comes
-share_has : (lines : List Text) (worker workers count j : ℕ) → j < count → Contains (share lines worker workers count) (line_at lines (worker + j * workers))
+pub share_has : (lines : List Text) (worker workers count j : ℕ) → j < count → Contains (share lines worker workers count) (line_at lines (worker + j * workers))
 share_has lines worker workers zero j small = absurd (omega arith)
 share_has lines worker workers (suc n) j small = share_more lines worker workers n j small (cases_lt j n) (λ before. share_has lines worker workers n j before)
 
@@ -44,7 +44,7 @@ below_count lines worker workers count j is small (inr above) =
     let far : count * workers ≤ j * workers = mul-le-mul_right workers above in absurd (omega (arith, is.whole))
 
 -- the line at a position is one of its worker's
-share_reaches : (lines : List Text) (worker workers count i : ℕ) → IsShare lines worker workers count → i < length lines → i % workers ≡ worker → Contains (share lines worker workers count) (line_at lines i)
+pub share_reaches : (lines : List Text) (worker workers count i : ℕ) → IsShare lines worker workers count → i < length lines → i % workers ≡ worker → Contains (share lines worker workers count) (line_at lines i)
 share_reaches lines worker workers count i is small mine =
     let j = i / workers in
     let adds : worker + j * workers ≡ i = omega (arith, div-add-mod' i workers) in

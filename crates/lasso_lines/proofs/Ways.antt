@@ -163,9 +163,9 @@ drop_front : (front back : List ℕ) → drop (length front) (front ++ back) ≡
 drop_front [] back = refl
 drop_front (x ∷ front) back = drop_front front back
 
--- the bytes shown, and those that are left behind them
-pub all_shown : (shown left : List ℕ) → Begins shown left → left ≡ shown ++ drop (length shown) left
-all_shown shown left begins = begins.1 ∙ ap (λ bs. shown ++ bs) (sym (ap (λ bs. drop (length shown) bs) begins.1 ∙ drop_front shown begins.0))
+-- the bytes buffer, and those that are left behind them
+pub all_shown : (buffer left : List ℕ) → Begins buffer left → left ≡ buffer ++ drop (length buffer) left
+all_shown buffer left begins = begins.1 ∙ ap (λ bs. buffer ++ bs) (sym (ap (λ bs. drop (length buffer) bs) begins.1 ∙ drop_front buffer begins.0))
 
 -- however the lines of the held and the left bytes end, so ends the whole input
 pub record OnTheWay (input : List ℕ) (limit : ℕ) (held : Held) (number : ℕ) (begun left part : List ℕ) : Type 0 where
@@ -182,14 +182,14 @@ way_leads input limit held after number number' begun stretch begun' left part r
       (way.ends (reply ++ more) result (subst (λ bs. EndsFrom held number (lines_of bs) (reply ++ more) result) (append_assoc begun stretch left) (leads left more result e)));
 }
 
--- the bytes shown are the first of those that are left
-pub way_shown : (input : List ℕ) (limit : ℕ) (held : Held) (number : ℕ) (begun shown left part : List ℕ) → Begins shown left → OnTheWay input limit held number begun left part → OnTheWay input limit held number begun (shown ++ drop (length shown) left) part
-way_shown input limit held number begun shown left part begins way = subst (λ bs. OnTheWay input limit held number begun bs part) (all_shown shown left begins) way
+-- the bytes buffer are the first of those that are left
+pub way_shown : (input : List ℕ) (limit : ℕ) (held : Held) (number : ℕ) (begun buffer left part : List ℕ) → Begins buffer left → OnTheWay input limit held number begun left part → OnTheWay input limit held number begun (buffer ++ drop (length buffer) left) part
+way_shown input limit held number begun buffer left part begins way = subst (λ bs. OnTheWay input limit held number begun bs part) (all_shown buffer left begins) way
 
--- the bytes shown are answered or held, and those behind them are left
-pub way_goes_on : (input : List ℕ) (limit : ℕ) (held after : Held) (number number' : ℕ) (begun shown begun' left part reply : List ℕ) → Begins shown left → OnTheWay input limit held number begun left part → LeadsTo held number (begun ++ shown) after number' begun' reply → OnTheWay input limit after number' begun' (drop (length shown) left) (part ++ reply)
-way_goes_on input limit held after number number' begun shown begun' left part reply begins way leads =
-    way_leads input limit held after number number' begun shown begun' (drop (length shown) left) part reply (way_shown input limit held number begun shown left part begins way) leads
+-- the bytes buffer are answered or held, and those behind them are left
+pub way_goes_on : (input : List ℕ) (limit : ℕ) (held after : Held) (number number' : ℕ) (begun buffer begun' left part reply : List ℕ) → Begins buffer left → OnTheWay input limit held number begun left part → LeadsTo held number (begun ++ buffer) after number' begun' reply → OnTheWay input limit after number' begun' (drop (length buffer) left) (part ++ reply)
+way_goes_on input limit held after number number' begun buffer begun' left part reply begins way leads =
+    way_leads input limit held after number number' begun buffer begun' (drop (length buffer) left) part reply (way_shown input limit held number begun buffer left part begins way) leads
 
 -- a line of a stretch fails
 pub way_fails : (input : List ℕ) (limit : ℕ) (held : Held) (number : ℕ) (begun stretch left part reply : List ℕ) (fault : RunFault) → OnTheWay input limit held number begun (stretch ++ left) part → FailsWith held number (begun ++ stretch) reply fault → Ends input limit (part ++ reply) (Err fault)

@@ -59,6 +59,12 @@ IsEndFault (Refused number error) = (number ≡ 0) × (error ≡ FailedAllocatio
 IsEndFault WriteFailed = Unit {0}
 IsEndFault _ = ⊥
 
+-- a line is not text, or there was no memory
+abbrev pub IsCutFault : RunFault → Type 0
+IsCutFault (Refused number error) = error ≡ FailedAllocation
+IsCutFault (NotText number) = Unit {0}
+IsCutFault _ = ⊥
+
 -- a line is faulty, or there was no memory
 abbrev pub IsLineFault : RunFault → Type 0
 IsLineFault (Refused number error) = Unit {0}

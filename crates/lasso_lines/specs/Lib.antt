@@ -8,3 +8,4 @@ pub mod Fronts
 pub mod Ordered
 pub mod Shares
 pub mod LineFaults
+pub mod Explained

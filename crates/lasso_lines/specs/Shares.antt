@@ -1,11 +1,11 @@
 -- The lines of each worker, and the positions of their texts.
-use Rattle.std.specs.Prelude.{ℕ, zero, suc, ◌≡◌, ◌⊎◌, ◌+◌, ◌*◌, ◌<◌, ◌≤◌, ◌++◌, ◌∷◌, List, [], length, slice_index_or, Option, Some, None, Result, MatchResult, Vec}
+use Rattle.std.specs.Prelude.{ℕ, zero, suc, ◌≡◌, ◌⊎◌, ◌+◌, ◌*◌, ◌<◌, ◌≤◌, ◌++◌, ◌∷◌, List, [], length, slice_index_or, Contains, Option, Some, None, Result, MatchResult, Vec}
 use Rattle.lasso_parts.specs.Texts.{Text}
 use Rattle.lasso_parts.specs.declared.util.LassoErrorKind.{LassoErrorKind}
 use Rattle.lasso_parts.specs.declared.util.LassoErrorKind.TheVariants.{FailedAllocation}
-use Rattle.lasso_log.specs.History.{History, Totals}
+use Rattle.lasso_log.specs.History.{History, Totals, totals}
 use Rattle.lasso_log.specs.Notes.{history}
-use Rattle.lasso_log.specs.Views.{InternerId, KnownView, list_of}
+use Rattle.lasso_log.specs.Views.{InternerId, SnapshotView, list_of}
 use Rattle.lasso_columns.specs.Codes.{AreCodes}
 use Rattle.lasso_columns.specs.Sharing.{IsRefusalIn}
 use Rattle.lasso_lines.specs.Ordered.{AreSameTexts}
@@ -35,22 +35,31 @@ abbrev pub Refusal : Type 0
 Refusal = ℕ × LassoErrorKind
 
 -- one of the worker's lines was refused: the number is that line's, and the reason is out of memory, or one with which interning
--- this line may be refused somewhere in the history
+-- this line may be refused somewhere in the history; the worker's lines before it are in the list that the history leads to
 abbrev pub IsRefusedBy : Totals → History → List Text → (worker workers : ℕ) → Refusal → Type 0
 IsRefusedBy opening past lines worker workers refusal =
     (n : ℕ)
     × (worker + n * workers < length lines)
     × (refusal.0 ≡ worker + n * workers + 1)
     × IsRefusalIn opening past (line_at lines (worker + n * workers) ∷ []) refusal.1
+    × ((j : ℕ) → j < n → Contains (totals opening past).texts (line_at lines (worker + j * workers)))
 
--- the same of a line of whichever worker
+-- a line of whichever worker was refused, for such a reason
 abbrev pub IsRefusedIn : Totals → History → List Text → Refusal → Type 0
 IsRefusedIn opening past lines refusal =
     (i : ℕ) × (i < length lines) × (refusal.0 ≡ i + 1) × IsRefusalIn opening past (line_at lines i ∷ []) refusal.1
 
--- the fault is such a refusal; or memory was not found where no line was at hand
+-- each line before the one of this number, counted from 1, is in the list
+abbrev pub AreInBefore : List Text → List Text → ℕ → Type 0
+AreInBefore list lines number = (i : ℕ) → i + 1 < number → Contains list (line_at lines i)
+
+-- such a refusal is the lowest one: all lines before it are in the list that the history leads to
+abbrev pub IsLowestRefusedIn : Totals → History → List Text → Refusal → Type 0
+IsLowestRefusedIn opening past lines refusal = IsRefusedIn opening past lines refusal × AreInBefore (totals opening past).texts lines refusal.0
+
+-- the fault is the lowest refusal; or out of memory where no line was at hand
 abbrev pub IsRefusalOf : Totals → History → List Text → RunFault → Type 0
-IsRefusalOf opening past lines (Refused number error) = ((number ≡ 0) × (error ≡ FailedAllocation)) ⊎ IsRefusedIn opening past lines (number, error)
+IsRefusalOf opening past lines (Refused number error) = ((number ≡ 0) × (error ≡ FailedAllocation)) ⊎ IsLowestRefusedIn opening past lines (number, error)
 IsRefusalOf opening past lines _ = ⊥
 
 -- the result is the refusal of the lower line, with its own reason
@@ -59,7 +68,7 @@ IsLower None other result = result ≡ other
 IsLower (Some refusal) other result = (refusal.0 ≤ other.0 → result ≡ refusal) × (other.0 < refusal.0 → result ≡ other)
 
 -- what was seen of the interner, in whose list the worker's lines have these codes; or one of them was refused there
-abbrev pub IsShareOf : {A : Type 0} → InternerId → List Text → (worker workers : ℕ) → KnownView → Result (Vec ℕ A) Refusal → Type 0
+abbrev pub IsShareOf : {A : Type 0} → InternerId → List Text → (worker workers : ℕ) → SnapshotView → Result (Vec ℕ A) Refusal → Type 0
 IsShareOf of lines worker workers known outcome =
     (known.of ≡ of)
     × MatchResult outcome

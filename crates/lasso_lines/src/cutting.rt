@@ -2,7 +2,7 @@
 ghost use Rattle.std.specs.Prelude.{◌≡◌, ◌+◌, ◌++◌, ◌∷◌, ◌⊎◌, ℕ, List, [], Some, OnOk, IfOk, IfErr, IsUtf8, map};
 ghost use Rattle.lasso_columns.specs.Lines.{lines_of};
 ghost use Rattle.lasso_lines.specs.Stream.{Stays, Ended};
-ghost use Rattle.lasso_lines.specs.Answer.{IsInputFault, IsLineFault, failed_reads};
+ghost use Rattle.lasso_lines.specs.Answer.{IsInputFault, IsCutFault, failed_reads};
 ghost use Rattle.lasso_lines.specs.LineFaults.{AreTexts, IsFaultOf};
 ghost use Rattle.lasso_lines.specs.declared.fault.RunFault.TheVariants.{Refused, NotText};
 ghost use Rattle.lasso_parts.specs.declared.util.LassoErrorKind.TheVariants.{FailedAllocation};
@@ -10,7 +10,7 @@ ghost use Rattle.lasso_parts.specs.declared.util.LassoErrorKind.TheVariants.{Fai
 use crate::fault::RunFault;
 use crate::stream::ByteReader;
 use crate::stretches::{hold, next_number};
-use lasso_columns::lines::{behind, next_feed};
+use lasso_columns::lines::{after_newline, find_newline};
 use std::str::from_utf8;
 use std::sync::Wait;
 
@@ -26,12 +26,12 @@ pub(crate) fn read_all<R: Wait, I: ByteReader>(
     ensures bytes { (left : List ℕ) → I.left reader.old ≡ Some left → OnOk result (input.new.items ≡ input.old.items ++ left) }
 {
     'parts: for _ in rt.forever() {
-        let shown = reader.shown();
-        hold(input, shown, 0)?;
-        let count = shown.len();
-        reader.use_up(count);
+        let buffer = reader.buffer();
+        hold(input, buffer, 0)?;
+        let count = buffer.len();
+        reader.consume(count);
         refill(reader)?;
-        if reader.shown().is_empty() {
+        if reader.buffer().is_empty() {
             return Ok(());
         }
     }
@@ -45,7 +45,7 @@ fn refill<I: ByteReader>(reader: &mut I) -> Result<(), RunFault>
     ensures end { OnOk result (I.at_hand reader.new ≡ [] → Ended (I.left reader.old) (I.left reader.new)) }
     ensures faults { IfErr result IsInputFault }
 {
-    match reader.refill() {
+    match reader.fill_buf() {
         Ok(()) => Ok(()),
         Err(_) => Err(RunFault::ReadFailed),
     }
@@ -57,7 +57,7 @@ pub(crate) fn cut<'a, R: AllocGlobal + Wait>(
     rt: &R,
     input: &'a [u8],
 ) -> Result<Vec<&'a str>, RunFault>
-    ensures faults { IfErr result IsLineFault }
+    ensures faults { IfErr result IsCutFault }
     ensures told { IfErr result (IsFaultOf (lines_of input.now)) }
     ensures texts { OnOk result (AreTexts (lines_of input.now)) }
     ensures lines { IfOk result (λ lines. map (λ t. t.now) lines.items ≡ lines_of input.now) }
@@ -65,10 +65,10 @@ pub(crate) fn cut<'a, R: AllocGlobal + Wait>(
     let mut lines = Vec::new(rt.alloc());
     let mut number = 1u64;
     let mut rest = input;
-    while let Some(at) = next_feed(rest) {
+    while let Some(at) = find_newline(rest) {
         push_line(&mut lines, &rest[..at], number)?;
         number = next_number(rt, number);
-        rest = behind(rest, at);
+        rest = after_newline(rest, at);
     }
     if rest.is_empty() {
         return Ok(lines);

@@ -70,12 +70,12 @@ fn answer_input<R: AllocGlobal + Wait, I: ByteReader, O: ByteWriter>(
     let mut begun = Vec::new(rt.alloc());
     let mut number = 1u64;
     'stretches: for _ in rt.forever() {
-        let shown = reader.shown();
-        number = answer_stretch(rt, &mut rodeo, &mut begun, shown, number, writer)?;
-        let count = shown.len();
-        reader.use_up(count);
+        let buffer = reader.buffer();
+        number = answer_stretch(rt, &mut rodeo, &mut begun, buffer, number, writer)?;
+        let count = buffer.len();
+        reader.consume(count);
         ask_for_more(reader, writer)?;
-        if reader.shown().is_empty() {
+        if reader.buffer().is_empty() {
             return answer_end(&mut rodeo, &begun, number, writer);
         }
     }
@@ -97,7 +97,7 @@ fn ask_for_more<I: ByteReader, O: ByteWriter>(
     ensures faults { IfErr result IsStreamFault }
 {
     flush_all(writer)?;
-    match reader.refill() {
+    match reader.fill_buf() {
         Ok(()) => Ok(()),
         Err(_) => Err(RunFault::ReadFailed),
     }

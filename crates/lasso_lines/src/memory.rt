@@ -6,7 +6,7 @@ ghost use Rattle.lasso_lines.specs.declared.fault.RunFault.TheVariants.{ReadFail
 use crate::engine::run;
 use crate::failures::Failures;
 use crate::fault::RunFault;
-use crate::stream::{ByteReader, ByteWriter, Failed, push_line};
+use crate::stream::{ByteReader, ByteWriter, StreamError, push_line};
 use lasso::MemoryLimits;
 use std::alloc::Global;
 use std::marker::Model;
@@ -42,15 +42,15 @@ impl ByteReader for MemoryReader<'_> {
 
     ghost failures = { λ _. 0 };
 
-    fn shown(&self) -> &[u8] {
+    fn buffer(&self) -> &[u8] {
         self.rest
     }
 
-    fn refill(&mut self) -> Result<(), Failed> {
+    fn fill_buf(&mut self) -> Result<(), StreamError> {
         Ok(())
     }
 
-    fn use_up(&mut self, count: usize) {
+    fn consume(&mut self, count: usize) {
         self.rest = &self.rest[count..];
     }
 }
@@ -110,17 +110,17 @@ impl ByteWriter for MemoryWriter {
         fits
     }
 
-    fn write(&mut self, bytes: &[u8]) -> Result<usize, Failed> {
+    fn write(&mut self, bytes: &[u8]) -> Result<usize, StreamError> {
         match self.bytes.extend_from_slice(bytes) {
             Ok(()) => Ok(bytes.len()),
             Err(_) => {
                 self.failures = self.failures.and_one();
-                Err(Failed)
+                Err(StreamError)
             }
         }
     }
 
-    fn flush(&mut self) -> Result<(), Failed> {
+    fn flush(&mut self) -> Result<(), StreamError> {
         Ok(())
     }
 }

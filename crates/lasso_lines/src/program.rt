@@ -5,6 +5,7 @@ ghost use Rattle.lasso_lines.specs.Report.{Ends};
 ghost use Rattle.lasso_lines.specs.Answer.{failed_reads, failed_writes};
 ghost use Rattle.lasso_lines.specs.Arguments.{settings_of};
 ghost use Rattle.lasso_lines.specs.LineFaults.{AreTexts, IsFaultOf};
+ghost use Rattle.lasso_lines.specs.Explained.{IsExplainedBy};
 ghost use Rattle.lasso_lines.specs.Ordered.{WritesOrdered, BeginsOrdered};
 ghost use Rattle.lasso_columns.specs.Lines.{lines_of};
 ghost use Rattle.lasso_lines.specs.declared.fault.RunFault.TheVariants.{Usage, WriteFailed};
@@ -33,6 +34,7 @@ pub fn run_words<R: AllocGlobal + Threads + Wait + Sync, I: ByteReader, O: ByteW
     ensures nothing_written { (limit workers : ℕ) → settings_of (map string_bytes words.now) ≡ Some (limit, Some workers) →
         IfErr result (λ fault. ¬ (fault ≡ WriteFailed) → Stays (written (O.delivered writer.old) (O.pending writer.old)) (written (O.delivered writer.new) (O.pending writer.new))) }
     ensures fault { (limit workers : ℕ) (input : List ℕ) → settings_of (map string_bytes words.now) ≡ Some (limit, Some workers) → I.left reader.old ≡ Some input → IfErr result (IsFaultOf (lines_of input)) }
+    ensures refused { (limit workers : ℕ) (input : List ℕ) → settings_of (map string_bytes words.now) ≡ Some (limit, Some workers) → I.left reader.old ≡ Some input → IfErr result (IsExplainedBy limit (lines_of input)) }
     ensures texts { (limit workers : ℕ) (input : List ℕ) → settings_of (map string_bytes words.now) ≡ Some (limit, Some workers) → I.left reader.old ≡ Some input → OnOk result (AreTexts (lines_of input)) }
     ensures lines { (limit workers : ℕ) (input : List ℕ) → settings_of (map string_bytes words.now) ≡ Some (limit, Some workers) → I.left reader.old ≡ Some input →
         OnOk result (Grows (written (O.delivered writer.old) (O.pending writer.old)) (written (O.delivered writer.new) (O.pending writer.new)) (WritesOrdered (lines_of input))) }

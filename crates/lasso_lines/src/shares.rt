@@ -1,5 +1,6 @@
 //! The lines of each worker, and what the workers give back.
 ghost use Rattle.std.specs.Prelude.{◌≡◌, ◌<◌, ◌≤◌, ◌+◌, ◌++◌, ◌∷◌, List, [], OnOk, IfOk, IfErr, IfSome, IsSomeAnd, MatchResult, None, length, map, vec_len};
+ghost use mathlib.Core.List.{IsPrefix};
 ghost use Rattle.lasso_parts.specs.Texts.{Text};
 ghost use Rattle.lasso_columns.specs.Codes.{AreCodes};
 ghost use Rattle.lasso_columns.specs.Encoding.{spur_at};
@@ -12,7 +13,7 @@ ghost use Rattle.lasso_parts.specs.declared.util.LassoErrorKind.TheVariants.{Fai
 
 use crate::fault::RunFault;
 use crate::workers::Gate;
-use lasso::log::{Known, Pass};
+use lasso::log::{Pass, Snapshot};
 use lasso::{LassoError, LassoErrorKind, Spur, SpurThreadedRodeo};
 use std::sync::Wait;
 use std::thread::{Threads, map_indices};
@@ -27,12 +28,13 @@ type Refusal = (u64, LassoError);
 // the first of its lines that was refused.
 #[derive(Drop)]
 struct Share {
-    known: Known<Spur>,
+    known: Snapshot<Spur>,
     codes: Result<Vec<u32>, Refusal>,
 }
 
 // Has the workers intern the lines. Returns the positions of the lines' texts in the list that the pass has then seen,
-// worker by worker. The fault is that of the lowest line that was refused, with the reason that it was refused for.
+// worker by worker. The fault is that of the lowest line that was refused, with the reason that it was refused for: all lines before
+// it are in that list.
 pub(crate) fn share_out<R: AllocGlobal + Threads + Wait + Sync, G: Gate>(
     rt: &R,
     rodeo: &SpurThreadedRodeo,
@@ -48,7 +50,7 @@ pub(crate) fn share_out<R: AllocGlobal + Threads + Wait + Sync, G: Gate>(
     ensures refused { IfErr result (IsRefusalOf rodeo.now.opening (seen pass.new) (map (λ t. t.now) lines.now)) }
     ensures legal { IsLegal spur_at rodeo.now.opening (seen pass.new) }
 {
-    pass.show_legal();
+    pass.prove_legal();
     let work = move |worker: usize| -> Share
         requires { 0 < workers }
         ensures { IsShareOf rodeo.entry.now (map (λ t. t.now) lines.entry.now) worker workers result.known result.codes }
@@ -60,7 +62,7 @@ pub(crate) fn share_out<R: AllocGlobal + Threads + Wait + Sync, G: Gate>(
     let mut lowest = None;
     for share in 0..shares.len() {
         let done = &shares[share];
-        pass.recall(&done.known);
+        pass.learn(&done.known);
         lowest = add_codes(&mut codes, lowest, &done.codes)?;
     }
     match lowest {
@@ -115,7 +117,7 @@ fn intern_share<R: AllocGlobal + Wait, G: Gate>(
     let mut pass = rodeo.pass();
     let codes = intern_by(rt, rodeo, &mut pass, lines, worker, workers, gate);
     Share {
-        known: pass.known(),
+        known: pass.snapshot(),
         codes,
     }
 }
@@ -161,6 +163,7 @@ fn intern_line<R: Wait>(
     ensures of { pass.new.of ≡ rodeo.now }
     ensures number { IfErr result (λ refusal. refusal.0 ≡ number) }
     ensures reason { IfErr result (λ refusal. IsRefusalIn rodeo.now.opening (seen pass.new) (line.now ∷ []) refusal.1) }
+    ensures grows { IsPrefix (list_of rodeo.now pass.old.notes) (list_of rodeo.now pass.new.notes) }
     ensures one { OnOk result (vec_len codes.new ≡ vec_len codes.old + 1) }
     ensures coded { (texts : List Text) → AreCodes (list_of rodeo.now pass.old.notes) texts codes.old.items →
         OnOk result (AreCodes (list_of rodeo.now pass.new.notes) (texts ++ line.now ∷ []) codes.new.items) }

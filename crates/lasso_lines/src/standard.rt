@@ -6,7 +6,7 @@ ghost use Rattle.lasso_lines.specs.Stream.{Begins, Grows, Stays, OnlyGrows, writ
 mod tests;
 
 use crate::failures::Failures;
-use crate::stream::{ByteReader, ByteWriter, Failed, push_line};
+use crate::stream::{ByteReader, ByteWriter, StreamError, push_line};
 use std::alloc::{AllocError, Global};
 use std::io::{Read, Write};
 use std::marker::Model;
@@ -60,11 +60,11 @@ impl<R: Read + Drop> ByteReader for StandardReader<R> {
 
     ghost failures = { λ r. r.failures };
 
-    fn shown(&self) -> &[u8] {
+    fn buffer(&self) -> &[u8] {
         &self.buffer[self.used..self.filled]
     }
 
-    fn refill(&mut self) -> Result<(), Failed> {
+    fn fill_buf(&mut self) -> Result<(), StreamError> {
         if self.used < self.filled {
             return Ok(());
         }
@@ -76,12 +76,12 @@ impl<R: Read + Drop> ByteReader for StandardReader<R> {
             }
             Err(_) => {
                 self.failures = self.failures.and_one();
-                Err(Failed)
+                Err(StreamError)
             }
         }
     }
 
-    fn use_up(&mut self, count: usize) {
+    fn consume(&mut self, count: usize) {
         self.used += count;
     }
 }
@@ -153,7 +153,7 @@ impl<W: Write + Drop> ByteWriter for StandardWriter<W> {
         self.outgoing.take_line(front, line)
     }
 
-    fn write(&mut self, bytes: &[u8]) -> Result<usize, Failed> {
+    fn write(&mut self, bytes: &[u8]) -> Result<usize, StreamError> {
         let taken = self.outgoing.take(bytes);
         if taken.is_err() {
             self.failures = self.failures.and_one();
@@ -161,7 +161,7 @@ impl<W: Write + Drop> ByteWriter for StandardWriter<W> {
         taken
     }
 
-    fn flush(&mut self) -> Result<(), Failed> {
+    fn flush(&mut self) -> Result<(), StreamError> {
         let flushed = self.outgoing.flush();
         if flushed.is_err() {
             self.failures = self.failures.and_one();
@@ -199,7 +199,7 @@ impl<W: Write + Drop> Outgoing<W> {
     }
 
     // Takes as many bytes as there is room for, once the buffer is not full.
-    fn take(&mut self, bytes: &[u8]) -> Result<usize, Failed>
+    fn take(&mut self, bytes: &[u8]) -> Result<usize, StreamError>
         ensures delivered { OnlyGrows (W.contents self.old.inner) (W.contents self.new.inner) }
         ensures written { Grows (written (W.contents self.old.inner) (Some (drop self.old.sent self.old.buffer.items))) (written (W.contents self.new.inner) (Some (drop self.new.sent self.new.buffer.items)))
             (λ part. MatchResult result (λ n. part ≡ take n bytes.now) (λ _. Begins part bytes.now)) }
@@ -210,12 +210,12 @@ impl<W: Write + Drop> Outgoing<W> {
         let count = bytes.len().min(BUFFER - self.buffer.len());
         match self.buffer.extend_from_slice(&bytes[..count]) {
             Ok(()) => Ok(count),
-            Err(_) => Err(Failed),
+            Err(_) => Err(StreamError),
         }
     }
 
     // Hands all to the inner writer and flushes it.
-    fn flush(&mut self) -> Result<(), Failed>
+    fn flush(&mut self) -> Result<(), StreamError>
         ensures delivered { OnlyGrows (W.contents self.old.inner) (W.contents self.new.inner) }
         ensures written { Stays (written (W.contents self.old.inner) (Some (drop self.old.sent self.old.buffer.items))) (written (W.contents self.new.inner) (Some (drop self.new.sent self.new.buffer.items))) }
         ensures all { OnOk result (drop self.new.sent self.new.buffer.items ≡ []) }
@@ -223,12 +223,12 @@ impl<W: Write + Drop> Outgoing<W> {
         self.send()?;
         match self.inner.flush() {
             Ok(()) => Ok(()),
-            Err(_) => Err(Failed),
+            Err(_) => Err(StreamError),
         }
     }
 
     // Sees that the buffer is not full.
-    fn make_room(&mut self) -> Result<(), Failed>
+    fn make_room(&mut self) -> Result<(), StreamError>
         ensures delivered { OnlyGrows (W.contents self.old.inner) (W.contents self.new.inner) }
         ensures written { Stays (written (W.contents self.old.inner) (Some (drop self.old.sent self.old.buffer.items))) (written (W.contents self.new.inner) (Some (drop self.new.sent self.new.buffer.items))) }
         ensures room { OnOk result (length self.new.buffer.items < 65536) }
@@ -240,14 +240,14 @@ impl<W: Write + Drop> Outgoing<W> {
     }
 
     // Hands all to the inner writer. Where that fails, what was not sent is kept.
-    fn send(&mut self) -> Result<(), Failed>
+    fn send(&mut self) -> Result<(), StreamError>
         ensures delivered { OnlyGrows (W.contents self.old.inner) (W.contents self.new.inner) }
         ensures written { Stays (written (W.contents self.old.inner) (Some (drop self.old.sent self.old.buffer.items))) (written (W.contents self.new.inner) (Some (drop self.new.sent self.new.buffer.items))) }
         ensures all { OnOk result (self.new.buffer.items ≡ []) }
     {
         while self.sent < self.buffer.len() {
             match self.inner.write(&self.buffer[self.sent..]) {
-                Ok(0) | Err(_) => return Err(Failed),
+                Ok(0) | Err(_) => return Err(StreamError),
                 Ok(count) => self.sent += count,
             }
         }

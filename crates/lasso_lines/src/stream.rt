@@ -5,7 +5,7 @@ ghost use Rattle.lasso_lines.specs.Stream.{Begins, Grows, OnlyGrows, Stays, Lose
 
 /// A call failed. The reader or writer has counted it.
 #[derive(Clone, Copy, Debug, PartialEq, Eq)]
-pub struct Failed;
+pub struct StreamError;
 
 /// Shows the bytes that are at hand, and gets more when it is asked.
 pub trait ByteReader {
@@ -19,19 +19,19 @@ pub trait ByteReader {
     ghost failures: { Self → ℕ };
 
     /// The bytes at hand, which are the first of those that are left.
-    fn shown(&self) -> &[u8]
+    fn buffer(&self) -> &[u8]
         ensures value { result.now ≡ at_hand self.now }
         ensures first { ComeFirst result.now (left self.now) };
 
     /// Gets more bytes, where none are at hand. Where none are at hand after that, the input has ended.
     /// It may fail, and takes nothing then.
-    fn refill(&mut self) -> Result<(), Failed>
+    fn fill_buf(&mut self) -> Result<(), StreamError>
         ensures failures { failures self.new ≡ failures self.old + failed_calls result }
         ensures left { Stays (left self.old) (left self.new) }
         ensures end { OnOk result (at_hand self.new ≡ [] → Ended (left self.old) (left self.new)) };
 
     /// Takes so many of the bytes at hand away.
-    fn use_up(&mut self, count: usize)
+    fn consume(&mut self, count: usize)
         requires { count ≤ length (at_hand self.old) }
         ensures at_hand { at_hand self.new ≡ drop count (at_hand self.old) }
         ensures left { Loses count (left self.old) (left self.new) }
@@ -64,7 +64,7 @@ pub trait ByteWriter {
 
     /// Takes some of the bytes, at least one where there is one, and answers how many; it may deliver
     /// bytes meanwhile. A call that fails may have taken some of the bytes, and keeps what is pending.
-    fn write(&mut self, bytes: &[u8]) -> Result<usize, Failed>
+    fn write(&mut self, bytes: &[u8]) -> Result<usize, StreamError>
         ensures failures { failures self.new ≡ failures self.old + failed_calls result }
         ensures delivered { OnlyGrows (delivered self.old) (delivered self.new) }
         ensures written { Grows (written (delivered self.old) (pending self.old)) (written (delivered self.new) (pending self.new))
@@ -73,7 +73,7 @@ pub trait ByteWriter {
         ensures progress { IfOk result (λ n. 0 < length bytes.now → 0 < n) };
 
     /// Delivers all that is pending. A call that fails may have delivered some, and keeps the rest.
-    fn flush(&mut self) -> Result<(), Failed>
+    fn flush(&mut self) -> Result<(), StreamError>
         ensures failures { failures self.new ≡ failures self.old + failed_calls result }
         ensures delivered { OnlyGrows (delivered self.old) (delivered self.new) }
         ensures written { Stays (written (delivered self.old) (pending self.old)) (written (delivered self.new) (pending self.new)) }

@@ -1,4 +1,4 @@
-//! The lines of a stretch: the bytes that a reader shows at once.
+//! The lines of a stretch: the bytes that a reader's buffer has at once.
 ghost use Rattle.std.specs.Prelude.{◌≡◌, ℕ, ◌+◌, ◌-◌, ◌<◌, ◌++◌, [], OnOk, IfOk, IfErr, MatchResult, IsUtf8, length, take};
 ghost use Rattle.lasso_lines.specs.Stream.{Grows, OnlyGrows, written};
 ghost use Rattle.lasso_lines.specs.Report.{holding, first_bytes};
@@ -11,17 +11,17 @@ ghost use Rattle.lasso_parts.specs.declared.util.LassoErrorKind.TheVariants.{Fai
 use crate::answers::{LineRodeo, answer_line};
 use crate::fault::RunFault;
 use crate::stream::ByteWriter;
-use lasso_columns::lines::{behind, next_feed};
+use lasso_columns::lines::{after_newline, find_newline};
 use std::str::from_utf8;
 use std::sync::Wait;
 
-// Answers the lines that end among the bytes shown, the first of which begins with the bytes held, and holds
+// Answers the lines that end among the buffer's bytes, the first of which begins with the bytes held, and holds
 // what is behind them. It returns the number of the line that is held then, or that comes next.
 pub(crate) fn answer_stretch<R: Wait, O: ByteWriter>(
     rt: &R,
     rodeo: &mut LineRodeo,
     begun: &mut Vec<u8>,
-    shown: &[u8],
+    buffer: &[u8],
     number: u64,
     writer: &mut O,
 ) -> Result<u64, RunFault>
@@ -33,24 +33,24 @@ pub(crate) fn answer_stretch<R: Wait, O: ByteWriter>(
     ensures delivered { OnlyGrows (O.delivered writer.old) (O.delivered writer.new) }
     ensures answers { Grows (written (O.delivered writer.old) (O.pending writer.old)) (written (O.delivered writer.new) (O.pending writer.new))
         (λ part. MatchResult result
-        (λ next. LeadsTo (holding rodeo.old.texts rodeo.old.account) number (begun.old.items ++ shown.now) (holding rodeo.new.texts rodeo.new.account) next begun.new.items part)
-        (λ fault. FailsWith (holding rodeo.old.texts rodeo.old.account) number (begun.old.items ++ shown.now) part fault)) }
+        (λ next. LeadsTo (holding rodeo.old.texts rodeo.old.account) number (begun.old.items ++ buffer.now) (holding rodeo.new.texts rodeo.new.account) next begun.new.items part)
+        (λ fault. FailsWith (holding rodeo.old.texts rodeo.old.account) number (begun.old.items ++ buffer.now) part fault)) }
     ensures held { OnOk result (NoFeed begun.new.items) }
     ensures counted { IfOk result (λ next. 0 < next) }
     ensures faults { IfErr result IsAnswerFault }
 {
     if begun.is_empty() {
-        let (next, last) = answer_lines(rt, rodeo, shown, number, writer)?;
+        let (next, last) = answer_lines(rt, rodeo, buffer, number, writer)?;
         hold(begun, last, next)?;
         return Ok(next);
     }
-    let Some(at) = next_feed(shown) else {
-        hold(begun, shown, number)?;
+    let Some(at) = find_newline(buffer) else {
+        hold(begun, buffer, number)?;
         return Ok(number);
     };
-    answer_held(rodeo, begun, &shown[..at], number, writer)?;
+    answer_held(rodeo, begun, &buffer[..at], number, writer)?;
     let second = next_number(rt, number);
-    let (next, last) = answer_lines(rt, rodeo, behind(shown, at), second, writer)?;
+    let (next, last) = answer_lines(rt, rodeo, after_newline(buffer, at), second, writer)?;
     hold(begun, last, next)?;
     Ok(next)
 }
@@ -80,12 +80,12 @@ fn answer_lines<'a, R: Wait, O: ByteWriter>(
     let untested = untested_len(stretch);
     let mut number = number;
     let mut rest = stretch;
-    while let Some(at) = next_feed(rest) {
+    while let Some(at) = find_newline(rest) {
         let line = &rest[..at];
         let is_text = untested < rest.len() - at;
         answer_line(rodeo, line, is_text, number, writer)?;
         number = next_number(rt, number);
-        rest = behind(rest, at);
+        rest = after_newline(rest, at);
     }
     Ok((number, rest))
 }

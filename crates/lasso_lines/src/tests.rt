@@ -1,8 +1,11 @@
-//! Runs over small inputs, and the program's words. Readers and writers that fail, odd inputs, and those of someone who
-//! waits for answers, stand in files of their own.
+//! Runs over small inputs, and the program's words. Readers and writers that fail, odd inputs, those of someone who
+//! waits for answers, and runs with workers stand in files of their own.
 mod failing;
+mod limits;
 mod many_lines;
 mod odd_inputs;
+mod refusals;
+mod streams;
 mod waiting;
 mod workers;
 

@@ -1,15 +1,17 @@
 //! A run whose lines several threads intern, and which writes the distinct ones in order.
 ghost use Rattle.std.specs.Prelude.{◌≡◌, ℕ, ◌+◌, ◌<◌, List, [], Some, Err, OnOk, IfOk, IfErr};
+ghost use Rattle.lasso_columns.specs.Encoding.{spur_at};
 ghost use Rattle.lasso_columns.specs.Lines.{lines_of};
-ghost use Rattle.lasso_log.specs.History.{opened};
-ghost use Rattle.lasso_log.specs.Views.{list_of};
+ghost use Rattle.lasso_log.specs.History.{IsLegal};
+ghost use Rattle.lasso_log.specs.Views.{PassView, InternerId, IsSamePass, list_of, seen};
 ghost use Rattle.lasso_lines.specs.Stream.{Grows, OnlyGrows, Stays, Ended, written};
 ghost use Rattle.lasso_lines.specs.Answer.{IsLineFault, failed_reads, failed_writes};
 ghost use Rattle.lasso_lines.specs.Ordered.{WritesOrdered, BeginsOrdered};
 ghost use Rattle.lasso_lines.specs.LineFaults.{AreTexts, IsFaultOf};
-ghost use Rattle.lasso_lines.specs.Report.{first_bytes};
+ghost use Rattle.lasso_lines.specs.Explained.{begun, IsExplainedIn, IsExplainedBy};
 ghost use Rattle.lasso_lines.specs.Shares.{AreCodesOf};
-ghost use Rattle.lasso_lines.specs.declared.fault.RunFault.TheVariants.{Usage, WriteFailed};
+ghost use Rattle.lasso_lines.specs.declared.fault.RunFault.TheVariants.{Usage, WriteFailed, Refused};
+ghost use Rattle.lasso_parts.specs.declared.util.LassoErrorKind.TheVariants.{FailedAllocation};
 
 use crate::cutting::{cut, read_all};
 use crate::engine::flush_all;
@@ -19,6 +21,7 @@ use crate::shares::share_out;
 use crate::stream::{ByteReader, ByteWriter};
 use lasso::log::Pass;
 use lasso::{Capacity, MemoryLimits, Spur, SpurThreadedRodeo, ThreadedRodeo};
+use std::alloc::Global;
 use std::sync::Wait;
 use std::thread::Threads;
 
@@ -62,6 +65,7 @@ pub fn run_workers<R: AllocGlobal + Threads + Wait + Sync, I: ByteReader, O: Byt
     ensures nothing_written { IfErr result (λ fault. ¬ (fault ≡ WriteFailed) → Stays (written (O.delivered writer.old) (O.pending writer.old)) (written (O.delivered writer.new) (O.pending writer.new))) }
     ensures no_usage { ¬ (result ≡ Err Usage) }
     ensures fault { (input : List ℕ) → I.left reader.old ≡ Some input → IfErr result (IsFaultOf (lines_of input)) }
+    ensures refused { (input : List ℕ) → I.left reader.old ≡ Some input → IfErr result (IsExplainedBy limits (lines_of input)) }
     ensures texts { (input : List ℕ) → I.left reader.old ≡ Some input → OnOk result (AreTexts (lines_of input)) }
     ensures lines { (input : List ℕ) → I.left reader.old ≡ Some input →
         OnOk result (Grows (written (O.delivered writer.old) (O.pending writer.old)) (written (O.delivered writer.new) (O.pending writer.new)) (WritesOrdered (lines_of input))) }
@@ -72,53 +76,45 @@ pub fn run_workers<R: AllocGlobal + Threads + Wait + Sync, I: ByteReader, O: Byt
     flush_all(writer)?;
     let mut input = Vec::new(rt.alloc());
     read_all(rt, reader, &mut input)?;
-    let mut interned = intern_lines(rt, &input, limits, workers, gate)?;
+    let rodeo = new_interner(rt.alloc(), limits)?;
+    let mut pass = rodeo.pass();
+    let codes = intern_lines(rt, &rodeo, &mut pass, &input, workers, gate)?;
     drop(input);
-    write_in_order(
-        rt,
-        &interned.rodeo,
-        &mut interned.pass,
-        &interned.codes,
-        workers,
-        writer,
-    )
+    write_in_order(rt, &rodeo, &mut pass, &codes, workers, writer)
 }
 
-// An interner of lines, what was seen of it, and the positions of the lines' texts.
-#[derive(Drop)]
-struct Interned {
-    rodeo: SpurThreadedRodeo,
-    pass: Pass<Spur>,
-    codes: Vec<u32>,
+// An interner of default capacity with this limit.
+fn new_interner(alloc: Global, limits: MemoryLimits) -> Result<SpurThreadedRodeo, RunFault>
+    ensures opening { IfOk result (λ rodeo. rodeo.opening ≡ begun limits) }
+    ensures fault { IfErr result (λ fault. fault ≡ Refused 0 FailedAllocation) }
+{
+    match ThreadedRodeo::with_capacity_and_memory_limits(alloc, Capacity::default(), limits) {
+        Ok(rodeo) => Ok(rodeo),
+        Err(error) => Err(RunFault::Refused(0, error)),
+    }
 }
 
-// Interns the lines of the input.
+// Has the workers intern the lines of the input. Returns the positions of the lines' texts in the list that the pass has then
+// seen, worker by worker.
 fn intern_lines<R: AllocGlobal + Threads + Wait + Sync, G: Gate>(
     rt: &R,
+    rodeo: &SpurThreadedRodeo,
+    pass: &mut Pass<Spur>,
     input: &[u8],
-    limits: MemoryLimits,
     workers: usize,
     gate: &G,
-) -> Result<Interned, RunFault>
-    requires { 0 < workers }
+) -> Result<Vec<u32>, RunFault>
+    requires some { 0 < workers }
+    requires of { pass.old.of ≡ rodeo.now }
+    ensures same { IsSamePass pass.new pass.old }
     ensures faults { IfErr result IsLineFault }
     ensures told { IfErr result (IsFaultOf (lines_of input.now)) }
     ensures texts { OnOk result (AreTexts (lines_of input.now)) }
-    ensures opening { IfOk result (λ interned. interned.rodeo.opening ≡ opened [] first_bytes 0 limits) }
-    ensures of { IfOk result (λ interned. interned.pass.of ≡ interned.rodeo) }
-    ensures codes { IfOk result (λ interned. AreCodesOf (list_of interned.rodeo interned.pass.notes) (lines_of input.now) interned.codes.items) }
+    ensures refused { IfErr result (IsExplainedIn rodeo.now.opening (seen pass.new) (lines_of input.now)) }
+    ensures legal { IsLegal spur_at rodeo.now.opening (seen pass.new) }
+    ensures codes { IfOk result (λ codes. AreCodesOf (list_of rodeo.now pass.new.notes) (lines_of input.now) codes.items) }
 {
+    pass.prove_legal();
     let lines = cut(rt, input)?;
-    let made = ThreadedRodeo::with_capacity_and_memory_limits(
-        rt.alloc(),
-        Capacity::default(),
-        limits,
-    );
-    let rodeo: SpurThreadedRodeo = match made {
-        Ok(rodeo) => rodeo,
-        Err(error) => return Err(RunFault::Refused(0, error)),
-    };
-    let mut pass = rodeo.pass();
-    let codes = share_out(rt, &rodeo, &mut pass, &lines, workers, gate)?;
-    Ok(Interned { rodeo, pass, codes })
+    share_out(rt, rodeo, pass, &lines, workers, gate)
 }

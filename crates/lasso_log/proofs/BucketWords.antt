@@ -1,9 +1,10 @@
 -- A bucket of a history: by as much as its word has grown since the bucket was seen, so have the bytes that the history counts, and
 -- those that the book has given out.
 --
--- A word, a counted bucket and a lent one stand at one position, and each event changes the three alike: a reservation in this bucket
--- adds as much to each, and any other event leaves them, since a charge puts its bucket last. So whoever knows the bucket in a
--- beginning of the log knows it in the whole log, with another value of the word, which is then the one that is found.
+-- A word, a counted bucket and a lent one have one position, and each event changes the three alike: a
+-- reservation in this bucket adds as much to each, and any other event leaves them, since a charge puts its
+-- bucket last. So whoever knows the bucket in a beginning of the log knows it in the whole log, with another
+-- value of the word, which is then the one that is found.
 use Rattle.std.proofs.Common.{◌≡◌, ◌≢◌, ℕ, zero, suc, ◌+◌, ◌≤◌, ◌<◌, List, [], ◌∷◌, ◌++◌, refl, ap, sym, ◌∙◌, subst, arith, Option, Some, None, slice_get, inl, inr}
 use Rattle.std.specs.Prelude.{IsSomeAnd}
 use Rattle.std.specs.List.{AllByRecursion}
@@ -44,7 +45,7 @@ one_behind (suc j) x y (z ∷ xs) at = one_behind j x y xs at
 
 -- ---- one event, and then any number
 
--- the three of a bucket, each with so many bytes more
+-- the three of a bucket, each with `n` bytes more
 abbrev Grown : List (ℕ × ℕ) → List CountedBucket → List LentBucket → ℕ → ℕ → ℕ → CountedBucket → LentBucket → Type 0
 Grown words counted lent position key value b x = (m : ℕ) × Stands words counted lent position key (value + m) (with_taken m b) (more_taken m x)
 

@@ -1,4 +1,4 @@
--- What is had of lent bytes, as resources: how room is lent place by place, filled, read and had back. Assumes `Logic`.
+-- Lent bytes, as resources: how room is lent place by place, filled, read and taken back. Assumes `Logic`.
 use Rattle.std.proofs.Common.{◌≡◌, ℕ, zero, suc, ◌+◌, List, [], ◌∷◌, ◌++◌, length, refl, arith}
 use seplogic.Ra.Ura.{Ura}
 use base.Fraction.{full_share}

@@ -41,7 +41,7 @@ module _ {M : Type 1} {𝓤 : Ura M} (𝓛 : Logic 𝓤) where
 
   infix 26 ◌⊢◌
   infixr 35 ◌∗◌
-  -- the right to a bucket's bytes, cut behind the next n
+  -- the right to a bucket's bytes, cut after the next n
   cut : (b : LentBucket) (n : ℕ) → b.used + n ≤ b.size → ⟦ untaken b ⟧ ⊢ ⟦ next_bytes b n ⟧ ∗ ⟦ untaken (more_taken n b) ⟧
   cut b n fits =
       let E = b.site.era in let block = b.site.block in let from : ℕ = b.site.start + b.used in let left : ℕ = b.size - (b.used + n) in

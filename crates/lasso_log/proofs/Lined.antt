@@ -1,10 +1,11 @@
 -- Texts that lie in chunks, as a resource: how a text is put to them, and how one is taken out of them.
 --
--- Each text of the list is kept as two lasting facts: that its chunk is written, and that the cell at its offset
--- in that chunk is written with something that means the text. A lasting fact can be had any number of times.
--- So one more text is a matter of putting its two facts at the end of the list, and a fact of a position below
--- the length is had by a walk along the list, which copies it and leaves the list as it was. Beside the texts the book keeps the
--- rights to bytes that nobody has taken, which an update of one kind takes from, and one of another kind adds to. Assumes `Logic`.
+-- Each text of the list is kept as two lasting facts: that its chunk is written, and that the cell at its
+-- offset in that chunk is written with something that means the text. A lasting fact can be had any number of
+-- times. So one more text is a matter of putting its two facts at the end of the list, and a fact of a
+-- position below the length comes from a walk along the list, which copies it and leaves the list as it was.
+-- Next to the texts the book keeps the rights to bytes that nobody has taken, which an update of one kind
+-- takes from, and one of another kind adds to. Assumes `Logic`.
 use Rattle.std.proofs.Common.{◌≡◌, ℕ, zero, suc, ◌+◌, ◌<◌, ◌≤◌, List, [], ◌∷◌, ◌++◌, length, slice_index_or, sym, refl, arith}
 use mathlib.Core.List.{IsPrefix}
 use seplogic.Ra.Ura.{Ura}
@@ -38,7 +39,7 @@ module _ (V R : RattleType) (cells : V.Denot → List Named) (meaning : R.Denot 
   pub kept_keyless : (names : List ℕ) (texts : List Text) (buckets : List LentBucket) → Keyless (fsep (lined V R cells meaning lasts names 0 texts) (all_untaken buckets))
   kept_keyless names texts buckets = (lined_keyless names 0 texts, untaken_keyless buckets)
 
--- what stands at a position stays there in a longer list
+-- an item at a position stays there in a longer list
 pub stands_still : (xs ys : List Text) (n : ℕ) → IsPrefix xs ys → n < length xs → slice_index_or ys n [] ≡ slice_index_or xs n []
 stands_still [] ys n p l = absurd (omega arith)
 stands_still (x ∷ xs) [] n p l = absurd (cc (p.1))

@@ -1,7 +1,8 @@
--- A bucket that a charge added stands last: its word, what the history counts of it, and where it lies.
+-- A bucket that a charge added is last: its word, what the history counts of it, and where it lies.
 --
--- The words of a history are two more than its buckets, and the book keeps the right to the bytes of as many buckets as the history counts:
--- a charge adds one to each, and no other event adds any. So the three that a charge puts last have one position.
+-- The words of a history are two more than its buckets, and the book keeps the right to the bytes of each
+-- bucket that the history counts: a charge adds one to each, and no other event adds any. So the three that a
+-- charge puts last have one position.
 use Rattle.std.proofs.Common.{inr, None, ◌≡◌, ℕ, suc, ◌+◌, List, [], ◌∷◌, ◌++◌, length, length-append, refl, ap, sym, ◌∙◌, subst, arith, Option, Some, slice_get}
 use Rattle.lasso_log.specs.Buckets.{CountedBucket, with_taken}
 use Rattle.lasso_log.specs.History.{Event, Reserve, Charge, Append, Limit, Totals, totals, counted}
@@ -21,7 +22,7 @@ last_of (x ∷ xs) y = last_of xs y
 one_longer : {A : Type 0} (xs : List A) (y : A) → length (xs ++ y ∷ []) ≡ suc (length xs)
 one_longer xs y = let l = length-append xs (y ∷ []) in omega (arith, l)
 
--- ---- as many words, and as many lent buckets
+-- ---- the numbers of words and of lent buckets
 
 words_by : (ws : List (ℕ × ℕ)) (s : Totals) (t : ℕ) (e : Event) → length ws ≡ suc (suc (length s.buckets)) → length (worded ws t e) ≡ suc (suc (length (counted s e).buckets))
 words_by ws s t (Reserve j n) h = length_changed (suc (suc j)) (λ w. (w.0, w.1 + n)) ws ∙ (h ∙ ap (λ (k : ℕ). suc (suc k)) (sym (length_changed j (with_taken n) s.buckets)))

@@ -1,10 +1,10 @@
 -- A look into a book: for a moment its invariant is open, what its rule keeps can be used, and is put back.
 --
 -- What a `Seen` owns is a name of the book's invariant and the fact that the log was reached. Both can be had
--- any number of times. The invariant holds the cells, the whole log, what clients keep beside what they see
--- of it, and that the rule holds. A log that was reached is a beginning of that log. So whoever holds a `Seen`
--- can open the invariant in one step of ghost state, take what is kept there through any entailment that gives
--- it back, close the invariant, and have a `Seen` of the whole log beside its own. Assumes `Logic`.
+-- any number of times. The invariant holds the cells, the whole log, what clients keep with what they see of
+-- it, and that the rule holds. A log that was reached is a beginning of that log. So whoever holds a `Seen`
+-- can open the invariant in one step of ghost state, take what is kept there through any entailment that
+-- gives it back, close the invariant, and have a `Seen` of the whole log next to its own. Assumes `Logic`.
 use Rattle.std.proofs.Common.{ℕ, List, [], ◌∷◌, map}
 use mathlib.Core.List.{IsPrefix}
 use seplogic.Ra.Ura.{Ura}

@@ -1,6 +1,6 @@
--- What a pen that is out tells of a log. The pen holds a part of its word's cell that the book would hold too if
--- the word were at home, and both can't be had. So at any moment at which the book is opened beside the pen,
--- the cell isn't at home, and the log is past what was seen. Assumes `Logic`.
+-- What a pen that is out tells of a log. The pen holds a part of its word's cell that the book would hold too
+-- if the word were at home, and both can't exist. So at any moment at which the book is opened while the pen
+-- is out, the cell isn't at home, and the log is past what was seen. Assumes `Logic`.
 use Rattle.std.proofs.Common.{◌≡◌, ℕ, false, List, [], ◌∷◌, sym, subst, arith}
 use mathlib.Core.List.{IsPrefix}
 use seplogic.Ra.Ura.{Ura}

@@ -33,7 +33,7 @@ text_read xs ys n t p low is =
     let long : length xs ≤ length ys = prefix_short xs ys p in
     sym is ∙ (get_is ys n (omega (arith, long, low)) ∙ (ap (λ (x : Text). Some x) (stands_still xs ys n p low) ∙ sym (get_is xs n low)))
 
--- no text stands twice where there is none
+-- an empty list has no text twice
 pub none_distinct : IsDistinct []
 none_distinct = IsDistinct-from_apart bytes_eq [] (λ i j d below inside. absurd (omega (arith, inside)))
 

@@ -46,7 +46,7 @@ zero_stays : (n : ℕ) → either (n == 0) 0 n ≡ n
 zero_stays n = by_cases (n == 0) (λ is. let z : n ≡ 0 = grind (arith, nat_tests) in rw is (sym z)) (λ is. rw is refl)
 
 module _ {Key : Type 0} (keys : ℕ → Option Key) where
-  -- a word that was seen stands in the book
+  -- a word that was seen is in the book
   pub stands : (cells : List Cell) (o : Totals) (v log : List NoteView) (j k : ℕ) → KeepsRule keys cells o log → IsPrefix v log → IsWord v j k → (m : ℕ) × IsWordWith log j k m × (cell cells k ≡ (m, true))
   stands cells o v log j k kept begins word =
       let later = word_later v log j k word.0 begins word.1 in

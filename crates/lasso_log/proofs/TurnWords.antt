@@ -65,7 +65,7 @@ each_lacks : (bs : List CountedBucket) (n : ℕ) → ((i : ℕ) → i < length b
 each_lacks [] n each = tt
 each_lacks (b ∷ bs) n each = (each zero (omega arith), each_lacks bs n (λ i low. each (suc i) (omega (arith, low))))
 
--- where each of as many buckets as there are lacks room, none has room
+-- if each of the history's buckets lacks room, none has room
 pub none_has_room : (s : Totals) (count n : ℕ) → count ≡ length s.buckets → NoneHasRoom s count n → HasNoRoom s.buckets n
 none_has_room s count n all none = All-from_recursion (λ (b : CountedBucket). b.size < b.used + n) s.buckets (each_lacks s.buckets n (λ i low. none i (omega (arith, low, all))))
 

@@ -35,6 +35,6 @@ stored_in_full doubling usage limit n = store 0 (full doubling usage limit) n
 abbrev pub bucket_size : (doubling usage limit n : ℕ) → Option ℕ
 bucket_size doubling usage limit n = option_map (λ (a : Account). a.usage - usage) (stored_in_full doubling usage limit n)
 
--- the doubling size once that bucket is there
+-- the doubling size after that bucket is added
 abbrev pub doubling_after : (doubling usage limit n : ℕ) → ℕ
 doubling_after doubling usage limit n = unwrap_or (option_map (λ (a : Account). a.doubling) (stored_in_full doubling usage limit n)) doubling

@@ -10,7 +10,7 @@ abbrev pub events_of : ℕ → History → List Event
 events_of pass [] = []
 events_of pass (e ∷ es) = if e.0 == pass then e.1 ∷ events_of pass es else events_of pass es
 
--- one event takes n bytes, in a bucket that is there or in a new one
+-- one event takes n bytes, in a present bucket or in a new one
 abbrev pub TakesBytes : ℕ → List Event → Type 0
 TakesBytes n es = ((bucket : ℕ) × (es ≡ Reserve bucket n ∷ [])) ⊎ ((size : ℕ) × (es ≡ Charge size n ∷ []))
 
@@ -39,8 +39,9 @@ MayComeAfter Serialize back = back ≡ []
 MayComeAfter Freeze back = back ≡ []
 MayComeAfter question back = Unit {0}
 
--- A call of the pass with this number: what the pass had seen at its beginning begins what it has seen at its end, the reply may be
--- given somewhere between the two, and past its beginning stand exactly the events that the call makes, among those of other passes.
+-- A call of the pass with this number: what the pass had seen at its beginning begins what it has seen at its
+-- end, the reply may be given somewhere between the two, and past its beginning come exactly the events that
+-- the call makes, among those of other passes.
 pub record IsCall {K : Type 0} (key_at : ℕ → Option K) (opening : Totals) (before after : History) (pass : ℕ) (question : Question) (reply : Reply K) : Type 0 where
   pub past : History
   pub begins : before ++ past ≡ after

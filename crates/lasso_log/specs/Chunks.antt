@@ -25,7 +25,7 @@ chunk_from (suc more) chunk position = if nat_lt position (chunk_start (suc chun
 abbrev pub chunk_of : ℕ → ℕ
 chunk_of position = chunk_from position 0 position
 
--- how far a position lies behind its chunk's first cell
+-- the offset of a position from its chunk's first cell
 abbrev pub offset_of : ℕ → ℕ
 offset_of position = position - chunk_start (chunk_of position)
 
@@ -70,7 +70,7 @@ module _ (V R : RattleType) (cells : V.Denot → List Named) (meaning : R.Denot 
   abbrev pub in_chunk : ℕ → ℕ → ℕ → Text → V.Denot → Fml
   in_chunk era chunk offset text v = fsep (written V chunk v) (holds_text era (name_at (cells v) offset) text)
 
-  -- the chunk is there, and its cell at this offset holds this text
+  -- the chunk is made, and its cell at this offset holds this text
   abbrev pub filled : ℕ → ℕ → ℕ → Text → Fml
   filled era chunk offset text = fex V.Denot (in_chunk era chunk offset text)
 

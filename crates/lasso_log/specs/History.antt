@@ -13,7 +13,7 @@ pub data Event : Type 0 where
   -- the limit was replaced
   Limit : (limit : ℕ) → Event
 
--- the events in order, each beside the number of the pass that made it
+-- the events in order, each with the number of the pass that made it
 abbrev pub History : Type 0
 History = List (ℕ × Event)
 
@@ -29,7 +29,7 @@ pub record Totals : Type 0 where
   -- the most bytes that they may take
   pub limit : ℕ
 
--- an opening with these texts, and one bucket of this size of which so many bytes are taken
+-- an opening with these texts, and one bucket of this size of which `used` bytes are taken
 abbrev pub opened : List Text → (size used limit : ℕ) → Totals
 opened texts size used limit =
     record {
@@ -46,7 +46,7 @@ pub record IsOpening {K : Type 0} (key_at : ℕ → Option K) (opening : Totals)
   pub fits : Fits key_at (length opening.texts)
   pub bucket : (size used : ℕ) × (size ≢ 0) × (used ≤ size) × (opening ≡ opened opening.texts size used opening.limit)
 
--- what stands after one more event
+-- the totals after one more event
 abbrev pub counted : Totals → Event → Totals
 counted s (Reserve bucket n) = record s { buckets = changed_at bucket (with_taken n) s.buckets }
 counted s (Charge size n) =
@@ -58,7 +58,7 @@ counted s (Charge size n) =
 counted s (Append text) = record s { texts = s.texts ++ text ∷ [] }
 counted s (Limit limit) = record s { limit = limit }
 
--- what stands after the history, from the opening on
+-- the totals after the history, from the opening on
 abbrev pub totals : Totals → History → Totals
 totals s [] = s
 totals s (e ∷ es) = totals (counted s e.1) es
@@ -67,7 +67,7 @@ totals s (e ∷ es) = totals (counted s e.1) es
 abbrev pub Lacks : List Text → Text → Type 0
 Lacks texts text = position_of texts text ≡ None
 
--- whether the event may come where this stands
+-- whether the event may come at these totals
 abbrev pub MayFollow : {K : Type 0} → (ℕ → Option K) → Totals → Event → Type 0
 MayFollow key_at s (Reserve bucket n) = (n ≢ 0) × IsSomeAnd (slice_get s.buckets bucket) (λ (b : CountedBucket). b.used + n ≤ b.size)
 MayFollow key_at s (Charge size n) =
@@ -75,7 +75,7 @@ MayFollow key_at s (Charge size n) =
 MayFollow key_at s (Append text) = Lacks s.texts text × IsSome (key_at (length s.texts))
 MayFollow key_at s (Limit limit) = Unit {0}
 
--- each event may come after what stands before it
+-- each event may come after the ones before it
 abbrev pub IsLegal : {K : Type 0} → (ℕ → Option K) → Totals → History → Type 0
 IsLegal key_at s [] = Unit {0}
 IsLegal key_at s (e ∷ es) = MayFollow key_at s e.1 × IsLegal key_at (counted s e.1) es

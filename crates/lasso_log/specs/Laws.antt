@@ -5,7 +5,7 @@ use Rattle.lasso_parts.specs.Texts.{IsDistinct, Fits}
 use Rattle.lasso_log.specs.Buckets.{CountedBucket, bucket_size}
 use Rattle.lasso_log.specs.History.{Event, History, Totals, IsOpening, counted, totals, MayFollow, IsLegal}
 
--- what stands after a legal history
+-- the totals after a legal history
 pub record IsSoundTotals {K : Type 0} (key_at : ℕ → Option K) (s : Totals) : Type 0 where
   pub distinct : IsDistinct s.texts
   pub fits : Fits key_at (length s.texts)

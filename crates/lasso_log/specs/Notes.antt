@@ -1,5 +1,5 @@
--- The notes of the shared log: the first has what stood at the opening, and each further one is an event
--- beside the pass that made it. What the notes add up to: the history, the list, and the words.
+-- The notes of the shared log: the first has what stood at the opening, and each further one is an event with
+-- the pass that made it. What the notes add up to: the history, the list, and the words.
 use Rattle.std.specs.Prelude.{◌≡◌, ℕ, suc, ◌+◌, ◌==◌, List, [], ◌∷◌, ◌++◌, map, slice_get, Some, refl, ◌⊎◌, if◌then◌else◌}
 use mathlib.Core.Logic.{inl, inr}
 use Rattle.std.specs.Coded.{Coded, code_by, coded×, coded⊎, coded_ℕ, coded_list}
@@ -14,7 +14,7 @@ pub record NoteView : Type 0 where
   -- the number of the pass whose event it is
   pub by : ℕ
   pub event : Event
-  -- where an appended text stands in the list
+  -- the position of an appended text in the list
   pub position : ℕ
   -- the cell that the event used up, and the one that its pass has after it
   pub ticket : ℕ
@@ -84,7 +84,7 @@ note_coded =
 abbrev pub history : List NoteView → History
 history notes = map (λ (e : NoteView). (e.by, e.event)) notes
 
--- what stands after these notes
+-- the totals after these notes
 abbrev pub state : Totals → List NoteView → Totals
 state o notes = totals o (history notes)
 
@@ -156,7 +156,7 @@ ticket_after p d (e ∷ es) = ticket_after p (if e.by == p then e.next else d) e
 abbrev pub ticket_of : ℕ → List NoteView → ℕ
 ticket_of p notes = ticket_after p p notes
 
--- each of the notes uses the ticket that its pass then has, where these stand before
+-- each of the notes uses the ticket that its pass then has, where these come before
 abbrev pub Chained : List NoteView → List NoteView → Type 0
 Chained before [] = Unit {0}
 Chained before (e ∷ es) = (e.ticket ≡ ticket_of e.by before) × Chained (before ++ e ∷ []) es

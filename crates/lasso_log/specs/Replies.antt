@@ -16,7 +16,7 @@ pub data Question : Type 0 where
   Intern : (keeping : Keeping) (text : Text) → Question
   Get : (text : Text) → Question
   Contains : (text : Text) → Question
-  -- a key goes by its number
+  -- a key is given by its number
   ContainsKey : (number : ℕ) → Question
   Resolve : (number : ℕ) → Question
   Len : Question
@@ -46,7 +46,7 @@ pub data Reply (K : Type 0) : Type 0 where
   -- the list that a walk gives, or that was written or copied
   Listed : Result (List Text) LassoErrorKind → Reply K
 
--- the texts in order, each beside the key of its position
+-- the texts in order, each with the key of its position
 abbrev pub keyed : {K : Type 0} → (ℕ → Option K) → List Text → List (Option K × Text)
 keyed key_at texts = map (λ e. (key_at e.0, e.1)) (enumerate_from 0 texts)
 
@@ -54,12 +54,12 @@ keyed key_at texts = map (λ e. (key_at e.0, e.1)) (enumerate_from 0 texts)
 abbrev pub IsWalkOf : {K : Type 0} → (ℕ → Option K) → List Text → List (K × Text) → Type 0
 IsWalkOf {K} key_at texts pairs = map {B = Option K × Text} (λ e. (Some e.0, e.1)) pairs ≡ keyed key_at texts
 
--- the list is written or copied, unless memory is wanting
+-- the list is written or copied, unless memory runs out
 abbrev pub MayCopy : List Text → Result (List Text) LassoErrorKind → Type 0
 MayCopy texts reply = (reply ≡ Ok texts) ⊎ (reply ≡ Err FailedAllocation)
 
--- What an intern may reply: the key of the text's position; or, where the list lacks the text, that its length has no key, that
--- the limit leaves no room for the text's bytes, or that memory is wanting.
+-- What an intern may reply: the key of the text's position; or, where the list lacks the text, that its
+-- length has no key, that the limit leaves no room for the text's bytes, or that memory ran out.
 abbrev pub MayIntern : {K : Type 0} → (ℕ → Option K) → Totals → Keeping → Text → Result K LassoErrorKind → Type 0
 MayIntern key_at s keeping text (Ok k) = key_of key_at s.texts text ≡ Some k
 MayIntern key_at s keeping text (Err KeySpaceExhaustion) = Lacks s.texts text × (key_at (length s.texts) ≡ None)

@@ -60,7 +60,7 @@ pub record SharedView : Type 0 where
   pub size : ℕ
   pub base : ℕ
 
--- these are the parts of a bucket that stands in a log that was seen
+-- these are the parts of a bucket of a log that was seen
 pub record IsShared (book : Book) (names : List ℕ) (log : List NoteView) (word : Named) (ptr : Ptr) (position base size : ℕ) (numbers : List ℕ) : Type 0 where
   pub own : word ≡ word_of book word.key
   pub opened : IsOpened log
@@ -79,7 +79,8 @@ HasTaken s position n = IsSomeAnd (slice_get s.buckets position) (λ (b : Counte
 abbrev pub LacksRoom : Totals → ℕ → ℕ → Type 0
 LacksRoom s position n = IsSomeAnd (slice_get s.buckets position) (λ (b : CountedBucket). b.size < b.used + n)
 
--- the range of the bytes that a reservation, the last of these notes, took of the bucket: they lie behind those that were taken before it
+-- the range of the bytes that a reservation, the last of these notes, took of the bucket: they follow those
+-- that were taken before it
 pub record IsRangeOf (b : SharedView) (notes : List NoteView) (r : RangeView) (bytes : ℕ) : Type 0 where
   pub before : ℕ
   pub era : r.era ≡ era_named b.of.chunks
@@ -107,6 +108,6 @@ pub record IsReserved (b : SharedView) (p : ℕ) (before after : List NoteView) 
 abbrev pub site_of : RangeView → Site
 site_of r = record { era = r.era; block = r.block; start = r.start }
 
--- the numbers of an interner's book, and behind them its names
+-- the numbers of an interner's book, and after them its names
 abbrev pub names_with_book : InternerId → List ℕ
 names_with_book of = of.book.number ∷ of.book.log_name ∷ of.book.cells_name ∷ of.chunks

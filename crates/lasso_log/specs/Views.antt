@@ -57,12 +57,12 @@ turns_view_coded =
     (λ x y e i. record { of = (e i).0; notes = (e i).1.0; turns = (e i).1.1.0; doubling = (e i).1.1.1.0; usage = (e i).1.1.1.1.0; limit = (e i).1.1.1.1.1.0; count = (e i).1.1.1.1.1.1 })
 
 -- a history that was seen: its interner, and its notes past the opening
-pub record KnownView : Type 0 where
+pub record SnapshotView : Type 0 where
   pub of : InternerId
   pub notes : List NoteView
 
-abbrev pub known_view_coded : Coded KnownView
-known_view_coded = coded_via (coded× interner_id_coded (coded_list note_coded)) (λ (k : KnownView). (k.of, k.notes)) (λ x y e i. record { of = (e i).0; notes = (e i).1 })
+abbrev pub snapshot_view_coded : Coded SnapshotView
+snapshot_view_coded = coded_via (coded× interner_id_coded (coded_list note_coded)) (λ (k : SnapshotView). (k.of, k.notes)) (λ x y e i. record { of = (e i).0; notes = (e i).1 })
 
 -- a spine: how many slots it keeps for texts to come, its interner, the notes that it has seen of the list, and the turns
 pub record SpineView : Type 0 where

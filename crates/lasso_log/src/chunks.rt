@@ -102,7 +102,7 @@ impl<T: Drop> Chunks<T> {
     }
 }
 
-/// The chunk of a position, and how far behind the chunk's first cell it lies.
+/// The chunk of a position, and its offset from the chunk's first cell.
 pub fn chunk_and_offset(position: u64) -> (usize, usize)
     ensures value { (result.0 ≡ chunk_of position) × (result.1 ≡ offset_of position) }
     ensures there { (result.0 < 60) × (result.1 < chunk_length result.0) }
@@ -174,8 +174,8 @@ impl<T: HasText + Drop> Chunks<T> {
         })
     }
 
-    /// Makes the chunk of a position, if it is not there. None where another thread is making it just now. Want of
-    /// memory leaves the chunks as they were.
+    /// Makes the chunk of a position, if it is not made. Returns `None` while another thread is making it.
+    /// Out of memory, the chunks are as they were.
     pub fn make_chunk(
         &self,
         alloc: Global,
@@ -222,8 +222,8 @@ impl<T: HasText + Drop> Chunks<T> {
         unreachable!()
     }
 
-    /// Makes the chunks of the first `count` positions, where they are not there: the longest first, so that a count that no memory
-    /// has is refused at once. Want of memory leaves the chunks that are made by then.
+    /// Makes the missing chunks of the first `count` positions, the longest first, so that a count too large
+    /// for memory fails at once. Out of memory, the chunks made by then stay.
     pub fn make_cells(&self, alloc: Global, count: u64) -> Result<(), AllocError> {
         if count == 0 {
             return Ok(());
@@ -254,7 +254,7 @@ impl<T: HasText + Drop> Chunks<T> {
         cells
     }
 
-    // Hands the text back where the chunk is not there, or where the cell is filled or being filled.
+    // Hands the text back if the chunk is not made, or if the cell is filled or being filled.
     pub(crate) fn try_fill(
         &self,
         position: u64,
@@ -274,8 +274,8 @@ impl<T: HasText + Drop> Chunks<T> {
         }
     }
 
-    /// Fills the cell of a position, and gives what shows that it is filled. It waits where the chunk is not made,
-    /// or where the cell is filled or being filled.
+    /// Fills the cell of a position, and returns the proof that it is filled. It waits where the chunk is not
+    /// made, or where the cell is filled or being filled.
     pub fn fill<R: Wait>(&self, rt: &R, position: u64, text: T) -> (Written<Chunk<T>>, Written<T>)
         ensures cell { IsCellAt self.now position result.0.of result.0.value.items result.1.of }
         ensures text { result.1.value ≡ text }

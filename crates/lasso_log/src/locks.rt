@@ -1,12 +1,12 @@
 //! Locks whose content keeps a fact about a tag that the lock was made with.
 //!
 //! A lock's content is known by its type alone, and a type has no parameter that could name a value, such as
-//! the log that a list was read off. Here the content lies in a slot beside the lock. The slot keeps `fits`
+//! the log that a list was read off. Here the content lies in a slot next to the lock. The slot keeps `fits`
 //! of its tag, which is fixed when the lock is made, and a contract sees a lock as that tag.
 //!
-//! A holder has the value itself, and gives it back before the next one can have it. What a holder has beside
-//! the value can't be let go but by giving a value back. No lock is poisoned: a panic under one ends the
-//! process, where the runtime is the host's.
+//! A holder has the value itself, and gives it back before the next one can have it. A holder also has a
+//! guard, which ends only by giving a value back. No lock is poisoned: a panic under one ends the process,
+//! where the runtime is the host's.
 //!
 //! Locking a lock that nobody has is one locked step, and so is unlocking it. A thread that finds a lock locked goes out of line: it looks
 //! a few times more, and then joins the lock's queue, whose first looks on and lets other threads run between.
@@ -20,7 +20,8 @@ use std::marker::Model;
 use std::sync::{Mutex, Wait};
 use std::thread::yield_now;
 
-// How often a thread looks before it stands in a queue. What a holder does takes about as long, and less than going to sleep.
+// How often a thread looks before it joins the queue. What a holder does takes about as long, and less than
+// going to sleep.
 const LOOKS: u32 = 100;
 
 /// A value that one thread at a time has. Where the value must be spent the lock must be, by `into_inner`.
@@ -37,8 +38,8 @@ impl<X: Fits> Model for TaggedMutex<X> {
     ghost view = { λ l. l.slot };
 }
 
-/// What a holder has beside the value that it took. It ends by `give` and by nothing else. A contract sees the
-/// lock's tag.
+/// A holder's guard, next to the value that it took. It ends by `give` and by nothing else. A contract sees
+/// the lock's tag.
 pub struct TaggedMutexGuard<'a, X: Fits> {
     claim: Claim<'a, Option<X>>,
     ghost right: { claim.right ≡ whole },
@@ -59,7 +60,7 @@ impl<X: Fits + Drop> Drop for TaggedMutex<X> {
 }
 
 impl<X: Fits> TaggedMutex<X> {
-    /// A lock with this value, which nobody has taken.
+    /// An unlocked lock with this value.
     pub fn new(value: X, tag: &X::Tag) -> TaggedMutex<X>
         requires { X.fits tag.now value }
         ensures { result ≡ tag.now }
@@ -70,8 +71,8 @@ impl<X: Fits> TaggedMutex<X> {
         }
     }
 
-    /// Takes the lock, and the value.
-    pub fn take<R: Wait>(&self, rt: &R) -> (TaggedMutexGuard<'_, X>, X)
+    /// Locks it, and takes the value out.
+    pub fn lock<R: Wait>(&self, rt: &R) -> (TaggedMutexGuard<'_, X>, X)
         ensures { (result.0 ≡ self.now) × X.fits self.now result.1 }
     {
         match pull_free(&self.slot) {
@@ -80,7 +81,7 @@ impl<X: Fits> TaggedMutex<X> {
         }
     }
 
-    // The same, where somebody else had the lock.
+    // The same, if somebody else had the lock.
     #[inline(never)]
     fn wait<R: Wait>(&self, rt: &R) -> (TaggedMutexGuard<'_, X>, X)
         ensures { (result.0 ≡ self.now) × X.fits self.now result.1 }
@@ -114,8 +115,8 @@ impl<X: Fits> TaggedMutex<X> {
 }
 
 impl<'a, X: Fits> TaggedMutexGuard<'a, X> {
-    /// Puts the value back, and ends the lock.
-    pub fn give<R: Wait>(self, rt: &R, value: X)
+    /// Puts the value back, and unlocks it.
+    pub fn unlock<R: Wait>(self, rt: &R, value: X)
         requires { X.fits self value }
     {
         let TaggedMutexGuard { claim } = self;
@@ -157,8 +158,8 @@ impl<'a, X: Fits + Drop> Model for TaggedRwLockReadGuard<'a, X> {
     ghost view = { λ r. record { tag = r.claim.tag; value = value_of r.claim.value } };
 }
 
-/// What a writer has beside the value that it took. It ends by `give` and by nothing else. A contract sees the
-/// lock's tag.
+/// A writer's guard, next to the value that it took. It ends by `give` and by nothing else. A contract sees
+/// the lock's tag.
 pub struct TaggedRwLockWriteGuard<'a, X: Fits + Drop> {
     claim: Claim<'a, Option<X>>,
     ghost right: { claim.right ≡ whole },
@@ -173,7 +174,7 @@ impl<'a, X: Fits + Drop> Model for TaggedRwLockWriteGuard<'a, X> {
 }
 
 impl<X: Fits + Drop> TaggedRwLock<X> {
-    /// A lock with this value, which nobody has taken.
+    /// An unlocked lock with this value.
     pub fn new(value: X, tag: &X::Tag) -> TaggedRwLock<X>
         requires { X.fits tag.now value }
         ensures { result ≡ tag.now }
@@ -185,7 +186,8 @@ impl<X: Fits + Drop> TaggedRwLock<X> {
         }
     }
 
-    /// Takes the lock to read, beside other readers. No reader comes while a writer that stands in the queue waits for those that are there.
+    /// Locks it for reading, together with other readers. No new reader comes while the first writer of the
+    /// queue waits for the readers present.
     pub fn read<R: Wait>(&self, rt: &R) -> TaggedRwLockReadGuard<'_, X>
         ensures { result.tag ≡ self.now }
     {
@@ -220,16 +222,16 @@ impl<X: Fits + Drop> TaggedRwLock<X> {
     fn try_read(&self) -> Option<TaggedRwLockReadGuard<'_, X>>
         ensures { IfSome result (λ r. r.tag ≡ self.now) }
     {
-        let claim = self.slot.try_shared()?;
+        let claim = self.slot.try_read()?;
         if claim.get().is_some() {
             return Some(TaggedRwLockReadGuard { claim });
         }
-        claim.leave();
+        claim.unlock_read();
         None
     }
 
-    /// Takes the lock to change the value, and the value.
-    pub fn take<R: Wait>(&self, rt: &R) -> (TaggedRwLockWriteGuard<'_, X>, X)
+    /// Locks it for writing, and takes the value out.
+    pub fn write<R: Wait>(&self, rt: &R) -> (TaggedRwLockWriteGuard<'_, X>, X)
         ensures { (result.0 ≡ self.now) × X.fits self.now result.1 }
     {
         match pull_free(&self.slot) {
@@ -238,7 +240,7 @@ impl<X: Fits + Drop> TaggedRwLock<X> {
         }
     }
 
-    // The same, where somebody else had the lock.
+    // The same, if somebody else had the lock.
     #[inline(never)]
     fn wait_to_write<R: Wait>(&self, rt: &R) -> (TaggedRwLockWriteGuard<'_, X>, X)
         ensures { (result.0 ≡ self.now) × X.fits self.now result.1 }
@@ -262,8 +264,8 @@ impl<X: Fits + Drop> TaggedRwLock<X> {
 }
 
 impl<'a, X: Fits + Drop> TaggedRwLockWriteGuard<'a, X> {
-    /// Puts the value back, and ends the lock.
-    pub fn give<R: Wait>(self, rt: &R, value: X)
+    /// Puts the value back, and unlocks it.
+    pub fn unlock<R: Wait>(self, rt: &R, value: X)
         requires { X.fits self value }
     {
         let TaggedRwLockWriteGuard { claim } = self;
@@ -283,9 +285,9 @@ impl<'a, X: Fits + Drop> TaggedRwLockReadGuard<'a, X> {
     }
 
     /// Ends the reading.
-    pub fn leave(self) {
+    pub fn unlock(self) {
         let TaggedRwLockReadGuard { claim } = self;
-        claim.leave();
+        claim.unlock_read();
     }
 }
 
@@ -300,7 +302,7 @@ fn pull_free<X: Fits>(slot: &Slot<Option<X>>) -> Option<(Claim<'_, Option<X>>, X
 fn pull<X: Fits>(slot: &Slot<Option<X>>) -> Option<(Claim<'_, Option<X>>, X)>
     ensures { IfSome result (λ r. (r.0.right ≡ whole) × (r.0.tag ≡ slot.now) × X.fits slot.now r.1) }
 {
-    emptied(slot.try_whole()?)
+    emptied(slot.try_lock()?)
 }
 
 // The value of a slot that is claimed whole, which keeps everybody else out until the value is back.
@@ -312,7 +314,7 @@ fn emptied<X: Fits>(claim: Claim<'_, Option<X>>) -> Option<(Claim<'_, Option<X>>
     match value {
         Some(value) => Some((claim, value)),
         None => {
-            claim.give_back();
+            claim.unlock();
             None
         }
     }
@@ -323,13 +325,14 @@ fn push<X: Fits, R: Wait>(claim: Claim<'_, Option<X>>, rt: &R, value: X)
     requires { (claim.right ≡ whole) × X.fits claim.tag value }
 {
     let (claim, other) = claim.swap(Some(value));
-    claim.give_back();
+    claim.unlock();
     if let Some(other) = other {
         keep(rt, other);
     }
 }
 
-// Keeps a value that lay in a slot beside the one that was taken out. There is none, but no type says so, and a value need not be droppable.
+// Keeps a second value of a slot, next to the one that was taken out. No slot has one, but no type says so,
+// and a value need not be droppable.
 #[inline(never)]
 fn keep<X, R: Wait>(rt: &R, _other: X) {
     for _ in rt.forever() {

@@ -1,7 +1,5 @@
 //! Memory that threads share: bytes that they fill at disjoint places of shared buckets, and read as long as the
 //! interner lasts.
-pub mod bucket;
-pub mod bucket_list;
 pub mod era;
 pub mod holding;
 pub mod new_bucket;

@@ -25,11 +25,11 @@ pub fn count_up<R: Wait>(rt: &R, lock: &TaggedMutex<Count>, times: u32)
     requires { lock.now ≡ 5000 }
 {
     for _ in 0..times {
-        let (guard, mut count) = lock.take(rt);
+        let (guard, mut count) = lock.lock(rt);
         if count.number < 5000 {
             count.number += 1;
         }
-        guard.give(rt, count);
+        guard.unlock(rt, count);
     }
 }
 
@@ -38,8 +38,8 @@ pub fn count_in<R: Wait>(rt: &R, lock: &TaggedMutex<Count>) -> u64
     requires { lock.now ≡ 5000 }
     ensures { result ≤ 5000 }
 {
-    let (guard, count) = lock.take(rt);
+    let (guard, count) = lock.lock(rt);
     let number = count.number;
-    guard.give(rt, count);
+    guard.unlock(rt, count);
     number
 }

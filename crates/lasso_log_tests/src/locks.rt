@@ -50,10 +50,10 @@ fn change<R: Wait>(rt: &R, lock: &TaggedRwLock<Pair>, times: u32)
     requires { lock.now ≡ 9 }
 {
     for i in 0..times {
-        let (guard, mut pair) = lock.take(rt);
+        let (guard, mut pair) = lock.write(rt);
         pair.first = u64::from(i) + 1;
         pair.second = u64::from(i) + 10;
-        guard.give(rt, pair);
+        guard.unlock(rt, pair);
     }
 }
 
@@ -68,7 +68,7 @@ fn reads_whole<R: Wait>(rt: &R, lock: &TaggedRwLock<Pair>, times: u32) -> bool {
             whole = false;
         }
         last = pair.first;
-        reading.leave();
+        reading.unlock();
     }
     whole
 }
@@ -85,13 +85,13 @@ fn readers_share_a_value(rt: HostRuntime) {
     let one = lock.read(&rt);
     let other = lock.read(&rt);
     assert!(rt; (one.get().first, other.get().second) == (1, 10));
-    one.leave();
-    other.leave();
+    one.unlock();
+    other.unlock();
     change(&rt, &lock, 3);
     assert!(rt; reads_whole(&rt, &lock, 2));
     let last = lock.read(&rt);
     assert!(rt; (last.get().first, last.get().second) == (3, 12));
-    last.leave();
+    last.unlock();
 }
 
 #[test]

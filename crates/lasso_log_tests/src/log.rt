@@ -9,46 +9,10 @@ mod opened;
 use lasso_log::log::{KeptSlot, Log, Opened, Pass, Spine};
 use lasso_parts::keys::{Key, Spur};
 use lasso_parts::util::LassoResult;
+use lasso_testing::texts::OF_EACH_LENGTH;
 use std::alloc::Global;
 use std::sync::Wait;
 use std::test::*;
-
-// A text of each length below 33: the first chunk has 32 cells.
-const TEXTS: [&str; 33] = [
-    "",
-    "a",
-    "ab",
-    "abc",
-    "abcd",
-    "abcde",
-    "abcdef",
-    "abcdefg",
-    "abcdefgh",
-    "abcdefghi",
-    "abcdefghij",
-    "abcdefghijk",
-    "abcdefghijkl",
-    "abcdefghijklm",
-    "abcdefghijklmn",
-    "abcdefghijklmno",
-    "abcdefghijklmnop",
-    "abcdefghijklmnopq",
-    "abcdefghijklmnopqr",
-    "abcdefghijklmnopqrs",
-    "abcdefghijklmnopqrst",
-    "abcdefghijklmnopqrstu",
-    "abcdefghijklmnopqrstuv",
-    "abcdefghijklmnopqrstuvw",
-    "abcdefghijklmnopqrstuvwx",
-    "abcdefghijklmnopqrstuvwxy",
-    "abcdefghijklmnopqrstuvwxyz",
-    "abcdefghijklmnopqrstuvwxyzA",
-    "abcdefghijklmnopqrstuvwxyzAB",
-    "abcdefghijklmnopqrstuvwxyzABC",
-    "abcdefghijklmnopqrstuvwxyzABCD",
-    "abcdefghijklmnopqrstuvwxyzABCDE",
-    "abcdefghijklmnopqrstuvwxyzABCDEF",
-];
 
 // Appends a text that is longer than each of the list, in this slot. Any other text is left out, and the slot given back.
 fn appends<R: Wait>(
@@ -178,13 +142,19 @@ fn slots_kept_ahead_have_their_chunks(rt: HostRuntime) -> Result<(), Fail> {
         limit: 10_000,
     };
     let (log, mut spine) = Log::open(rt.alloc(), opened)?;
-    assert!(rt; append_all(&rt, rt.alloc(), &log, &mut spine, &TEXTS[..31]) == 31);
+    assert!(rt; append_all(&rt, rt.alloc(), &log, &mut spine, &OF_EACH_LENGTH[..31]) == 31);
     assert!(rt; len_and_kept(&spine) == (31, 0));
-    // the slots of positions 31, 32 and 33, of which the first alone is in the first chunk
-    let (kept, appended) = append_ahead(&rt, rt.alloc(), &log, &mut spine, [TEXTS[31], TEXTS[32]])?;
+    // the first chunk has 32 cells: of the slots of positions 31, 32 and 33 it has the first alone
+    let (kept, appended) = append_ahead(
+        &rt,
+        rt.alloc(),
+        &log,
+        &mut spine,
+        [OF_EACH_LENGTH[31], OF_EACH_LENGTH[32]],
+    )?;
     assert!(rt; (kept, appended) == (3, 2));
     assert!(rt; len_and_kept(&spine) == (33, 0));
-    assert!(rt; read_all(&log, &TEXTS) == 33);
+    assert!(rt; read_all(&log, &OF_EACH_LENGTH) == 33);
     let mut pass = log.pass();
     assert!(rt; read_at(&log, &mut pass, 33) == None);
     Ok(())

@@ -13,7 +13,10 @@ use std::test::*;
 #[test]
 fn a_static_text_is_a_piece(rt: HostRuntime) {
     let era = Era::begin();
-    let (empty, piece) = (Piece::lasting(""), Piece::lasting("r\u{e9}sum\u{e9}"));
+    let (empty, piece) = (
+        Piece::from_static(""),
+        Piece::from_static("r\u{e9}sum\u{e9}"),
+    );
     assert!(rt; piece.text(&era) == "r\u{e9}sum\u{e9}");
     assert!(rt; empty.text(&era) == "");
     drop(era.end());

@@ -2,7 +2,7 @@
 --
 -- What names no thread may go to another: that is what has to be shown of all that a value owns, or, where it
 -- is to be shared, of all that a `&` to it holds. The places of a block own their bytes and the room between
--- them, and lend a `&` to each byte, and bytes go anywhere. A deed owns the allocator's token, which goes where
+-- them, and lend a `&` to each byte, and bytes go anywhere. A cells_right owns the allocator's token, which goes where
 -- the allocator goes, and a `&` to it holds nothing. A loan is nothing, or a `&` to each byte of a text, and a
 -- `&` to the loan is that too.
 use Rattle.std.proofs.Common.{ℕ, Bool, true, false, List, [], ◌∷◌}
@@ -23,7 +23,7 @@ use Rattle.lasso_parts.specs.Loans.{lent_for_ever}
 use Rattle.lasso_parts.specs.Entries.{Source, Copied, Static}
 use Rattle.lasso_parts.specs.contracts.bucket.cells.Cells as cells
 use Rattle.lasso_parts.specs.contracts.bucket.cells.Cells.TheInside as fields
-use Rattle.lasso_parts.specs.contracts.bucket.cells.Deed as deed
+use Rattle.lasso_parts.specs.contracts.bucket.cells.CellsRight as cells_right
 use Rattle.lasso_parts.specs.contracts.entries.loan.Loan as loan
 
 byte_send : IsSend u8
@@ -78,13 +78,13 @@ pub cells_sync : IsSync cells.the_row
 cells_sync = search (sendable, fields_sync)
 
 module _ (A : RattleType) (heap : Ghosts A.Denot) where
-  pub deed_send : FreesAnywhere A.Denot heap → IsSend (deed.the_row A heap)
+  pub deed_send : FreesAnywhere A.Denot heap → IsSend (cells_right.the_row A heap)
   deed_send frees =
-      let O = deed.the_type A heap in let mark : AllSend (owning.fields O) = (search sendable, tt) in
+      let O = cells_right.the_type A heap in let mark : AllSend (owning.fields O) = (search sendable, tt) in
       owning_send O mark (λ d. frees.frees d.alloc (bytes_type d.len) d.at) (λ k. quiet (owning.to O) (exits_of k (owning.fields O)) ((struct_send (owning.shape O) mark).leaving k))
 
-  pub deed_sync : IsSync (deed.the_row A heap)
-  deed_sync = let O = deed.the_type A heap in record { shared = λ d b o κ. ((struct_sync (owning.shape O) (search sendable, tt)).shared (owning.to O d) b o κ, tt) }
+  pub deed_sync : IsSync (cells_right.the_row A heap)
+  deed_sync = let O = cells_right.the_type A heap in record { shared = λ d b o κ. ((struct_sync (owning.shape O) (search sendable, tt)).shared (owning.to O d) b o κ, tt) }
 
 lent_keyless : (source : Source) (p : Ptr) → Keyless (lent_for_ever source p)
 lent_keyless (Copied span) p = tt

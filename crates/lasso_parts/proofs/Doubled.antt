@@ -28,7 +28,7 @@ next_grown z (r ∷ rs) =
       | inr ne ↦ let h = next_miss z r rs ne in subst (λ (t : ℕ). (t ≡ z) ⊎ (2 * z ≤ t)) (sym h) (next_grown z rs)
     ]
 
--- behind two lists
+-- after two lists
 pub next_append : (z : ℕ) (xs ys : List Extent) → next_of z (xs ++ ys) ≡ next_of (next_of z xs) ys
 next_append z [] ys = refl
 next_append z (r ∷ rs) ys =

@@ -10,7 +10,7 @@ use borrow.Rule.Slice.PartMut.{put_mid}
 use Rattle.std.proofs.lemmas.Slice.{take-put_mid}
 use Rattle.std.proofs.lemmas.Slice.Eq.{bytes_eq-Decides}
 
--- what stands before the last items, among the first n and whatever comes after those
+-- what is before the last items, among the first n and whatever comes after those
 pub before_last : {X : Type 0} (t rest : List X) (n last : ℕ) → last ≤ n → n ≤ length t → take last (take n t ++ rest) ≡ take last t
 before_last t rest n last few fits = take-append-le last (take n t) rest (omega (arith, few, length-take-le n t fits)) ∙ take-take last n t few
 

@@ -60,7 +60,7 @@ texts_kept earlier later vast more (s ∷ entries) keeps places all =
 
 module _ (earlier later : List Extent) (vast more : List LentText) (entries grown : List EntryView) (entry : EntryView) (all : AllThere earlier vast entries) (keeps : KeepsTexts earlier later)
     (places : KeepsPlaces vast more) (e : grown ≡ entries ++ entry ∷ []) where
-  -- one entry more, which is there
+  -- one entry more, whose text is present
   pub there_pushed : IsThere later more entry → AllThere later more grown
   there_pushed there = All-same (IsThere later more) grown (entries ++ entry ∷ []) e (All-push (IsThere later more) entries entry (there_kept earlier later vast more entries keeps places all) there)
 

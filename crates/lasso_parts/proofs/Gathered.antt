@@ -1,7 +1,8 @@
 -- What a clear keeps, gathered at the front of the list by exchanging two of them at a time.
 --
--- At each step what is gathered, and what is kept of the rest behind it, are the kept regions of the whole list. An exchange
--- puts the region in hand behind those gathered, and a region that is not kept where it stood, which the walk has passed.
+-- At each step what is gathered, and what is kept of the rest after it, are the kept regions of the whole
+-- list. An exchange puts the current region after those gathered, and a region that is not kept in its place,
+-- which the walk has passed.
 use Rattle.std.proofs.Common.{◌≡◌, ℕ, zero, suc, ◌+◌, ◌*◌, ◌<◌, ◌≤◌, inl, inr, List, [], ◌∷◌, ◌++◌, length, get_or, set, take, drop, map, sym, ap, subst, refl, ◌∙◌, arith, append_assoc}
 use Rattle.std.proofs.lemmas.Bool.{cases_eq}
 use Rattle.std.proofs.lemmas.List.{take-set, take-set-le, take_more_set, drop-set-lt, drop_more, map-set, length-set, length-map, append-nil}
@@ -13,7 +14,8 @@ use Rattle.lasso_parts.specs.Arena.{no_region, region_at, usage_of}
 use Rattle.lasso_parts.specs.Doubled.{doubled_from, kept_of}
 use Rattle.lasso_parts.proofs.Doubled.{from_hit, from_miss}
 
--- what is gathered of a list ys, where `kept` regions stand in front, the last of this size, and the walk has come to `at`
+-- what is gathered of a list ys, where `kept` regions are in front, the last of this size, and the walk has
+-- come to `at`
 abbrev pub gathered : List Extent → ℕ → ℕ → ℕ → List Extent
 gathered ys kept last at = take kept ys ++ doubled_from (2 * last) (drop at ys)
 

@@ -2,7 +2,7 @@
 --
 -- An index stays filed when the list grows, since the texts that it holds stay at their positions. Where the
 -- list is distinct and the index holds exactly its positions, a search that found a text found the one
--- position that has it, and a search that found none shows that no position has it: so its answer is the
+-- position that has it, and a search that found none shows that no position has it: so its result is the
 -- text's position in the list. Such an index stays whole when a new text goes last and its position is
 -- entered under the text's hash.
 use Rattle.std.proofs.Common.{◌≡◌, ◌≢◌, ℕ, zero, suc, ◌+◌, ◌<◌, ◌⊎◌, ◌↔◌, List, [], ◌∷◌, ◌++◌, Bool, true, false, cond, Option, Some, None, Result, Ok, Err, IfOk, IfErr, MatchResult, length, take, drop, slice_get, get_or, refl, sym, ap, ◌∙◌, subst, inl, inr, arith}
@@ -74,7 +74,7 @@ cond_true b x y e = ap (λ c. cond c x y) e
 cond_false : {A : Type 0} (b : Bool) (x y : A) → b ≡ false → cond b x y ≡ y
 cond_false b x y e = ap (λ c. cond c x y) e
 
--- the position of a text that stands in a distinct list
+-- the position of a text that is in a distinct list
 pub position_of_at : (texts : List Text) (text : Text) (n : ℕ) → IsDistinct texts → slice_get texts n ≡ Some text → position_of texts text ≡ Some n
 position_of_at texts text n distinct at =
     let l : n < length texts = slice_get_within texts n text at in
@@ -83,7 +83,7 @@ position_of_at texts text n distinct at =
     (λ h. (bytes_eq-Decides (get_or texts n []) text).1 (get_or_from_slice_get texts n text [] at)) in
     cond_true _ _ None (lt-ltb _ (length texts) (subst (λ k. k < length texts) (sym p) l)) ∙ ap Some p
 
--- a text that stands nowhere has no position
+-- a text that is nowhere has no position
 pub position_of_none : (texts : List Text) (text : Text) → ((n : ℕ) → n < length texts → slice_get texts n ≢ Some text) → position_of texts text ≡ None
 position_of_none texts text none =
     let p : position_or_len (λ t. bytes_eq t text) texts ≡ length texts = position_or_len_is (λ t. bytes_eq t text) texts (length texts) [] (omega arith)
@@ -103,7 +103,7 @@ absent_before texts i text distinct at =
 
 -- ---- the index of a whole list
 
--- what a search answers in the index of a whole list is the text's position, or that there is none
+-- what a search returns in the index of a whole list is the text's position, or that there is none
 pub located : (hash_of : Text → ℕ) (texts : List Text) (table : Table) (text : Text) (r : Result ℕ ℕ) → IsIndexOf hash_of texts table → IfOk r (λ n. Holds table.slots n × (slice_get texts n ≡ Some text)) → IfErr r (λ _. (n : ℕ) → Holds table.slots n → slice_get texts n ≢ Some text) → MatchResult r (λ n. position_of texts text ≡ Some n) (λ _. position_of texts text ≡ None)
 located hash_of texts table text (Ok n) whole found missing = position_of_at texts text n whole.distinct found.1
 located hash_of texts table text (Err at) whole found missing = position_of_none texts text (λ n l. missing n ((whole.holds n).1 l))

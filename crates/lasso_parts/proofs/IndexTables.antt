@@ -1,10 +1,10 @@
 -- Tables of empty slots, and tables that are filled anew.
 --
--- Keys are entered one after another, each in the slot where the search for its hash ends. They are those of the
--- old slots, from the first to the last, or those of the list's positions, from the first to the last. As far as
--- these were gone through, the new table holds them, has as many slots in use, and is filed; there is always an
--- empty slot, since it has more slots than keys. A count of slots is 0 or a power of two from 8 on, so doubling
--- it makes room.
+-- Keys are entered one after another, each in the slot where the search for its hash ends. They are those of
+-- the old slots, from the first to the last, or those of the list's positions, from the first to the last. As
+-- far as these were gone through, the new table holds them, has that number of slots in use, and is filed;
+-- there is always an empty slot, since it has more slots than keys. A count of slots is 0 or a power of two
+-- from 8 on, so doubling it makes room.
 use Rattle.std.proofs.Common.{◌≡◌, ℕ, zero, suc, ◌+◌, ◌*◌, ◌^◌, ◌<◌, ◌≤◌, ◌⊎◌, ◌↔◌, List, [], ◌∷◌, ◌++◌, Option, Some, None, length, take, replicate, refl, sym, ap, ◌∙◌, subst, inl, inr, arith, zero-add, add-zero}
 use Rattle.std.proofs.lemmas.Bool.{cases_lt}
 use Rattle.std.proofs.lemmas.List.{get_or_past, get_or-replicate, length-replicate, get_or_append_left, get_or_push, length_push, take_more, take_all}
@@ -141,7 +141,7 @@ IsTable-replicate xs n s e = record {
   load = let z : used xs ≡ 0 = ap used e ∙ used-replicate n in omega (arith, z);
 }
 
--- as many positions fit in empty slots as may be filled
+-- in empty slots there is room for the number of positions that may be filled
 pub room-replicate : (xs : List (Option ℕ)) (n : ℕ) → xs ≡ replicate n None → room xs ≡ load_limit n
 room-replicate xs n e =
     let z : used xs ≡ 0 = ap used e ∙ used-replicate n in
@@ -169,7 +169,7 @@ cleared table v new count view e t =
     let r : room new ≡ load_limit (length table.slots) = room-replicate new (length table.slots) e in
     (IsTable-replicate new (length table.slots) t.slots e, omega arith)
 
--- the new table, of which as many slots are used, in the place of a full one
+-- the new table, with the same number of used slots, in the place of a full one
 module _ (table new v : Table) (keys count : ℕ) (full : IsTable table.slots keys) (view : table ≡ v) (size : count ≡ grown_count (length table.slots)) (long : length new.slots ≡ count) (counted : used new.slots ≡ keys) where
   sized : count ≡ grown_count (length v.slots)
   sized = size ∙ ap (λ (w : Table). grown_count (length w.slots)) view
@@ -194,7 +194,7 @@ module _ (table new v : Table) (keys count : ℕ) (full : IsTable table.slots ke
 pub next_holds : (hash_of : Text → ℕ) (texts : List Text) (table new v : Table) → table ≡ v → IsRefilled hash_of texts new (Holds table.slots) (used table.slots) → (n : ℕ) → Holds new.slots n ↔ Holds v.slots n
 next_holds hash_of texts table new v view r n = subst (λ (w : Table). Holds new.slots n ↔ Holds w.slots n) view (r.holds n)
 
--- the first positions, as many as the index held, are all of a list that it is the index of
+-- the first positions, up to the number that the index held, are all of a list that it is the index of
 pub next_index : (hash_of : Text → ℕ) (texts : List Text) (table new v : Table) (keys : ℕ) → table ≡ v → IsTable table.slots keys → IsIndexOf hash_of texts v → IsRefilled hash_of texts new (λ n. n < keys) keys → IsIndexOf hash_of texts new
 next_index hash_of texts table new v keys view full whole r =
     let all : keys ≡ length texts = full.counted ∙ ap (λ (w : Table). used w.slots) view ∙ whole.once in

@@ -1,10 +1,11 @@
 -- A value whose members are in order is read as a list exactly where it is the object from the list's texts to their
 -- positions plus one, and the list is distinct and fits the keys.
 --
--- Members that are all read have free positions, as many as there are members, so each position has a member, whose
--- text stands there. Two positions with one text would have one member. The object of the list has the same members,
--- since both are in order and each text is found in both with the same number. In the object of a distinct list that
--- fits the keys each member has a free position, and setting the texts there gives the list.
+-- Members that are all read have free positions, one for each member, so each position has a member, whose
+-- text is there. Two positions with one text would have one member. The object of the list has the same
+-- members, since both are in order and each text is found in both with the same number. In the object of a
+-- distinct list that fits the keys each member has a free position, and setting the texts there gives the
+-- list.
 use Rattle.std.proofs.Common.{◌≡◌, inl, inr, ℕ, ◌+◌, ◌<◌, List, [], ◌∷◌, ◌++◌, length, set, get_or, slice_get, replicate, true, Option, Some, None, IsSome, Result, Ok, refl, sym, ap, subst, ◌∙◌, arith}
 use Rattle.std.specs.List.{AllByRecursion}
 use Rattle.std.specs.Str.{bytes_eq}

@@ -59,7 +59,7 @@ pub get_below : (t : Text) (ms : Members) → IsBelow t ms → get_member t ms �
 get_below t no_members below = refl
 get_below t (member l e ms) below = rw (below.0) (get_below t ms below.1)
 
--- what a look-up finds is the first member, or stands among the others
+-- what a look-up finds is the first member, or is among the others
 pub get_cases : (o : Ordering) (q l : Text) (e : Data) (ms : Members) → text_order q l ≡ o → ((q ≡ l) × (get_member q (member l e ms) ≡ Some e)) ⊎ (get_member q (member l e ms) ≡ get_member q ms)
 get_cases Less q l e ms is = inr (rw is refl)
 get_cases Equal q l e ms is = inl (exact_bytes q l is, rw is refl)

@@ -1,4 +1,4 @@
--- Members are read exactly where each has a free position: one among as many as there are members, with a key, that
+-- Members are read exactly where each has a free position: one below the number of members, with a key, that
 -- no earlier member has.
 --
 -- What the definition takes for a member's position is free, and the member is the number after it. A free position is
@@ -101,7 +101,7 @@ in_middle P xs ys x all = grind (arith, common_steps, all (length xs) x, length-
 
 -- ---- members one after another
 
--- the texts, with each text of the pairs set at its position, in turn
+-- the texts, with the text of each pair set at its position, one after another
 abbrev pub texts_set : List Text → List (Text × ℕ) → List Text
 texts_set texts [] = texts
 texts_set texts (m ∷ more) = texts_set (set texts m.1 m.0) more

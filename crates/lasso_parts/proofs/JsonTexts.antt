@@ -14,7 +14,7 @@ use Rattle.lasso_parts.proofs.IndexLaws.{IsIndexOf-nil}
 use Rattle.lasso_parts.specs.Json.{key_or_too_many, and_then, item_text, new_text, earlier, next_text, read_items}
 use Rattle.lasso_parts.specs.declared.json.error.JsonError.{JsonError}
 
--- a key that was had is that of the position
+-- a key that was found is that of the position
 pub key_had : {K : Type 0} (at : ℕ) (o : Option K) (key : K) → Ok key ≡ key_or_too_many at o → o ≡ Some key
 key_had at None key h = cc
 key_had at (Some k) key h = cc

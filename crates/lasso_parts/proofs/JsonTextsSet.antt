@@ -1,8 +1,8 @@
 -- Texts that are set at positions, one for each member, and the members that they come from.
 --
--- As many positions as there are, each below their number and none twice, are all of them: one more would be one too
--- many. So each position has a member, and a list in which each member's text stands at its position is the list of the
--- texts that were set.
+-- n positions, each below n and none twice, are all of them: one more would be one too many. So each position
+-- has a member, and a list in which each member's text is at its position is the list of the texts that were
+-- set.
 use Rattle.std.proofs.Common.{◌≡◌, ◌≢◌, ◌⊎◌, inl, inr, ℕ, suc, ◌+◌, ◌<◌, ◌==◌, ◌||◌, List, [], ◌∷◌, length, set, get_or, slice_get, Bool, true, false, Some, None, true≢false, refl, sym, ap, subst, ◌∙◌, arith}
 use Rattle.std.specs.List as lists
 use Rattle.std.specs.List.{AllByRecursion, list_any}
@@ -26,7 +26,7 @@ use Rattle.lasso_parts.proofs.JsonPositions.{texts_set, positions}
 abbrev pub is_one : ℕ → List ℕ → Bool
 is_one p ps = list_any (λ q. p == q) ps
 
--- each member's text stands at its position
+-- each member's text is at its position
 abbrev pub AreAt : List Text → List (Text × ℕ) → Type 0
 AreAt texts more = AllByRecursion (λ m. slice_get texts m.1 ≡ Some m.0) more
 
@@ -63,7 +63,7 @@ one_of_none : (p : ℕ) (ps : List ℕ) → AllByRecursion (λ q. (p == q) ≡ f
 one_of_none p [] h = refl
 one_of_none p (q ∷ ps) h = rw (h.0) (one_of_none p ps h.1)
 
--- as many positions as there are, none twice, are all
+-- n positions below n, none twice, are all
 pub covered : (n : ℕ) (ps : List ℕ) → AllByRecursion (λ q. q < n) ps → lists.IsDistinct (λ p q. p == q) ps → length ps ≡ n → (p : ℕ) → p < n → is_one p ps ≡ true
 covered n ps below apart long p inside = elim (cases_Bool (is_one p ps)) [
   | inl one ↦ one
@@ -136,7 +136,7 @@ found_one texts (m ∷ more) p ordered at one = elim (cases_Bool (p == m.1)) [
       (rest.0, rest.1, get_later m.0 (position_number m.1) (members_after more no_members) rest.0 (position_number p) ordered rest.2)
 ]
 
--- texts that differ stand at positions that differ
+-- texts that differ are at positions that differ
 apart_first : (texts : List Text) (m : Text × ℕ) (more : List (Text × ℕ)) → IsBelow m.0 (members_after more no_members) → slice_get texts m.1 ≡ Some m.0 → AreAt texts more → AllByRecursion (λ q. (m.1 == q) ≡ false) (positions more)
 apart_first texts m [] below at ats = tt
 apart_first texts m (u ∷ more) below at ats = (
@@ -179,7 +179,7 @@ unset_stays start (m ∷ more) p none =
     let both = or_false (p == m.1) (is_one p (positions more)) none in
     unset_stays (set start m.1 m.0) more p both.1 ∙ get_or-set_other start m.1 p m.0 [] (apart_from p m.1 both.0)
 
--- texts that were set at positions that differ stand there
+-- texts that were set at positions that differ are there
 pub texts_set_at : (start : List Text) (more : List (Text × ℕ)) → lists.IsDistinct (λ p q. p == q) (positions more) → AllByRecursion (λ p. p < length start) (positions more) → AreAt (texts_set start more) more
 texts_set_at start [] apart below = tt
 texts_set_at start (m ∷ more) apart below =
@@ -191,7 +191,7 @@ texts_set_at start (m ∷ more) apart below =
       texts_set_at (set start p m.0) more (IsDistinct-tail (λ p q. p == q) p (positions more) apart) (subst (λ (n : ℕ). AllByRecursion (λ q. q < n) (positions more)) (sym (length-set start p m.0)) below.1),
     )
 
--- setting the texts that stand at all positions gives the list
+-- setting the texts of all positions gives the list
 pub settled : (texts start : List Text) (more : List (Text × ℕ)) → length start ≡ length texts → AreAt texts more → ((p : ℕ) → p < length texts → (get_or start p [] ≡ get_or texts p []) ⊎ (is_one p (positions more) ≡ true)) → texts_set start more ≡ texts
 settled texts start [] long at each =
     ext_get_or [] start texts long (λ i inside. elim (each i (omega (arith, inside, long))) [ inl same ↦ same | inr one ↦ absurd (true≢false (sym one)) ])

@@ -101,6 +101,6 @@ missing_none : (ts : List Text) → AreMissing ts no_members
 missing_none [] = tt
 missing_none (t ∷ ts) = (refl, missing_none ts)
 
--- there are as many members as texts
+-- there is one member for each text
 pub long_object : (ts : List Text) → IsDistinct ts → members_len (put_texts 0 ts no_members) ≡ length ts
 long_object ts apart = omega (arith, long_texts 0 ts no_members apart (missing_none ts))

@@ -1,4 +1,4 @@
--- What keys beside tags show as slots.
+-- What keys with tags show as slots.
 --
 -- A slot is empty where its tag is 0. A key that is put with another tag fills its own slot, and leaves each
 -- other one. Where each tag is 0 all slots are empty, whatever the keys are; so a tag that is not 0 tells that
@@ -149,7 +149,7 @@ module _ {K : Type 0} (number : K → ℕ) (tags : List ℕ) (keys : List K) (ro
   pub tells_key : (j : ℕ) → slot v.slots j ≢ None → (key : K) → key ≡ get_or keys j key → slot v.slots j ≡ Some (number key)
   tells_key j ne key k = slot_read j (filled_inside j ne) false (not_zero _ (filled_tag j ne)) ∙ ap (option_map number) (slice_get_read keys (length keys) j key refl (has_key j ne) k)
 
-  -- the keys ks are as many as the slots, and are those that there were, if there were any
+  -- there is a key in ks for each slot, and they are the earlier keys, if there were any
   pub put_slots : (ks : List K) → length ks ≡ length tags → (keys ≡ []) ⊎ (ks ≡ keys) → (j tag : ℕ) (key : K) → j < length v.slots → 0 < tag → slots_of number (set tags j tag) (set ks j key) ≡ set v.slots j (Some (number key))
   put_slots ks long same j tag key inside filled =
       slots_of-put number tags ks j tag key (in_tags j inside) long (λ z. absurd (omega arith)) ∙ ap (λ xs. set xs j (Some (number key))) made where

@@ -1,8 +1,8 @@
 -- What a `&` to the places of a block lends.
 --
--- It lends a `&` to the byte of each place that holds one. A `&[u8]` holds a `&` to each of its bytes, side by
--- side. So where each place of a run holds its byte, the places lend the slice of that run: the places before
--- the run are let go, then the run's bytes are taken one by one, and the rest is let go.
+-- It lends a `&` to the byte of each place that holds one. A `&[u8]` holds a `&` to each of its bytes, side
+-- by side. So where each place of a run holds its byte, the places lend the slice of that run: the places
+-- before the run are dropped, then the run's bytes are taken one by one, and the rest is dropped.
 use Rattle.std.proofs.Common.{◌≡◌, ℕ, zero, suc, ◌+◌, ◌<◌, ◌≤◌, Bool, true, false, List, [], ◌∷◌, length, take, drop, get_or, refl, subst, arith}
 use seplogic.Ra.Ura.{Ura}
 use base.Fml.{Lft, Fml}

@@ -14,7 +14,7 @@ use Rattle.lasso_parts.specs.Waste.{IsSpare, HasNoSpare}
 use Rattle.lasso_parts.proofs.Doubled.{next_append, next_grown, usage_doubled, spare_within}
 use Rattle.lasso_parts.proofs.Spares.{found_first, found_none, none_greatest, first_apart}
 
--- the next size behind the spares, and that of now
+-- the next size after the spares, and that of now
 next_now : (a : Regions) → IsOrdered a → (2 * a.doubling ≡ next_of (2 * first_of a) (spares_at_clear a)) ⊎ (2 * next_of (2 * first_of a) (spares_at_clear a) ≤ 2 * a.doubling)
 next_now a order =
     let z = 2 * first_of a in
@@ -26,7 +26,7 @@ next_now a order =
       | inr more ↦ inr (omega (arith, parts, more))
     ]
 
--- as many steps as bytes are enough
+-- s steps are no more than the bytes of s such sizes
 enough : (s z : ℕ) → 0 < z → s ≤ s * z
 enough s zero some = absurd (omega (arith, some))
 enough s (suc z) some = grind arith
@@ -35,7 +35,7 @@ none_in : (n : ℕ) → length (take {A = Extent} n []) ≡ 0
 none_in zero = refl
 none_in (suc n) = refl
 
--- one behind the first region
+-- one after the first region
 region_behind : (xs : List Extent) (k i : ℕ) → i < length (slice_range xs 1 k) → (region_at (slice_range xs 1 k) i ≡ region_at xs (i + 1)) × (i + 1 < k)
 region_behind [] k i inside = absurd (omega (arith, inside, none_in (k - 1)))
 region_behind (x ∷ xs) k i inside =

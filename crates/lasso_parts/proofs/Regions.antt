@@ -1,9 +1,10 @@
 -- Lists of regions while texts are copied in, and while they are cleared.
 --
 -- Where one region gets more bytes, each region of the earlier list begins the one at its position in the
--- later list, and both lie at the same address. A span that is stored lies within the bytes of its region, so the
--- bytes that it names stay the same; so it does where a region more comes behind the others. A text in a region that was just opened is the same as a region more that holds the text.
--- Neither bytes nor clearing change a region's address or capacity, so the list of blocks stays the same.
+-- later list, and both lie at the same address. A span that is stored lies within the bytes of its region, so
+-- the bytes that it names stay the same; so it does where a region is appended. A text in a new region is the
+-- same as an appended region that holds the text. Neither bytes nor clearing change a region's address or
+-- capacity, so the list of blocks stays the same.
 use Rattle.std.proofs.Common.{◌≡◌, ℕ, zero, suc, ◌+◌, ◌-◌, ◌<◌, ◌≤◌, List, [], ◌∷◌, ◌++◌, length, get_or, set, take, drop, map, sym, ap, subst, refl, ◌∙◌, arith, inl, inr, append_assoc}
 use Rattle.std.specs.Prelude.{slice_range, IsUtf8}
 use Rattle.std.proofs.lemmas.List.{take-append-le, drop-append-le, length-append, length-drop, get_or_append_left, get_or_at, get_or-set_same, get_or-set_other, length-set, set_at, append-nil, drop_more, take_more, length-map, length-take-le, map-append, take_all}
@@ -22,7 +23,7 @@ opened at capacity = record { at = at; bytes = []; capacity = capacity }
 abbrev pub filled : Ptr → List ℕ → ℕ → Extent
 filled at bytes capacity = record { at = at; bytes = bytes; capacity = capacity }
 
--- a part of a list stays where the list grows behind it
+-- a part of a list stays when the list grows after it
 range-append : (xs more : List ℕ) (i n : ℕ) → i + n ≤ length xs → slice_range (xs ++ more) i (i + n) ≡ slice_range xs i (i + n)
 range-append xs more i n fits =
     let low : i ≤ length xs = omega arith in

@@ -1,8 +1,9 @@
 -- The smallest spare that has room for a text, found by its size in the sum of the spares, is the first region without bytes that
 -- has that room.
 --
--- The regions are of sizes z, 2z, 4z, ... What is below z in the sum stands for smaller spares; the regions behind the first one add
--- up to a multiple of 2z; so past the multiples of 2z the sum is what is below z and the first region's part.
+-- The regions are of sizes z, 2z, 4z, ... What is below z in the sum is smaller spares; the regions after the
+-- first one add up to a multiple of 2z; so past the multiples of 2z the sum is what is below z and the first
+-- region's part.
 use Rattle.std.proofs.Common.{◌≡◌, ℕ, zero, suc, ◌+◌, ◌*◌, ◌%◌, ◌<◌, ◌≤◌, ◌⊎◌, inl, inr, List, [], ◌∷◌, length, Some, None, sym, ap, refl, ◌∙◌, arith}
 use Rattle.std.specs.Prelude.{nat_le, ◌&&◌, true, false}
 use Rattle.std.proofs.lemmas.Nat.{mod-mul-add}
@@ -120,7 +121,7 @@ none_greatest n z (r ∷ x ∷ xs) some h none great =
     let others = none_greatest n (2 * z) (x ∷ xs) (omega (arith, some)) h.1 (λ k inside. none (suc k) (omega (arith, inside))) all in
     omega (arith, hit, others)
 
--- a spare is the greatest size, or it is a spare beside the greatest, or the greatest is none
+-- a spare is the greatest size, or it is a spare and the greatest another, or the greatest is none
 pub first_apart : (n z : ℕ) (rs : List Extent) (i : ℕ) → 0 < z → AreDoubled z rs → IsFirstToTake n rs i
     → ((region_at rs i).capacity ≤ spare_in rs) × ((2 * (region_at rs i).capacity ≡ next_of z rs) ⊎ ((2 * spare_in rs < next_of z rs) ⊎ (2 * (region_at rs i).capacity + next_of z rs ≤ 2 * spare_in rs)))
 first_apart n z [] i some h is = absurd (omega (arith, is.inside))

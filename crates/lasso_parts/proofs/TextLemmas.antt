@@ -1,4 +1,4 @@
--- Lists of texts that grow by a text that is not there.
+-- Lists of texts that grow by an absent text.
 --
 -- A text that `position` does not find differs from the text at each position. So a distinct list stays
 -- distinct when the text goes last, and it fits the keys where its length has one.
@@ -29,7 +29,7 @@ position_map p f xs = rw (prefix_len-map (λ y. not (p y)) f xs, length-map xs f
 pub absent_at : {X : Type 0} (p : X → Bool) (xs : List X) (k : ℕ) (d : X) → lists.position p xs ≡ None → k < length xs → p (get_or xs k d) ≡ false
 absent_at p xs k d none small = fails_before_first p xs k d (grind (arith, nat_tests))
 
--- a list stays distinct when a text goes last that is not there
+-- a list stays distinct when an absent text goes last
 pub distinct_push : (texts : List Text) (text : Text) → IsDistinct texts → position_of texts text ≡ None → IsDistinct (texts ++ text ∷ [])
 distinct_push texts text distinct none =
     IsDistinct-from_apart bytes_eq (texts ++ text ∷ []) (λ i j d below inside. grind (arith, common_steps, apart_from_distinct bytes_eq texts i j d distinct, absent_at (λ t. bytes_eq t text) texts i d none, length_push texts text))
@@ -42,7 +42,7 @@ present_of : {K : Type 0} (key_at : ℕ → Option K) (o : Option ℕ) (n : ℕ)
 present_of key_at None n fits within = refl
 present_of key_at (Some i) n fits within = fits i (within i refl)
 
--- in a list that fits the keys, the key of a text is there where the text is
+-- in a list that fits the keys, a present text has a key
 pub key_of_present : {K : Type 0} (key_at : ℕ → Option K) (texts : List Text) (text : Text) → Fits key_at (length texts) → is_some (key_of key_at texts text) ≡ is_some (position_of texts text)
 key_of_present key_at texts text fits = present_of key_at _ (length texts) fits (λ i e. (position-Some (λ t. bytes_eq t text) texts i [] e).0)
 
@@ -51,10 +51,10 @@ pub take_more_at : (texts : List Text) (i : ℕ) (text : Text) → slice_get tex
 take_more_at texts i text at =
     take_more texts i [] (slice_get_within texts i text at) ∙ ap (λ (t : Text). take i texts ++ t ∷ []) (get_or_from_slice_get texts i text [] at)
 
--- a text stands where it is found
+-- a text is where it is found
 pub position_here : (texts : List Text) (text : Text) (n : ℕ) → position_of texts text ≡ Some n → slice_get texts n ≡ Some text
 position_here texts text n e = grind (arith, nat_tests, passes_at_first (λ t. bytes_eq t text) texts [], slice_get-get_or, bytes_eq-Decides)
 
--- a text that is put last where it was not there is found last
+-- an absent text that is put last is found last
 pub position_last : (texts : List Text) (text : Text) → position_of texts text ≡ None → position_of (texts ++ text ∷ []) text ≡ Some (length texts)
 position_last texts text none = grind (arith, nat_tests, prefix_len-le-length (λ t. not (bytes_eq t text)) texts, position_or_len_push (λ t. bytes_eq t text) texts text, length_push texts text, bytes_eq-Decides text text)

@@ -1,10 +1,10 @@
 -- What an entry's loan and the regions lend of its text.
 --
--- Of a text that lives as long as the program the loan is a `&` to each byte, for ever, and so for any shorter
--- time. Of a text that an arena copied the regions lend each byte: a `&` to a slice of regions is a `&` to each,
--- the other regions are let go, and the one region is its places, which hold its bytes, and their number. The
--- places lend a `&` to each byte of a run of them (`PlacesLent`). The bytes of the span are such a run, since it
--- lies within the bytes of the region.
+-- Of a text that lives as long as the program the loan is a `&` to each byte, for ever, and so for any
+-- shorter time. Of a text that an arena copied the regions lend each byte: a `&` to a slice of regions is a
+-- `&` to each, the other regions are dropped, and the one region is its places, which hold its bytes, and
+-- their number. The places lend a `&` to each byte of a run of them (`PlacesLent`). The bytes of the span are
+-- such a run, since it lies within the bytes of the region.
 use Rattle.std.proofs.Common.{◌≡◌, ℕ, zero, suc, ◌+◌, ◌-◌, ◌^◌, ◌<◌, ◌≤◌, List, [], ◌∷◌, length, take, drop, refl, sym, ap, subst, ◌∙◌, arith}
 use Rattle.std.proofs.lemmas.List.{drop-take, take-take, length-take, length-drop}
 use Rattle.std.specs.Prelude.{slice_range}
@@ -57,7 +57,7 @@ moved p (block_ptr b o) start is block = (ap block_of is, ap count_of is)
 moved p null_ptr start is block = absurd (subst IsBlock (sym block ∙ is) tt)
 
 module _ {M : Type 1} {𝓤 : Ura M} (𝓛 : Logic 𝓤) (κ : Lft) where
-  -- so many bytes from there on, and room for them
+  -- this number of bytes from there on, and room for them
   abbrev Run : List ℕ → ℕ → Ptr → ℕ → Fml
   Run bytes len p start = fsep (flt len (2 ^ 63)) (elements_shared u8 bytes (block_of p) (count_of p + start) κ)
 
@@ -115,7 +115,7 @@ module _ {M : Type 1} {𝓤 : Ura M} (𝓛 : Logic 𝓤) (κ : Lft) where
           rewrite ! 0 (λ (b : ℕ). ‵ (fsep (flt len (2 ^ 63)) (elements_shared u8 (text_at regions span) b (count_of r.at + span.start) κ))) (sym on.0) refl $
           rewrite ! 0 (λ (o : ℕ). ‵ (fsep (flt len (2 ^ 63)) (elements_shared u8 (text_at regions span) (block_of at) o κ))) (sym on.1) refl $ done !
 
--- an entry's text has so many bytes
+-- the number of bytes of an entry's text
 pub text_len : (regions : List Extent) (e : LentText) (ptr : Ptr) (len : ℕ) → IsLent regions e → AreWordsOf e ptr len → length (lent_bytes regions e) ≡ len
 text_len regions e ptr len there kept = by_source e.source e.at there kept.count
   where

@@ -36,7 +36,7 @@ slice_get-enumerate_from (suc k) n (t ∷ ts) = grind (arith, slice_get-enumerat
 past_end : (n : ℕ) (ts : List Text) → None ≡ slice_get ts n → length ts ≤ n + 1
 past_end n ts none = grind (arith, common_steps, slice_get_cases ts n)
 
--- how many texts are left behind the one at position n
+-- how many texts are left after the one at position n
 pub left_behind : (n : ℕ) (ts rest : List Text) (t : Text) → Some t ≡ slice_get ts n → rest ≡ drop (n + 1) ts → n + 1 + length rest ≡ length ts
 left_behind n ts rest t some is =
     let inside : n < length ts = slice_get_within ts n t (sym some) in

@@ -1,10 +1,10 @@
 -- The account of an interner: five whole numbers of bytes, and what storing a text does to them.
 -- Sums are sums of whole numbers, so that none wraps.
 --
--- The first bucket has as many bytes as the interner was made with. A doubled bucket has twice, four times,
--- eight times .. as many. A clear keeps the first bucket and the doubled ones, and each doubled bucket is a spare
--- from then on until it is filled again. The spares have different sizes, each the first bucket's times a power of
--- two, so the sum of their sizes alone tells which they are.
+-- The first bucket has the size that the interner was made with. A doubled bucket has twice, four times,
+-- eight times .. that size. A clear keeps the first bucket and the doubled ones, and each doubled bucket is a
+-- spare from then on until it is filled again. The spares have different sizes, each the first bucket's times
+-- a power of two, so the sum of their sizes alone tells which they are.
 use Rattle.std.specs.Prelude.{◌≡◌, ℕ, zero, suc, ◌+◌, ◌-◌, ◌*◌, ◌%◌, ◌<◌, ◌≤◌, ◌↔◌, Bool, ◌&&◌, nat_eq, nat_le, nat_lt, if◌then◌else◌, Option, Some, None}
 
 pub record Account : Type 0 where
@@ -28,15 +28,15 @@ fresh bytes limit = record { room = bytes; spare = 0; doubling = bytes; usage = 
 abbrev pub has_spare : ℕ → ℕ → Bool
 has_spare spare size = nat_le size (spare % (2 * size))
 
--- the smallest spare of at least n bytes, of so many sizes, each twice the one before
+-- the smallest spare of at least n bytes, of this number of sizes, each twice the one before
 abbrev pub smallest_spare : ℕ → ℕ → ℕ → ℕ → Option ℕ
 smallest_spare zero size spare n = None
 smallest_spare (suc sizes) size spare n =
     if has_spare spare size && nat_le n size then Some size
     else smallest_spare sizes (2 * size) spare n
 
--- the smallest spare of at least n bytes, where the first bucket has `first`. No spare is left past as many sizes as
--- the spares have bytes.
+-- the smallest spare of at least n bytes, where the first bucket has `first`. The sizes below
+-- the sum of the spares are fewer than its bytes, so that number of steps is enough.
 abbrev pub spare_for : ℕ → Account → ℕ → Option ℕ
 spare_for first a n = smallest_spare a.spare (2 * first) a.spare n
 

@@ -3,14 +3,14 @@ use Rattle.std.specs.Prelude.{◌≡◌, ℕ, ◌^◌, ◌-◌, List, [], ◌∷
 use Rattle.lasso_parts.specs.Account.{Account, fresh, store, clear, with_limit}
 
 pub data AccountStep : Type 0 where
-  -- a text of so many bytes is stored
+  -- a text of this many bytes is stored
   bytes : ℕ → AccountStep
   -- the list is emptied
   empty : AccountStep
   -- the limit becomes this one
   limit : ℕ → AccountStep
 
--- the account after one step, where the first bucket has so many bytes
+-- the account after one step; `first` is the first bucket's size
 abbrev pub stepped : ℕ → Account → AccountStep → Option Account
 stepped first a (bytes n) = store first a n
 stepped first a empty = Some (clear first a)
@@ -27,7 +27,7 @@ abbrev pub figures : Option Account → Option (ℕ × ℕ × ℕ × ℕ)
 figures None = None
 figures (Some a) = Some (a.room, a.spare, a.doubling, a.usage)
 
--- from an account that was just made, with a first bucket of so many bytes and that limit
+-- from a new account with this first bucket's size and this limit
 abbrev pub Gives : ℕ → ℕ → List AccountStep → Option (ℕ × ℕ × ℕ × ℕ) → Type 0
 Gives first permitted steps wanted = figures (account_after first (Some (fresh first permitted)) steps) ≡ wanted
 

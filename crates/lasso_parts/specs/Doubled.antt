@@ -13,12 +13,12 @@ abbrev pub AreDoubled : ℕ → List Extent → Type 0
 AreDoubled size [] = Unit {0}
 AreDoubled size (r ∷ rs) = (r.capacity ≡ size) × AreDoubled (2 * size) rs
 
--- the regions of this size, twice that, and so on, each behind the one before
+-- the regions of this size, twice that, and so on, each after the one before
 abbrev pub doubled_from : ℕ → List Extent → List Extent
 doubled_from size [] = []
 doubled_from size (r ∷ rs) = if nat_eq r.capacity size then r ∷ doubled_from (2 * size) rs else doubled_from size rs
 
--- the size that would be next behind these
+-- the size that would be next after these
 abbrev pub next_of : ℕ → List Extent → ℕ
 next_of size [] = size
 next_of size (r ∷ rs) = if nat_eq r.capacity size then next_of (2 * size) rs else next_of size rs

@@ -63,7 +63,7 @@ pub data EntryView : Type 0 where
   -- names its place in the list of the texts that are too long for an entry
   Listed : ℕ → EntryView
 
--- what stands at a place where the list has no text
+-- what is at a place where the list has no text
 abbrev pub no_text : LentText
 no_text = record { at = null_ptr; source = Static [] }
 

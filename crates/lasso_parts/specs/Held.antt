@@ -1,4 +1,4 @@
--- What an interner holds: its texts in the order of their keys, and beside them its account.
+-- What an interner holds: its texts in the order of their keys, and its account.
 use Rattle.std.specs.Prelude.{List}
 use Rattle.lasso_parts.specs.Texts.{Text}
 use Rattle.lasso_parts.specs.Account.{Account}

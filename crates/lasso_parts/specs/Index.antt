@@ -42,7 +42,7 @@ used (Some n ∷ xs) = used xs + 1
 abbrev pub load_limit : ℕ → ℕ
 load_limit n = 3 * (n / 4)
 
--- n slots are no more than so many positions need: none for none, and above 8 only where half would not do
+-- n slots are no more than `capacity` positions need: none for none, and above 8 only where half would not do
 abbrev pub IsFewest : ℕ → ℕ → Type 0
 IsFewest capacity n = (capacity ≡ 0 → n ≡ 0) × (8 < n → load_limit (n / 2) < capacity)
 
@@ -50,7 +50,7 @@ IsFewest capacity n = (capacity ≡ 0 → n ≡ 0) × (8 < n → load_limit (n /
 abbrev pub room : List (Option ℕ) → ℕ
 room xs = load_limit (length xs) - used xs
 
--- the count of slots after a growth: twice as many, and 8 where there were none
+-- the count of slots after a growth: twice the count, and 8 if there were none
 abbrev pub grown_count : ℕ → ℕ
 grown_count n = if nat_eq n 0 then 8 else 2 * n
 

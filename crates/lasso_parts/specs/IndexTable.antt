@@ -31,7 +31,7 @@ pub record IsEntered (n : ℕ) (old new : Table) : Type 0 where
   pub more : used new.slots ≡ used old.slots + 1
   pub len : length new.slots ≡ length old.slots
 
--- a new table of the list holds these positions, in so many slots
+-- a new table of the list holds these positions, in `count` slots
 pub record IsRefilled (hash_of : Text → ℕ) (texts : List Text) (table : Table) (IsHeld : ℕ → Type 0) (count : ℕ) : Type 0 where
   pub filed : IsFiled hash_of texts table
   pub holds : (n : ℕ) → Holds table.slots n ↔ IsHeld n

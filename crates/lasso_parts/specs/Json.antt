@@ -64,7 +64,7 @@ abbrev pub shown : {A B E : Type 0} → (A → B) → Result A E → Result B E
 shown see (Ok value) = Ok (see value)
 shown see (Err error) = Err error
 
--- the answer of a call that found no memory
+-- the result of a call that ran out of memory
 abbrev pub no_memory : {A : Type 0} → Result A JsonError
 no_memory = Err (Lasso FailedAllocation)
 
@@ -72,7 +72,7 @@ no_memory = Err (Lasso FailedAllocation)
 abbrev pub TakesText : {K : Type 0} → (ℕ → Option K) → Data → Type 0
 TakesText key_at d = (first : Data) × (ds : Items) × (text : Text) × (as_array d ≡ Some (item first ds)) × (as_str first ≡ Some text) × IsSome (key_at 0)
 
--- the answer is what the value is read as; or memory was wanting, and the value is such that it takes some
+-- the result is what the value is read as; or it is out of memory, and the value is such that it takes some
 abbrev pub ReadsOr : Type 0 → Result (List Text) JsonError → Result (List Text) JsonError → Type 0
 ReadsOr takes_memory read answer = (answer ≡ read) ⊎ ((answer ≡ no_memory) × takes_memory)
 

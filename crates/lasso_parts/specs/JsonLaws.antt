@@ -5,7 +5,7 @@ use Rattle.lasso_parts.specs.Texts.{Text, IsDistinct, Fits}
 use Rattle.lasso_parts.specs.Json.{json_array, next_text, read_array}
 use Rattle.lasso_parts.specs.declared.json.error.JsonError.{JsonError}
 
--- a list whose positions have keys, and in which no text stands twice where that is asked for
+-- a list whose positions have keys, and whose texts are distinct where that is asked for
 pub record IsReadable {K : Type 0} (key_at : ℕ → Option K) (distinct : Bool) (texts : List Text) : Type 0 where
   pub fits : Fits key_at (length texts)
   pub apart : distinct ≡ true → IsDistinct texts

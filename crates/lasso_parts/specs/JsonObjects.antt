@@ -64,7 +64,7 @@ read_members key_at n seen texts no_members = Ok texts
 read_members key_at n seen texts (member t d ms) =
     and_then (next_position key_at n seen d) (λ p. read_members key_at n (seen ++ p ∷ []) (set texts p t) ms)
 
--- the texts of an object's members: as many texts as members, each set at its position
+-- the texts of an object's members, one for each, set at its position
 abbrev pub read_if_object : {K : Type 0} → (ℕ → Option K) → Option Members → Result (List Text) JsonError
 read_if_object key_at None = Err NotAnObject
 read_if_object key_at (Some ms) = read_members key_at (members_len ms) [] (replicate (members_len ms) []) ms

@@ -1,4 +1,4 @@
--- The slots of a table, kept as a tag for each slot beside the keys.
+-- The slots of a table, kept as a list of tags, one for each slot, and a list of keys.
 use Rattle.std.specs.Prelude.{◌≡◌, ℕ, ◌≤◌, ◌⊎◌, List, [], Option, Some, None, length, map, replicate, slice_get, slice_index_or, option_map, nat_eq, if◌then◌else◌}
 use Rattle.std.specs.List.{range_with_len}
 use Rattle.std.specs.Vec.{vec_capacity}
@@ -19,11 +19,11 @@ key_room (Some keys) = vec_capacity keys
 abbrev pub slot_of : {K : Type 0} → (K → ℕ) → List ℕ → List K → ℕ → Option ℕ
 slot_of number tags keys j = if nat_eq (slice_index_or tags j 0) 0 then None else option_map number (slice_get keys j)
 
--- as many slots as tags
+-- a slot for each tag
 abbrev pub slots_of : {K : Type 0} → (K → ℕ) → List ℕ → List K → List (Option ℕ)
 slots_of number tags keys = map (slot_of number tags keys) (range_with_len 0 (length tags))
 
--- the same beside their tags
+-- the slots with their tags
 abbrev pub table_of : {K : Type 0} → (K → ℕ) → List ℕ → List K → Table
 table_of number tags keys = record { slots = slots_of number tags keys; tags = tags }
 

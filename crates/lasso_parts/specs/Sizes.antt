@@ -3,7 +3,7 @@ use Rattle.std.specs.Prelude.{ℕ, ◌==◌, ◌&&◌, Bool}
 use Rattle.std.specs.Ordering.{on, then_cmp, nat_cmp}
 use Rattle.std.specs.declared.cmp.Ordering.{Ordering}
 
--- room for so many texts, and a first bucket of so many bytes
+-- the number of texts that there is room for, and the bytes of the first bucket
 pub record Sizes : Type 0 where
   pub strings : ℕ
   pub bytes : ℕ

@@ -3,8 +3,6 @@ ghost use Rattle.std.specs.Prelude.{◌≡◌, ◌+◌, ◌*◌, ◌<◌, ◌-�
 ghost use Rattle.lasso_parts.specs.Account.{fresh, store, spare_for, clear, with_limit};
 ghost use Rattle.lasso_parts.specs.declared.util.LassoErrorKind.TheVariants.{MemoryLimitReached, FailedAllocation};
 
-mod debug;
-mod memory;
 mod owned;
 mod placing;
 mod storing;
@@ -13,6 +11,7 @@ use crate::bucket::region::Region;
 use crate::util::{LassoError, LassoErrorKind, LassoResult};
 use owned::OwnedRegions;
 use std::alloc::Allocator;
+use std::fmt;
 use std::marker::Model;
 
 /// Where a text lies in an arena.
@@ -73,8 +72,8 @@ impl<A: Allocator> Model for Arena<A> {
 impl<A: Allocator + Clone> Arena<A> {
     ghost use Rattle.lasso_parts.specs.Arena.{account_of, copied_of, first_of, most_of};
 
-    /// An arena with a first region of so many bytes, whose regions take at most `limit` bytes. The limit
-    /// may lie below the first region's bytes. It is refused for want of memory alone.
+    /// An arena with a first region of `bytes` bytes, whose regions take at most `limit` bytes. The limit may
+    /// be less than the first region's bytes. The only error is `FailedAllocation`.
     pub fn new(alloc: A, bytes: usize, limit: usize) -> LassoResult<Self>
         requires { 0 < bytes }
         ensures account { IfOk result (λ arena. account_of arena ≡ fresh bytes limit) }
@@ -96,8 +95,8 @@ impl<A: Allocator + Clone> Arena<A> {
         })
     }
 
-    /// An arena with a first region of 4096 bytes and with no limit below the greatest number. It is
-    /// refused for want of memory alone.
+    /// An arena with a first region of 4096 bytes and the limit `usize::MAX`. The only error is
+    /// `FailedAllocation`.
     pub fn default(alloc: A) -> LassoResult<Self>
         ensures account { IfOk result (λ arena. account_of arena ≡ fresh 4096 (2 ^ 64 - 1)) }
         ensures first { IfOk result (λ arena. first_of arena ≡ 4096) }
@@ -123,6 +122,14 @@ impl<A: Allocator> Arena<A> {
         self.usage
     }
 
+    /// How many bytes the allocator gave: for the regions, as `memory_usage` counts them, and for the lists that name them.
+    pub fn allocated_bytes(&self) -> usize
+        ensures { usage_of self.now.all ≤ result }
+    {
+        self.memory_usage()
+            .saturating_add(self.regions.list_bytes())
+    }
+
     /// The most bytes that all regions may take.
     pub fn max_memory_usage(&self) -> usize
         ensures limit { result ≡ self.now.limit }
@@ -138,7 +145,7 @@ impl<A: Allocator> Arena<A> {
     }
 
     /// Whether a text of `n` bytes fits, in the current region or in a spare, or is within the limit:
-    /// `store_str` then fails for want of memory alone. It takes no memory.
+    /// `store_str` then fails only when out of memory. It takes no memory.
     pub fn admits(&self, n: usize) -> bool
         ensures account { IsTrue result ↔ IsSome (store (first_of self.now) (account_of self.now) n) }
         ensures sums { IsTrue result ↔ (n ≤ (account_of self.now).room) ⊎ (IsSome (spare_for (first_of self.now) (account_of self.now) n) ⊎ ((account_of self.now).usage + n ≤ self.now.limit)) }
@@ -166,7 +173,7 @@ impl<A: Allocator> Arena<A> {
         Some(self.store_in_current(text))
     }
 
-    /// The text of a span that was handed out since the last `clear`.
+    /// The text of a span that this arena returned since the last `clear`.
     pub fn text(&self, span: Span) -> &str
         requires stored { IsStored self.now.all span }
         ensures { result.now ≡ text_at self.now.all span }
@@ -203,13 +210,14 @@ impl<A: Allocator> Arena<A> {
 impl<A: Allocator + Clone> Arena<A> {
     ghost use Rattle.lasso_parts.specs.Arena.{account_of, copied_of, first_of, most_of, IsStored, text_at, KeepsTexts};
 
-    /// Copies a text in and answers where it lies. Every text that was stored before stays where it is. A
-    /// text of no bytes takes no memory. Where the current region has no room, the smallest spare that has
-    /// it is filled: one that the last `clear` kept and that is empty still. A text longer than twice the
-    /// doubling size then gets a region of just its bytes, which does not become the current one. A text
-    /// that the limit refuses is refused before any memory is asked for; else it is refused for want of
-    /// memory alone, and only where it needs a new region. A refusal changes nothing: no region, no byte of
-    /// one, nor the current region, the spares, the doubling size or the limit.
+    /// Copies a text in and returns where it lies. Every text stored earlier stays where it is. A text of no
+    /// bytes takes no memory. Where the current region has no room, the smallest spare that has it is filled:
+    /// one that the last `clear` kept and that is empty still. A text longer than twice the doubling size
+    /// then gets a region of just its bytes, which does not become the current one. A text that the limit
+    /// refuses (`MemoryLimitReached`) is refused before any memory is asked for. Any other text fails only
+    /// when out of memory (`FailedAllocation`), and only where it needs a new region. An error changes
+    /// nothing: no region, no byte of one, nor the current region, the spares, the doubling size or the
+    /// limit.
     #[inline(never)]
     pub fn store_str(&mut self, text: &str) -> LassoResult<Span>
         ensures account { IsOk result → store (first_of self.old) (account_of self.old) (length text.now) ≡ Some (account_of self.new) }
@@ -237,6 +245,31 @@ impl<A: Allocator + Clone> Arena<A> {
             Placement::Exact => self.store_in_exact(text),
             Placement::Remnant(size) => self.store_in_remnant(size, text),
             Placement::Doubled(size) => self.store_in_doubled(size, text),
+        }
+    }
+}
+
+impl<A: Allocator> fmt::Debug for Arena<A> {
+    fn fmt<W: fmt::Write>(&self, f: &mut fmt::Formatter<W>) -> fmt::Result {
+        f.debug_struct("Arena")
+            .field("buckets", &BucketCount(self.regions().len()))
+            .field("bucket_capacity", &self.doubling)
+            .field("memory_usage", &self.usage)
+            .field("max_memory_usage", &self.limit)
+            .finish()
+    }
+}
+
+// A number of buckets, whose bytes are left out of debug text.
+#[derive(Drop)]
+struct BucketCount(usize);
+
+impl fmt::Debug for BucketCount {
+    fn fmt<W: fmt::Write>(&self, f: &mut fmt::Formatter<W>) -> fmt::Result {
+        if self.0 == 1 {
+            f.write_str("... 1 bucket")
+        } else {
+            write!(f, "... {} buckets", self.0)
         }
     }
 }

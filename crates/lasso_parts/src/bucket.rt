@@ -1,5 +1,5 @@
-//! A bucket: memory of a fixed size that fills with bytes from its start. It is for callers alone: the
-//! arena keeps its regions beside one another, and has no `Bucket`.
+//! A bucket: memory of a fixed size that fills with bytes from its start. It is for callers alone: an arena
+//! keeps its regions in a list of their own, and has no `Bucket`.
 ghost use Rattle.std.specs.Prelude.{◌≡◌, ◌+◌, ◌<◌, ◌≤◌, ◌↔◌, ◌++◌, [], length, slice_range, IfOk, IfErr, IsTrue, IsUtf8};
 ghost use Rattle.lasso_parts.specs.declared.util.LassoErrorKind.TheVariants.{FailedAllocation};
 
@@ -7,14 +7,14 @@ pub mod cells;
 pub mod region;
 
 use crate::util::LassoResult;
-use region::{Region, Right, close, open};
+use region::{Region, RegionRight, close, open};
 use std::alloc::Allocator;
 use std::marker::{Model, Send, Sync};
 
 /// A run of bytes that never moves and never grows, freed when the bucket is dropped.
 pub struct Bucket<A: Allocator> {
     region: Region,
-    right: Right<A>,
+    right: RegionRight<A>,
 }
 
 impl<A: Allocator> Model for Bucket<A> {
@@ -70,7 +70,7 @@ impl<A: Allocator> Bucket<A> {
         self.region.clear();
     }
 
-    /// Copies the bytes in behind those that are there, and answers where they start. The capacity stays.
+    /// Appends the bytes, and returns where they start. The capacity stays.
     pub fn push_slice(&mut self, bytes: &[u8]) -> usize
         requires fits { length self.old.bytes + length bytes.now ≤ self.old.capacity }
         ensures start { result ≡ length self.old.bytes }
@@ -95,7 +95,7 @@ fn crosses<T: Send + Sync>(_: &T) {}
 // A bucket and its parts go to another thread, and are shared, where their allocator is.
 fn crosses_with_its_allocator<A: Allocator + Send + Sync>(
     region: &Region,
-    right: &Right<A>,
+    right: &RegionRight<A>,
     bucket: &Bucket<A>,
 ) {
     crosses(region);

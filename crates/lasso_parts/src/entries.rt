@@ -14,9 +14,9 @@ use std::marker::{Model, Send, Sync};
 use std::mem::size_of;
 use std::str::from_utf8_unchecked;
 
-/// An entry of a list of texts, of 16 bytes. It has a short text itself, or the address and the length of another. A
-/// text of 2^32 bytes or more, whose length has no room in it, stands in a list beside the entries, and the entry has
-/// its index there. Contracts see which of the three it is.
+/// An entry of a list of texts, of 16 bytes. It has a short text itself, or the address and the length of
+/// another. A text of 2^32 bytes or more, whose length has no room in it, is in a second list, and the entry
+/// has its index there. Contracts see which of the three it is.
 #[derive(Drop)]
 pub struct Entry {
     place: Place,
@@ -85,7 +85,7 @@ impl Entry {
         }
     }
 
-    /// The entry of a text that stands in a list beside the entries, at that index.
+    /// The entry of a text at that index of the second list, that of the texts of 2^32 bytes or more.
     pub fn listed(index: usize) -> Self
         ensures { result ≡ Listed index }
     {
@@ -108,8 +108,8 @@ impl Entry {
     }
 }
 
-/// The text of an entry, lent by the entry or the regions. Nothing is copied, and nothing tested. The texts of 2^32
-/// bytes or more stand in the list `vast`.
+/// The text of an entry, lent by the entry or the regions. Nothing is copied, and nothing tested. The texts
+/// of 2^32 bytes or more are in the list `vast`.
 #[inline]
 pub fn text_of<'a>(regions: &'a [Region], vast: &'a [LongText], entry: &'a Entry) -> &'a str
     requires { IsThere regions.now vast.now entry.now }
@@ -124,7 +124,7 @@ pub fn text_of<'a>(regions: &'a [Region], vast: &'a [LongText], entry: &'a Entry
     }
 }
 
-// The text at an index of the list beside the entries. Almost no list has one.
+// The text at an index of the list of texts of 2^32 bytes or more. Almost no list has one.
 #[cold]
 #[inline(never)]
 fn listed_text<'a>(regions: &'a [Region], vast: &'a [LongText], index: usize) -> &'a str

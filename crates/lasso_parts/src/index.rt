@@ -9,7 +9,6 @@ mod groups;
 mod hashing;
 pub mod key_slots;
 mod lists;
-mod memory;
 mod probe;
 mod same;
 mod table;
@@ -61,9 +60,9 @@ impl<K: Key, A: Allocator> Index<K, A> {
         }
     }
 
-    /// An index that holds nothing, with room for so many keys: they fit without a growth. It has the
-    /// fewest slots that serve. It is refused for want of memory alone, also where no `usize` has the
-    /// count of slots.
+    /// An index that holds nothing, with room for `capacity` keys: they fit without a growth. It has the
+    /// fewest slots that they need. The only error is `FailedAllocation`, also when a `usize` can't count the
+    /// slots.
     pub fn with_capacity(alloc: A, capacity: usize) -> LassoResult<Self>
     where
         A: Clone,
@@ -80,8 +79,8 @@ impl<K: Key, A: Allocator> Index<K, A> {
         Ok(Index { slots, used: 0 })
     }
 
-    /// The position of the text among the positions held, or `None` where none of them has it. It is
-    /// exact for every hasher, and takes no memory.
+    /// The position of the text among the positions held, or `None` if none of them has it. It is exact for
+    /// every hasher, and takes no memory.
     #[inline]
     pub fn find<T: Texts, S: BuildHasher>(&self, texts: &T, hasher: &S, text: &str) -> Option<usize>
         requires { IsFiled (text_hash S.build_hasher S.Hasher.write S.Hasher.finish hasher.now) (T.list texts.now) self.now }
@@ -92,8 +91,8 @@ impl<K: Key, A: Allocator> Index<K, A> {
         self.find_hashed(texts, hasher, hash_text(hasher, text), text)
     }
 
-    /// The same as `find`, where the caller has the text's hash already: it must be what `hash_text` gives
-    /// for this hasher and this text.
+    /// `find` for a caller that has the text's hash already: it must be what `hash_text` gives for this
+    /// hasher and this text.
     #[inline]
     pub fn find_hashed<T: Texts, S: BuildHasher>(
         &self,
@@ -114,8 +113,8 @@ impl<K: Key, A: Allocator> Index<K, A> {
         }
     }
 
-    /// The position of the text as `find_hashed` has it, or else where its key would go, which `insert_at`
-    /// takes.
+    /// The position of the text, as `find_hashed` returns it, or the vacancy where its key would go, which
+    /// `insert_at` takes.
     #[inline(always)]
     pub fn locate<T: Texts, S: BuildHasher>(
         &self,
@@ -134,9 +133,9 @@ impl<K: Key, A: Allocator> Index<K, A> {
         self.search(texts, hasher, hash, text)
     }
 
-    /// Makes room for one key more. Where there is none, the table gets twice the slots, or 8 where it
-    /// had none, and each key is entered again, once, by the hash of its text. It is refused for want of
-    /// memory alone, and the index is unchanged then.
+    /// Makes room for one more key. If there is none, the table gets twice the slots, or 8 if it had none,
+    /// and each key is entered again, once, by the hash of its text. The only error is `FailedAllocation`,
+    /// and the index is unchanged then.
     pub fn reserve_one<T: Texts, S: BuildHasher>(
         &mut self,
         texts: &T,
@@ -166,9 +165,10 @@ impl<K: Key, A: Allocator> Index<K, A> {
         Ok(())
     }
 
-    /// The same for the index of a whole list, which holds the positions 0, 1, 2 and so on: where the table
-    /// grows they are entered again in that order, so that texts which lie side by side are read one after
-    /// another. It takes where a text of that hash would go, and answers where it goes now.
+    /// Makes room for one more key in the index of a whole list, which holds the positions 0, 1, 2 and so on.
+    /// If the table grows, they are entered again in that order, so that texts which lie side by side are
+    /// read one after another. It takes where a text of that hash would go, and returns where it goes now.
+    /// Errors are those of `reserve_one`.
     pub fn reserve_in_order<T: Texts, S: BuildHasher>(
         &mut self,
         texts: &T,
@@ -202,7 +202,7 @@ impl<K: Key, A: Allocator> Index<K, A> {
     }
 
     /// Enters the key under the hash of its text. There must be room, which `reserve_one` and
-    /// `reserve_in_order` make; so it can't be refused.
+    /// `reserve_in_order` make; so it can't fail.
     #[inline]
     pub fn insert_reserved(&mut self, hash: u64, key: K)
         requires { 0 < room self.old.slots }
@@ -216,7 +216,7 @@ impl<K: Key, A: Allocator> Index<K, A> {
         self.used += 1;
     }
 
-    /// The same where it is known where the key goes.
+    /// Inserts the key at a vacancy found by `locate`, without a second search.
     #[inline]
     pub fn insert_at(&mut self, vacancy: Vacancy, hash: u64, key: K)
         requires room { 0 < room self.old.slots }
@@ -242,7 +242,11 @@ impl<K: Key, A: Allocator> Index<K, A> {
         self.used = 0;
     }
 
-    /// Whether there is room for one key more.
+    /// How many bytes the allocator gave for the slots: for the keys, and one byte for the tag of each.
+    pub fn allocated_bytes(&self) -> usize {
+        self.slots.allocated_bytes()
+    }
+    /// Whether there is room for one more key.
     #[inline]
     pub fn has_room(&self) -> bool
         ensures { IsTrue result ↔ (0 < room self.now.slots) }
@@ -250,7 +254,7 @@ impl<K: Key, A: Allocator> Index<K, A> {
         self.used < self.slots.len() / 4 * 3
     }
 
-    // What `locate` answers, from the slots: first from the home slot up, then below it.
+    // What `locate` returns: the search from the home slot up, then below it.
     #[inline(always)]
     fn search<T: Texts, S: BuildHasher>(
         &self,

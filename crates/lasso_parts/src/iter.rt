@@ -1,5 +1,5 @@
 //! Walks over the texts of a list, from both ends. A walk borrows the list's entries and the regions that
-//! they name, so no allocator stands in its type, and no step of it takes memory.
+//! they name, so its type names no allocator, and no step of it takes memory.
 ghost use Rattle.std.specs.Prelude.{◌≡◌, ◌+◌, ◌-◌, ◌<◌, ◌≤◌, length, take, drop, None, Some, IsSome, IfSome, option_map, slice_get};
 ghost use Rattle.std.specs.Iterator.{YieldsFirstBy, YieldsLastBy, item_count, at_most, UpTo};
 ghost use Rattle.std.specs.Iterator.SizeHint.{IsWithinCount};
@@ -7,13 +7,12 @@ ghost use Rattle.std.specs.List.{enumerate_from};
 ghost use Rattle.lasso_parts.specs.Entries.{AllThere, texts_of};
 ghost use Rattle.lasso_parts.specs.Texts.{Fits};
 
-mod debug;
-
 use crate::bucket::region::Region;
 use crate::entries::long::LongText;
 use crate::entries::{Entry, text_of};
 use crate::keys::Key;
 use std::alloc::AllocError;
+use std::fmt;
 use std::iter::FusedIterator;
 use std::marker::{Model, PhantomData};
 
@@ -166,8 +165,14 @@ impl<'a, K: Key> Clone for Strings<'a, K> {
     }
 }
 
-/// A walk over texts and their keys, in the order of the keys. Contracts see it as the list of the texts
-/// that are left, each behind its key's number.
+impl<'a, K: Key> fmt::Debug for Strings<'a, K> {
+    fn fmt<W: fmt::Write>(&self, f: &mut fmt::Formatter<W>) -> fmt::Result {
+        f.debug_list().entries(self.clone().unwrap()).finish()
+    }
+}
+
+/// A walk over texts and their keys, in the order of the keys. Contracts see it as the list of the texts that
+/// are left, each after its key's number.
 ///
 /// ```rust
 /// let rodeo: SpurRodeo = Rodeo::from_iter(rt.alloc(), ["red", "green", "blue"])?;
@@ -294,6 +299,12 @@ impl<'a, K: Key> Clone for Iter<'a, K> {
             strings: self.strings.clone()?,
             first: self.first,
         })
+    }
+}
+
+impl<'a, K: Key + fmt::Debug> fmt::Debug for Iter<'a, K> {
+    fn fmt<W: fmt::Write>(&self, f: &mut fmt::Formatter<W>) -> fmt::Result {
+        f.debug_map().entries(self.clone().unwrap()).finish()
     }
 }
 

@@ -1,12 +1,12 @@
 //! Texts and keys as JSON values: what they are written as, how they are read, and what is wrong with a
 //! value that can't be read.
+mod arrays;
 mod error;
 mod keys;
 mod laws;
 mod objects;
-mod reading;
-mod writing;
 
+pub use arrays::{read_array, write_array};
 pub use error::JsonError;
 pub use keys::JsonKey;
 pub use laws::{
@@ -14,5 +14,3 @@ pub use laws::{
     json_object_reads_exactly, json_reads_back, json_reads_exactly,
 };
 pub use objects::{read_map, write_map};
-pub use reading::read_array;
-pub use writing::write_array;

@@ -1,6 +1,6 @@
 //! The parts that every interner is built of: errors, capacities, limits, keys, the memory of texts, the
-//! index from a text to its position, and texts and keys as JSON. The examples in the documents are what a
-//! caller of the crate `lasso` writes, with `rt` the runtime: each stands in a test there.
+//! index from a text to its position, and texts and keys as JSON. The examples in the docs are what a caller
+//! of the crate `lasso` writes, with `rt` the runtime: each is in a test there.
 #![tactic(auto)]
 
 pub mod arena;

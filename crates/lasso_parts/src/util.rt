@@ -12,10 +12,10 @@ use std::marker::Model;
 /// The hasher of the makers that name none. Its seed is fixed.
 pub type FixedState = BuildHasherDefault<FoldHasher>;
 
-/// What a call that may be refused answers.
+/// The result of a call that may fail.
 pub type LassoResult<T> = Result<T, LassoError>;
 
-/// Why a call was refused.
+/// Why a call failed.
 #[derive(Clone, Copy, Debug, PartialEq, Eq, Hash)]
 pub enum LassoErrorKind {
     /// The text's bytes would take more memory than the limit allows.
@@ -81,7 +81,7 @@ impl fmt::Display for LassoErrorKind {
     }
 }
 
-/// A refusal. Contracts see it as its kind.
+/// An error. Contracts see it as its kind.
 #[derive(Clone, Debug, PartialEq, Eq, Hash, Drop)]
 pub struct LassoError {
     kind: LassoErrorKind,
@@ -172,7 +172,7 @@ impl Model for Capacity {
 }
 
 impl Capacity {
-    /// Room for so many texts and so many bytes.
+    /// Room for `strings` texts and `bytes` bytes.
     ///
     /// ```rust
     /// let capacity = Capacity::new(3, 9);
@@ -187,7 +187,7 @@ impl Capacity {
         Capacity { strings, bytes }
     }
 
-    /// Room for so many texts, and for 4096 bytes.
+    /// Room for `strings` texts, and for 4096 bytes.
     ///
     /// ```rust
     /// let capacity = Capacity::for_strings(10);
@@ -201,7 +201,7 @@ impl Capacity {
         Capacity::new(strings, 4096)
     }
 
-    /// Room for 50 texts, and for so many bytes.
+    /// Room for 50 texts, and for `bytes` bytes.
     ///
     /// ```rust
     /// let capacity = Capacity::for_bytes(7);
@@ -276,7 +276,7 @@ impl Model for MemoryLimits {
 }
 
 impl MemoryLimits {
-    /// A limit of so many bytes.
+    /// A limit of `max_memory_usage` bytes.
     ///
     /// ```rust
     /// let limits = MemoryLimits::new(12);
@@ -288,7 +288,7 @@ impl MemoryLimits {
         MemoryLimits { max_memory_usage }
     }
 
-    /// A limit of so many bytes: the same as `new`.
+    /// A limit of `max_memory_usage` bytes: the same as `new`.
     ///
     /// ```rust
     /// let limits = MemoryLimits::for_memory_usage(13);

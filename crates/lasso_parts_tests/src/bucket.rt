@@ -1,6 +1,6 @@
 //! A bucket that fills and is cleared, and sizes that no region can have.
 use lasso_parts::bucket::Bucket;
-use lasso_parts::bucket::region::{Region, Right};
+use lasso_parts::bucket::region::{Region, RegionRight};
 use lasso_parts::util::LassoErrorKind;
 use std::alloc::Global;
 use std::marker::{Send, Sync};
@@ -41,7 +41,7 @@ fn crosses<T: Send + Sync>() {}
 fn crosses_with_its_allocator(rt: HostRuntime) -> Result<(), Fail> {
     let bucket = Bucket::with_capacity(rt.alloc(), 1)?;
     crosses::<Region>();
-    crosses::<Right<Global>>();
+    crosses::<RegionRight<Global>>();
     drop(bucket);
     Ok(())
 }

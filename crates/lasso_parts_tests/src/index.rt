@@ -1,11 +1,12 @@
 //! What no clause says of an index: which texts are hashed again, which are read, and that a constant hasher serves.
 ghost use Rattle.lasso_parts.specs.Index.{IsFiledAnywhere};
 
-use crate::hashers::{CountedTexts, CountingState, LengthState, SameState};
+use crate::counted_texts::CountedTexts;
 use lasso_parts::index::key_slots::KeySlots;
 use lasso_parts::index::{Index, hash_text};
 use lasso_parts::keys::{Key, Spur};
 use lasso_parts::util::{FixedState, LassoErrorKind, LassoResult};
+use lasso_testing::hashers::{CountingState, LengthState, SameState};
 use std::alloc::Global;
 use std::cell::Cell;
 use std::hash::BuildHasher;

@@ -1,62 +1,11 @@
 //! Ranges and printed forms of the key types, and a key type of a user's own.
 use lasso_parts::keys::{Key, LargeSpur, MicroSpur, MiniSpur, Spur};
-use std::cmp::{Eq, Ordering, PartialEq};
-use std::marker::Model;
+use lasso_testing::keys::Below;
+use std::cmp::Ordering;
 use std::test::Fail;
 
 // A key type of a user's own: it keeps the position in 32 bits, and leaves the 16777216 highest values free.
-#[derive(Clone, Copy, PartialEq, Eq)]
-struct NicheKey {
-    position: u32,
-}
-
-impl Model for NicheKey {
-    ghost use Rattle.std.specs.Prelude.{ℕ, ◌<◌};
-
-    ghost Value = { ℕ };
-
-    ghost view = { λ k. k.position };
-
-    ghost invariant = { λ k. k.position < 4278190080 };
-
-    ghost inverse = { λ n. record { position = n } };
-}
-
-impl Key for NicheKey {
-    ghost use Rattle.std.specs.Prelude.{◌<◌, nat_lt, if◌then◌else◌, Some, None};
-    ghost use Rattle.std.proofs.Common.{arith};
-    ghost use Rattle.std.proofs.lemmas.Bool.Decides.{nat_tests};
-
-    ghost is_value = { λ k. k < 4278190080 };
-
-    ghost number = { λ k. k };
-
-    ghost key_at = { λ n. if nat_lt n 4278190080 then Some n else None };
-
-    fn into_usize(self) -> usize {
-        self.position as usize
-    }
-
-    fn try_from_usize(position: usize) -> Option<Self> {
-        if position < 4278190080 {
-            Some(NicheKey {
-                position: position as u32,
-            })
-        } else {
-            None
-        }
-    }
-
-    fn show_value(self) {
-        let _position = self.position;
-    }
-
-    ghost made = { λ n k made. Prim.grind (arith, nat_tests) };
-
-    ghost made_again = { λ k is_value. Prim.grind (arith, nat_tests) };
-
-    ghost equal = { λ a b is_value is_value'. Prim.grind (arith, nat_tests) };
-}
+type NicheKey = Below<4278190080>;
 
 fn number_of<K: Key>(position: usize) -> Option<usize> {
     let key = K::try_from_usize(position)?;

@@ -6,7 +6,8 @@
 mod arena;
 #[cfg(test)]
 mod bucket;
-pub mod hashers;
+#[cfg(test)]
+mod counted_texts;
 #[cfg(test)]
 mod index;
 #[cfg(test)]

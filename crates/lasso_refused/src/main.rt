@@ -3,7 +3,6 @@
 //! says `<script>: as worked`, `<script> refused at <call>: stands`, or, with status 1, `<script> at <call>: <what> does not stand`.
 #![tactic(auto)]
 
-mod keys;
 mod making;
 mod one_thread;
 mod refusals;

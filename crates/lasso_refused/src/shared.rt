@@ -2,10 +2,10 @@
 
 ghost use Rattle.std.specs.Prelude.{◌<◌};
 
-use crate::keys::WithoutTwo;
 use crate::refusals::{Call, Fault, Refused, twice};
 use crate::stories::{Interner, State, Step, Story, Way, shows};
 use lasso::{FixedState, Key, LassoErrorKind, RodeoReader, RodeoResolver, Spur, ThreadedRodeo};
+use lasso_testing::keys::WithoutTwo;
 use std::alloc::Global;
 use std::sync::Wait;
 

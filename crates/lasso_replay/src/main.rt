@@ -6,7 +6,6 @@
 mod faults;
 mod json_lines;
 mod key_types;
-mod keys;
 mod lines;
 mod parts;
 mod read_json;

@@ -1,8 +1,7 @@
 //! Reading interners and keys from JSON values, with a reply each.
 
 use crate::json_lines::{Form, InternerLine, KeyLine};
-use crate::key_types::{KeyType, SpurType};
-use crate::keys::{BelowTwo, WithoutTwo};
+use crate::key_types::{Replayed, SpurType};
 use crate::replies::{write_fault, write_key, write_list, write_refusal};
 use lasso::{
     FixedState, JsonKey, Key, LargeSpur, MicroSpur, MiniSpur, Rodeo, RodeoReader, RodeoResolver,
@@ -17,16 +16,11 @@ use std::sync::Wait;
 impl InternerLine {
     /// Reads the interner, and writes its texts in the order of their keys, or the fault.
     pub fn replay<R: Wait, W: Write>(&self, rt: &R, alloc: Global, out: &mut W) -> io::Result<()> {
-        match self.key_type {
-            KeyType::Spur => self.replay_with::<R, Spur, W>(rt, alloc, out),
-            KeyType::MiniSpur => self.replay_with::<R, MiniSpur, W>(rt, alloc, out),
-            KeyType::MicroSpur => self.replay_with::<R, MicroSpur, W>(rt, alloc, out),
-            KeyType::LargeSpur => self.replay_with::<R, LargeSpur, W>(rt, alloc, out),
-            KeyType::BelowTwo => self.replay_with::<R, BelowTwo, W>(rt, alloc, out),
-            KeyType::WithoutTwo => self.replay_with::<R, WithoutTwo, W>(rt, alloc, out),
-        }
+        self.key_type.replay(self, rt, alloc, out)
     }
+}
 
+impl Replayed for InternerLine {
     fn replay_with<R: Wait, K: Key, W: Write>(
         &self,
         rt: &R,

@@ -1,15 +1,11 @@
 //! Scripts: a header, and then one command a line.
 
 use crate::faults::Reason;
-use crate::key_types::{KeyType, parse_key_type};
-use crate::keys::{BelowTwo, WithoutTwo};
+use crate::key_types::{KeyType, Replayed, parse_key_type};
 use crate::lines::{Call, ScriptCommand, parse_call, parse_command, parse_limit, parse_number};
 use crate::replay::replay_command;
 use crate::replay_shared::replay_shared_call;
-use lasso::{
-    Capacity, FixedState, Key, LargeSpur, LassoResult, MemoryLimits, MicroSpur, MiniSpur, Rodeo,
-    Spur, ThreadedRodeo,
-};
+use lasso::{Capacity, FixedState, Key, LassoResult, MemoryLimits, Rodeo, ThreadedRodeo};
 use std::alloc::{AllocError, Global};
 use std::io;
 use std::io::Write;
@@ -97,16 +93,23 @@ impl Script {
     /// Makes the script's interner, carries its commands out, and writes their replies. Where memory is
     /// wanting for the interner, that is the error.
     pub fn replay<R: Wait, W: Write>(&self, rt: &R, alloc: Global, out: &mut W) -> io::Result<()> {
-        match self.key_type {
-            KeyType::Spur => self.replay_with::<R, Spur, W>(rt, alloc, out),
-            KeyType::MiniSpur => self.replay_with::<R, MiniSpur, W>(rt, alloc, out),
-            KeyType::MicroSpur => self.replay_with::<R, MicroSpur, W>(rt, alloc, out),
-            KeyType::LargeSpur => self.replay_with::<R, LargeSpur, W>(rt, alloc, out),
-            KeyType::BelowTwo => self.replay_with::<R, BelowTwo, W>(rt, alloc, out),
-            KeyType::WithoutTwo => self.replay_with::<R, WithoutTwo, W>(rt, alloc, out),
-        }
+        self.key_type.replay(self, rt, alloc, out)
     }
 
+    fn make_rodeo<K: Key>(&self, alloc: Global) -> io::Result<Rodeo<K, FixedState, Global>> {
+        let made: LassoResult<Rodeo<K, FixedState, Global>> =
+            Rodeo::with_capacity_and_memory_limits(alloc, self.capacity, self.limits);
+        made.map_err(|_| io::Error::from(AllocError))
+    }
+
+    fn make_threaded<K: Key>(&self, alloc: Global) -> io::Result<ThreadedRodeo<K, FixedState>> {
+        let made: LassoResult<ThreadedRodeo<K, FixedState>> =
+            ThreadedRodeo::with_capacity_and_memory_limits(alloc, self.capacity, self.limits);
+        made.map_err(|_| io::Error::from(AllocError))
+    }
+}
+
+impl Replayed for Script {
     fn replay_with<R: Wait, K: Key, W: Write>(
         &self,
         rt: &R,
@@ -130,17 +133,5 @@ impl Script {
             }
         }
         Ok(())
-    }
-
-    fn make_rodeo<K: Key>(&self, alloc: Global) -> io::Result<Rodeo<K, FixedState, Global>> {
-        let made: LassoResult<Rodeo<K, FixedState, Global>> =
-            Rodeo::with_capacity_and_memory_limits(alloc, self.capacity, self.limits);
-        made.map_err(|_| io::Error::from(AllocError))
-    }
-
-    fn make_threaded<K: Key>(&self, alloc: Global) -> io::Result<ThreadedRodeo<K, FixedState>> {
-        let made: LassoResult<ThreadedRodeo<K, FixedState>> =
-            ThreadedRodeo::with_capacity_and_memory_limits(alloc, self.capacity, self.limits);
-        made.map_err(|_| io::Error::from(AllocError))
     }
 }

@@ -63,7 +63,7 @@ differ a b other = grind (arith, nat_tests, other)
 pub is_others : (hash_of : Text → ℕ) (number found hash : ℕ) (t : Text) → hash ≡ hash_of t → found ≡ shard_of hash → (found ≡ number → ⊥) → is_in hash_of number t ≡ false
 is_others hash_of number found hash t is which other = subst (λ (m : ℕ). nat_eq m number ≡ false) (which ∙ ap shard_of is) (differ found number other)
 
--- there are as many hashes as texts
+-- each text has a hash
 pub as_many : (hash_of : Text → ℕ) (texts : List Text) (hashes : List ℕ) → hashes ≡ map hash_of texts → length hashes ≡ length texts
 as_many hash_of texts hashes is = ap (λ (hs : List ℕ). length hs) is ∙ length-map texts hash_of
 

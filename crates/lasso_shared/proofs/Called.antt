@@ -48,7 +48,7 @@ module _ {K : Type 0} (key_at : ℕ → Option K) (o : Totals) (p : ℕ) where
   pub got : (before after : List NoteView) (t : Text) (r : Option K) → Since p before after [] → r ≡ key_of key_at (state o after).texts t → IsCall key_at o (history before) (history after) p (Get t) (Found r)
   got before after t r s is = explained_last before after [] (Get t) (Found r) s tt is refl
 
-  -- whether a key stands for a text
+  -- whether a key has a text
   pub key_tested : (before after : List NoteView) (n : ℕ) (r : Bool) → Since p before after [] → r ≡ nat_lt n (length (state o after).texts) → IsCall key_at o (history before) (history after) p (ContainsKey n) (Flag r)
   key_tested before after n r s is = explained_last before after [] (ContainsKey n) (Flag r) s tt is refl
 
@@ -65,7 +65,7 @@ module _ {K : Type 0} (key_at : ℕ → Option K) (o : Totals) (p : ℕ) where
   pub replaced : (before after : List NoteView) (m : ℕ) → Since p before after (Limit m ∷ []) → IsCall key_at o (history before) (history after) p (SetLimit m) Done
   replaced before after m s = explained_last before after (Limit m ∷ []) (SetLimit m) Done s tt tt refl
 
-  -- the list at the end was written, or memory was wanting
+  -- the list at the end was written, or memory ran out
   pub serialized : {A E : Type 0} (before after : List NoteView) (r : Result A E) → Since p before after [] → IsCall key_at o (history before) (history after) p Serialize (Listed (written_of (state o after).texts r))
   serialized before after (Ok value) s = explained_last before after [] Serialize (Listed (Ok (state o after).texts)) s refl (inl refl) refl
   serialized before after (Err error) s = explained_last before after [] Serialize (Listed (Err FailedAllocation)) s refl (inr refl) refl
@@ -96,11 +96,12 @@ plain key_at o p before after q r none call legal = record {
   legal = legal;
 }
 
--- the list of a legal history has a key for each of its texts: so a text has a key exactly where it is there
+-- the list of a legal history has a key for each of its texts: so a text has a key exactly where it is
+-- present
 has_key : {K : Type 0} (key_at : ℕ → Option K) (texts : List Text) (t : Text) → Fits key_at (length texts) → is_some (key_of key_at texts t) ≡ is_some (position_of texts t)
 has_key key_at texts t fits = key_of_present key_at texts t fits
 
--- one who was told a text's key, or that it has none, was told whether the text is there
+-- one who was told a text's key, or that it has none, was told whether the text is present
 pub told_whether : {K : Type 0} (key_at : ℕ → Option K) (o : Totals) (t : Text) (r : Option K) → IsOpening key_at o → IsPlainCall key_at o (Get t) (Found r) → IsPlainCall key_at o (Contains t) (Flag (is_some r))
 told_whether key_at o t r opens c =
     let x = c.call.explained in

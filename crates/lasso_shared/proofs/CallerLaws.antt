@@ -82,7 +82,7 @@ none_appended key_at s (e ∷ past) pass n text (x ∷ stored) at legal is = by_
 
 -- ---- keys
 
--- where a text with a key stands
+-- the position of a text with a key
 record HasPosition {K : Type 0} (key_at : ℕ → Option K) (texts : List Text) (text : Text) (k : K) : Type 0 where
   position : ℕ
   at : position_of texts text ≡ Some position
@@ -121,7 +121,7 @@ module _ {K : Type 0} (key_at : ℕ → Option K) where
         (key.0, key.1, ap (option_and_then key_at) (position_of_at texts text number kept.0 at) ∙ key.1);
   }
 
-  -- an intern of a text that is there answers its key
+  -- an intern of a present text returns its key
   interned_there : (s : Totals) (keeping : Keeping) (text : Text) (k : K) (r : Result K LassoErrorKind) → key_of key_at s.texts text ≡ Some k → MayIntern key_at s keeping text r → r ≡ Ok k
   interned_there s keeping text k (Ok l) has may = let same : Some l ≡ Some k = sym may ∙ has in cc same
   interned_there s keeping text k (Err KeySpaceExhaustion) has may = absurd (none-some k (ap (option_and_then key_at) (sym may.0) ∙ has))

@@ -1,9 +1,9 @@
 -- Freezing an interner that threads share: a call whose reply is the list at its end, copied, and the copy itself.
 --
--- A distinct list that fits the keys is interned, text after text, into an interner that was just made with one bucket for its bytes.
--- The text at a position is none of those before it, since the list is distinct, and has a key, since the list fits the keys. So
--- interning it puts it last, or is refused by the limit or for want of memory. The bucket has room for the bytes of all texts, so
--- the limit refuses none of them.
+-- A distinct list that fits the keys is interned, text after text, into an interner that was just made with
+-- one bucket for its bytes. The text at a position is none of those before it, since the list is distinct,
+-- and has a key, since the list fits the keys. So interning it puts it last, or is refused by the limit or
+-- out of memory. The bucket has room for the bytes of all texts, so the limit refuses none of them.
 use Rattle.std.proofs.Common.{◌≡◌, ℕ, ◌+◌, ◌≤◌, List, [], length, slice_get, Option, Some, None, IsSome, Result, Ok, Err, MatchResult, refl, sym, subst}
 use Rattle.lasso_parts.specs.Texts.{Text, position_of, IsDistinct, Fits}
 use Rattle.lasso_parts.specs.declared.util.LassoError.{LassoError}
@@ -19,11 +19,11 @@ use Rattle.lasso_single.specs.Intern.{InternsIn}
 use Rattle.lasso_single.specs.Interner.{InternerView}
 use Rattle.lasso_single.proofs.Copied.{CopiedTo, copied_more, interned_copies, refused_copies, taken_at, clone_stops}
 
--- the list at the end was copied, or memory was wanting
+-- the list at the end was copied, or memory ran out
 pub frozen : {K : Type 0} (key_at : ℕ → Option K) (o : Totals) (p : ℕ) (before after : List NoteView) (r : Result (List Text) LassoErrorKind) → Since p before after [] → MayCopy (state o after).texts r → IsCall key_at o (history before) (history after) p Freeze (Listed r)
 frozen key_at o p before after r s is = explained_last key_at o p before after [] Freeze (Listed r) s refl is refl
 
--- one text more went last; or memory was wanting
+-- one more text was appended; or memory ran out
 pub interned_more : {K : Type 0} (key_at : ℕ → Option K) (start : InternerView) (texts : List Text) (i : ℕ) (text : Text) (old : InternerView) (reply : Result K LassoError) (new : InternerView) → IsDistinct texts → Fits key_at (length texts) → bytes_of texts ≤ start.account.room → slice_get texts i ≡ Some text → CopiedTo start texts i old → InternsIn key_at old text reply new
     → MatchResult reply (λ _. CopiedTo start texts (i + 1) new) (λ error. error ≡ FailedAllocation)
 interned_more {K} key_at start texts i text old (Ok k) new distinct fits room at so_far interns =

@@ -1,9 +1,9 @@
 -- Each call of the machine is a call of its pass.
 --
--- The steps of other calls leave a call in flight as it is, and make no event of its pass. So what its pass has added
--- tells how far the call has come: nothing while its text is missing, then the event that stores its bytes, where it needs
--- any, and then the append. Its last step replies what the state explains, and the state is what the history up to there
--- adds up to.
+-- The steps of other calls leave a call in flight as it is, and make no event of its pass. So what its pass
+-- has added tells how far the call has come: nothing while its text is absent, then the event that stores its
+-- bytes, where it needs any, and then the append. Its last step replies what the state explains, and the
+-- state is what the history up to there adds up to.
 use Rattle.std.proofs.Common.{◌≡◌, ◌≢◌, ◌⊎◌, ◌==◌, ℕ, List, [], ◌∷◌, ◌++◌, length, Option, Some, None, IfSome, is_some, option_and_then, slice_get, nat_eq, nat_lt, Ok, Err, refl, sym, ap, ◌∙◌, subst, ⊎_elim, inl, inr, arith, append-nil, append_assoc}
 use Rattle.std.proofs.lemmas.Bool.Decides.{nat_tests}
 use Rattle.std.proofs.lemmas.Option.{none-some}
@@ -245,7 +245,7 @@ module _ {K : Type 0} (key_at : ℕ → Option K) (shard : Text → ℕ) where
 
   -- ---- what a call's last step replies
 
-  -- what an intern of a found or appended text replies is a key, and answers that intern
+  -- what an intern of a found or appended text replies is a key, and is a reply to that intern
   replied_key : (keeping : Keeping) (text : Text) (key : Option K) (asked : Question) (r : Reply K) → found_reply keeping text key ≡ Some (asked, r) → (k : K) × (asked ≡ Intern keeping text) × (r ≡ Interned (Ok k))
   replied_key keeping text None asked r is = absurd (none-some (asked, r) is)
   replied_key keeping text (Some k) asked r is =

@@ -1,9 +1,9 @@
 -- Each kind of step leaves a good state.
 --
--- A call that takes a free shard finds its index exact: so a text that the index lacks is missing from the list. While the
--- call holds the shard, no other call has a text of that shard, and so the text stays missing until this call appends it.
--- That is why an append need not look: who holds the shard knows. Afterwards the shard's index lacks that one text, until
--- the call enters it and lets the shard go.
+-- A call that takes a free shard finds its index exact: so a text that the index lacks is absent from the
+-- list. While the call holds the shard, no other call has a text of that shard, and so the text stays absent
+-- until this call appends it. That is why an append need not look: who holds the shard knows. Afterwards the
+-- shard's index lacks that one text, until the call enters it and lets the shard go.
 use Rattle.std.proofs.Common.{◌≡◌, ◌≢◌, ◌⊎◌, ℕ, List, [], ◌∷◌, ◌++◌, length, Option, Some, None, IsSome, All, slice_get, refl, sym, ◌∙◌, subst, inl, inr, arith}
 use Rattle.std.proofs.lemmas.Bool.Decides.{nat_tests}
 use Rattle.std.proofs.lemmas.List.{length_push}
@@ -28,7 +28,7 @@ put_cases calls c d h = grind (arith, nat_tests)
 left_cases : (calls : ℕ → Option Call) (c d : Call) → put calls c.number None d.number ≡ Some d → (d.number ≢ c.number) × (calls d.number ≡ Some d)
 left_cases calls c d h = grind (arith, nat_tests)
 
--- a call goes by its own number, also once one was put in or has left
+-- a call keeps its own number, also once one was put in or has left
 put_numbered : (calls : ℕ → Option Call) (c : Call) → ((number : ℕ) (d : Call) → calls number ≡ Some d → d.number ≡ number) → (number : ℕ) (d : Call) → put calls c.number (Some c) number ≡ Some d → d.number ≡ number
 put_numbered calls c numbered number d h = grind (arith, nat_tests, numbered number d)
 

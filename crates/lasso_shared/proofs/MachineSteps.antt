@@ -109,7 +109,7 @@ module _ {K : Type 0} (key_at : ℕ → Option K) (shard : Text → ℕ) (s : St
   limited (Read question) may grew = absurd (omega arith)
   limited (SetLimit number limit) may grew = absurd (omega arith)
 
-  -- the text of an appended call has the position at which it stands
+  -- the text of an appended call has its position in the list
   own_key : (c : Call) (position : ℕ) → IsInFlight s c → c.phase ≡ Appended position → key_of key_at s.texts c.text ≡ key_at position
   own_key c position flies appended =
       ap (option_and_then key_at) (position_of_at s.texts c.text position good.distinct (subst (λ (p : Phase). StandsBy s c.text p) appended (good.stands c flies)))
@@ -173,7 +173,7 @@ module _ {K : Type 0} (key_at : ℕ → Option K) (shard : Text → ℕ) (s : St
   stays (Append c) = tt
   stays (SetLimit number limit) = tt
 
-  -- a text that stands in the list has a key
+  -- a text of the list has a key
   has_key : (text : Text) → IsSome (position_of s.texts text) → IsSome (key_of key_at s.texts text)
   has_key text there = key_of_present key_at s.texts text good.fits ∙ there
 

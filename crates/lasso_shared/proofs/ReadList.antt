@@ -1,8 +1,9 @@
 -- How a shared interner reads a value: an array by its items, any other value as an object.
 --
--- Where the value is an array, its reading is that of an array, else that of an object; a list that was had so is distinct and fits the
--- keys, by the laws of both. The value that is written for such a list, in either form, is read as that list. An answer that is not the
--- list is then want of memory, since the reading is no fault.
+-- Where the value is an array, its reading is that of an array, else that of an object; a list that was had
+-- so is distinct and fits the keys, by the laws of both. The value that is written for such a list, in either
+-- form, is read as that list. A reply that is not the list is then `FailedAllocation`, since the reading is
+-- no fault.
 use Rattle.std.proofs.Common.{◌≡◌, ◌⊎◌, inl, inr, ℕ, List, length, true, false, Option, Some, None, Result, Ok, Err, IsOk, IfOk, is_some, refl, sym, ap, ◌∙◌}
 use Rattle.serde_json.specs.Data.{Data, Items}
 use Rattle.serde_json.specs.Find.{as_array}
@@ -17,7 +18,7 @@ use Rattle.lasso_parts.proofs.JsonLaws as arrays
 use Rattle.lasso_parts.proofs.JsonObjectLaws as objects
 use Rattle.lasso_shared.specs.Json.{read_by_form, read_list, ReadsShared}
 
--- the same answer, of an equal reading, where memory is wanting for one more reason
+-- the same reply, of an equal reading, where memory runs out for one more reason
 widened : (P Q : Type 0) (read longer answer : Result (List Text) JsonError) → longer ≡ read → (P → Q) → ReadsOr P read answer → ReadsOr Q longer answer
 widened P Q read longer answer same more h = elim h [ inl is ↦ inl (is ∙ sym same) | inr none ↦ inr (none.0, more none.1) ]
 
@@ -75,7 +76,7 @@ module _ {K : Type 0} (key_at : ℕ → Option K) where
     | inr items ↦ ap (read_list key_at) items ∙ arrays.reads_back key_at texts distinct fits
   ]
 
-  -- and so is the answer, or memory was wanting
+  -- and so is the reply, or memory ran out
   pub answers_back : {A : Type 0} (see : A → List Text) (d : Data) (r : Result A JsonError) → ReadsShared key_at d (shown see r)
       → (texts : List Text) → IsDistinct texts → Fits key_at (length texts) → (d ≡ json_object texts) ⊎ (d ≡ json_array texts) → (shown see r ≡ Ok texts) ⊎ (r ≡ Err (Lasso FailedAllocation))
   answers_back see d (Ok a) h texts distinct fits written = elim h [
@@ -114,7 +115,7 @@ module _ {K : Type 0} (key_at : ℕ → Option K) where
       let had = was_read P (read_list key_at d) texts h in
       let both : Ok texts ≡ Ok list = sym had ∙ read in cc
 
-  -- a fault of a value that is read as a list is want of memory
+  -- a fault of a value that is read as a list is out of memory
   pub only_memory : (P : Type 0) (d : Data) (error : JsonError) (list : List Text) → ReadsOr P (read_list key_at d) (Err error) → read_list key_at d ≡ Ok list → error ≡ Lasso FailedAllocation
   only_memory P d error list h read = elim h [
     | inl is ↦ (let e = is ∙ read in absurd (cc))

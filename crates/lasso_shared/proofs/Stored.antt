@@ -46,7 +46,7 @@ takes_later_where p q a b c n (Err e) same s t = tt
 
 -- ---- the bytes
 
--- one event took the bytes, in a bucket that was there or in a new one
+-- one event took the bytes, in a present bucket or in a new one
 pub reserved_bytes : (p : ℕ) (a b : List NoteView) (n bucket : ℕ) → Since p a b (Reserve bucket n ∷ []) → (own : List Event) × TakesBytes n own × Since p a b own
 reserved_bytes p a b n bucket s = (Reserve bucket n ∷ [], inl (bucket, refl), s)
 
@@ -96,7 +96,7 @@ refused_later o a b c len n (Ok x) before refused = tt
 refused_later o a b c len n (Err e) before refused = elim refused [ inl want ↦ inl want | inr l ↦ inr (l.0, past_earlier o a b c len n before l.1) ]
 
 module _ {K : Type 0} (key_at : ℕ → Option K) where
-  -- the key of a new text that stands last
+  -- the key of a new last text
   pub key_of_last : (texts longer : List Text) (t : Text) (k : K) → longer ≡ texts ++ t ∷ [] → IsDistinct texts → Lacks texts t → key_at (length texts) ≡ Some k → key_of key_at longer t ≡ Some k
   key_of_last texts longer t k is distinct lacks key =
       let at : position_of longer t ≡ Some (length texts) = ap (λ (ts : List Text). position_of ts t) is ∙ position_of_at (texts ++ t ∷ []) t (length texts) (distinct_push texts t distinct lacks) (slice_get_push texts t) in
@@ -108,11 +108,11 @@ module _ {K : Type 0} (key_at : ℕ → Option K) where
     puts_later before mid after text (Ok k) s put = (since_trans p before mid after (Append text ∷ []) s put.0, put.1)
     puts_later before mid after text (Err e) s put = (put.0, since_trans p before mid after [] s put.1, put.2, put.3)
 
-    -- the text was there
+    -- the text was present
     pub called_found : (keeping : Keeping) (before after : List NoteView) (text : Text) (k : K) → Since p before after [] → key_of key_at (list_of of after) text ≡ Some k → IsCall key_at of.opening (history before) (history after) p (Intern keeping text) (Interned (Ok k))
     called_found keeping before after text k s is = explained_last key_at of.opening p before after [] (Intern keeping text) (Interned (Ok k)) s tt is (inl refl)
 
-    -- the text is new, and memory is wanting
+    -- the text is new, and memory ran out
     pub called_wanting : (keeping : Keeping) (before after : List NoteView) (text : Text) → Since p before after [] → Lacks (list_of of after) text → IsCall key_at of.opening (history before) (history after) p (Intern keeping text) (Interned (Err FailedAllocation))
     called_wanting keeping before after text s lacks = explained_last key_at of.opening p before after [] (Intern keeping text) (Interned (Err FailedAllocation)) s tt lacks refl
 
@@ -138,8 +138,8 @@ module _ {K : Type 0} (key_at : ℕ → Option K) where
           makes = subst (Makes q r) (sym s.events) makes;
         }
 
-    -- the bytes are refused after a step at which the list lacks the text: for want of memory, or by the limit at a later step at which the
-    -- list is as long, and so the same
+    -- the bytes are refused after a step at which the list lacks the text: out of memory, or by the limit at
+    -- a later step at which the list is as long, and so the same
     pub called_refused : {A : Type 0} (before mid after : List NoteView) (text : Text) (len : ℕ) (r : Result A LassoErrorKind) → text ≢ [] → Since p before mid [] → Lacks (list_of of mid) text → length (list_of of mid) ≡ len
         → IfErr r (λ e. (e ≡ FailedAllocation) ⊎ ((e ≡ MemoryLimitReached) × IsPastLimit of.opening mid after len (length text))) → OnErr r (Since p mid after [])
         → IfErr r (λ e. IsCall key_at of.opening (history before) (history after) p (Intern Copied text) (Interned (Err e)))

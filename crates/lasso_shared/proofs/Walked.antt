@@ -1,8 +1,9 @@
 -- What a walk over a list that was seen has left, and what it gives.
 --
--- A walk at position n has left what the list has from n on: the text at n, and behind it what a walk at n + 1 has left. Where each
--- position of the list has a key, no text is left out behind its key. So there are as many pairs as texts, the keys of the pairs
--- are those of their positions, and one who was told the list of a legal history was told its pairs.
+-- A walk at position n has left what the list has from n on: the text at n, and after it what a walk at n + 1
+-- has left. Where each position of the list has a key, no text is left out after its key. So the number of
+-- pairs is that of the texts, the keys of the pairs are those of their positions, and one who was told the
+-- list of a legal history was told its pairs.
 use Rattle.std.proofs.Common.{◌≡◌, ℕ, zero, suc, ◌+◌, List, [], ◌∷◌, ◌++◌, length, map, drop, Option, Some, None, Ok, refl, sym, ap, ◌∙◌, subst, append_assoc, arith}
 use Rattle.std.proofs.lemmas.Bool.{true≢false}
 use Rattle.std.proofs.lemmas.Grind.{common_steps}
@@ -16,7 +17,7 @@ use Rattle.lasso_log.specs.Calls.{IsCall}
 use Rattle.lasso_shared.specs.Walks.{pairs_from}
 use Rattle.lasso_log.proofs.Legal.{legal_parts, list_kept}
 
--- the text at a position and those behind it
+-- the text at a position and those after it
 pub left_at : (n : ℕ) (ts : List Text) (t : Text) → slice_get ts n ≡ Some t → drop n ts ≡ t ∷ drop (n + 1) ts
 left_at zero [] t at = absurd cc
 left_at (suc n) [] t at = absurd cc
@@ -30,7 +31,7 @@ module _ {K : Type 0} (key_at : ℕ → Option K) where
   there None some = absurd (true≢false (sym some))
   there (Some k) some = (k, refl)
 
-  -- behind the first pair stand those of the later positions
+  -- after the first pair come those of the later positions
   pub first_pair : (n : ℕ) (t : Text) (ts : List Text) (k : K) → key_at n ≡ Some k → pairs_from key_at n (t ∷ ts) ≡ (k, t) ∷ pairs_from key_at (n + 1) ts
   first_pair n t ts k is = rw is refl
 
@@ -41,11 +42,11 @@ module _ {K : Type 0} (key_at : ℕ → Option K) where
       let rest = length-pairs (n + 1) ts (λ i below. fits i (omega (arith, below))) in
       ap length (first_pair n t ts k.0 k.1) ∙ omega (arith, rest)
 
-  -- as many pairs are left as texts
+  -- the number of pairs left is that of the texts left
   pub pairs_left : (n : ℕ) (ts : List Text) (pairs : List (K × Text)) → pairs_from key_at n ts ≡ pairs → Fits key_at (n + length ts) → length pairs ≡ length ts
   pairs_left n ts pairs is fits = sym (ap length is) ∙ length-pairs n ts fits
 
-  -- where each position has a key the pairs are all texts beside their keys
+  -- where each position has a key the pairs are all texts with their keys
   pub walk_from : (n : ℕ) (ts : List Text) → Fits key_at (n + length ts) → map {B = Option K × Text} (λ e. (Some e.0, e.1)) (pairs_from key_at n ts) ≡ map (λ e. (key_at e.0, e.1)) (enumerate_from n ts)
   walk_from n [] fits = refl
   walk_from n (t ∷ ts) fits =

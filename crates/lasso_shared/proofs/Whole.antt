@@ -1,4 +1,4 @@
--- Why a shard's index is exact for a longer history that has as many texts of the shard.
+-- Why a shard's index is exact for a longer history with the same number of texts of the shard.
 use Rattle.std.proofs.Common.{◌≡◌, ◌≢◌, ℕ, zero, suc, ◌+◌, ◌<◌, ◌≤◌, ◌⊎◌, ◌↔◌, List, [], ◌∷◌, ◌++◌, Bool, true, false, Option, Some, None, IfSome, IfNone, length, slice_get, refl, sym, ap, ◌∙◌, subst, inl, inr, arith}
 use Rattle.std.proofs.lemmas.Bool.{cases_lt, cases_Bool}
 use Rattle.std.proofs.lemmas.List.{length_push, append-nil, get_or-set_same, get_or-set_other}
@@ -203,3 +203,7 @@ module _ (hash_of : Text → ℕ) (number : ℕ) where
     pub exact_lacks : (t : Text) → is_in hash_of number t ≡ true → IsDistinct (list_of of known) → Lacks (list_of of known) t → Lacks (list_of of notes) t
     exact_lacks t is distinct lacks =
         subst (λ (ts : List Text). Lacks ts t) grows.1 (lacks_later (list_of of known) grows.0 t no_more is distinct lacks)
+
+-- a text that the list of the held shard lacks is in none that has no more texts of the shard
+pub still_lacks : (hash_of : Text → ℕ) (hash number : ℕ) (of : InternerId) (known notes : List NoteView) (t : Text) → IsWholeShard hash_of number of known notes → hash ≡ hash_of t → number ≡ shard_of hash → IsDistinct (list_of of known) → Lacks (list_of of known) t → Lacks (list_of of notes) t
+still_lacks hash_of hash number of known notes t whole hashed home distinct lacks = exact_lacks hash_of number of known notes whole t (rw home (is_home hash_of hash t hashed)) distinct lacks

@@ -8,7 +8,7 @@ use Rattle.lasso_log.specs.Replies.{Keeping, Intern, Get, Contains, ContainsKey,
 use Rattle.lasso_log.specs.Calls.{IsCall, events_of}
 use Rattle.lasso_log.specs.Views.{PassView, seen}
 
--- where the history stands, the text is in the list and this is its key
+-- after the history, the text is in the list and this is its key
 abbrev pub HasKey : {K : Type 0} → (ℕ → Option K) → Totals → History → Text → K → Type 0
 HasKey key_at opening h text k = key_of key_at (totals opening h).texts text ≡ Some k
 
@@ -16,8 +16,8 @@ HasKey key_at opening h text k = key_of key_at (totals opening h).texts text ≡
 abbrev pub IsOneHistory : History → History → Type 0
 IsOneHistory h g = IsPrefix h g ⊎ IsPrefix g h
 
--- what one call tells its caller, at its end: a key that was answered is the text's; and a text that was resolved has the
--- key that was asked
+-- what one call tells its caller, at its end: a key that was returned is the text's; and a text that was
+-- resolved has the key that was asked
 pub record TellsKeys {K : Type 0} (key_at : ℕ → Option K) (opening : Totals) (before after : History) (pass : ℕ) : Type 0 where
   pub interned : (keeping : Keeping) (text : Text) (k : K) → IsCall key_at opening before after pass (Intern keeping text) (Interned (Ok k)) → HasKey key_at opening after text k
   pub found : (text : Text) (k : K) → IsCall key_at opening before after pass (Get text) (Found (Some k)) → HasKey key_at opening after text k
@@ -29,7 +29,7 @@ pub record TellsKeys {K : Type 0} (key_at : ℕ → Option K) (opening : Totals)
 abbrev pub CallsTellKeys : {K : Type 0} → (ℕ → Option K) → Type 0
 CallsTellKeys key_at = (opening : Totals) (before after : History) (pass : ℕ) → TellsKeys key_at opening before after pass
 
--- what a call answers about a text that had this key at its beginning
+-- what a call returns about a text that had this key at its beginning
 pub record AnswersByKey {K : Type 0} (key_at : ℕ → Option K) (number : K → ℕ) (opening : Totals) (before after : History) (pass : ℕ) (text : Text) (k : K) : Type 0 where
   -- the same key, and never a refusal
   pub interned : (keeping : Keeping) (reply : Result K LassoErrorKind) → IsCall key_at opening before after pass (Intern keeping text) (Interned reply) → reply ≡ Ok k
@@ -47,7 +47,7 @@ SeenTextsKeepKeys {K} key_at number =
     (opening : Totals) (h before after : History) (pass : ℕ) (text : Text) (k : K)
     → HasKey key_at opening h text k → IsPrefix h before → AnswersByKey key_at number opening before after pass text k
 
--- a key that an intern answered resolves to its text, in each call of any pass that has seen the intern's end
+-- a key that an intern returned resolves to its text, in each call of any pass that has seen the intern's end
 abbrev pub AnsweredKeysResolve : {K : Type 0} → (ℕ → Option K) → (K → ℕ) → Type 0
 AnsweredKeysResolve {K} key_at number =
     (opening : Totals) (before after later end : History) (pass other : ℕ) (keeping : Keeping) (text : Text) (k : K) (reply : Option Text)

@@ -64,7 +64,7 @@ two_calls more =
     ∷ Release (call 7 Copied a (Appended 1)) 1
     ∷ more
 
--- a text that is there, and one for which the limit leaves no room
+-- a present text, and one for which the limit leaves no room
 abbrev pub one_refused : List Step → List Step
 one_refused more =
     Take 9 Copied a
@@ -74,7 +74,7 @@ one_refused more =
     ∷ Refuse (call 9 Copied ddd Missing) MemoryLimitReached
     ∷ more
 
--- a static text takes the last key; so another one is refused, and a copied one is for want of memory
+-- a static text takes the last key; so another one is refused, and a copied one fails out of memory
 abbrev pub keys_used_up : List Step → List Step
 keys_used_up more =
     SetLimit 9 100

@@ -44,11 +44,11 @@ pub record AreCalls : Type 0 where
   pub past_limit : Calls two two 9 (Intern Copied ddd) (Interned (Err MemoryLimitReached))
   pub no_key : Calls three (three ++ (9, Reserve 0 1) ∷ []) 9 (Intern Copied e) (Interned (Err KeySpaceExhaustion))
   pub limit : Calls two wider 9 (SetLimit 100) Done
-  -- what was asked at the beginning may be answered by what came meanwhile, or not
+  -- what was asked at the beginning may get its reply from what came meanwhile, or not
   pub missed : Calls [] two 9 (Get bc) (Found None)
   pub seen : Calls [] two 9 (Get bc) (Found (Some 0))
   pub walk : Calls [] two 9 Iterate (Pairs ((0, bc) ∷ (1, a) ∷ []))
-  -- the list is the one at the end, or memory is wanting
+  -- the list is the one at the end, or memory ran out
   pub frozen : Calls [] two 9 Freeze (Listed (Ok (bc ∷ a ∷ [])))
   pub not_written : Calls [] two 9 Serialize (Listed (Err FailedAllocation))
   -- an interner that opens with texts: they have the first keys, and a new one comes after them
@@ -66,7 +66,7 @@ pub record AreNoCalls : Type 0 where
   pub refusal_appends : Calls two three 9 (Intern Copied ddd) (Interned (Err MemoryLimitReached)) → ⊥
   -- a static text refused by the limit
   pub static_refused : Calls two two 9 (Intern Static ddd) (Interned (Err MemoryLimitReached)) → ⊥
-  -- a copied text refused for want of a key before its bytes are stored
+  -- a copied text refused without a key left, before its bytes are stored
   pub keys_before_limit : Calls three three 9 (Intern Copied e) (Interned (Err KeySpaceExhaustion)) → ⊥
   -- a text that the pass had seen is not found
   pub opening_read : Calls two two 9 (Get bc) (Found None) → ⊥
@@ -84,17 +84,18 @@ pub record AreNoCalls : Type 0 where
   pub limit_leaves_room : Calls wider wider 9 (Intern Copied ddd) (Interned (Err MemoryLimitReached)) → ⊥
   -- the empty text refused by the limit
   pub empty_refused : Calls two two 9 (Intern Copied []) (Interned (Err MemoryLimitReached)) → ⊥
-  -- want of a key, of memory or of room for a text that is there; and want of a key where the length has one
+  -- no key, no memory or no room for a present text; and no key where the length has one
   pub there_without_key : Calls three three 9 (Intern Static a) (Interned (Err KeySpaceExhaustion)) → ⊥
   pub there_without_memory : Calls two two 9 (Intern Copied a) (Interned (Err FailedAllocation)) → ⊥
   pub there_past_limit : Calls two two 9 (Intern Copied a) (Interned (Err MemoryLimitReached)) → ⊥
   pub key_is_left : Calls two two 9 (Intern Static ddd) (Interned (Err KeySpaceExhaustion)) → ⊥
   -- a pass that forgets what it had seen
   pub forgotten : Calls two [] 9 (Get bc) (Found None) → ⊥
-  -- a history in which a bucket comes while another has room, or a text stands twice
+  -- a history in which a bucket comes while another has room, or a text occurs twice
   pub charged_early : IsLegal three_keys opening ((7, Charge 4 1) ∷ []) → ⊥
   pub appended_twice : IsLegal three_keys opening ((7, Append a) ∷ (8, Append a) ∷ []) → ⊥
-  -- an opening in which a text stands twice, or that lacks a key, or whose bucket holds more than it has, or has no bytes
+  -- an opening in which a text occurs twice, or that lacks a key, or whose bucket holds more than it has, or
+  -- has no bytes
   pub opened_twice : IsOpening three_keys (opened (a ∷ a ∷ []) 4 2 6) → ⊥
   pub opened_keyless : IsOpening three_keys (opened (a ∷ bc ∷ ddd ∷ e ∷ []) 8 7 8) → ⊥
   pub opened_overfull : IsOpening three_keys (opened [] 2 3 6) → ⊥

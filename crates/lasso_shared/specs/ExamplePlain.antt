@@ -33,7 +33,7 @@ pub record AreNoPlainCalls : Type 0 where
   pub one_is_none : IsPlainCall three_keys opening_with_one IsEmpty (Flag true) → ⊥
   -- less than the first bucket
   pub usage_halved : IsNone Usage (Number 2)
-  -- a text of the opening is not found, or its key stands for nothing
+  -- a text of the opening is not found, or its key has no text
   pub not_found : IsNone (Get bc) (Found None)
   pub not_contained : IsNone (Contains bc) (Flag false)
   pub key_not_contained : IsNone (ContainsKey 1) (Flag false)
@@ -53,7 +53,7 @@ pub record AreNoPlainCalls : Type 0 where
   pub written_empty : IsNone Serialize (Listed (Ok []))
   pub written_as_null : (list : List Text) → null ≡ json_object list → ⊥
   pub frozen_empty : IsNone Freeze (Listed (Ok []))
-  -- freezing refused, but not for want of memory
+  -- freezing refused, but not out of memory
   pub frozen_past_limit : IsNone Freeze (Listed (Err MemoryLimitReached))
   pub frozen_without_key : IsNone Freeze (Listed (Err KeySpaceExhaustion))
   -- a filling that ends well without a key for its text

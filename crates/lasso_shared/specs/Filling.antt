@@ -6,7 +6,7 @@ use Rattle.lasso_log.specs.History.{History, Totals, IsLegal}
 use Rattle.lasso_log.specs.Replies.{Copied, Intern, Interned}
 use Rattle.lasso_log.specs.Calls.{IsCall}
 
--- the texts were interned in order, each by a call of the pass that was answered a key
+-- the texts were interned in order, each by a call of the pass that returned a key
 abbrev pub InternsEach : {K : Type 0} → (ℕ → Option K) → Totals → (before after : History) → (pass : ℕ) → List Text → Type 0
 InternsEach key_at opening before after pass [] = after ≡ before
 InternsEach {K} key_at opening before after pass (text ∷ texts) =
@@ -18,7 +18,7 @@ FillingEndsRefused {K} key_at opening before after pass texts error =
     (interned : List Text) × (last : Text) × (mid : History) × (texts ≡ interned ++ last ∷ []) × InternsEach key_at opening before mid pass interned
     × IsCall {K = K} key_at opening mid after pass (Intern Copied last) (Interned (Err error))
 
--- all texts were interned; or the last of them was refused, which is the answer
+-- all texts were interned; or the last of them was refused, with this error
 abbrev pub Fills : {K : Type 0} → (ℕ → Option K) → Totals → (before after : History) → (pass : ℕ) → List Text → Result (Unit {0}) LassoErrorKind → Type 0
 Fills key_at opening before after pass texts (Ok done) = InternsEach key_at opening before after pass texts
 Fills key_at opening before after pass texts (Err error) = FillingEndsRefused key_at opening before after pass texts error

@@ -23,8 +23,8 @@ read_by_form key_at d (Some ds) = read_array key_at true d
 abbrev pub read_list : {K : Type 0} → (ℕ → Option K) → Data → Result (List Text) JsonError
 read_list key_at d = read_by_form key_at d (as_array d)
 
--- the answer is the list that the value is read as, or what is wrong with it; or memory was wanting, unless the value is neither an
--- array nor an object, or its first item or member is faulty
+-- the reply is the list that the value is read as, or what is wrong with it; or memory ran out, unless the
+-- value is neither an array nor an object, or its first item or member is faulty
 abbrev pub ReadsShared : {K : Type 0} → (ℕ → Option K) → Data → Result (List Text) JsonError → Type 0
 ReadsShared key_at d answer =
     let read = read_list key_at d in ReadsOr (TakesText key_at d ⊎ TakesPosition key_at d ⊎ IsOk read) read answer

@@ -6,6 +6,7 @@ pub mod ExampleCalls
 pub mod ExamplePlain
 pub mod CallerLaws
 pub mod Json
+pub mod NewTexts
 pub mod Shards
 pub mod Filling
 pub mod Walks

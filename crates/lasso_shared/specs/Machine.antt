@@ -20,11 +20,11 @@ pub record RangedBucket : Type 0 where
 
 -- how far a call that interns a text has come
 pub data Phase : Type 0 where
-  -- the text was looked up, and is missing
+  -- the text was looked up, and is absent
   Missing : Phase
   -- the text's bytes are stored
   Stored : Phase
-  -- the text stands in the list, at this position
+  -- the text is in the list, at this position
   Appended : (position : ℕ) → Phase
 
 -- a call in flight, which interns a text and holds a shard
@@ -193,7 +193,7 @@ events (Append c) = (c.number, Event.Append c.text) ∷ []
 events (SetLimit number limit) = (number, Event.Limit limit) ∷ []
 events step = []
 
--- the question beside its reply, where there is one
+-- the question with its reply, if it has one
 abbrev pub replied : {K : Type 0} → Question → Option (Reply K) → Option (Question × Reply K)
 replied question given = option_map (λ r. (question, r)) given
 

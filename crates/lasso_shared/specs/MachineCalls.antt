@@ -34,8 +34,8 @@ EndsCall pass (Release c position) = c.number ≡ pass
 EndsCall pass (Refuse c why) = c.number ≡ pass
 EndsCall pass step = ⊥
 
--- The steps, from where s stands, are an intern that did not find its text, with steps of other calls among its own.
--- The reply is that of the last step; the question is that of the first.
+-- The steps, from state s on, are an intern that did not find its text, with steps of other calls among its
+-- own. The reply is that of the last step; the question is that of the first.
 pub record IsLongCall {K : Type 0} (key_at : ℕ → Option K) (shard : Text → ℕ) (s : State) (steps : List Step) (pass : ℕ) (question : Question) (r : Reply K) : Type 0 where
   pub keeping : Keeping
   pub text : Text
@@ -49,7 +49,7 @@ pub record IsLongCall {K : Type 0} (key_at : ℕ → Option K) (shard : Text →
   pub ends : EndsCall pass last
   pub replies : reply key_at shard (run shard s (Take pass keeping text ∷ between)) last ≡ Some (asked, r)
 
--- the steps, from where s stands, are one whole call of the pass, from its first step to its last
+-- the steps, from state s on, are one whole call of the pass, from its first step to its last
 abbrev pub IsMachineCall : {K : Type 0} → (ℕ → Option K) → (Text → ℕ) → State → List Step → (pass : ℕ) → Question → Reply K → Type 0
 IsMachineCall key_at shard s steps pass question r =
     ((step : Step) × (steps ≡ step ∷ []) × IsOneStepCall key_at shard s step pass question r)

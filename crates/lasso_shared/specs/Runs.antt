@@ -19,7 +19,7 @@ Follow start end (r ∷ rs) = (r.start ≡ start) × Follow (start + r.bytes) en
 abbrev pub IsFilled : RangedBucket → Type 0
 IsFilled b = Follow 0 b.bucket.used b.ranges × (b.bucket.used ≤ b.bucket.size)
 
--- the text of an appended call stands at its position, and the list lacks that of any other
+-- the text of an appended call is at its position, and the list lacks that of any other
 abbrev pub StandsBy : State → Text → Phase → Type 0
 StandsBy s text (Appended position) = slice_get s.texts position ≡ Some text
 StandsBy s text Missing = Lacks s.texts text
@@ -32,17 +32,17 @@ IsNearly shard s c text =
     ⊎ ((text ≡ c.text) × (s.index c.shard text ≡ None) × (position : ℕ) × (c.phase ≡ Appended position))
 
 pub record IsGood {K : Type 0} (key_at : ℕ → Option K) (shard : Text → ℕ) (s : State) : Type 0 where
-  -- no text stands twice, and each position has a key
+  -- no text occurs twice, and each position has a key
   pub distinct : IsDistinct s.texts
   pub fits : Fits key_at (length s.texts)
-  -- each call goes by its own number and holds its text's shard, and no two hold one
+  -- each call has its own number and holds its text's shard, and no two hold one
   pub numbered : (number : ℕ) (c : Call) → s.calls number ≡ Some c → c.number ≡ number
   pub own : (c : Call) → IsInFlight s c → c.shard ≡ shard c.text
   pub apart : (c d : Call) → IsInFlight s c → IsInFlight s d → c.shard ≡ d.shard → c.number ≡ d.number
   -- the index of a free shard has exactly the shard's texts, and that of a held one lacks at most its holder's
   pub exact : (k : ℕ) (text : Text) → IsFree s k → s.index k text ≡ position_in shard s k text
   pub nearly : (c : Call) (text : Text) → IsInFlight s c → IsNearly shard s c text
-  -- an appended text stands at its position, and any other call's is missing
+  -- an appended text is at its position, and any other call's is absent
   pub stands : (c : Call) → IsInFlight s c → StandsBy s c.text c.phase
   -- no two ranges of a bucket overlap, and none passes its end
   pub filled : All IsFilled s.buckets

@@ -8,7 +8,7 @@ use Rattle.lasso_parts.specs.declared.util.LassoErrorKind.{LassoErrorKind}
 use Rattle.lasso_parts.specs.declared.util.LassoErrorKind.TheVariants.{KeySpaceExhaustion}
 use Rattle.lasso_log.specs.History.{Append, Lacks}
 use Rattle.lasso_log.specs.Notes.{NoteView, Since}
-use Rattle.lasso_log.specs.Views.{InternerId, KnownView, SpineView, list_of}
+use Rattle.lasso_log.specs.Views.{InternerId, SnapshotView, SpineView, list_of}
 
 -- the shard of a hash: the number in its four highest bits
 abbrev pub shard_of : ℕ → ℕ
@@ -27,7 +27,7 @@ count_where p (t ∷ ts) = if p t then suc (count_where p ts) else count_where p
 abbrev pub count_in : (Text → ℕ) → ℕ → List Text → ℕ
 count_in hash_of number texts = count_where (is_in hash_of number) texts
 
--- a text of the shard stands at this position
+-- a text of the shard is at this position
 abbrev pub IsOfShard : (Text → ℕ) → ℕ → List Text → ℕ → Type 0
 IsOfShard hash_of number texts m = (t : Text) × (slice_get texts m ≡ Some t) × (is_in hash_of number t ≡ true)
 
@@ -39,7 +39,7 @@ pub record IsShardOf (hash_of : Text → ℕ) (number : ℕ) (texts : List Text)
 
 -- What a shard's lock keeps: its index maps exactly the shard's texts of a history that it has seen to their positions,
 -- and its number counts them.
-pub record IsShard (hash_of : Text → ℕ) (number : ℕ) (of : InternerId) (known : KnownView) (index : Table) (count : ℕ) : Type 0 where
+pub record IsShard (hash_of : Text → ℕ) (number : ℕ) (of : InternerId) (known : SnapshotView) (index : Table) (count : ℕ) : Type 0 where
   pub mine : known.of ≡ of
   pub exact : IsShardOf hash_of number (list_of of known.notes) index
   pub counts : count ≡ count_in hash_of number (list_of of known.notes)

@@ -12,9 +12,9 @@ pub use callers::{
 };
 use lasso_parts::keys::Key;
 
-/// In every legal history of an opening no text stands twice and each position has a key, no bucket
-/// holds more bytes than it has, and the usage is the sum of their sizes. A longer history has a
-/// longer list, and no event raises the usage past the limit in force.
+/// In every legal history of an opening no text occurs twice and each position has a key, no bucket holds
+/// more bytes than it has, and the usage is the sum of their sizes. A longer history has a longer list, and
+/// no event raises the usage past the limit in force.
 pub fn legal_histories_hold<K: Key>()
     ensures { EachHistoryHolds K.key_at }
 {}
@@ -30,9 +30,10 @@ pub fn worked_calls_are_calls()
     ensures { AreCalls }
 {}
 
-/// Wrong calls are none: an append that is dropped or doubled, a refusal that takes a position, a text that the pass had
-/// seen and that is not found, a list that is older than the end, a limit that is not set or set twice, a refusal for which
-/// there is no ground, and others. Nor may an interner open with a text that stands twice, or without a key for each text.
+/// Wrong calls are none: an append that is dropped or doubled, a refusal that takes a position, a text that
+/// the pass had seen and that is not found, a list that is older than the end, a limit that is not set or set
+/// twice, a refusal for which there is no ground, and others. Nor may an interner open with a text that
+/// occurs twice, or without a key for each text.
 pub fn wrong_calls_are_none()
     ensures { AreNoCalls }
 {}

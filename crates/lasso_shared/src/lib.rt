@@ -5,5 +5,3 @@ pub mod laws;
 pub mod machine;
 pub mod shards;
 pub mod threaded;
-
-pub use lasso_log::{log, shared_arena};

@@ -1,18 +1,21 @@
-//! The shards: 16 indexes, each behind a lock of its own, and the spine behind another.
+//! The shards: 16 indexes, each under a lock of its own, and the spine under another.
 //!
-//! A text is of one shard, by its hash. A shard's index is exact for a history that the shard has seen. So it is for each history that
-//! begins with that one and has no more texts of the shard, which the spine's number of them tells. Who holds a shard's lock
-//! may take the spine's; who holds the spine's takes no shard. Who adds a bucket holds the spine's and takes a third, that of what
-//! is owned of the buckets (`holdings` of the log's memory), under which no other is taken.
+//! A text is of one shard, by its hash. A shard's index is exact for a history that the shard has seen. So it
+//! is for each history that begins with that one and has no more texts of the shard, which the spine's number
+//! of them tells. A thread that holds a shard's lock may lock the spine; one that holds the spine's locks no
+//! shard. A thread that adds a bucket holds the spine's lock and locks a third, that of what is owned of the
+//! buckets (`holdings` of the log's memory), under which no other is locked.
 ghost use Rattle.std.specs.Prelude.{◌≡◌, ◌<◌, ℕ, length, Some, slice_get};
 ghost use Rattle.lasso_log.specs.SharedBuckets.{names_with_book};
 ghost use Rattle.lasso_log.specs.Views.{InternerId};
 
 mod building;
+mod current;
 mod intern;
 mod limits;
 mod look;
 mod memory;
+mod new_text;
 mod open;
 pub mod parts;
 mod put;
@@ -23,7 +26,7 @@ pub mod tag;
 use crate::shards::shard::{BoxedShard, BoxedTally};
 use lasso_log::locks::{TaggedMutex, TaggedRwLock};
 use lasso_log::log::Log;
-use lasso_log::shared_arena::bucket_list::BucketList;
+use lasso_log::log::bucket_list::BucketList;
 use lasso_parts::keys::Key;
 use std::alloc::Global;
 use std::hash::BuildHasher;
@@ -48,8 +51,8 @@ pub struct Shards<K: Key, S: BuildHasher + Drop> {
 }
 
 impl<K: Key, S: BuildHasher + Drop> Shards<K, S> {
-    /// The lock round the shard of this number, below 16. While a caller holds it for writing, calls about the shard's texts wait; while one
-    /// holds it for reading, texts that are there are found beside it.
+    /// The lock round the shard of this number, below 16. While a caller holds it for writing, calls about
+    /// the shard's texts wait; while one holds it for reading, other readers still find present texts.
     pub fn lock(&self, number: usize) -> &TaggedRwLock<BoxedShard<K, S>>
         requires { number < 16 }
         ensures { (result.now.log ≡ self.now.log) × (result.now.hasher ≡ self.now.hasher) × (result.now.number ≡ number) }

@@ -129,6 +129,14 @@ pub fn key<K: Key>(number: usize) -> Result<K, Fail> {
     Ok(K::try_from_usize(number).ok_or("no key")?)
 }
 
+/// Whether the key with this number stands for a text.
+pub fn is_key<K: Key, S: BuildHasher + Drop>(
+    shared: &ThreadedRodeo<K, S>,
+    number: usize,
+) -> Result<bool, Fail> {
+    Ok(shared.contains_key(key(number)?))
+}
+
 /// The text that the key with this number stands for.
 pub fn text_at<K: Key, S: BuildHasher + Drop>(
     shared: &ThreadedRodeo<K, S>,
@@ -254,6 +262,22 @@ pub fn copied_as<K: Key, S: BuildHasher + Drop, R: Wait>(
     ensures { pass.new.of ≡ pass.old.of }
 {
     shared.try_get_or_intern_as(rt, pass, text)
+}
+
+/// The number of the text by the pass, if it is there.
+pub fn found_as<K: Key, S: BuildHasher + Drop, R: Wait>(
+    rt: &R,
+    shared: &ThreadedRodeo<K, S>,
+    pass: &mut Pass<K>,
+    text: &str,
+) -> Option<usize>
+    requires { pass.old.of ≡ shared.now }
+    ensures { pass.new.of ≡ pass.old.of }
+{
+    match shared.get_as(rt, pass, text) {
+        Some(key) => Some(key.into_usize()),
+        None => None,
+    }
 }
 
 /// Whether the key stands for the text by the pass.

@@ -3,8 +3,9 @@
 
 #[cfg(test)]
 mod calls;
-pub mod hashers;
 #[cfg(test)]
 mod shards;
+#[cfg(test)]
+mod texts;
 #[cfg(test)]
 mod threaded;

@@ -6,7 +6,6 @@ mod copied;
 mod writers;
 
 use crate::calls::{answered, found, hashed, kept, len};
-use crate::hashers::{FirstState, SameState};
 use lasso_log::log::Opened;
 use lasso_parts::index::hash_text;
 use lasso_parts::keys::{Key, MicroSpur, Spur};
@@ -15,6 +14,7 @@ use lasso_shared::shards::Shards;
 use lasso_shared::shards::tag::number_of;
 use lasso_shared::threaded::ThreadedRodeo;
 use lasso_single::reader::RodeoReader;
+use lasso_testing::hashers::{FirstState, SameState};
 use std::alloc::Global;
 use std::hash::BuildHasher;
 use std::process::Abort;
@@ -107,13 +107,13 @@ fn is_set_beside_a_writer<S: BuildHasher + Drop, R: Threads + Wait + Sync>(
     requires { number < 16 }
 {
     let flag = AtomicU64::new(0);
-    let (guard, shard) = shards.lock(number).take(rt);
+    let (guard, shard) = shards.lock(number).write(rt);
     let (seen, ()) = join(
         rt,
         || is_seen(&flag),
         || intern_and_set(rt, shards, text, &flag),
     );
-    guard.give(rt, shard);
+    guard.unlock(rt, shard);
     seen
 }
 
@@ -164,7 +164,7 @@ fn is_set_beside_a_reader<S: BuildHasher + Drop, R: Threads + Wait + Sync>(
         || is_seen(&flag),
         || find_and_set(rt, shards, text, &flag),
     );
-    reading.leave();
+    reading.unlock();
     seen
 }
 
@@ -242,9 +242,9 @@ fn texts_of_one_shard_and_of_others(rt: HostRuntime) -> Result<(), Fail> {
 
 // How many slots the spine keeps.
 fn kept_slots<K: Key, R: Wait>(rt: &R, shards: &Shards<K, FixedState>) -> u64 {
-    let (guard, held) = shards.spine.take(rt);
+    let (guard, held) = shards.spine.lock(rt);
     let kept = held.tally.spine.kept();
-    guard.give(rt, held);
+    guard.unlock(rt, held);
     kept
 }
 

@@ -6,6 +6,7 @@ mod collisions;
 mod comparing;
 mod copied;
 mod counted;
+mod counts;
 mod crowd;
 mod debug;
 mod falling;
@@ -13,8 +14,11 @@ mod filling;
 mod freezing;
 mod gaps;
 mod json;
+mod lengths;
 mod limits;
 mod looking;
+mod makers;
+mod many;
 mod memory;
 mod passes;
 mod unseen;
@@ -28,65 +32,11 @@ use lasso_log::log::Pass;
 use lasso_parts::keys::{Key, Spur};
 use lasso_parts::util::{FixedState, LassoErrorKind, LassoResult};
 use lasso_shared::threaded::ThreadedRodeo;
-use std::marker::Model;
+use lasso_testing::keys::BelowTwo;
 use std::process::Abort;
 use std::sync::Wait;
 use std::test::*;
 use std::thread::{Threads, join};
-
-/// A key type with the numbers 0 and 1.
-#[derive(Clone, Copy, PartialEq, Eq)]
-struct Two {
-    position: u8,
-}
-
-impl Model for Two {
-    ghost use Rattle.std.specs.Prelude.{ℕ, ◌<◌};
-
-    ghost Value = { ℕ };
-
-    ghost view = { λ k. k.position };
-
-    ghost invariant = { λ k. k.position < 2 };
-
-    ghost inverse = { λ n. record { position = n } };
-}
-
-impl Key for Two {
-    ghost use Rattle.std.specs.Prelude.{◌<◌, ◌^◌, nat_lt, if◌then◌else◌, Some, None};
-    ghost use Rattle.std.proofs.Common.{arith};
-    ghost use Rattle.std.proofs.lemmas.Bool.Decides.{nat_tests};
-
-    ghost is_value = { λ k. k < 2 };
-
-    ghost number = { λ k. k };
-
-    ghost key_at = { λ n. if nat_lt n 2 then Some n else None };
-
-    fn into_usize(self) -> usize {
-        self.position as usize
-    }
-
-    fn try_from_usize(position: usize) -> Option<Self> {
-        if position < 2 {
-            Some(Two {
-                position: position as u8,
-            })
-        } else {
-            None
-        }
-    }
-
-    fn show_value(self) {
-        let _position = self.position;
-    }
-
-    ghost made = { λ n k made. Prim.grind (arith, nat_tests) };
-
-    ghost made_again = { λ k is_value. Prim.grind (arith, nat_tests) };
-
-    ghost equal = { λ a b is_value is_value'. Prim.grind (arith, nat_tests) };
-}
 
 const FIRST: [&str; 100] = [
     "a00", "a01", "a02", "a03", "a04", "a05", "a06", "a07", "a08", "a09", "a10", "a11", "a12",
@@ -199,7 +149,7 @@ fn a_text_that_was_refused_once_is_taken_later(rt: HostRuntime) -> Result<(), Fa
 
 #[test]
 fn keys_used_up_refuse_new_texts_alone(rt: HostRuntime) -> Result<(), Fail> {
-    let shared: ThreadedRodeo<Two, FixedState> = hashed(rt.alloc())?;
+    let shared: ThreadedRodeo<BelowTwo, FixedState> = hashed(rt.alloc())?;
     let mut pass = pass_of(&shared);
     assert!(rt; number(&rt, &shared, &mut pass, "p") == Ok(0));
     assert!(rt; number(&rt, &shared, &mut pass, "q") == Ok(1));

@@ -1,8 +1,8 @@
 -- Copying a distinct list of texts, one after another, to the end of an empty list.
 --
 -- The text at position i is none of those before it, since the list is distinct, and position i has a key,
--- since the list fits the keys. So interning it either puts it last and stores its bytes, or is refused by the
--- limit or for want of memory: no text is found, and no key is wanting.
+-- since the list fits the keys. So interning it either puts it last and stores its bytes, or is refused by
+-- the limit or out of memory: no text is found, and no key is lacking.
 use Rattle.std.proofs.Common.{◌≡◌, ℕ, ◌+◌, ◌<◌, ◌≤◌, ◌⊎◌, inl, inr, List, [], ◌∷◌, ◌++◌, length, take, slice_get, Option, Some, None, IsSome, is_some, cond, IsOk, max, Result, Ok, Err, MatchResult, refl, sym, subst, ap, ◌∙◌, arith}
 use Rattle.std.specs.Prelude.{option_and_then}
 use Rattle.std.proofs.lemmas.Grind.{common_steps}
@@ -43,7 +43,7 @@ stored_some : (held : Held) (text : Text) (s : Option Account) (r : Result Held 
 stored_some held text None r h ok = cc
 stored_some held text (Some a) r h ok = refl
 
--- what interning a text leaves that is not there and has a key
+-- what interning an absent text leaves that has a key
 pub interns_new : {K : Type 0} (key_at : ℕ → Option K) (first : ℕ) (texts : List Text) (account : Account) (text : Text) (reply : Result K LassoError) (texts' : List Text) (account' : Account) → Interns key_at first texts account text reply texts' account' → position_of texts text ≡ None → IsSome (key_at (length texts))
     → MatchResult reply (λ _. (texts' ≡ texts ++ text ∷ []) × (store first account (length text) ≡ Some account'))
     (λ error. (texts' ≡ texts) × (account' ≡ account) × (((error ≡ FailedAllocation) × IsSome (store first account (length text))) ⊎ ((error ≡ MemoryLimitReached) × (store first account (length text) ≡ None))))
@@ -153,7 +153,7 @@ taken_at key_at texts distinct fits i text at =
     let inside : i < length texts = slice_get_within texts i text at in
     (absent_before texts i text distinct at, subst (λ (n : ℕ). IsSome (key_at n)) (sym (length-take-le i texts (omega arith))) (fits i inside))
 
--- interning a text that is not there and has a key copies it
+-- interning an absent text that has a key copies it
 pub interned_copies : {K : Type 0} (key_at : ℕ → Option K) (old : InternerView) (text : Text) (k : K) (new : InternerView) → position_of old.texts text ≡ None → IsSome (key_at (length old.texts)) → InternsIn key_at old text (Ok k) new → CopiesOne old text (Ok tt) new
 interned_copies key_at old text k new absent has_key interns =
     let left = interns_new key_at old.first old.texts old.account text (Ok k) new.texts new.account interns.0 absent has_key in
@@ -167,7 +167,7 @@ refused_copies {K} key_at old text error new absent has_key interns =
 
 -- ---- a clone
 
--- one bucket of all bytes has room for each text, so that only want of memory stops
+-- one bucket of all bytes has room for each text, so that only out of memory stops
 pub clone_stops : (first : ℕ) (a : Account) (texts : List Text) (j : ℕ) (error : LassoError) (stopped : Account) → bytes_of texts ≤ a.room → StopsAt first a texts j error stopped → error ≡ FailedAllocation
 clone_stops first a texts j error stopped fits h = elim h.1 [
   | inl memory ↦ memory.0

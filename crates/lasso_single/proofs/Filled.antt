@@ -13,7 +13,7 @@ use Rattle.lasso_single.specs.Filling.{extend}
 use Rattle.lasso_single.specs.Intern.{InternsIn}
 use Rattle.lasso_single.specs.Interner.{InternerView, IsMadeWith, made_with}
 
--- the answer where nothing was refused
+-- the result where nothing was refused
 abbrev pub accepted : Result (Unit {0}) LassoError
 accepted = Ok tt
 

@@ -1,7 +1,7 @@
--- What the answer of reading an array says of the list.
+-- What the result of reading an array says of the list.
 --
--- A list that was had is what the value is read as, since an answer for want of memory is no list. So the value
--- is the array of its texts, each position has a key, and the list is distinct where that was asked for.
+-- A list that was returned is what the value is read as, since out of memory returns no list. So the value is
+-- the array of its texts, each position has a key, and the list is distinct where that was asked for.
 use Rattle.std.proofs.Common.{◌≡◌, inl, inr, ℕ, List, Bool, Option, Ok, sym}
 use Rattle.serde_json.specs.Data.{Data}
 use Rattle.lasso_parts.specs.Json.{read_array, ReadsOr}
@@ -10,7 +10,7 @@ use Rattle.lasso_parts.specs.Texts.{Text}
 use Rattle.lasso_parts.proofs.JsonLaws.{reads_exactly}
 
 module _ {K : Type 0} (key_at : ℕ → Option K) (distinct : Bool) (d : Data) where
-  -- a list that was had is what the value is read as
+  -- a list that was returned is what the value is read as
   pub was_read : (takes : Type 0) (texts : List Text) → ReadsOr takes (read_array key_at distinct d) (Ok texts) → read_array key_at distinct d ≡ Ok texts
   was_read takes texts h = elim h [ inl read ↦ sym read | inr memory ↦ (let e = memory.0 in cc) ]
 

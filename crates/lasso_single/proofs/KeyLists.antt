@@ -1,7 +1,8 @@
 -- Texts that were interned, one after another, and whose keys were put after those from before.
 --
--- A text that was interned has its key in the list that is left. The texts from before keep their positions, so their keys stay, and one
--- key more goes after them. As many keys were added as texts were interned: so their number tells which these are.
+-- A text that was interned has its key in the list that is left. The texts from before keep their positions,
+-- so their keys stay, and one key more goes after them. One key was added for each text that was interned: so
+-- their number tells which these are.
 use denote.Ref.{Bor}
 use Rattle.std.proofs.Common.{ℕ, suc, map, drop, get_or, ◌≡◌, ◌+◌, ◌-◌, ◌<◌, List, [], ◌∷◌, ◌++◌, length, take, Bool, true, false, cond, Option, Some, None, Result, Ok, Err, IsSomeAnd, is_some, refl, sym, ap, subst, ◌∙◌, arith, length-append, append_assoc}
 use Rattle.std.specs.Prelude.{slice_get, option_and_then, unwrap_or}
@@ -49,7 +50,7 @@ key_left_of : {K : Type 0} (key_at : ℕ → Option K) (texts : List Text) (text
 key_left_of key_at texts text k None e h = ap (λ (o : Option ℕ). option_and_then key_at o) (position_last texts text e) ∙ h
 key_left_of key_at texts text k (Some n) e h = ap (λ (o : Option ℕ). option_and_then key_at o) e ∙ h
 
--- the key that a call answers is the text's in the list that it leaves
+-- the key that a call returns is the text's in the list that it leaves
 pub key_left : {K : Type 0} (key_at : ℕ → Option K) (old new : InternerView) (text : Text) (k : K) → InternsIn key_at old text (Ok k) new → key_of key_at new.texts text ≡ Some k
 key_left key_at old new text k h =
     subst (λ (ts : List Text). key_of key_at ts text ≡ Some k) (sym (list_left key_at old new text k h)) (key_left_of key_at old.texts text k (position_of old.texts text) refl h.0.1)
@@ -64,7 +65,7 @@ key_stays_of : {K : Type 0} (key_at : ℕ → Option K) (list : List Text) (last
 key_stays_of key_at list last text k None e h = cc
 key_stays_of key_at list last text k (Some n) e h = ap (λ (o : Option ℕ). option_and_then key_at o) (position_stays list last text n e) ∙ h
 
--- what is there for each element is there where more is there
+-- what exists for each element exists where there is more
 map_some_more : {X Y : Type 0} (f g : X → Option Y) → ((x : X) (y : Y) → f x ≡ Some y → g x ≡ Some y) → (xs : List X) (ys : List Y) → map f xs ≡ map Some ys → map g xs ≡ map Some ys
 map_some_more f g more [] ys e = e
 map_some_more f g more (x ∷ xs) [] e = cc
@@ -107,7 +108,7 @@ keyed_push K key_at old mid new texts text k before keys after so_far interns is
       keys = (added ++ k ∷ [], is ∙ ap (λ (ks : List K). ks ++ k ∷ []) so_far.keys.1 ∙ append_assoc before added (k ∷ []), map_some_push (key_of key_at new.texts) texts added text k kept (key_left key_at mid new text k interns));
     }
 
--- how many texts were interned is told by the keys
+-- the keys tell how many texts were interned
 keyed_length : (K : Type 0) (key_at : ℕ → Option K) (old new : InternerView) (texts : List Text) (before after : List K) → Keyed K key_at old texts before new after → length after ≡ length before + length texts
 keyed_length K key_at old new texts before after so_far =
     let added : List K = so_far.keys.0 in

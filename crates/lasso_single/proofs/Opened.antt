@@ -36,7 +36,7 @@ kept_err : {K : Type 0} (held : Held) (text : Text) (o : Option K) (error : Lass
 kept_err held text None error some h = cc
 kept_err held text (Some k) error some h = cc
 
--- the word at a position is not there yet
+-- the word at a position is not in the list yet
 absent : (start : InternerView) (words : List Text) (i : ℕ) (word : Text) (now : InternerView) → IsDistinct words → slice_get words i ≡ Some word → OpenedTo start words i now → position_of now.texts word ≡ None
 absent start words i word now distinct at so_far =
     subst (λ (ts : List Text). position_of ts word ≡ None) (sym so_far.texts) (absent_before words i word distinct at)
@@ -55,7 +55,7 @@ opened_more K key_at start words i word old k new distinct at so_far interns =
       origin = (interns.2.0 ∙ so_far.origin.0, interns.2.1 ∙ so_far.origin.1, interns.2.2 ∙ so_far.origin.2);
     }
 
--- a word that has a key is refused for want of memory alone
+-- a word that has a key is refused only when out of memory
 pub opened_refused : (K : Type 0) (key_at : ℕ → Option K) (start : InternerView) (words : List Text) (i : ℕ) (word : Text) (old : InternerView) (error : LassoError) (new : InternerView) → IsDistinct words → Fits key_at (length words) → slice_get words i ≡ Some word → OpenedTo start words i old → InternsStaticIn {K = K} key_at old word (Err error) new → error ≡ FailedAllocation
 opened_refused K key_at start words i word old error new distinct fits at so_far interns =
     let held : Held = record { texts = old.texts; account = old.account } in

@@ -1,7 +1,7 @@
 -- A text that an arena stored goes to the end of a list of entries.
 --
--- The regions keep the texts that they had, so the entries before the new one stand for the same texts. The new one is
--- there, and stands for the text. What a list that was never cleared may waste follows from the account.
+-- The regions keep the texts that they had, so the entries before the new one stand for the same texts. The
+-- new one's text is present. What a list that was never cleared may waste follows from the account.
 use Rattle.std.proofs.Common.{◌≡◌, ◌∙◌, ℕ, ◌+◌, Bool, false, List, [], ◌∷◌, ◌++◌, length, Some, ap}
 use Rattle.std.proofs.Math.Seq.{set-append_seam}
 use Rattle.std.specs.Prelude.{slice_set}

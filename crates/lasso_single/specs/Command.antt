@@ -1,4 +1,4 @@
--- What a command answers and leaves, and whole runs of commands.
+-- What a command returns and leaves, and whole runs of commands.
 use Rattle.std.specs.Prelude.{◌≡◌, ◌⊎◌, ℕ, List, [], ◌∷◌, length, map, Option, IsSome, is_some, option_map, slice_get, nat_lt, true, Result, Ok, Err}
 use Rattle.std.specs.Prelude.{String, string_bytes}
 use Rattle.std.specs.declared.alloc.Global.{Global}
@@ -20,7 +20,7 @@ abbrev pub intern_reply : {K : Type 0} → Result K LassoError → Reply K
 intern_reply (Ok k) = Key k
 intern_reply (Err error) = Refused error
 
--- the reply to a call that answers nothing but whether it was refused
+-- the reply to a call that returns only whether it was refused
 abbrev pub done_reply : {K : Type 0} → Result (Unit {0}) LassoError → Reply K
 done_reply (Ok _) = Done
 done_reply (Err error) = Refused error
@@ -31,7 +31,7 @@ resolves_to found reply =
     ((copy : Option (String Global)) × (reply ≡ Reply.Text copy) × (option_map string_bytes copy ≡ found))
     ⊎ ((reply ≡ Refused FailedAllocation) × IsSome found)
 
--- what a command answers, and what it leaves of the interner; H is the type of the hashers that S makes
+-- what a command returns, and what it leaves of the interner; H is the type of the hashers that S makes
 abbrev pub replies_to : {K S A H : Type 0} → (ℕ → Option K) → (K → ℕ) → InternerView → Command K S A H → Reply K → InternerView → Type 0
 replies_to {K} key_at number old (Intern text) reply new = (outcome : Result K LassoError) × InternsIn key_at old text.now outcome new × (reply ≡ intern_reply outcome)
 replies_to {K} key_at number old (InternStatic text) reply new = (outcome : Result K LassoError) × InternsStaticIn key_at old text.now outcome new × (reply ≡ intern_reply outcome)

@@ -16,7 +16,7 @@ abbrev pub store_all : ℕ → Account → List Text → Option Account
 store_all first a [] = Some a
 store_all first a (t ∷ ts) = option_and_then (λ b. store_all first b ts) (store first a (length t))
 
--- the size of one bucket for so many bytes: 4096 where there are none
+-- the size of one bucket for this number of bytes: 4096 for none
 abbrev pub bucket_for : ℕ → ℕ
 bucket_for bytes = if nat_eq bytes 0 then 4096 else bytes
 
@@ -28,8 +28,8 @@ clone_size texts = bucket_for (bytes_of texts)
 abbrev pub clone_of : List Text → ℕ → Option Account
 clone_of texts limit = store_all (clone_size texts) (fresh (clone_size texts) (max limit (clone_size texts))) texts
 
--- copying one text puts it last and stores its bytes; or the limit refuses it, or memory is wanting where the limit has
--- room for it, and then nothing changes
+-- copying one text puts it last and stores its bytes; or the limit refuses it, or it is out of memory where
+-- the limit has room for it, and then nothing changes
 abbrev pub CopiesOne : InternerView → Text → Result (Unit {0}) LassoError → InternerView → Type 0
 CopiesOne old text reply new =
     MatchResult reply
@@ -37,8 +37,8 @@ CopiesOne old text reply new =
     (λ error. (new.texts ≡ old.texts) × (new.account ≡ old.account) × (new.copied ≡ old.copied) × (((error ≡ FailedAllocation) × IsSome (store old.first old.account (length text))) ⊎ ((error ≡ MemoryLimitReached) × (store old.first old.account (length text) ≡ None))))
     × KeepsOrigin old new
 
--- copying the texts from that account on stopped with j of them copied: the limit refused the next one; or memory was
--- wanting for it, though the limit had room for it, or before the first
+-- copying the texts from that account on stopped with j of them copied: the limit refused the next one; or it
+-- was out of memory for it, though the limit had room for it, or before the first
 abbrev pub StopsAt : ℕ → Account → List Text → ℕ → LassoError → Account → Type 0
 StopsAt first account texts j error stopped =
     (store_all first account (take j texts) ≡ Some stopped) × (((error ≡ FailedAllocation) × ((j ≡ 0) ⊎ ((text : Text) × (slice_get texts j ≡ Some text) × IsSome (store first stopped (length text)))))

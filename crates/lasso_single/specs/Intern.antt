@@ -1,4 +1,4 @@
--- What interning a text answers and leaves.
+-- What interning a text returns and leaves.
 use Rattle.std.specs.Prelude.{ℕ, ◌≡◌, ◌+◌, ◌⊎◌, List, [], ◌∷◌, ◌++◌, length, Option, Result, MatchResult, IsOk, Some, None, Ok, Err, unwrap_or}
 use Rattle.lasso_parts.specs.Account.{Account, store}
 use Rattle.lasso_parts.specs.Texts.{Text, position_of}
@@ -22,7 +22,7 @@ abbrev pub keyed_or_refused : {K : Type 0} → ℕ → Held → Text → Option 
 keyed_or_refused first held text None = Err KeySpaceExhaustion
 keyed_or_refused first held text (Some _) = stored_or_refused held text (store first held.account (length text))
 
--- a text that is there changes nothing
+-- a present text changes nothing
 abbrev pub found_or_new : {K : Type 0} → (ℕ → Option K) → ℕ → Held → Text → Option ℕ → Result Held LassoError
 found_or_new key_at first held text (Some _) = Ok held
 found_or_new key_at first held text None = keyed_or_refused first held text (key_at (length held.texts))
@@ -35,8 +35,8 @@ interned key_at first held text = found_or_new key_at first held text (position_
 abbrev pub interned_position : List Text → Text → ℕ
 interned_position texts text = unwrap_or (position_of texts text) (length texts)
 
--- interning the text answers the key of its position and leaves what the definition says; or it is refused
--- and leaves all as it was, for want of memory only where the list would grow
+-- interning the text returns the key of its position and leaves what the definition says; or it is refused
+-- and leaves all as it was, out of memory only where the list would grow
 abbrev pub Interns : {K : Type 0} → (ℕ → Option K) → ℕ → List Text → Account → Text → Result K LassoError → List Text → Account → Type 0
 Interns key_at first texts account text reply texts' account' =
     let before : Held = record { texts = texts; account = account } in
@@ -50,7 +50,7 @@ abbrev pub kept_or_refused : {K : Type 0} → Held → Text → Option K → Res
 kept_or_refused held text None = Err KeySpaceExhaustion
 kept_or_refused held text (Some _) = Ok (with_text held text held.account)
 
--- a text that is there changes nothing
+-- a present text changes nothing
 abbrev pub found_or_kept : {K : Type 0} → (ℕ → Option K) → Held → Text → Option ℕ → Result Held LassoError
 found_or_kept key_at held text (Some _) = Ok held
 found_or_kept key_at held text None = kept_or_refused held text (key_at (length held.texts))

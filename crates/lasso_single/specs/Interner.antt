@@ -21,11 +21,11 @@ pub record InternerView : Type 0 where
 abbrev pub most_copied : InternerView → ℕ
 most_copied i = max i.most i.copied
 
--- an interner that was just made, with a first bucket of so many bytes and that limit
+-- a new interner, with that first bucket's size and that limit
 abbrev pub made_with : ℕ → ℕ → InternerView
 made_with bytes limit = record { texts = []; account = fresh bytes limit; first = bytes; copied = 0; most = 0; is_cleared = false }
 
--- an interner that was just made with a first bucket of so many bytes, into which so many were copied
+-- a new interner with that first bucket's size, into which this number of bytes was copied
 abbrev pub IsMadeWith : ℕ → ℕ → InternerView → Type 0
 IsMadeWith first copied made = (made.first ≡ first) × (made.copied ≡ copied) × (made.is_cleared ≡ false) × (made.most ≡ 0)
 
@@ -33,6 +33,6 @@ IsMadeWith first copied made = (made.first ≡ first) × (made.copied ≡ copied
 abbrev pub KeepsOrigin : InternerView → InternerView → Type 0
 KeepsOrigin old new = (new.first ≡ old.first) × (new.is_cleared ≡ old.is_cleared) × (new.most ≡ old.most)
 
--- how many bytes a copied text adds to the list: none where it is there
+-- how many bytes a copied text adds to the list: none if it is present
 abbrev pub bytes_added : List Text → Text → ℕ
 bytes_added texts text = if is_some (position_of texts text) then 0 else length text

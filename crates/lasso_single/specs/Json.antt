@@ -5,7 +5,7 @@ use Rattle.lasso_parts.specs.Json.{read_array, TakesText, ReadsOr}
 use Rattle.lasso_parts.specs.Texts.{Text}
 use Rattle.lasso_parts.specs.declared.json.error.JsonError.{JsonError}
 
--- the answer is the list that the value is read as, or what is wrong with it; or memory was wanting, unless the
+-- the result is the list that the value is read as, or what is wrong with it; or out of memory, unless the
 -- value is no array or its first item is faulty
 abbrev pub ReadsInto : {K : Type 0} → (ℕ → Option K) → Bool → Data → Result (List Text) JsonError → Type 0
 ReadsInto key_at distinct d answer =

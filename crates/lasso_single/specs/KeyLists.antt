@@ -1,11 +1,11 @@
--- What interning a list of texts answers and leaves.
+-- What interning a list of texts returns and leaves.
 use Rattle.std.specs.Prelude.{ℕ, ◌≡◌, ◌-◌, List, ◌++◌, length, map, take, Option, Some, Err, IsSomeAnd, slice_get}
 use Rattle.lasso_parts.specs.Texts.{Text, key_of}
 use Rattle.lasso_parts.specs.declared.util.LassoError.{LassoError}
 use Rattle.lasso_single.specs.Intern.{InternsIn}
 use Rattle.lasso_single.specs.Interner.{InternerView}
 
--- those of the texts that were interned: the first ones, as many as keys were added
+-- those of the texts that were interned: the first ones, one for each added key
 abbrev pub keyed_texts : {K : Type 0} → List K → List K → List Text → List Text
 keyed_texts before after texts = take (length after - length before) texts
 
@@ -13,7 +13,7 @@ keyed_texts before after texts = take (length after - length before) texts
 abbrev pub AreKeys : {K : Type 0} → (ℕ → Option K) → List Text → List Text → List K → Type 0
 AreKeys key_at list texts keys = map (key_of key_at list) texts ≡ map Some keys
 
--- the keys of the texts were put after those that were there
+-- the keys of the texts were put after the earlier ones
 abbrev pub AddsKeys : {K : Type 0} → (ℕ → Option K) → List Text → List Text → List K → List K → Type 0
 AddsKeys {K} key_at list texts before after = (keys : List K) × (after ≡ before ++ keys) × AreKeys key_at list texts keys
 

@@ -20,7 +20,7 @@ pub enum Command<'a, K: Key, S: BuildHasher, A: Allocator> {
     InternStatic(&'static str),
     /// Looks a text up.
     Get(&'a str),
-    /// Whether the text is there.
+    /// Whether the text is present.
     Contains(&'a str),
     /// Whether the key stands for a text.
     ContainsKey(K),
@@ -42,14 +42,14 @@ pub enum Command<'a, K: Key, S: BuildHasher, A: Allocator> {
     CloneFrom(&'a Rodeo<K, S, A>),
 }
 
-/// What a command answers.
+/// What a command returns.
 #[derive(Drop)]
 pub enum Reply<K> {
     /// The key of an interned text.
     Key(K),
     /// The command was refused.
     Refused(LassoError),
-    /// The key of a text that is there.
+    /// The key of a present text.
     Found(Option<K>),
     /// Yes or no.
     Flag(bool),
@@ -61,11 +61,11 @@ pub enum Reply<K> {
     Done,
 }
 
-/// Carries the commands out in order, and answers one reply for each. A refused command is answered by its
-/// refusal, and the run goes on. There is room for all replies before the first command is carried out: where
-/// memory is wanting for that, the run is refused and nothing changes; a run of no command never is. Afterwards
-/// the buckets take at most the first bucket and eight times the most bytes that were copied in between two
-/// clears, and where nothing was ever cleared at most the first bucket and four times the bytes copied in.
+/// Runs the commands in order, and returns one reply for each. A refused command's reply is its error, and
+/// the run goes on. Room for all replies is reserved first: if that fails (`FailedAllocation`), nothing
+/// changes; an empty list of commands never fails. Afterwards the buckets take at most the first bucket and
+/// eight times the most bytes that were copied in between two clears. If nothing was ever cleared, they take
+/// at most the first bucket and four times the bytes copied in.
 ///
 /// ```rust
 /// let mut rodeo: SpurRodeo = Rodeo::new(rt.alloc())?;
@@ -136,7 +136,7 @@ fn interned<K>(outcome: LassoResult<K>) -> Reply<K>
     }
 }
 
-// The reply to a call that answers nothing but whether it was refused.
+// The reply to a call that returns only whether it was refused.
 fn done<K>(outcome: LassoResult<()>) -> Reply<K>
     ensures { result ≡ done_reply outcome }
 {

@@ -12,18 +12,18 @@ pub(crate) trait CopyTarget {
     // its texts and its memory
     ghost holds: { Self → InternerView };
 
-    // whether a text may go behind the texts
+    // whether a text may go after the texts
     ghost takes: { List Text → Text → Type 0 };
 
-    /// Copies the text to the end of the list. It is refused where the limit has no room for its bytes, or for
-    /// want of memory, and nothing changes then.
+    /// Copies the text to the end of the list. It fails if the limit has no room for its bytes, or when out
+    /// of memory, and nothing changes then.
     fn copy_text(&mut self, text: &str) -> LassoResult<()>
         requires { takes (holds self.old).texts text.now }
         ensures { CopiesOne (holds self.old) text.now result (holds self.new) };
 }
 
 /// Copies each text to the end of the list, which must be empty, up to the first refusal. There must be `len`
-/// texts, each of which the list takes behind those before it.
+/// texts, each of which the list takes after those before it.
 pub(crate) fn copy_all<C: CopyTarget, T: Texts>(
     target: &mut C,
     texts: &T,

@@ -1,5 +1,5 @@
-//! The frozen forms as JSON: the array of their texts, in the order of their keys. The form that grows
-//! stands beside its type.
+//! The frozen forms as JSON: the array of their texts, in the order of their keys. That of a `Rodeo` is in
+//! `rodeo/json.rt`.
 ghost use Rattle.std.specs.Prelude.{◌≡◌, ◌≤◌, ◌<◌, ◌^◌, List, Ok, Err, IfOk, IfErr, length, true, false};
 ghost use Rattle.serde_json.specs.View.{view};
 ghost use Rattle.lasso_parts.specs.Json.{json_array, read_array};
@@ -19,8 +19,8 @@ use std::alloc::{Allocator, Global};
 use std::hash::BuildHasher;
 
 impl<K: Key, S: BuildHasher, A: Allocator> RodeoReader<K, S, A> {
-    /// The array of the texts, in the order of their keys. It is refused for want of memory alone, and
-    /// never where there is no text.
+    /// The array of the texts, in the order of their keys. The only error is out of memory (`Lasso`), and an
+    /// empty list never has it.
     pub fn serialize(&self, alloc: Global) -> Result<Value, JsonError>
         ensures written { IfOk result (λ value. view value ≡ json_array self.now) }
         ensures refused { IfErr result (λ error. (error ≡ JsonError.Lasso FailedAllocation) × (0 < length self.now)) }
@@ -44,8 +44,8 @@ impl<K: Key, S: BuildHasher + Default + Drop, A: Allocator + Clone> RodeoReader<
 }
 
 impl<K: Key, A: Allocator> RodeoResolver<K, A> {
-    /// The array of the texts, in the order of their keys. It is refused for want of memory alone, and
-    /// never where there is no text.
+    /// The array of the texts, in the order of their keys. The only error is out of memory (`Lasso`), and an
+    /// empty list never has it.
     pub fn serialize(&self, alloc: Global) -> Result<Value, JsonError>
         ensures written { IfOk result (λ value. view value ≡ json_array self.now) }
         ensures refused { IfErr result (λ error. (error ≡ JsonError.Lasso FailedAllocation) × (0 < length self.now)) }
@@ -56,11 +56,11 @@ impl<K: Key, A: Allocator> RodeoResolver<K, A> {
 }
 
 impl<K: Key, A: Allocator + Clone> RodeoResolver<K, A> {
-    /// A resolver with the texts of an array, in order. Texts may be equal, each under its own key. The
-    /// first faulty item decides: it is no text (`NotText`), or the key type has no key for its position
-    /// (`TooMany`). A value that is no array is `NotAnArray`. It may be refused for want of memory
-    /// (`Lasso`) unless the value is no array or its first item is faulty; so it is where the texts have
-    /// more bytes than a `usize` counts.
+    /// A resolver with the texts of an array, in order. Texts may be equal, each under its own key. The first
+    /// faulty item decides: it is no text (`NotText`), or the key type has no key for its position
+    /// (`TooMany`). A value that is no array is `NotAnArray`. It may run out of memory (`Lasso`) unless the
+    /// value is no array or its first item is faulty, and it does when a `usize` can't count the texts'
+    /// bytes.
     pub fn deserialize(alloc: A, value: &Value) -> Result<Self, JsonError>
         ensures read { ReadsInto K.key_at false (view value.now) result }
         ensures overflow { (texts : List Text) → read_array K.key_at false (view value.now) ≡ Ok texts → 2 ^ 64 ≤ bytes_of texts → result ≡ Err (JsonError.Lasso FailedAllocation) }

@@ -11,6 +11,7 @@ use lasso_parts::index::Texts;
 use lasso_parts::iter::{Iter, Strings};
 use lasso_parts::keys::Key;
 use std::alloc::Allocator;
+use std::fmt;
 use std::hash::BuildHasher;
 use std::marker::Model;
 
@@ -31,7 +32,7 @@ impl<K: Key, S: BuildHasher, A: Allocator> Model for RodeoReader<K, S, A> {
     ghost view = { λ r. r.rodeo.texts };
 }
 
-// One call, so that proofs of callers see nothing of the field where a reader is let go.
+// One call, so that proofs of callers see nothing of the field where a reader is dropped.
 impl<K: Key, S: BuildHasher + Drop, A: Allocator> Drop for RodeoReader<K, S, A> {
     fn drop(self) {
         let RodeoReader { rodeo: _ } = self;
@@ -61,7 +62,7 @@ impl<K: Key, S: BuildHasher, A: Allocator> RodeoReader<K, S, A> {
         &self.rodeo
     }
 
-    /// The key of the text, or `None` where it is not there.
+    /// The key of the text, or `None` if it is absent.
     ///
     /// ```rust
     /// let reader = SpurRodeo::from_iter(rt.alloc(), ["red", "green"])?.into_reader();
@@ -76,7 +77,7 @@ impl<K: Key, S: BuildHasher, A: Allocator> RodeoReader<K, S, A> {
         self.rodeo.get(text)
     }
 
-    /// Whether the text is there.
+    /// Whether the text is present.
     ///
     /// ```rust
     /// let reader = SpurRodeo::from_iter(rt.alloc(), ["red", "green"])?.into_reader();
@@ -189,8 +190,18 @@ impl<K: Key, S: BuildHasher, A: Allocator> RodeoReader<K, S, A> {
         self.rodeo.strings()
     }
 
-    /// The same texts under the same keys, without the index. It takes no memory, copies nothing and
-    /// can't fail; the index is let go.
+    /// How many bytes the allocator gave for the list of texts, the index and the buckets.
+    ///
+    /// ```rust
+    /// let reader = SpurRodeo::from_iter(rt.alloc(), ["red", "green"])?.into_reader();
+    /// assert!(rt; reader.allocated_bytes() > 4096);
+    /// ```
+    pub fn allocated_bytes(&self) -> usize {
+        self.rodeo.allocated_bytes()
+    }
+
+    /// The same texts under the same keys, without the index. It takes no memory, copies nothing and can't
+    /// fail; the index is dropped.
     ///
     /// ```rust
     /// let reader = SpurRodeo::from_iter(rt.alloc(), ["red", "green"])?.into_reader();
@@ -248,5 +259,11 @@ impl<'a, K: Key, S: BuildHasher, A: Allocator> IntoIterator for &'a RodeoReader<
 
     fn into_iter(self) -> Iter<'a, K> {
         self.iter()
+    }
+}
+
+impl<K: Key, S: BuildHasher, A: Allocator> fmt::Debug for RodeoReader<K, S, A> {
+    fn fmt<W: fmt::Write>(&self, f: &mut fmt::Formatter<W>) -> fmt::Result {
+        self.rodeo.debug_as("RodeoReader", f)
     }
 }

@@ -12,6 +12,7 @@ use lasso_parts::index::Texts;
 use lasso_parts::iter::{Iter, Strings};
 use lasso_parts::keys::Key;
 use std::alloc::Allocator;
+use std::fmt;
 use std::hash::BuildHasher;
 use std::marker::{Model, PhantomData};
 
@@ -35,7 +36,7 @@ impl<K: Key, A: Allocator> Model for RodeoResolver<K, A> {
     ghost invariant = { λ r. Fits K.key_at (length r.list.texts) };
 }
 
-// One call, so that proofs of callers see nothing of the fields where a resolver is let go.
+// One call, so that proofs of callers see nothing of the fields where a resolver is dropped.
 impl<K: Key, A: Allocator> Drop for RodeoResolver<K, A> {
     fn drop(self) {
         let RodeoResolver { list: _, keys: _ } = self;
@@ -172,6 +173,16 @@ impl<K: Key, A: Allocator> RodeoResolver<K, A> {
         self.list.strings()
     }
 
+    /// How many bytes the allocator gave for the list of texts and the buckets.
+    ///
+    /// ```rust
+    /// let resolver = SpurRodeo::from_iter(rt.alloc(), ["red", "green"])?.into_resolver();
+    /// assert!(rt; resolver.allocated_bytes() > 4096);
+    /// ```
+    pub fn allocated_bytes(&self) -> usize {
+        self.list.allocated_bytes()
+    }
+
     /// Whether the interner has the same texts under the same keys.
     pub fn eq_rodeo<S: BuildHasher, B: Allocator>(&self, other: &Rodeo<K, S, B>) -> bool
         ensures { IsTrue result ↔ (self.now ≡ other.now.texts) }
@@ -213,5 +224,14 @@ impl<'a, K: Key, A: Allocator> IntoIterator for &'a RodeoResolver<K, A> {
 
     fn into_iter(self) -> Iter<'a, K> {
         self.iter()
+    }
+}
+
+impl<K: Key, A: Allocator> fmt::Debug for RodeoResolver<K, A> {
+    fn fmt<W: fmt::Write>(&self, f: &mut fmt::Formatter<W>) -> fmt::Result {
+        f.debug_struct("RodeoResolver")
+            .field("strings", &self.strings())
+            .field("arena", self.list.arena())
+            .finish()
     }
 }

@@ -6,14 +6,11 @@ ghost use Rattle.lasso_single.specs.Interner.{most_copied};
 mod changes;
 mod clones;
 mod copying;
-mod debug;
 mod filling;
 mod freezing;
 mod interning;
 mod json;
-mod lists;
 mod makers;
-mod memory;
 mod walking;
 mod words;
 
@@ -21,13 +18,14 @@ use crate::text_list::TextList;
 use lasso_parts::index::{Index, Texts};
 use lasso_parts::keys::Key;
 use std::alloc::Allocator;
+use std::fmt;
 use std::hash::BuildHasher;
 use std::marker::Model;
 
-/// An interner for one thread: a list of distinct texts, in which a text at position n has the key of
-/// number n, and beside it an account of the memory that the texts take. Contracts see the texts, the
-/// account, the bytes of the first bucket, the bytes copied in since the last clear, the most that were
-/// copied in between two clears so far, and whether there was a clear.
+/// An interner for one thread: a list of distinct texts, in which a text at position n has the key of number
+/// n, and an account of the memory that the texts take. Contracts see the texts, the account, the bytes of
+/// the first bucket, the bytes copied in since the last clear, the most that were copied in between two
+/// clears so far, and whether there was a clear.
 pub struct Rodeo<K: Key, S: BuildHasher, A: Allocator> {
     list: TextList<A>,
     index: Index<K, A>,
@@ -48,7 +46,7 @@ impl<K: Key, S: BuildHasher, A: Allocator> Model for Rodeo<K, S, A> {
     ghost invariant = { λ r. IsIndexOf (text_hash S.build_hasher S.Hasher.write S.Hasher.finish r.hasher) r.list.texts r.index × Fits K.key_at (length r.list.texts) };
 }
 
-// One call, so that proofs of callers see nothing of the fields where an interner is let go.
+// One call, so that proofs of callers see nothing of the fields where an interner is dropped.
 impl<K: Key, S: BuildHasher + Drop, A: Allocator> Drop for Rodeo<K, S, A> {
     fn drop(self) {
         let Rodeo {
@@ -60,7 +58,7 @@ impl<K: Key, S: BuildHasher + Drop, A: Allocator> Drop for Rodeo<K, S, A> {
 }
 
 impl<K: Key, S: BuildHasher, A: Allocator> Rodeo<K, S, A> {
-    /// The key of the text, or `None` where it is not there.
+    /// The key of the text, or `None` if it is absent.
     ///
     /// ```rust
     /// let mut rodeo = Rodeo::default(rt.alloc())?;
@@ -77,7 +75,7 @@ impl<K: Key, S: BuildHasher, A: Allocator> Rodeo<K, S, A> {
         K::try_from_usize(position)
     }
 
-    /// Whether the text is there.
+    /// Whether the text is present.
     ///
     /// ```rust
     /// let mut rodeo = Rodeo::default(rt.alloc())?;
@@ -180,7 +178,7 @@ impl<K: Key, S: BuildHasher, A: Allocator> Rodeo<K, S, A> {
         self.list.len() == 0
     }
 
-    /// For how many texts the list has room: at least as many as there are.
+    /// How many texts fit before the list grows; at least `len()`.
     ///
     /// ```rust
     /// let colours = ["red", "green", "red", "blue"];
@@ -223,5 +221,38 @@ impl<K: Key, S: BuildHasher, A: Allocator> Rodeo<K, S, A> {
         ensures waste { self.now.is_cleared ≡ false → result ≤ self.now.first + 4 * self.now.copied }
     {
         self.list.memory_usage()
+    }
+    /// How many bytes the allocator gave for the list of texts, the index and the buckets. Those of
+    /// `current_memory_usage` are among them.
+    ///
+    /// ```rust
+    /// let rodeo = Rodeo::default(rt.alloc())?;
+    /// assert!(rt; rodeo.allocated_bytes() > rodeo.current_memory_usage());
+    /// ```
+    pub fn allocated_bytes(&self) -> usize
+        ensures { self.now.account.usage ≤ result }
+    {
+        self.list
+            .allocated_bytes()
+            .saturating_add(self.index.allocated_bytes())
+    }
+
+    /// Writes the texts and the numbers of the arena as debug text of a struct with that name. The index and
+    /// the hasher are left out.
+    pub(crate) fn debug_as<W: fmt::Write>(
+        &self,
+        name: &str,
+        f: &mut fmt::Formatter<W>,
+    ) -> fmt::Result {
+        f.debug_struct(name)
+            .field("strings", &self.strings())
+            .field("arena", self.list.arena())
+            .finish_non_exhaustive()
+    }
+}
+
+impl<K: Key, S: BuildHasher, A: Allocator> fmt::Debug for Rodeo<K, S, A> {
+    fn fmt<W: fmt::Write>(&self, f: &mut fmt::Formatter<W>) -> fmt::Result {
+        self.debug_as("Rodeo", f)
     }
 }

@@ -34,7 +34,7 @@ fn byte_sum<T: Texts>(texts: &T, len: usize) -> Option<usize>
     Some(bytes)
 }
 
-// The size of one bucket for so many bytes. A bucket has one byte at least.
+// The size of one bucket for `bytes` bytes. A bucket has one byte at least.
 fn bucket_for(bytes: usize) -> usize
     ensures value { result ≡ bucket_for bytes }
     ensures some { 0 < result }

@@ -79,7 +79,7 @@ impl<A: Allocator + Clone> CopyTarget for TextList<A> {
 }
 
 impl<A: Allocator + Clone> TextList<A> {
-    /// An empty list. It is refused for want of memory alone.
+    /// An empty list. The only error is `FailedAllocation`.
     pub(crate) fn new(alloc: A, capacity: Capacity, limits: MemoryLimits) -> LassoResult<Self>
         ensures texts { IfOk result (λ l. l.texts ≡ []) }
         ensures account { IfOk result (λ l. l.account ≡ fresh capacity.bytes limits) }
@@ -98,8 +98,8 @@ impl<A: Allocator + Clone> TextList<A> {
     }
 
     /// A list of the texts, in order, all copied into one bucket of just their bytes (4096 where they have
-    /// none), with no limit below the greatest number. It is refused for want of memory alone, also where
-    /// the texts have more bytes than a `usize` counts.
+    /// none), with the limit `usize::MAX`. The only error is `FailedAllocation`, also when a `usize` can't
+    /// count the texts' bytes.
     pub(crate) fn copy_of(alloc: A, texts: &[&str]) -> LassoResult<Self>
         ensures texts { IfOk result (λ l. l.texts ≡ map (λ t. t.now) texts.now) }
         ensures account { IfOk result (λ l. read_of (map (λ t. t.now) texts.now) ≡ Some l.account) }
@@ -115,8 +115,8 @@ impl<A: Allocator + Clone> TextList<A> {
         }
     }
 
-    /// Copies a text to the end of the list. The limit must admit it, so that it is refused for want of
-    /// memory alone, and nothing changes then.
+    /// Copies a text to the end of the list. The limit must admit it. The only error is `FailedAllocation`,
+    /// and nothing changes then.
     #[inline(always)]
     pub(crate) fn push_copied(&mut self, text: &str) -> LassoResult<()>
         requires { IsSome (store self.old.first self.old.account (length text.now)) }
@@ -249,7 +249,7 @@ impl<A: Allocator> TextList<A> {
         }
     }
 
-    /// Whether the limit admits a text of so many bytes. It takes no memory.
+    /// Whether the limit admits a text of `len` bytes. It takes no memory.
     pub(crate) fn admits(&self, len: usize) -> bool
         ensures { IsTrue result ↔ IsSome (store self.now.first self.now.account len) }
     {
@@ -318,7 +318,8 @@ impl<A: Allocator> TextList<A> {
         self.entries.allocator()
     }
 
-    /// Makes room for so many texts more. Where memory is wanting, the list is the same too.
+    /// Makes room for `additional` more texts. The only error is `FailedAllocation`, and the list is the same
+    /// then too.
     pub(crate) fn reserve(&mut self, additional: usize) -> LassoResult<()>
         ensures same { self.new ≡ self.old }
         ensures refused { IfErr result (λ error. error ≡ FailedAllocation) }
@@ -327,8 +328,8 @@ impl<A: Allocator> TextList<A> {
         Ok(())
     }
 
-    /// Puts a text at the end of the list as it is, with no copy. It is refused for want of memory alone,
-    /// and nothing changes then.
+    /// Puts a text at the end of the list as it is, with no copy. The only error is `FailedAllocation`, and
+    /// nothing changes then.
     pub(crate) fn push_static(&mut self, text: &'static str) -> LassoResult<()>
         ensures texts { OnOk result (self.new.texts ≡ self.old.texts ++ text.now ∷ []) }
         ensures account { self.new.account ≡ self.old.account }
@@ -342,7 +343,7 @@ impl<A: Allocator> TextList<A> {
             self.entries.push_reserved(Entry::inside(short));
             return Ok(());
         }
-        let long = LongText::lasting(text);
+        let long = LongText::from_static(text);
         if is_vast(text.len()) {
             self.vast.reserve(1)?;
             let index = self.vast.len();

@@ -3,13 +3,13 @@ ghost use Rattle.std.specs.Prelude.{◌<◌};
 
 mod kinds;
 
-use crate::fixtures::Gap;
 use lasso_parts::json::JsonError;
 use lasso_parts::keys::{Key, MicroSpur, Spur};
 use lasso_parts::util::FixedState;
 use lasso_single::reader::RodeoReader;
 use lasso_single::resolver::RodeoResolver;
 use lasso_single::rodeo::Rodeo;
+use lasso_testing::keys::Gap;
 use serde_json::Value;
 use std::alloc::Global;
 use std::process::Abort;

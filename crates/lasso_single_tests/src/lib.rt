@@ -3,14 +3,12 @@
 
 #[cfg(test)]
 mod commands;
-pub mod fixtures;
 #[cfg(test)]
 mod json;
 #[cfg(test)]
 mod reader;
 #[cfg(test)]
 mod refusals;
-pub mod refusing;
 #[cfg(test)]
 mod resolver;
 #[cfg(test)]

@@ -1,11 +1,12 @@
 //! Readers alone, in two threads, under one hash, and with keys that ran out.
 ghost use Rattle.std.specs.Prelude.{All, ◌≤◌, length};
 
-use crate::fixtures::{Gap, SameState};
 use lasso_parts::keys::{Key, Spur};
 use lasso_parts::util::{Capacity, FixedState, LassoErrorKind, MemoryLimits};
 use lasso_single::reader::RodeoReader;
 use lasso_single::rodeo::Rodeo;
+use lasso_testing::hashers::SameState;
+use lasso_testing::keys::Gap;
 use std::alloc::{Allocator, Global};
 use std::hash::BuildHasher;
 use std::test::Fail;

@@ -10,11 +10,11 @@ mod runs;
 mod values;
 mod words;
 
-use crate::fixtures::Gap;
-use crate::refusing::Refusing;
 use lasso_parts::keys::{Key, Spur};
 use lasso_parts::util::{Capacity, FixedState, LassoErrorKind, LassoResult, MemoryLimits};
 use lasso_single::rodeo::Rodeo;
+use lasso_testing::keys::Gap;
+use lasso_testing::refusing::{Refusing, each_refused};
 use std::alloc::Global;
 use std::process::Abort;
 use std::test::Fail;
@@ -31,31 +31,8 @@ type Memory = Refusing<Global>;
 
 type Metered<'a, K> = Rodeo<K, FixedState, &'a Memory>;
 
-// More requests than any of the scripts makes.
-const MOST: u64 = 1000;
-
 // A run meets its own refusal, and at most one of the allocator below (`rt try --test --fail-alloc N`).
 const REFUSALS: u8 = 2;
-
-// Runs the script with its first request refused, then with its second, until a run meets no refusal.
-fn each_refused<R: AllocGlobal + Abort, F: Fn(&R, &Memory) -> Result<(), Fail> + Drop>(
-    rt: &R,
-    script: F,
-) -> Result<(), Fail>
-    requires { F.IsAlwaysCallable script }
-{
-    for refused in 1..MOST {
-        let memory = Refusing::new(rt.alloc(), refused);
-        script(rt, &memory)?;
-        assert!(rt; memory.bytes_out() == 0, "{refused}");
-        if memory.refusals() == 0 {
-            assert!(rt; refused > 1, "no request at all");
-            return Ok(());
-        }
-    }
-    assert!(rt; false, "each run met a refusal");
-    Ok(())
-}
 
 // What was made, or none where the memory for it was refused.
 fn made<T>(rt: &impl Abort, memory: &Memory, outcome: LassoResult<T>) -> Option<T> {

@@ -11,10 +11,11 @@ mod lists;
 mod walks;
 mod words;
 
-use crate::fixtures::{Gap, SameState};
 use lasso_parts::keys::{Key, MicroSpur, Spur};
 use lasso_parts::util::{Capacity, FixedState, LassoErrorKind, LassoResult, MemoryLimits};
 use lasso_single::rodeo::Rodeo;
+use lasso_testing::hashers::SameState;
+use lasso_testing::keys::Gap;
 use std::alloc::Global;
 use std::hash::BuildHasher;
 use std::process::Abort;

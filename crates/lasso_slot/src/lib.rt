@@ -107,7 +107,7 @@ impl<X: Fits> Slot<X> {
     }
 
     /// Claims the whole slot if nobody has a claim. It looks first, and changes nothing where somebody has one.
-    pub fn try_whole(&self) -> Option<Claim<'_, X>>
+    pub fn try_lock(&self) -> Option<Claim<'_, X>>
         ensures { IfSome result (λ c. (c.right ≡ whole) × (c.tag ≡ self.now)) }
     {
         let word = self.look();
@@ -119,7 +119,7 @@ impl<X: Fits> Slot<X> {
     }
 
     /// Claims the slot beside other readers, if nobody has it whole or waits for that.
-    pub fn try_shared(&self) -> Option<Claim<'_, X>>
+    pub fn try_read(&self) -> Option<Claim<'_, X>>
         ensures { IfSome result (λ c. (c.right ≡ shared) × (c.tag ≡ self.now)) }
     {
         let word = self.look();
@@ -201,14 +201,14 @@ impl<'a, X: Fits> Claim<'a, X> {
     }
 
     /// Ends a claim of the whole slot.
-    pub fn give_back(self)
+    pub fn unlock(self)
         requires { self.right ≡ whole }
     {
         self.lower(TAKEN);
     }
 
     /// Ends a reader's claim.
-    pub fn leave(self)
+    pub fn unlock_read(self)
         requires { self.right ≡ shared }
     {
         self.lower(ONE_READER);

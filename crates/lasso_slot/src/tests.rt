@@ -21,9 +21,9 @@ impl Fits for Count {
 }
 
 fn read(slot: &Slot<Count>) -> Option<u64> {
-    let claim = slot.try_shared()?;
+    let claim = slot.try_read()?;
     let number = claim.get().number;
-    claim.leave();
+    claim.unlock_read();
     Some(number)
 }
 
@@ -31,21 +31,21 @@ fn read(slot: &Slot<Count>) -> Option<u64> {
 fn write(slot: &Slot<Count>, number: u64) -> Option<u64>
     requires { number ≤ slot.now }
 {
-    let claim = slot.try_whole()?;
+    let claim = slot.try_lock()?;
     let (claim, old) = claim.swap(Count { number });
-    claim.give_back();
+    claim.unlock();
     Some(old.number)
 }
 
 #[test]
 fn readers_share_and_a_writer_stays_out(rt: HostRuntime) {
     let slot = Slot::new(Count { number: 7 }, &9);
-    match slot.try_shared() {
+    match slot.try_read() {
         Some(reading) => {
             assert!(rt; read(&slot) == Some(7));
             assert!(rt; write(&slot, 8) == None);
             assert!(rt; reading.get().number == 7);
-            reading.leave();
+            reading.unlock_read();
         }
         None => assert!(rt; false),
     }
@@ -60,7 +60,7 @@ fn one_writer_keeps_everybody_out(rt: HostRuntime) {
         Some(claim) => {
             assert!(rt; read(&slot) == None);
             assert!(rt; write(&slot, 8) == None);
-            claim.give_back();
+            claim.unlock();
         }
         None => assert!(rt; false),
     }
@@ -71,12 +71,12 @@ fn one_writer_keeps_everybody_out(rt: HostRuntime) {
 #[test]
 fn a_marked_slot_takes_no_more_readers(rt: HostRuntime) {
     let slot = Slot::new(Count { number: 7 }, &9);
-    match slot.try_shared() {
+    match slot.try_read() {
         Some(reading) => {
             slot.keep_readers_out();
             assert!(rt; read(&slot) == None);
             assert!(rt; write(&slot, 8) == None);
-            reading.leave();
+            reading.unlock_read();
         }
         None => assert!(rt; false),
     }
@@ -90,11 +90,11 @@ fn add<R: Wait>(rt: &R, slot: &Slot<Count>, times: u32)
 {
     for _ in 0..times {
         for _ in rt.forever() {
-            if let Some(claim) = slot.try_whole() {
+            if let Some(claim) = slot.try_lock() {
                 let (claim, Count { number }) = claim.swap(Count { number: 0 });
                 let more = if number < 4000 { number + 1 } else { number };
                 let (claim, _zero) = claim.swap(Count { number: more });
-                claim.give_back();
+                claim.unlock();
                 break;
             }
             yield_now();

@@ -1,4 +1,4 @@
-//! The interfaces of what stands in a box: those of what the box holds, with its meaning.
+//! The interfaces of a box: those of what it holds, with its meaning.
 ghost use Rattle.std.specs.Prelude.{◌≡◌, Some, IfSome, IfErr, IsOkAnd};
 ghost use Rattle.lasso_parts.specs.declared.util.LassoErrorKind.TheVariants.{FailedAllocation};
 

@@ -104,7 +104,7 @@ pub fn resolver_of_boxed_rodeo_knows<K: Key, S: BuildHasher + Drop, A: Allocator
     resolver_knows(rt, boxed, text)
 }
 
-/// `finds_what_resolves` of a reader, as it stands and lent.
+/// `finds_what_resolves` of a reader, owned and lent.
 pub fn reader_finds_what_resolves<K: Key, S: BuildHasher, A: Allocator, R: Wait>(
     rt: &R,
     reader: &RodeoReader<K, S, A>,
@@ -115,7 +115,7 @@ pub fn reader_finds_what_resolves<K: Key, S: BuildHasher, A: Allocator, R: Wait>
     finds_what_resolves(rt, reader, text) && finds_what_resolves(rt, &reader, text)
 }
 
-/// `looks_up_alike` of a resolver, as it stands and lent.
+/// `looks_up_alike` of a resolver, owned and lent.
 pub fn resolver_looks_up_alike<K: Key, A: Allocator>(resolver: &RodeoResolver<K, A>, key: K) -> bool
     ensures { IsTrue result }
 {

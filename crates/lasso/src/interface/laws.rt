@@ -30,7 +30,7 @@ pub fn finds_what_resolves<K: Key, R: Wait, T: Reader<K>>(rt: &R, reader: &T, te
     }
 }
 
-/// Interns the text twice. Answers whether both calls gave one key, which is found for the text and resolves
+/// Interns the text twice. Returns whether both calls gave one key, which is found for the text and resolves
 /// to it. The list then has the text, and no other text more. A refusal is that of the first call.
 pub fn interns_as_one<K: Key, R: Wait, I: Interner<K>>(
     rt: &R,
@@ -46,7 +46,7 @@ pub fn interns_as_one<K: Key, R: Wait, I: Interner<K>>(
     Ok(is_key(Some(again), first) && stands_for(rt, interner, first, text))
 }
 
-/// Interns the text and freezes the interner. Answers whether the reader finds the key that was given for the
+/// Interns the text and freezes the interner. Returns whether the reader finds the key that was given for the
 /// text, and resolves it to the text. Where the interner has a list, only the intern is refused.
 pub fn reader_knows<K: Key, R: Wait, I: IntoReader<K> + Drop>(
     rt: &R,
@@ -63,7 +63,7 @@ where
     Ok(stands_for(rt, &reader, key, text))
 }
 
-/// Interns the text and freezes the interner. Answers whether the resolver resolves the key that was given to
+/// Interns the text and freezes the interner. Returns whether the resolver resolves the key that was given to
 /// the text. Where the interner has a list, only the intern is refused.
 pub fn resolver_knows<K: Key, R: Wait, I: Interner<K> + IntoResolver<K> + Drop>(
     rt: &R,

@@ -1,4 +1,4 @@
-//! The interfaces of what is lent to be read: those of what stands behind the reference, with its meaning.
+//! The interfaces of what is lent to be read: those of the value behind the reference, with its meaning.
 
 use super::{Reader, Resolver};
 use lasso_parts::keys::Key;

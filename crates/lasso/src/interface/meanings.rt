@@ -1,5 +1,5 @@
-//! What the meaning of each interner is: a meaning of none would meet every clause of the interfaces.
-//! These functions do nothing; what they say stands in their contracts.
+//! What the meaning of each interner is: a meaning of none would meet every clause of the interfaces. These
+//! functions do nothing; what they say is in their contracts.
 ghost use Rattle.std.specs.Prelude.{◌≡◌, Some, None};
 
 use super::{Resolver, SpurResolver};

@@ -10,7 +10,7 @@ use crate::SpurRodeo;
 use lasso_parts::keys::{Key, Spur};
 use lasso_parts::util::LassoResult;
 
-/// Interns the text twice. Answers whether both calls gave one key, which is found for the text and resolves
+/// Interns the text twice. Returns whether both calls gave one key, which is found for the text and resolves
 /// to it. The list then has the text, and no other text more. A refusal is that of the first call.
 pub fn object_interns_as_one(interner: &mut dyn SpurInterner, text: &str) -> LassoResult<bool>
     ensures one { IfOk result IsTrue }
@@ -25,7 +25,7 @@ pub fn object_interns_as_one(interner: &mut dyn SpurInterner, text: &str) -> Las
     Ok(is_same & is_found & is_back)
 }
 
-/// The same of a box, which is let go then.
+/// The same of a box, which is dropped then.
 pub fn boxed_object_interns_as_one(
     mut interner: Box<dyn SpurInterner + Drop>,
     text: &str,

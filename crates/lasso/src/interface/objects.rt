@@ -34,25 +34,25 @@ pub trait SpurResolver {
 
 /// What finds the keys of texts too.
 pub trait SpurReader: SpurResolver {
-    /// The key of the text, or `None` where it is not there.
+    /// The key of the text, or `None` if it is absent.
     fn get(&self, text: &str) -> Option<Spur>
         ensures { result ≡ key_of ⟦<Spur as Key>⟧.key_at (Self.texts self.now) text.now };
 
-    /// Whether the text is there.
+    /// Whether the text is present.
     fn contains(&self, text: &str) -> bool
         ensures { result ≡ is_some (position_of (Self.texts self.now) text.now) };
 }
 
 /// What interns texts too.
 pub trait SpurInterner: SpurReader {
-    /// The key of the text, which goes last if it is not there. A text that is there is never refused. A new
-    /// one is refused where no key is left, else where a memory limit leaves no room for its bytes, else for
-    /// want of memory; no text is added then.
+    /// Returns the text's key, and appends the text first if it is new. Interning a present text never fails.
+    /// A new text fails when no key is left (`KeySpaceExhaustion`), else when it would pass a memory limit
+    /// (`MemoryLimitReached`), else when out of memory (`FailedAllocation`). No text is added then.
     fn try_get_or_intern(&mut self, text: &str) -> LassoResult<Spur>
         ensures { InternsAmong ⟦<Spur as Key>⟧.key_at (Self.texts self.old) text.now result (Some (Self.texts self.new)) };
 
-    /// The key of the text, which goes last if it is not there. The text is kept as it is, with no copy, so
-    /// that no memory limit refuses it. All else is as for `try_get_or_intern`.
+    /// Returns the text's key, and appends the text first if it is new. The text is kept as it is, with no
+    /// copy, so that no memory limit refuses it. All else is as for `try_get_or_intern`.
     fn try_get_or_intern_static(&mut self, text: &'static str) -> LassoResult<Spur>
         ensures { InternsStaticAmong ⟦<Spur as Key>⟧.key_at (Self.texts self.old) text.now result (Some (Self.texts self.new)) };
 }

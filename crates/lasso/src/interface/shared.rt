@@ -1,5 +1,6 @@
-//! The interfaces of `ThreadedRodeo`, which other threads may fill between any two calls: it has no list of its own, so its meaning is
-//! none. What each call answers is said of it alone: the clauses are those of its plain calls. A `&ThreadedRodeo` interns too.
+//! The interfaces of `ThreadedRodeo`, which other threads may fill between any two calls: it has no list of
+//! its own, so its meaning is none. What each call returns is said of it alone: the clauses are those of its
+//! plain calls. A `&ThreadedRodeo` interns too.
 ghost use Rattle.std.specs.Prelude.{◌≡◌, None, IfErr, option_map};
 ghost use Rattle.lasso_parts.specs.declared.util.LassoErrorKind.TheVariants.{FailedAllocation};
 ghost use Rattle.lasso_log.specs.History.{IsOpening};
@@ -146,7 +147,7 @@ impl<'a, K: Key, S: BuildHasher + Drop> Interner<K> for &'a ThreadedRodeo<K, S> 
     }
 }
 
-// That want of memory alone refuses it is what the call says of its reply.
+// That its only error is out of memory is what the call says of its reply.
 #[tactic(auto, using(crate::proofs::Frozen::want_alone))]
 impl<K: Key, S: BuildHasher + Drop> IntoReader<K> for ThreadedRodeo<K, S> {
     type Reader = RodeoReader<K, S, Global>;

@@ -120,6 +120,25 @@ fn help_texts(rt: HostRuntime) -> Result<(), Fail> {
     Ok(())
 }
 
+#[test]
+fn help_texts_fit_a_screen(rt: HostRuntime) {
+    let texts = [
+        HELP,
+        verb_help(Verb::Counts),
+        verb_help(Verb::Decode),
+        verb_help(Verb::Distinct),
+        verb_help(Verb::Encode),
+        verb_help(Verb::Merge),
+    ];
+    for text in texts {
+        assert!(rt; text.is_ascii());
+        assert!(rt; text.lines().count() <= 24);
+        for line in text.lines() {
+            assert!(rt; line.len() <= 80);
+        }
+    }
+}
+
 // What a run over the input writes before it ends with the fault of these words, however many workers there are.
 pub fn assert_stops<R: AllocGlobal + Abort + Threads + Sync>(
     rt: &R,

@@ -52,7 +52,7 @@ fn numbers(rt: HostRuntime) -> Result<(), Fail> {
 
 #[test]
 fn good_words(rt: HostRuntime) -> Result<(), Fail> {
-    let cases: [(&[&str], Command); 21] = [
+    let cases: [(&[&str], Command); 27] = [
         (&["--help"], Command::Help),
         (&["--help", "x"], Command::Help),
         (&["--version"], Command::Version),
@@ -89,6 +89,18 @@ fn good_words(rt: HostRuntime) -> Result<(), Fail> {
             &["encode", "--workers=9", "--workers", "002"],
             worked(Verb::Encode, 2),
         ),
+        (&["counts", "--quiet"], quiet(Verb::Counts)),
+        (&["decode", "--quiet"], quiet(Verb::Decode)),
+        (&["distinct", "--quiet"], quiet(Verb::Distinct)),
+        (&["encode", "--quiet", "--quiet"], quiet(Verb::Encode)),
+        (
+            &["merge", "--quiet", "--limit", "18446744073709551615"],
+            quiet(Verb::Merge),
+        ),
+        (
+            &["merge", "--quiet", "--help"],
+            Command::VerbHelp(Verb::Merge),
+        ),
     ];
     for (words, command) in cases {
         let words = owned_words(&rt, words)?;
@@ -103,6 +115,16 @@ fn good_words(rt: HostRuntime) -> Result<(), Fail> {
 
 fn limited(verb: Verb, limit: usize) -> Command {
     Command::Run(verb, Settings { limit, ..PLAIN })
+}
+
+fn quiet(verb: Verb) -> Command {
+    Command::Run(
+        verb,
+        Settings {
+            quiet: true,
+            ..PLAIN
+        },
+    )
 }
 
 fn worked(verb: Verb, workers: usize) -> Command {
@@ -123,11 +145,12 @@ fn topped(limit: Option<usize>, top: usize) -> Command {
 
 #[test]
 fn words_of_a_null(rt: HostRuntime) -> Result<(), Fail> {
-    let cases: [(&[&str], &[u8], bool); 6] = [
+    let cases: [(&[&str], &[u8], bool); 7] = [
         (&["encode", "--null", "NA"], b"NA", false),
         (&["encode", "--null=NA", "--binary"], b"NA", true),
         (&["encode", "--binary", "--null="], b"", true),
         (&["encode", "--null", "--binary"], b"--binary", false),
+        (&["encode", "--null", "--quiet"], b"--quiet", false),
         (&["encode", "--null=a=b"], b"a=b", false),
         (&["encode", "--null", "a", "--null", "b"], b"b", false),
     ];
@@ -145,11 +168,17 @@ fn words_of_a_null(rt: HostRuntime) -> Result<(), Fail> {
 
 #[test]
 fn bad_words_are_named(rt: HostRuntime) -> Result<(), Fail> {
-    let cases: [(&[&str], &str); 30] = [
+    let cases: [(&[&str], &str); 33] = [
         (&[], "no verb (see lasso_codes --help)"),
         (&["count"], "count: no such verb"),
         (&[""], ": no such verb"),
         (&["--top"], "--top: no such verb"),
+        (&["--quiet", "counts"], "--quiet: no such verb"),
+        (&["counts", "--quiet=1"], "--quiet=1: no such option"),
+        (
+            &["counts", "--top", "--quiet"],
+            "--quiet: not a number below 2^64",
+        ),
         (&["counts", "x"], "x: no such option"),
         (&["counts", "--helpx"], "--helpx: no such option"),
         (&["distinct", "--top", "1"], "--top: no such option"),

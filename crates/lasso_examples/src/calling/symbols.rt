@@ -1,7 +1,7 @@
 //! A table of symbols: each name that is declared has one symbol, which stands for it for as long as the
 //! table is there.
 ghost use Rattle.std.specs.Prelude.{◌≡◌, ℕ, ◌<◌, ◌↔◌, length, Some, IfOk, IfErr, IsTrue, slice_get};
-ghost use Rattle.lasso_parts.specs.Texts.{Text};
+ghost use Rattle.lasso.specs.Texts.{Text};
 
 use lasso::{FixedState, Key, LassoResult, Rodeo, Spur};
 use std::alloc::Global;

@@ -176,15 +176,15 @@ fn bytes_at_hand_are_shown_until_used_up(rt: HostRuntime) -> Result<(), Fail> {
         failed: 0,
     };
     let mut reader = StandardReader::new(rt.alloc(), source)?;
-    assert!(rt; reader.shown().is_empty());
-    assert!(rt; reader.refill() == Ok(()));
-    assert!(rt; reader.shown() == b"abc".as_slice());
-    reader.use_up(2);
-    assert!(rt; reader.refill() == Ok(()));
-    assert!(rt; reader.shown() == b"c".as_slice());
+    assert!(rt; reader.buffer().is_empty());
+    assert!(rt; reader.fill_buf() == Ok(()));
+    assert!(rt; reader.buffer() == b"abc".as_slice());
+    reader.consume(2);
+    assert!(rt; reader.fill_buf() == Ok(()));
+    assert!(rt; reader.buffer() == b"c".as_slice());
     assert!(rt; reader.inner.calls == 1);
-    reader.use_up(1);
-    assert!(rt; reader.refill() == Ok(()));
-    assert!(rt; reader.shown() == b"d".as_slice());
+    reader.consume(1);
+    assert!(rt; reader.fill_buf() == Ok(()));
+    assert!(rt; reader.buffer() == b"d".as_slice());
     Ok(())
 }

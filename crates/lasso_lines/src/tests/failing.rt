@@ -5,7 +5,7 @@ use super::{INPUT, OUTPUT, assert_fault, no_limit};
 use crate::engine::run;
 use crate::failures::Failures;
 use crate::memory::{MemoryReader, MemoryWriter};
-use crate::stream::{ByteReader, ByteWriter, Failed};
+use crate::stream::{ByteReader, ByteWriter, StreamError};
 use std::alloc::Global;
 use std::test::Fail;
 
@@ -29,13 +29,13 @@ impl ShortWriter {
         }
     }
 
-    fn fails(&mut self) -> Failed
+    fn fails(&mut self) -> StreamError
         ensures taken { self.new.taken ≡ self.old.taken }
         ensures failures { self.new.failures.count ≡ self.old.failures.count + 1 }
     {
         self.failures = self.failures.and_one();
         self.tries = self.tries.saturating_add(1);
-        Failed
+        StreamError
     }
 }
 
@@ -52,7 +52,7 @@ impl ByteWriter for ShortWriter {
         false
     }
 
-    fn write(&mut self, bytes: &[u8]) -> Result<usize, Failed> {
+    fn write(&mut self, bytes: &[u8]) -> Result<usize, StreamError> {
         let count = bytes.len().min(3);
         if self.calls == 0 || self.taken.extend_from_slice(&bytes[..count]).is_err() {
             return Err(self.fails());
@@ -61,7 +61,7 @@ impl ByteWriter for ShortWriter {
         Ok(count)
     }
 
-    fn flush(&mut self) -> Result<(), Failed> {
+    fn flush(&mut self) -> Result<(), StreamError> {
         if self.calls == 0 {
             return Err(self.fails());
         }
@@ -136,15 +136,15 @@ impl ByteReader for ShortReader<'_> {
 
     ghost failures = { λ r. r.failures.count };
 
-    fn shown(&self) -> &[u8] {
+    fn buffer(&self) -> &[u8] {
         self.at_hand
     }
 
-    fn refill(&mut self) -> Result<(), Failed> {
+    fn fill_buf(&mut self) -> Result<(), StreamError> {
         if self.calls == 0 {
             self.failures = self.failures.and_one();
             self.tries = self.tries.saturating_add(1);
-            return Err(Failed);
+            return Err(StreamError);
         }
         self.calls -= 1;
         if self.at_hand.is_empty() {
@@ -155,7 +155,7 @@ impl ByteReader for ShortReader<'_> {
         Ok(())
     }
 
-    fn use_up(&mut self, count: usize) {
+    fn consume(&mut self, count: usize) {
         self.at_hand = &self.at_hand[count..];
     }
 }
@@ -192,7 +192,7 @@ fn letters_cut_by_stretches(rt: HostRuntime) -> Result<(), Fail> {
     Ok(())
 }
 
-// What is shown is used up together, once each line that ends there is answered: not where one is faulty.
+// The buffer is consumed as a whole, once each line that ends there is answered: not where one is faulty.
 #[test]
 fn a_faulty_line_leaves_what_is_shown(rt: HostRuntime) -> Result<(), Fail> {
     let input = b"a\n\xff\nb\n".as_slice();
@@ -200,7 +200,7 @@ fn a_faulty_line_leaves_what_is_shown(rt: HostRuntime) -> Result<(), Fail> {
     let mut writer = MemoryWriter::new(rt.alloc());
     let result = run(&rt, &mut reader, &mut writer, no_limit());
     assert_fault(&rt, result, "line 2: not UTF-8", 2)?;
-    assert!(rt; reader.shown() == input);
+    assert!(rt; reader.buffer() == input);
     assert!(rt; writer.into_bytes().as_slice() == b"0 a\n".as_slice());
     Ok(())
 }

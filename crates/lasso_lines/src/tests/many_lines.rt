@@ -14,7 +14,7 @@ fn number_at(position: usize) -> usize {
 }
 
 // Puts a line of 10 bytes and its line feed at the end. Such lines have the order of their numbers.
-fn push_line(bytes: &mut Vec<u8>, number: usize) -> Result<(), Fail> {
+pub(super) fn push_line(bytes: &mut Vec<u8>, number: usize) -> Result<(), Fail> {
     bytes.extend_from_slice(b"line-")?;
     let parts = [
         number / 10_000,

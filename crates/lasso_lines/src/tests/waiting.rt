@@ -4,7 +4,7 @@ ghost use Rattle.std.specs.Prelude.{◌+◌, Some, None};
 use super::{OUTPUT, assert_fault, no_limit};
 use crate::engine::run;
 use crate::failures::Failures;
-use crate::stream::{ByteReader, ByteWriter, Failed};
+use crate::stream::{ByteReader, ByteWriter, StreamError};
 use std::cell::RefCell;
 use std::test::Fail;
 
@@ -29,22 +29,22 @@ impl ByteWriter for ScreenWriter<'_> {
         false
     }
 
-    fn write(&mut self, bytes: &[u8]) -> Result<usize, Failed> {
+    fn write(&mut self, bytes: &[u8]) -> Result<usize, StreamError> {
         if self.pending.extend_from_slice(bytes).is_err() {
             self.failures = self.failures.and_one();
-            return Err(Failed);
+            return Err(StreamError);
         }
         Ok(bytes.len())
     }
 
-    fn flush(&mut self) -> Result<(), Failed> {
-        let shown = match self.screen.try_borrow_mut() {
+    fn flush(&mut self) -> Result<(), StreamError> {
+        let is_shown = match self.screen.try_borrow_mut() {
             Ok(mut screen) => screen.extend_from_slice(&self.pending).is_ok(),
             Err(_) => false,
         };
-        if !shown {
+        if !is_shown {
             self.failures = self.failures.and_one();
-            return Err(Failed);
+            return Err(StreamError);
         }
         self.pending.clear();
         Ok(())
@@ -79,11 +79,11 @@ impl ByteReader for TypedReader<'_> {
 
     ghost failures = { λ _. 0 };
 
-    fn shown(&self) -> &[u8] {
+    fn buffer(&self) -> &[u8] {
         self.at_hand
     }
 
-    fn refill(&mut self) -> Result<(), Failed> {
+    fn fill_buf(&mut self) -> Result<(), StreamError> {
         if let Some((line, answers)) = self.typed.get(self.looks) {
             self.answered = self.answered && self.sees(answers);
             self.looks += 1;
@@ -92,7 +92,7 @@ impl ByteReader for TypedReader<'_> {
         Ok(())
     }
 
-    fn use_up(&mut self, count: usize) {
+    fn consume(&mut self, count: usize) {
         self.at_hand = &self.at_hand[count..];
     }
 }

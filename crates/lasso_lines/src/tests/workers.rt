@@ -24,7 +24,7 @@ fn with_long_line<R: AllocGlobal>(rt: &R, before: &[u8], behind: &[u8]) -> Resul
 }
 
 // A line of that many bytes between others.
-fn with_line_of<R: AllocGlobal>(
+pub(super) fn with_line_of<R: AllocGlobal>(
     rt: &R,
     bytes: usize,
     before: &[u8],
@@ -38,7 +38,7 @@ fn with_line_of<R: AllocGlobal>(
 }
 
 // What so many workers write, and how they end.
-fn run_over<R: AllocGlobal + Threads + Wait + Sync>(
+pub(super) fn run_over<R: AllocGlobal + Threads + Wait + Sync>(
     rt: &R,
     input: &[u8],
     limits: MemoryLimits,
@@ -75,6 +75,27 @@ fn words_set_the_limit_of_workers(rt: HostRuntime) -> Result<(), Fail> {
         let ended = run_words(&rt, &words, &mut reader, &mut writer);
         assert_fault(&rt, ended, SECOND_REFUSED, 1)?;
         assert!(rt; writer.into_bytes().is_empty());
+    }
+    Ok(())
+}
+
+// The first bucket is there whatever the limit, and no limit of these leaves room for another.
+#[test]
+fn words_set_the_limit_of_any_number_of_workers(rt: HostRuntime) -> Result<(), Fail> {
+    let input = with_long_line(&rt, b"a\n", b"\nb\n")?;
+    for workers in ["1", "2", "3", "4", "64"] {
+        for limit in ["0", "1", "4095", "4096", "8192"] {
+            let words = owned_words(&rt, &["--workers", workers, "--limit", limit])?;
+            let mut reader = MemoryReader::new(&input);
+            let mut writer = MemoryWriter::new(rt.alloc());
+            let ended = run_words(&rt, &words, &mut reader, &mut writer);
+            assert_fault(&rt, ended, SECOND_REFUSED, 1)?;
+            assert!(rt; writer.into_bytes().is_empty());
+            let mut reader = MemoryReader::new(INPUT);
+            let mut writer = MemoryWriter::new(rt.alloc());
+            assert!(rt; run_words(&rt, &words, &mut reader, &mut writer) == Ok(()));
+            assert!(rt; writer.into_bytes().as_slice() == OUTPUT);
+        }
     }
     Ok(())
 }

@@ -1,8 +1,8 @@
-//! What shows that cells are filled: how it is handed to a book, and had of it again. None of it has bytes.
+//! What shows that cells are filled: how it is handed to a book, and found there again. None of it has bytes.
 //! Used by the chunks, by the opening of a log and by its tickets.
 //!
 //! A `Written` is a fact for good, so a book can keep one for each position of its list, and give out copies.
-//! How the rights to bytes go in and out, which a book keeps beside them, stands in `taking.rt`.
+//! How the rights to bytes go in and out, which a book keeps too, is in `taking.rt`.
 ghost use Rattle.std.specs.Prelude.{◌≡◌, ◌-◌, ◌<◌, ℕ, List, [], ◌∷◌, ◌++◌, length, None, slice_index_or};
 ghost use base.Fml.{fsep};
 ghost use Rattle.lasso_parts.specs.Texts.{Text};
@@ -103,7 +103,7 @@ pub fn hand_in<E, B: Listed<E>, T: HasText, V: HasCells, X, M: Plain<X, E, u64>>
     }
 }
 
-/// What shows that the chunk of a position below the length is there. `token` is any, and lends its shape.
+/// What shows that the chunk of a position below the length is made. `token` is any, and lends its shape.
 pub fn found_chunk<E, B: Listed<E>, T: HasText, V: HasCells>(
     seen: &mut Seen<E, u64, InChunks<B, T, V>>,
     position: u64,

@@ -9,7 +9,7 @@ use lasso_parts::keys::Key;
 use logbook::Pen;
 
 /// Does nothing. Contracts learn that two pens of one book, whose words are not at home, are of two words.
-fn pens_differ(one: &mut Pen, other: &mut Pen)
+fn prove_pens_differ(one: &mut Pen, other: &mut Pen)
     requires { (one.old.book ≡ other.old.book) × (one.old.nib.right ≡ may_write) × (other.old.nib.right ≡ may_write) }
     ensures { (one.new.book ≡ one.old.book) × (one.new.nib ≡ one.old.nib) × (other.new.book ≡ other.old.book) × (other.new.nib ≡ other.old.nib) × (one.old.nib.key ≢ other.old.nib.key) }
 {}
@@ -17,7 +17,7 @@ fn pens_differ(one: &mut Pen, other: &mut Pen)
 impl<K: Key> Pass<K> {
     /// Does nothing. Contracts learn that the other pass of the interner has another number, so that the events of this one's
     /// number are not the other's.
-    pub fn differs(&mut self, other: &mut Pass<K>)
+    pub fn prove_differs(&mut self, other: &mut Pass<K>)
         requires { self.old.of ≡ other.old.of }
         ensures same { (self.new ≡ self.old) × (other.new ≡ other.old) }
         ensures numbers { self.old.number ≢ other.old.number }
@@ -28,6 +28,6 @@ impl<K: Key> Pass<K> {
         look(&mut later, &mut self.ticket.pen);
         let mut last = both.again();
         look(&mut last, &mut other.ticket.pen);
-        pens_differ(&mut self.ticket.pen, &mut other.ticket.pen);
+        prove_pens_differ(&mut self.ticket.pen, &mut other.ticket.pen);
     }
 }

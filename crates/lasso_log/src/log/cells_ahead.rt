@@ -2,12 +2,12 @@
 ghost use Rattle.std.specs.Prelude.{◌≡◌, [], IfOk, IfErr, IfSome};
 ghost use Rattle.lasso_parts.specs.declared.util.LassoErrorKind.TheVariants.{FailedAllocation};
 ghost use Rattle.lasso_log.specs.Notes.{Since};
-ghost use Rattle.lasso_log.specs.Views.{PassView, InternerId, KnownView, IsSamePass};
+ghost use Rattle.lasso_log.specs.Views.{PassView, InternerId, SnapshotView, IsSamePass};
 
 use crate::chunks::Chunk;
-use crate::log::known::Known;
 use crate::log::pass::Pass;
 use crate::log::rule::StoredText;
+use crate::log::snapshot::Snapshot;
 use crate::log::words::Log;
 use boxcar::slot::Written;
 use lasso_parts::keys::Key;
@@ -29,7 +29,7 @@ const AHEAD: u64 = 15;
 /// yet appended. So one of the next fifteen asked after that, and its cells reach to this text.
 #[derive(Drop)]
 pub struct CellsAhead<K: Key> {
-    known: Known<K>,
+    known: Snapshot<K>,
     first: Written<Chunk<StoredText>>,
     last: Written<Chunk<StoredText>>,
 }
@@ -37,11 +37,11 @@ pub struct CellsAhead<K: Key> {
 impl<K: Key> Model for CellsAhead<K> {
     ghost use Rattle.std.specs.Prelude.{◌≡◌, ◌+◌, length};
     ghost use Rattle.lasso_log.specs.Chunks.{chunk_named};
-    ghost use Rattle.lasso_log.specs.Views.{KnownView, known_view_coded, list_of};
+    ghost use Rattle.lasso_log.specs.Views.{SnapshotView, snapshot_view_coded, list_of};
 
-    ghost Value = { KnownView };
+    ghost Value = { SnapshotView };
 
-    ghost coded = { known_view_coded };
+    ghost coded = { snapshot_view_coded };
 
     ghost view = { λ a. a.known };
 
@@ -62,7 +62,7 @@ impl<K: Key> Log<K> {
         let first = self.memory.chunks.find_chunk(len)?;
         let last = self.memory.chunks.find_chunk(end)?;
         Some(CellsAhead {
-            known: pass.known(),
+            known: pass.snapshot(),
             first,
             last,
         })
@@ -90,7 +90,7 @@ impl<K: Key> Log<K> {
         let first = self.memory.chunks.make_chunk_or_wait(rt, alloc, len)?;
         let last = self.memory.chunks.make_chunk_or_wait(rt, alloc, end)?;
         Ok(CellsAhead {
-            known: pass.known(),
+            known: pass.snapshot(),
             first,
             last,
         })

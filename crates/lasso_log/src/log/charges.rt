@@ -11,12 +11,12 @@ ghost use Rattle.lasso_log.specs.SharedBuckets.{SharedView, IsNoteOf, site_of, n
 ghost use Rattle.lasso_log.specs.Turns.{NoneHasRoom, IsPastLimit};
 ghost use Rattle.lasso_log.specs.Views.{PassView, InternerId, SpineView, TurnsView, IsSamePass, IsSameSpine, list_of, seen};
 
+use crate::log::bucket::SharedBucket;
+use crate::log::bucket_list::BucketList;
 use crate::log::pass::Pass;
 use crate::log::spine::Spine;
 use crate::log::turns::Turns;
 use crate::log::words::Log;
-use crate::shared_arena::bucket::SharedBucket;
-use crate::shared_arena::bucket_list::BucketList;
 use crate::shared_arena::new_bucket::NewBucket;
 use crate::shared_arena::piece::Range;
 use lasso_parts::keys::Key;
@@ -26,11 +26,13 @@ use std::hint::spin_loop;
 use std::sync::Wait;
 
 impl<K: Key> Log<K> {
-    /// Adds a bucket for so many bytes, at least one, for which none of the buckets that the spine's turns know has room, and gives the
-    /// right to fill just these bytes, the first of the bucket that the event's note tells of. The bucket has the size that *store* gives. It
-    /// is refused by the limit, at one step at which the list of texts is as long as the spine's, or for want of memory, which is told of more than 2^64 - 3 buckets too; no event is
-    /// added then. It waits where the turns are not the spine's, and does not return where the turn word is 2^64 - 1. That the bucket is in the
-    /// list from then on is tested, and not proved.
+    /// Adds a bucket for `bytes` bytes, at least one, and returns the right to fill its first `bytes` bytes.
+    /// None of the buckets that the spine's turns know has room for them. The bucket has the size that
+    /// *store* gives. It is refused by the limit (`MemoryLimitReached`), at a step at which the list is as
+    /// long as the spine's; or it fails out of memory (`FailedAllocation`), which it also returns for more
+    /// than 2^64 - 3 buckets. No event is added then. It waits where the turns are not the spine's, and does
+    /// not return where the turn word is 2^64 - 1. That the bucket is in the list from then on is tested, and
+    /// not proved.
     pub fn charge<R: Wait>(
         &self,
         rt: &R,
@@ -81,11 +83,11 @@ impl<K: Key> Log<K> {
         ensures legal { IsLegal K.key_at self.now.opening (seen pass.new) }
     {
         let Some(size) = spine.turns.bucket_for(bytes) else {
-            self.show_limit(rt, spine, pass, bytes);
-            pass.show_legal();
+            self.prove_limit(rt, spine, pass, bytes);
+            pass.prove_legal();
             return Err(LassoError::new(LassoErrorKind::MemoryLimitReached));
         };
-        pass.show_legal();
+        pass.prove_legal();
         if spine.turns.count >= u64::MAX - 2 {
             return Err(LassoError::new(LassoErrorKind::FailedAllocation));
         }
@@ -95,7 +97,7 @@ impl<K: Key> Log<K> {
             unreachable!()
         };
         let shared = self.charge_with(rt, spine, bucket, pass);
-        pass.show_legal();
+        pass.prove_legal();
         Ok((range, shared))
     }
 
@@ -105,14 +107,14 @@ impl<K: Key> Log<K> {
         ensures bucket { IfOk result (λ b. (b.site.era ≡ era_named self.now.chunks) × (b.size ≡ size) × (b.used ≡ 0)) }
         ensures refused { IfErr result (λ error. error ≡ FailedAllocation) }
     {
-        let (guard, mut holdings) = self.memory.holdings.take(rt);
+        let (guard, mut holdings) = self.memory.holdings.lock(rt);
         let made = NewBucket::with_capacity(
             alloc,
             self.memory.chunks.era(),
             &mut holdings,
             size as usize,
         );
-        guard.give(rt, holdings);
+        guard.unlock(rt, holdings);
         made
     }
 
@@ -159,7 +161,7 @@ impl<K: Key> Log<K> {
         shared
     }
 
-    // It does not return where the turn word can't move on.
+    // Does not return if the turn word can't move on.
     fn wait_for_a_turn<R: Wait>(&self, rt: &R, spine: &Spine<K>)
         ensures { spine.now.turns.turns + 1 < 2 ^ 64 }
     {
@@ -173,7 +175,7 @@ impl<K: Key> Log<K> {
     }
 
     // Sees a step at which the bytes are refused: the length is loaded first, and then the turn word, which shows that no turn came before.
-    fn show_limit<R: Wait>(&self, rt: &R, spine: &Spine<K>, pass: &mut Pass<K>, bytes: u64)
+    fn prove_limit<R: Wait>(&self, rt: &R, spine: &Spine<K>, pass: &mut Pass<K>, bytes: u64)
         requires of { (pass.old.of ≡ self.now) × (spine.now.of ≡ self.now) }
         requires room { NoneHasRoom (state self.now.opening pass.old.notes) spine.now.turns.count bytes }
         requires above { spine.now.turns.limit < spine.now.turns.usage + bytes }
@@ -181,7 +183,7 @@ impl<K: Key> Log<K> {
         ensures since { Since pass.old.number pass.old.notes pass.new.notes [] }
         ensures past { IsPastLimit self.now.opening pass.old.notes pass.new.notes (length (list_of self.now spine.now.notes)) bytes }
     {
-        pass.learn(&spine.turns.seen);
+        pass.learn_seen(&spine.turns.seen);
         for _ in rt.forever() {
             let len = self.len(pass);
             let is_at = self.is_at(&spine.turns, pass);

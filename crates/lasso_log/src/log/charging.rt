@@ -14,13 +14,13 @@ ghost use Rattle.lasso_log.specs.Views.{PassView, InternerId, TurnsView, IsSameP
 
 use crate::chunks::rule::BytesTaken;
 use crate::chunks::taking::add_bucket;
+use crate::log::bucket::SharedBucket;
 use crate::log::note::Note;
 use crate::log::pass::Pass;
 use crate::log::rule::{Add, LogRule, Shared};
 use crate::log::ticket::BucketAsked;
 use crate::log::turns::Turns;
 use crate::log::words::Log;
-use crate::shared_arena::bucket::SharedBucket;
 use crate::shared_arena::new_bucket::NewBucket;
 use lasso_parts::keys::Key;
 use logbook::{Offer, Pen, Seen};
@@ -102,8 +102,9 @@ impl<K: Key> Log<K> {
         unreachable!()
     }
 
-    /// Adds a bucket by the exchange of the turn word. The book has the right to its bytes that are not taken from then on. None of the
-    /// buckets that the turns know has room for as many bytes as are taken. It waits while the turn word has another value than theirs.
+    /// Adds a bucket by the exchange of the turn word. The book has the right to its bytes that are not taken
+    /// from then on. None of the buckets that the turns know has room for the bytes that are taken. It waits
+    /// while the turn word has another value than theirs.
     pub(super) fn add_new<R: Wait>(
         &self,
         rt: &R,
@@ -150,10 +151,10 @@ impl<K: Key> Log<K> {
         let before = pass.seen.again();
         let bid = Bid { seen, offer, pen };
         let after = self.offer(rt, turns.turns, &before, &given, bid);
-        let used = std::mem::replace(&mut pass.ticket, next);
+        let word = pass.ticket.use_up(next);
         pass.seen = after;
         SharedBucket {
-            word: used.word,
+            word,
             ptr,
             size: size as u64,
             base: 0,

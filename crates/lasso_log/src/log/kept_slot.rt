@@ -2,14 +2,14 @@
 ghost use Rattle.std.specs.Prelude.{◌≡◌};
 ghost use Rattle.lasso_log.specs.Views.{InternerId};
 
-use crate::log::known::Known;
+use crate::log::snapshot::Snapshot;
 use lasso_parts::keys::Key;
 use std::marker::Model;
 
 /// A slot that `Log::reserve_next` or `Log::reserve_ahead` kept. It ends by `Log::append` or by
 /// `Spine::give_back`, and by nothing else. It has no bytes. A contract sees which interner it is of.
 pub struct KeptSlot<K: Key> {
-    known: Known<K>,
+    known: Snapshot<K>,
 }
 
 impl<K: Key> Model for KeptSlot<K> {
@@ -24,7 +24,7 @@ impl<K: Key> Model for KeptSlot<K> {
 
 impl<K: Key> KeptSlot<K> {
     // A slot of the interner whose history that is.
-    pub(super) fn new(known: Known<K>) -> KeptSlot<K>
+    pub(super) fn new(known: Snapshot<K>) -> KeptSlot<K>
         ensures { result ≡ known.of }
     {
         KeptSlot { known }

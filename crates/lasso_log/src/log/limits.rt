@@ -24,7 +24,7 @@ impl<K: Key> Log<K> {
     {
         for _ in rt.forever() {
             if self.try_limit(spine, pass, limit) {
-                pass.show_legal();
+                pass.prove_legal();
                 return;
             }
             spin_loop();
@@ -32,7 +32,7 @@ impl<K: Key> Log<K> {
         unreachable!()
     }
 
-    // Replaces it where the turns are the spine's. Else nothing is done.
+    // Replaces it if the turns are the spine's. Otherwise it does nothing.
     fn try_limit(&self, spine: &mut Spine<K>, pass: &mut Pass<K>, limit: u64) -> bool
         requires { (pass.old.of ≡ self.now) × (spine.old.of ≡ self.now) }
         ensures same { IsSamePass pass.new pass.old × IsSameSpine spine.new spine.old × (spine.new.kept ≡ spine.old.kept) }

@@ -29,12 +29,12 @@ impl Model for TextMemory {
 }
 
 impl<K: Key> Log<K> {
-    /// Makes cells for the first `count` texts, where they are not there. Want of memory leaves those that are made by then.
+    /// Makes the missing cells of the first `count` texts. Out of memory, the cells made by then stay.
     pub fn make_cells(&self, alloc: Global, count: u64) -> Result<(), AllocError> {
         self.memory.chunks.make_cells(alloc, count)
     }
 
-    /// For how many texts there are cells, from the first on. It takes no memory and does not wait.
+    /// The number of cells made, from the first on. It takes no memory and does not wait.
     pub fn cells(&self) -> u64 {
         self.memory.chunks.cells()
     }

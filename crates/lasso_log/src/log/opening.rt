@@ -13,13 +13,13 @@ ghost use Rattle.lasso_log.specs.Views.{InternerId, SpineView};
 use crate::chunks::facts::{Lines, OpensWith};
 use crate::chunks::{Chunk, Chunks};
 use crate::locks::TaggedMutex;
+use crate::log::bucket::SharedBucket;
 use crate::log::memory::TextMemory;
 use crate::log::note::Note;
 use crate::log::rule::{LogRule, StoredText};
 use crate::log::spine::Spine;
 use crate::log::turns::Turns;
 use crate::log::words::Log;
-use crate::shared_arena::bucket::SharedBucket;
 use crate::shared_arena::era::Era;
 use crate::shared_arena::holding::Holdings;
 use crate::shared_arena::new_bucket::NewBucket;
@@ -31,7 +31,8 @@ use logbook::{Opening, Seen, Word};
 use std::alloc::{AllocError, Global};
 use std::marker::Model;
 
-/// What an interner opens with, beside its texts: the bytes of its first bucket, and the most bytes that all buckets may take.
+/// What an interner opens with, apart from its texts: the bytes of its first bucket, and the most bytes that
+/// all buckets may take.
 #[derive(Clone, Copy)]
 pub struct Opened {
     pub size: u64,
@@ -65,14 +66,15 @@ impl Model for OpeningTexts {
 }
 
 impl OpeningTexts {
-    /// No text, and a bucket of so many bytes, at least one, of which none is taken. It is refused for want of memory alone.
+    /// No text, and an empty bucket of `size` bytes, at least one. It fails only out of memory
+    /// (`FailedAllocation`).
     pub fn new(alloc: Global, size: usize) -> LassoResult<OpeningTexts>
         requires { size ≢ 0 }
         ensures texts { IfOk result (λ t. t.texts ≡ []) }
         ensures bucket { IfOk result (λ t. (t.bucket.size ≡ size) × (t.bucket.used ≡ 0)) }
         ensures refused { IfErr result (λ error. error ≡ FailedAllocation) }
     {
-        let chunks = Chunks::new(alloc, Piece::lasting(""))?;
+        let chunks = Chunks::new(alloc, Piece::from_static(""))?;
         let mut holdings = Holdings::new(alloc);
         let made = NewBucket::with_capacity(alloc, chunks.era(), &mut holdings, size);
         let bucket = match made {
@@ -94,7 +96,8 @@ impl OpeningTexts {
         })
     }
 
-    /// Copies a text behind those that were copied before. It is `None` only where it does not fit, and nothing changes then.
+    /// Copies a text after the ones copied before. It returns `None` only if the text does not fit, and
+    /// changes nothing then.
     pub fn copy_in(&mut self, text: &str) -> Option<Piece>
         ensures piece { IfSome result (λ p. (p.text ≡ text.now) × (p.until ≡ life self.old.bucket.site.era)) }
         ensures texts { self.new.texts ≡ self.old.texts }
@@ -105,8 +108,8 @@ impl OpeningTexts {
         Some(range.fill(self.memory.chunks.era(), text))
     }
 
-    /// Puts a text last, which lies where it is as long as the era. It is refused for want of memory alone, which is told of position
-    /// 2^64 - 1 too, and nothing changes then.
+    /// Appends a text, which must stay where it is as long as the era. It fails only out of memory, which it
+    /// also returns for position 2^64 - 1. Nothing changes then.
     pub fn push(&mut self, alloc: Global, text: Piece) -> Result<(), AllocError>
         requires { Incl (life self.old.bucket.site.era) text.until }
         ensures texts { OnOk result (self.new.texts ≡ self.old.texts ++ text.text ∷ []) }
@@ -166,8 +169,8 @@ pub struct NewLog<K: Key> {
 }
 
 impl<K: Key> Log<K> {
-    /// The log of a new interner that has no text, and its spine. The first bucket's size is not 0. It is refused for
-    /// want of memory alone.
+    /// The log of a new interner that has no text, and its spine. The first bucket's size is not 0. It fails
+    /// only out of memory (`FailedAllocation`).
     pub fn open(alloc: Global, first: Opened) -> LassoResult<(Log<K>, Spine<K>)>
         requires { first.size ≢ 0 }
         ensures opening { IfOk result (λ r. r.0.opening ≡ opened [] first.size 0 first.limit) }
@@ -183,8 +186,8 @@ impl<K: Key> Log<K> {
         Ok((log, spine))
     }
 
-    /// The log of a new interner that has these texts, which are distinct and fit the keys, and their bucket. It is never refused, takes
-    /// no memory, and does not wait.
+    /// The log of a new interner that has these texts, which are distinct and fit the keys, and their bucket.
+    /// It never fails, takes no memory, and does not wait.
     pub fn open_with(texts: OpeningTexts, limit: u64) -> NewLog<K>
         requires distinct { IsDistinct texts.texts }
         requires fits { Fits K.key_at (length texts.texts) }

@@ -56,7 +56,7 @@ impl<K: Key> Drop for Pass<K> {
 
 impl<K: Key> Pass<K> {
     /// Does nothing. Contracts learn that what the pass has seen is a legal history of what an interner may begin with.
-    pub fn show_legal(&self)
+    pub fn prove_legal(&self)
         ensures opening { IsOpening K.key_at self.now.of.opening }
         ensures legal { IsLegal K.key_at self.now.of.opening (seen self.now) }
     {
@@ -72,7 +72,7 @@ impl<K: Key> Pass<K> {
     }
 
     /// Afterwards it has seen what was given too.
-    pub(super) fn learn(&mut self, given: &Seen<Note, u64, LogRule<K>>)
+    pub(super) fn learn_seen(&mut self, given: &Seen<Note, u64, LogRule<K>>)
         requires { self.old.of.book ≡ given.now.book }
         ensures same { IsSamePass self.new self.old }
         ensures since { Since self.old.number self.old.notes self.new.notes [] }
@@ -101,12 +101,12 @@ impl<K: Key> Pass<K> {
         ensures other { IsPrefix other.now.notes self.new.notes }
         ensures legal { IsLegal K.key_at self.new.of.opening (seen self.new) }
     {
-        self.learn(&other.seen);
+        self.learn_seen(&other.seen);
     }
 
     /// Does nothing. Contracts learn that of two passes of one interner one has seen a beginning of what the
     /// other has seen.
-    pub fn compare(&self, other: &Pass<K>)
+    pub fn prove_comparable(&self, other: &Pass<K>)
         requires { self.now.of ≡ other.now.of }
         ensures { IsPrefix self.now.notes other.now.notes ⊎ IsPrefix other.now.notes self.now.notes }
     {

@@ -2,12 +2,12 @@
 ghost use Rattle.std.specs.Prelude.{◌≡◌, ◌<◌, [], Some, length, slice_get, option_map};
 ghost use Rattle.lasso_log.specs.Chunks.{era_named};
 ghost use Rattle.lasso_log.specs.Notes.{Since, texts_in};
-ghost use Rattle.lasso_log.specs.Views.{PassView, InternerId, KnownView, IsSamePass, list_of};
+ghost use Rattle.lasso_log.specs.Views.{PassView, InternerId, SnapshotView, IsSamePass, list_of};
 
-use crate::log::known::Known;
 use crate::log::note::Note;
 use crate::log::pass::Pass;
 use crate::log::rule::LogRule;
+use crate::log::snapshot::Snapshot;
 use crate::log::words::Log;
 use crate::shared_arena::era::Era;
 use lasso_parts::keys::Key;
@@ -43,26 +43,26 @@ impl<K: Key> Log<K> {
 
     /// The number of texts at one step, of the history that `known` then is. It takes no memory and does not
     /// wait.
-    pub fn len_known(&self, known: &mut Known<K>) -> u64
+    pub fn snapshot_len(&self, known: &mut Snapshot<K>) -> u64
         requires { known.old.of ≡ self.now }
         ensures same { known.new.of ≡ known.old.of }
         ensures reply { result ≡ length (list_of known.new.of known.new.notes) }
     {
-        let appended = self.load_known(&self.head, 0, known);
+        let appended = self.load_snapshot(&self.head, 0, known);
         self.first + appended
     }
 
     /// The text at the position, of the list of the history that `known` then is, or `None` past its end. It
     /// is lent as long as the log. It takes no memory and does not wait.
-    pub fn read_known(&self, position: u64, known: &mut Known<K>) -> Option<&str>
+    pub fn read_snapshot(&self, position: u64, known: &mut Snapshot<K>) -> Option<&str>
         requires { known.old.of ≡ self.now }
         ensures same { known.new.of ≡ known.old.of }
         ensures reply { option_map (λ t. t.now) result ≡ slice_get (list_of known.new.of known.new.notes) position }
     {
-        if position >= self.len_known(known) {
+        if position >= self.snapshot_len(known) {
             return None;
         }
-        Some(self.known_texts(known).lend(position as usize))
+        Some(self.snapshot_texts(known).lend(position as usize))
     }
 
     /// The era for which the bytes of its texts are lent.

@@ -8,12 +8,12 @@ ghost use Rattle.lasso_log.specs.Views.{PassView, InternerId, IsSamePass};
 
 use crate::chunks::rule::BytesTaken;
 use crate::chunks::taking::{right_taken, take_bytes};
+use crate::log::bucket::SharedBucket;
 use crate::log::note::Note;
 use crate::log::pass::Pass;
 use crate::log::rule::{Add, LogRule, Shared};
 use crate::log::ticket::BytesAsked;
 use crate::log::words::Log;
-use crate::shared_arena::bucket::SharedBucket;
 use crate::shared_arena::rights::Free;
 use lasso_parts::keys::Key;
 use logbook::Offer;
@@ -28,7 +28,7 @@ impl<K: Key> SharedBucket<K> {
         ensures within { self.now.base + result ≤ self.now.size }
         ensures full { (n : ℕ) → self.now.size < self.now.base + result + n → LacksRoom (state log.now.opening pass.new.notes) self.now.position n }
     {
-        pass.learn(&self.seen);
+        pass.learn_seen(&self.seen);
         log.load(&self.word, self.position + 2, pass)
     }
 }
@@ -87,8 +87,7 @@ impl<K: Key> Log<K> {
             return None;
         }
         let right = right_taken(offer.into_gain());
-        let used = std::mem::replace(&mut pass.ticket, next);
-        pass.used = Some(used.word);
+        pass.used = Some(pass.ticket.use_up(next));
         pass.seen = seen;
         Some(right)
     }

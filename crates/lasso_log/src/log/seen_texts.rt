@@ -1,11 +1,11 @@
 //! The list of a history that was seen, as an index and a walk read it. Used by the interner that threads share.
 ghost use Rattle.std.specs.Prelude.{◌≡◌, ◌<◌, Some, length, slice_get};
-ghost use Rattle.lasso_log.specs.Views.{PassView, InternerId, KnownView, list_of};
+ghost use Rattle.lasso_log.specs.Views.{PassView, InternerId, SnapshotView, list_of};
 
-use crate::log::known::Known;
 use crate::log::note::Note;
 use crate::log::pass::Pass;
 use crate::log::rule::LogRule;
+use crate::log::snapshot::Snapshot;
 use crate::log::words::Log;
 use lasso_parts::index::Texts;
 use lasso_parts::keys::Key;
@@ -66,7 +66,7 @@ impl<K: Key> Log<K> {
     }
 
     /// The list of a history that was seen. It takes no step.
-    pub fn known_texts(&self, known: &Known<K>) -> SeenTexts<'_, K>
+    pub fn snapshot_texts(&self, known: &Snapshot<K>) -> SeenTexts<'_, K>
         requires { known.now.of ≡ self.now }
         ensures { result ≡ list_of known.now.of known.now.notes }
     {

@@ -84,7 +84,7 @@ impl<K: Key> Spine<K> {
 
     /// Does nothing. Contracts learn that a pass of the same interner that has seen a list of the same length has
     /// seen the same list.
-    pub fn agrees(&self, pass: &Pass<K>)
+    pub fn prove_agrees(&self, pass: &Pass<K>)
         requires { (self.now.of ≡ pass.now.of) × (length (list_of self.now.of self.now.notes) ≡ length (list_of pass.now.of pass.now.notes)) }
         ensures { list_of self.now.of self.now.notes ≡ list_of pass.now.of pass.now.notes }
     {
@@ -99,7 +99,7 @@ impl<K: Key> Spine<K> {
         self.kept
     }
 
-    /// Gives back a slot that `reserve_next` kept. Nothing else changes, and it is never refused.
+    /// Gives back a slot that `reserve_next` kept. Nothing else changes, and it never fails.
     pub fn give_back(&mut self, slot: KeptSlot<K>)
         requires { slot ≡ self.old.of }
         ensures kept { self.new.kept ≡ self.old.kept - 1 }
@@ -112,8 +112,8 @@ impl<K: Key> Spine<K> {
 }
 
 impl<K: Key> Log<K> {
-    /// Keeps one slot more for a text to come, until it is appended or given back. It is refused for want of memory
-    /// alone, which is told of position 2^64 - 1 too, and nothing changes then.
+    /// Keeps one slot more for a text to come, until it is appended or given back. It fails only out of
+    /// memory (`FailedAllocation`), which it also returns for position 2^64 - 1. Nothing changes then.
     pub fn reserve_next(&self, alloc: Global, spine: &mut Spine<K>) -> LassoResult<KeptSlot<K>>
         requires { spine.old.of ≡ self.now }
         ensures slot { IfOk result (λ slot. slot ≡ self.now) }
@@ -129,11 +129,11 @@ impl<K: Key> Log<K> {
         }
         self.memory.chunks.make_chunk(alloc, position)?;
         spine.kept += 1;
-        Ok(KeptSlot::new(self.known()))
+        Ok(KeptSlot::new(self.snapshot()))
     }
 
-    /// Keeps one slot more likewise, for a caller that has made cells ahead. Returns `None` where the slot's
-    /// cell is not made, and nothing changes then. It takes no memory and does not wait.
+    /// Keeps one slot more, for a caller that has made cells ahead. Returns `None` where the slot's cell is
+    /// not made, and nothing changes then. It takes no memory and does not wait.
     pub fn reserve_ahead(&self, spine: &mut Spine<K>, ahead: &CellsAhead<K>) -> Option<KeptSlot<K>>
         requires { (spine.old.of ≡ self.now) × (ahead.now.of ≡ self.now) }
         ensures slot { IfSome result (λ slot. slot ≡ self.now) }
@@ -149,7 +149,7 @@ impl<K: Key> Log<K> {
         }
         self.memory.chunks.find_chunk(position)?;
         spine.kept += 1;
-        Some(KeptSlot::new(self.known()))
+        Some(KeptSlot::new(self.snapshot()))
     }
 
     /// Puts the text last, in a slot that was kept. The text must lie where it is as long as the interner's
@@ -187,7 +187,7 @@ impl<K: Key> Log<K> {
             let cell_proof = (chunk.again(), item.again());
             if self.try_append(spine, pass, text, cell_proof) {
                 slot.end();
-                pass.show_legal();
+                pass.prove_legal();
                 return;
             }
         }
@@ -214,10 +214,10 @@ impl<K: Key> Log<K> {
         ensures begins { IsPrefix spine.old.notes spine.new.notes }
         ensures list { list_of self.now pass.new.notes ≡ list_of self.now spine.old.notes ++ text.now ∷ [] }
     {
-        self.append(rt, spine, pass, slot, Piece::lasting(text));
+        self.append(rt, spine, pass, slot, Piece::from_static(text));
     }
 
-    // Appends where the length is the spine's, and it keeps a slot. Else nothing is done.
+    // Appends if the length is the spine's and the spine keeps a slot. Otherwise it does nothing.
     fn try_append(
         &self,
         spine: &mut Spine<K>,

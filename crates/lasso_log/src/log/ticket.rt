@@ -35,6 +35,15 @@ impl<K: Key> Ticket<K> {
     {
         self.word.store(&mut self.pen, value);
     }
+
+    /// Uses the ticket: `next` takes its place, and its word is returned.
+    pub fn use_up(&mut self, next: Ticket<K>) -> Word<Note, u64, LogRule<K>>
+        ensures next { self.new ≡ next }
+        ensures word { result ≡ self.old.word }
+    {
+        let Ticket { word, pen: _ } = std::mem::replace(self, next);
+        word
+    }
 }
 
 /// Fetches a new ticket by an exchange of a used ticket's word with itself. Only the pass that used that
@@ -65,7 +74,7 @@ impl<K: Key> Names<Ticket<K>> for ByKey {
     ghost numbers = { λ t. t.pen.nib.key ∷ [] };
 }
 
-/// A change that a pass asks for. `position` is where an appended text would stand.
+/// A change that a pass asks for. `position` is that of an appended text.
 #[derive(Drop)]
 pub struct Proposal<'a, K: Key> {
     pub change: Change<'a>,
@@ -109,7 +118,7 @@ impl<'a, K: Key> Plain<BytesAsked<'a, K>, Note, u64> for Add<K> {
     ghost state = { λ a. None };
 }
 
-/// A bucket that a pass asks for, of which so many bytes are taken. `site` says where it lies.
+/// A bucket that a pass asks for, of which `bytes` bytes are taken. `site` says where it lies.
 #[derive(Drop)]
 pub struct BucketAsked<'a, K: Key> {
     pub size: u64,

@@ -42,7 +42,8 @@ impl<K: Key> Model for Turns<K> {
 }
 
 impl<K: Key> Turns<K> {
-    // The size of the bucket that so many bytes get where no bucket has room for them, or `None` where the limit refuses them.
+    // The size of the new bucket for `bytes` bytes if no bucket has room for them, or `None` if the limit
+    // refuses them.
     pub(super) fn bucket_for(&self, bytes: u64) -> Option<u64>
         requires { bytes ≢ 0 }
         ensures size { result ≡ bucket_size self.now.doubling self.now.usage self.now.limit bytes }
@@ -66,7 +67,7 @@ impl<K: Key> Turns<K> {
         }
     }
 
-    // The doubling size once that bucket is there.
+    // The doubling size after that bucket is added.
     pub(super) fn doubling_for(&self, bytes: u64) -> u64
         requires { bytes ≢ 0 }
         ensures { result ≡ doubling_after self.now.doubling self.now.usage self.now.limit bytes }
@@ -92,11 +93,11 @@ impl<K: Key> Log<K> {
         ensures since { Since pass.old.number pass.old.notes pass.new.notes [] }
         ensures at { MatchBool result (IsWordWith pass.new.notes 1 1 turns.now.turns × IsSameTurn (state self.now.opening turns.now.notes) (state self.now.opening pass.new.notes) × IsTurned K.key_at self.now.opening turns.now.notes turns.now.turns turns.now.doubling turns.now.usage turns.now.limit turns.now.count) (Unit {0}) }
     {
-        pass.learn(&turns.seen);
+        pass.learn_seen(&turns.seen);
         self.load(&self.turns, 1, pass) == turns.turns
     }
 
-    // Replaces the limit where the turn word has the value of these turns. Else nothing is done.
+    // Replaces the limit if the turn word has the value of these turns. Otherwise it does nothing.
     pub(super) fn try_set_limit(&self, turns: &mut Turns<K>, pass: &mut Pass<K>, limit: u64) -> bool
         requires { (pass.old.of ≡ self.now) × (turns.old.of ≡ self.now) }
         ensures same { IsSamePass pass.new pass.old × (turns.new.of ≡ turns.old.of) }

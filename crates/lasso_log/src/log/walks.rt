@@ -8,18 +8,18 @@ ghost use Rattle.lasso_log.specs.SharedBuckets.{SharedView, IsReserved, names_wi
 ghost use Rattle.lasso_log.specs.Turns.{NoneHasRoom};
 ghost use Rattle.lasso_log.specs.Views.{PassView, InternerId, SpineView, TurnsView, IsSamePass, seen};
 
+use crate::log::bucket::SharedBucket;
+use crate::log::bucket_list::BucketList;
 use crate::log::pass::Pass;
 use crate::log::spine::Spine;
 use crate::log::words::Log;
-use crate::shared_arena::bucket::SharedBucket;
-use crate::shared_arena::bucket_list::BucketList;
 use crate::shared_arena::piece::Range;
 use lasso_parts::keys::Key;
 use std::sync::Wait;
 
 impl<K: Key> Log<K> {
     /// Does nothing. Contracts learn that a bucket of the log's book is of the log.
-    pub(crate) fn share_opening(&self, bucket: &SharedBucket<K>)
+    pub(crate) fn prove_shared_opening(&self, bucket: &SharedBucket<K>)
         requires { names_with_book bucket.now.of ≡ names_with_book self.now }
         ensures { bucket.now.of ≡ self.now }
     {
@@ -27,9 +27,10 @@ impl<K: Key> Log<K> {
         both.learn(&bucket.seen);
     }
 
-    /// Takes bytes, at least one, in a bucket that the spine's turns know, and gives the right to fill them. It is `None` only where
-    /// none of these buckets has room for them, and no event is added then. It takes no memory. It waits where another thread
-    /// takes bytes at the same time, and where a bucket is not in the list yet.
+    /// Takes bytes, at least one, in a bucket that the spine's turns know, and returns the right to fill
+    /// them. It returns `None` only if none of these buckets has room for them, and adds no event then. It
+    /// takes no memory. It waits where another thread takes bytes at the same time, and where a bucket is not
+    /// in the list yet.
     #[tactic(auto, using(crate::proofs::Tickets::since_trans))]
     pub fn reserve<R: Wait>(
         &self,
@@ -54,13 +55,13 @@ impl<K: Key> Log<K> {
                 return Some(range);
             }
         }
-        pass.show_legal();
+        pass.prove_legal();
         None
     }
 
-    /// Takes bytes, at least one, in a bucket of the list, the newest first, without the spine, and gives the
-    /// right to fill them. Where it returns `None` no event is added, and nothing is known of the room. It
-    /// takes no memory. It waits where another thread takes bytes at the same time.
+    /// Takes bytes, at least one, in a bucket of the list, the newest first, without the spine, and returns
+    /// the right to fill them. Where it returns `None` no event is added, and nothing is known of the room.
+    /// It takes no memory. It waits where another thread takes bytes at the same time.
     #[tactic(auto, using(crate::proofs::Tickets::since_trans))]
     pub fn reserve_anywhere<R: Wait>(
         &self,
@@ -78,23 +79,23 @@ impl<K: Key> Log<K> {
         ensures legal { IsLegal K.key_at self.now.opening (seen pass.new) }
     {
         if let Some(newest) = list.newest() {
-            self.share_opening(newest);
+            self.prove_shared_opening(newest);
             if let Some(range) = newest.try_reserve(rt, self, pass, bytes) {
                 return Some(range);
             }
         }
         let first = list.first();
-        self.share_opening(first);
+        self.prove_shared_opening(first);
         if let Some(range) = first.try_reserve(rt, self, pass, bytes) {
             return Some(range);
         }
         for (_, bucket) in list.later() {
-            self.share_opening(bucket);
+            self.prove_shared_opening(bucket);
             if let Some(range) = bucket.try_reserve(rt, self, pass, bytes) {
                 return Some(range);
             }
         }
-        pass.show_legal();
+        pass.prove_legal();
         None
     }
 }

@@ -9,16 +9,16 @@ ghost use Rattle.lasso_log.specs.Book.{word_of, IsTicket, LogKeepsRule, Moving, 
 ghost use base.Fml.{Incl};
 ghost use Rattle.lasso_log.specs.Eras.{life};
 ghost use Rattle.lasso_log.specs.Chunks.{IsCellAt, era_named};
-ghost use Rattle.lasso_log.specs.Views.{InternerId, KnownView, IsSamePass};
+ghost use Rattle.lasso_log.specs.Views.{InternerId, SnapshotView, IsSamePass};
 ghost use Rattle.lasso_log.specs.Events.{event_of, IsQuiet};
 
 use crate::chunks::rule::NoGain;
-use crate::log::known::Known;
 use crate::log::look::look;
 use crate::log::memory::TextMemory;
 use crate::log::note::{Change, Note};
 use crate::log::pass::Pass;
 use crate::log::rule::{Add, Fetch, LogRule, Nothing, Peek, StoredText};
+use crate::log::snapshot::Snapshot;
 use crate::log::ticket::{ByKey, CellProof, Proposal, Ticket, fetched_by, offered};
 use boxcar::tag::Tag;
 use lasso_parts::keys::Key;
@@ -78,7 +78,7 @@ pub(super) struct Exchange {
     pub word_index: u64,
     /// The value that the word must have still.
     pub expected: u64,
-    /// Where an appended text stands in the list.
+    /// The position of an appended text in the list.
     pub position: u64,
 }
 
@@ -144,11 +144,11 @@ impl<K: Key> Log<K> {
     }
 
     // What a word that the history knows has at one step, which it then has seen.
-    pub(super) fn load_known(
+    pub(super) fn load_snapshot(
         &self,
         word: &Word<Note, u64, LogRule<K>>,
         word_index: u64,
-        known: &mut Known<K>,
+        known: &mut Snapshot<K>,
     ) -> u64
         requires of { (known.old.of ≡ self.now) × (word.now ≡ word_of self.now.book word.now.key) }
         requires known { IsWord known.old.notes word_index word.now.key }
@@ -220,8 +220,7 @@ impl<K: Key> Log<K> {
         if found != numbers.expected {
             return false;
         }
-        let used = std::mem::replace(&mut pass.ticket, next);
-        pass.used = Some(used.word);
+        pass.used = Some(pass.ticket.use_up(next));
         pass.seen = seen;
         true
     }

@@ -1,4 +1,5 @@
-//! What is owned of buckets whose bytes are lent for an era: all of it is had back, and freed, once the era is over. Used by the log.
+//! What is owned of buckets whose bytes are lent for an era: all of it comes back, and is freed, once the era
+//! is over. Used by the log.
 ghost use Rattle.std.specs.Prelude.{◌≡◌, ◌<◌, ◌^◌, ◌++◌, ◌∷◌, [], All, IfOk, IfErr, OnErr};
 ghost use denote.RawPtr.{block_ptr};
 ghost use Rattle.lasso_parts.specs.declared.util.LassoErrorKind.TheVariants.{FailedAllocation};
@@ -9,19 +10,19 @@ ghost use Rattle.lasso_log.specs.SharedBuckets.{IsOfEra};
 use crate::shared_arena::era::{Ended, Era};
 use crate::shared_arena::rights::{Free, Owed, lend};
 use boxcar::tag::{Names, Tag};
-use lasso_parts::bucket::cells::{Cells, Deed, allocate, deallocate};
+use lasso_parts::bucket::cells::{Cells, CellsRight, allocate, deallocate};
 use lasso_parts::util::{LassoError, LassoErrorKind, LassoResult};
 use lasso_slot::Fits;
 use std::alloc::Global;
 use std::marker::{Model, Send, Sync};
 
-/// What is owned of one bucket: the right to have its bytes back, and the right to free them. It ends by `close` alone. Contracts see
-/// where the bucket lies and how many bytes it has.
+/// What is owned of one bucket: the right to take its bytes back, and the right to free them. It ends by
+/// `close` alone. Contracts see where the bucket lies and how many bytes it has.
 pub struct Holding {
     ptr: *mut u8,
     size: usize,
     owed: Owed,
-    deed: Deed<Global>,
+    cells_right: CellsRight<Global>,
     alloc: Global,
 }
 
@@ -37,7 +38,7 @@ impl Model for Holding {
 
     ghost view = { λ h. bucket_owed h.owed };
 
-    ghost invariant = { λ h. IsHolding h.owed h.ptr h.size h.deed.at h.deed.len × (h.deed.alloc ≡ h.alloc) };
+    ghost invariant = { λ h. IsHolding h.owed h.ptr h.size h.cells_right.at h.cells_right.len × (h.cells_right.alloc ≡ h.alloc) };
 }
 
 unsafe impl Send for Holding {}
@@ -45,7 +46,7 @@ unsafe impl Send for Holding {}
 unsafe impl Sync for Holding {}
 
 impl Holding {
-    // A bucket of so many bytes, lent for the era, and the right to all of them.
+    // A bucket of `size` bytes, lent for the era, and the right to all of them.
     fn open(alloc: Global, era: &Era, size: usize) -> LassoResult<(Holding, Free)>
         requires { 0 < size }
         ensures era { IfOk result (λ r. IsOfEra era.now.id r.0) }
@@ -56,14 +57,14 @@ impl Holding {
         if (isize::MAX as usize) < size {
             return Err(LassoError::new(LassoErrorKind::FailedAllocation));
         }
-        let (cells, deed) = allocate(&alloc, size)?;
+        let (cells, cells_right) = allocate(&alloc, size)?;
         let (ptr, slots) = cells.into_row();
         let (free, owed) = lend(era, slots);
         let holding = Holding {
             ptr,
             size,
             owed,
-            deed,
+            cells_right,
             alloc,
         };
         Ok((holding, free))
@@ -84,11 +85,11 @@ impl Holding {
             ptr,
             size,
             owed,
-            deed,
+            cells_right,
             alloc,
         } = self;
         let slots = owed.take_back(ended, ptr, size);
-        deallocate(&alloc, Cells::from_row(ptr, slots), deed);
+        deallocate(&alloc, Cells::from_row(ptr, slots), cells_right);
     }
 }
 
@@ -126,8 +127,8 @@ impl Holdings {
         }
     }
 
-    /// One bucket more, with the pointer to its first place and the right to all of its bytes. It is refused for want of memory
-    /// alone, and nothing changes then.
+    /// Adds one bucket. Returns the pointer to its first place and the right to all of its bytes. It fails
+    /// only out of memory (`FailedAllocation`), and changes nothing then.
     pub(crate) fn add(
         &mut self,
         alloc: Global,

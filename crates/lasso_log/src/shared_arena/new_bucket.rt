@@ -13,8 +13,8 @@ use lasso_parts::util::LassoResult;
 use std::alloc::Global;
 use std::marker::{Model, Send};
 
-/// A bucket with the right to its bytes that were not taken, which begin behind those that were. Contracts see where it lies, how
-/// many bytes it has, and how many of them were taken.
+/// A bucket with the right to its bytes that were not taken, which follow those that were. Contracts see
+/// where it lies, how many bytes it has, and how many of them were taken.
 #[derive(Drop)]
 pub struct NewBucket {
     pub(crate) ptr: *mut u8,
@@ -42,8 +42,8 @@ impl Model for NewBucket {
 unsafe impl Send for NewBucket {}
 
 impl NewBucket {
-    /// A bucket of so many bytes, at least one, of which none is taken. `holdings` has from then on what is owned of it. It is refused
-    /// for want of memory alone, and nothing changes then.
+    /// An empty bucket of `size` bytes, at least one. `holdings` owns its memory from then on. It fails only
+    /// out of memory (`FailedAllocation`), and changes nothing then.
     pub fn with_capacity(
         alloc: Global,
         era: &Era,
@@ -66,7 +66,8 @@ impl NewBucket {
         })
     }
 
-    /// The next so many bytes, to be filled. It is `None` only where they do not fit, and nothing changes then.
+    /// The next `bytes` bytes, to be filled. It returns `None` only if they do not fit, and changes nothing
+    /// then.
     pub fn reserve(&mut self, bytes: usize) -> Option<Range>
         ensures range { IfSome result (λ r. (r.era ≡ self.old.site.era) × (r.block ≡ self.old.site.block) × (r.start ≡ self.old.site.start + self.old.used) × (r.len ≡ bytes)) }
         ensures taken { IfSome result (λ r. (self.new.site ≡ self.old.site) × (self.new.size ≡ self.old.size) × (self.new.used ≡ self.old.used + bytes)) }

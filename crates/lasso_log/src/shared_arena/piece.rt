@@ -57,7 +57,7 @@ unsafe impl Sync for Piece {}
 
 const _: () = prove!(size_of::<Piece>() == 16);
 
-// The address of the place that lies so far behind.
+// The address of the place at offset `start`.
 fn address_at(first: *mut u8, start: usize) -> *mut u8
     requires { LeadsToBlock first }
     ensures { result ≡ first +ₚ start }
@@ -107,7 +107,7 @@ impl Range {
 
 impl Piece {
     /// A text that lives as long as the program. It is kept where it lies.
-    pub fn lasting(text: &'static str) -> Piece
+    pub fn from_static(text: &'static str) -> Piece
         ensures until { result.until ≡ [] }
         ensures text { result.text ≡ text.now }
     {

@@ -1,9 +1,9 @@
 //! Rights to bytes that are lent for an era. None of them has bytes of its own. Used by the ranges, pieces and
 //! buckets of the shared arena, and by the chunks' rule, which keeps the rights to bytes that nobody has taken.
 //!
-//! A bucket's room is lent to the era byte by byte. `Free` is the exclusive right to fill places that nobody has
-//! taken, `Owed` the right to have them back once the era is over, and `Lent` says that bytes lie somewhere until the
-//! era ends: it is lasting, so there may be any number of copies.
+//! A bucket's room is lent to the era byte by byte. `Free` is the exclusive right to fill places that nobody
+//! has taken, `Owed` the right to take them back once the era is over, and `Lent` says that bytes lie
+//! somewhere until the era ends: it is lasting, so it may have any number of copies.
 ghost use Rattle.std.specs.Prelude.{◌≡◌, ℕ, ◌+◌, ◌≤◌, ◌<◌, ◌^◌, List, [], ◌∷◌, length};
 ghost use denote.RawPtr.{Ptr, block_ptr, block_of, count_of};
 ghost use Rattle.core.specs.Mem.Slots.{slots_items, slots_filled, slots_ptr, slots_len, SamePlaces, IsFull};
@@ -35,7 +35,7 @@ impl Model for Free {
 
 unsafe impl Send for Free {}
 
-/// The right to have the places back once the era is over.
+/// The right to take the places back once the era is over.
 pub struct Owed {
     marker: PhantomData<()>,
     pub ghost era: { ℕ },
@@ -123,7 +123,7 @@ fn filled(slots: Slots<u8>, bytes: &[u8]) -> Slots<u8>
     slots
 }
 
-/// Lends places for an era, with the right to have them back.
+/// Lends places for an era, with the right to take them back.
 pub fn lend(era: &Era, slots: Slots<u8>) -> (Free, Owed)
     ensures free { (result.0.era ≡ era.now.id) × (block_ptr result.0.block result.0.start ≡ slots_ptr slots) × (result.0.len ≡ slots_len slots) }
     ensures owed { (result.1.era ≡ era.now.id) × (block_ptr result.1.block result.1.start ≡ slots_ptr slots) × (result.1.len ≡ slots_len slots) }

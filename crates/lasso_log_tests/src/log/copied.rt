@@ -6,8 +6,8 @@ ghost use Rattle.lasso_log.specs.Views.{InternerId, PassView, SpineView, list_of
 
 use crate::log::opened::opens;
 use crate::log::{lengths, read_at};
+use lasso_log::log::bucket_list::BucketList;
 use lasso_log::log::{Log, NewLog, Pass, Spine};
-use lasso_log::shared_arena::bucket_list::BucketList;
 use lasso_parts::keys::{Key, Spur};
 use lasso_parts::util::{LassoError, LassoErrorKind, LassoResult};
 use std::alloc::Global;

@@ -6,8 +6,8 @@ ghost use Rattle.lasso_log.specs.Views.{InternerId, PassView, list_of};
 
 use crate::log::given_back::add;
 use crate::log::{lengths, read_at};
+use lasso_log::log::bucket::SharedBucket;
 use lasso_log::log::{Log, NewLog, OpeningTexts, Pass};
-use lasso_log::shared_arena::bucket::SharedBucket;
 use lasso_log::shared_arena::piece::Piece;
 use lasso_parts::keys::Spur;
 use lasso_parts::util::{LassoError, LassoErrorKind, LassoResult};
@@ -24,7 +24,7 @@ fn two_texts(alloc: Global) -> LassoResult<OpeningTexts>
         return Err(LassoError::new(LassoErrorKind::FailedAllocation));
     };
     texts.push(alloc, copied)?;
-    texts.push(alloc, Piece::lasting(""))?;
+    texts.push(alloc, Piece::from_static(""))?;
     Ok(texts)
 }
 

@@ -4,8 +4,8 @@ ghost use Rattle.lasso_log.specs.SharedBuckets.{names_with_book};
 ghost use Rattle.lasso_log.specs.Views.{InternerId, PassView, SpineView};
 
 use crate::shared_arena::storing::{bucket_at, opens, stores, usage_of};
+use lasso_log::log::bucket_list::BucketList;
 use lasso_log::log::{Log, Pass, Spine};
-use lasso_log::shared_arena::bucket_list::BucketList;
 use lasso_parts::keys::Spur;
 use lasso_parts::util::LassoErrorKind;
 use std::alloc::Global;

@@ -7,8 +7,8 @@ ghost use Rattle.lasso_log.specs.SharedBuckets.{SharedView};
 ghost use Rattle.lasso_log.specs.Views.{InternerId, PassView};
 
 use crate::shared_arena::storing::begins;
+use lasso_log::log::bucket::SharedBucket;
 use lasso_log::log::{Log, NewLog, Pass};
-use lasso_log::shared_arena::bucket::SharedBucket;
 use lasso_log::shared_arena::piece::Piece;
 use lasso_parts::keys::Spur;
 use std::sync::Wait;

@@ -3,8 +3,8 @@ ghost use Rattle.std.specs.Prelude.{◌≡◌, ◌≢◌, IfOk, length};
 ghost use Rattle.lasso_log.specs.SharedBuckets.{names_with_book};
 ghost use Rattle.lasso_log.specs.Views.{InternerId, PassView, SpineView};
 
+use lasso_log::log::bucket_list::BucketList;
 use lasso_log::log::{Log, NewLog, OpeningTexts, Pass, Spine};
-use lasso_log::shared_arena::bucket_list::BucketList;
 use lasso_parts::keys::Spur;
 use lasso_parts::util::{LassoError, LassoErrorKind, LassoResult};
 use std::alloc::Global;

@@ -1,4 +1,4 @@
-//! Regions in the order in which they were opened, each beside the right to free it.
+//! Regions in the order in which they were opened, each with the right to free it.
 ghost use Rattle.std.specs.Prelude.{◌≡◌, ◌+◌, ◌^◌, ◌<◌, ◌≤◌, ◌++◌, [], ◌∷◌, length, map, take, slice_set, IfOk, IfErr, IsOk, OnErr};
 ghost use denote.RawPtr.{Ptr};
 ghost use Rattle.lasso_parts.specs.Arena.{region_at, with_bytes, emptied, usage_of, copied_in};
@@ -6,17 +6,17 @@ ghost use Rattle.lasso_parts.specs.Bucket.{block_of};
 ghost use Rattle.lasso_parts.specs.Doubled.{kept_of};
 ghost use Rattle.lasso_parts.specs.declared.util.LassoErrorKind.TheVariants.{FailedAllocation};
 
-mod memory;
-
-use crate::bucket::region::{Region, Right, close, open};
+use crate::bucket::region::{Region, RegionRight, close, open};
+use crate::memory::list_bytes;
 use crate::util::LassoResult;
 use std::alloc::Allocator;
 use std::marker::Model;
+use std::mem::{size_of, size_of_val};
 
-/// A list of regions, and beside it the list of the rights to free them. Contracts see the regions.
+/// A list of regions, and the list of the rights to free them. Contracts see the regions.
 pub(crate) struct OwnedRegions<A: Allocator> {
     regions: Vec<Region, A>,
-    rights: Vec<Right<A>, A>,
+    rights: Vec<RegionRight<A>, A>,
 }
 
 impl<A: Allocator> Model for OwnedRegions<A> {
@@ -65,8 +65,17 @@ impl<A: Allocator> OwnedRegions<A> {
         copied
     }
 
-    /// Keeps the first region and the doubled ones, in their order and without their bytes, frees the
-    /// others, and answers how many it keeps. There must be one. It takes no memory.
+    /// How many bytes the allocator gave for the two lists. The bytes of the regions are not counted.
+    pub(crate) fn list_bytes(&self) -> usize {
+        let right_bytes = match self.rights.first() {
+            Some(right) => size_of_val(right),
+            None => 0,
+        };
+        let regions = list_bytes(&self.regions, size_of::<Region>());
+        regions.saturating_add(list_bytes(&self.rights, right_bytes))
+    }
+    /// Keeps the first region and the doubled ones, in their order and without their bytes, frees the others,
+    /// and returns how many it keeps. There must be one. It takes no memory.
     pub(crate) fn clear(&mut self) -> usize
         requires { 0 < length self.old }
         ensures kept { self.new ≡ map emptied (kept_of self.old) }
@@ -78,7 +87,7 @@ impl<A: Allocator> OwnedRegions<A> {
         kept
     }
 
-    /// Copies a text to the end of a region that has room for it, and answers where it begins.
+    /// Copies a text to the end of a region that has room for it, and returns where it begins.
     #[inline(always)]
     pub(crate) fn push_text(&mut self, at: usize, text: &str) -> usize
         requires in_bounds { at < length self.old }
@@ -92,7 +101,7 @@ impl<A: Allocator> OwnedRegions<A> {
 }
 
 impl<A: Allocator + Clone> OwnedRegions<A> {
-    /// No regions. It is refused for want of memory alone.
+    /// No regions. The only error is `FailedAllocation`.
     pub(crate) fn new(alloc: A) -> LassoResult<Self>
         ensures none { IfOk result (λ regions. regions ≡ []) }
         ensures refused { IfErr result (λ error. error ≡ FailedAllocation) }
@@ -104,7 +113,7 @@ impl<A: Allocator + Clone> OwnedRegions<A> {
         })
     }
 
-    /// One region more, of so many bytes. It is refused for want of memory alone, and nothing changes then.
+    /// Appends a region of `capacity` bytes. The only error is `FailedAllocation`, and nothing changes then.
     pub(crate) fn push(&mut self, capacity: usize) -> LassoResult<()>
         requires { 0 < capacity }
         ensures added { IsOk result → (at : Ptr) × (self.new ≡ self.old ++ record { at = at; bytes = []; capacity = capacity } ∷ []) }
@@ -119,7 +128,7 @@ impl<A: Allocator + Clone> OwnedRegions<A> {
         Ok(())
     }
 
-    /// One region more, of so many bytes, with a text in it. It is refused for want of memory alone, and
+    /// Appends a region of `capacity` bytes with a text in it. The only error is `FailedAllocation`, and
     /// nothing changes then.
     pub(crate) fn push_filled(&mut self, capacity: usize, text: &str) -> LassoResult<()>
         requires some { 0 < capacity }
@@ -135,9 +144,12 @@ impl<A: Allocator + Clone> OwnedRegions<A> {
     }
 }
 
-// Puts the first region and the doubled ones in front, in their order, each beside its right, and answers
-// how many they are.
-fn gather_kept<A: Allocator>(regions: &mut Vec<Region, A>, rights: &mut Vec<Right<A>, A>) -> usize
+// Puts the first region and the doubled ones in front, in their order, each right at its region's position,
+// and returns how many they are.
+fn gather_kept<A: Allocator>(
+    regions: &mut Vec<Region, A>,
+    rights: &mut Vec<RegionRight<A>, A>,
+) -> usize
     requires some { 0 < length regions.old.items }
     requires joined { rights.old.items ≡ map block_of regions.old.items }
     ensures kept { take result regions.new.items ≡ kept_of regions.old.items }
@@ -159,7 +171,11 @@ fn gather_kept<A: Allocator>(regions: &mut Vec<Region, A>, rights: &mut Vec<Righ
 }
 
 // Frees the regions from that position on.
-fn free_from<A: Allocator>(regions: &mut Vec<Region, A>, rights: &mut Vec<Right<A>, A>, kept: usize)
+fn free_from<A: Allocator>(
+    regions: &mut Vec<Region, A>,
+    rights: &mut Vec<RegionRight<A>, A>,
+    kept: usize,
+)
     requires joined { rights.old.items ≡ map block_of regions.old.items }
     requires count { kept ≤ length regions.old.items }
     ensures kept { regions.new.items ≡ take kept regions.old.items }

@@ -1,5 +1,6 @@
-//! The places of a block of bytes: how they are had of an allocator, read, written and given back.
-//! Beside this file `region.rt` passes a pointer on, and `entries.rt` and `entries/loan.rt` keep one and read by it.
+//! The places of a block of bytes: how they are allocated, read, written and freed. Raw pointers are also in
+//! `region.rt`, which passes one on, and in `entries.rt` and `entries/loan.rt`, which keep one and read by
+//! it.
 ghost use Rattle.std.specs.Prelude.{◌≡◌, ℕ, ◌+◌, ◌*◌, ◌^◌, ◌<◌, ◌≤◌, ◌++◌, length, take, drop, slice_range, IfOk};
 ghost use base.Fml.{ftrue};
 ghost use denote.RawPtr.{Ptr, ◌+ₚ◌};
@@ -32,7 +33,8 @@ impl Model for Cells {
 
     ghost invariant = { λ c. (c.ptr ≡ slots_ptr c.slots) × LeadsToBlock c.ptr };
 
-    // Beside its fields it owns and lends nothing. These two lines let `TheSendSync` show where it may go.
+    // Apart from its fields it owns and lends nothing. These two lines let `TheSendSync` show where it may
+    // go.
     ghost also_owns = { λ _. ftrue };
 
     ghost also_shares = { λ _ _ _. ftrue };
@@ -43,26 +45,26 @@ unsafe impl Send for Cells {}
 unsafe impl Sync for Cells {}
 
 /// The right to give the block of `len` bytes at `at` back to `alloc`. It takes no space.
-pub struct Deed<A: Allocator> {
+pub struct CellsRight<A: Allocator> {
     of: PhantomData<*const A>,
     ghost at: { Ptr },
     ghost len: { ℕ },
     ghost alloc: { A },
 }
 
-impl<A: Allocator> Model for Deed<A> {
+impl<A: Allocator> Model for CellsRight<A> {
     ghost also_owns = { λ d. deed_owns (A.dealloc_token d.alloc) d.at d.len };
 
     ghost also_shares = { λ _ _ _. ftrue };
 }
 
-unsafe impl<A: Allocator + Send> Send for Deed<A> {}
+unsafe impl<A: Allocator + Send> Send for CellsRight<A> {}
 
 // A `&` to it holds nothing.
-unsafe impl<A: Allocator> Sync for Deed<A> {}
+unsafe impl<A: Allocator> Sync for CellsRight<A> {}
 
 /// A block of `len` bytes of that allocator, with the right to free it. No place holds a byte yet.
-pub fn allocate<A: Allocator>(alloc: &A, len: usize) -> Result<(Cells, Deed<A>), AllocError>
+pub fn allocate<A: Allocator>(alloc: &A, len: usize) -> Result<(Cells, CellsRight<A>), AllocError>
     requires { len < 2 ^ 63 }
     ensures { IfOk result (λ r. (slots_len r.0 ≡ len) × (r.1.at ≡ slots_ptr r.0) × (r.1.len ≡ len) × (r.1.alloc ≡ alloc.now)) }
 {
@@ -70,18 +72,18 @@ pub fn allocate<A: Allocator>(alloc: &A, len: usize) -> Result<(Cells, Deed<A>),
         Ok(ptr) => {
             let slots = unsafe { Slots::from_raw_parts(ptr, len) };
             let of = PhantomData;
-            Ok((Cells { ptr, slots }, Deed { of }))
+            Ok((Cells { ptr, slots }, CellsRight { of }))
         }
         Err(refused) => Err(refused),
     }
 }
 
 /// Gives the block back to the allocator that it came from.
-pub fn deallocate<A: Allocator>(alloc: &A, cells: Cells, deed: Deed<A>)
-    requires { (deed.at ≡ slots_ptr cells) × (deed.len ≡ slots_len cells) × (deed.alloc ≡ alloc.now) }
+pub fn deallocate<A: Allocator>(alloc: &A, cells: Cells, cells_right: CellsRight<A>)
+    requires { (cells_right.at ≡ slots_ptr cells) × (cells_right.len ≡ slots_len cells) × (cells_right.alloc ≡ alloc.now) }
 {
     let Cells { ptr: _, slots } = cells;
-    let Deed { of: _ } = deed;
+    let CellsRight { of: _ } = cells_right;
     unsafe {
         let (ptr, len) = slots.into_raw_parts();
         alloc.deallocate(ptr, len, 1);

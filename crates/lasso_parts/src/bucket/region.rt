@@ -5,7 +5,7 @@ ghost use denote.RawPtr.{◌+ₚ◌};
 ghost use Rattle.lasso_parts.specs.Bucket.{block_of};
 ghost use Rattle.lasso_parts.specs.Cells.{LeadsToBlock};
 
-use super::cells::{Cells, Deed, allocate, deallocate};
+use super::cells::{Cells, CellsRight, allocate, deallocate};
 use crate::util::{LassoError, LassoErrorKind, LassoResult};
 use std::alloc::Allocator;
 use std::marker::Model;
@@ -31,25 +31,25 @@ impl Model for Region {
 }
 
 /// The right to free a region, with the allocator that gave it. Only `close` lets it go.
-pub struct Right<A: Allocator> {
-    deed: Deed<A>,
+pub struct RegionRight<A: Allocator> {
+    cells_right: CellsRight<A>,
     alloc: A,
 }
 
-impl<A: Allocator> Model for Right<A> {
+impl<A: Allocator> Model for RegionRight<A> {
     ghost use Rattle.std.specs.Prelude.{◌≡◌};
     ghost use Rattle.lasso_parts.specs.Bucket.{Block};
 
     ghost Value = { Block };
 
-    ghost view = { λ r. record { at = r.deed.at; len = r.deed.len } };
+    ghost view = { λ r. record { at = r.cells_right.at; len = r.cells_right.len } };
 
-    ghost invariant = { λ r. r.deed.alloc ≡ r.alloc };
+    ghost invariant = { λ r. r.cells_right.alloc ≡ r.alloc };
 }
 
 /// An empty region that takes `capacity` bytes, with the right to free it. It is `FailedAllocation` where
 /// the allocator has no such block, which is so for each capacity above `isize::MAX`.
-pub(crate) fn open<A: Allocator>(alloc: A, capacity: usize) -> LassoResult<(Region, Right<A>)>
+pub(crate) fn open<A: Allocator>(alloc: A, capacity: usize) -> LassoResult<(Region, RegionRight<A>)>
     requires { 0 < capacity }
     ensures empty { IfOk result (λ r. (r.0.bytes ≡ []) × (r.0.capacity ≡ capacity)) }
     ensures joined { IfOk result (λ r. r.1 ≡ block_of r.0) }
@@ -58,17 +58,20 @@ pub(crate) fn open<A: Allocator>(alloc: A, capacity: usize) -> LassoResult<(Regi
     if (isize::MAX as usize) < capacity {
         return Err(LassoError::new(LassoErrorKind::FailedAllocation));
     }
-    let (cells, deed) = allocate(&alloc, capacity)?;
-    Ok((Region { cells, used: 0 }, Right { deed, alloc }))
+    let (cells, cells_right) = allocate(&alloc, capacity)?;
+    Ok((
+        Region { cells, used: 0 },
+        RegionRight { cells_right, alloc },
+    ))
 }
 
 /// Frees a region by the right to it.
-pub(crate) fn close<A: Allocator>(region: Region, right: Right<A>)
+pub(crate) fn close<A: Allocator>(region: Region, right: RegionRight<A>)
     requires { right ≡ block_of region }
 {
     let Region { cells, used: _ } = region;
-    let Right { deed, alloc } = right;
-    deallocate(&alloc, cells, deed);
+    let RegionRight { cells_right, alloc } = right;
+    deallocate(&alloc, cells, cells_right);
 }
 
 impl Region {
@@ -88,14 +91,14 @@ impl Region {
         self.cells.len() - self.used
     }
 
-    /// Forgets the bytes. The region lies where it lay.
+    /// Forgets the bytes. The region stays where it is.
     pub(crate) fn clear(&mut self)
         ensures { self.new ≡ record self.old { bytes = [] } }
     {
         self.used = 0;
     }
 
-    /// Copies the bytes in behind those that are there, and answers where they start.
+    /// Appends the bytes, and returns where they start.
     #[inline(always)]
     pub(crate) fn push_slice(&mut self, bytes: &[u8]) -> usize
         requires { length self.old.bytes + length bytes.now ≤ self.old.capacity }

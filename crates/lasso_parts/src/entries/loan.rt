@@ -1,10 +1,11 @@
-//! The right to read the bytes of an entry's text; where they lie and how many they are stand in the entry's
-//! two words.
+//! The right to read the bytes of an entry's text; the entry's two words say where they lie and how many they
+//! are.
 //!
-//! An arena's bytes are read by a `&` to its regions, so the loan of such a text owns nothing: it is the span,
-//! in proofs alone. A `&'static str` is two words, and a `&` to each of its bytes that never ends. A loan keeps
-//! that without the words, so that it names no lifetime: a `&'static str` in its stead would give each type that
-//! holds a list of entries a lifetime, and a value of such a type goes into no box of a trait object.
+//! An arena's bytes are read by a `&` to its regions, so the loan of such a text owns nothing: it is the
+//! span, in proofs alone. A `&'static str` is two words, and a `&` to each of its bytes that never ends. A
+//! loan keeps that without the words, so that it names no lifetime. A `&'static str` in its place would give
+//! a lifetime to each type that holds a list of entries, and a value of such a type can't be boxed as a trait
+//! object.
 ghost use Rattle.std.specs.Prelude.{◌≡◌, length, IsUtf8};
 ghost use Rattle.lasso_parts.specs.Loans.{lent_for_ever};
 ghost use Rattle.lasso_parts.specs.Entries.{LentText, AreWordsOf, IsLent, lent_bytes, Copied, Static};

@@ -36,7 +36,7 @@ unsafe impl Send for LongText {}
 
 unsafe impl Sync for LongText {}
 
-/// Whether a text of so many bytes is too long for an entry.
+/// Whether a text of `len` bytes is too long for an entry.
 #[inline]
 pub fn is_vast(len: usize) -> bool
     ensures { IsTrue result ↔ (2 ^ 32 ≤ len) }
@@ -63,7 +63,7 @@ impl LongText {
     }
 
     /// A text that lives as long as the program. It is kept where it lies.
-    pub fn lasting(text: &'static str) -> Self
+    pub fn from_static(text: &'static str) -> Self
         ensures source { result.source ≡ Static text.now }
         ensures bytes { (regions : List Extent) → lent_bytes regions result ≡ text.now }
         ensures lent { (regions : List Extent) → IsLent regions result }
@@ -79,7 +79,7 @@ impl LongText {
 
     /// The text, lent by the regions. Nothing is copied, and nothing tested.
     #[inline]
-    pub fn text<'a>(&'a self, regions: &'a [Region]) -> &'a str
+    pub(crate) fn text<'a>(&'a self, regions: &'a [Region]) -> &'a str
         requires { IsLent regions.now self.now }
         ensures { result.now ≡ lent_bytes regions.now self.now }
     {

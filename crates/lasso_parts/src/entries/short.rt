@@ -1,4 +1,4 @@
-//! Short texts, which stand in an array.
+//! Short texts, each in an array.
 ghost use Rattle.std.specs.Prelude.{◌≡◌, ◌≤◌, ◌<◌, ◌*◌, [], length, take, IfSome, IfNone};
 
 use crate::chunks::{first, last};
@@ -54,7 +54,7 @@ impl ShortText {
 
     /// Puts a text of at most 14 bytes in place of this one.
     #[inline(always)]
-    pub fn put(&mut self, text: &str)
+    pub(crate) fn put(&mut self, text: &str)
         requires { length text.now ≤ SHORT }
         ensures { self.new ≡ text.now }
     {

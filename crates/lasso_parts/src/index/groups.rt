@@ -24,9 +24,8 @@ fn others_in_group(tags: &[u8], at: usize, tag: u8) -> usize
     }
 }
 
-// An index before which no slot from the first one on is empty or has the tag. It is past as many slots as whole
-// groups tell of; after the last group each slot is left to the caller. It goes into its caller: a search mostly ends
-// in the first group.
+// An index before which no slot from the first one on is empty or has the tag. It passes over whole groups;
+// after the last one each slot is left to the caller. It is inlined: a search mostly ends in the first group.
 #[inline(always)]
 pub fn passed_over(tags: &[u8], from: usize, to: usize, tag: u8) -> usize
     requires ordered { from ≤ to }

@@ -4,8 +4,8 @@ ghost use Rattle.lasso_parts.specs.Hashing.{text_hash};
 
 use std::hash::BuildHasher;
 
-/// The hash that the hasher gives the text. An index takes it in place of the text where the text's
-/// hash is wanted twice.
+/// The hash that the hasher gives the text. An index takes it in place of the text where the text's hash is
+/// needed twice.
 #[inline]
 pub fn hash_text<S: BuildHasher>(hasher: &S, text: &str) -> u64
     ensures { result ≡ text_hash S.build_hasher S.Hasher.write S.Hasher.finish hasher.now text.now }

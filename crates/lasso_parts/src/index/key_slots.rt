@@ -1,18 +1,19 @@
-//! The slots of a table, each empty or with a key: a byte a slot beside the keys, its tag.
+//! The slots of a table, each empty or with a key: a list of the slots' tags, a byte each, and a list of
+//! keys.
 ghost use Rattle.std.specs.Prelude.{◌≡◌, ◌≢◌, ℕ, ◌<◌, ◌≤◌, ◌^◌, ◌⊎◌, [], None, Some, length, replicate, slice_set, slice_index_or, option_map, IfOk};
 ghost use Rattle.std.specs.Vec.{vec_capacity};
 ghost use Rattle.lasso_parts.specs.Index.{slot, Retags};
 
-mod memory;
-
 use crate::keys::Key;
+use crate::memory::list_bytes;
 use std::alloc::{AllocError, Allocator};
 use std::marker::Model;
+use std::mem::size_of_val;
 
-/// The slots of a table. Slot j is empty where its tag is 0; what stands at its position among the keys then
-/// says nothing. There are keys where there is memory for a slot. No key of the type is at hand before the
-/// first one is put, so they are made then, in memory that was had before. Contracts see the position that
-/// each slot's key stands for, and the tags.
+/// The slots of a table. Slot j is empty if its tag is 0, and then the key at its position means nothing.
+/// There are keys if there is memory for a slot. Before the first key is put there is no key to fill them
+/// with, so they are made then, in memory allocated earlier. Contracts see the position that each slot's key
+/// stands for, and the tags.
 #[derive(Drop)]
 pub struct KeySlots<K: Key, A: Allocator> {
     tags: Vec<u8, A>,
@@ -32,7 +33,7 @@ impl<K: Key, A: Allocator> Model for KeySlots<K, A> {
 
 impl<K: Key, A: Allocator> KeySlots<K, A> {
     /// No slots, which take no memory.
-    pub fn new(alloc: A) -> Self
+    pub(crate) fn new(alloc: A) -> Self
         ensures { result.slots ≡ [] }
     {
         KeySlots {
@@ -41,7 +42,7 @@ impl<K: Key, A: Allocator> KeySlots<K, A> {
         }
     }
 
-    /// So many empty slots, with all the memory that they will take.
+    /// `count` empty slots, with all the memory that they will take.
     pub fn empty(alloc: A, count: usize) -> Result<Self, AllocError>
     where
         A: Clone,
@@ -63,14 +64,23 @@ impl<K: Key, A: Allocator> KeySlots<K, A> {
         self.tags.len()
     }
 
+    /// How many bytes the allocator gave: for the keys, and one byte for the tag of each. If the key type has no key
+    /// at all, only the tags are counted.
+    pub(crate) fn allocated_bytes(&self) -> usize {
+        let tags = list_bytes(&self.tags, 1);
+        match &self.keys {
+            Some(keys) => tags.saturating_add(list_bytes(keys, key_bytes::<K>())),
+            None => tags,
+        }
+    }
     /// The allocator of their memory.
-    pub fn allocator(&self) -> &A {
+    pub(crate) fn allocator(&self) -> &A {
         self.tags.allocator()
     }
 
     /// The tags of the slots. That of an empty slot is 0.
     #[inline]
-    pub fn tags(&self) -> &[u8]
+    pub(crate) fn tags(&self) -> &[u8]
         ensures value { result.now ≡ self.now.tags }
         ensures len { length result.now ≡ length self.now.slots }
         ensures empty { (j : ℕ) → j < length self.now.slots → slice_index_or self.now.tags j 0 ≡ 0 → slot self.now.slots j ≡ None }
@@ -81,7 +91,7 @@ impl<K: Key, A: Allocator> KeySlots<K, A> {
 
     /// The key of a slot that is not empty.
     #[inline]
-    pub fn key(&self, j: usize) -> K
+    pub(crate) fn key(&self, j: usize) -> K
         requires { slot self.now.slots j ≢ None }
         ensures { slot self.now.slots j ≡ Some (K.number result) }
     {
@@ -127,7 +137,7 @@ impl<K: Key, A: Allocator> KeySlots<K, A> {
     }
 }
 
-// Tags for so many slots. Each is 0.
+// `count` tags. Each is 0.
 fn zero_tags<A: Allocator>(alloc: A, count: usize) -> Result<Vec<u8, A>, AllocError>
     ensures { IfOk result (λ tags. tags.items ≡ replicate count 0) }
 {
@@ -136,7 +146,7 @@ fn zero_tags<A: Allocator>(alloc: A, count: usize) -> Result<Vec<u8, A>, AllocEr
     Ok(tags)
 }
 
-// Sees to it that the keys are made.
+// Makes the keys, unless they are made already.
 #[inline]
 fn make_keys<K: Key, A: Allocator>(keys: &mut Vec<K, A>, count: usize, key: K)
     requires made { (keys.old.items ≡ []) ⊎ (length keys.old.items ≡ count) }
@@ -150,7 +160,7 @@ fn make_keys<K: Key, A: Allocator>(keys: &mut Vec<K, A>, count: usize, key: K)
     }
 }
 
-// Makes so many keys where there are none, each a copy of the one given.
+// Makes `count` keys where there are none, each a copy of `key`.
 #[cold]
 fn fill<K: Key, A: Allocator>(keys: &mut Vec<K, A>, count: usize, key: K)
     requires none { keys.old.items ≡ [] }
@@ -161,5 +171,13 @@ fn fill<K: Key, A: Allocator>(keys: &mut Vec<K, A>, count: usize, key: K)
     match keys.resize(count, key) {
         Ok(()) => {}
         Err(_) => unreachable!(),
+    }
+}
+
+// How many bytes a key has, if the type has one.
+fn key_bytes<K: Key>() -> usize {
+    match K::try_from_usize(0) {
+        Some(key) => size_of_val(&key),
+        None => 0,
     }
 }

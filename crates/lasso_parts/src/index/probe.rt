@@ -12,7 +12,7 @@ use crate::index::same::is_same;
 use crate::keys::Key;
 use std::alloc::Allocator;
 
-// How many bits of a hash stand below those of the tag.
+// How many bits of a hash are below those of the tag.
 const TAG_SHIFT: u32 = 53;
 
 // How many tags a text may have.
@@ -20,7 +20,7 @@ const TAG_COUNT: u64 = 128;
 
 // What a walk over a range of slots tells.
 pub enum Scan {
-    // A key of the wanted text, by its position.
+    // The position of a key of the text.
     Found(usize),
     // This empty slot ended it.
     Ended(usize),
@@ -50,11 +50,11 @@ pub fn tag_of(hash: u64) -> u8
 }
 
 // Looks for the text in the slots from the first index up to the last, which is not among them. A slot with
-// another tag than the text's is passed over: neither its key nor that key's text is read. The first slot is
-// asked only whether it has the text, since a text that is there mostly stands in it. Whether a slot is empty is
-// asked of groups of sixteen, the first slot included, so that no branch of a search for an absent text depends on
-// how full the table is. It goes into its caller, as `locate` does: a search mostly ends after a few slots, and a
-// call would cost about as much.
+// another tag than the text's is passed over: neither its key nor that key's text is read. In the first slot
+// only the text is looked for, since a present text is mostly there. Empty slots are looked for in groups of
+// sixteen, the first slot included, so that no branch of a search for an absent text depends on how full the
+// table is. It is inlined, as `locate` is: a search mostly ends after a few slots, and a call would cost
+// about as much.
 #[inline(always)]
 pub fn scan_slots<K: Key, A: Allocator, T: Texts>(
     slots: &KeySlots<K, A>,

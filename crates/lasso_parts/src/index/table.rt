@@ -16,7 +16,7 @@ use std::hash::BuildHasher;
 // The fewest slots of a table that has any.
 const FIRST_SLOTS: usize = 8;
 
-// The least count of slots in which so many keys fit, or none where no `usize` has it.
+// The least count of slots in which `capacity` keys fit, or none if a `usize` can't hold it.
 pub fn slot_count(capacity: usize) -> Option<usize>
     ensures count { IfSome result IsSlotCount }
     ensures enough { IfSome result (λ n. capacity ≤ load_limit n) }
@@ -36,7 +36,7 @@ pub fn slot_count(capacity: usize) -> Option<usize>
     Some(count)
 }
 
-// The count of slots after a growth, or none where no `usize` has it.
+// The count of slots after a growth, or none if a `usize` can't hold it.
 pub fn grown_slots(count: usize) -> Option<usize>
     ensures value { IfSome result (λ n. n ≡ grown_count count) }
     ensures missing { IfNone result (2 ^ 64 ≤ grown_count count) }
@@ -128,7 +128,7 @@ fn refill_in_order<K: Key, A: Allocator, T: Texts, S: BuildHasher>(
     }
 }
 
-// The same keys in a new table of so many slots.
+// The same keys in a new table of `count` slots.
 pub fn rebuilt<K: Key, A: Allocator + Clone, T: Texts, S: BuildHasher>(
     alloc: A,
     count: usize,
@@ -146,7 +146,7 @@ pub fn rebuilt<K: Key, A: Allocator + Clone, T: Texts, S: BuildHasher>(
     Ok(slots)
 }
 
-// The keys of the first positions of the list in a new table of so many slots.
+// The keys of the first `len` positions of the list in a new table of `count` slots.
 #[inline(never)]
 pub fn rebuilt_in_order<K: Key, A: Allocator + Clone, T: Texts, S: BuildHasher>(
     alloc: A,

@@ -18,7 +18,7 @@ use std::fmt;
 /// ```
 #[derive(Clone, Copy, Debug, PartialEq, Eq, Hash)]
 pub enum JsonError {
-    /// An array was wanted.
+    /// The value is no array.
     NotAnArray,
     /// The item is no text.
     NotText(usize),
@@ -26,13 +26,13 @@ pub enum JsonError {
     Doubled(usize),
     /// The key type has no key for the item's position.
     TooMany(usize),
-    /// An object was wanted.
+    /// The value is no object.
     NotAnObject,
     /// The member is no whole number from 1 to the count of members.
     NotAPosition(usize),
     /// The member is the position of an earlier member.
     Taken(usize),
-    /// An interner or the allocator refused: always for want of memory.
+    /// Out of memory: the kind is always `FailedAllocation`.
     Lasso(LassoErrorKind),
     /// The value is no whole number from 1 to the greatest that the key type keeps.
     NotAKey,

@@ -12,11 +12,11 @@ use crate::keys::Key;
 use serde_json::{Map, Number, Value};
 use std::alloc::{Allocator, Global};
 
-/// The texts of an object, in the order of their keys: each member's text at the position that the member
-/// is the number after; or what is wrong with the first member, in the byte order of the texts, that is
-/// faulty: it is no whole number from 1 to the count of members (`NotAPosition`); or the key type has no key
-/// for its position (`TooMany`); or an earlier member has the position (`Taken`). A value that is no object,
-/// an array too, is `NotAnObject`. For want of memory it may be refused where the first member is not faulty.
+/// The texts of an object, in the order of their keys: each member's text at the position that the member is
+/// the number after; or what is wrong with the first member, in the byte order of the texts, that is faulty:
+/// it is no whole number from 1 to the count of members (`NotAPosition`); or the key type has no key for its
+/// position (`TooMany`); or an earlier member has the position (`Taken`). A value that is no object, an array
+/// too, is `NotAnObject`. It may run out of memory (`Lasso`), unless the first member is faulty.
 pub fn read_map<K: Key, A: Allocator + Clone>(
     alloc: A,
     value: &Value,
@@ -32,7 +32,7 @@ pub fn read_map<K: Key, A: Allocator + Clone>(
     let Some((_, first)) = members.first_key_value() else {
         return Ok(texts);
     };
-    // a fault of the first member is told before memory is asked for
+    // a fault of the first member is found before memory is asked for
     let _position = member_position::<K>(first, 0, count)?;
     let taken = Vec::new(texts.allocator().clone()?);
     read_members::<K, A>(texts, taken, members)
@@ -83,8 +83,8 @@ fn member_position<K: Key>(member: &Value, at: usize, count: usize) -> Result<us
     }
 }
 
-/// The object from each text to its position plus one; `len` must be how many texts there are. It is refused
-/// for want of memory alone, and the empty object never.
+/// The object from each text to its position plus one; `len` must be how many texts there are. The only error
+/// is out of memory (`Lasso`), and the empty object never has it.
 pub fn write_map<T: Texts>(alloc: Global, texts: &T, len: usize) -> Result<Value, JsonError>
     requires { len ≡ length (T.list texts.now) }
     ensures written { IfOk result (λ value. view value ≡ json_object (T.list texts.now)) }

@@ -2,64 +2,10 @@
 use super::told;
 use lasso_parts::json::{read_map, write_map};
 use lasso_parts::keys::{Key, MicroSpur, Spur};
+use lasso_testing::keys::WithoutTwo;
 use serde_json::Value;
 use std::alloc::Global;
-use std::cmp::{Eq, PartialEq};
-use std::marker::Model;
 use std::test::Fail;
-
-// A key type of 8 bits that lacks position 2.
-#[derive(Clone, Copy, PartialEq, Eq)]
-struct WithoutTwo {
-    position: u8,
-}
-
-impl Model for WithoutTwo {
-    ghost use Rattle.std.specs.Prelude.{ℕ, ◌≢◌};
-
-    ghost Value = { ℕ };
-
-    ghost view = { λ k. k.position };
-
-    ghost invariant = { λ k. k.position ≢ 2 };
-
-    ghost inverse = { λ n. record { position = n } };
-}
-
-impl Key for WithoutTwo {
-    ghost use Rattle.std.specs.Prelude.{◌<◌, ◌≢◌, ◌^◌, nat_lt, nat_eq, if◌then◌else◌, Some, None};
-    ghost use Rattle.std.proofs.Common.{arith};
-    ghost use Rattle.std.proofs.lemmas.Bool.Decides.{nat_tests};
-
-    ghost is_value = { λ k. (k ≢ 2) × (k < 2 ^ 8) };
-
-    ghost number = { λ k. k };
-
-    ghost key_at = { λ n. if nat_eq n 2 then None else if nat_lt n 256 then Some n else None };
-
-    fn into_usize(self) -> usize {
-        self.position as usize
-    }
-
-    fn try_from_usize(position: usize) -> Option<Self> {
-        if position == 2 || position > 255 {
-            return None;
-        }
-        Some(WithoutTwo {
-            position: position as u8,
-        })
-    }
-
-    fn show_value(self) {
-        let _position = self.position;
-    }
-
-    ghost made = { λ n k made. Prim.grind (arith, nat_tests) };
-
-    ghost made_again = { λ k is_value. Prim.grind (arith, nat_tests) };
-
-    ghost equal = { λ a b is_value is_value'. Prim.grind (arith, nat_tests) };
-}
 
 // What the JSON text reads as.
 fn reading<K: Key>(alloc: Global, text: &str) -> Result<String, Fail> {

@@ -5,19 +5,20 @@ ghost use Rattle.lasso_shared.specs.CallerLaws.{CallsTellKeys, SeenTextsKeepKeys
 
 use lasso_parts::keys::Key;
 
-/// A key that a call answers for a text is the text's key at the call's end. A text that a call resolved has the key that was
-/// asked.
+/// A key that a call returns for a text is the text's key at the call's end. A text that a call resolved has
+/// the key that was asked.
 pub fn calls_tell_keys<K: Key>()
     ensures { CallsTellKeys K.key_at }
 {}
 
-/// A text that a pass has seen keeps its key: interning it again answers that key, is never refused and makes no event; it
-/// is found and contained; its key is contained, and resolves to it.
+/// A text that a pass has seen keeps its key: interning it again returns that key, never fails and makes no
+/// event; it is found and contained; its key is contained, and resolves to it.
 pub fn seen_texts_keep_keys<K: Key>()
     ensures { SeenTextsKeepKeys K.key_at K.number }
 {}
 
-/// A key that interning answered resolves to its text, in each later call of any pass that has seen the answer.
+/// A key that interning returned resolves to its text, in each later call of any pass that has seen that
+/// call's end.
 pub fn answered_keys_resolve<K: Key>()
     ensures { AnsweredKeysResolve K.key_at K.number }
 {}
@@ -27,7 +28,7 @@ pub fn resolved_texts_stay<K: Key>()
     ensures { ResolvedTextsStay K.key_at }
 {}
 
-/// Keys that were answered in one history are equal exactly where their texts are.
+/// Keys that were returned in one history are equal exactly where their texts are.
 pub fn keys_are_equal_where_texts_are<K: Key>()
     ensures { KeysAreEqualWhereTextsAre K.key_at }
 {}

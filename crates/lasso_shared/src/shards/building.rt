@@ -88,7 +88,7 @@ impl<K: Key, S: BuildHasher + Drop> ShardTag<K, S> {
         Ok(Shard {
             index,
             count,
-            known: self.log.known(),
+            known: self.log.snapshot(),
             of: PhantomData,
         })
     }

@@ -18,22 +18,23 @@ impl<K: Key, S: BuildHasher + Drop> Shards<K, S> {
         ensures since { Since pass.old.number pass.old.notes pass.new.notes [] }
         ensures reply { result ≡ (state self.now.log.opening pass.new.notes).usage }
     {
-        let (guard, held) = self.spine.take(rt);
+        let (guard, held) = self.spine.lock(rt);
         let usage = self.log.usage(rt, &held.tally.spine, pass);
-        guard.give(rt, held);
+        guard.unlock(rt, held);
         usage
     }
 
-    /// The most bytes that all buckets may take, likewise.
+    /// The most bytes that all buckets may take, in what the pass has then seen. It takes no memory. It waits
+    /// for the spine.
     pub fn max_usage<R: Wait>(&self, rt: &R, pass: &mut Pass<K>) -> u64
         requires { pass.old.of ≡ self.now.log }
         ensures same { IsSamePass pass.new pass.old }
         ensures since { Since pass.old.number pass.old.notes pass.new.notes [] }
         ensures reply { result ≡ (state self.now.log.opening pass.new.notes).limit }
     {
-        let (guard, held) = self.spine.take(rt);
+        let (guard, held) = self.spine.lock(rt);
         let limit = self.log.max_usage(rt, &held.tally.spine, pass);
-        guard.give(rt, held);
+        guard.unlock(rt, held);
         limit
     }
 
@@ -44,8 +45,8 @@ impl<K: Key, S: BuildHasher + Drop> Shards<K, S> {
         ensures same { IsSamePass pass.new pass.old }
         ensures event { Since pass.old.number pass.old.notes pass.new.notes (Limit limit ∷ []) }
     {
-        let (guard, mut held) = self.spine.take(rt);
+        let (guard, mut held) = self.spine.lock(rt);
         self.log.set_limit(rt, &mut held.tally.spine, pass, limit);
-        guard.give(rt, held);
+        guard.unlock(rt, held);
     }
 }

@@ -1,5 +1,5 @@
 //! Looking a text up: in a shard that is read, and in one that is held.
-ghost use Rattle.std.specs.Prelude.{◌≡◌, ◌<◌, List, [], true, length, Some, IfSome, IfNone};
+ghost use Rattle.std.specs.Prelude.{◌≡◌, ◌<◌, List, [], length, Some, IfSome, IfNone};
 ghost use mathlib.Core.List.{IsPrefix};
 ghost use Rattle.lasso_parts.specs.Hashing.{text_hash};
 ghost use Rattle.lasso_parts.specs.Texts.{position_of, key_of};
@@ -7,13 +7,13 @@ ghost use Rattle.lasso_log.specs.History.{IsLegal, Lacks};
 ghost use Rattle.lasso_log.specs.Notes.{NoteView, Since, history};
 ghost use Rattle.lasso_log.specs.Replies.{Get, Found};
 ghost use Rattle.lasso_log.specs.Calls.{IsCall, IsPlainCall};
-ghost use Rattle.lasso_log.specs.Views.{PassView, InternerId, KnownView, IsSamePass, list_of, seen};
-ghost use Rattle.lasso_shared.specs.Shards.{IsShard, IsTally, IsWholeShard, shard_of};
+ghost use Rattle.lasso_log.specs.Views.{PassView, InternerId, SnapshotView, IsSamePass, list_of, seen};
+ghost use Rattle.lasso_shared.specs.Shards.{IsShard, shard_of};
 
 use crate::shards::Shards;
-use crate::shards::shard::{Shard, Tally};
+use crate::shards::shard::Shard;
 use crate::shards::tag::number_of;
-use lasso_log::log::{Known, Pass};
+use lasso_log::log::{Pass, Snapshot};
 use lasso_parts::index::hash_text;
 use lasso_parts::keys::Key;
 use std::hash::BuildHasher;
@@ -21,11 +21,11 @@ use std::sync::Wait;
 
 // The key of a text's position in the list of a history that was seen.
 #[inline(always)]
-fn key_at<K: Key>(known: &Known<K>, position: usize) -> K
+fn key_at<K: Key>(known: &Snapshot<K>, position: usize) -> K
     requires { position < length (list_of known.now.of known.now.notes) }
     ensures { K.key_at position ≡ Some result }
 {
-    known.show_legal();
+    known.prove_legal();
     K::try_from_usize(position).unwrap()
 }
 
@@ -36,7 +36,7 @@ impl<K: Key, S: BuildHasher + Drop> Shards<K, S> {
     fn find_position(
         &self,
         shard: &Shard<K, S>,
-        known: &Known<K>,
+        known: &Snapshot<K>,
         hash: u64,
         text: &str,
     ) -> Option<usize>
@@ -47,8 +47,8 @@ impl<K: Key, S: BuildHasher + Drop> Shards<K, S> {
         ensures found { IfSome result (λ n. (position_of (list_of self.now.log known.now.notes) text.now ≡ Some n) × (n < length (list_of self.now.log known.now.notes))) }
         ensures missing { IfNone result (Lacks (list_of self.now.log shard.now.known.notes) text.now) }
     {
-        known.show_legal();
-        let texts = self.log.known_texts(known);
+        known.prove_legal();
+        let texts = self.log.snapshot_texts(known);
         shard.index.find_hashed(&texts, &self.hasher, hash, text)
     }
 
@@ -61,7 +61,7 @@ impl<K: Key, S: BuildHasher + Drop> Shards<K, S> {
         ensures found { IfSome result (λ k. IsLegal K.key_at self.now.log.opening (history shard.now.known.notes) × (key_of K.key_at (list_of self.now.log shard.now.known.notes) text.now ≡ Some k)) }
         ensures missing { IfNone result (Lacks (list_of self.now.log shard.now.known.notes) text.now) }
     {
-        shard.known.show_legal();
+        shard.known.prove_legal();
         match self.find_position(shard, &shard.known, hash, text) {
             Some(position) => Some(key_at(&shard.known, position)),
             None => None,
@@ -86,91 +86,15 @@ impl<K: Key, S: BuildHasher + Drop> Shards<K, S> {
         ensures found { IfSome result (λ k. key_of K.key_at (list_of self.now.log pass.new.notes) text.now ≡ Some k) }
         ensures missing { IfNone result (Lacks (list_of self.now.log shard.now.known.notes) text.now) }
     {
-        pass.recall(&shard.known);
-        let known = pass.known();
+        pass.learn(&shard.known);
+        let known = pass.snapshot();
         match self.find_position(shard, &known, hash, text) {
             Some(position) => Some(key_at(&known, position)),
             None => None,
         }
     }
 
-    // Whether the pass has then seen a list that the spine has seen too, with no more texts of the shard than the shard has.
-    pub(super) fn is_whole(
-        &self,
-        tally: &Tally<K, S>,
-        shard: &Shard<K, S>,
-        pass: &mut Pass<K>,
-        number: usize,
-    ) -> bool
-        requires of { (pass.old.of ≡ self.now.log) × (number < 16) }
-        requires held { IsShard (text_hash S.build_hasher S.Hasher.write S.Hasher.finish self.now.hasher) number self.now.log shard.now.known shard.now.index shard.now.count }
-        requires tally { IsTally (text_hash S.build_hasher S.Hasher.write S.Hasher.finish self.now.hasher) self.now.log tally.now.spine tally.now.counts }
-        requires begins { IsPrefix shard.now.known.notes pass.old.notes }
-        ensures same { IsSamePass pass.new pass.old }
-        ensures since { Since pass.old.number pass.old.notes pass.new.notes [] }
-        ensures begins { IsPrefix shard.now.known.notes pass.new.notes }
-        ensures whole { result ≡ true → IsWholeShard (text_hash S.build_hasher S.Hasher.write S.Hasher.finish self.now.hasher) number self.now.log shard.now.known.notes pass.new.notes }
-        ensures list { result ≡ true → list_of self.now.log pass.new.notes ≡ list_of self.now.log tally.now.spine.notes }
-    {
-        if self.log.len(pass) != tally.spine.len() {
-            return false;
-        }
-        tally.spine.agrees(pass);
-        tally.counts[number] == shard.count
-    }
-
-    // Compares a held shard with the spine's number of it, until they are equal and the length is the spine's. The shard's index
-    // is exact for what the pass has then seen.
-    pub(super) fn see_whole<R: Wait>(
-        &self,
-        rt: &R,
-        shard: &Shard<K, S>,
-        pass: &mut Pass<K>,
-        number: usize,
-    )
-        requires of { (pass.old.of ≡ self.now.log) × (number < 16) }
-        requires held { IsShard (text_hash S.build_hasher S.Hasher.write S.Hasher.finish self.now.hasher) number self.now.log shard.now.known shard.now.index shard.now.count }
-        requires begins { IsPrefix shard.now.known.notes pass.old.notes }
-        ensures same { IsSamePass pass.new pass.old }
-        ensures since { Since pass.old.number pass.old.notes pass.new.notes [] }
-        ensures whole { IsWholeShard (text_hash S.build_hasher S.Hasher.write S.Hasher.finish self.now.hasher) number self.now.log shard.now.known.notes pass.new.notes }
-    {
-        for _ in rt.forever() {
-            let (guard, held) = self.spine.take(rt);
-            if self.is_whole(&held.tally, shard, pass, number) {
-                guard.give(rt, held);
-                return;
-            }
-            guard.give(rt, held);
-        }
-        unreachable!()
-    }
-
-    // Compares the shard likewise. A text that the list of its own history lacks is in none that the pass has
-    // then seen.
-    #[inline(never)]
-    fn see_absent<R: Wait>(
-        &self,
-        rt: &R,
-        shard: &Shard<K, S>,
-        pass: &mut Pass<K>,
-        hash: u64,
-        text: &str,
-    )
-        requires of { pass.old.of ≡ self.now.log }
-        requires hashed { hash ≡ text_hash S.build_hasher S.Hasher.write S.Hasher.finish self.now.hasher text.now }
-        requires held { IsShard (text_hash S.build_hasher S.Hasher.write S.Hasher.finish self.now.hasher) (shard_of hash) self.now.log shard.now.known shard.now.index shard.now.count }
-        requires begins { IsPrefix shard.now.known.notes pass.old.notes }
-        requires missing { Lacks (list_of self.now.log shard.now.known.notes) text.now }
-        ensures same { IsSamePass pass.new pass.old }
-        ensures since { Since pass.old.number pass.old.notes pass.new.notes [] }
-        ensures lacks { Lacks (list_of self.now.log pass.new.notes) text.now }
-    {
-        let _ = text;
-        self.see_whole(rt, shard, pass, number_of(hash));
-    }
-
-    // The key of the text, where the shard's index has it. It is looked up beside other readers.
+    // The key of the text, where the shard's index has it. Other readers may look up at the same time.
     #[inline(always)]
     pub(super) fn peek<R: Wait>(
         &self,
@@ -187,12 +111,12 @@ impl<K: Key, S: BuildHasher + Drop> Shards<K, S> {
     {
         let guard = self.lock(number_of(hash)).read(rt);
         let found = self.find(&guard.get().shard, pass, hash, text);
-        guard.leave();
+        guard.unlock();
         found
     }
 
-    // The key of the text, where the shard's index has it, without a pass. It is looked up beside other
-    // readers.
+    // The key of the text, where the shard's index has it, without a pass. Other readers may look up at the
+    // same time.
     #[inline(always)]
     pub(super) fn glance<R: Wait>(&self, rt: &R, hash: u64, text: &str) -> Option<K>
         requires hashed { hash ≡ text_hash S.build_hasher S.Hasher.write S.Hasher.finish self.now.hasher text.now }
@@ -200,7 +124,7 @@ impl<K: Key, S: BuildHasher + Drop> Shards<K, S> {
     {
         let guard = self.lock(number_of(hash)).read(rt);
         let found = self.find_key(&guard.get().shard, hash, text);
-        guard.leave();
+        guard.unlock();
         found
     }
 
@@ -224,7 +148,7 @@ impl<K: Key, S: BuildHasher + Drop> Shards<K, S> {
         if let Some(key) = self.find(shard, pass, hash, text) {
             return Some(key);
         }
-        self.see_absent(rt, shard, pass, hash, text);
+        self.wait_current(rt, shard, pass, number_of(hash));
         None
     }
 
@@ -237,19 +161,19 @@ impl<K: Key, S: BuildHasher + Drop> Shards<K, S> {
         let guard = self.lock(number_of(hash)).read(rt);
         let shard: &Shard<K, S> = &guard.get().shard;
         if let Some(key) = self.find_key(shard, hash, text) {
-            guard.leave();
+            guard.unlock();
             return Some(key);
         }
         let mut pass = self.log.pass();
-        pass.recall(&shard.known);
-        self.see_absent(rt, shard, &mut pass, hash, text);
-        guard.leave();
-        pass.show_legal();
+        pass.learn(&shard.known);
+        self.wait_current(rt, shard, &mut pass, number_of(hash));
+        guard.unlock();
+        pass.prove_legal();
         None
     }
 
-    /// The key of the text, or `None` where it is not in the list. No text of its shard is interned meanwhile. It takes no
-    /// memory.
+    /// The text's key, or `None` if it is not in the list. No text of its shard is interned meanwhile. It
+    /// takes no memory.
     pub fn get<R: Wait>(&self, rt: &R, pass: &mut Pass<K>, text: &str) -> Option<K>
         requires { pass.old.of ≡ self.now.log }
         ensures same { IsSamePass pass.new pass.old }
@@ -258,7 +182,7 @@ impl<K: Key, S: BuildHasher + Drop> Shards<K, S> {
         let hash = hash_text(&self.hasher, text);
         let guard = self.lock(number_of(hash)).read(rt);
         let found = self.look_up(rt, &guard.get().shard, pass, hash, text);
-        guard.leave();
+        guard.unlock();
         found
     }
 }

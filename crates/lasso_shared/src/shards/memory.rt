@@ -23,7 +23,7 @@ impl<K: Key, S: BuildHasher + Drop> Shards<K, S> {
         for number in 0..SHARDS {
             let guard = self.lock(number).read(rt);
             bytes = bytes.saturating_add(guard.get().shard.index.allocated_bytes());
-            guard.leave();
+            guard.unlock();
         }
         bytes
     }

@@ -13,8 +13,8 @@ use crate::shards::building::NewShards;
 use crate::shards::shard::BoxedTally;
 use crate::shards::tag::ShardTag;
 use lasso_log::locks::TaggedMutex;
+use lasso_log::log::bucket_list::BucketList;
 use lasso_log::log::{Log, NewLog, Opened, OpeningTexts};
-use lasso_log::shared_arena::bucket_list::BucketList;
 use lasso_parts::keys::Key;
 use lasso_parts::util::LassoResult;
 use lasso_single::room::one_bucket;
@@ -22,7 +22,8 @@ use std::alloc::Global;
 use std::hash::BuildHasher;
 
 impl<K: Key, S: BuildHasher + Drop> Shards<K, S> {
-    /// The log, the first bucket, the locks and the spine of an interner that holds nothing. It is refused for want of memory alone.
+    /// The log, the first bucket, the locks and the spine of an interner that holds nothing. It fails only
+    /// out of memory (`FailedAllocation`).
     pub fn open(alloc: Global, hasher: S, first: Opened) -> LassoResult<Shards<K, S>>
         requires { first.size ≢ 0 }
         ensures opening { IfOk result (λ s. s.log.opening ≡ opened [] first.size 0 first.limit) }
@@ -33,9 +34,10 @@ impl<K: Key, S: BuildHasher + Drop> Shards<K, S> {
         Shards::open_with(alloc, hasher, texts, first.limit)
     }
 
-    /// The same of an interner that opens with the texts of a distinct list that fits the keys, in order, all copied into one bucket of
-    /// just their bytes (4096 where they have none), with no limit below the greatest number. It is refused for want of memory alone,
-    /// also where the texts have more bytes than a `usize` counts.
+    /// The same of an interner that opens with the texts of a distinct list that fits the keys, in order, all
+    /// copied into one bucket of just their bytes (4096 where they have none), with no limit below the
+    /// greatest number. It fails only out of memory (`FailedAllocation`), also where the texts have more
+    /// bytes than a `usize` counts.
     pub fn of_texts(alloc: Global, hasher: S, texts: &[&str]) -> LassoResult<Shards<K, S>>
         requires distinct { IsDistinct (map (λ t. t.now) texts.now) }
         requires fits { Fits K.key_at (length (map (λ t. t.now) texts.now)) }

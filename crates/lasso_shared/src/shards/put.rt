@@ -17,7 +17,7 @@ ghost use Rattle.lasso_log.specs.History.{Lacks};
 ghost use Rattle.lasso_log.specs.Notes.{Since};
 ghost use Rattle.lasso_log.specs.Pieces.{PieceView};
 ghost use Rattle.lasso_shared.specs.Shards.{IsShard, IsTally, IsWholeShard, PutsLast, shard_of};
-ghost use Rattle.lasso_log.specs.Views.{PassView, InternerId, KnownView, IsSamePass, list_of};
+ghost use Rattle.lasso_log.specs.Views.{PassView, InternerId, SnapshotView, IsSamePass, list_of};
 
 use crate::shards::Shards;
 use crate::shards::shard::{Shard, Tally};
@@ -42,9 +42,9 @@ impl<K: Key, S: BuildHasher + Drop> Shards<K, S> {
         if let Some(ahead) = self.log.find_ahead(pass) {
             return Ok(ahead);
         }
-        let (guard, held) = self.spine.take(rt);
+        let (guard, held) = self.spine.lock(rt);
         let made = self.log.make_ahead(rt, self.alloc, pass);
-        guard.give(rt, held);
+        guard.unlock(rt, held);
         made
     }
 
@@ -97,7 +97,7 @@ impl<K: Key, S: BuildHasher + Drop> Shards<K, S> {
         match self.grow(rt, shard, pass, number) {
             Ok(ahead) => Ok(ahead),
             Err(error) => {
-                self.see_whole(rt, shard, pass, number);
+                self.wait_current(rt, shard, pass, number);
                 Err(error)
             }
         }
@@ -130,7 +130,7 @@ impl<K: Key, S: BuildHasher + Drop> Shards<K, S> {
         ensures tally { IsTally (text_hash S.build_hasher S.Hasher.write S.Hasher.finish self.now.hasher) self.now.log tally.new.spine tally.new.counts }
         ensures kept { tally.new.spine.kept ≡ tally.old.spine.kept - 1 }
     {
-        pass.show_legal();
+        pass.prove_legal();
         let Some(key) = K::try_from_usize(tally.spine.len() as usize) else {
             tally.spine.give_back(slot);
             return Err(LassoError::new(LassoErrorKind::KeySpaceExhaustion));
@@ -138,7 +138,7 @@ impl<K: Key, S: BuildHasher + Drop> Shards<K, S> {
         self.log.append(rt, &mut tally.spine, pass, slot, text);
         let _len = tally.spine.len();
         shard.index.insert_reserved(hash, key);
-        shard.known = pass.known();
+        shard.known = pass.snapshot();
         shard.count += 1;
         tally.counts[number_of(hash)] = shard.count;
         Ok(key)
@@ -168,16 +168,14 @@ impl<K: Key, S: BuildHasher + Drop> Shards<K, S> {
         ensures held { IsShard (text_hash S.build_hasher S.Hasher.write S.Hasher.finish self.now.hasher) (shard_of hash) self.now.log shard.new.known shard.new.index shard.new.count }
     {
         for _ in rt.forever() {
-            let (guard, mut held) = self.spine.take(rt);
+            let (guard, mut held) = self.lock_current(rt, shard, pass, number_of(hash));
             let tally: &mut Tally<K, S> = &mut held.tally;
-            if self.is_whole(tally, shard, pass, number_of(hash)) {
-                if let Some(slot) = self.log.reserve_ahead(&mut tally.spine, &ahead) {
-                    let reply = self.append_at(rt, tally, shard, pass, slot, hash, text);
-                    guard.give(rt, held);
-                    return reply;
-                }
+            if let Some(slot) = self.log.reserve_ahead(&mut tally.spine, &ahead) {
+                let reply = self.append_at(rt, tally, shard, pass, slot, hash, text);
+                guard.unlock(rt, held);
+                return reply;
             }
-            guard.give(rt, held);
+            guard.unlock(rt, held);
         }
         unreachable!()
     }

@@ -3,7 +3,7 @@ ghost use Rattle.std.specs.Prelude.{◌≡◌, IfOk, IfErr};
 ghost use Rattle.lasso_parts.specs.declared.util.LassoErrorKind.TheVariants.{FailedAllocation};
 
 use crate::shards::tag::ShardTag;
-use lasso_log::log::{Known, Spine};
+use lasso_log::log::{Snapshot, Spine};
 use lasso_parts::index::Index;
 use lasso_parts::keys::Key;
 use lasso_parts::util::LassoResult;
@@ -17,7 +17,7 @@ use std::marker::PhantomData;
 pub struct Shard<K: Key, S: BuildHasher + Drop> {
     pub(super) index: Index<K, Global>,
     pub(super) count: u64,
-    pub(super) known: Known<K>,
+    pub(super) known: Snapshot<K>,
     pub(super) of: PhantomData<S>,
 }
 
@@ -56,14 +56,14 @@ pub struct Tally<K: Key, S: BuildHasher + Drop> {
     pub(super) of: PhantomData<S>,
 }
 
-/// What the spine's lock keeps. It is a box, so that who takes the lock moves a pointer and not the numbers.
+/// What the spine's lock keeps. It is a box, so that locking moves a pointer and not the numbers.
 #[derive(Drop)]
 pub struct BoxedTally<K: Key, S: BuildHasher + Drop> {
     pub tally: Box<Tally<K, S>>,
 }
 
 impl<K: Key, S: BuildHasher + Drop> BoxedTally<K, S> {
-    // A tally with these numbers. It is refused for want of memory alone.
+    // A tally with these numbers. It fails only out of memory (`FailedAllocation`).
     pub(super) fn new(alloc: Global, spine: Spine<K>, counts: [u64; 16]) -> LassoResult<Self>
         ensures spine { IfOk result (λ b. b.tally.value.spine ≡ spine) }
         ensures counts { IfOk result (λ b. b.tally.value.counts ≡ counts) }

@@ -1,8 +1,8 @@
 //! The bytes of a text that is copied: they are stored while the text's shard is held, before the key type is asked.
 //!
-//! The buckets are walked without the spine. Where none has room the spine is taken, and the shard is compared with its number of it.
-//! Then the buckets are walked again, and one is added where none has room still. So a refusal by the limit is one of a step at
-//! which the list lacks the text.
+//! The buckets are walked without the spine. If none has room the spine is locked, and the shard is compared
+//! with the spine's number of it. Then the buckets are walked again, and one is added if none has room still.
+//! So a refusal by the limit is one of a step at which the list lacks the text.
 ghost use Rattle.std.specs.Prelude.{◌≡◌, ◌≢◌, ◌⊎◌, [], List, length, Err, IfOk, IfErr, OnErr};
 ghost use mathlib.Core.List.{IsPrefix};
 ghost use base.Fml.{Incl};
@@ -15,11 +15,13 @@ ghost use Rattle.lasso_log.specs.History.{Event, Lacks};
 ghost use Rattle.lasso_log.specs.Notes.{Since};
 ghost use Rattle.lasso_log.specs.Pieces.{PieceView, RangeView};
 ghost use Rattle.lasso_log.specs.Replies.{Copied, Intern, Interned};
+ghost use Rattle.lasso_shared.specs.NewTexts.{keeping_of, text_of};
 ghost use Rattle.lasso_shared.specs.Shards.{IsShard, shard_of};
 ghost use Rattle.lasso_log.specs.Turns.{IsPastLimit};
 ghost use Rattle.lasso_log.specs.Views.{PassView, InternerId, SpineView, IsSamePass, IsSameSpine, list_of, seen};
 
 use crate::shards::Shards;
+use crate::shards::new_text::NewText;
 use crate::shards::shard::{Shard, Tally};
 use crate::shards::tag::number_of;
 use lasso_log::log::Pass;
@@ -30,8 +32,9 @@ use std::hash::BuildHasher;
 use std::sync::Wait;
 
 impl<K: Key, S: BuildHasher + Drop> Shards<K, S> {
-    // Takes so many bytes, at least one, with the spine held: in a bucket that has room for them, or else in a new one. A refusal
-    // leaves no event, and one by the limit comes at a step at which the list is as long as the spine's.
+    // Takes `bytes` bytes, at least one, with the spine held: in a bucket that has room for them, or else in
+    // a new one. A refusal leaves no event, and one by the limit comes at a step at which the list is as long
+    // as the spine's.
     fn reserve_or_charge<R: Wait>(
         &self,
         rt: &R,
@@ -81,41 +84,39 @@ impl<K: Key, S: BuildHasher + Drop> Shards<K, S> {
         if let Some(range) = self.log.reserve_anywhere(rt, &self.buckets, pass, bytes) {
             return Ok(range);
         }
-        for _ in rt.forever() {
-            let (guard, mut held) = self.spine.take(rt);
-            let tally: &mut Tally<K, S> = &mut held.tally;
-            if self.is_whole(tally, shard, pass, number_of(hash)) {
-                let range = self.reserve_or_charge(rt, tally, pass, bytes);
-                guard.give(rt, held);
-                return range;
-            }
-            guard.give(rt, held);
-        }
-        unreachable!()
+        let (guard, mut held) = self.lock_current(rt, shard, pass, number_of(hash));
+        let range = self.reserve_or_charge(rt, &mut held.tally, pass, bytes);
+        guard.unlock(rt, held);
+        range
     }
 
-    // The text where it lies from then on, as long as the interner: in a bucket, where it is not empty. The held shard lacks it.
+    // The text where it lies from then on, as long as the interner: a copy that is not empty lies in a bucket. The
+    // held shard lacks the text.
     pub(super) fn store<R: Wait>(
         &self,
         rt: &R,
         shard: &Shard<K, S>,
         pass: &mut Pass<K>,
         hash: u64,
-        text: &str,
+        text: NewText<'_>,
     ) -> LassoResult<Piece>
         requires of { pass.old.of ≡ self.now.log }
-        requires hashed { hash ≡ text_hash S.build_hasher S.Hasher.write S.Hasher.finish self.now.hasher text.now }
+        requires hashed { hash ≡ text_hash S.build_hasher S.Hasher.write S.Hasher.finish self.now.hasher (text_of text) }
         requires held { IsShard (text_hash S.build_hasher S.Hasher.write S.Hasher.finish self.now.hasher) (shard_of hash) self.now.log shard.now.known shard.now.index shard.now.count }
         requires begins { IsPrefix shard.now.known.notes pass.old.notes }
-        requires lacks { Lacks (list_of self.now.log shard.now.known.notes) text.now }
+        requires lacks { Lacks (list_of self.now.log shard.now.known.notes) (text_of text) }
         ensures same { IsSamePass pass.new pass.old }
-        ensures event { IfOk result (λ p. (own : List Event) × Stores Copied text.now own × Since pass.old.number pass.old.notes pass.new.notes own) }
-        ensures piece { IfOk result (λ p. (p.text ≡ text.now) × Incl (life (era_named self.now.log.chunks)) p.until) }
-        ensures lies { IfOk result (λ p. text.now ≢ [] → p.until ≡ life (era_named self.now.log.chunks)) }
-        ensures refused { IfErr result (λ error. IsCall K.key_at self.now.log.opening (seen pass.old) (seen pass.new) pass.old.number (Intern Copied text.now) (Interned (Err error))) }
+        ensures event { IfOk result (λ p. (own : List Event) × Stores (keeping_of text.entry) (text_of text.entry) own × Since pass.old.number pass.old.notes pass.new.notes own) }
+        ensures piece { IfOk result (λ p. (p.text ≡ text_of text.entry) × Incl (life (era_named self.now.log.chunks)) p.until) }
+        ensures lies { IfOk result (λ p. keeping_of text.entry ≡ Copied → text_of text.entry ≢ [] → p.until ≡ life (era_named self.now.log.chunks)) }
+        ensures refused { IfErr result (λ error. IsCall K.key_at self.now.log.opening (seen pass.old) (seen pass.new) pass.old.number (Intern (keeping_of text.entry) (text_of text.entry)) (Interned (Err error))) }
     {
+        let text = match text {
+            NewText::Static(text) => return Ok(Piece::from_static(text)),
+            NewText::Copied(text) => text,
+        };
         if text.is_empty() {
-            return Ok(Piece::lasting(""));
+            return Ok(Piece::from_static(""));
         }
         let range = self.take_bytes(rt, shard, pass, hash, text)?;
         Ok(range.fill(self.log.era(), text))

@@ -17,8 +17,9 @@ use std::hash::BuildHasher;
 use std::sync::Wait;
 
 impl<K: Key, S: BuildHasher + Drop> ThreadedRodeo<K, S> {
-    /// Whether the other interner has the same texts under the same keys. Each list is taken as it stands at a step of its own, so what
-    /// other threads intern meanwhile may be in it or not. It takes no memory and waits for nobody.
+    /// Whether the other interner has the same texts under the same keys. Each list is read at a step of its
+    /// own, so what other threads intern meanwhile may be in it or not. It takes no memory and waits for
+    /// nobody.
     ///
     /// ```rust
     /// let colours = ["red", "green"];
@@ -39,13 +40,13 @@ impl<K: Key, S: BuildHasher + Drop> ThreadedRodeo<K, S> {
     {
         let mut pass = other.pass();
         let len = other.shards.log.len(&mut pass) as usize;
-        pass.show_legal();
+        pass.prove_legal();
         let theirs = other.shards.log.seen_texts(&pass);
         self.eq_texts(&theirs, len)
     }
 
-    /// Whether the interner for one thread has the same texts under the same keys. The list here is taken as it stands at one step. It
-    /// takes no memory and waits for nobody.
+    /// Whether the interner for one thread has the same texts under the same keys. The list here is read at
+    /// one step. It takes no memory and waits for nobody.
     ///
     /// ```rust
     /// let colours = ["red", "green"];
@@ -64,8 +65,8 @@ impl<K: Key, S: BuildHasher + Drop> ThreadedRodeo<K, S> {
         self.eq_texts(rodeo, rodeo.len())
     }
 
-    /// Whether the reader has the same texts under the same keys. The list here is taken as it stands at one step. It takes no memory
-    /// and waits for nobody.
+    /// Whether the reader has the same texts under the same keys. The list here is read at one step. It takes
+    /// no memory and waits for nobody.
     pub fn eq_reader<R: Wait, T: BuildHasher, A: Allocator>(
         &self,
         _rt: &R,
@@ -77,8 +78,8 @@ impl<K: Key, S: BuildHasher + Drop> ThreadedRodeo<K, S> {
         self.eq_texts(reader, reader.len())
     }
 
-    /// Whether the resolver has the same texts under the same keys. The list here is taken as it stands at one step. It takes no memory
-    /// and waits for nobody.
+    /// Whether the resolver has the same texts under the same keys. The list here is read at one step. It
+    /// takes no memory and waits for nobody.
     pub fn eq_resolver<R: Wait, A: Allocator>(
         &self,
         _rt: &R,
@@ -90,7 +91,7 @@ impl<K: Key, S: BuildHasher + Drop> ThreadedRodeo<K, S> {
         self.eq_texts(resolver, resolver.len())
     }
 
-    // Whether the list at one step is the other one, which must have so many texts.
+    // Whether the list at one step is the other one, which must have `len` texts.
     fn eq_texts<T: Texts>(&self, other: &T, other_len: usize) -> bool
         requires { other_len ≡ length (T.list other.now) }
         ensures list { (list : List Text) × IsPlainCall K.key_at self.now.opening Strings (Listed (Ok list)) × (IsTrue result ↔ (list ≡ T.list other.now)) }
@@ -98,13 +99,13 @@ impl<K: Key, S: BuildHasher + Drop> ThreadedRodeo<K, S> {
     {
         let mut pass = self.pass();
         let len = self.shards.log.len(&mut pass) as usize;
-        pass.show_legal();
+        pass.prove_legal();
         let texts = self.shards.log.seen_texts(&pass);
         have_same_texts(&texts, len, other, other_len)
     }
 }
 
-// Whether two lists have the same texts in the same order. They must have so many texts.
+// Whether two lists have the same texts in the same order. Both must have `len` texts.
 fn have_same_texts<T: Texts, U: Texts>(one: &T, len: usize, other: &U, other_len: usize) -> bool
     requires one { len ≡ length (T.list one.now) }
     requires other { other_len ≡ length (U.list other.now) }

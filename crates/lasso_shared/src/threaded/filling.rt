@@ -15,9 +15,9 @@ use std::hash::BuildHasher;
 use std::sync::Wait;
 
 impl<K: Key, S: BuildHasher + Drop> ThreadedRodeo<K, S> {
-    /// Interns item after item by one new pass, each of them a `&str` or another that lends a text. A refusal ends it and is the
-    /// answer: the items before the refused one stay, and no item after it is taken. Other threads may intern texts between them.
-    /// If the items end and no call waits for ever, it returns.
+    /// Interns the items in order by one new pass, each of them a `&str` or another type that lends a text.
+    /// It stops at the first error and returns it: the items before it stay, and no item after it is taken.
+    /// Other threads may intern texts between them. If the items end and no call waits for ever, it returns.
     ///
     /// ```rust
     /// let rodeo: SpurThreadedRodeo = ThreadedRodeo::default(rt.alloc())?;
@@ -37,7 +37,7 @@ impl<K: Key, S: BuildHasher + Drop> ThreadedRodeo<K, S> {
         ensures opening { IsOpening K.key_at self.now.opening }
     {
         let mut pass = self.pass();
-        pass.show_legal();
+        pass.prove_legal();
         for text in items {
             self.try_get_or_intern_as(rt, &mut pass, text.as_str())?;
         }
@@ -46,8 +46,9 @@ impl<K: Key, S: BuildHasher + Drop> ThreadedRodeo<K, S> {
 }
 
 impl<K: Key, S: BuildHasher + Default + Drop> ThreadedRodeo<K, S> {
-    /// An interner of default capacity and limit (4096 bytes in its first bucket), with item after item interned. A refusal ends it,
-    /// and is the answer in place of the interner. If the items end and no call waits for ever, it returns.
+    /// An interner of default capacity and limit (4096 bytes in its first bucket), with the items interned in
+    /// order. It stops at the first error, and returns it in place of the interner. If the items end and no
+    /// call waits for ever, it returns.
     ///
     /// ```rust
     /// let colours = ["red", "green", "red", "blue"];

@@ -24,10 +24,11 @@ use std::hash::BuildHasher;
 use std::sync::Wait;
 
 impl<K: Key, S: BuildHasher + Drop> ThreadedRodeo<K, S> {
-    /// The same texts under the same keys, frozen: keys of texts are still found, by the same hasher. All texts are copied, static
-    /// ones too, into one bucket of just their bytes (4096 where they have none), and no limit refuses it. It is refused for want of
-    /// memory alone, also where the texts have more bytes than a `usize` counts; the interner is gone then too. Nobody else has the
-    /// interner any more, so it waits for nobody. The pass has afterwards seen just the list of the reader.
+    /// The same texts under the same keys, frozen: keys of texts are still found, by the same hasher. All
+    /// texts are copied, static ones too, into one bucket of just their bytes (4096 where they have none),
+    /// and no limit refuses it. It fails only out of memory (`FailedAllocation`), also where the texts have
+    /// more bytes than a `usize` counts; the interner is gone then too. Nobody else has the interner any
+    /// more, so it waits for nobody. The pass has afterwards seen just the list of the reader.
     ///
     /// ```rust
     /// let rodeo: SpurThreadedRodeo = ThreadedRodeo::default(rt.alloc())?;
@@ -51,7 +52,7 @@ impl<K: Key, S: BuildHasher + Drop> ThreadedRodeo<K, S> {
         let ThreadedRodeo { shards } = self;
         let Parts { log, hasher, alloc } = shards.into_parts();
         let len = log.len(pass) as usize;
-        pass.show_legal();
+        pass.prove_legal();
         let texts = log.seen_texts(pass);
         match copy_of(alloc, hasher, &texts, len) {
             Ok(rodeo) => Ok(rodeo.into_reader()),
@@ -59,9 +60,10 @@ impl<K: Key, S: BuildHasher + Drop> ThreadedRodeo<K, S> {
         }
     }
 
-    /// The same texts under the same keys, frozen: keys of texts are still found, by the same hasher. All texts are copied, static
-    /// ones too, into one bucket of just their bytes (4096 where they have none), and no limit refuses it. It is refused for want of
-    /// memory alone, also where the texts have more bytes than a `usize` counts; the interner is gone then too. It waits for nobody.
+    /// The same texts under the same keys, frozen: keys of texts are still found, by the same hasher. All
+    /// texts are copied, static ones too, into one bucket of just their bytes (4096 where they have none),
+    /// and no limit refuses it. It fails only out of memory (`FailedAllocation`), also where the texts have
+    /// more bytes than a `usize` counts; the interner is gone then too. It waits for nobody.
     ///
     /// ```rust
     /// let rodeo: SpurThreadedRodeo = ThreadedRodeo::default(rt.alloc())?;
@@ -78,8 +80,8 @@ impl<K: Key, S: BuildHasher + Drop> ThreadedRodeo<K, S> {
         self.into_reader_as(rt, &mut pass)
     }
 
-    /// The same texts under the same keys, frozen, without an index: the reader of `into_reader`, made a resolver. It is refused
-    /// likewise.
+    /// The same texts under the same keys, frozen, without an index: the reader of `into_reader`, made a
+    /// resolver. It fails in the same cases.
     ///
     /// ```rust
     /// let rodeo: SpurThreadedRodeo = ThreadedRodeo::default(rt.alloc())?;
@@ -98,9 +100,10 @@ impl<K: Key, S: BuildHasher + Drop> ThreadedRodeo<K, S> {
     }
 }
 
-// An interner with the texts of a distinct list that fits the keys, in order, all copied into one bucket of just their bytes (4096
-// where they have none), with no limit below the greatest number. There must be `len` texts. It is refused for want of memory alone,
-// also where the texts have more bytes than a `usize` counts.
+// An interner with the texts of a distinct list that fits the keys, in order, all copied into one bucket of
+// just their bytes (4096 where they have none), with no limit below the greatest number. There must be `len`
+// texts. It fails only out of memory (`FailedAllocation`), also where the texts have more bytes than a
+// `usize` counts.
 fn copy_of<K: Key, S: BuildHasher + Drop, T: Texts>(
     alloc: Global,
     hasher: S,

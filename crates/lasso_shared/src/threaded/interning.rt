@@ -13,10 +13,11 @@ use std::hash::BuildHasher;
 use std::sync::Wait;
 
 impl<K: Key, S: BuildHasher + Drop> ThreadedRodeo<K, S> {
-    /// The key of the text, of which a copy goes last in the list if it is not there. A text that the pass had seen is never
-    /// refused. A new one may be refused for want of memory; else it is where no bucket has room for its bytes and the memory limit
-    /// leaves none, or else where the key type has no key for its position, and its bytes stay taken then. A refusal by the limit or
-    /// for want of memory adds no event. It waits for those who write in the text's shard, and for the spine.
+    /// Returns the text's key, and appends a copy of an absent text first. Interning a text that the pass had
+    /// seen never fails. A new one may fail out of memory (`FailedAllocation`); else it fails where no bucket
+    /// has room for its bytes and the memory limit leaves none (`MemoryLimitReached`); or else where the key
+    /// type has no key for its position (`KeySpaceExhaustion`), and its bytes stay taken then. The first two
+    /// errors add no event. It waits for those who write in the text's shard, and for the spine.
     ///
     /// ```rust
     /// let rodeo: SpurThreadedRodeo = ThreadedRodeo::default(rt.alloc())?;
@@ -37,14 +38,15 @@ impl<K: Key, S: BuildHasher + Drop> ThreadedRodeo<K, S> {
         ensures legal { IsLegal K.key_at self.now.opening (seen pass.new) }
     {
         let reply = self.shards.intern_copied(rt, pass, text);
-        pass.show_legal();
+        pass.prove_legal();
         reply
     }
 
-    /// The key of the text, which goes last in the list if it is not there. The text is kept as it is, with no copy, so
-    /// the memory limit never refuses it. A text that the pass had seen is never refused. A new one may be refused
-    /// for want of memory, else where the key type has no key for its position; no event is added then. It waits for those who write in
-    /// the text's shard, and for the spine.
+    /// Returns the text's key, and appends an absent text first. The text is kept as it is, with no copy, so
+    /// the memory limit never refuses it. Interning a text that the pass had seen never fails. A new one may
+    /// fail out of memory (`FailedAllocation`), and else fails where the key type has no key for its position
+    /// (`KeySpaceExhaustion`); no event is added then. It waits for those who write in the text's shard, and
+    /// for the spine.
     ///
     /// ```rust
     /// let rodeo: SpurThreadedRodeo = ThreadedRodeo::default(rt.alloc())?;
@@ -65,7 +67,7 @@ impl<K: Key, S: BuildHasher + Drop> ThreadedRodeo<K, S> {
         ensures legal { IsLegal K.key_at self.now.opening (seen pass.new) }
     {
         let reply = self.shards.intern_static(rt, pass, text);
-        pass.show_legal();
+        pass.prove_legal();
         reply
     }
 }

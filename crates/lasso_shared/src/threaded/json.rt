@@ -23,8 +23,9 @@ use std::alloc::Global;
 use std::hash::BuildHasher;
 
 impl<K: Key, S: BuildHasher + Drop> ThreadedRodeo<K, S> {
-    /// The object from each text to its position plus one, of the list that the pass has then seen, whatever the key type. It is
-    /// refused for want of memory alone, and never where there is no text. It does not wait.
+    /// The object from each text to its position plus one, of the list that the pass has then seen, whatever
+    /// the key type. It fails only out of memory (`FailedAllocation`), and never for an empty list. It does
+    /// not wait.
     ///
     /// ```rust
     /// let rodeo: SpurThreadedRodeo = ThreadedRodeo::default(rt.alloc())?;
@@ -46,13 +47,13 @@ impl<K: Key, S: BuildHasher + Drop> ThreadedRodeo<K, S> {
         ensures legal { IsLegal K.key_at self.now.opening (seen pass.new) }
     {
         let len = self.shards.log.len(pass) as usize;
-        pass.show_legal();
+        pass.prove_legal();
         let texts = self.shards.log.seen_texts(pass);
         write_map(alloc, &texts, len)
     }
 
-    /// The object from each text to its position plus one, of the list as it stands at one step, whatever the key type. It is refused
-    /// for want of memory alone, and never where there is no text. It does not wait.
+    /// The object from each text to its position plus one, of the list at one step, whatever the key type. It
+    /// fails only out of memory (`FailedAllocation`), and never for an empty list. It does not wait.
     ///
     /// ```rust
     /// let rodeo: SpurThreadedRodeo = ThreadedRodeo::default(rt.alloc())?;
@@ -73,13 +74,15 @@ impl<K: Key, S: BuildHasher + Drop> ThreadedRodeo<K, S> {
 }
 
 impl<K: Key, S: BuildHasher + Default + Drop> ThreadedRodeo<K, S> {
-    /// An interner with the texts of an object, each at the position that its number is the one after, or with those of an array, in
-    /// order. All are copied into one bucket of just their bytes (4096 where they have none), and there is no limit below the greatest
-    /// number. The first faulty member or item decides. A member, in the byte order of the texts: it is no whole number from 1 to the
-    /// count of members (`NotAPosition`), or the key type has no key for its position (`TooMany`), or an earlier member has the position
-    /// (`Taken`). An item: it is no text (`NotText`), or an earlier item has its text (`Doubled`), or its position has no key (`TooMany`).
-    /// A value that is neither is `NotAnObject`. It may be refused for want of memory (`Lasso`) unless the value is neither or its first
-    /// member or item is faulty; so it is where the texts have more bytes than a `usize` counts.
+    /// An interner with the texts of an object, each at the position that its number is the one after, or
+    /// with those of an array, in order. All are copied into one bucket of just their bytes (4096 where they
+    /// have none), and there is no limit below the greatest number. The first faulty member or item decides.
+    /// A member, in the byte order of the texts: it is no whole number from 1 to the count of members
+    /// (`NotAPosition`), or the key type has no key for its position (`TooMany`), or an earlier member has
+    /// the position (`Taken`). An item: it is no text (`NotText`), or an earlier item has its text
+    /// (`Doubled`), or its position has no key (`TooMany`). A value that is neither is `NotAnObject`. It may
+    /// fail out of memory (`Lasso`) unless the value is neither or its first member or item is faulty; so it
+    /// is where the texts have more bytes than a `usize` counts.
     ///
     /// ```rust
     /// let value = Value::from_str(rt.alloc(), r#"{"a":2,"b":1}"#)?;

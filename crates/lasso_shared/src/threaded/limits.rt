@@ -30,7 +30,7 @@ impl<K: Key, S: BuildHasher + Drop> ThreadedRodeo<K, S> {
         ensures legal { IsLegal K.key_at self.now.opening (seen pass.new) }
     {
         let usage = self.shards.usage(rt, pass);
-        pass.show_legal();
+        pass.prove_legal();
         usage as usize
     }
 
@@ -52,13 +52,14 @@ impl<K: Key, S: BuildHasher + Drop> ThreadedRodeo<K, S> {
         ensures legal { IsLegal K.key_at self.now.opening (seen pass.new) }
     {
         let limit = self.shards.max_usage(rt, pass);
-        pass.show_legal();
+        pass.prove_legal();
         limit as usize
     }
 
-    /// Sets the most bytes that all buckets may take. It may lie below what they take already: they stay, and copied texts that
-    /// need another bucket are then refused. The texts stay. It takes no memory and is never refused. It waits for the spine, and
-    /// does not return where limits and buckets came 2^64 - 1 times before.
+    /// Sets the most bytes that all buckets may take. It may lie below what they take already: they stay, and
+    /// copied texts that need another bucket are then refused. The texts stay. It takes no memory and never
+    /// fails. It waits for the spine, and does not return where limits and buckets came 2^64 - 1 times
+    /// before.
     ///
     /// ```rust
     /// let rodeo: SpurThreadedRodeo = ThreadedRodeo::default(rt.alloc())?;
@@ -76,6 +77,6 @@ impl<K: Key, S: BuildHasher + Drop> ThreadedRodeo<K, S> {
     {
         let limit = limits.max_memory_usage();
         self.shards.set_limit(rt, pass, limit as u64);
-        pass.show_legal();
+        pass.prove_legal();
     }
 }

@@ -12,8 +12,8 @@ use std::hash::BuildHasher;
 use std::sync::Wait;
 
 impl<K: Key, S: BuildHasher + Drop> ThreadedRodeo<K, S> {
-    /// The key of the text, or `None` where it is not in the list. It takes no memory. It waits for those who write in the text's
-    /// shard, and for the spine where the text is missing.
+    /// The text's key, or `None` if it is not in the list. It takes no memory. It waits for those who write
+    /// in the text's shard, and for the spine if the text is absent.
     ///
     /// ```rust
     /// let rodeo: SpurThreadedRodeo = ThreadedRodeo::default(rt.alloc())?;
@@ -31,11 +31,11 @@ impl<K: Key, S: BuildHasher + Drop> ThreadedRodeo<K, S> {
         ensures legal { IsLegal K.key_at self.now.opening (seen pass.new) }
     {
         let found = self.shards.get(rt, pass, text);
-        pass.show_legal();
+        pass.prove_legal();
         found
     }
 
-    /// Whether the key stands for a text. It takes no memory and does not wait.
+    /// Whether the key has a text. It takes no memory and does not wait.
     ///
     /// ```rust
     /// let rodeo: SpurThreadedRodeo = ThreadedRodeo::default(rt.alloc())?;
@@ -53,11 +53,11 @@ impl<K: Key, S: BuildHasher + Drop> ThreadedRodeo<K, S> {
         ensures legal { IsLegal K.key_at self.now.opening (seen pass.new) }
     {
         let len = self.shards.log.len(pass);
-        pass.show_legal();
+        pass.prove_legal();
         (key.into_usize() as u64) < len
     }
 
-    /// The key's text, or `None` where the key stands for no text yet. It is lent as long as the interner. It takes no
+    /// The key's text, or `None` if the key has no text yet. It is lent as long as the interner. It takes no
     /// memory and does not wait.
     ///
     /// ```rust
@@ -74,7 +74,7 @@ impl<K: Key, S: BuildHasher + Drop> ThreadedRodeo<K, S> {
         ensures legal { IsLegal K.key_at self.now.opening (seen pass.new) }
     {
         let found = self.shards.log.read(key.into_usize() as u64, pass);
-        pass.show_legal();
+        pass.prove_legal();
         found
     }
 
@@ -96,7 +96,7 @@ impl<K: Key, S: BuildHasher + Drop> ThreadedRodeo<K, S> {
         ensures legal { IsLegal K.key_at self.now.opening (seen pass.new) }
     {
         let len = self.shards.log.len(pass);
-        pass.show_legal();
+        pass.prove_legal();
         len as usize
     }
 }

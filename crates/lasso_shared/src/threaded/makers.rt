@@ -13,8 +13,8 @@ use std::alloc::Global;
 use std::hash::BuildHasher;
 
 impl ThreadedRodeo<Spur, FixedState> {
-    /// An interner with `Spur` keys, of default capacity (50 texts, 4096 bytes) and with no limit below the greatest number. It is
-    /// refused for want of memory alone.
+    /// An interner with `Spur` keys, of default capacity (50 texts, 4096 bytes) and with no limit below the
+    /// greatest number. It fails only out of memory (`FailedAllocation`).
     pub fn default(alloc: Global) -> LassoResult<Self>
         ensures opening { IfOk result (λ t. t.opening ≡ opened [] 4096 0 (2 ^ 64 - 1)) }
         ensures refused { IfErr result (λ error. error ≡ FailedAllocation) }
@@ -24,7 +24,7 @@ impl ThreadedRodeo<Spur, FixedState> {
 }
 
 impl<K: Key> ThreadedRodeo<K, FixedState> {
-    /// An interner of default capacity and limit. It is refused for want of memory alone.
+    /// An interner of default capacity and limit. It fails only out of memory (`FailedAllocation`).
     ///
     /// ```rust
     /// let rodeo: ThreadedRodeo<MicroSpur, FixedState> = ThreadedRodeo::new(rt.alloc())?;
@@ -38,8 +38,9 @@ impl<K: Key> ThreadedRodeo<K, FixedState> {
         ThreadedRodeo::with_hasher(alloc, FixedState::new())
     }
 
-    /// An interner of default limit, whose first bucket has the bytes of `capacity`. Its texts are a hint: the log has cells for
-    /// them, and the shards' indexes grow. It is refused for want of memory alone.
+    /// An interner of default limit, whose first bucket has the bytes of `capacity`. Its texts are a hint:
+    /// the log has cells for them, and the shards' indexes grow. It fails only out of memory
+    /// (`FailedAllocation`).
     ///
     /// ```rust
     /// let capacity = Capacity::new(1000, 65536);
@@ -54,8 +55,8 @@ impl<K: Key> ThreadedRodeo<K, FixedState> {
         ThreadedRodeo::with_capacity_and_hasher(alloc, capacity, FixedState::new())
     }
 
-    /// An interner of default capacity, whose buckets take at most `limits` in bytes. The limit may lie below the 4096 bytes of the
-    /// first bucket. It is refused for want of memory alone.
+    /// An interner of default capacity, whose buckets take at most `limits` in bytes. The limit may lie below
+    /// the 4096 bytes of the first bucket. It fails only out of memory (`FailedAllocation`).
     ///
     /// ```rust
     /// let limits = MemoryLimits::new(10000);
@@ -70,9 +71,9 @@ impl<K: Key> ThreadedRodeo<K, FixedState> {
         ThreadedRodeo::with_capacity_and_memory_limits(alloc, Capacity::default(), limits)
     }
 
-    /// An interner whose first bucket has the bytes of `capacity`, and whose buckets take at most `limits` in bytes. The limit may
-    /// lie below the first bucket's bytes. The texts of `capacity` are a hint, as `with_capacity` has it. It is refused for want of
-    /// memory alone.
+    /// An interner whose first bucket has the bytes of `capacity`, and whose buckets take at most `limits` in
+    /// bytes. The limit may lie below the first bucket's bytes. The texts of `capacity` are a hint, as
+    /// `with_capacity` has it. It fails only out of memory (`FailedAllocation`).
     ///
     /// ```rust
     /// let capacity = Capacity::new(50, 100);
@@ -96,7 +97,8 @@ impl<K: Key> ThreadedRodeo<K, FixedState> {
 }
 
 impl<K: Key, S: BuildHasher + Drop> ThreadedRodeo<K, S> {
-    /// An interner of default capacity and limit, whose indexes ask the hasher. It is refused for want of memory alone.
+    /// An interner of default capacity and limit, whose indexes ask the hasher. It fails only out of memory
+    /// (`FailedAllocation`).
     ///
     /// ```rust
     /// let hasher = FixedState::new();
@@ -111,8 +113,9 @@ impl<K: Key, S: BuildHasher + Drop> ThreadedRodeo<K, S> {
         ThreadedRodeo::with_capacity_and_hasher(alloc, Capacity::default(), hasher)
     }
 
-    /// An interner of default limit, whose indexes ask the hasher, and whose first bucket has the bytes of `capacity`. The texts of
-    /// `capacity` are a hint, as `with_capacity` has it. It is refused for want of memory alone.
+    /// An interner of default limit, whose indexes ask the hasher, and whose first bucket has the bytes of
+    /// `capacity`. The texts of `capacity` are a hint, as `with_capacity` has it. It fails only out of memory
+    /// (`FailedAllocation`).
     ///
     /// ```rust
     /// let capacity = Capacity::for_bytes(7);
@@ -133,9 +136,9 @@ impl<K: Key, S: BuildHasher + Drop> ThreadedRodeo<K, S> {
         ThreadedRodeo::with_capacity_memory_limits_and_hasher(alloc, capacity, limits, hasher)
     }
 
-    /// An interner whose first bucket has the bytes of `capacity`, whose buckets take at most `limits` in bytes, and whose indexes
-    /// ask the hasher. The limit may lie below the first bucket's bytes. The texts of `capacity` are a hint, as `with_capacity` has
-    /// it. It is refused for want of memory alone.
+    /// An interner whose first bucket has the bytes of `capacity`, whose buckets take at most `limits` in
+    /// bytes, and whose indexes ask the hasher. The limit may lie below the first bucket's bytes. The texts
+    /// of `capacity` are a hint, as `with_capacity` has it. It fails only out of memory (`FailedAllocation`).
     ///
     /// ```rust
     /// let rodeo: SpurThreadedRodeo = ThreadedRodeo::with_capacity_memory_limits_and_hasher(

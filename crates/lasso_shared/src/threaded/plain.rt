@@ -17,16 +17,17 @@ use std::sync::Wait;
 
 impl<K: Key, S: BuildHasher + Drop> ThreadedRodeo<K, S> {
     // Does nothing. Contracts learn that its opening is one that an interner may begin with.
-    fn show_opening(&self)
+    fn prove_opening(&self)
         ensures { IsOpening K.key_at self.now.opening }
     {
-        self.shards.log.known().show_legal();
+        self.shards.log.snapshot().prove_legal();
     }
 
-    /// The key of the text, of which a copy goes last in the list if it is not there. A new one may be refused for want of memory; else it
-    /// is where no bucket has room for its bytes and the memory limit leaves none, or else where the key type has no key for its
-    /// position, and its bytes stay taken then. A refusal by the limit or for want of memory adds no event. It waits for those who write
-    /// in the text's shard, and for the spine.
+    /// Returns the text's key, and appends a copy of an absent text first. A new one may fail out of memory
+    /// (`FailedAllocation`); else it fails where no bucket has room for its bytes and the memory limit leaves
+    /// none (`MemoryLimitReached`); or else where the key type has no key for its position
+    /// (`KeySpaceExhaustion`), and its bytes stay taken then. The first two errors add no event. It waits for
+    /// those who write in the text's shard, and for the spine.
     ///
     /// ```rust
     /// let rodeo: SpurThreadedRodeo = ThreadedRodeo::default(rt.alloc())?;
@@ -37,7 +38,7 @@ impl<K: Key, S: BuildHasher + Drop> ThreadedRodeo<K, S> {
         ensures call { IsPlainCall K.key_at self.now.opening (Intern Copied text.now) (Interned result) }
         ensures opening { IsOpening K.key_at self.now.opening }
     {
-        self.show_opening();
+        self.prove_opening();
         self.shards.intern_copied_once(rt, text)
     }
 
@@ -55,9 +56,10 @@ impl<K: Key, S: BuildHasher + Drop> ThreadedRodeo<K, S> {
         self.try_get_or_intern(rt, text)
     }
 
-    /// The key of the text, which goes last in the list if it is not there. The text is kept as it is, with no copy, so
-    /// the memory limit never refuses it. A new one may be refused for want of memory, else where the key type has no key
-    /// for its position; no event is added then. It waits for those who write in the text's shard, and for the spine.
+    /// Returns the text's key, and appends an absent text first. The text is kept as it is, with no copy, so
+    /// the memory limit never refuses it. A new one may fail out of memory (`FailedAllocation`), and else
+    /// fails where the key type has no key for its position (`KeySpaceExhaustion`); no event is added then.
+    /// It waits for those who write in the text's shard, and for the spine.
     ///
     /// ```rust
     /// let capacity = Capacity::for_bytes(4);
@@ -72,7 +74,7 @@ impl<K: Key, S: BuildHasher + Drop> ThreadedRodeo<K, S> {
         ensures call { IsPlainCall K.key_at self.now.opening (Intern Static text.now) (Interned result) }
         ensures opening { IsOpening K.key_at self.now.opening }
     {
-        self.show_opening();
+        self.prove_opening();
         self.shards.intern_static_once(rt, text)
     }
 
@@ -90,8 +92,8 @@ impl<K: Key, S: BuildHasher + Drop> ThreadedRodeo<K, S> {
         self.try_get_or_intern_static(rt, text)
     }
 
-    /// The key of the text, or `None` where it is not in the list. It takes no memory. It waits for those who write in the text's
-    /// shard, and for the spine where the text is missing.
+    /// The text's key, or `None` if it is not in the list. It takes no memory. It waits for those who write
+    /// in the text's shard, and for the spine if the text is absent.
     ///
     /// ```rust
     /// let rodeo: SpurThreadedRodeo = ThreadedRodeo::default(rt.alloc())?;
@@ -105,7 +107,7 @@ impl<K: Key, S: BuildHasher + Drop> ThreadedRodeo<K, S> {
         ensures call { IsPlainCall K.key_at self.now.opening (Get text.now) (Found result) }
         ensures opening { IsOpening K.key_at self.now.opening }
     {
-        self.show_opening();
+        self.prove_opening();
         self.shards.get_once(rt, text)
     }
 
@@ -124,7 +126,7 @@ impl<K: Key, S: BuildHasher + Drop> ThreadedRodeo<K, S> {
         self.get(rt, text).is_some()
     }
 
-    /// Whether the key stands for a text. It takes no memory and does not wait.
+    /// Whether the key has a text. It takes no memory and does not wait.
     ///
     /// ```rust
     /// let rodeo: SpurThreadedRodeo = ThreadedRodeo::default(rt.alloc())?;
@@ -137,13 +139,13 @@ impl<K: Key, S: BuildHasher + Drop> ThreadedRodeo<K, S> {
         ensures call { IsPlainCall K.key_at self.now.opening (ContainsKey (K.number key)) (Flag result) }
         ensures opening { IsOpening K.key_at self.now.opening }
     {
-        let mut known = self.shards.log.known();
-        let len = self.shards.log.len_known(&mut known);
-        known.show_legal();
+        let mut known = self.shards.log.snapshot();
+        let len = self.shards.log.snapshot_len(&mut known);
+        known.prove_legal();
         (key.into_usize() as u64) < len
     }
 
-    /// The key's text, or `None` where the key stands for no text yet. It is lent as long as the interner. It takes no
+    /// The key's text, or `None` if the key has no text yet. It is lent as long as the interner. It takes no
     /// memory and does not wait.
     ///
     /// ```rust
@@ -157,12 +159,12 @@ impl<K: Key, S: BuildHasher + Drop> ThreadedRodeo<K, S> {
         ensures call { IsPlainCall K.key_at self.now.opening (Resolve (K.number key)) (Resolved (option_map (λ t. t.now) result)) }
         ensures opening { IsOpening K.key_at self.now.opening }
     {
-        let mut known = self.shards.log.known();
+        let mut known = self.shards.log.snapshot();
         let found = self
             .shards
             .log
-            .read_known(key.into_usize() as u64, &mut known);
-        known.show_legal();
+            .read_snapshot(key.into_usize() as u64, &mut known);
+        known.prove_legal();
         found
     }
 
@@ -193,9 +195,9 @@ impl<K: Key, S: BuildHasher + Drop> ThreadedRodeo<K, S> {
         ensures call { IsPlainCall K.key_at self.now.opening Len (Number result) }
         ensures opening { IsOpening K.key_at self.now.opening }
     {
-        let mut known = self.shards.log.known();
-        let len = self.shards.log.len_known(&mut known);
-        known.show_legal();
+        let mut known = self.shards.log.snapshot();
+        let len = self.shards.log.snapshot_len(&mut known);
+        known.prove_legal();
         len as usize
     }
 
@@ -214,8 +216,8 @@ impl<K: Key, S: BuildHasher + Drop> ThreadedRodeo<K, S> {
         self.len() == 0
     }
 
-    /// For how many texts the log has cells: at least as many as there are. Other memory may be wanting for them yet. It takes no
-    /// memory and does not wait.
+    /// The number of texts that the log has cells for; at least `len()`. Interning them may still run out of
+    /// other memory. It takes no memory and does not wait.
     ///
     /// ```rust
     /// let rodeo: SpurThreadedRodeo = ThreadedRodeo::default(rt.alloc())?;
@@ -299,9 +301,10 @@ impl<K: Key, S: BuildHasher + Drop> ThreadedRodeo<K, S> {
         self.max_memory_usage_as(rt, &mut pass)
     }
 
-    /// Sets the most bytes that all buckets may take. It may lie below what they take already: they stay, and copied texts that
-    /// need another bucket are then refused. The texts stay. It takes no memory and is never refused. It waits for the spine, and
-    /// does not return where limits and buckets came 2^64 - 1 times before.
+    /// Sets the most bytes that all buckets may take. It may lie below what they take already: they stay, and
+    /// copied texts that need another bucket are then refused. The texts stay. It takes no memory and never
+    /// fails. It waits for the spine, and does not return where limits and buckets came 2^64 - 1 times
+    /// before.
     ///
     /// ```rust
     /// let rodeo: SpurThreadedRodeo = ThreadedRodeo::default(rt.alloc())?;

@@ -43,7 +43,7 @@ impl<'a, K: Key> Model for Strings<'a, K> {
 #[tactic(auto, using(crate::proofs::Walked::walk_steps))]
 impl<'a, K: Key> Strings<'a, K> {
     // Does nothing. Contracts learn that the number of texts is one that a word can have.
-    fn show_short(&self)
+    fn prove_short(&self)
         ensures { length self.now < 2 ^ 64 }
     {
         let _ = self.end - self.position;
@@ -87,8 +87,8 @@ impl<'a, K: Key> ExactSizeIterator for Strings<'a, K> {
 
 impl<'a, K: Key> FusedIterator for Strings<'a, K> {}
 
-/// A walk over texts and their keys, in the order of the keys. Contracts see it as the list of the texts that are left, each behind
-/// its key.
+/// A walk over texts and their keys, in the order of the keys. Contracts see it as the list of the texts that
+/// are left, each after its key.
 #[derive(Drop)]
 pub struct Iter<'a, K: Key> {
     strings: Strings<'a, K>,
@@ -163,7 +163,7 @@ impl<K: Key, S: BuildHasher + Drop> ThreadedRodeo<K, S> {
         ensures legal { IsLegal K.key_at self.now.opening (seen pass.new) }
     {
         let strings = self.strings_as(pass);
-        strings.show_short();
+        strings.prove_short();
         Iter { strings, first: 0 }
     }
 
@@ -176,7 +176,7 @@ impl<K: Key, S: BuildHasher + Drop> ThreadedRodeo<K, S> {
         ensures legal { IsLegal K.key_at self.now.opening (seen pass.new) }
     {
         let len = self.shards.log.len(pass);
-        pass.show_legal();
+        pass.prove_legal();
         Strings {
             texts: self.shards.log.seen_texts(pass),
             position: 0,

@@ -69,7 +69,7 @@ fn have_one_key<R: Wait>(
 {
     let key = shared.try_get_or_intern_static_as(rt, one, text)?;
     let other_key = shared.try_get_or_intern_static_as(rt, other, word)?;
-    one.compare(other);
+    one.prove_comparable(other);
     passes_share_keys::<Spur>();
     calls_tell_keys::<Spur>();
     keys_are_equal_where_texts_are::<Spur>();
@@ -87,7 +87,7 @@ fn numbers_differ(
     ensures numbers { one.new.number ≢ other.new.number }
 {
     let _ = shared;
-    one.differs(other);
+    one.prove_differs(other);
 }
 
 // Whether another pass resolves the text's key.

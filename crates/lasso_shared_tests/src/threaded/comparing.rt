@@ -1,12 +1,13 @@
 //! An interner that threads share, compared with each form of a list.
 use crate::calls::{Shared, answered, copied, limit, limited, made, set_limit};
+use crate::texts::{LENGTHS, ended, lettered, numbered};
 use lasso_parts::keys::Spur;
 use lasso_parts::util::{FixedState, LassoErrorKind, LassoResult};
 use lasso_shared::threaded::ThreadedRodeo;
 use lasso_single::reader::RodeoReader;
 use lasso_single::resolver::RodeoResolver;
 use lasso_single::rodeo::Rodeo;
-use std::alloc::Global;
+use std::alloc::{AllocError, Global};
 use std::sync::Wait;
 use std::test::*;
 
@@ -114,19 +115,36 @@ fn no_comparison_sets_a_limit(rt: HostRuntime) -> Result<(), Fail> {
     Ok(())
 }
 
-// Four bytes are for two texts of two, between which the lists are compared.
+// Interns a text of `length` bytes in each of two interners with room for two, and compares them in each way. Returns whether all are
+// equal, and each interner has its limit and room for one more text afterwards.
+fn comparisons_leave_all<R: AllocGlobal + Wait>(rt: &R, length: usize) -> Result<bool, Fail> {
+    if length == 0 {
+        return Ok(false);
+    }
+    let alloc = rt.alloc();
+    let bytes = length.saturating_mul(2).max(length);
+    let first = lettered(alloc, "a", length)?;
+    let second = lettered(alloc, "b", length)?;
+    let shared: Shared = limited(alloc, bytes, bytes)?;
+    let other: Shared = limited(alloc, bytes, bytes)?;
+    let mut all = copied(rt, &shared, first.as_str())? == 0;
+    all &= copied(rt, &other, first.as_str())? == 0;
+    all &= is_equal(rt, &shared, &other) && is_equal(rt, &other, &shared);
+    let single = single_of_all(alloc, &[first.as_str()])?;
+    all &= is_equal_to_forms(rt, &shared, &single)? == (true, true, true);
+    all &= is_equal_to_forms(rt, &other, &single)? == (true, true, true);
+    for one in [&shared, &other] {
+        all &= answered(copied(rt, one, second.as_str())) == Ok(1);
+        all &= answered(copied(rt, one, "z")) == Err(LassoErrorKind::MemoryLimitReached);
+        all &= limit(rt, one) == bytes;
+    }
+    Ok(all)
+}
+
 #[test]
 fn no_comparison_takes_a_byte(rt: HostRuntime) -> Result<(), Fail> {
-    let shared: Shared = limited(rt.alloc(), 4, 4)?;
-    let other: Shared = limited(rt.alloc(), 4, 4)?;
-    assert!(rt; copied(&rt, &shared, "ab")? == 0);
-    assert!(rt; copied(&rt, &other, "ab")? == 0);
-    assert!(rt; is_equal(&rt, &shared, &other));
-    let single = single_of(rt.alloc(), ["ab", "ab", "ab"])?;
-    assert!(rt; is_equal_to_forms(&rt, &shared, &single)? == (true, true, true));
-    for one in [&shared, &other] {
-        assert!(rt; answered(copied(&rt, one, "cd")) == Ok(1));
-        assert!(rt; answered(copied(&rt, one, "e")) == Err(LassoErrorKind::MemoryLimitReached));
+    for length in LENGTHS {
+        assert!(rt; comparisons_leave_all(&rt, length)?, "{length}");
     }
     Ok(())
 }
@@ -141,5 +159,104 @@ fn an_interner_is_equal_to_itself_and_to_its_frozen_form(rt: HostRuntime) -> Res
     assert!(rt; !is_equal(&rt, &shared, &other));
     extend(&rt, &other, ["a", ""])?;
     assert!(rt; is_equal_to_frozen(&rt, &shared, other)? == (true, true));
+    Ok(())
+}
+
+// The texts with another one at this position: in the place of the one there, or appended where the position is past the end.
+fn with_one<'a>(
+    alloc: Global,
+    texts: &'a [String],
+    position: usize,
+    one: &'a str,
+) -> Result<Vec<&'a str>, AllocError> {
+    let mut items: Vec<&str> = Vec::new(alloc);
+    let mut at: usize = 0;
+    for text in texts.iter() {
+        items.push(if at == position { one } else { text.as_str() })?;
+        at = at.saturating_add(1);
+    }
+    if position >= at {
+        items.push(one)?;
+    }
+    Ok(items)
+}
+
+// An interner that threads share, of these texts.
+fn shared_of_all<R: Wait>(rt: &R, alloc: Global, texts: &[&str]) -> LassoResult<Shared> {
+    ThreadedRodeo::from_iter(alloc, rt, texts.iter().copied())
+}
+
+// An interner for one thread, of these texts.
+fn single_of_all(alloc: Global, texts: &[&str]) -> LassoResult<Single> {
+    Rodeo::from_iter(alloc, texts.iter().copied())
+}
+
+// How many of five comparisons say that the interner is equal to one of these texts: with each of the four forms, and of the other
+// interner with it.
+pub(super) fn equal_forms<R: Wait>(
+    rt: &R,
+    alloc: Global,
+    shared: &Shared,
+    texts: &[&str],
+) -> LassoResult<usize> {
+    let threaded = shared_of_all(rt, alloc, texts)?;
+    let single = single_of_all(alloc, texts)?;
+    let (rodeo, reader, resolver) = is_equal_to_forms(rt, shared, &single)?;
+    let here = is_equal(rt, shared, &threaded);
+    let there = is_equal(rt, &threaded, shared);
+    let mut count: usize = 0;
+    for same in [here, there, rodeo, reader, resolver] {
+        if same {
+            count = count.saturating_add(1);
+        }
+    }
+    Ok(count)
+}
+
+// Whether an interner of `count` texts is equal to each form of them, and to no form of a list with one other text: at the first
+// position, in the middle, at the last position, or appended.
+fn tells_one_apart<R: AllocGlobal + Wait>(rt: &R, count: usize) -> Result<bool, Fail> {
+    let alloc = rt.alloc();
+    let texts = numbered(alloc, count)?;
+    let mut items: Vec<&str> = Vec::new(alloc);
+    for text in texts.iter() {
+        items.push(text.as_str())?;
+    }
+    let shared = shared_of_all(rt, alloc, &items)?;
+    let mut all = equal_forms(rt, alloc, &shared, &items)? == 5;
+    for position in [0, count / 2, count.saturating_sub(1), count] {
+        for front in [".", "0000", "00000", ""] {
+            let one = format!(in alloc; "{front}.")?;
+            let other = with_one(alloc, &texts, position, one.as_str())?;
+            all &= equal_forms(rt, alloc, &shared, &other)? == 0;
+        }
+    }
+    Ok(all)
+}
+
+#[test]
+fn one_other_text_of_many_makes_a_list_unequal(rt: HostRuntime) -> Result<(), Fail> {
+    for count in [1, 2, 3, 4, 5, 10, 17, 40, 300, 3000] {
+        assert!(rt; tells_one_apart(&rt, count)?, "{count}");
+    }
+    Ok(())
+}
+
+// Whether an interner of one text of `length` bytes is equal to each form of it, and to no form of a text that differs in the last
+// byte.
+fn tells_last_bytes_apart<R: AllocGlobal + Wait>(rt: &R, length: usize) -> Result<bool, Fail> {
+    let alloc = rt.alloc();
+    let text = lettered(alloc, "a", length)?;
+    let other = ended(alloc, "a", length)?;
+    let shared = shared_of_all(rt, alloc, &[text.as_str()])?;
+    let same = equal_forms(rt, alloc, &shared, &[text.as_str()])?;
+    Ok(same == 5 && equal_forms(rt, alloc, &shared, &[other.as_str()])? == 0)
+}
+
+#[test]
+fn one_other_byte_makes_a_list_unequal(rt: HostRuntime) -> Result<(), Fail> {
+    for length in LENGTHS {
+        assert!(rt; tells_last_bytes_apart(&rt, length)?, "{length}");
+    }
     Ok(())
 }

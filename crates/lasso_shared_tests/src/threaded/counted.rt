@@ -1,9 +1,11 @@
 //! How many bytes an interner that threads share says it has of the allocator, text after text. It has the global allocator, which
 //! no test can put another one in place of; so what it should have is worked out by hand.
 use crate::calls::{allocated, copied, kept, roomless, text_at, usage};
-use crate::hashers::{FirstState, LowState, SameState};
+use crate::texts::numbered;
 use lasso_parts::keys::{Key, MicroSpur, Spur};
+use lasso_parts::util::Capacity;
 use lasso_shared::threaded::ThreadedRodeo;
+use lasso_testing::hashers::{FirstState, LowState, SameState};
 use std::hash::BuildHasher;
 use std::sync::Wait;
 use std::test::*;
@@ -114,5 +116,39 @@ fn bytes_of_buckets(rt: HostRuntime) -> Result<(), Fail> {
     assert!(rt; usage(&rt, &shared) == 30);
     assert!(rt; allocated(&rt, &shared) == 1094);
     assert!(rt; text_at(&shared, 1)? == Some("two"));
+    Ok(())
+}
+
+// How many texts, the cells that there are then, and the slots of the one index, by the same rule.
+const MORE_STATES: [(usize, usize, usize); 7] = [
+    (0, 0, 0),
+    (48, 64, 64),
+    (96, 128, 128),
+    (97, 128, 256),
+    (192, 256, 256),
+    (193, 256, 512),
+    (300, 512, 512),
+];
+
+// Copies of 300 texts of five bytes lie in the one bucket of 2000 bytes. A key has four bytes, and one more for its tag.
+#[test]
+fn bytes_of_more_texts(rt: HostRuntime) -> Result<(), Fail> {
+    let alloc = rt.alloc();
+    let capacity = Capacity::new(0, 2000);
+    let shared: ThreadedRodeo<Spur, SameState> = ThreadedRodeo::with_capacity_and_hasher(
+        alloc,
+        capacity,
+        SameState::new(),
+    )?;
+    let texts = numbered(alloc, 300)?;
+    for (count, cells, slots) in MORE_STATES {
+        for text in texts.iter().take(count) {
+            copied(&rt, &shared, text.as_str())?;
+        }
+        let list = CELL.saturating_mul(cells);
+        let index = slots.saturating_mul(5);
+        let wanted = list.saturating_add(index).saturating_add(2000);
+        assert!(rt; allocated(&rt, &shared) == wanted, "{count}");
+    }
     Ok(())
 }

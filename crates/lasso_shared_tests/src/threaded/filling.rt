@@ -1,9 +1,10 @@
 //! An interner that threads share, filled from items.
-use super::Two;
 use crate::calls::{Shared, answered, contains, found, len, limit, limited, made, resolved, usage};
+use crate::texts::numbered;
 use lasso_parts::util::{FixedState, LassoErrorKind, LassoResult};
 use lasso_shared::threaded::ThreadedRodeo;
-use std::alloc::{AllocError, Global};
+use lasso_testing::keys::BelowTwo;
+use std::alloc::Global;
 use std::sync::Wait;
 use std::test::*;
 use std::thread::join;
@@ -21,15 +22,6 @@ fn extend_by_three<R: Wait>(rt: &R, shared: &Shared, items: [&'static str; 3]) -
 // Interns four items.
 fn extend_by_four<R: Wait>(rt: &R, shared: &Shared, items: [&'static str; 4]) -> LassoResult<()> {
     shared.extend(rt, items)
-}
-
-// So many texts of five digits, in order.
-fn numbered(alloc: Global, count: u32) -> Result<Vec<String>, AllocError> {
-    let mut texts = Vec::new(alloc);
-    for number in 0..count {
-        texts.push(format!(in alloc; "{number:05}")?)?;
-    }
-    Ok(texts)
 }
 
 // Interns all of them.
@@ -103,7 +95,7 @@ fn a_refused_item_ends_the_filling(rt: HostRuntime) -> Result<(), Fail> {
     Ok(())
 }
 
-type TwoKeys = ThreadedRodeo<Two, FixedState>;
+type TwoKeys = ThreadedRodeo<BelowTwo, FixedState>;
 
 // An interner of keys 0 and 1 that is made of three items.
 fn of_three<R: Wait>(rt: &R, alloc: Global, items: [&'static str; 3]) -> LassoResult<TwoKeys> {
@@ -150,6 +142,48 @@ fn two_threads_fill_one_interner(rt: HostRuntime) -> Result<(), Fail> {
     assert!(rt; len(&shared) == 4);
     for text in ["x", "a", "b", "y"] {
         assert!(rt; contains(&rt, &shared, text));
+    }
+    Ok(())
+}
+
+// How many texts, and the bytes that each has. All of them together have the 4096 bytes of the first bucket.
+const FULL: [(usize, usize); 5] = [(512, 8), (64, 64), (16, 256), (2, 2048), (1, 4096)];
+
+// Makes an interner of all texts but the last. Returns whether it has the first bucket and no limit, and whether just the last text
+// then fits in that bucket, and one byte more takes a bucket of 8192 bytes.
+fn fill_the_first_bucket<R: AllocGlobal + Wait>(
+    rt: &R,
+    count: usize,
+    length: usize,
+) -> Result<bool, Fail> {
+    let alloc = rt.alloc();
+    let rest = "-".repeat(alloc, length.saturating_sub(5))?;
+    let rest = rest.as_str();
+    let mut texts: Vec<String> = Vec::new(alloc);
+    for number in 0..count {
+        texts.push(format!(in alloc; "{number:05}{rest}")?)?;
+    }
+    let mut items: Vec<&str> = Vec::new(alloc);
+    for text in texts.iter().take(count.saturating_sub(1)) {
+        items.push(text.as_str())?;
+    }
+    let shared = of_all(rt, alloc, &items)?;
+    let mut all = len(&shared) == items.len() && usage(rt, &shared) == 4096;
+    all &= limit(rt, &shared) == usize::MAX;
+    extend_by_all(rt, &shared, &items)?;
+    for text in texts.iter() {
+        extend_by_all(rt, &shared, &[text.as_str()])?;
+    }
+    all &= len(&shared) == count && usage(rt, &shared) == 4096;
+    all &= limit(rt, &shared) == usize::MAX;
+    extend_by_all(rt, &shared, &["z"])?;
+    Ok(all && usage(rt, &shared) == 12_288)
+}
+
+#[test]
+fn a_new_interner_takes_the_bytes_of_its_items_alone(rt: HostRuntime) -> Result<(), Fail> {
+    for (count, length) in FULL {
+        assert!(rt; fill_the_first_bucket(&rt, count, length)?, "{length}");
     }
     Ok(())
 }

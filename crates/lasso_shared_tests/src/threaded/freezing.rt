@@ -1,7 +1,6 @@
 //! Frozen forms of an interner that threads share.
 ghost use Rattle.std.specs.Prelude.{◌≡◌};
 
-use super::gaps::WithoutTwo;
 use crate::calls::{Reader, Shared, copied, kept_as, limited, made, number, pass_of, set_limit};
 use lasso_log::log::Pass;
 use lasso_parts::keys::{Key, Spur};
@@ -9,6 +8,7 @@ use lasso_parts::util::{FixedState, LassoErrorKind, LassoResult};
 use lasso_shared::threaded::ThreadedRodeo;
 use lasso_single::reader::RodeoReader;
 use lasso_single::resolver::RodeoResolver;
+use lasso_testing::keys::WithoutTwo;
 use std::alloc::Global;
 use std::sync::Wait;
 use std::test::*;

@@ -1,14 +1,14 @@
 //! Reading an interner that threads share from JSON, and what it is afterwards.
 mod kinds;
 
-use super::gaps::{WithoutTwo, WithoutZero};
 use crate::calls::{Shared, contains, copied, found, len, limit, usage};
-use crate::hashers::{FirstState, SameState};
 use lasso_parts::json::JsonError;
 use lasso_parts::keys::{Key, MicroSpur, Spur};
 use lasso_parts::util::{FixedState, LassoResult};
 use lasso_shared::threaded::ThreadedRodeo;
 use lasso_single::rodeo::Rodeo;
+use lasso_testing::hashers::{FirstState, SameState};
+use lasso_testing::keys::{WithoutTwo, WithoutZero};
 use serde_json::{Map, Number, Value};
 use std::alloc::Global;
 use std::hash::BuildHasher;

@@ -2,11 +2,11 @@
 ghost use Rattle.std.specs.Prelude.{◌≡◌};
 
 use crate::calls::{
-    Shared, contains, found, kept, kept_so, key, len, made, pass_of, resolved, seen_by, text_at,
-    text_seen_by,
+    Shared, contains, found, found_as, is_key, kept, kept_so, key, len, made, pass_of, resolved,
+    seen_by, text_at, text_seen_by,
 };
 use lasso_log::log::Pass;
-use lasso_parts::keys::{Key, Spur};
+use lasso_parts::keys::Spur;
 use std::process::Abort;
 use std::sync::Wait;
 use std::test::*;
@@ -15,11 +15,6 @@ use std::thread::{Threads, join};
 // Whether there is no text.
 fn is_empty(shared: &Shared) -> bool {
     shared.is_empty()
-}
-
-// Whether the key with this number stands for a text.
-fn is_key(shared: &Shared, number: usize) -> Result<bool, Fail> {
-    Ok(shared.contains_key(key(number)?))
 }
 
 #[test]
@@ -41,17 +36,6 @@ fn plain_readings_of_two_texts(rt: HostRuntime) -> Result<(), Fail> {
     assert!(rt; !is_key(&shared, 2)?);
     assert!(rt; text_at(&shared, 2)? == None);
     Ok(())
-}
-
-// The number of the text by the pass, if it is there.
-fn found_as<R: Wait>(rt: &R, shared: &Shared, pass: &mut Pass<Spur>, text: &str) -> Option<usize>
-    requires { pass.old.of ≡ shared.now }
-    ensures { pass.new.of ≡ pass.old.of }
-{
-    match shared.get_as(rt, pass, text) {
-        Some(key) => Some(key.into_usize()),
-        None => None,
-    }
 }
 
 // Whether the key with this number stands for a text by the pass.

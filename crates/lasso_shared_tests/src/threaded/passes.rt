@@ -71,7 +71,7 @@ fn both_lend(
     requires other { position < length (list_of other.now.of other.now.notes) }
     ensures same { result.0 ≡ result.1 }
 {
-    one.compare(other);
+    one.prove_comparable(other);
     let mine = shards.log.seen_texts(one);
     let theirs = shards.log.seen_texts(other);
     let here = mine.text_at(position);

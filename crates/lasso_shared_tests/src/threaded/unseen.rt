@@ -3,9 +3,10 @@
 ghost use Rattle.std.specs.Prelude.{◌≡◌};
 
 use crate::calls::{
-    Shared, allocated, answered, contains, copied, copied_as, copied_so, found, len, limit,
-    limited, number, pass_of, seen_by, set_limit, stands_for, text_at, text_seen_by, usage,
+    Shared, allocated, answered, contains, copied, copied_as, copied_so, found, found_as, len,
+    limit, limited, number, pass_of, seen_by, set_limit, stands_for, text_at, text_seen_by, usage,
 };
+use crate::texts::{LENGTHS, lettered};
 use lasso_log::log::Pass;
 use lasso_parts::keys::{Key, Spur};
 use lasso_parts::util::{LassoErrorKind, LassoResult, MemoryLimits};
@@ -33,17 +34,6 @@ fn reads_plainly<R: Wait>(rt: &R, shared: &Shared, count: usize) -> Result<bool,
     let last = TEXTS[count - 1];
     let present = contains(rt, shared, last) && found(rt, shared, last) == Some(count - 1);
     Ok(absent && sums && past && present && text_at(shared, count - 1)? == Some(last))
-}
-
-// The number of the text by the pass, if the text is present.
-fn found_as<R: Wait>(rt: &R, shared: &Shared, pass: &mut Pass<Spur>, text: &str) -> Option<usize>
-    requires { pass.old.of ≡ shared.now }
-    ensures { pass.new.of ≡ pass.old.of }
-{
-    match shared.get_as(rt, pass, text) {
-        Some(key) => Some(key.into_usize()),
-        None => None,
-    }
 }
 
 // The limit and the usage by the pass.
@@ -101,8 +91,13 @@ fn look_ups_take_no_byte(rt: HostRuntime) -> Result<(), Fail> {
     Ok(())
 }
 
-// Interns the text by each of three calls, and tells whether each gives this number.
-fn interns_thrice<R: Wait>(
+// Interns the text as the only item.
+fn extend_by_one<R: Wait>(rt: &R, shared: &Shared, text: &str) -> LassoResult<()> {
+    shared.extend(rt, [text])
+}
+
+// Interns the text by each of four calls. Returns whether each gives this number.
+fn interns_in_each_way<R: Wait>(
     rt: &R,
     shared: &Shared,
     pass: &mut Pass<Spur>,
@@ -114,25 +109,41 @@ fn interns_thrice<R: Wait>(
 {
     let by_pass = copied_as(rt, shared, pass, text)?.into_usize() == wanted;
     let plainly = copied(rt, shared, text)? == wanted;
+    extend_by_one(rt, shared, text)?;
     Ok(by_pass && plainly && copied_so(rt, shared, text)? == wanted)
 }
 
-// Eight bytes are for four texts of two, each of which is new to another call.
+// Interns four texts of `length` bytes, each first by another call; the only bucket has just their bytes. Returns whether all fit, and
+// no byte is left.
+fn take_their_bytes_alone<R: AllocGlobal + Wait>(rt: &R, length: usize) -> Result<bool, Fail> {
+    if length == 0 {
+        return Ok(false);
+    }
+    let alloc = rt.alloc();
+    let bytes = length.saturating_mul(4).max(length);
+    let shared: Shared = limited(alloc, bytes, bytes)?;
+    let mut pass = pass_of(&shared);
+    let (a, b) = (lettered(alloc, "a", length)?, lettered(alloc, "b", length)?);
+    let (c, d) = (lettered(alloc, "c", length)?, lettered(alloc, "d", length)?);
+    let mut all = copied(rt, &shared, a.as_str())? == 0;
+    all &= interns_in_each_way(rt, &shared, &mut pass, a.as_str(), 0)?;
+    all &= copied_so(rt, &shared, b.as_str())? == 1;
+    all &= interns_in_each_way(rt, &shared, &mut pass, b.as_str(), 1)?;
+    extend_by_one(rt, &shared, c.as_str())?;
+    all &= interns_in_each_way(rt, &shared, &mut pass, c.as_str(), 2)?;
+    set_limit(rt, &shared, bytes);
+    all &= allocated(rt, &shared) > bytes;
+    all &= copied_as(rt, &shared, &mut pass, d.as_str())?.into_usize() == 3;
+    all &= interns_in_each_way(rt, &shared, &mut pass, d.as_str(), 3)?;
+    let full = number(rt, &shared, "z") == Err(LassoErrorKind::MemoryLimitReached);
+    Ok(all && full && sums_as(rt, &shared, &mut pass) == (bytes, bytes))
+}
+
 #[test]
 fn an_intern_takes_the_bytes_of_its_text_alone(rt: HostRuntime) -> Result<(), Fail> {
-    let shared: Shared = limited(rt.alloc(), 8, 8)?;
-    let mut pass = pass_of(&shared);
-    assert!(rt; copied(&rt, &shared, "ab")? == 0);
-    assert!(rt; interns_thrice(&rt, &shared, &mut pass, "ab", 0)?);
-    assert!(rt; copied_so(&rt, &shared, "cd")? == 1);
-    assert!(rt; interns_thrice(&rt, &shared, &mut pass, "cd", 1)?);
-    copied_as(&rt, &shared, &mut pass, "ef")?;
-    assert!(rt; interns_thrice(&rt, &shared, &mut pass, "ef", 2)?);
-    set_limit(&rt, &shared, 8);
-    assert!(rt; allocated(&rt, &shared) > 8);
-    assert!(rt; answered(copied(&rt, &shared, "gh")) == Ok(3));
-    assert!(rt; number(&rt, &shared, "i") == Err(LassoErrorKind::MemoryLimitReached));
-    assert!(rt; usage(&rt, &shared) == 8);
+    for length in LENGTHS {
+        assert!(rt; take_their_bytes_alone(&rt, length)?, "{length}");
+    }
     Ok(())
 }
 

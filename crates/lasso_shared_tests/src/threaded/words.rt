@@ -1,9 +1,9 @@
 //! An interner that threads share and that opens with words.
-use super::Two;
 use crate::calls::{Shared, found, len, limit, resolved, usage};
 use lasso_parts::keys::Key;
 use lasso_parts::util::{FixedState, LassoErrorKind, LassoResult};
 use lasso_shared::threaded::ThreadedRodeo;
+use lasso_testing::keys::BelowTwo;
 use std::alloc::Global;
 use std::test::*;
 
@@ -30,7 +30,7 @@ fn words_have_the_lowest_keys(rt: HostRuntime) -> Result<(), Fail> {
 }
 
 // Two of the three words have keys.
-fn opened_with_two_keys(alloc: Global) -> LassoResult<ThreadedRodeo<Two, FixedState>> {
+fn opened_with_two_keys(alloc: Global) -> LassoResult<ThreadedRodeo<BelowTwo, FixedState>> {
     ThreadedRodeo::from_static(alloc, &KEYWORDS)
 }
 

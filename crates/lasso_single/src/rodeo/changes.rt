@@ -31,10 +31,10 @@ impl<K: Key, S: BuildHasher, A: Allocator> Rodeo<K, S, A> {
 
     /// Forgets every text. The first bucket and the doubled ones stay and are filled again, the first one
     /// first; those of exact size and those of what the limit left are given back. The limit and the size
-    /// that the next growth doubles stay. A key that was handed out before stands for no text, or for a new
-    /// one at its position. It takes no memory and can't fail. The buckets that stay take at most the first
-    /// bucket and eight times the most bytes that were copied in between two clears; at the first clear, at
-    /// most the first bucket and four times the bytes copied in before it.
+    /// that the next growth doubles stay. A key from before has no text then, or a new one at its position.
+    /// It takes no memory and can't fail. The buckets that stay take at most the first bucket and eight times
+    /// the most bytes that were copied in between two clears; at the first clear, at most the first bucket
+    /// and four times the bytes copied in before it.
     ///
     /// ```rust
     /// let mut rodeo: SpurRodeo = Rodeo::with_capacity(rt.alloc(), Capacity::for_bytes(10))?;

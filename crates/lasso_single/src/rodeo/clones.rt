@@ -16,8 +16,8 @@ use std::hash::BuildHasher;
 impl<K: Key, S: BuildHasher + Clone, A: Allocator + Clone> Rodeo<K, S, A> {
     /// An interner with the same texts under the same keys, all copied, static ones too, into one bucket of
     /// just their bytes (4096 where they have none). Its limit is this one's, or that size where it is
-    /// greater. Its index asks a clone of the hasher. No limit refuses it: it is refused for want of memory
-    /// alone, also where the texts have more bytes than a `usize` counts.
+    /// greater. Its index asks a clone of the hasher. No limit refuses it: the only error is
+    /// `FailedAllocation`, also when a `usize` can't count the texts' bytes.
     ///
     /// ```rust
     /// let mut rodeo = Rodeo::default(rt.alloc())?;
@@ -72,7 +72,7 @@ impl<K: Key, S: BuildHasher + Clone, A: Allocator + Clone> Rodeo<K, S, A> {
 
     /// Forgets every text, as `clear` does, and copies those of the source here under the same keys, static
     /// ones too, into this interner's own buckets and under its own limit. Its index then asks a clone of the
-    /// source's hasher. Where the limit has no room for a text, or memory is wanting, it stops there and
+    /// source's hasher. If the limit has no room for a text, or it runs out of memory, it stops there and
     /// clears again: there is no text then. The bytes copied count as after a clear.
     ///
     /// ```rust

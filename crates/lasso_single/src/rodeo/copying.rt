@@ -28,7 +28,7 @@ impl<K: Key, S: BuildHasher, A: Allocator + Clone> CopyTarget for Rodeo<K, S, A>
 
     ghost holds = { λ r. r };
 
-    // a text that is not there, at a position that has a key
+    // an absent text, at a position that has a key
     ghost takes = { λ texts text. (position_of texts text ≡ None) × IsSome (K.key_at (length texts)) };
 
     fn copy_text(&mut self, text: &str) -> LassoResult<()> {
@@ -41,8 +41,8 @@ impl<K: Key, S: BuildHasher, A: Allocator + Clone> CopyTarget for Rodeo<K, S, A>
 
 impl<K: Key, S: BuildHasher + Drop, A: Allocator + Clone> Rodeo<K, S, A> {
     /// An interner with the texts of a distinct list that fits the keys, in order, all copied into one bucket
-    /// of just their bytes (4096 where they have none), with no limit below the greatest number. It is
-    /// refused for want of memory alone, also where the texts have more bytes than a `usize` counts.
+    /// of just their bytes (4096 where they have none), with the limit `usize::MAX`. The only error is
+    /// `FailedAllocation`, also when a `usize` can't count the texts' bytes.
     pub(crate) fn of_texts(alloc: A, hasher: S, texts: &[&str]) -> LassoResult<Self>
         requires distinct { IsDistinct (map (λ t. t.now) texts.now) }
         requires fits { Fits K.key_at (length (map (λ t. t.now) texts.now)) }

@@ -1,9 +1,11 @@
-//! Filling a `Rodeo` from the items of an iterator.
-ghost use Rattle.std.specs.Prelude.{◌≡◌, ◌-◌, ◌^◌, ◌⊎◌, ℕ, List, map, MatchResult, IfOk, IfErr};
+//! Filling a `Rodeo`: from the items of an iterator, and from a list of texts, with their keys.
+ghost use Rattle.std.specs.Prelude.{◌≡◌, ◌+◌, ◌-◌, ◌^◌, ◌<◌, ◌⊎◌, ℕ, List, Ok, map, MatchResult, IfOk, IfErr, OnOk, length, vec_len};
 ghost use Rattle.std.specs.Iterator.{IsFinite, Drains, Yields};
+ghost use Rattle.std.specs.Vec.{vec_capacity};
 ghost use Rattle.lasso_parts.specs.declared.util.LassoErrorKind.TheVariants.{FailedAllocation};
-ghost use Rattle.lasso_single.specs.Filling.{extend, EndsRefused};
+ghost use Rattle.lasso_single.specs.Filling.{extend, StopsAtRefusal};
 ghost use Rattle.lasso_single.specs.Interner.{InternerView, made_with};
+ghost use Rattle.lasso_single.specs.KeyLists.{AddsKeys, IsNextRefused, keyed_texts};
 
 use super::Rodeo;
 use lasso_parts::keys::Key;
@@ -13,9 +15,9 @@ use std::convert::AsStr;
 use std::hash::BuildHasher;
 
 impl<K: Key, S: BuildHasher, A: Allocator + Clone> Rodeo<K, S, A> {
-    /// Interns item after item, each of them a `&str` or another that lends a text. A refusal ends it and is
-    /// the answer: the items before the refused one stay, that one changes nothing, and no item after it is
-    /// taken. It returns if the items end.
+    /// Interns the items in order, each of them a `&str` or another that lends a text. Stops at the first
+    /// error and returns it: the items before the refused one stay, that one changes nothing, and no item
+    /// after it is taken. It returns if the items end.
     ///
     /// ```rust
     /// let mut rodeo = Rodeo::default(rt.alloc())?;
@@ -31,7 +33,7 @@ impl<K: Key, S: BuildHasher, A: Allocator + Clone> Rodeo<K, S, A> {
         requires { (it : I.IntoIter) → I.into_iter_gives items it → I.IntoIter.can_next it × IsFinite (I.IntoIter.remaining it) }
         ensures { (it : I.IntoIter) × (xs : List T) × I.into_iter_gives items it
             × MatchResult result (λ _. Drains I.IntoIter.next_gives it xs × extend K.key_at self.old (map T.text xs) (Ok tt) self.new)
-            (λ error. ((rest : I.IntoIter) × Yields I.IntoIter.next_gives it xs rest) × EndsRefused K.key_at self.old (map T.text xs) error self.new) }
+            (λ error. ((rest : I.IntoIter) × Yields I.IntoIter.next_gives it xs rest) × StopsAtRefusal K.key_at self.old (map T.text xs) error self.new) }
     {
         let items = items.into_iter();
         // Where there is no memory for the items that the hint tells of, each asks for its own.
@@ -41,11 +43,45 @@ impl<K: Key, S: BuildHasher, A: Allocator + Clone> Rodeo<K, S, A> {
         }
         Ok(())
     }
+
+    /// Interns the texts in order, and appends the key of each to `keys`.
+    ///
+    /// Room for all keys is reserved first; if that fails, nothing changes. Then it stops at the first text that
+    /// `try_get_or_intern` refuses, and returns that error. The texts before it are interned, and their keys are
+    /// appended: the number of new keys is the refused text's position.
+    ///
+    /// ```rust
+    /// let mut rodeo = Rodeo::default(rt.alloc())?;
+    /// let mut keys = Vec::new(rt.alloc());
+    /// rodeo.try_get_or_intern_all(&["red", "green", "red"], &mut keys)?;
+    /// assert!(rt; keys.len() == 3);
+    /// assert!(rt; keys[0] == keys[2]);
+    /// assert!(rt; rodeo.try_resolve(keys[1]) == Some("green"));
+    /// ```
+    pub fn try_get_or_intern_all<B: Allocator>(
+        &mut self,
+        texts: &[&str],
+        keys: &mut Vec<K, B>,
+    ) -> LassoResult<()>
+        ensures list { extend K.key_at self.old (keyed_texts keys.old.items keys.new.items (map (λ t. t.now) texts.now)) (Ok tt) self.new }
+        ensures keys { AddsKeys K.key_at self.new.texts (keyed_texts keys.old.items keys.new.items (map (λ t. t.now) texts.now)) keys.old.items keys.new.items }
+        ensures whole { OnOk result (vec_len keys.new ≡ vec_len keys.old + length texts.now) }
+        ensures refused { IfErr result (λ error.
+            ((error ≡ FailedAllocation) × (self.new ≡ self.old) × (keys.new.items ≡ keys.old.items) × (vec_capacity keys.old < vec_len keys.old + length texts.now))
+            ⊎ IsNextRefused K.key_at self.new keys.old.items keys.new.items (map (λ t. t.now) texts.now) error) }
+    {
+        keys.reserve(texts.len())?;
+        for text in texts {
+            let key = self.try_get_or_intern(text)?;
+            keys.push_reserved(key);
+        }
+        Ok(())
+    }
 }
 
 impl<K: Key, S: BuildHasher + Default + Drop, A: Allocator + Clone> Rodeo<K, S, A> {
-    /// An interner of default capacity and limit (50 texts, 4096 bytes), with item after item interned.
-    /// A refusal ends it, and is the answer in place of the interner. It returns if the items end.
+    /// An interner of default capacity and limit (50 texts, 4096 bytes), with the items interned in order.
+    /// Stops at the first error and returns it in place of the interner. It returns if the items end.
     ///
     /// ```rust
     /// let colours = ["red", "green", "red", "blue"];
@@ -64,7 +100,7 @@ impl<K: Key, S: BuildHasher + Default + Drop, A: Allocator + Clone> Rodeo<K, S, 
         ensures refused { IfErr result (λ error. (error ≡ FailedAllocation)
             ⊎ ((it : I.IntoIter) × (xs : List T) × I.into_iter_gives items it
             × ((rest : I.IntoIter) × Yields I.IntoIter.next_gives it xs rest)
-            × ((left : InternerView) × EndsRefused K.key_at (made_with 4096 (2 ^ 64 - 1)) (map T.text xs) error left))) }
+            × ((left : InternerView) × StopsAtRefusal K.key_at (made_with 4096 (2 ^ 64 - 1)) (map T.text xs) error left))) }
     {
         let mut rodeo = Rodeo::with_hasher(alloc, S::default())?;
         rodeo.extend(items)?;

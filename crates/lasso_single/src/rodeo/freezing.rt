@@ -26,7 +26,7 @@ impl<K: Key, S: BuildHasher, A: Allocator> Rodeo<K, S, A> {
     }
 
     /// The same texts under the same keys, frozen, without the index. It takes no memory, copies nothing and
-    /// can't fail; the index and the hasher are let go.
+    /// can't fail; the index and the hasher are dropped.
     ///
     /// ```rust
     /// let mut rodeo = Rodeo::default(rt.alloc())?;

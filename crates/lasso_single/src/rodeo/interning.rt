@@ -14,9 +14,10 @@ use std::alloc::Allocator;
 use std::hash::BuildHasher;
 
 impl<K: Key, S: BuildHasher, A: Allocator + Clone> Rodeo<K, S, A> {
-    /// The key of the text, which goes last in the list if it is not there. A text that is there is
-    /// never refused. A new one is refused where the key type has no key for its position, else where
-    /// the memory limit leaves no room for its bytes, else for want of memory; nothing changes then.
+    /// Returns the text's key, and appends the text first if it is new. Interning a present text never fails.
+    /// A new text fails when the key type has no key for its position (`KeySpaceExhaustion`), else when it
+    /// would pass the memory limit (`MemoryLimitReached`), else when out of memory (`FailedAllocation`).
+    /// Nothing changes then.
     ///
     /// ```rust
     /// let mut rodeo = Rodeo::default(rt.alloc())?;
@@ -51,8 +52,8 @@ impl<K: Key, S: BuildHasher, A: Allocator + Clone> Rodeo<K, S, A> {
         Ok(key)
     }
 
-    /// The key of the text, which goes last in the list if it is not there: the same call as
-    /// `try_get_or_intern`, with the same refusals.
+    /// Returns the text's key, and appends the text first if it is new: the same call as `try_get_or_intern`,
+    /// with the same refusals.
     ///
     /// ```rust
     /// let mut rodeo = Rodeo::default(rt.alloc())?;
@@ -68,9 +69,10 @@ impl<K: Key, S: BuildHasher, A: Allocator + Clone> Rodeo<K, S, A> {
         self.try_get_or_intern(text)
     }
 
-    /// The key of the text, which goes last in the list if it is not there. The text is kept as it is, with
-    /// no copy, so the memory limit never refuses it. A text that is there is never refused. A new one is
-    /// refused where the key type has no key for its position, else for want of memory; nothing changes then.
+    /// Returns the text's key, and appends the text first if it is new. The text is kept as it is, with no
+    /// copy, so the memory limit never refuses it. Interning a present text never fails. A new text fails
+    /// when the key type has no key for its position (`KeySpaceExhaustion`), else when out of memory
+    /// (`FailedAllocation`). Nothing changes then.
     ///
     /// ```rust
     /// let mut rodeo: SpurRodeo = Rodeo::with_capacity(rt.alloc(), Capacity::for_bytes(4))?;
@@ -98,7 +100,7 @@ impl<K: Key, S: BuildHasher, A: Allocator + Clone> Rodeo<K, S, A> {
         Ok(key)
     }
 
-    /// The key of the text, which goes last in the list if it is not there: the same call as
+    /// Returns the text's key, and appends the text first if it is new: the same call as
     /// `try_get_or_intern_static`, with the same refusals.
     ///
     /// ```rust

@@ -16,8 +16,8 @@ use std::alloc::{Allocator, Global};
 use std::hash::BuildHasher;
 
 impl<K: Key, S: BuildHasher, A: Allocator> Rodeo<K, S, A> {
-    /// The array of the texts, in the order of their keys. It is refused for want of memory alone, and
-    /// never where there is no text.
+    /// The array of the texts, in the order of their keys. The only error is out of memory (`Lasso`), and an
+    /// empty list never has it.
     ///
     /// ```rust
     /// let rodeo = SpurRodeo::from_iter(rt.alloc(), ["b", "a"])?;
@@ -33,12 +33,12 @@ impl<K: Key, S: BuildHasher, A: Allocator> Rodeo<K, S, A> {
 }
 
 impl<K: Key, S: BuildHasher + Default + Drop, A: Allocator + Clone> Rodeo<K, S, A> {
-    /// An interner with the texts of an array, in order, all copied into one bucket of just their bytes
-    /// (4096 where they have none), and with no limit below the greatest number. The first faulty item
-    /// decides: it is no text (`NotText`), or an earlier item has its text (`Doubled`), or the key type has
-    /// no key for its position (`TooMany`). A value that is no array is `NotAnArray`. It may be refused for
-    /// want of memory (`Lasso`) unless the value is no array or its first item is faulty; so it is where
-    /// the texts have more bytes than a `usize` counts.
+    /// An interner with the texts of an array, in order, all copied into one bucket of just their bytes (4096
+    /// where they have none), and the limit `usize::MAX`. The first faulty item decides: it is no text
+    /// (`NotText`), or an earlier item has its text (`Doubled`), or the key type has no key for its position
+    /// (`TooMany`). A value that is no array is `NotAnArray`. It may run out of memory (`Lasso`) unless the
+    /// value is no array or its first item is faulty, and it does when a `usize` can't count the texts'
+    /// bytes.
     ///
     /// ```rust
     /// let value = Value::from_str(rt.alloc(), r#"["b", "a"]"#)?;

@@ -13,8 +13,8 @@ use std::alloc::Allocator;
 use std::hash::BuildHasher;
 
 impl<A: Allocator + Clone> Rodeo<Spur, FixedState, A> {
-    /// An interner with `Spur` keys, of default capacity (50 texts, 4096 bytes) and with no limit below
-    /// the greatest number. It is refused for want of memory alone.
+    /// An interner with `Spur` keys, of default capacity (50 texts, 4096 bytes) and the limit `usize::MAX`.
+    /// The only error is `FailedAllocation`.
     ///
     /// ```rust
     /// let rodeo = Rodeo::default(rt.alloc())?;
@@ -32,7 +32,7 @@ impl<A: Allocator + Clone> Rodeo<Spur, FixedState, A> {
 }
 
 impl<K: Key, A: Allocator + Clone> Rodeo<K, FixedState, A> {
-    /// An interner of default capacity and limit. It is refused for want of memory alone.
+    /// An interner of default capacity and limit. The only error is `FailedAllocation`.
     ///
     /// ```rust
     /// let mut rodeo: Rodeo<MicroSpur, _, _> = Rodeo::new(rt.alloc())?;
@@ -48,7 +48,7 @@ impl<K: Key, A: Allocator + Clone> Rodeo<K, FixedState, A> {
         Rodeo::with_hasher(alloc, FixedState::new())
     }
 
-    /// An interner with room for `capacity`, of default limit. It is refused for want of memory alone.
+    /// An interner with room for `capacity`, of default limit. The only error is `FailedAllocation`.
     ///
     /// ```rust
     /// let capacity = Capacity::new(1000, 65536);
@@ -64,8 +64,8 @@ impl<K: Key, A: Allocator + Clone> Rodeo<K, FixedState, A> {
         Rodeo::with_capacity_and_hasher(alloc, capacity, FixedState::new())
     }
 
-    /// An interner of default capacity, whose buckets take at most `limits`. The limit may lie below the
-    /// 4096 bytes of the first bucket. It is refused for want of memory alone.
+    /// An interner of default capacity, whose buckets take at most `limits`. The limit may be less than the
+    /// 4096 bytes of the first bucket. The only error is `FailedAllocation`.
     ///
     /// ```rust
     /// let limits = MemoryLimits::new(10000);
@@ -82,8 +82,8 @@ impl<K: Key, A: Allocator + Clone> Rodeo<K, FixedState, A> {
         Rodeo::with_capacity_and_memory_limits(alloc, Capacity::default(), limits)
     }
 
-    /// An interner with room for `capacity`, whose buckets take at most `limits`. The limit may lie
-    /// below the first bucket's bytes. It is refused for want of memory alone.
+    /// An interner with room for `capacity`, whose buckets take at most `limits`. The limit may be less than
+    /// the first bucket's bytes. The only error is `FailedAllocation`.
     ///
     /// ```rust
     /// let capacity = Capacity::for_bytes(4);
@@ -109,8 +109,8 @@ impl<K: Key, A: Allocator + Clone> Rodeo<K, FixedState, A> {
 }
 
 impl<K: Key, S: BuildHasher + Drop, A: Allocator + Clone> Rodeo<K, S, A> {
-    /// An interner of default capacity and limit, whose index asks the hasher. It is refused for want of
-    /// memory alone.
+    /// An interner of default capacity and limit, whose index asks the hasher. The only error is
+    /// `FailedAllocation`.
     ///
     /// ```rust
     /// let rodeo: SpurRodeo = Rodeo::with_hasher(rt.alloc(), FixedState::new())?;
@@ -126,8 +126,8 @@ impl<K: Key, S: BuildHasher + Drop, A: Allocator + Clone> Rodeo<K, S, A> {
         Rodeo::with_capacity_and_hasher(alloc, Capacity::default(), hasher)
     }
 
-    /// An interner with room for `capacity`, of default limit, whose index asks the hasher. It is refused
-    /// for want of memory alone.
+    /// An interner with room for `capacity`, of default limit, whose index asks the hasher. The only error is
+    /// `FailedAllocation`.
     ///
     /// ```rust
     /// let capacity = Capacity::for_bytes(7);
@@ -145,9 +145,8 @@ impl<K: Key, S: BuildHasher + Drop, A: Allocator + Clone> Rodeo<K, S, A> {
         Rodeo::with_capacity_memory_limits_and_hasher(alloc, capacity, limits, hasher)
     }
 
-    /// An interner with room for `capacity`, whose buckets take at most `limits`, and whose index asks
-    /// the hasher. The limit may lie below the first bucket's bytes. It is refused for want of memory
-    /// alone.
+    /// An interner with room for `capacity`, whose buckets take at most `limits`, and whose index asks the
+    /// hasher. The limit may be less than the first bucket's bytes. The only error is `FailedAllocation`.
     ///
     /// ```rust
     /// let alloc = rt.alloc();

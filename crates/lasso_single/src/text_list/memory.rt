@@ -10,7 +10,7 @@ use std::alloc::Allocator;
 use std::mem::size_of;
 
 impl<A: Allocator> TextList<A> {
-    /// How many bytes the allocator gave for the entries, the long texts beside them and the buckets.
+    /// How many bytes the allocator gave for the entries, the list of long texts and the buckets.
     pub(crate) fn allocated_bytes(&self) -> usize
         ensures { self.now.account.usage ≤ result }
     {

@@ -1,5 +1,6 @@
 //! What an interner and its frozen forms say they have of their allocator is what it gave.
 use super::*;
+use lasso_parts::keys::{LargeSpur, MicroSpur, MiniSpur};
 
 const TEXTS: [&str; 10] = [
     "a",
@@ -40,5 +41,82 @@ fn allocated_bytes_are_those_given(rt: HostRuntime) -> Result<(), Fail> {
     let memory = Refusing::new(rt.alloc(), 0);
     counted(&rt, &memory)?;
     assert!(rt; memory.bytes_out() == 0);
+    Ok(())
+}
+
+// Interns `count` texts, each `step` bytes longer than the one before it. Returns whether the interner says each time that it has what the
+// allocator gave.
+fn fills_counted<K: Key, R: AllocGlobal>(
+    rt: &R,
+    memory: &Memory,
+    rodeo: &mut Metered<'_, K>,
+    count: usize,
+    step: usize,
+) -> Result<bool, Fail> {
+    let mut all = rodeo.allocated_bytes() == memory.bytes_out();
+    for number in 0..count {
+        let rest = "-".repeat(rt.alloc(), number.saturating_mul(step))?;
+        let rest = rest.as_str();
+        let text = format!(in rt.alloc(); "{number}{rest}")?;
+        rodeo.try_get_or_intern(text.as_str())?;
+        all &= rodeo.allocated_bytes() == memory.bytes_out();
+    }
+    Ok(all)
+}
+
+// Whether an interner of this key type, its clone and its frozen forms say so, with `count` texts, and after a clear with `count` again.
+fn is_counted<K: Key, R: AllocGlobal>(rt: &R, count: usize, step: usize) -> Result<bool, Fail> {
+    let memory = Refusing::new(rt.alloc(), 0);
+    let mut rodeo: Metered<'_, K> = Rodeo::new(&memory)?;
+    let mut all = fills_counted(rt, &memory, &mut rodeo, count, step)?;
+    let before = memory.bytes_out();
+    let copy = rodeo.try_clone()?;
+    all &= copy.allocated_bytes() == memory.bytes_out().saturating_sub(before);
+    let resolver = copy.into_resolver();
+    all &= resolver.allocated_bytes() == memory.bytes_out().saturating_sub(before);
+    drop(resolver);
+    rodeo.clear();
+    all &= fills_counted(rt, &memory, &mut rodeo, count, step)?;
+    let reader = rodeo.into_reader();
+    Ok(all && reader.allocated_bytes() == memory.bytes_out())
+}
+
+#[test]
+fn allocated_bytes_of_many_texts_are_those_given(rt: HostRuntime) -> Result<(), Fail> {
+    for (count, step) in [(0, 0), (1, 5000), (51, 0), (60, 20), (255, 1)] {
+        assert!(rt; is_counted::<MicroSpur, _>(&rt, count, step)?, "{count}");
+        assert!(rt; is_counted::<MiniSpur, _>(&rt, count, step)?, "{count}");
+        assert!(rt; is_counted::<Spur, _>(&rt, count, step)?, "{count}");
+        assert!(rt; is_counted::<LargeSpur, _>(&rt, count, step)?, "{count}");
+    }
+    assert!(rt; is_counted::<Spur, _>(&rt, 1000, 0)?);
+    Ok(())
+}
+
+// Interns twice as many texts as the list has room for by its maker, and more. Tells whether each text past the room that is said takes
+// memory, and no other changes the room; and whether there is a byte at least for each text that there is room for.
+fn has_the_room_it_says<R: AllocGlobal>(rt: &R, strings: usize) -> Result<bool, Fail> {
+    let memory = Refusing::new(rt.alloc(), 0);
+    let room = Capacity::new(strings, 20_000);
+    let mut rodeo: Metered<'_, Spur> = Rodeo::with_capacity(&memory, room)?;
+    let mut all = rodeo.capacity() >= strings;
+    let bytes_beside_the_list: usize = 20_000;
+    for number in 0..strings.saturating_mul(2).saturating_add(10) {
+        let (said, had) = (rodeo.capacity(), memory.bytes_out());
+        let text = format!(in rt.alloc(); "{number}")?;
+        rodeo.try_get_or_intern(text.as_str())?;
+        let is_past = rodeo.len() > said;
+        all &= (rodeo.capacity() != said) == is_past;
+        all &= !is_past || memory.bytes_out() != had;
+        all &= said <= had.saturating_sub(bytes_beside_the_list);
+    }
+    Ok(all)
+}
+
+#[test]
+fn capacity_is_the_room_that_there_is(rt: HostRuntime) -> Result<(), Fail> {
+    for strings in [0, 1, 2, 3, 7, 8, 49, 50, 51, 100, 128, 1000] {
+        assert!(rt; has_the_room_it_says(&rt, strings)?, "{strings}");
+    }
     Ok(())
 }

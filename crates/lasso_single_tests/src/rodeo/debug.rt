@@ -46,3 +46,38 @@ fn debug_text_of_walks(rt: HostRuntime) -> Result<(), Fail> {
     assert!(rt; printed.as_str() == "[] {}");
     Ok(())
 }
+
+// So many texts of three digits as debug text, with commas between them.
+fn digits_printed(alloc: Global, count: u32) -> Result<String, Fail> {
+    let mut printed = String::new(alloc);
+    for number in 0..count {
+        let comma = if number == 0 { "" } else { ", " };
+        printed.push_str(format!(in alloc; "{comma}\"{number:03}\"")?.as_str())?;
+    }
+    Ok(printed)
+}
+
+// The texts of three digits, 900 bytes, lie in the one bucket of 2000 bytes.
+#[test]
+fn debug_text_of_many_texts(rt: HostRuntime) -> Result<(), Fail> {
+    let alloc = rt.alloc();
+    let mut rodeo = interner::<Spur>(alloc, 2000, 5000)?;
+    for number in 0..300u32 {
+        rodeo.try_get_or_intern(format!(in alloc; "{number:03}")?.as_str())?;
+    }
+    let strings = digits_printed(alloc, 300)?;
+    let arena =
+        "arena: Arena { buckets: ... 1 bucket, bucket_capacity: 2000, memory_usage: 2000, max_memory_usage: 5000 }";
+    let printed = format!(in alloc; "{rodeo:?}")?;
+    let wanted = format!(in alloc; "Rodeo {{ strings: [{strings}], {arena}, .. }}")?;
+    assert!(rt; printed == wanted);
+    let reader = rodeo.into_reader();
+    let printed = format!(in alloc; "{reader:?}")?;
+    let wanted = format!(in alloc; "RodeoReader {{ strings: [{strings}], {arena}, .. }}")?;
+    assert!(rt; printed == wanted);
+    let resolver = reader.into_resolver();
+    let printed = format!(in alloc; "{resolver:?}")?;
+    let wanted = format!(in alloc; "RodeoResolver {{ strings: [{strings}], {arena} }}")?;
+    assert!(rt; printed == wanted);
+    Ok(())
+}

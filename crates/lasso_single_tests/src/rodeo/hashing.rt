@@ -1,8 +1,8 @@
 //! How often an interner hashes a text.
-use crate::fixtures::CountingState;
 use lasso_parts::keys::Spur;
 use lasso_parts::util::Capacity;
 use lasso_single::rodeo::Rodeo;
+use lasso_testing::hashers::CountingState;
 use std::alloc::Global;
 use std::cell::Cell;
 use std::process::Abort;

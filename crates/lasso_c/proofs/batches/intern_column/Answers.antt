@@ -5,14 +5,14 @@ use Rattle.lasso_c.specs.Bitmap.{bits_fit}
 use Rattle.lasso_c.specs.Layout.{column_rows, over}
 use Rattle.lasso_c.specs.Encoding.{row_codes}
 use Rattle.lasso_c.specs.Interning.{batch_start_fault}
-use Rattle.lasso_c.specs.declared.refusal.Refusal.{Refusal}
+use Rattle.lasso_c.specs.declared.error.CallError.{CallError}
 use Rattle.lasso_c.proofs.Layouts.{length-layout_texts}
 use Rattle.lasso_c.proofs.BatchSteps.{next_done, none_done}
 use Rattle.lasso_c.proofs.LayoutSteps.{Begun, next_unchanged, none_begun_at, not_begun_at, next_begun, next_ends, all_done, roomed}
 use Rattle.lasso_c.proofs.batches.intern_column.Goals as goal
 
 -- why the batch is not begun, by its offsets
-fault_is : (greatest : ℕ) (bits bytes offsets : List ℕ) (first count room : ℕ) (fault : Option Refusal) → first ≡ get_or offsets 0 0 → count ≡ length offsets → fault ≡ batch_start_fault greatest bits bytes first (count - 1) room
+fault_is : (greatest : ℕ) (bits bytes offsets : List ℕ) (first count room : ℕ) (fault : Option CallError) → first ≡ get_or offsets 0 0 → count ≡ length offsets → fault ≡ batch_start_fault greatest bits bytes first (count - 1) room
     → batch_start_fault greatest bits bytes (get_or offsets 0 0) (length offsets - 1) room ≡ fault
 fault_is greatest bits bytes offsets first count room fault is all known =
     ap (λ n. batch_start_fault greatest bits bytes n (length offsets - 1) room) (sym is) ∙ ap (λ n. batch_start_fault greatest bits bytes first (n - 1) room) (sym all) ∙ sym known

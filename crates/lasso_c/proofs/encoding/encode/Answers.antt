@@ -2,7 +2,7 @@ use Rattle.std.proofs.Common.{◌≡◌, ◌⊎◌, List, length, is_ok, if◌th
 use Rattle.std.specs.List.{concat}
 use Rattle.lasso_parts.specs.Texts.{Text}
 use Rattle.lasso_c.specs.Layout.{offsets_from, over}
-use Rattle.lasso_c.specs.declared.refusal.Refusal.TheVariants.{NoMemory}
+use Rattle.lasso_c.specs.declared.error.CallError.TheVariants.{NoMemory}
 use Rattle.lasso_c.proofs.Rows.{plain_outcome, plain_dictionary, plain_encoded}
 use Rattle.lasso_c.proofs.encoding.encode.Goals as goal
 

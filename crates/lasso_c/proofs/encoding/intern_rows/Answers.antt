@@ -3,7 +3,7 @@ use Rattle.std.proofs.lemmas.List.{take_at}
 use Rattle.lasso_c.specs.Encoding.{column_refusal}
 use Rattle.lasso_c.specs.Layout.{greatest_offset, layout_texts}
 use Rattle.lasso_c.specs.Interning.{InternsPart}
-use Rattle.lasso_c.specs.declared.refusal.Refusal.TheVariants.{NoMemory}
+use Rattle.lasso_c.specs.declared.error.CallError.TheVariants.{NoMemory}
 use Rattle.lasso_c.proofs.Columns.{ColumnDone, column_done, part_err}
 use Rattle.lasso_c.proofs.Layouts.{length-layout_texts}
 use Rattle.lasso_c.proofs.encoding.intern_rows.Goals as goal

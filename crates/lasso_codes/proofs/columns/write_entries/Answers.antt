@@ -1,19 +1,46 @@
-use Rattle.std.proofs.Common.{ℕ, ◌≡◌, List, Err, take}
+use Rattle.std.proofs.Common.{ℕ, ◌≡◌, ◌++◌, List, Err, take, get_or, ap, ◌∙◌, arith}
 use Rattle.std.specs.Prelude.{flat_map}
-use Rattle.std.proofs.lemmas.List.{take_more}
+use Rattle.std.proofs.lemmas.List.{take_all, take_more}
 use Rattle.std.proofs.lemmas.Result.{err_from_is_err_and}
 use Rattle.lasso_codes.specs.Columns.{entry_at, entry_bytes}
 use Rattle.lasso_codes.specs.Streams.{WritesAll}
-use Rattle.lasso_codes.proofs.Flat.{flat_fails}
+use Rattle.lasso_codes.proofs.Blocks.{block_then, block_fails, block_ends}
 use Rattle.lasso_codes.proofs.Written.{writes_then}
 use Rattle.lasso_codes.proofs.columns.write_entries.Goals as goal
 
-pub returns-in_err-write_entry : goal.returns-in_err-write_entry
-returns-in_err-write_entry g c =
+pub returns-in_err-filled : goal.returns-in_err-filled
+returns-in_err-filled g c =
     let p = err_from_is_err_and c.from_residual.result c.from_residual.ensures.1 in
+    let at = c.loop-number in
     let numbers = c.args.numbers.now in
-    let i = c.loop-number.number-index in
-    let fault = c.in_err-write_entry.field-0.0 in
+    let held = take at.filled at.block in
+    let fault = c.in_err-filled.field-0.0 in
     let bytes : ℕ → List ℕ = λ n. entry_bytes c.args.binary (entry_at n) in
-    rw (p.1, p.2) (writes_then _ _ _ (λ part. part ≡ flat_map bytes (take i numbers)) _ (WritesAll (flat_map bytes numbers) (Err fault)) c.loop-number.invariant c.in_err-write_entry.ensures (λ part more is w.
-    flat_fails bytes numbers i _ (take_more numbers i 0 c.loop-number-test.true) part more fault is w))
+    rw (p.1, p.2) (writes_then _ _ _ (λ part. part ++ held ≡ flat_map bytes (take at.number-index numbers)) (WritesAll held (Err fault)) (WritesAll (flat_map bytes numbers) (Err fault)) at.invariant.written c.in_err-filled.ensures.written (λ part more so_far written.
+    block_fails bytes numbers at.number-index part held so_far more fault written))
+
+pub loop-number-preserved : goal.loop-number-preserved
+loop-number-preserved g c =
+    let at = c.loop-number in
+    let numbers = c.args.numbers.now in
+    let i = at.number-index in
+    let held = take at.filled at.block in
+    let kept = take c.in_ok-filled.filled at.block in
+    let put = c.put_entry-filled in
+    let bytes : ℕ → List ℕ = λ n. entry_bytes c.args.binary (entry_at n) in
+    record {
+      fits = omega (arith, put.ensures.within, c.in_ok-filled.ensures.room);
+      long = put.ensures.len ∙ at.invariant.long;
+      written = writes_then _ _ _ (λ part. part ++ held ≡ flat_map bytes (take i numbers)) (λ part. part ++ kept ≡ held) _ at.invariant.written c.in_ok-filled.ensures.written (λ part more so_far moved.
+          block_then bytes numbers i part held so_far (get_or numbers i 0) (take_more numbers i 0 c.loop-number-test.true) more kept (take put.result put.new.block) moved put.ensures.put);
+    }
+
+pub returns : goal.returns
+returns g c =
+    let at = c.loop-number in
+    let numbers = c.args.numbers.now in
+    let held = take at.filled at.block in
+    let result = c.write_bytes.result in
+    let bytes : ℕ → List ℕ = λ n. entry_bytes c.args.binary (entry_at n) in
+    writes_then _ _ _ (λ part. part ++ held ≡ flat_map bytes (take at.number-index numbers)) (WritesAll held result) (WritesAll (flat_map bytes numbers) result) at.invariant.written c.write_bytes.ensures (λ part more so_far written.
+    block_ends part held (flat_map bytes numbers) more result (so_far ∙ ap (λ ns. flat_map bytes ns) (take_all at.number-index numbers c.loop-number-test.false)) written)

@@ -1,76 +1,138 @@
-use Rattle.std.proofs.Common.{ℕ, ◌≡◌, ◌+◌, ◌-◌, Err}
+use Rattle.std.proofs.Common.{◌≡◌, ◌+◌, ◌-◌, ◌<◌, ◌++◌, Ok, Err, drop, refl, subst, arith}
 use Rattle.std.specs.Io.Buffered.{reader_remaining}
 use Rattle.std.proofs.lemmas.Result.{err_from_is_err_and}
 use Rattle.lasso_codes.specs.Arguments.{word_of}
-use Rattle.lasso_codes.specs.Decode.{line_at, WritesLines, LinesFault}
-use Rattle.lasso_codes.specs.Distinct.{with_feed}
+use Rattle.lasso_codes.specs.Decode.{line_at, WritesEntry, WritesLines, LinesFault}
+use Rattle.lasso_codes.specs.Stages.{LinesAhead}
 use Rattle.lasso_codes.specs.Reading.{items_from}
-use Rattle.lasso_codes.specs.Streams.{WritesAll}
-use Rattle.lasso_codes.specs.declared.fault.RunFault.TheVariants.{Column}
-use Rattle.lasso_codes.proofs.Items.{one_fewer, ahead_push, ahead_fault}
-use Rattle.lasso_codes.proofs.DecodedLines.{LinesAhead, lines_push, lines_write_fails, lines_read_fails, lines_entry_fails, line_fault}
+use Rattle.lasso_codes.specs.Streams.{Writes}
+use Rattle.lasso_codes.proofs.DecodedLines.{lines_read_fails, lines_end, entry_done, entry_fails}
+use Rattle.lasso_codes.proofs.Items.{ahead_all}
+use Rattle.lasso_codes.proofs.Stretches.{left_after}
 use Rattle.lasso_codes.proofs.Written.{writes_as, writes_then}
 use Rattle.lasso_codes.proofs.decode.write_lines.Goals as goal
 
+pub returns-in_err-next : goal.returns-in_err-next
+returns-in_err-next g c = λ bytes e.
+    let p = err_from_is_err_and c.from_residual.result c.from_residual.ensures.1 in
+    let at = c.loop-count in
+    let header = c.args.header in
+    let make = line_at (word_of c.args.null) c.args.rodeo.now.texts in
+    let read = items_from make header.lines header.binary 1 bytes in
+    let before = g.W.Write.contents c.args.output.now in
+    let ahead = at.invariant.ahead bytes e in
+    let hand = c.at_hand-shown.ensures.first ahead.0 ahead.1 in
+    let so_far = subst (λ bs. Writes before (g.W.Write.contents at.output) (LinesAhead (items_from make (header.lines - at.count) header.binary (at.count + 1) bs) read)) hand.1 ahead.2 in
+    rw (p.1, p.2) (c.in_err-next.ensures.fault read hand.0 before so_far)
+
+-- the last entry is at hand
+pub returns-then-next-header : goal.returns-then-next-header
+returns-then-next-header g c = λ bytes e.
+    let at = c.loop-count in
+    let header = c.args.header in
+    let make = line_at (word_of c.args.null) c.args.rodeo.now.texts in
+    let read = items_from make header.lines header.binary 1 bytes in
+    let before = g.W.Write.contents c.args.output.now in
+    let ahead = at.invariant.ahead bytes e in
+    let shown = c.at_hand-shown.result.now in
+    let hand = c.at_hand-shown.ensures.first ahead.0 ahead.1 in
+    let so_far = subst (λ bs. Writes before (g.W.Write.contents at.output) (LinesAhead (items_from make (header.lines - at.count) header.binary (at.count + 1) bs) read)) hand.1 ahead.2 in
+    let then = c.in_ok-next.ensures.written read hand.0 before so_far in
+    let next = c.in_ok-next.next in
+    let left = drop c.in_ok-next.used shown ++ hand.0 in
+    let known = left_after _ _ _ shown hand.0 ahead.0 c.in_ok-next.used c.at_hand-shown.ensures.value c.use_up.ensures ahead.1 hand.1 in
+    let others = items_from make (header.lines - next) header.binary (next + 1) left in
+    let none : header.lines - next ≡ 0 = omega (arith, c.if-next-header.true) in
+    writes_as _ _ (LinesAhead others read) (λ part. WritesLines read c.args.column (reader_remaining g.R.Read.remaining c.use_up.new.input) part (Ok tt)) then (λ part on.
+    lines_end others read part on c.args.column (reader_remaining g.R.Read.remaining c.use_up.new.input) left known (ahead_all make (header.lines - next) header.binary (next + 1) left read on.done none on.ahead))
+
 pub returns-in_err-entry : goal.returns-in_err-entry
 returns-in_err-entry g c = λ bytes e.
-    let p = err_from_is_err_and c.from_residual.result c.from_residual.ensures.1 in
-    let at = c.loop-position in
-    let ahead = at.invariant bytes e in
+    let p = err_from_is_err_and c.from_residual-in_err-entry.result c.from_residual-in_err-entry.ensures.1 in
+    let at = c.loop-count in
     let header = c.args.header in
     let make = line_at (word_of c.args.null) c.args.rodeo.now.texts in
-    let others = items_from make (header.lines - at.position) header.binary (at.position + 1) ahead.0 in
     let read = items_from make header.lines header.binary 1 bytes in
+    let before = g.W.Write.contents c.args.output.now in
+    let ahead = at.invariant.ahead bytes e in
+    let hand = c.at_hand-shown.ensures.first ahead.0 ahead.1 in
+    let so_far = subst (λ bs. Writes before (g.W.Write.contents at.output) (LinesAhead (items_from make (header.lines - at.count) header.binary (at.count + 1) bs) read)) hand.1 ahead.2 in
+    let then = c.in_ok-next.ensures.written read hand.0 before so_far in
+    let next = c.in_ok-next.next in
+    let left = drop c.in_ok-next.used c.at_hand-shown.result.now ++ hand.0 in
+    let others = items_from make (header.lines - next) header.binary (next + 1) left in
     let fault = c.in_err-entry.field-0.0 in
-    rw (p.1, p.2) (writes_as _ _ (LinesAhead others read) (λ part. LinesFault read c.args.column part fault) ahead.2 (λ part so_far.
-    lines_read_fails others read part so_far c.args.column fault c.in_err-entry.ensures.faults))
+    rw (p.1, p.2) (writes_as _ _ (LinesAhead others read) (λ part. LinesFault read c.args.column part fault) then (λ part on.
+    lines_read_fails others read part on c.args.column fault c.in_err-entry.ensures.faults))
 
-pub returns-in_err-write_line-in-Ok : goal.returns-in_err-write_line-in-Ok
-returns-in_err-write_line-in-Ok g c = λ bytes e.
-    let p = err_from_is_err_and c.from_residual-in_err-write_line-in-Ok.result c.from_residual-in_err-write_line-in-Ok.ensures.1 in
-    let at = c.loop-position in
-    let ahead = at.invariant bytes e in
-    let header = c.args.header in
-    let make = line_at (word_of c.args.null) c.args.rodeo.now.texts in
-    let cut = c.in_ok-entry.ensures.taken ahead.0 ahead.1 in
-    let others = items_from make (header.lines - at.position) header.binary (at.position + 1) ahead.0 in
-    let later = items_from make (header.lines - (at.position + 1)) header.binary (at.position + 1 + 1) cut.0 in
-    let read = items_from make header.lines header.binary 1 bytes in
-    let line = c.in-Ok.decoded.now in
-    let fault = c.in_err-write_line-in-Ok.field-0.0 in
-    rw (p.1, p.2) (writes_then _ _ _ (LinesAhead others read) (WritesAll (with_feed line) (Err fault)) (λ part. LinesFault read c.args.column part fault) ahead.2 c.in_err-write_line-in-Ok.ensures (λ part more so_far w.
-    lines_write_fails others read part so_far later more line c.args.column fault (ahead_push make (header.lines - at.position) (header.lines - (at.position + 1)) header.binary (at.position + 1) ahead.0 cut.0 c.in_ok-entry.entry read so_far.done (one_fewer header.lines at.position c.loop-position-test.true) cut.2 so_far.ahead line c.in-Ok.ensures) w))
-
-pub returns-in-Err : goal.returns-in-Err
-returns-in-Err g c = λ bytes e.
-    let at = c.loop-position in
-    let ahead = at.invariant bytes e in
+pub returns-in_err-write_entry_line : goal.returns-in_err-write_entry_line
+returns-in_err-write_entry_line g c = λ bytes e.
+    let p = err_from_is_err_and c.from_residual-in_err-write_entry_line.result c.from_residual-in_err-write_entry_line.ensures.1 in
+    let at = c.loop-count in
     let header = c.args.header in
     let null = word_of c.args.null in
     let texts = c.args.rodeo.now.texts in
     let make = line_at null texts in
-    let cut = c.in_ok-entry.ensures.taken ahead.0 ahead.1 in
-    let others = items_from make (header.lines - at.position) header.binary (at.position + 1) ahead.0 in
     let read = items_from make header.lines header.binary 1 bytes in
-    let fault = c.in-Err.fault in
+    let before = g.W.Write.contents c.args.output.now in
+    let ahead = at.invariant.ahead bytes e in
+    let shown = c.at_hand-shown.result.now in
+    let hand = c.at_hand-shown.ensures.first ahead.0 ahead.1 in
+    let so_far = subst (λ bs. Writes before (g.W.Write.contents at.output) (LinesAhead (items_from make (header.lines - at.count) header.binary (at.count + 1) bs) read)) hand.1 ahead.2 in
+    let then = c.in_ok-next.ensures.written read hand.0 before so_far in
+    let next = c.in_ok-next.next in
+    let left = drop c.in_ok-next.used shown ++ hand.0 in
+    let known = left_after _ _ _ shown hand.0 ahead.0 c.in_ok-next.used c.at_hand-shown.ensures.value c.use_up.ensures ahead.1 hand.1 in
+    let others = items_from make (header.lines - next) header.binary (next + 1) left in
+    let cut = c.in_ok-entry.ensures.taken left known in
     let entry = c.in_ok-entry.entry in
-    writes_as _ _ (LinesAhead others read) (λ part. LinesFault read c.args.column part (Column c.args.column fault)) ahead.2 (λ part so_far.
-    lines_entry_fails others read part so_far c.args.column fault (line_fault null texts entry (at.position + 1) fault c.in-Err.ensures)
-    (ahead_fault make (header.lines - at.position) (header.lines - (at.position + 1)) header.binary (at.position + 1) ahead.0 cut.0 entry read so_far.done (one_fewer header.lines at.position c.loop-position-test.true) cut.2 so_far.ahead fault c.in-Err.ensures))
+    let made = make entry (next + 1) in
+    let small : next < header.lines = omega (arith, c.in_ok-next.ensures.more, c.if-next-header.false) in
+    let fault = c.in_err-write_entry_line.field-0.0 in
+    rw (p.1, p.2) (writes_then _ _ _ (LinesAhead others read) (WritesEntry made c.args.column (Err fault)) (λ part. LinesFault read c.args.column part fault) then c.in_err-write_entry_line.ensures (λ part more on written.
+    entry_fails null texts header.lines next header.binary left cut.0 entry read part small cut.2 on made c.args.column more fault refl written))
 
-pub loop-position-preserved : goal.loop-position-preserved
-loop-position-preserved g c = λ bytes e.
-    let at = c.loop-position in
-    let ahead = at.invariant bytes e in
+pub loop-count-preserved : goal.loop-count-preserved
+loop-count-preserved g c =
+    let at = c.loop-count in
+    let header = c.args.header in
+    let null = word_of c.args.null in
+    let texts = c.args.rodeo.now.texts in
+    let make = line_at null texts in
+    let next = c.in_ok-next.next in
+    let small : next < header.lines = omega (arith, c.in_ok-next.ensures.more, c.if-next-header.false) in
+    record {
+      within = omega (arith, small);
+      ahead = λ bytes e.
+          let read = items_from make header.lines header.binary 1 bytes in
+          let before = g.W.Write.contents c.args.output.now in
+          let ahead = at.invariant.ahead bytes e in
+          let shown = c.at_hand-shown.result.now in
+          let hand = c.at_hand-shown.ensures.first ahead.0 ahead.1 in
+          let so_far = subst (λ bs. Writes before (g.W.Write.contents at.output) (LinesAhead (items_from make (header.lines - at.count) header.binary (at.count + 1) bs) read)) hand.1 ahead.2 in
+          let then = c.in_ok-next.ensures.written read hand.0 before so_far in
+          let left = drop c.in_ok-next.used shown ++ hand.0 in
+          let known = left_after _ _ _ shown hand.0 ahead.0 c.in_ok-next.used c.at_hand-shown.ensures.value c.use_up.ensures ahead.1 hand.1 in
+          let others = items_from make (header.lines - next) header.binary (next + 1) left in
+          let cut = c.in_ok-entry.ensures.taken left known in
+          let entry = c.in_ok-entry.entry in
+          let made = make entry (next + 1) in
+          let later = items_from make (header.lines - (next + 1)) header.binary (next + 1 + 1) cut.0 in (
+            cut.0,
+            cut.1,
+            writes_then _ _ _ (LinesAhead others read) (WritesEntry made c.args.column (Ok c.in_ok-write_entry_line.field-0)) (LinesAhead later read) then c.in_ok-write_entry_line.ensures (λ part more on written.
+                entry_done null texts header.lines next header.binary left cut.0 entry read part small cut.2 on made c.args.column more refl written),
+          );
+    }
+
+pub returns : goal.returns
+returns g c = λ bytes e.
+    let at = c.loop-count in
     let header = c.args.header in
     let make = line_at (word_of c.args.null) c.args.rodeo.now.texts in
-    let cut = c.in_ok-entry.ensures.taken ahead.0 ahead.1 in
-    let others = items_from make (header.lines - at.position) header.binary (at.position + 1) ahead.0 in
-    let later = items_from make (header.lines - (at.position + 1)) header.binary (at.position + 1 + 1) cut.0 in
     let read = items_from make header.lines header.binary 1 bytes in
-    let line = c.in-Ok.decoded.now in (
-      cut.0,
-      cut.1,
-      writes_then _ _ _ (LinesAhead others read) (λ more. more ≡ with_feed line) (LinesAhead later read) ahead.2 c.in_ok-write_line-in-Ok.ensures (λ part more so_far is.
-          lines_push others read part so_far later more line (ahead_push make (header.lines - at.position) (header.lines - (at.position + 1)) header.binary (at.position + 1) ahead.0 cut.0 c.in_ok-entry.entry read so_far.done (one_fewer header.lines at.position c.loop-position-test.true) cut.2 so_far.ahead line c.in-Ok.ensures) is),
-    )
+    let ahead = at.invariant.ahead bytes e in
+    let others = items_from make (header.lines - at.count) header.binary (at.count + 1) ahead.0 in
+    let none : header.lines - at.count ≡ 0 = omega (arith, c.loop-count-test.false) in
+    writes_as _ _ (LinesAhead others read) (λ part. WritesLines read c.args.column (reader_remaining g.R.Read.remaining at.input) part (Ok tt)) ahead.2 (λ part on.
+    lines_end others read part on c.args.column (reader_remaining g.R.Read.remaining at.input) ahead.0 ahead.1 (ahead_all make (header.lines - at.count) header.binary (at.count + 1) ahead.0 read on.done none on.ahead))

@@ -1,10 +1,14 @@
-use Rattle.std.proofs.Common.{◌≡◌, ◌+◌, ◌∷◌, sym, subst, Ok, Err}
+use Rattle.std.proofs.Common.{◌≡◌, ◌+◌, ◌∷◌, ◌++◌, drop, sym, subst, Ok, Err}
+use Rattle.std.specs.Io.Buffered.{writer_contents}
 use Rattle.std.proofs.lemmas.Result.{err_from_is_err_and}
 use Rattle.lasso_columns.specs.Lines.{lines_of}
 use Rattle.lasso_codes.specs.Distinct.{DistinctEnd, PassesLine, PassFault}
+use Rattle.lasso_codes.specs.Stages.{OnTheWay}
+use Rattle.lasso_codes.specs.Streams.{Writes}
 use Rattle.lasso_codes.proofs.Feeds.{no_line, one_line}
+use Rattle.lasso_codes.proofs.Stretches.{left_after}
 use Rattle.lasso_codes.proofs.Written.{writes_none, writes_as, writes_then, writes_kept}
-use Rattle.lasso_codes.proofs.DistinctLines.{OnTheWay, way_push, way_ends, way_many, way_read_fails, way_write_fails, way_pass_fails, end_unmade}
+use Rattle.lasso_codes.proofs.DistinctLines.{way_push, way_ends, way_many, way_read_fails, way_write_fails, way_pass_fails, end_unmade}
 use Rattle.lasso_codes.proofs.distinct.write_distinct.Goals as goal
 
 pub returns-in_err-rodeo : goal.returns-in_err-rodeo
@@ -12,59 +16,120 @@ returns-in_err-rodeo g c = λ bytes e.
     let p = err_from_is_err_and c.from_residual.result c.from_residual.ensures.1 in
     rw (p.1, p.2) (writes_none _ _ (end_unmade bytes c.args.limits c.in_err-rodeo.field-0.0 c.in_err-rodeo.ensures.refused))
 
-pub returns-in_err-flush_before_wait : goal.returns-in_err-flush_before_wait
-returns-in_err-flush_before_wait g c = λ bytes e.
-    let p = err_from_is_err_and c.from_residual-in_err-flush_before_wait.result c.from_residual-in_err-flush_before_wait.ensures.1 in
-    let at = c.loop-number in
+-- a line at hand is faulty, or is not written
+pub returns-in_err-next : goal.returns-in_err-next
+returns-in_err-next g c = λ bytes e.
+    let p = err_from_is_err_and c.from_residual-in_err-next.result c.from_residual-in_err-next.ensures.1 in
+    let at = c.loop in
+    let limit = c.args.limits in
+    let before = writer_contents g.W.Write.contents c.args.output.now in
     let ahead = at.invariant bytes e in
-    let fault = c.in_err-flush_before_wait.field-0.0 in
-    rw (p.1, p.2) (writes_kept _ _ _ (OnTheWay bytes c.args.limits ahead.0 at.number at.rodeo) (λ part. DistinctEnd bytes c.args.limits part (Err fault)) ahead.2 c.in_err-flush_before_wait.ensures.kept (λ part way.
-    way_write_fails bytes c.args.limits ahead.0 at.number at.rodeo part way fault c.in_err-flush_before_wait.ensures.faults))
+    let hand = c.at_hand.ensures.first ahead.0 ahead.1 in
+    let so_far = subst (λ bs. Writes before (writer_contents g.W.Write.contents at.output) (OnTheWay bytes limit bs at.number at.rodeo)) hand.1 ahead.2 in
+    rw (p.1, p.2) (c.in_err-next.ensures.fault bytes hand.0 limit before so_far)
+
+pub returns-in_err-flush : goal.returns-in_err-flush
+returns-in_err-flush g c = λ bytes e.
+    let p = err_from_is_err_and c.from_residual-in_err-flush.result c.from_residual-in_err-flush.ensures.1 in
+    let at = c.loop in
+    let limit = c.args.limits in
+    let before = writer_contents g.W.Write.contents c.args.output.now in
+    let ahead = at.invariant bytes e in
+    let hand = c.at_hand.ensures.first ahead.0 ahead.1 in
+    let left = drop c.in_ok-next.used c.at_hand.result.now ++ hand.0 in
+    let so_far = subst (λ bs. Writes before (writer_contents g.W.Write.contents at.output) (OnTheWay bytes limit bs at.number at.rodeo)) hand.1 ahead.2 in
+    let then = c.in_ok-next.ensures.passed bytes hand.0 limit before so_far in
+    let number = c.in_ok-next.next in
+    let now = c.pass_stretch.new.rodeo in
+    let fault = c.in_err-flush.field-0.0 in
+    rw (p.1, p.2) (writes_kept _ _ _ (OnTheWay bytes limit left number now) (λ part. DistinctEnd bytes limit part (Err fault)) then c.in_err-flush.ensures.kept (λ part way.
+    way_write_fails bytes limit left number now part way fault c.in_err-flush.ensures.faults))
 
 pub returns-in_err-next_line : goal.returns-in_err-next_line
 returns-in_err-next_line g c = λ bytes e.
     let p = err_from_is_err_and c.from_residual-in_err-next_line.result c.from_residual-in_err-next_line.ensures.1 in
-    let at = c.loop-number in
+    let at = c.loop in
+    let limit = c.args.limits in
+    let before = writer_contents g.W.Write.contents c.args.output.now in
     let ahead = at.invariant bytes e in
+    let hand = c.at_hand.ensures.first ahead.0 ahead.1 in
+    let left = drop c.in_ok-next.used c.at_hand.result.now ++ hand.0 in
+    let so_far = subst (λ bs. Writes before (writer_contents g.W.Write.contents at.output) (OnTheWay bytes limit bs at.number at.rodeo)) hand.1 ahead.2 in
+    let then = c.in_ok-next.ensures.passed bytes hand.0 limit before so_far in
+    let number = c.in_ok-next.next in
+    let now = c.pass_stretch.new.rodeo in
     let fault = c.in_err-next_line.field-0.0 in
-    rw (p.1, p.2) (writes_kept _ _ _ (OnTheWay bytes c.args.limits ahead.0 at.number at.rodeo) (λ part. DistinctEnd bytes c.args.limits part (Err fault)) ahead.2 c.in_ok-flush_before_wait.ensures.kept (λ part way.
-    way_read_fails bytes c.args.limits ahead.0 at.number at.rodeo part way fault c.in_err-next_line.ensures.faults))
+    rw (p.1, p.2) (writes_kept _ _ _ (OnTheWay bytes limit left number now) (λ part. DistinctEnd bytes limit part (Err fault)) then c.in_ok-flush.ensures.kept (λ part way.
+    way_read_fails bytes limit left number now part way fault c.in_err-next_line.ensures.faults))
 
 pub returns-then-not-branch : goal.returns-then-not-branch
 returns-then-not-branch g c = λ bytes e.
-    let at = c.loop-number in
+    let at = c.loop in
+    let limit = c.args.limits in
+    let before = writer_contents g.W.Write.contents c.args.output.now in
     let ahead = at.invariant bytes e in
-    let none = no_line _ _ c.in_ok-next_line.field-0 _ c.in_ok-next_line.ensures.taken c.if-not-branch.true ahead.0 ahead.1 in
-    writes_kept _ _ _ (OnTheWay bytes c.args.limits ahead.0 at.number at.rodeo) _ ahead.2 c.in_ok-flush_before_wait.ensures.kept (λ part way.
-    way_ends bytes c.args.limits ahead.0 at.number at.rodeo part way none)
+    let hand = c.at_hand.ensures.first ahead.0 ahead.1 in
+    let shown = c.at_hand.result.now in
+    let left = drop c.in_ok-next.used shown ++ hand.0 in
+    let so_far = subst (λ bs. Writes before (writer_contents g.W.Write.contents at.output) (OnTheWay bytes limit bs at.number at.rodeo)) hand.1 ahead.2 in
+    let then = c.in_ok-next.ensures.passed bytes hand.0 limit before so_far in
+    let number = c.in_ok-next.next in
+    let now = c.pass_stretch.new.rodeo in
+    let known = left_after _ _ _ shown hand.0 ahead.0 c.in_ok-next.used c.at_hand.ensures.value c.use_up.ensures ahead.1 hand.1 in
+    let none = no_line _ _ c.in_ok-next_line.field-0 _ c.in_ok-next_line.ensures.taken c.if-not-branch.true left known in
+    writes_kept _ _ _ (OnTheWay bytes limit left number now) _ then c.in_ok-flush.ensures.kept (λ part way.
+    way_ends bytes limit left number now part way none)
 
 pub returns-in_err-pass_line : goal.returns-in_err-pass_line
 returns-in_err-pass_line g c = λ bytes e.
     let p = err_from_is_err_and c.from_residual-in_err-pass_line.result c.from_residual-in_err-pass_line.ensures.1 in
-    let at = c.loop-number in
+    let at = c.loop in
+    let limit = c.args.limits in
+    let before = writer_contents g.W.Write.contents c.args.output.now in
     let ahead = at.invariant bytes e in
-    let cut = one_line _ _ c.in_ok-next_line.field-0 _ c.in_ok-next_line.ensures.taken c.if-not-branch.false ahead.0 ahead.1 in
-    let line_is = subst (λ l. lines_of ahead.0 ≡ l ∷ lines_of cut.0) (sym c.deref.ensures.value) cut.2 in
+    let hand = c.at_hand.ensures.first ahead.0 ahead.1 in
+    let shown = c.at_hand.result.now in
+    let left = drop c.in_ok-next.used shown ++ hand.0 in
+    let so_far = subst (λ bs. Writes before (writer_contents g.W.Write.contents at.output) (OnTheWay bytes limit bs at.number at.rodeo)) hand.1 ahead.2 in
+    let then = c.in_ok-next.ensures.passed bytes hand.0 limit before so_far in
+    let number = c.in_ok-next.next in
+    let now = c.pass_stretch.new.rodeo in
+    let known = left_after _ _ _ shown hand.0 ahead.0 c.in_ok-next.used c.at_hand.ensures.value c.use_up.ensures ahead.1 hand.1 in
+    let cut = one_line _ _ c.in_ok-next_line.field-0 _ c.in_ok-next_line.ensures.taken c.if-not-branch.false left known in
+    let line = c.deref.result.now in
+    let line_is = subst (λ l. lines_of left ≡ l ∷ lines_of cut.0) (sym c.deref.ensures.value) cut.2 in
     let fault = c.in_err-pass_line.field-0.0 in
-    rw (p.1, p.2) (writes_then _ _ _ (OnTheWay bytes c.args.limits ahead.0 at.number at.rodeo) (λ more. PassFault at.rodeo c.deref.result.now at.number more fault) (λ part. DistinctEnd bytes c.args.limits part (Err fault))
-    (writes_kept _ _ _ (OnTheWay bytes c.args.limits ahead.0 at.number at.rodeo) (OnTheWay bytes c.args.limits ahead.0 at.number at.rodeo) ahead.2 c.in_ok-flush_before_wait.ensures.kept (λ part on. on)) c.in_err-pass_line.ensures (λ part more on fails.
-    way_pass_fails bytes c.args.limits ahead.0 at.number at.rodeo part on c.deref.result.now more cut.0 fault line_is fails))
+    let flushed = writes_kept _ _ _ (OnTheWay bytes limit left number now) (OnTheWay bytes limit left number now) then c.in_ok-flush.ensures.kept (λ part on. on) in
+    rw (p.1, p.2) (writes_then _ _ _ (OnTheWay bytes limit left number now) (λ more. PassFault now line number more fault) (λ part. DistinctEnd bytes limit part (Err fault)) flushed c.in_err-pass_line.ensures (λ part more on fails.
+    way_pass_fails bytes limit left number now part on line more cut.0 fault line_is fails))
 
-pub loop-number-preserved : goal.loop-number-preserved
-loop-number-preserved g c = λ bytes e.
-    let at = c.loop-number in
+pub loop-preserved : goal.loop-preserved
+loop-preserved g c = λ bytes e.
+    let at = c.loop in
+    let limit = c.args.limits in
+    let before = writer_contents g.W.Write.contents c.args.output.now in
     let ahead = at.invariant bytes e in
-    let cut = one_line _ _ c.in_ok-next_line.field-0 _ c.in_ok-next_line.ensures.taken c.if-not-branch.false ahead.0 ahead.1 in
-    let line_is = subst (λ l. lines_of ahead.0 ≡ l ∷ lines_of cut.0) (sym c.deref.ensures.value) cut.2 in
-    let way_on = writes_kept _ _ _ (OnTheWay bytes c.args.limits ahead.0 at.number at.rodeo) (OnTheWay bytes c.args.limits ahead.0 at.number at.rodeo) ahead.2 c.in_ok-flush_before_wait.ensures.kept (λ part on. on) in (
+    let hand = c.at_hand.ensures.first ahead.0 ahead.1 in
+    let shown = c.at_hand.result.now in
+    let left = drop c.in_ok-next.used shown ++ hand.0 in
+    let so_far = subst (λ bs. Writes before (writer_contents g.W.Write.contents at.output) (OnTheWay bytes limit bs at.number at.rodeo)) hand.1 ahead.2 in
+    let then = c.in_ok-next.ensures.passed bytes hand.0 limit before so_far in
+    let number = c.in_ok-next.next in
+    let now = c.pass_stretch.new.rodeo in
+    let after = c.pass_line.new.rodeo in
+    let known = left_after _ _ _ shown hand.0 ahead.0 c.in_ok-next.used c.at_hand.ensures.value c.use_up.ensures ahead.1 hand.1 in
+    let cut = one_line _ _ c.in_ok-next_line.field-0 _ c.in_ok-next_line.ensures.taken c.if-not-branch.false left known in
+    let line = c.deref.result.now in
+    let line_is = subst (λ l. lines_of left ≡ l ∷ lines_of cut.0) (sym c.deref.ensures.value) cut.2 in
+    let flushed = writes_kept _ _ _ (OnTheWay bytes limit left number now) (OnTheWay bytes limit left number now) then c.in_ok-flush.ensures.kept (λ part on. on) in (
       cut.0,
       cut.1,
-      writes_then _ _ _ (OnTheWay bytes c.args.limits ahead.0 at.number at.rodeo) (λ more. PassesLine at.rodeo c.deref.result.now at.number more c.pass_line.new.rodeo (Ok c.in_ok-pass_line.field-0)) (OnTheWay bytes c.args.limits cut.0 (at.number + 1) c.pass_line.new.rodeo) way_on c.in_ok-pass_line.ensures (λ part more on passed.
-          way_push bytes c.args.limits ahead.0 at.number at.rodeo c.pass_line.new.rodeo part more cut.0 c.deref.result.now passed.1.0 on line_is passed.0 passed.1.1 passed.2),
+      writes_then _ _ _ (OnTheWay bytes limit left number now) (λ more. PassesLine now line number more after (Ok c.in_ok-pass_line.field-0)) (OnTheWay bytes limit cut.0 (number + 1) after) flushed c.in_ok-pass_line.ensures (λ part more on passed.
+          way_push bytes limit left number now after part more cut.0 line passed.1.0 on line_is passed.0 passed.1.1 passed.2),
     )
 
 pub returns : goal.returns
 returns g c = λ bytes e.
-    let at = c.loop-number in
+    let at = c.loop in
     let ahead = at.invariant bytes e in
     writes_as _ _ (OnTheWay bytes c.args.limits ahead.0 at.number at.rodeo) _ ahead.2 (λ part way. way_many bytes c.args.limits ahead.0 at.number at.rodeo part way)

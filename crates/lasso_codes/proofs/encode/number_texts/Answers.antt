@@ -1,10 +1,9 @@
-use Rattle.std.proofs.Common.{◌≡◌, ◌+◌, ◌≤◌, ◌++◌, Some, length, map, ap, sym, arith, ◌∙◌}
+use Rattle.std.proofs.Common.{◌≡◌, Some, ap, sym, arith, ◌∙◌}
 use Rattle.std.specs.Prelude.{slice_get}
 use Rattle.std.proofs.lemmas.Option.{slice_get_past}
 use Rattle.lasso_counts.proofs.Added.{at_index}
 use Rattle.lasso_codes.specs.Arguments.{word_of}
 use Rattle.lasso_codes.specs.Columns.{is_null}
-use Rattle.lasso_codes.specs.Whole.{spread}
 use Rattle.lasso_codes.proofs.WholeLines.{number_code, number_null, number_stop, pushed}
 use Rattle.lasso_codes.proofs.encode.number_texts.Goals as goal
 

@@ -1,4 +1,4 @@
-use Rattle.std.proofs.Common.{◌≡◌, List, Bor, map, ap, sym, subst, ◌∙◌}
+use Rattle.std.proofs.Common.{Bor, map, ap, sym, subst, ◌∙◌}
 use Rattle.std.specs.Str.{IsUtf8}
 use Rattle.std.proofs.lemmas.List.{map_push}
 use Rattle.lasso_parts.specs.Texts.{Text}

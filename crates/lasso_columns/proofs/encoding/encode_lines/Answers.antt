@@ -1,7 +1,8 @@
 use Rattle.std.proofs.Common.{arith}
 use Rattle.std.proofs.lemmas.Result.{err_from_is_err_and}
 use Rattle.lasso_columns.proofs.Encoded.{told_list, told_codes}
-use Rattle.lasso_columns.proofs.EncodedLines.{LinesSoFar, lines_push, lines_still, told_texts, told_fault}
+use Rattle.lasso_columns.proofs.EncodedLines.{LinesSoFar, lines_push, lines_still, told_texts, told_next, told_fault}
+use Rattle.lasso_columns.specs.Faults.{LineMayLackMemory}
 use Rattle.lasso_columns.proofs.encoding.encode_lines.Given.{Over}
 use Rattle.lasso_columns.proofs.encoding.encode_lines.Goals as goal
 
@@ -25,6 +26,12 @@ returns-in_err-encode_line-clause-fault g c =
     let p = err_from_is_err_and c.from_residual.result c.from_residual.ensures.1 in
     let told = c.in_err-encode_line.ensures in
     rw (p.1, p.2) (told_fault _ _ _ _ _ _ _ (stopped g c) c.in-Some.line.now c.in-Some.behind.now _ c.in-Some.ensures.lines (rw (told.0) told.2))
+
+pub returns-in_err-encode_line-clause-memory : goal.returns-in_err-encode_line-clause-memory
+returns-in_err-encode_line-clause-memory g c =
+    let p = err_from_is_err_and c.from_residual.result c.from_residual.ensures.1 in
+    let told = c.in_err-encode_line.ensures in
+    rw (p.1, p.2) (told_next _ _ _ _ _ _ _ (stopped g c) (λ line. LineMayLackMemory c.encode_line.new.rodeo c.encode_line.new.codes line c.in_err-encode_line.field-0.0) c.in-Some.line.now c.in-Some.behind.now c.in-Some.ensures.lines (rw (told.0) told.3))
 
 pub loop-line-preserved : goal.loop-line-preserved
 loop-line-preserved g c =

@@ -4,7 +4,7 @@ use Rattle.lasso_columns.proofs.FirstLines.{lines_first, lines_last, first_line_
 use Rattle.lasso_columns.proofs.lines.first_line.Goals as goal
 
 pub returns-in-Some-clause-lines : goal.returns-in-Some-clause-lines
-returns-in-Some-clause-lines c = lines_first c.args.bytes.now _ c.behind.result.now c.in-Some.at c.in-Some.ensures refl c.behind.ensures.value
+returns-in-Some-clause-lines c = lines_first c.args.bytes.now _ c.after_newline.result.now c.in-Some.at c.in-Some.ensures refl c.after_newline.ensures.value
 
 pub returns-in-None-clause-lines : goal.returns-in-None-clause-lines
 returns-in-None-clause-lines c =
@@ -12,7 +12,7 @@ returns-in-None-clause-lines c =
     lines_last c.args.bytes.now some c.in-None.ensures
 
 pub returns-in-Some-clause-rest : goal.returns-in-Some-clause-rest
-returns-in-Some-clause-rest c = first_line_is c.args.bytes.now _ c.behind.result.now c.in-Some.at c.in-Some.ensures refl c.behind.ensures.value
+returns-in-Some-clause-rest c = first_line_is c.args.bytes.now _ c.after_newline.result.now c.in-Some.at c.in-Some.ensures refl c.after_newline.ensures.value
 
 pub returns-in-None-clause-rest : goal.returns-in-None-clause-rest
 returns-in-None-clause-rest c = last_line_is c.args.bytes.now c.in-None.ensures

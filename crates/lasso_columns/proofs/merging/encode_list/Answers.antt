@@ -1,26 +1,31 @@
-use Rattle.std.proofs.Common.{List, sym, subst, arith}
+use Rattle.std.proofs.Common.{◌≡◌, ◌<◌, List, vec_len, vec_capacity, sym, subst, arith}
 use Rattle.std.proofs.lemmas.Result.{err_from_is_err_and}
+use Rattle.std.proofs.lemmas.Option.{slice_get_within}
 use Rattle.lasso_parts.proofs.TextLemmas.{take_more_at}
 use Rattle.lasso_parts.specs.Texts.{Text}
+use Rattle.lasso_parts.specs.declared.util.LassoErrorKind.TheVariants.{FailedAllocation}
 use Rattle.lasso_columns.proofs.Encoded.{Encoded, encoded_push, encoded_still}
-use Rattle.lasso_columns.proofs.PartLists.{ListEncoded, list_encoded, list_next}
-use Rattle.lasso_columns.specs.Encoding.{IsRefused}
+use Rattle.lasso_columns.proofs.PartLists.{ListEncoded, list_encoded, list_next, not_full}
+use Rattle.lasso_columns.specs.Encoding.{IsRefused, IsAdmitted}
 use Rattle.lasso_columns.proofs.merging.encode_list.Given.{Over}
 use Rattle.lasso_columns.proofs.merging.encode_list.Goals as goal
 
 pub loop-position-preserved : goal.loop-position-preserved
 loop-position-preserved g c =
     let told = c.in_ok-encode_text.ensures in
-    let more = encoded_push c.args.into.now c.loop-position.into c.encode_text.new.rodeo _ _ told.0.0 told.1.0 c.args.codes.now.items c.loop-position.codes.items c.encode_text.new.codes.items c.loop-position.invariant told.0.1 told.1.1 told.1.2 in
-    subst (λ (ts : List Text). Encoded c.args.into.now ts c.args.codes.now.items c.encode_text.new.rodeo c.encode_text.new.codes.items) (sym (take_more_at c.args.from.now c.loop-position.position _ c.text_at.ensures)) more
+    let more = encoded_push c.args.into.now c.loop-position.into c.encode_text.new.rodeo _ _ told.0.0 told.1.0 c.args.codes.now.items c.loop-position.codes.items c.encode_text.new.codes.items c.loop-position.invariant.encoded told.0.1 told.1.1 told.1.2 in
+    record {
+      encoded = subst (λ (ts : List Text). Encoded c.args.into.now ts c.args.codes.now.items c.encode_text.new.rodeo c.encode_text.new.codes.items) (sym (take_more_at c.args.from.now c.loop-position.position _ c.text_at.ensures)) more;
+      room = omega (arith, c.loop-position.invariant.room, told.2);
+    }
 
 stopped : (g : Over) (c : goal.After-from_residual g) → ListEncoded c.args.into.now c.encode_text.new.rodeo c.args.from.now c.loop-position.position c.encode_text.new.codes.items
 stopped g c =
     let told = c.in_err-encode_text.ensures in
-    list_encoded _ _ _ _ _ _ c.requires (encoded_still c.args.into.now c.loop-position.into c.encode_text.new.rodeo _ c.args.codes.now.items c.loop-position.codes.items c.encode_text.new.codes.items c.loop-position.invariant told.0 told.1)
+    list_encoded _ _ _ _ _ _ c.requires.empty (encoded_still c.args.into.now c.loop-position.into c.encode_text.new.rodeo _ c.args.codes.now.items c.loop-position.codes.items c.encode_text.new.codes.items c.loop-position.invariant.encoded told.0 told.1)
 
 ended : (g : Over) (c : goal.After-loop-position g) → ListEncoded c.args.into.now c.loop-position.into c.args.from.now c.loop-position.position c.loop-position.codes.items
-ended g c = list_encoded _ _ _ _ _ _ c.requires c.loop-position.invariant
+ended g c = list_encoded _ _ _ _ _ _ c.requires.empty c.loop-position.invariant.encoded
 
 pub returns-in_err-encode_text-clause-list : goal.returns-in_err-encode_text-clause-list
 returns-in_err-encode_text-clause-list g c = (stopped g c).list
@@ -34,6 +39,16 @@ returns-in_err-encode_text-clause-refused g c =
     let told = c.in_err-encode_text.ensures in
     let here = list_next _ _ _ _ _ (stopped g c) _ c.text_at.ensures (λ text. IsRefused c.loop-position.into text c.in_err-encode_text.field-0.0) told.2 in
     rw (p.1, p.2, told.0) here
+
+-- the codes have room for one more, so memory was wanting for the text alone
+pub returns-in_err-encode_text-clause-memory : goal.returns-in_err-encode_text-clause-memory
+returns-in_err-encode_text-clause-memory g c =
+    let p = err_from_is_err_and c.from_residual.result c.from_residual.ensures.1 in
+    let told = c.in_err-encode_text.ensures in
+    let long = (stopped g c).long in
+    let inside = slice_get_within c.args.from.now c.loop-position.position _ c.text_at.ensures in
+    let room : vec_len c.encode_text.new.codes < vec_capacity c.encode_text.new.codes = omega (arith, c.loop-position.invariant.room, told.4, long, inside) in
+    rw (p.1, p.2, told.0) (list_next _ _ _ _ _ (stopped g c) _ c.text_at.ensures (λ text. c.in_err-encode_text.field-0.0 ≡ FailedAllocation → IsAdmitted c.loop-position.into text) (λ lacks. not_full _ _ _ (told.3 lacks) room))
 
 pub returns-clause-list : goal.returns-clause-list
 returns-clause-list g c = (ended g c).list

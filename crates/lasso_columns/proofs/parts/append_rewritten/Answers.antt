@@ -1,4 +1,4 @@
-use Rattle.std.proofs.Common.{◌≡◌, arith}
+use Rattle.std.proofs.Common.{arith}
 use Rattle.lasso_columns.proofs.Rewritten.{end_rewritten}
 use Rattle.lasso_columns.proofs.parts.append_rewritten.Goals as goal
 

@@ -5,7 +5,7 @@ use Rattle.lasso_parts.specs.Texts.{Text}
 use Rattle.lasso_columns.proofs.Encoded.{Encoded, encoded_length, told_list, told_codes}
 use Rattle.lasso_columns.proofs.Shared.{parts_reach}
 use Rattle.lasso_columns.proofs.PartLists.{encoded_join, texts_split_at, texts_more_here, next_here, slice_is}
-use Rattle.lasso_columns.specs.Encoding.{IsRefused, encoded_texts}
+use Rattle.lasso_columns.specs.Encoding.{IsRefused, MayLackMemory, encoded_texts}
 use Rattle.lasso_columns.proofs.parts.encode_in_parts.Given.{Over}
 use Rattle.lasso_columns.proofs.parts.encode_in_parts.Goals as goal
 
@@ -52,6 +52,13 @@ returns-in_err-put_part-clause-refused g c =
     let told = c.in_err-put_part.ensures in
     let p = err_from_is_err_and c.from_residual.result c.from_residual.ensures.1 in
     let here = next_here c.args.texts.now (part_of c.args.texts.now c.loop-part.start c.min-count.result) c.loop-part.start c.min-count.result (slice_is c.args.texts.now c.loop-part.start c.min-count.result) c.args.rodeo.now c.put_part.new.rodeo c.args.codes.now.items c.put_part.new.codes.items (length c.put_part.new.codes.items - length c.loop-part.codes.items) (stopped g c) (λ text. IsRefused c.put_part.new.rodeo text c.in_err-put_part.field-0.0) told.refused in
+    rw (p.1, p.2) here
+
+pub returns-in_err-put_part-clause-memory : goal.returns-in_err-put_part-clause-memory
+returns-in_err-put_part-clause-memory g c =
+    let told = c.in_err-put_part.ensures in
+    let p = err_from_is_err_and c.from_residual.result c.from_residual.ensures.1 in
+    let here = next_here c.args.texts.now (part_of c.args.texts.now c.loop-part.start c.min-count.result) c.loop-part.start c.min-count.result (slice_is c.args.texts.now c.loop-part.start c.min-count.result) c.args.rodeo.now c.put_part.new.rodeo c.args.codes.now.items c.put_part.new.codes.items (length c.put_part.new.codes.items - length c.loop-part.codes.items) (stopped g c) (λ text. MayLackMemory c.put_part.new.rodeo c.put_part.new.codes text c.in_err-put_part.field-0.0) told.memory in
     rw (p.1, p.2) here
 
 pub returns-clause-list : goal.returns-clause-list

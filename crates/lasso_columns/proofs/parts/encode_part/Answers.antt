@@ -1,4 +1,4 @@
-use Rattle.std.proofs.Common.{◌≡◌, ◌+◌, ◌-◌, Bor, length, take, drop, refl, sym, arith, ◌∙◌}
+use Rattle.std.proofs.Common.{◌≡◌, ◌-◌, length, take, drop, refl, sym, arith, ◌∙◌}
 use Rattle.std.proofs.lemmas.List.{length-drop, take_all}
 use Rattle.lasso_columns.proofs.PartLists.{part_of_two, on_not_err}
 use Rattle.lasso_columns.proofs.parts.encode_part.Goals as goal

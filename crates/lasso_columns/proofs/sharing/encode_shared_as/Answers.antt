@@ -15,8 +15,8 @@ pub loop-part-preserved : goal.loop-part-preserved
 loop-part-preserved g c =
     let of = c.args.rodeo.now in
     let done = c.index-done.result.now in
-    let known = c.recall.ensures in
-    let after = c.recall.new.self.notes in
+    let known = c.learn.ensures in
+    let after = c.learn.new.self.notes in
     let inside : c.loop-part.part < length c.in_ok-parts.parts.items = omega (arith, c.loop-part-test.true, c.len-part-end.ensures) in
     let each = (c.in_ok-parts.ensures.each c.loop-part.part done inside).1 in
     let gave : IsPartOf of (map (λ (t : Bor Text). t.now) each.argument.now) done.known done.codes =
@@ -32,7 +32,7 @@ loop-part-preserved g c =
           subst (λ (cs : List ℕ). AreCodes (list_of of after) (take ((c.loop-part.part + 1) * c.max-size.result) (map (λ (t : Bor Text). t.now) c.args.texts.now)) cs) (sym put)
           (subst (λ (ts : List Text). AreCodes (list_of of after) ts (c.loop-part.added.items ++ c.in-Ok.part_codes.items)) (part_texts c.args.texts.now each.argument.now c.loop-part.part c.max-size.result each.argument_is.value) joined);
       since = since_trans c.args.pass.now.number c.args.pass.now.notes c.loop-part.pass.notes after [] c.loop-part.invariant.since (subst (λ (p : ℕ). Since p c.loop-part.pass.notes after []) c.loop-part.invariant.same.0 known.since);
-      legal = subst (λ (i : InternerId). IsLegal spur_at i.opening (seen c.recall.new.self)) mine known.legal;
+      legal = subst (λ (i : InternerId). IsLegal spur_at i.opening (seen c.learn.new.self)) mine known.legal;
     }
 
 pub returns-clause-codes : goal.returns-clause-codes
@@ -47,25 +47,25 @@ returns-clause-codes g c =
 
 pub returns-in_err-extend_from_slice-in-Ok-clause-since : goal.returns-in_err-extend_from_slice-in-Ok-clause-since
 returns-in_err-extend_from_slice-in-Ok-clause-since g c =
-    let known = c.recall.ensures in
-    since_trans c.args.pass.now.number c.args.pass.now.notes c.loop-part.pass.notes c.recall.new.self.notes [] c.loop-part.invariant.since (subst (λ (p : ℕ). Since p c.loop-part.pass.notes c.recall.new.self.notes []) c.loop-part.invariant.same.0 known.since)
+    let known = c.learn.ensures in
+    since_trans c.args.pass.now.number c.args.pass.now.notes c.loop-part.pass.notes c.learn.new.self.notes [] c.loop-part.invariant.since (subst (λ (p : ℕ). Since p c.loop-part.pass.notes c.learn.new.self.notes []) c.loop-part.invariant.same.0 known.since)
 
 pub returns-in-Err-clause-since : goal.returns-in-Err-clause-since
 returns-in-Err-clause-since g c =
-    let known = c.recall.ensures in
-    since_trans c.args.pass.now.number c.args.pass.now.notes c.loop-part.pass.notes c.recall.new.self.notes [] c.loop-part.invariant.since (subst (λ (p : ℕ). Since p c.loop-part.pass.notes c.recall.new.self.notes []) c.loop-part.invariant.same.0 known.since)
+    let known = c.learn.ensures in
+    since_trans c.args.pass.now.number c.args.pass.now.notes c.loop-part.pass.notes c.learn.new.self.notes [] c.loop-part.invariant.since (subst (λ (p : ℕ). Since p c.loop-part.pass.notes c.learn.new.self.notes []) c.loop-part.invariant.same.0 known.since)
 
 pub returns-in-Err-clause-reason : goal.returns-in-Err-clause-reason
 returns-in-Err-clause-reason g c =
     let of = c.args.rodeo.now in
     let all = map (λ (t : Bor Text). t.now) c.args.texts.now in
     let done = c.index-done.result.now in
-    let after = c.recall.new.self.notes in
+    let after = c.learn.new.self.notes in
     let inside : c.loop-part.part < length c.in_ok-parts.parts.items = omega (arith, c.loop-part-test.true, c.len-part-end.ensures) in
     let each = (c.in_ok-parts.ensures.each c.loop-part.part done inside).1 in
     let part = map (λ (t : Bor Text). t.now) each.argument.now in
     let gave : IsPartOf of part done.known done.codes = subst (λ p. IsPartOf of part p.known p.codes) (sym c.index-done.ensures) each.call in
     let why = err_at (λ codes. AreCodes (list_of of done.known.notes) part codes.items) (λ error. IsRefusalIn of.opening (history done.known.notes) part error) done.codes c.in-Err.error gave.1 c.in-Err.is in
     let told : IsRefusalIn of.opening (history after) all c.in-Err.error =
-    refused_more of.opening done.known.notes after part all c.in-Err.error c.recall.ensures.known (λ t there. part_contained c.args.texts.now each.argument.now c.loop-part.part c.max-size.result t each.argument_is.value there) why in
+    refused_more of.opening done.known.notes after part all c.in-Err.error c.learn.ensures.known (λ t there. part_contained c.args.texts.now each.argument.now c.loop-part.part c.max-size.result t each.argument_is.value there) why in
     rw (c.new.ensures, c.kind.ensures) told

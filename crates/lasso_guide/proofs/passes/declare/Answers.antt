@@ -1,5 +1,5 @@
 -- What an intern call with a pass promises of the name, and of the texts that the pass had seen.
-use Rattle.lasso_log.specs.Replies.{Copied}
+use Rattle.lasso.specs.Replies.{Copied}
 use Rattle.lasso.proofs.CallingShared.{shared_answer_resolves, call_keeps_texts}
 use Rattle.lasso_guide.proofs.passes.declare.Goals as goal
 

@@ -1,5 +1,5 @@
 -- The text is read as the value that was written, the array of the texts, and that is read as their list.
-use Rattle.lasso_parts.specs.Json.{json_array}
+use Rattle.lasso.specs.Json.{json_array}
 use Rattle.lasso.proofs.Calling.{array_read_back}
 use Rattle.lasso_guide.proofs.saving.save.Goals as goal
 

@@ -1,8 +1,8 @@
 -- The pass has seen what the threads had, so the keys stand for the words in its list. The count of the texts reaches each of them, and the
 -- list only grows with that call.
 use Rattle.std.proofs.Common.{ℕ, ◌<◌, List, Bor, IfOk, map, length, get_or, sym, subst, arith}
-use Rattle.lasso_log.specs.Replies.{Len, Number}
-use Rattle.lasso_log.specs.Views.{list_of, seen}
+use Rattle.lasso.specs.Replies.{Len, Number}
+use Rattle.lasso.specs.Views.{list_of, seen}
 use Rattle.lasso.proofs.CallingShared.{call_keeps_texts, count_reaches}
 use Rattle.lasso_guide.specs.Words.{Resolve}
 use Rattle.lasso_guide.proofs.Counting.{resolve_later, resolve_within, share_seen}
@@ -13,12 +13,12 @@ tally-requires g c k d small =
     let number = g.K.Key.number in
     let of = c.args.rodeo.now in
     let words = map (λ (w : Bor (List ℕ)). w.now) c.args.words.now in
-    let list = list_of of c.recall.new.self.notes in
-    let share = share_seen number of c.intern_by_four-share.result.known.notes c.recall.new.self.notes words c.intern_by_four-share.result.keys c.recall.ensures.known c.intern_by_four-share.ensures.1 in
+    let list = list_of of c.learn.new.self.notes in
+    let share = share_seen number of c.intern_by_four-share.result.known.notes c.learn.new.self.notes words c.intern_by_four-share.result.keys c.learn.ensures.known c.intern_by_four-share.ensures.1 in
     let stand : Resolve number list c.in_ok-keys.keys.items words = subst (λ r. IfOk r (λ keys. Resolve number list keys.items words)) c.in_ok-keys.was share in
     let inside : k < length c.in_ok-keys.keys.items = subst (λ ks. k < length ks) c.deref.ensures.value small in
     let within = resolve_within number list c.in_ok-keys.keys.items words stand k d inside in
-    let reaches = count_reaches g.K.Key.key_at of.opening (seen c.recall.new.self) (seen c.len_as-texts.new.pass) c.recall.new.self.number c.len_as-texts.result c.len_as-texts.ensures.call in
+    let reaches = count_reaches g.K.Key.key_at of.opening (seen c.learn.new.self) (seen c.len_as-texts.new.pass) c.learn.new.self.number c.len_as-texts.result c.len_as-texts.ensures.call in
     subst (λ ks. number (get_or ks k d) < c.len_as-texts.result) (sym c.deref.ensures.value) (omega (arith, within, reaches))
 
 pub returns-clause-keys : goal.returns-clause-keys
@@ -26,7 +26,7 @@ returns-clause-keys g c =
     let number = g.K.Key.number in
     let of = c.args.rodeo.now in
     let words = map (λ (w : Bor (List ℕ)). w.now) c.args.words.now in
-    let list = list_of of c.recall.new.self.notes in
-    let share = share_seen number of c.intern_by_four-share.result.known.notes c.recall.new.self.notes words c.intern_by_four-share.result.keys c.recall.ensures.known c.intern_by_four-share.ensures.1 in
+    let list = list_of of c.learn.new.self.notes in
+    let share = share_seen number of c.intern_by_four-share.result.known.notes c.learn.new.self.notes words c.intern_by_four-share.result.keys c.learn.ensures.known c.intern_by_four-share.ensures.1 in
     let stand : Resolve number list c.in_ok-keys.keys.items words = subst (λ r. IfOk r (λ keys. Resolve number list keys.items words)) c.in_ok-keys.was share in
-    resolve_later number list (list_of of c.len_as-texts.new.pass.notes) (call_keeps_texts g.K.Key.key_at of.opening (seen c.recall.new.self) (seen c.len_as-texts.new.pass) c.recall.new.self.number Len (Number c.len_as-texts.result) c.len_as-texts.ensures.call) c.in_ok-keys.keys.items words stand
+    resolve_later number list (list_of of c.len_as-texts.new.pass.notes) (call_keeps_texts g.K.Key.key_at of.opening (seen c.learn.new.self) (seen c.len_as-texts.new.pass) c.learn.new.self.number Len (Number c.len_as-texts.result) c.len_as-texts.ensures.call) c.in_ok-keys.keys.items words stand

@@ -1,8 +1,8 @@
 -- The key resolves to its word in what the pass has then seen, and the words before keep theirs.
 use Rattle.std.proofs.Common.{◌+◌, ◌∷◌, ◌++◌, [], List, Bor, Ok, map, take, sym, subst, ◌∙◌}
-use Rattle.lasso_parts.specs.Texts.{Text}
-use Rattle.lasso_log.specs.Replies.{Copied, Intern, Interned}
-use Rattle.lasso_log.specs.Views.{list_of, seen}
+use Rattle.lasso.specs.Texts.{Text}
+use Rattle.lasso.specs.Replies.{Copied, Intern, Interned}
+use Rattle.lasso.specs.Views.{list_of, seen}
 use Rattle.lasso.proofs.CallingShared.{shared_answer_resolves, call_keeps_texts}
 use Rattle.lasso_guide.specs.Words.{Resolve}
 use Rattle.lasso_guide.proofs.Counting.{resolve_later, resolve_push, words_more}

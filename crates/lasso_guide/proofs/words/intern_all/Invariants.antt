@@ -1,5 +1,5 @@
 use Rattle.std.proofs.Common.{◌≡◌, map, take}
-use Rattle.lasso_log.specs.Views.{list_of}
+use Rattle.lasso.specs.Views.{list_of}
 use Rattle.lasso_guide.specs.Words.{Resolve}
 use Rattle.lasso_guide.proofs.words.intern_all.Given as goal
 

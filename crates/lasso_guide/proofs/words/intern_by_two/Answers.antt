@@ -1,6 +1,6 @@
 -- What the threads hand back of their halves is a share of all words.
 use Rattle.std.proofs.Common.{List, subst}
-use Rattle.lasso_parts.specs.Texts.{Text}
+use Rattle.lasso.specs.Texts.{Text}
 use Rattle.lasso_guide.specs.Words.{IsShareOf}
 use Rattle.lasso_guide.proofs.Counting.{halves}
 use Rattle.lasso_guide.proofs.words.intern_by_two.Goals as goal

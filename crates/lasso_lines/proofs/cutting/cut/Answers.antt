@@ -14,11 +14,11 @@ loop-at-preserved g c =
     let now = c.loop-at.invariant in
     let rest = c.loop-at.rest.now in
     let at = c.in-Some.at in
-    let behind = c.behind-rest.result.now in
+    let behind = c.after_newline-rest.result.now in
     let texts = λ (ts : List (Bor Text)). map (λ (t : Bor Text). t.now) ts in
     let old = c.loop-at.lines.items in
     let new = c.push_line.new.lines.items in
-    let first : lines_of rest ≡ take at rest ∷ lines_of behind = lines_first rest (take at rest) behind at c.in-Some.ensures refl c.behind-rest.ensures.value in
+    let first : lines_of rest ≡ take at rest ∷ lines_of behind = lines_first rest (take at rest) behind at c.in-Some.ensures refl c.after_newline-rest.ensures.value in
     let one : length (texts new) ≡ length (texts old ++ take at rest ∷ []) = ap length c.in_ok-push_line.ensures.line in
     record {
       lines =

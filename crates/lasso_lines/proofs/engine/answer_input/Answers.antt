@@ -17,13 +17,13 @@ returns-in-Err-clause-report g c = λ input e.
 pub returns-in_err-number-clause-report : goal.returns-in_err-number-clause-report
 returns-in_err-number-clause-report g c = λ input e.
     let ahead = c.stretches.invariant.ahead input e in
-    let shown = c.shown-shown.result.now in
+    let buffer = c.buffer-buffer.result.now in
     let held = holding c.stretches.rodeo.texts c.stretches.rodeo.account in
     let begun = c.stretches.begun.items in
     let number = c.stretches.number in
     let p = err_from_is_err_and c.from_residual.result c.from_residual.ensures.1 in
     rw (p.1, p.2) (grows_then _ _ _ _ _ _ ahead.2 c.in_err-number.ensures.answers (λ part reply way fails.
-    way_fails input c.args.limits held number begun shown (drop (length shown) ahead.0) part reply _ (way_shown input c.args.limits held number begun shown ahead.0 part (c.shown-shown.ensures.first ahead.0 ahead.1) way) fails))
+    way_fails input c.args.limits held number begun buffer (drop (length buffer) ahead.0) part reply _ (way_shown input c.args.limits held number begun buffer ahead.0 part (c.buffer-buffer.ensures.first ahead.0 ahead.1) way) fails))
 
 pub returns-in_err-number-clause-delivered : goal.returns-in_err-number-clause-delivered
 returns-in_err-number-clause-delivered g c = only_grows_then _ _ _ c.stretches.invariant.delivered c.answer_stretch.ensures.delivered
@@ -32,15 +32,15 @@ returns-in_err-number-clause-delivered g c = only_grows_then _ _ _ c.stretches.i
 pub returns-in_err-ask_for_more-clause-report : goal.returns-in_err-ask_for_more-clause-report
 returns-in_err-ask_for_more-clause-report g c = λ input e.
     let ahead = c.stretches.invariant.ahead input e in
-    let shown = c.shown-shown.result.now in
-    let rest = drop (length shown) ahead.0 in
+    let buffer = c.buffer-buffer.result.now in
+    let rest = drop (length buffer) ahead.0 in
     let held = holding c.stretches.rodeo.texts c.stretches.rodeo.account in
     let after = holding c.answer_stretch.new.rodeo.texts c.answer_stretch.new.rodeo.account in
     let begun = c.answer_stretch.new.begun.items in
     let number = c.in_ok-number.number in
     let p = err_from_is_err_and c.from_residual-in_err-ask_for_more.result c.from_residual-in_err-ask_for_more.ensures.1 in
     rw (p.1, p.2) (grows_stays _ _ _ _ _ (grows_then _ _ _ _ _ (OnTheWay input c.args.limits after number begun rest) ahead.2 c.in_ok-number.ensures.answers (λ part reply way leads.
-    way_goes_on input c.args.limits held after c.stretches.number number c.stretches.begun.items shown begun ahead.0 part reply (c.shown-shown.ensures.first ahead.0 ahead.1) way leads)) c.ask_for_more.ensures.written (λ part way.
+    way_goes_on input c.args.limits held after c.stretches.number number c.stretches.begun.items buffer begun ahead.0 part reply (c.buffer-buffer.ensures.first ahead.0 ahead.1) way leads)) c.ask_for_more.ensures.written (λ part way.
     stream_ends input c.args.limits part _ c.in_err-ask_for_more.ensures.faults (way_stops input c.args.limits after number begun rest part way)))
 
 pub returns-in_err-ask_for_more-clause-delivered : goal.returns-in_err-ask_for_more-clause-delivered
@@ -51,19 +51,19 @@ returns-in_err-ask_for_more-clause-delivered g c =
 pub returns-then-is_empty-clause-report : goal.returns-then-is_empty-clause-report
 returns-then-is_empty-clause-report g c = λ input e.
     let ahead = c.stretches.invariant.ahead input e in
-    let shown = c.shown-shown.result.now in
-    let rest = drop (length shown) ahead.0 in
+    let buffer = c.buffer-buffer.result.now in
+    let rest = drop (length buffer) ahead.0 in
     let held = holding c.stretches.rodeo.texts c.stretches.rodeo.account in
     let after = holding c.answer_stretch.new.rodeo.texts c.answer_stretch.new.rodeo.account in
     let begun = c.answer_stretch.new.begun.items in
     let number = c.in_ok-number.number in
     let none : g.I.ByteReader.at_hand c.ask_for_more.new.reader ≡ [] = grind (arith, common_steps) in
-    let behind = c.use_up.ensures.left ahead.0 ahead.1 in
+    let behind = c.consume.ensures.left ahead.0 ahead.1 in
     let ended : g.I.ByteReader.left c.ask_for_more.new.reader ≡ Some [] = c.in_ok-ask_for_more.ensures.end none rest behind in
     let kept : g.I.ByteReader.left c.ask_for_more.new.reader ≡ Some rest = c.ask_for_more.ensures.left rest behind in
     let gone : rest ≡ [] = cc in
     grows_then _ _ _ _ _ _ (grows_then _ _ _ _ _ (OnTheWay input c.args.limits after number begun rest) ahead.2 c.in_ok-number.ensures.answers (λ part reply way leads.
-    way_goes_on input c.args.limits held after c.stretches.number number c.stretches.begun.items shown begun ahead.0 part reply (c.shown-shown.ensures.first ahead.0 ahead.1) way leads)) (stays_grows _ _ _ _ c.ask_for_more.ensures.written c.answer_end.ensures.answers) (λ part more way ends.
+    way_goes_on input c.args.limits held after c.stretches.number number c.stretches.begun.items buffer begun ahead.0 part reply (c.buffer-buffer.ensures.first ahead.0 ahead.1) way leads)) (stays_grows _ _ _ _ c.ask_for_more.ensures.written c.answer_end.ensures.answers) (λ part more way ends.
     way_ended input c.args.limits after number begun rest part more c.answer_end.result c.in_ok-number.ensures.held gone
     (subst (λ bs. EndsFrom after number (last_lines bs) more c.answer_end.result) c.deref.ensures.value ends) way)
 
@@ -72,7 +72,7 @@ returns-then-is_empty-clause-whole g c =
     let none : g.I.ByteReader.at_hand c.ask_for_more.new.reader ≡ [] = grind (arith, common_steps) in
     on_ok c.answer_end.result _ (λ input e.
     let ahead = c.stretches.invariant.ahead input e in
-    c.in_ok-ask_for_more.ensures.end none _ (c.use_up.ensures.left ahead.0 ahead.1))
+    c.in_ok-ask_for_more.ensures.end none _ (c.consume.ensures.left ahead.0 ahead.1))
 
 pub returns-then-is_empty-clause-delivered : goal.returns-then-is_empty-clause-delivered
 returns-then-is_empty-clause-delivered g c =
@@ -82,7 +82,7 @@ returns-then-is_empty-clause-delivered g c =
 -- more bytes are at hand
 pub stretches-preserved : goal.stretches-preserved
 stretches-preserved g c =
-    let shown = c.shown-shown.result.now in
+    let buffer = c.buffer-buffer.result.now in
     let held = holding c.stretches.rodeo.texts c.stretches.rodeo.account in
     let after = holding c.answer_stretch.new.rodeo.texts c.answer_stretch.new.rodeo.account in
     let begun = c.answer_stretch.new.begun.items in
@@ -90,16 +90,16 @@ stretches-preserved g c =
     record {
       counted = c.in_ok-number.ensures.counted;
       first = c.answer_stretch.ensures.first;
-      reads = omega (arith, c.in_ok-ask_for_more.ensures.reads, c.use_up.ensures.failures, c.stretches.invariant.reads);
+      reads = omega (arith, c.in_ok-ask_for_more.ensures.reads, c.consume.ensures.failures, c.stretches.invariant.reads);
       writes = omega (arith, c.in_ok-ask_for_more.ensures.writes, c.in_ok-number.ensures.failures, c.stretches.invariant.writes);
       delivered = only_grows_then _ _ _ (only_grows_then _ _ _ c.stretches.invariant.delivered c.answer_stretch.ensures.delivered) c.ask_for_more.ensures.delivered;
       no_feed = c.in_ok-number.ensures.held;
       ahead = λ input e.
           let ahead = c.stretches.invariant.ahead input e in
-          let rest = drop (length shown) ahead.0 in (
+          let rest = drop (length buffer) ahead.0 in (
             rest,
-            c.ask_for_more.ensures.left rest (c.use_up.ensures.left ahead.0 ahead.1),
+            c.ask_for_more.ensures.left rest (c.consume.ensures.left ahead.0 ahead.1),
             grows_stays _ _ _ _ _ (grows_then _ _ _ _ _ (OnTheWay input c.args.limits after number begun rest) ahead.2 c.in_ok-number.ensures.answers (λ part reply way leads.
-                way_goes_on input c.args.limits held after c.stretches.number number c.stretches.begun.items shown begun ahead.0 part reply (c.shown-shown.ensures.first ahead.0 ahead.1) way leads)) c.ask_for_more.ensures.written (λ part way. way),
+                way_goes_on input c.args.limits held after c.stretches.number number c.stretches.begun.items buffer begun ahead.0 part reply (c.buffer-buffer.ensures.first ahead.0 ahead.1) way leads)) c.ask_for_more.ensures.written (λ part way. way),
           );
     }

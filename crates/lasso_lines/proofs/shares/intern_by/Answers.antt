@@ -7,6 +7,7 @@ use Rattle.lasso_log.specs.Views.{list_of, seen}
 use Rattle.lasso_columns.specs.Codes.{AreCodes}
 use Rattle.lasso_columns.specs.Sharing.{IsRefusalIn}
 use Rattle.lasso_lines.specs.Shares.{line_at, share}
+use Rattle.lasso_lines.proofs.Lowest.{still_there, lines_coded}
 use Rattle.lasso_lines.proofs.ShareLines.{line_read, share_next}
 use Rattle.lasso_lines.proofs.shares.intern_by.Goals as goal
 
@@ -66,4 +67,7 @@ returns-in_err-intern_line-clause-refused g c =
       omega (arith, long, at, small),
       omega (arith, at, c.in_err-intern_line.ensures.number),
       subst (λ (t : Text). IsRefusalIn c.args.rodeo.now.opening past (t ∷ []) c.in_err-intern_line.field-0.0.1) (sym (ap (line_at lines) (sym at) ∙ line_read c.args.lines.now c.loop-at.at _ small)) c.in_err-intern_line.ensures.reason,
+      λ j below.
+          still_there (list_of c.args.rodeo.now c.loop-at.pass.notes) (list_of c.args.rodeo.now c.intern_line.new.pass.notes) (line_at lines (c.args.worker + j * c.args.workers)) c.in_err-intern_line.ensures.grows
+          (lines_coded (list_of c.args.rodeo.now c.loop-at.pass.notes) lines c.args.worker c.args.workers count c.loop-at.codes.items now.coded j below),
     )

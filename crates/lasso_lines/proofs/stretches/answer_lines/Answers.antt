@@ -38,8 +38,8 @@ loop-at-preserved g c =
     let rest = c.loop-at.rest.now in
     let at = c.in-Some.at in
     let untested = c.untested_len-untested.result in
-    let behind = c.behind-rest.result.now in
-    let same : behind ≡ drop (at + 1) rest = c.behind-rest.ensures.value in
+    let behind = c.after_newline-rest.result.now in
+    let same : behind ≡ drop (at + 1) rest = c.after_newline-rest.ensures.value in
     record {
       counted = omega (arith, c.next_number-number.ensures);
       first = c.answer_line.ensures.first;

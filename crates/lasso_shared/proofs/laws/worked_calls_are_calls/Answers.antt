@@ -19,7 +19,7 @@ full_too n size used bs full others = All-cons (λ (b : CountedBucket). b.size <
 none_left : (n : ℕ) → HasNoRoom [] n
 none_left n = All-nil (λ (b : CountedBucket). b.size < b.used + n)
 
--- no text stands twice in the worked opening, and its three positions have keys
+-- no text occurs twice in the worked opening, and its three positions have keys
 both_distinct : IsDistinct (bc ∷ a ∷ [])
 both_distinct = distinct_push (bc ∷ []) a (distinct_push [] bc (IsDistinct-from_apart bytes_eq [] (λ i j d below inside. absurd (omega arith))) refl) refl
 

@@ -34,7 +34,7 @@ read_there h pass question reply c =
 same_limit : (m n : ℕ) → Limit m ∷ [] ≡ Limit n ∷ [] → m ≡ n
 same_limit m n same = cc
 
--- the first bucket, of those that there are
+-- the first of the buckets
 abbrev first_bucket : List CountedBucket → CountedBucket
 first_bucket [] = record { size = 0; used = 0 }
 first_bucket (b ∷ bs) = b
@@ -48,7 +48,7 @@ read_last after question reply x none =
     let front = sym (append-nil x.explained.0) ∙ ap (λ (back : History). x.explained.0 ++ back) (sym none) ∙ x.explained.2 ∙ x.begins in
     subst (λ (h : History). MayReply three_keys (totals opening h) question reply) front x.explained.4
 
--- a list that may be copied is the one that is there
+-- a list that may be copied is the present one
 copied_whole : (texts copy : List Text) → MayCopy texts (Ok copy) → copy ≡ texts
 copied_whole texts copy may = ⊎_elim (λ same. cc same) (λ other. absurd (cc other)) may
 

@@ -33,7 +33,7 @@ begins s h P p = let more = list_grows s h in (more.0, subst P (sym more.1) p)
 there : (question : Question) (reply : Reply ℕ) → IsPlainCall three_keys opening_with_texts question reply → (h : History) × MayReply three_keys (totals opening_with_texts h) question reply
 there question reply x = (x.call.explained.0, x.call.explained.4)
 
--- the text that stands first keeps its position
+-- the first text keeps its position
 first : (h : History) → position_of (totals opening_with_texts h).texts bc ≡ Some 0
 first h = position_past (bc ∷ a ∷ []) (totals opening_with_texts h).texts bc 0 (list_grows opening_with_texts h) refl
 
@@ -41,11 +41,11 @@ first h = position_past (bc ∷ a ∷ []) (totals opening_with_texts h).texts bc
 not_lacked : (h : History) → position_of (totals opening_with_texts h).texts bc ≡ None → ⊥
 not_lacked h lacks = none-some 0 (sym lacks ∙ first h)
 
--- a list that may be copied is the one that is there
+-- a list that may be copied is the present one
 copied_whole : (texts copy : List Text) → MayCopy texts (Ok copy) → copy ≡ texts
 copied_whole texts copy may = ⊎_elim (λ same. cc same) (λ other. absurd (cc other)) may
 
--- a list that is read whole is the one that is there
+-- a list that is read whole is the present one
 abbrev whole : List Text → Result (List Text) LassoErrorKind
 whole texts = Ok texts
 
@@ -55,7 +55,7 @@ read_whole list texts same = cc same
 not_empty : (n : ℕ) → true ≡ nat_eq (suc n) 0 → ⊥
 not_empty n is = true≢false (is ∙ grind (arith, nat_tests))
 
--- copying is refused for want of memory alone
+-- copying fails only out of memory
 not_refused : (texts : List Text) (error : LassoErrorKind) → (error ≡ FailedAllocation → ⊥) → MayCopy texts (Err error) → ⊥
 not_refused texts error other may = ⊎_elim (λ same. absurd (cc same)) (λ same. other (cc same)) may
 

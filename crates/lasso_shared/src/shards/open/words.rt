@@ -24,7 +24,7 @@ impl<K: Key, S: BuildHasher + Drop> Shards<K, S> {
     {
         let mut opening = OpeningTexts::new(alloc, 4096)?;
         for word in words {
-            opening.push(alloc, Piece::lasting(word))?;
+            opening.push(alloc, Piece::from_static(word))?;
         }
         Shards::open_with(alloc, hasher, opening, u64::MAX)
     }

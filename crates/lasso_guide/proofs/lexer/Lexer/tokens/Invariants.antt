@@ -1,7 +1,7 @@
 use Rattle.std.proofs.Common.{List, ◌++◌, length}
 use denote.Text.{Utf8}
 use denote.Shadow.{shadow}
-use Rattle.lasso_parts.specs.Texts.{Text}
+use Rattle.lasso.specs.Texts.{Text}
 use Rattle.lasso_guide.specs.declared.lexer.Token.{Token}
 use Rattle.lasso_guide.specs.Lexing.{IsCutInto, Keep}
 use Rattle.lasso_guide.proofs.lexer.Lexer.tokens.Given as goal

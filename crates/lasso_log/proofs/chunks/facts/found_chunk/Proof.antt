@@ -1,9 +1,9 @@
--- `found_chunk` opens the book, which keeps what shows that the chunk is there.
+-- `found_chunk` opens the book, which keeps what shows that the chunk is made.
 --
 -- The code hands the token back that it was given: one token is like another, since none has bytes. What the
--- token says is had of the `Seen`: its list is a beginning of the book's list at this moment, and the book
--- keeps two lasting facts for each text of that. The first of them names the chunk of the position. The `Seen`
--- is closed as it was.
+-- token says comes from the `Seen`: its list is a beginning of the book's list at this moment, and the book
+-- keeps two lasting facts for each text of that. The first of them names the chunk of the position. The
+-- `Seen` is closed as it was.
 use Rattle.lasso_log.proofs.WalkWords.{◌<◌, ℕ, List, [], ◌∷◌, length, refl, w64, a_type, dcons, dnil, named, inst_fn, Val, vint, vptr, SProp, Fml, ftrue, fsep, flft, ‵, raw, ◌⊛◌, later, ◌$◌, ◌∵◌, !, qed, by, move, keep, let_go, split, fsplit, fsplit3, fjoin, fjoin3, fpick, use1, await, feq_i, of_opd, returns, enter, alloc_all, pass_all, free_all, look_at, get, sets, fact, says_two, tables, yes, no, RattleType, owns, types_at, plain, u64, mut_vals, mut_Tells, uint_vals, uint_Tells, param, bounded, nothing, opens, closes, heard, Stays, stay_dropped, stay_ref, walk_of, Goes-dropped, Goes-ref, proved, token, token_told, ends}
 use Rattle.logbook.specs.contracts.tokens.Seen as Seen
 use Rattle.boxcar.specs.contracts.slot.Written as Written

@@ -1,8 +1,9 @@
 -- `hand_in` makes an offer of two lasting facts: that the chunk of a position is written, and its cell.
 --
 -- An offer owes this: whatever list of texts the book keeps when the update runs, with the update's text put
--- last at its position, the facts of the longer list are had of those of the shorter one. The two facts are those
--- of the new position, so they stand at the end. They need no step of the machine, and the offer has no bytes.
+-- last at its position, the facts of the longer list are had of those of the shorter one. The two facts are
+-- those of the new position, so they are at the end. They need no step of the machine, and the offer has no
+-- bytes.
 use Rattle.lasso_log.proofs.WalkWords.{◌≡◌, [], ◌∷◌, refl, a_type, dcons, dnil, named, inst_fn, Val, vptr, SProp, emp, ‵, raw, ◌⊛◌, ◌$◌, ◌∵◌, !, qed, by, move, keep, let_go, split, fsplit, fjoin, use0, use2, no_more, and_then, returns, enter, alloc_all, pass_all, free_all, look_at, get, sets, agg, fact, fact_i, tables, yes, RattleType, owns, types_at, plain, RefOf, u64, shr_vals, shr_Tells, param, bounded, unhide, nothing, heard, Tuple, alive, Stays, stay_dropped, walk_of, Goes-dropped, proved, token, Token, token_made, ends}
 use Rattle.std.specs.declared.option.Option.TheVariants.{None}
 use Rattle.logbook.specs.Kept.{offer_owns}

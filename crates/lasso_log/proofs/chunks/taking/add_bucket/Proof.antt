@@ -1,4 +1,5 @@
--- `add_bucket` makes an offer of the right to the new bucket's bytes, which the book keeps from then on, behind those of the others.
+-- `add_bucket` makes an offer of the right to the new bucket's bytes, which the book keeps from then on,
+-- after those of the others.
 use Rattle.lasso_log.proofs.WalkWords.{◌≡◌, ◌+◌, ℕ, List, [], ◌∷◌, refl, a_type, dcons, dnil, named, inst_fn, Val, vptr, SProp, emp, ‵, raw, ◌⊛◌, ◌$◌, ◌∵◌, !, qed, by, move, keep, let_go, split, fsplit, fjoin, use0, use1, rewrite, no_more, and_then, returns, enter, alloc_all, pass_all, free_all, look_at, get, sets, agg, fact, fact_i, tables, yes, RattleType, owns, types_at, plain, RefOf, u64, unit, shr_vals, shr_Tells, param, bounded, nothing, heard, Tuple, alive, Stays, stay_dropped, walk_of, Goes-dropped, proved, token, Token, token_made, token_told, ends}
 use Prim.Native.Nat.{◌-◌}
 use Rattle.std.specs.declared.option.Option.TheVariants.{None}

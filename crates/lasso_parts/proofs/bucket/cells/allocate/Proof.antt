@@ -1,8 +1,8 @@
--- `allocate` asks the allocator for the bytes, and makes places of them and a deed of the right to free them.
+-- `allocate` asks the allocator for the bytes, and makes places of them and a cells_right of the right to free them.
 --
--- The allocator answers with room for the bytes at some address, and with its token for that block. Room for
--- bytes is a row of empty places, which `from_raw_parts` takes; the values that it wants for the empty places
--- are zeros that nobody can read. The token is what the deed owns. Where it refuses, so does `allocate`.
+-- The allocator returns room for the bytes at some address, and its token for that block. Room for bytes
+-- is a row of empty places, which `from_raw_parts` takes; the values that it asks for the empty places are
+-- zeros that nobody can read. The token is what the cells_right owns. Where it refuses, so does `allocate`.
 use Rattle.std.proofs.Common.{◌≡◌, ℕ, ◌*◌, ◌^◌, ◌<◌, Bool, true, false, List, [], ◌∷◌, length, replicate, refl, sym, subst, ◌∙◌, lit<, arith, w64}
 use lib.ListN.{length-replicate}
 use base.Fml.{Lft, Share, ftrue, fsep, froom, flft, Incl-trans}
@@ -48,7 +48,7 @@ use Rattle.std_alloc.proofs.ResultValues.{ok_of, err_of}
 use Rattle.lasso_parts.specs.Cells.{LeadsToBlock, bytes_type}
 use Rattle.lasso_parts.specs.contracts.bucket.cells.Cells as cells
 use Rattle.lasso_parts.specs.contracts.bucket.cells.Cells.TheInside as inside
-use Rattle.lasso_parts.specs.contracts.bucket.cells.Deed as deed
+use Rattle.lasso_parts.specs.contracts.bucket.cells.CellsRight as cells_right
 use Rattle.lasso_parts.specs.contracts.bucket.cells.allocate as f
 use Rattle.lasso_parts.proofs.RowCalls.{byte, byte_laws, Good, Row, Makes, making_of, IsMade, makes_goes, makes_gives}
 use Rattle.lasso_parts.proofs.EmptyStructs.{plainly, none, unit_made, mark_val, mark_made}
@@ -68,7 +68,7 @@ allocate_spec 𝓤 𝓛 𝓜 𝓡 wired A laws heap methods drops met dropped =
     (λ κs. (shr_vals, (uint_vals w64, tt))) (λ κs. (shr_Tells (named 0) κs.0 P, (uint_Tells w64, tt))) (λ κs qs bounds a _ are.
     let κ : Lft = κs.0 in let q : Share = qs.0 in let address : ℕ × ℕ = a.0.ref_ptr in let alloc : A.Denot = a.0.now in let n : ℕ = a.1.0 in let fits : n < 2 ^ 64 = are.1.0.1 in
     let y : W.Ghost = ((κs, qs, bounds, a, (shr_vals a.0, (uint_vals w64 n, tt))), tt) in
-    let τ : Ty = bytes_type n in let Dr : RattleType = deed.the_row P heap in let Pair : RattleType = Tuple (cells.the_row ∷ Dr ∷ []) in
+    let τ : Ty = bytes_type n in let Dr : RattleType = cells_right.the_row P heap in let Pair : RattleType = Tuple (cells.the_row ∷ Dr ∷ []) in
     let Out : RattleType = result.the_row Pair error.the_row in
     let both : Body = head (after 1 function.body) in
     qed 𝓛 (((‵ (flft κ q) ⊛ ‵ (flft κs.1.0 qs.1.0) ⊛ ‵ ftrue) ⊛ ‵ (owns (types_at ended.signature.params κs) a y.0.4)) ∷ (raw (fact 𝓤 (κs.1.0 ⊑ A.lives)) ⊛ raw (fact 𝓤 (n < 2 ^ 63))) ∷ []) ∵

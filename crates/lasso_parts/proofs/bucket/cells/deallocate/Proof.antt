@@ -1,8 +1,8 @@
--- `deallocate` makes room of the places, and gives it back with what the deed owns.
+-- `deallocate` makes room of the places, and gives it back with what the cells_right owns.
 --
 -- The row of the places gives up its pointer, its count and the places, whatever they hold, and any row of
--- places is room for so many bytes. The `requires` says that the deed is for this very room, by this very
--- allocator: so its token is the one that `deallocate` asks for.
+-- places is room for that number of bytes. The `requires` says that the cells_right is for this very room, by this
+-- very allocator: so its token is the one that `deallocate` asks for.
 use Rattle.std.proofs.Common.{◌≡◌, ℕ, ◌*◌, T, List, [], ◌∷◌, ◌++◌, length, refl, sym, ap, subst, ◌∙◌, lit<, arith}
 use base.Fml.{Lft, Share, ftrue, froom, flft, Incl-trans}
 use mir.Syntax.{Fn, Args, a_type, dcons, dnil, ty_unit}
@@ -39,7 +39,7 @@ use Rattle.core.proofs.slots.Slots.into_raw_parts.Met as callee
 use Rattle.std_alloc.proofs.Pairs.{pair_val}
 use Rattle.lasso_parts.specs.Cells.{bytes_type}
 use Rattle.lasso_parts.specs.contracts.bucket.cells.Cells as cells
-use Rattle.lasso_parts.specs.contracts.bucket.cells.Deed as deed
+use Rattle.lasso_parts.specs.contracts.bucket.cells.CellsRight as cells_right
 use Rattle.lasso_parts.specs.contracts.bucket.cells.deallocate as f
 use Rattle.lasso_parts.proofs.RowCalls.{byte, byte_laws, Row, Parts, parting_of, parts_goes, parts_gives}
 use Rattle.lasso_parts.proofs.EmptyStructs.{plainly, mark_told}
@@ -51,7 +51,7 @@ deallocate_spec 𝓤 𝓛 𝓜 𝓡 wired A laws heap methods drops met dropped 
     let H = 𝓛.H in let 𝓣 = tables 𝓤 H 𝓜 𝓡 𝓡.env in
     let ended = f.ended A heap methods drops in let c = f.clauses A heap methods drops 𝓛 𝓜.mem 𝓡.returns in
     let args : Args = bounded (a_type ∷ []) (A, tt) (dcons methods (dcons drops dnil)) in let function : Fn = inst_fn args code.function in
-    let P : RattleType = param 0 A in let Dr : RattleType = deed.the_row P heap in let Z : Al = record { row = A; laws = laws; g = heap; d = methods; drops = drops } in
+    let P : RattleType = param 0 A in let Dr : RattleType = cells_right.the_row P heap in let Z : Al = record { row = A; laws = laws; g = heap; d = methods; drops = drops } in
     let stayed : Stays ended.signature.params ended.kept = (stay_dropped (RefOf (0 ∷ []) tt (plain (λ _. P)) (λ _. tt)) yes, (stay_dropped (plain (λ _. cells.the_row)) yes, (stay_dropped (plain (λ _. Dr)) no, tt))) in
     let W = walk_of 𝓛 ended stayed c in
     proved_at 𝓛 ended stayed c 𝓜 𝓡 (

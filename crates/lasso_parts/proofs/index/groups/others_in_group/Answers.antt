@@ -1,5 +1,6 @@
--- The mask has a bit for each tag of the group, which is set where that of an empty slot or the one given stands there (`tells`). So its trailing zeros
--- are the tags that come before the first such one, and all sixteen come before where no bit is set.
+-- The mask has a bit for each tag of the group, which is set where the tag is that of an empty slot or the
+-- given one (`tells`). So its trailing zeros are the tags that come before the first such one, and all
+-- sixteen come before where no bit is set.
 use Rattle.std.proofs.Common.{◌≡◌, ◌≢◌, ℕ, ◌+◌, ◌%◌, ◌^◌, ◌<◌, ◌≤◌, Bool, true, false, not, ◌||◌, cond, eqb, List, length, map, replicate, bit_or, refl, sym, ap, ◌∙◌, arith}
 use Rattle.std.proofs.lemmas.Bool.{true≢false, eq-eqb}
 use Rattle.std.proofs.lemmas.List.{length-map}

@@ -14,7 +14,7 @@ find_hashed-requires-clause-filed g c =
     let hash_of = text_hash g.S.BuildHasher.build_hasher g.S.Hasher.Hasher.write g.S.Hasher.Hasher.finish c.args.self.now.hasher in
     let log = c.args.self.now.log in
     let notes = c.args.known.now.notes in
-    let is : c.known_texts-texts.result ≡ list_of log notes = c.known_texts-texts.ensures ∙ ap (λ of. list_of of notes) c.requires.of in
+    let is : c.snapshot_texts-texts.result ≡ list_of log notes = c.snapshot_texts-texts.ensures ∙ ap (λ of. list_of of notes) c.requires.of in
     subst (λ (ts : List Text). IsFiled hash_of ts c.args.shard.now.index) (sym is) (filed_later hash_of (shard_of c.args.hash) log c.args.shard.now.known.notes notes c.args.shard.now.index c.requires.begins c.requires.held.exact)
 
 pub returns-clause-found : goal.returns-clause-found
@@ -23,8 +23,8 @@ returns-clause-found g c =
     let log = c.args.self.now.log in
     let notes = c.args.known.now.notes in
     let of : c.args.known.now.of ≡ log = c.requires.of in
-    let is : c.known_texts-texts.result ≡ list_of log notes = c.known_texts-texts.ensures ∙ ap (λ of. list_of of notes) of in
-    let good = (list_good g.K.Key.key_at c.args.known.now.of.opening notes c.show_legal.ensures.opening c.show_legal.ensures.legal).0 in
+    let is : c.snapshot_texts-texts.result ≡ list_of log notes = c.snapshot_texts-texts.ensures ∙ ap (λ of. list_of of notes) of in
+    let good = (list_good g.K.Key.key_at c.args.known.now.of.opening notes c.prove_legal.ensures.opening c.prove_legal.ensures.legal).0 in
     let distinct : IsDistinct (list_of log notes) = subst (λ (o : InternerId). IsDistinct (list_of o notes)) of good in
     found_at hash_of (shard_of c.args.hash) (list_of log notes) c.args.shard.now.index c.args.text.now c.find_hashed.result distinct
     (subst (λ (ts : List Text). IfSome c.find_hashed.result (λ n. Holds c.args.shard.now.index.slots n × (slice_get ts n ≡ Some c.args.text.now))) is c.find_hashed.ensures.found)
@@ -35,7 +35,7 @@ returns-clause-missing g c =
     let log = c.args.self.now.log in
     let notes = c.args.known.now.notes in
     let of : c.args.known.now.of ≡ log = c.requires.of in
-    let is : c.known_texts-texts.result ≡ list_of log notes = c.known_texts-texts.ensures ∙ ap (λ of. list_of of notes) of in
+    let is : c.snapshot_texts-texts.result ≡ list_of log notes = c.snapshot_texts-texts.ensures ∙ ap (λ of. list_of of notes) of in
     missed hash_of (shard_of c.args.hash) (list_of log c.args.shard.now.known.notes) (list_of log notes) c.args.shard.now.index c.args.text.now c.find_hashed.result
     (texts_past log.opening c.args.shard.now.known.notes notes c.requires.begins) c.requires.held.exact (is_home hash_of c.args.hash c.args.text.now c.requires.hashed)
     (subst (λ (ts : List Text). IfNone c.find_hashed.result ((n : ℕ) → Holds c.args.shard.now.index.slots n → slice_get ts n ≢ Some c.args.text.now)) is c.find_hashed.ensures.missing)

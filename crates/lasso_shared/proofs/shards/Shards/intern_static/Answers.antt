@@ -10,8 +10,8 @@ returns-clause-call g c =
     let p = c.args.pass.now.number in
     let o = c.args.self.now.log.opening in
     let q = Intern Static c.args.text.now in
-    let after = seen c.intern_static_new.new.pass in
-    let r = c.intern_static_new.result in
+    let after = seen c.intern_new.new.pass in
+    let r = c.intern_new.result in
     let call : IsCall g.K.Key.key_at o (seen c.peek.new.pass) after p q (Interned r) =
-    subst (λ (n : ℕ). IsCall g.K.Key.key_at o (seen c.peek.new.pass) after n q (Interned r)) c.peek.ensures.same.0 c.intern_static_new.ensures.call in
+    subst (λ (n : ℕ). IsCall g.K.Key.key_at o (seen c.peek.new.pass) after n q (Interned r)) c.peek.ensures.same.0 c.intern_new.ensures.call in
     called_later g.K.Key.key_at o p c.args.pass.now.notes c.peek.new.pass.notes after q (Interned r) c.peek.ensures.since call

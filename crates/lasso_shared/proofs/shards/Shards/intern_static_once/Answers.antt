@@ -20,9 +20,9 @@ pub returns : goal.returns
 returns g c =
     let pass = c.pass-pass.result in
     let o = c.args.self.now.log.opening in
-    let called = c.intern_static_new-reply.ensures in
-    let after = c.intern_static_new-reply.new.pass in
+    let called = c.intern_new-reply.ensures in
+    let after = c.intern_new-reply.new.pass in
     let of : after.of ≡ c.args.self.now.log = called.same.1 ∙ c.pass-pass.ensures.of in
-    let legal : IsLegal g.K.Key.key_at o (history after.notes) = subst (λ (x : InternerId). IsLegal g.K.Key.key_at x.opening (history after.notes)) of c.show_legal.ensures.legal in record {
-      call = plain g.K.Key.key_at o pass.number pass.notes after.notes (Intern Static c.args.text.now) (Interned c.intern_static_new-reply.result) c.pass-pass.ensures.notes called.call legal;
+    let legal : IsLegal g.K.Key.key_at o (history after.notes) = subst (λ (x : InternerId). IsLegal g.K.Key.key_at x.opening (history after.notes)) of c.prove_legal.ensures.legal in record {
+      call = plain g.K.Key.key_at o pass.number pass.notes after.notes (Intern Static c.args.text.now) (Interned c.intern_new-reply.result) c.pass-pass.ensures.notes called.call legal;
     }

@@ -6,13 +6,13 @@ use Rattle.lasso_shared.proofs.Copied.{texts_more}
 use Rattle.lasso_shared.proofs.shards.Shards.of_words.Goals as goal
 
 pub push-requires : goal.push-requires
-push-requires g c = λ a mem. absurd (ne-nil_of_mem mem c.lasting.ensures.until)
+push-requires g c = λ a mem. absurd (ne-nil_of_mem mem c.from_static.ensures.until)
 
 pub loop-word-preserved : goal.loop-word-preserved
 loop-word-preserved g c =
     let i = c.loop-word.invariant in
     let put = c.in_ok-push.ensures in record {
-      texts = texts_more (λ t. t.now) c.args.words.now _ c.loop-word.word-index c.loop-word-test.true c.loop-word.opening.texts c.loop-word.opening.texts c.push.new.self.texts c.lasting.result.text i.texts refl c.lasting.ensures.text put.texts;
+      texts = texts_more (λ t. t.now) c.args.words.now _ c.loop-word.word-index c.loop-word-test.true c.loop-word.opening.texts c.loop-word.opening.texts c.push.new.self.texts c.from_static.result.text i.texts refl c.from_static.ensures.text put.texts;
       used = ap (λ (b : LentBucket). b.used) put.bucket ∙ i.used;
       size = ap (λ (b : LentBucket). b.size) put.bucket ∙ i.size;
     }

@@ -8,11 +8,11 @@ pub returns-in-Some-reserve_ahead-clause-put : goal.returns-in-Some-reserve_ahea
 returns-in-Some-reserve_ahead-clause-put g c =
     let i = c.loop.invariant in
     let p = c.args.pass.now.number in
-    let w = c.is_whole.ensures in
+    let w = c.lock_current-guard.ensures in
     let log = c.args.self.now.log in
-    let mid = c.is_whole.new.pass.notes in
+    let mid = c.lock_current-guard.new.pass.notes in
     let after = c.append_at-reply.new.pass.notes in
-    let same : c.is_whole.new.pass.number ≡ p = w.same.0 ∙ i.2.0 in
+    let same : c.lock_current-guard.new.pass.number ≡ p = w.same.0 ∙ i.2.0 in
     let put : PutsLast g.K.Key.key_at log p mid after c.args.text.text c.append_at-reply.result = subst (λ (n : ℕ). PutsLast g.K.Key.key_at log n mid after c.args.text.text c.append_at-reply.result) same c.append_at-reply.ensures.put in
     puts_later g.K.Key.key_at log p c.args.pass.now.notes mid after c.args.text.text c.append_at-reply.result
     (since_both p c.loop.pass.number c.args.pass.now.notes c.loop.pass.notes mid i.2.0 i.3 w.since) put
@@ -21,5 +21,5 @@ pub loop-preserved : goal.loop-preserved
 loop-preserved g c =
     let i = c.loop.invariant in
     let p = c.args.pass.now.number in
-    let w = c.is_whole.ensures in
-    (tt, tt, (w.same.0 ∙ i.2.0, w.same.1 ∙ i.2.1), since_both p c.loop.pass.number c.args.pass.now.notes c.loop.pass.notes c.is_whole.new.pass.notes i.2.0 i.3 w.since, rw (← ap (λ s. s.known.notes) i.5) w.begins, i.5)
+    let w = c.lock_current-guard.ensures in
+    (tt, tt, (w.same.0 ∙ i.2.0, w.same.1 ∙ i.2.1), since_both p c.loop.pass.number c.args.pass.now.notes c.loop.pass.notes c.lock_current-guard.new.pass.notes i.2.0 i.3 w.since, rw (← ap (λ s. s.known.notes) i.5) w.whole.begins, i.5)

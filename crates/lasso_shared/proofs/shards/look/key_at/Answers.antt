@@ -4,5 +4,5 @@ use Rattle.lasso_shared.proofs.shards.look.key_at.Goals as goal
 pub unwrap-requires : goal.unwrap-requires
 unwrap-requires g c =
     let of = c.args.known.now.of in
-    let fits = (list_good g.K.Key.key_at of.opening c.args.known.now.notes c.show_legal.ensures.opening c.show_legal.ensures.legal).1 in
+    let fits = (list_good g.K.Key.key_at of.opening c.args.known.now.notes c.prove_legal.ensures.opening c.prove_legal.ensures.legal).1 in
     rw c.try_from_usize.ensures (fits c.args.position c.requires)

@@ -1,5 +1,6 @@
--- The list that was had is distinct and fits the keys, and the interner opens with it. A refusal is a fault of the value or want of memory.
--- A value that was written for a list has no fault, and the list that is had of it is that one.
+-- The list that was read is distinct and fits the keys, and the interner opens with it. An error is a fault
+-- of the value or `FailedAllocation`. A value that was written for a list has no fault, and the list that is
+-- read from it is that one.
 use Rattle.std.proofs.Common.{◌⊎◌, inl, inr, map, refl}
 use Rattle.std.proofs.lemmas.Result.{err_from_is_err_and}
 use Rattle.serde_json.specs.View.{view}

@@ -11,15 +11,15 @@ use Rattle.lasso_shared.proofs.threaded.ThreadedRodeo.into_reader_as.Goals as go
 pub copy_of-requires-clause-distinct : goal.copy_of-requires-clause-distinct
 copy_of-requires-clause-distinct g c =
     let after = c.len-len.new.pass in
-    let opens = c.show_legal.ensures.opening in
-    let kept = list_kept g.K.Key.key_at after.of.opening (history after.notes) opens.distinct opens.fits c.show_legal.ensures.legal in
+    let opens = c.prove_legal.ensures.opening in
+    let kept = list_kept g.K.Key.key_at after.of.opening (history after.notes) opens.distinct opens.fits c.prove_legal.ensures.legal in
     subst (λ (ts : List Text). IsDistinct ts) (sym c.seen_texts-texts.ensures) kept.0
 
 pub copy_of-requires-clause-fits : goal.copy_of-requires-clause-fits
 copy_of-requires-clause-fits g c =
     let after = c.len-len.new.pass in
-    let opens = c.show_legal.ensures.opening in
-    let kept = list_kept g.K.Key.key_at after.of.opening (history after.notes) opens.distinct opens.fits c.show_legal.ensures.legal in
+    let opens = c.prove_legal.ensures.opening in
+    let kept = list_kept g.K.Key.key_at after.of.opening (history after.notes) opens.distinct opens.fits c.prove_legal.ensures.legal in
     subst (λ (ts : List Text). Fits g.K.Key.key_at (length ts)) (sym c.seen_texts-texts.ensures) kept.1
 
 pub returns-in-Ok-clause-call : goal.returns-in-Ok-clause-call

@@ -13,6 +13,6 @@ returns-clause-same g c =
     let of = c.in_ok-key.ensures.same.1 ∙ (c.requires.of.0 ∙ (sym c.requires.of.1 ∙ sym c.in_ok-other_key.ensures.same.1)) in
     let has = (c.calls_tell_keys.ensures o (seen c.args.one.now) (seen one) c.args.one.now.number).interned Static c.args.text.now c.in_ok-key.key c.in_ok-key.ensures.call in
     let holds = (c.calls_tell_keys.ensures o (seen c.args.other.now) (seen other) c.args.other.now.number).interned Static c.args.word.now c.in_ok-other_key.other_key c.in_ok-other_key.ensures.call in
-    let equal = c.keys_are_equal_where_texts_are.ensures o (seen one) (seen other) c.args.text.now c.args.word.now c.in_ok-key.key c.in_ok-other_key.other_key ((c.passes_share_keys.ensures one other of).compared c.compare.ensures) has holds in
+    let equal = c.keys_are_equal_where_texts_are.ensures o (seen one) (seen other) c.args.text.now c.args.word.now c.in_ok-key.key c.in_ok-other_key.other_key ((c.passes_share_keys.ensures one other of).compared c.prove_comparable.ensures) has holds in
     let eq = c.eq.ensures in
     (λ same. equal.0 (grind (arith, nat_tests, eq, same)), λ texts. let keys = equal.1 texts in grind (arith, nat_tests, eq, keys))

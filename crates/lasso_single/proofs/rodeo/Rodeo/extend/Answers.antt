@@ -2,7 +2,7 @@ use Rattle.std.proofs.Common.{[], ◌∷◌, ◌++◌, map, Ok, Err, refl, sym, 
 use Rattle.std.proofs.lemmas.List.{map_push}
 use Rattle.std.proofs.lemmas.Result.{err_from_is_err_and}
 use Rattle.lasso_parts.specs.Texts.{Text}
-use Rattle.lasso_single.specs.Filling.{EndsRefused}
+use Rattle.lasso_single.specs.Filling.{StopsAtRefusal}
 use Rattle.lasso_single.specs.Intern.{InternsIn}
 use Rattle.lasso_single.proofs.Filled.{accepted, extend_turn, yields_push}
 use Rattle.lasso_single.proofs.rodeo.Rodeo.extend.Goals as goal
@@ -16,7 +16,7 @@ returns-in_err-try_get_or_intern g c =
     let given : g.I.IntoIterator.into_iter_gives c.args.items from = subst (λ s. g.I.IntoIterator.into_iter_gives c.args.items s) (sym c.into_iter-text-iterator.ensures.into_iter_gives) c.into_iter-items.ensures.into_iter_gives in
     let ran = yields_push g.I.IntoIter.Iterator.next_gives from c.loop-text.text-iterator c.next.new.self items c.in-Some.text c.loop-text.yielded_by c.in-Some.ensures.steps in
     let interns : InternsIn g.K.Key.key_at c.loop-text.self (g.T.AsStr.text c.in-Some.text) (Err error) c.try_get_or_intern.new.self = subst (λ (t : Text). InternsIn g.K.Key.key_at c.loop-text.self t (Err error) c.try_get_or_intern.new.self) c.as_str.ensures told in
-    let last : EndsRefused g.K.Key.key_at c.args.self.now (map g.T.AsStr.text (items ++ c.in-Some.text ∷ [])) error c.try_get_or_intern.new.self = (map g.T.AsStr.text items, g.T.AsStr.text c.in-Some.text, c.loop-text.self, map_push g.T.AsStr.text items c.in-Some.text, c.loop-text.invariant, interns) in
+    let last : StopsAtRefusal g.K.Key.key_at c.args.self.now (map g.T.AsStr.text (items ++ c.in-Some.text ∷ [])) error c.try_get_or_intern.new.self = (map g.T.AsStr.text items, g.T.AsStr.text c.in-Some.text, c.loop-text.self, map_push g.T.AsStr.text items c.in-Some.text, c.loop-text.invariant, interns) in
     let p = err_from_is_err_and c.from_residual.result c.from_residual.ensures.1 in
     rw (p.1, p.2) (from, items ++ c.in-Some.text ∷ [], given, ((c.next.new.self, ran), last))
 

@@ -1,4 +1,4 @@
--- A long text that an arena stored where it had room goes to the end of the list, beside its entry.
+-- A long text that an arena stored where it had room goes to the end of the list, as its entry does.
 use Rattle.std.proofs.Common.{◌≡◌, ◌∙◌, List, [], ◌∷◌, ◌++◌, length, refl, sym, ap, subst}
 use Rattle.lasso_parts.specs.Arena.{text_at}
 use Rattle.lasso_parts.specs.Bucket.{Extent}

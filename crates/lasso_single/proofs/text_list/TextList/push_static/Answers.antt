@@ -11,11 +11,11 @@ pub returns-then-is_vast-clause-texts : goal.returns-then-is_vast-clause-texts
 returns-then-is_vast-clause-texts g c =
     let i = c.self.inside in
     let regions = i.arena.all in
-    let long = c.lasting-long.result in
+    let long = c.from_static-long.result in
     let vast = c.push_reserved-then-is_vast.new.self.items in
     let more = c.push_reserved-then-is_vast.ensures.items ∙ ap (λ (ts : List LentText). ts ++ long ∷ []) c.in_ok-reserve-2.ensures.items in
     let grown = c.push_reserved-then-is_vast-2.ensures.items ∙ ap (λ (xs : List EntryView). xs ++ c.listed.result ∷ []) c.in_ok-reserve.ensures.items in
     let last = c.len-index.ensures ∙ c.reserve-then-is_vast.new.self.ok.0 ∙ ap length c.in_ok-reserve-2.ensures.items in
-    let text = listed_text i.vast.items vast long c.listed.result c.len-index.result more last c.listed.ensures regions ∙ c.lasting-long.ensures.bytes regions in
+    let text = listed_text i.vast.items vast long c.listed.result c.len-index.result more last c.listed.ensures regions ∙ c.from_static-long.ensures.bytes regions in
     texts_pushed regions regions i.vast.items vast i.entries.items c.push_reserved-then-is_vast-2.new.self.items c.listed.result c.self.invariant.0 (kept_same regions) (places_push i.vast.items vast long more) grown c.args.text.now text
     ∙ ap (λ (h : InternerView). h.texts ++ c.args.text.now ∷ []) c.self.view_is

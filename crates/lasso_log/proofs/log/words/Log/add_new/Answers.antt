@@ -64,9 +64,9 @@ invariant_of-pass g c =
     let by : e.by ≡ first_number c.pass.inside.number.numbers = ap (λ (w : NoteView). w.by) offer.1 in
     let past = tails a after i.3 (prefix_trans a v after c.learn-2.ensures.3 same.2) in
     let used = used_word_later c.pass.inside.seen.book (notes_of a) (notes_of after) c.pass.inside.used past.2 i.1 in (
-      rw (c.replace-used.ensures.after, book) c.next_ticket-next.ensures,
+      rw (c.use_up-word.ensures.next, book) c.next_ticket-next.ensures,
       subst (λ b. IfSome c.pass.inside.used (IsUsedWord b (notes_of after))) mine used,
-      rw (c.replace-used.ensures.after, sym by) (sym (fact.ticket ∙ ap (λ (w : NoteView). w.next) offer.1)),
+      rw (c.use_up-word.ensures.next, sym by) (sym (fact.ticket ∙ ap (λ (w : NoteView). w.next) offer.1)),
       fact.opened,
       rw fact.opening fact.legal,
       rw (← past.1) i.5,
@@ -84,12 +84,12 @@ invariant_of-result g c =
     let book : c.offer-after.result.book ≡ c.args.self.now.book = same.0 ∙ (c.learn-2.ensures.0 ∙ (c.learn.ensures.0 ∙ (ap (λ y. y.book) c.again-seen.ensures ∙ ap (λ y. y.book) c.self.view_is))) in
     let mine : c.pass.inside.seen.book ≡ c.again.result.book = ap (λ s. s.of.book) c.pass.view_is ∙ (ap (λ x. x.book) c.requires.of.0 ∙ (sym book ∙ sym (ap (λ s. s.book) again))) in
     let names : c.again.result.names ≡ c.args.self.now.chunks = ap (λ s. s.names) again ∙ (same.1 ∙ (c.learn-2.ensures.1 ∙ (c.learn.ensures.1 ∙ (ap (λ y. y.names) c.again-seen.ensures ∙ ap (λ y. y.chunks) c.self.view_is)))) in
-    let word : c.replace-used.result.word ≡ word_of c.pass.inside.seen.book c.pass.inside.ticket.pen.nib.key = ap (λ y. y.word) c.replace-used.ensures.value ∙ (c.set.ensures.word ∙ i.0.0) in
-    let key : c.replace-used.result.word.key ≡ c.pass.inside.ticket.pen.nib.key = ap (λ w. w.key) word in
-    let ticket : e.ticket ≡ c.replace-used.result.word.key = ap (λ (w : NoteView). w.ticket) offer.1 ∙ (ap (λ (p : Nib). p.key) set.1 ∙ sym key) in
+    let word : c.use_up-word.result ≡ word_of c.pass.inside.seen.book c.pass.inside.ticket.pen.nib.key = c.use_up-word.ensures.word ∙ (c.set.ensures.word ∙ i.0.0) in
+    let key : c.use_up-word.result.key ≡ c.pass.inside.ticket.pen.nib.key = ap (λ w. w.key) word in
+    let ticket : e.ticket ≡ c.use_up-word.result.key = ap (λ (w : NoteView). w.ticket) offer.1 ∙ (ap (λ (p : Nib). p.key) set.1 ∙ sym key) in
     let event : d.note.event ≡ Charge b.size n = ap (λ (w : NoteView). w.event) (fact.note ∙ offer.1) in
     let own : d.note.lent ≡ bucket_at numbers b.size n ∷ [] = ap (λ (w : NoteView). w.lent) (fact.note ∙ offer.1) in
-    let used : d.note.ticket ≡ c.replace-used.result.word.key = ap (λ (w : NoteView). w.ticket) fact.note ∙ ticket in
+    let used : d.note.ticket ≡ c.use_up-word.result.key = ap (λ (w : NoteView). w.ticket) fact.note ∙ ticket in
     let opening : f.opening ≡ o = sym (opening_first after) ∙ (fact.opening ∙ (ap opening_of before ∙ (ap (λ s. s.of.opening) c.pass.view_is ∙ ap (λ y. y.opening) c.requires.of.0))) in
     let turned : IsTurned g.K.Key.key_at o (notes_of t.seen.log) t.turns t.doubling t.usage t.limit t.count =
     subst (λ (x : Totals). IsTurned g.K.Key.key_at x (notes_of t.seen.log) t.turns t.doubling t.usage t.limit t.count) (ap (λ y. y.of.opening) c.turns.view_is ∙ ap (λ y. y.opening) c.requires.of.1) c.turns.invariant.1 in
@@ -101,7 +101,7 @@ invariant_of-result g c =
     let begins : IsPrefix c.self.inside.seen.log after = subst (λ (l : List NoteView). IsPrefix l after) (ap (λ y. y.log) c.again-seen.ensures)
     (prefix_trans c.again-seen.result.log v after (prefix_trans c.again-seen.result.log c.learn.new.self.log v c.learn.ensures.2 c.learn-2.ensures.2) same.2) in
     let lent : length f.lent ≡ 1 = ap (λ (x : NoteView). length x.lent) (sym (firsts c.self.inside.seen.log after c.self.invariant.2 begins)) ∙ c.self.invariant.7 in
-    let stands = stands_last f d.mid (notes_of after) d.note b.size n t.count c.replace-used.result.word.key numbers one lent all event used own d.last in
+    let stands = stands_last f d.mid (notes_of after) d.note b.size n t.count c.use_up-word.result.key numbers one lent all event used own d.last in
     let log : c.again.result.log ≡ after = ap (λ s. s.log) again in record {
       own = word ∙ (ap (λ x. word_of x c.pass.inside.ticket.pen.nib.key) mine ∙ ap (word_of c.again.result.book) (sym key));
       opened = rw log fact.opened;

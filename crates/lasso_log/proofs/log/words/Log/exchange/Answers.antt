@@ -63,18 +63,18 @@ invariant_of-pass-2 g c =
     let i = c.pass.invariant in
     let offer = c.offered-offer.ensures.offer in
     let e = c.offered-offer.result.ask in
-    let used = c.replace-used.ensures in
-    let key : ℕ = c.replace-used.result.word.key in
+    let used = c.use_up.ensures in
+    let key : ℕ = c.use_up.result.key in
     let book = c.compare_exchange-found.new.seen.book in
     let by : e.by ≡ first_number c.pass.inside.number.numbers = ap (λ (w : NoteView). w.by) offer.1 in
     let self : book ≡ c.args.self.now.book = c.compare_exchange-found.ensures.0 ∙ (c.learn-2.ensures.0 ∙ (c.learn.ensures.0 ∙ (ap (λ s. s.book) c.again-seen.ensures ∙ ap (λ o. o.book) c.self.view_is))) in
     let mine : book ≡ c.pass.inside.seen.book = self ∙ sym (ap (λ s. s.of.book) c.pass.view_is ∙ ap (λ o. o.book) c.requires.of.0) in
-    let word : c.replace-used.result.word ≡ word_of c.pass.inside.seen.book c.pass.inside.ticket.pen.nib.key = ap (λ t. t.word) used.value ∙ i.0.0 in
+    let word : c.use_up.result ≡ word_of c.pass.inside.seen.book c.pass.inside.ticket.pen.nib.key = used.word ∙ i.0.0 in
     let own : key ≡ c.pass.inside.ticket.pen.nib.key = ap (λ w. w.key) word in
     let ticket : f.done.note.ticket ≡ key = f.done.ticket ∙ (ap (λ (w : NoteView). w.ticket) offer.1 ∙ sym own) in (
-      rw (used.after, self) c.next_ticket-next.ensures,
+      rw (used.next, self) c.next_ticket-next.ensures,
       (word ∙ (ap (λ b. word_of b c.pass.inside.ticket.pen.nib.key) (sym mine) ∙ ap (word_of book) (sym own)), subst (IsUsed key) (sym f.done.last) (used_last f.done.mid f.done.note key ticket)),
-      rw (used.after, sym by) (sym (f.ticket ∙ ap (λ (w : NoteView). w.next) offer.1)),
+      rw (used.next, sym by) (sym (f.ticket ∙ ap (λ (w : NoteView). w.next) offer.1)),
       f.opened,
       rw f.opening f.legal,
       rw f.opening i.5,

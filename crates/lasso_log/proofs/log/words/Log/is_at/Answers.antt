@@ -16,18 +16,18 @@ where_true true f = f refl
 where_true false f = tt
 
 pub load-requires-clause-known : goal.load-requires-clause-known
-load-requires-clause-known g c = rw (ap (λ w. w.key) c.self.invariant.6) (has_turns c.learn.new.self.notes)
+load-requires-clause-known g c = rw (ap (λ w. w.key) c.self.invariant.6) (has_turns c.learn_seen.new.self.notes)
 
 pub returns-clause-since : goal.returns-clause-since
 returns-clause-since g c =
-    since_trans c.args.pass.now.number c.args.pass.now.notes c.learn.new.self.notes c.load.new.pass.notes [] c.learn.ensures.since (subst (λ (p : ℕ). Since p c.learn.new.self.notes c.load.new.pass.notes []) c.learn.ensures.same.0 c.load.ensures.since)
+    since_trans c.args.pass.now.number c.args.pass.now.notes c.learn_seen.new.self.notes c.load.new.pass.notes [] c.learn_seen.ensures.since (subst (λ (p : ℕ). Since p c.learn_seen.new.self.notes c.load.new.pass.notes []) c.learn_seen.ensures.same.0 c.load.ensures.since)
 
 pub returns-clause-at : goal.returns-clause-at
 returns-clause-at g c =
     let i = c.turns.inside in let v = notes_of i.seen.log in let notes = c.load.new.pass.notes in let o : Totals = c.args.self.now.opening in
     let opening = ap (λ t. t.of.opening) c.turns.view_is ∙ ap (λ of. of.opening) c.requires.1 in
     let turned : IsTurned g.K.Key.key_at o v i.turns i.doubling i.usage i.limit i.count = subst (λ (t : Totals). IsTurned g.K.Key.key_at t v i.turns i.doubling i.usage i.limit i.count) opening c.turns.invariant.1 in
-    let begins : IsPrefix v notes = prefix_trans v c.learn.new.self.notes notes (c.learn.ensures.given c.turns.invariant.0) (c.load.ensures.since.rest, c.load.ensures.since.begins) in
+    let begins : IsPrefix v notes = prefix_trans v c.learn_seen.new.self.notes notes (c.learn_seen.ensures.given c.turns.invariant.0) (c.load.ensures.since.rest, c.load.ensures.since.begins) in
     let word : IsWordWith notes 1 1 c.load.result = subst (λ (k : ℕ). IsWordWith notes 1 k c.load.result) (ap (λ w. w.key) c.self.invariant.6) c.load.ensures.reply.0 in
     where_true (c.load.result == i.turns) (λ is.
     let found : c.load.result ≡ i.turns = grind (arith, nat_tests, is) in

@@ -10,7 +10,7 @@ returns-in-Some-try_reserve-3-clause-event g c =
     let p = c.args.pass.now.number in let i = c.loop-bucket.invariant in let b : SharedView = c.in-Some-2.bucket.now in
     let after : List NoteView = c.try_reserve-in-loop-bucket.new.pass.notes in let own = Reserve b.position c.args.bytes ∷ [] in let e = c.in-Some-try_reserve-3.ensures in (
       b,
-      c.share_opening-in-loop-bucket.ensures,
+      c.prove_shared_opening-in-loop-bucket.ensures,
       record {
         event = since_trans p c.args.pass.now.notes c.loop-bucket.pass.notes after own i.3 (subst (λ (q : ℕ). Since q c.loop-bucket.pass.notes after own) i.2.0 e.event);
         note = subst (λ (q : ℕ). IsNoteOf q after (Reserve b.position c.args.bytes) b.site) i.2.0 e.note;

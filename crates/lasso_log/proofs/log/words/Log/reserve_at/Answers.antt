@@ -38,7 +38,7 @@ compare_exchange-found-requires g c =
           (ap (λ (w : NoteView). w.ticket) offer.1) (i.2 ∙ ap (λ (p : ℕ). ticket_of p (notes_of a)) (sym by)) (at.value, at.stands.word) moving may lets,
     )
 
-facts : (g : Over) (c : goal.After-drop-used g)
+facts : (g : Over) (c : goal.After-drop-pass-inside-2 g)
     → IsIn g.K.Key.key_at (opening_of c.pass.inside.seen.log) c.pass.inside.seen.log c.bucket.inside.seen.log c.compare_exchange-found.new.seen.log c.take_bytes-offer.result.ask (suc (suc c.bucket.inside.position)) c.bucket.inside.word.key c.args.expected
 facts g c =
     let i = c.pass.invariant in let offer = c.take_bytes-offer.ensures in let e = c.take_bytes-offer.result.ask in let at = c.bucket.invariant.stands in
@@ -52,16 +52,16 @@ facts g c =
 pub invariant_of-pass-2 : goal.invariant_of-pass-2
 invariant_of-pass-2 g c =
     let f = facts g c in let i = c.pass.invariant in let offer = c.take_bytes-offer.ensures in let e = c.take_bytes-offer.result.ask in
-    let used = c.replace-used.ensures in let key : ℕ = c.replace-used.result.word.key in let book = c.compare_exchange-found.new.seen.book in
+    let used = c.use_up.ensures in let key : ℕ = c.use_up.result.key in let book = c.compare_exchange-found.new.seen.book in
     let by : e.by ≡ first_number c.pass.inside.number.numbers = ap (λ (w : NoteView). w.by) offer.1 in
     let self : book ≡ c.args.self.now.book = c.compare_exchange-found.ensures.0 ∙ (c.learn-2.ensures.0 ∙ (c.learn.ensures.0 ∙ (ap (λ s. s.book) c.again-seen.ensures ∙ ap (λ o. o.book) c.self.view_is))) in
     let mine : book ≡ c.pass.inside.seen.book = self ∙ sym (ap (λ s. s.of.book) c.pass.view_is ∙ ap (λ o. o.book) c.requires.of.0) in
-    let word : c.replace-used.result.word ≡ word_of c.pass.inside.seen.book c.pass.inside.ticket.pen.nib.key = ap (λ t. t.word) used.value ∙ i.0.0 in
+    let word : c.use_up.result ≡ word_of c.pass.inside.seen.book c.pass.inside.ticket.pen.nib.key = used.word ∙ i.0.0 in
     let own : key ≡ c.pass.inside.ticket.pen.nib.key = ap (λ w. w.key) word in
     let ticket : f.done.note.ticket ≡ key = f.done.ticket ∙ (ap (λ (w : NoteView). w.ticket) offer.1 ∙ sym own) in (
-      rw (used.after, self) c.next_ticket-next.ensures,
+      rw (used.next, self) c.next_ticket-next.ensures,
       (word ∙ (ap (λ b. word_of b c.pass.inside.ticket.pen.nib.key) (sym mine) ∙ ap (word_of book) (sym own)), subst (IsUsed key) (sym f.done.last) (used_last f.done.mid f.done.note key ticket)),
-      rw (used.after, sym by) (sym (f.ticket ∙ ap (λ (w : NoteView). w.next) offer.1)),
+      rw (used.next, sym by) (sym (f.ticket ∙ ap (λ (w : NoteView). w.next) offer.1)),
       f.opened,
       rw f.opening f.legal,
       rw f.opening i.5,

@@ -1,7 +1,7 @@
 -- A `&` to the places of a block.
 --
--- It holds a `&` to each of the two fields, and nothing more: beside its fields the struct owns nothing. So it
--- can be made of any borrow of the places, and the law for what it holds beside them is that for nothing.
+-- It holds a `&` to each of the two fields, and nothing more: apart from its fields the struct owns nothing.
+-- So it can be made of any borrow of the places, and the law for what else it holds is that for nothing.
 use denote.Param.Shared.{copy_shared}
 use denote.SharingLaws.{nothing_shr_laws}
 use denote.Struct.Field.{RawPtr-field}

@@ -1,4 +1,4 @@
--- A loan of a copied text owns nothing, so `among_regions` has one of any span for nothing.
+-- A loan of a copied text owns nothing, so `among_regions` makes one of any span from nothing.
 use Rattle.std.proofs.Common.{ℕ, [], ◌∷◌, refl, w64}
 use base.Fml.{ftrue}
 use types.Kit.{‵, ◌⊛◌, ◌$◌, ◌∵◌, !, qed, keep as only, fjoin, use0, suffices, done}

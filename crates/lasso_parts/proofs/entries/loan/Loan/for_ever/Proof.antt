@@ -1,7 +1,7 @@
 -- `for_ever` leaves the two words of a `&` that never ends, and keeps what it holds.
 --
--- A `&` to bytes is their address and their number, and a `&` to each byte. The second is all that a loan owns,
--- so the loan, which is no word, is had for it, and the address is the first word.
+-- A `&` to bytes is their address and their number, and a `&` to each byte. The second is all that a loan
+-- owns, so the loan, which is no word, is made from it, and the address is the first word.
 use Rattle.std.proofs.Common.{ℕ, ◌*◌, ◌^◌, ◌<◌, List, [], ◌∷◌, length, refl, arith}
 use base.Fml.{ftrue}
 use mir.Val.{Val, vptr}
@@ -34,7 +34,7 @@ use Rattle.lasso_parts.proofs.entries.loan.Loan.for_ever.Code as code
 abbrev stayed : Stays f.ended.signature.params f.ended.kept
 stayed = (stay_dropped (SliceRefOf [] tt (plain (λ _. u8)) (λ _. tt)) yes, tt)
 
--- as many bytes as a block has room for
+-- a number of bytes that a block has room for
 counted : (n : ℕ) → n * 1 < 2 ^ 63 → n < 2 ^ 63
 counted n h = omega (arith, h)
 

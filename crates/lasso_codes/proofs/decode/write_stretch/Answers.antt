@@ -1,0 +1,69 @@
+use Rattle.std.proofs.Common.{◌≡◌, ◌+◌, ◌-◌, ◌++◌, Ok, Err, length, take, drop, ap, subst, refl, arith, length-drop}
+use Rattle.std.proofs.lemmas.Result.{err_from_is_err_and}
+use Rattle.lasso_columns.proofs.FirstLines.{rest_behind}
+use Rattle.lasso_codes.specs.Arguments.{word_of}
+use Rattle.lasso_codes.specs.Decode.{line_at, LinesFault, WritesEntry}
+use Rattle.lasso_codes.specs.Stages.{LinesAhead}
+use Rattle.lasso_codes.specs.Reading.{items_from}
+use Rattle.lasso_codes.specs.Streams.{Writes}
+use Rattle.lasso_codes.proofs.DecodedLines.{entry_done, entry_fails}
+use Rattle.lasso_codes.proofs.Stretches.{next_entry_cut}
+use Rattle.lasso_codes.proofs.Written.{writes_then}
+use Rattle.lasso_codes.proofs.decode.write_stretch.Goals as goal
+
+pub returns-in_err-write_entry_line-clause-fault : goal.returns-in_err-write_entry_line-clause-fault
+returns-in_err-write_entry_line-clause-fault g c =
+    let p = err_from_is_err_and c.from_residual.result c.from_residual.ensures.1 in
+    let at = c.loop-position in
+    let stretch = c.args.stretch.now in
+    let rest = take (length stretch - at.used) (drop at.used stretch) in
+    let header = c.args.header in
+    let null = word_of c.args.null in
+    let texts = c.args.rodeo.now.texts in
+    let column = c.args.column in
+    let entry = c.in-Some.entry in
+    let len = c.in-Some.len in
+    let made = line_at null texts entry (at.position + 1) in
+    let fault = c.in_err-write_entry_line.field-0.0 in
+    rw (p.1, p.2) (λ read later before so_far.
+    let left = drop at.used stretch ++ later in
+    let behind = drop (at.used + len) stretch ++ later in
+    let cut = next_entry_cut stretch rest at.used len (rest_behind at.used stretch) header.binary entry c.in-Some.ensures.cut later in
+    let others = items_from (line_at null texts) (header.lines - at.position) header.binary (at.position + 1) left in
+    writes_then _ _ _ (LinesAhead others read) (WritesEntry made column (Err fault)) (λ part. LinesFault read column part fault) (at.invariant.written read later before so_far) c.in_err-write_entry_line.ensures (λ part more on written.
+    entry_fails null texts header.lines at.position header.binary left behind entry read part c.loop-position-test.true cut on made column more fault refl written))
+
+pub loop-position-preserved : goal.loop-position-preserved
+loop-position-preserved g c =
+    let at = c.loop-position in
+    let stretch = c.args.stretch.now in
+    let rest = take (length stretch - at.used) (drop at.used stretch) in
+    let same : rest ≡ drop at.used stretch = rest_behind at.used stretch in
+    let long : length rest ≡ length (drop at.used stretch) = ap (λ bs. length bs) same in
+    let header = c.args.header in
+    let null = word_of c.args.null in
+    let texts = c.args.rodeo.now.texts in
+    let column = c.args.column in
+    let entry = c.in-Some.entry in
+    let len = c.in-Some.len in
+    let made = line_at null texts entry (at.position + 1) in
+    record {
+      within = omega (arith, c.in-Some.ensures.within, at.invariant.within, long, length-drop at.used stretch);
+      written = λ read later before so_far.
+          let left = drop at.used stretch ++ later in
+          let behind = drop (at.used + len) stretch ++ later in
+          let cut = next_entry_cut stretch rest at.used len same header.binary entry c.in-Some.ensures.cut later in
+          let others = items_from (line_at null texts) (header.lines - at.position) header.binary (at.position + 1) left in
+          let then = items_from (line_at null texts) (header.lines - (at.position + 1)) header.binary (at.position + 1 + 1) behind in
+          writes_then _ _ _ (LinesAhead others read) (WritesEntry made column (Ok c.in_ok-write_entry_line.field-0)) (LinesAhead then read) (at.invariant.written read later before so_far) c.in_ok-write_entry_line.ensures (λ part more on written.
+          entry_done null texts header.lines at.position header.binary left behind entry read part c.loop-position-test.true cut on made column more refl written);
+    }
+
+pub returns-clause-written : goal.returns-clause-written
+returns-clause-written g c = λ read later before so_far.
+    let at = c.loop-position in
+    let header = c.args.header in
+    let make = line_at (word_of c.args.null) c.args.rodeo.now.texts in
+    let all : at.position ≡ header.lines = omega (arith, c.loop-position-test.false, at.auto.position-end, c.requires) in
+    let left = drop at.used c.args.stretch.now ++ later in
+    subst (λ n. Writes before (g.W.Write.contents at.output) (LinesAhead (items_from make (header.lines - n) header.binary (n + 1) left) read)) all (at.invariant.written read later before so_far)

@@ -1,0 +1,19 @@
+use Rattle.std.proofs.Common.{ℕ, ◌+◌, ◌-◌, ◌≤◌, List, ◌++◌, Option, length, drop}
+use Rattle.lasso_parts.specs.Texts.{Text}
+use Rattle.lasso_codes.specs.Arguments.{word_of}
+use Rattle.lasso_codes.specs.Decode.{line_at}
+use Rattle.lasso_codes.specs.Stages.{LinesAhead}
+use Rattle.lasso_codes.specs.Reading.{ReadItems, items_from}
+use Rattle.lasso_codes.specs.Streams.{Writes}
+use Rattle.lasso_codes.proofs.decode.write_stretch.Given as goal
+
+-- the lines of the entries before the position are written, and the others are ahead
+abbrev pub invariant-loop-position : goal.invariant-loop-position
+invariant-loop-position g l =
+    let make = line_at (word_of l.fn.null) l.fn.rodeo.texts in
+    record {
+      within : l.used ≤ length l.fn.stretch;
+      written : (read : ReadItems Text) (later : List ℕ) (before : Option (List ℕ))
+          → Writes before (g.W.Write.contents l.fn.output) (LinesAhead (items_from make (l.fn.header.lines - l.fn.count) l.fn.header.binary (l.fn.count + 1) (l.fn.stretch ++ later)) read)
+          → Writes before (g.W.Write.contents l.output) (LinesAhead (items_from make (l.fn.header.lines - l.position) l.fn.header.binary (l.position + 1) (drop l.used l.fn.stretch ++ later)) read);
+    }

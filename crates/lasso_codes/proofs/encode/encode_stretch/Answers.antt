@@ -1,0 +1,45 @@
+use Rattle.std.proofs.Common.{◌≡◌, ◌+◌, ◌-◌, ◌<◌, ◌++◌, length, take, drop, refl, arith}
+use Rattle.std.proofs.lemmas.Grind.{common_steps}
+use Rattle.std.proofs.lemmas.Bool.Decides.{nat_tests}
+use Rattle.lasso_single.specs.Interner.{made_with}
+use Rattle.lasso_columns.proofs.FirstLines.{rest_behind}
+use Rattle.lasso_codes.specs.Arguments.{word_of}
+use Rattle.lasso_codes.proofs.EncodedLines.{encoding_push, encoding_line_fails}
+use Rattle.lasso_codes.proofs.Stretches.{next_cut, next_inside, next_tested, others_tested}
+use Rattle.lasso_codes.proofs.encode.encode_stretch.Goals as goal
+
+pub encode_line-requires : goal.encode_line-requires
+encode_line-requires c = λ tested.
+    let at = c.loop-number in
+    let stretch = c.args.stretch.now in
+    let rest = take (length stretch - at.used) (drop at.used stretch) in
+    let untested = c.untested_len-untested.result in
+    let small : untested < length rest - c.in-Some.len = grind (arith, common_steps, nat_tests) in
+    next_tested stretch rest at.used c.in-Some.len (rest_behind at.used stretch) c.in-Some.ensures untested at.invariant.text small
+
+pub returns-in-Err-clause-fault : goal.returns-in-Err-clause-fault
+returns-in-Err-clause-fault c = λ input later limit so_far.
+    let at = c.loop-number in
+    let stretch = c.args.stretch.now in
+    let rest = take (length stretch - at.used) (drop at.used stretch) in
+    let len = c.in-Some.len in
+    let start = made_with 4096 limit in
+    encoding_line_fails input (drop at.used stretch ++ later) at.number (word_of c.args.null) start at.rodeo at.numbers.items (at.invariant.numbered input later start so_far) limit (take len rest) (drop (at.used + (len + 1)) stretch ++ later) c.in-Err.error refl
+    (next_cut stretch rest at.used len (rest_behind at.used stretch) c.in-Some.ensures later) c.in-Err.ensures.fault
+
+pub loop-number-preserved : goal.loop-number-preserved
+loop-number-preserved c =
+    let at = c.loop-number in
+    let stretch = c.args.stretch.now in
+    let rest = take (length stretch - at.used) (drop at.used stretch) in
+    let same : rest ≡ drop at.used stretch = rest_behind at.used stretch in
+    let len = c.in-Some.len in
+    let found = c.in-Some.ensures in
+    let told = c.in_default-encode_line.ensures.numbered in
+    record {
+      within = next_inside stretch rest at.used len same found at.invariant.within;
+      text = others_tested stretch rest at.used len same found c.untested_len-untested.result at.invariant.text;
+      numbered = λ input later start so_far.
+          encoding_push input (drop at.used stretch ++ later) at.number (word_of c.args.null) start at.rodeo c.encode_line.new.rodeo at.numbers.items (take len rest) (drop (at.used + (len + 1)) stretch ++ later) told.1.0 c.encode_line.new.numbers.items
+          (at.invariant.numbered input later start so_far) (next_cut stretch rest at.used len same found later) told.0 told.1.1 told.1.2;
+    }

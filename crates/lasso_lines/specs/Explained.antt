@@ -1,0 +1,24 @@
+-- What explains that a run with workers tells a refused line.
+use Rattle.std.specs.Prelude.{ℕ, ◌≡◌, ◌⊎◌, List, []}
+use Rattle.lasso_parts.specs.Texts.{Text}
+use Rattle.lasso_parts.specs.declared.util.LassoErrorKind.TheVariants.{FailedAllocation}
+use Rattle.lasso_log.specs.History.{History, Totals, IsLegal, opened}
+use Rattle.lasso_columns.specs.Encoding.{spur_at}
+use Rattle.lasso_lines.specs.Report.{first_bytes}
+use Rattle.lasso_lines.specs.Shares.{IsLowestRefusedIn}
+use Rattle.lasso_lines.specs.declared.fault.RunFault.{RunFault}
+use Rattle.lasso_lines.specs.declared.fault.RunFault.TheVariants.{Refused}
+
+-- a refused line is told for out of memory; or it may be refused so somewhere in the history, and all lines before it are in the
+-- list that the history leads to. Nothing is said of other faults
+abbrev pub IsExplainedIn : Totals → History → List Text → RunFault → Type 0
+IsExplainedIn opening past lines (Refused number error) = (error ≡ FailedAllocation) ⊎ IsLowestRefusedIn opening past lines (number, error)
+IsExplainedIn opening past lines fault = Unit {0}
+
+-- what an interner of default capacity with this limit begins with
+abbrev pub begun : ℕ → Totals
+begun limit = opened [] first_bytes 0 limit
+
+-- the same in some legal history of such an interner. Whose events it has, and whether it sets another limit, is not said
+abbrev pub IsExplainedBy : ℕ → List Text → RunFault → Type 0
+IsExplainedBy limit lines fault = (past : History) × IsLegal spur_at (begun limit) past × IsExplainedIn (begun limit) past lines fault

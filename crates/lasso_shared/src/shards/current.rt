@@ -1,0 +1,92 @@
+//! Comparing a held shard with the spine: the shard's index is exact for a list that has no more texts of the shard.
+ghost use Rattle.std.specs.Prelude.{◌≡◌, ◌<◌, [], true};
+ghost use mathlib.Core.List.{IsPrefix};
+ghost use Rattle.lasso_parts.specs.Hashing.{text_hash};
+ghost use Rattle.lasso_log.specs.Notes.{Since};
+ghost use Rattle.lasso_log.specs.Views.{PassView, InternerId, SnapshotView, IsSamePass, list_of};
+ghost use Rattle.lasso_shared.specs.Shards.{IsShard, IsTally, IsWholeShard};
+
+use crate::shards::Shards;
+use crate::shards::shard::{BoxedTally, Shard, Tally};
+use lasso_log::locks::TaggedMutexGuard;
+use lasso_log::log::Pass;
+use lasso_parts::keys::Key;
+use std::hash::BuildHasher;
+use std::sync::Wait;
+
+impl<K: Key, S: BuildHasher + Drop> Shards<K, S> {
+    // Whether the pass has then seen a list that the spine has seen too, with no more texts of the shard than the shard has.
+    pub(super) fn is_current(
+        &self,
+        tally: &Tally<K, S>,
+        shard: &Shard<K, S>,
+        pass: &mut Pass<K>,
+        number: usize,
+    ) -> bool
+        requires of { (pass.old.of ≡ self.now.log) × (number < 16) }
+        requires held { IsShard (text_hash S.build_hasher S.Hasher.write S.Hasher.finish self.now.hasher) number self.now.log shard.now.known shard.now.index shard.now.count }
+        requires tally { IsTally (text_hash S.build_hasher S.Hasher.write S.Hasher.finish self.now.hasher) self.now.log tally.now.spine tally.now.counts }
+        requires begins { IsPrefix shard.now.known.notes pass.old.notes }
+        ensures same { IsSamePass pass.new pass.old }
+        ensures since { Since pass.old.number pass.old.notes pass.new.notes [] }
+        ensures begins { IsPrefix shard.now.known.notes pass.new.notes }
+        ensures whole { result ≡ true → IsWholeShard (text_hash S.build_hasher S.Hasher.write S.Hasher.finish self.now.hasher) number self.now.log shard.now.known.notes pass.new.notes }
+        ensures list { result ≡ true → list_of self.now.log pass.new.notes ≡ list_of self.now.log tally.now.spine.notes }
+    {
+        if self.log.len(pass) != tally.spine.len() {
+            return false;
+        }
+        tally.spine.prove_agrees(pass);
+        tally.counts[number] == shard.count
+    }
+
+    // Locks the spine once the held shard is whole: it compares the shard with the spine's number of it, until
+    // they are equal and the length is the spine's. The shard's index is exact for what the pass has then seen.
+    pub(super) fn lock_current<R: Wait>(
+        &self,
+        rt: &R,
+        shard: &Shard<K, S>,
+        pass: &mut Pass<K>,
+        number: usize,
+    ) -> (TaggedMutexGuard<'_, BoxedTally<K, S>>, BoxedTally<K, S>)
+        requires of { (pass.old.of ≡ self.now.log) × (number < 16) }
+        requires held { IsShard (text_hash S.build_hasher S.Hasher.write S.Hasher.finish self.now.hasher) number self.now.log shard.now.known shard.now.index shard.now.count }
+        requires begins { IsPrefix shard.now.known.notes pass.old.notes }
+        ensures same { IsSamePass pass.new pass.old }
+        ensures since { Since pass.old.number pass.old.notes pass.new.notes [] }
+        ensures whole { IsWholeShard (text_hash S.build_hasher S.Hasher.write S.Hasher.finish self.now.hasher) number self.now.log shard.now.known.notes pass.new.notes }
+        ensures spine { result.0 ≡ self.now.spine }
+        ensures tally { IsTally (text_hash S.build_hasher S.Hasher.write S.Hasher.finish self.now.hasher) self.now.log result.1.tally.value.spine result.1.tally.value.counts }
+        ensures list { list_of self.now.log pass.new.notes ≡ list_of self.now.log result.1.tally.value.spine.notes }
+    {
+        for _ in rt.forever() {
+            let (guard, held) = self.spine.lock(rt);
+            if self.is_current(&held.tally, shard, pass, number) {
+                return (guard, held);
+            }
+            guard.unlock(rt, held);
+        }
+        unreachable!()
+    }
+
+    // The same, for a caller that needs no spine. It stays out of line, so that present texts set up nothing for
+    // it.
+    #[inline(never)]
+    pub(super) fn wait_current<R: Wait>(
+        &self,
+        rt: &R,
+        shard: &Shard<K, S>,
+        pass: &mut Pass<K>,
+        number: usize,
+    )
+        requires of { (pass.old.of ≡ self.now.log) × (number < 16) }
+        requires held { IsShard (text_hash S.build_hasher S.Hasher.write S.Hasher.finish self.now.hasher) number self.now.log shard.now.known shard.now.index shard.now.count }
+        requires begins { IsPrefix shard.now.known.notes pass.old.notes }
+        ensures same { IsSamePass pass.new pass.old }
+        ensures since { Since pass.old.number pass.old.notes pass.new.notes [] }
+        ensures whole { IsWholeShard (text_hash S.build_hasher S.Hasher.write S.Hasher.finish self.now.hasher) number self.now.log shard.now.known.notes pass.new.notes }
+    {
+        let (guard, held) = self.lock_current(rt, shard, pass, number);
+        guard.unlock(rt, held);
+    }
+}

@@ -1,0 +1,206 @@
+//! What makers open with.
+use super::FIRST;
+use crate::calls::{Shared, kept, limit, limited, usage};
+use lasso_parts::keys::{Key, MicroSpur, Spur};
+use lasso_parts::util::{Capacity, FixedState, LassoResult, MemoryLimits};
+use lasso_shared::threaded::ThreadedRodeo;
+use std::alloc::Global;
+use std::sync::Wait;
+use std::test::*;
+
+// Whether the interner that was made has this usage, this limit and this number of cells; or why none was made.
+fn has<K: Key, R: Wait>(
+    rt: &R,
+    made: LassoResult<ThreadedRodeo<K, FixedState>>,
+    wanted: (usize, usize, usize),
+) -> LassoResult<bool> {
+    let shared = made?;
+    Ok((usage(rt, &shared), limit(rt, &shared), cells(&shared)) == wanted)
+}
+
+// For how many texts there are cells.
+fn cells<K: Key>(shared: &ThreadedRodeo<K, FixedState>) -> usize {
+    shared.capacity()
+}
+
+// What the maker by default makes.
+fn by_default<R: Wait>(rt: &R, alloc: Global, wanted: (usize, usize, usize)) -> LassoResult<bool> {
+    has(rt, ThreadedRodeo::default(alloc), wanted)
+}
+
+// What the maker by default makes for 8-bit keys.
+fn by_new<R: Wait>(rt: &R, alloc: Global, wanted: (usize, usize, usize)) -> LassoResult<bool> {
+    has::<MicroSpur, _>(rt, ThreadedRodeo::new(alloc), wanted)
+}
+
+#[test]
+fn makers_open_with_defaults(rt: HostRuntime) -> Result<(), Fail> {
+    // chunks of 32 and 32 cells for 50 texts
+    assert!(rt; by_default(&rt, rt.alloc(), (4096, usize::MAX, 64))?);
+    assert!(rt; by_new(&rt, rt.alloc(), (4096, usize::MAX, 64))?);
+    Ok(())
+}
+
+// What is made with this capacity.
+fn by_capacity<R: Wait>(
+    rt: &R,
+    alloc: Global,
+    room: Capacity,
+    wanted: (usize, usize, usize),
+) -> LassoResult<bool> {
+    has::<Spur, _>(rt, ThreadedRodeo::with_capacity(alloc, room), wanted)
+}
+
+// What is made under this limit.
+fn by_limit<R: Wait>(
+    rt: &R,
+    alloc: Global,
+    limits: MemoryLimits,
+    wanted: (usize, usize, usize),
+) -> LassoResult<bool> {
+    has::<Spur, _>(rt, ThreadedRodeo::with_memory_limits(alloc, limits), wanted)
+}
+
+// What is made with this capacity under this limit.
+fn by_both<R: Wait>(
+    rt: &R,
+    alloc: Global,
+    room: Capacity,
+    limits: MemoryLimits,
+    wanted: (usize, usize, usize),
+) -> LassoResult<bool> {
+    let made = ThreadedRodeo::with_capacity_and_memory_limits(alloc, room, limits);
+    has::<Spur, _>(rt, made, wanted)
+}
+
+#[test]
+fn makers_open_with_capacity_and_limit(rt: HostRuntime) -> Result<(), Fail> {
+    let (room, limits) = (Capacity::new(1000, 65536), MemoryLimits::new(10000));
+    assert!(rt; by_capacity(&rt, rt.alloc(), room, (65536, usize::MAX, 1024))?);
+    assert!(rt; by_limit(&rt, rt.alloc(), limits, (4096, 10000, 64))?);
+    // chunks of 32, 32 and 64 cells
+    let (room, limits) = (Capacity::new(70, 4), MemoryLimits::new(12));
+    assert!(rt; by_both(&rt, rt.alloc(), room, limits, (4, 12, 128))?);
+    Ok(())
+}
+
+// Numbers of texts and of bytes, and the cells that there are for these texts: a power of two, and 32 at least.
+const ROOMS: [(usize, usize, usize); 16] = [
+    (0, 1, 0),
+    (1, 2, 32),
+    (31, 3, 32),
+    (32, 255, 32),
+    (33, 256, 64),
+    (64, 257, 64),
+    (65, 1000, 128),
+    (128, 4095, 128),
+    (129, 4097, 256),
+    (1000, 65_535, 1024),
+    (1024, 65_537, 1024),
+    (1025, 100_003, 2048),
+    (5000, 1_000_003, 8192),
+    (65_536, 1_048_577, 65_536),
+    (65_537, 3_000_001, 131_072),
+    (100_000, 16_777_217, 131_072),
+];
+
+#[test]
+fn makers_open_with_each_size(rt: HostRuntime) -> Result<(), Fail> {
+    for (strings, bytes, cells) in ROOMS {
+        assert!(rt; bytes > 0);
+        let room = Capacity::new(strings, bytes);
+        assert!(rt;
+            by_capacity(&rt, rt.alloc(), room, (bytes, usize::MAX, cells))?,
+            "{bytes}"
+        );
+        for limit in [bytes, bytes.saturating_mul(3), 0x0123_4567_89ab_cdef] {
+            let limits = MemoryLimits::new(limit);
+            assert!(rt;
+                by_both(&rt, rt.alloc(), room, limits, (bytes, limit, cells))?,
+                "{bytes}"
+            );
+        }
+    }
+    Ok(())
+}
+
+// What is made with this capacity and a hasher.
+fn by_hasher<R: Wait>(
+    rt: &R,
+    alloc: Global,
+    room: Capacity,
+    wanted: (usize, usize, usize),
+) -> LassoResult<bool> {
+    let made = ThreadedRodeo::with_capacity_and_hasher(alloc, room, FixedState::new());
+    has::<Spur, _>(rt, made, wanted)
+}
+
+// What is made with this capacity under this limit and with a hasher.
+fn by_all<R: Wait>(
+    rt: &R,
+    alloc: Global,
+    room: Capacity,
+    limits: MemoryLimits,
+    wanted: (usize, usize, usize),
+) -> LassoResult<bool> {
+    let hasher = FixedState::new();
+    let made = ThreadedRodeo::with_capacity_memory_limits_and_hasher(alloc, room, limits, hasher);
+    has::<Spur, _>(rt, made, wanted)
+}
+
+#[test]
+fn makers_take_a_hasher(rt: HostRuntime) -> Result<(), Fail> {
+    let room = Capacity::for_bytes(7);
+    assert!(rt; by_hasher(&rt, rt.alloc(), room, (7, usize::MAX, 64))?);
+    // the limit lies below the first bucket, which stays
+    let (room, limits) = (Capacity::new(0, 10), MemoryLimits::new(5));
+    assert!(rt; by_all(&rt, rt.alloc(), room, limits, (10, 5, 0))?);
+    Ok(())
+}
+
+// Interns the texts, and gives the usage and the number of cells then.
+fn filled<R: Wait>(
+    rt: &R,
+    made: LassoResult<Shared>,
+    texts: &[&'static str],
+) -> LassoResult<(usize, usize)> {
+    let shared = made?;
+    for text in texts.iter() {
+        kept(rt, &shared, *text)?;
+    }
+    Ok((usage(rt, &shared), cells(&shared)))
+}
+
+// An interner with this capacity.
+fn with(alloc: Global, room: Capacity) -> LassoResult<Shared> {
+    ThreadedRodeo::with_capacity(alloc, room)
+}
+
+#[test]
+fn capacity_is_room_for_texts(rt: HostRuntime) -> Result<(), Fail> {
+    let made = with(rt.alloc(), Capacity::for_strings(70));
+    assert!(rt; filled(&rt, made, &FIRST)? == (4096, 128));
+    let made = with(rt.alloc(), Capacity::minimal());
+    assert!(rt; filled(&rt, made, &["p"])? == (1, 32));
+    Ok(())
+}
+
+#[test]
+fn no_limit_refuses_a_static_text(rt: HostRuntime) -> Result<(), Fail> {
+    let shared: Shared = limited(rt.alloc(), 10, 5)?;
+    assert!(rt; filled(&rt, Ok(shared), &["0123456789ab"])? == (10, 64));
+    Ok(())
+}
+
+fn is_refused(alloc: Global, capacity: Capacity) -> bool {
+    match with(alloc, capacity) {
+        Ok(_made) => false,
+        Err(error) => error.kind().is_failed_alloc(),
+    }
+}
+
+#[test]
+fn sizes_that_no_memory_has(rt: HostRuntime) {
+    assert!(rt; is_refused(rt.alloc(), Capacity::for_bytes(usize::MAX)));
+    assert!(rt; is_refused(rt.alloc(), Capacity::for_strings(usize::MAX)));
+}

@@ -1,0 +1,170 @@
+//! What the answers of a pass show of the steps that they are about: how long the list is, how great the usage and how many limits were
+//! set, at least and at most.
+//!
+//! The steps of a pass go on, the list and the usage only grow, and limits are only added. So what an answer shows at least holds of all
+//! later ones, and what it shows at most of all earlier ones.
+use crate::answers::Answer;
+use crate::frozen::Frozen;
+use std::alloc::{AllocError, Global};
+
+/// How long the list is, how great the usage and how many limits were set, at least or at most.
+#[derive(Clone, Copy, Debug)]
+pub struct Bound {
+    pub texts: usize,
+    pub usage: usize,
+    pub limits: usize,
+}
+
+impl Bound {
+    /// No bound, where it is one of what there is at most.
+    pub fn none() -> Self {
+        Bound {
+            texts: usize::MAX,
+            usage: usize::MAX,
+            limits: usize::MAX,
+        }
+    }
+
+    /// The least of both, each number by itself.
+    pub fn min(self, other: Bound) -> Self {
+        Bound {
+            texts: self.texts.min(other.texts),
+            usage: self.usage.min(other.usage),
+            limits: self.limits.min(other.limits),
+        }
+    }
+}
+
+/// The limits that the setter set in turn, in bytes, behind that of the beginning. A pass counts those of the setter alone: that is its own
+/// thread, or else the one thread that sets limits.
+#[derive(Drop)]
+pub struct Setter {
+    /// The number of the thread.
+    pub thread: usize,
+    /// Whether no other thread sets limits.
+    pub alone: bool,
+    limits: Vec<usize>,
+}
+
+impl Setter {
+    /// The thread of this number and with these answers, in a round that began with this limit, in bytes. It is refused for want of
+    /// memory alone.
+    pub fn new(
+        alloc: Global,
+        thread: usize,
+        alone: bool,
+        limit: usize,
+        answers: &[Answer],
+    ) -> Result<Self, AllocError> {
+        let mut limits = Vec::new(alloc);
+        limits.push(limit)?;
+        for answer in answers {
+            if let Answer::Limited { bytes } = *answer {
+                limits.push(bytes)?;
+            }
+        }
+        Ok(Setter {
+            thread,
+            alone,
+            limits,
+        })
+    }
+
+    /// How many limits it set.
+    pub fn count(&self) -> usize {
+        self.limits.len().saturating_sub(1)
+    }
+
+    // How many limits were set at least, where so many were at least before and a limit of so many bytes was read. The limit does not tell
+    // where others set limits too.
+    fn least(&self, least: usize, read: usize) -> usize {
+        if self.alone {
+            for (number, bytes) in self.limits.iter().enumerate() {
+                if least <= number && *bytes == read {
+                    return number;
+                }
+            }
+        }
+        least
+    }
+
+    // How many limits were set at most, likewise.
+    fn most(&self, most: usize, read: usize) -> usize {
+        let mut found = most;
+        if self.alone {
+            for (number, bytes) in self.limits.iter().enumerate() {
+                if number <= most && *bytes == read {
+                    found = number;
+                }
+            }
+        }
+        found
+    }
+}
+
+/// What later answers are about at least.
+pub fn least_after(setter: &Setter, answer: &Answer, least: Bound) -> Bound {
+    let mut after = least;
+    match *answer {
+        Answer::Interned { position, .. } => after.texts = after
+            .texts
+            .max(position.saturating_add(1)),
+        Answer::Found {
+            position: Some(position),
+            ..
+        } => after.texts = after.texts.max(position.saturating_add(1)),
+        Answer::Resolved {
+            position,
+            there: true,
+            ..
+        } => after.texts = after.texts.max(position.saturating_add(1)),
+        Answer::Counted { texts } => after.texts = after.texts.max(texts),
+        Answer::Walked { texts, .. } => after.texts = after.texts.max(texts),
+        Answer::Used { bytes } => after.usage = after.usage.max(bytes),
+        Answer::Allowed { bytes } => after.limits = setter.least(after.limits, bytes),
+        Answer::Limited { .. } => after.limits = after.limits.saturating_add(1),
+        _ => {}
+    }
+    after
+}
+
+// What the answer and earlier ones are about at most.
+fn most_before(frozen: &Frozen, setter: &Setter, answer: &Answer, most: Bound) -> Bound {
+    let mut before = most;
+    match *answer {
+        Answer::Refused { text, .. } => before.texts = before.texts.min(frozen.position(text)),
+        Answer::Found {
+            text,
+            position: None,
+        } => before.texts = before.texts.min(frozen.position(text)),
+        Answer::Resolved {
+            position,
+            there: false,
+            ..
+        } => before.texts = before.texts.min(position),
+        Answer::Counted { texts } => before.texts = before.texts.min(texts),
+        Answer::Walked { texts, .. } => before.texts = before.texts.min(texts),
+        Answer::Used { bytes } => before.usage = before.usage.min(bytes),
+        Answer::Allowed { bytes } => before.limits = setter.most(before.limits, bytes),
+        Answer::Limited { .. } => before.limits = before.limits.saturating_sub(1),
+        _ => {}
+    }
+    before
+}
+
+/// What each of the answers is about at most, that of the last one first. It is refused for want of memory alone.
+pub fn most_bounds(
+    alloc: Global,
+    frozen: &Frozen,
+    setter: &Setter,
+    answers: &[Answer],
+) -> Result<Vec<Bound>, AllocError> {
+    let mut bounds = Vec::new(alloc);
+    let mut most = Bound::none();
+    most.limits = setter.count();
+    for answer in answers.iter().rev() {
+        most = most_before(frozen, setter, answer, most);
+        bounds.push(most)?;
+    }
+    Ok(bounds)
+}

@@ -1,0 +1,237 @@
+//! Whether each answer of each pass is explained by the frozen list.
+//!
+//! The answers of a pass are gone through from the first to the last. What earlier ones show is the least that a later one may be about,
+//! and what later ones show is the most. The limits that can have been in force are those of all threads, as far as their times may meet.
+use crate::answers::Answer;
+use crate::bounds::{Bound, Setter, least_after, most_bounds};
+use crate::frozen::Frozen;
+use crate::reigns::{Reign, ended, note_reigns};
+use crate::texts::Texts;
+use anyhow::{Error, Result, anyhow};
+use lasso::{Key, LassoErrorKind};
+use std::alloc::Global;
+
+/// A round: what it began with, in bytes, the list that it ended with, and the thread that alone set limits, where one did.
+#[derive(Clone, Copy)]
+pub struct Round<'a> {
+    pub texts: &'a Texts,
+    pub frozen: &'a Frozen,
+    pub usage: usize,
+    pub limit: usize,
+    pub alone: Option<usize>,
+}
+
+// What is known of a pass: the limits that it counts, and what each of its answers is about at most, that of the last one first.
+#[derive(Drop)]
+struct Snapshot {
+    setter: Setter,
+    mosts: Vec<Bound>,
+}
+
+impl Round<'_> {
+    // What a pass is about at least before its first answer.
+    fn first(&self) -> Bound {
+        Bound {
+            texts: 0,
+            usage: self.usage,
+            limits: 0,
+        }
+    }
+
+    // What is known of the pass of a thread.
+    fn known(&self, alloc: Global, found: &[Vec<Answer>], thread: usize) -> Result<Snapshot> {
+        let own = self.alone.unwrap_or(thread);
+        let limits = answers_of(found, own);
+        let setter = Setter::new(alloc, own, self.alone.is_some(), self.limit, limits)?;
+        let mosts = most_bounds(alloc, self.frozen, &setter, answers_of(found, thread))?;
+        Ok(Snapshot { setter, mosts })
+    }
+}
+
+// The answers of the thread.
+fn answers_of(found: &[Vec<Answer>], thread: usize) -> &[Answer] {
+    match found.get(thread) {
+        Some(answers) => answers.as_slice(),
+        None => &[],
+    }
+}
+
+/// Fails with a message where an answer of a thread is not explained by the list, as one after those of the same pass before it and before
+/// those behind it.
+pub fn check<K: Key>(alloc: Global, round: &Round<'_>, found: &[Vec<Answer>]) -> Result<()> {
+    let mut reigns = Vec::new(alloc);
+    reigns.push(Reign::first(round.limit, round.first()))?;
+    let mut all = Vec::new(alloc);
+    for thread in 0..found.len() {
+        let known = round.known(alloc, found, thread)?;
+        let answers = answers_of(found, thread);
+        note_reigns(
+            &mut reigns,
+            &known.setter,
+            answers,
+            round.first(),
+            known.mosts.as_slice(),
+        )?;
+        all.push(known)?;
+    }
+    let reigns = ended(alloc, reigns.as_slice())?;
+    for (known, answers) in all.iter().zip(found) {
+        check_pass::<K>(round, reigns.as_slice(), known, answers.as_slice())?;
+    }
+    Ok(())
+}
+
+// Fails with a message where an answer of a pass is not explained.
+fn check_pass<K: Key>(
+    round: &Round<'_>,
+    reigns: &[Reign],
+    known: &Snapshot,
+    answers: &[Answer],
+) -> Result<()> {
+    let setter = &known.setter;
+    let mut least = round.first();
+    let mut since = least;
+    for (answer, most) in answers.iter().zip(known.mosts.iter().rev()) {
+        let most = *most;
+        let times = Times { since, least, most };
+        if let Some(rule) = broken::<K>(round, reigns, setter, answer, times) {
+            return Err(times.error().context(format_args!("{rule}: {answer:?}")));
+        }
+        least = least_after(setter, answer, least);
+        if let Answer::Used { .. } = answer {
+            since = least;
+        }
+    }
+    Ok(())
+}
+
+// The rule that the answer breaks, where it breaks one.
+fn broken<K: Key>(
+    round: &Round<'_>,
+    reigns: &[Reign],
+    setter: &Setter,
+    answer: &Answer,
+    times: Times,
+) -> Option<&'static str> {
+    if !is_true(round.frozen, answer) {
+        Some("not so in the list")
+    } else if !is_late(round.frozen, answer, times.least) {
+        Some("too late")
+    } else if !is_refused_rightly::<K>(round.texts, reigns, setter, answer, times) {
+        Some("no refusal")
+    } else if !is_within_limits(reigns, setter, answer, times) {
+        Some("no limit allows it")
+    } else {
+        None
+    }
+}
+
+// What an answer is about at least and at most, and what the last reading of the usage before it was about at least.
+#[derive(Clone, Copy, Debug)]
+struct Times {
+    since: Bound,
+    least: Bound,
+    most: Bound,
+}
+
+impl Times {
+    // An error that says them.
+    fn error(&self) -> Error {
+        let Times { since, least, most } = *self;
+        anyhow!(
+            "texts {}..{}, usage {}..{}, limits {}..{} since {}",
+            least.texts,
+            most.texts,
+            least.usage,
+            most.usage,
+            least.limits,
+            most.limits,
+            since.limits
+        )
+    }
+}
+
+// Whether the answer is that of some beginning of the list.
+fn is_true(frozen: &Frozen, answer: &Answer) -> bool {
+    match *answer {
+        Answer::Interned { text, position } => frozen.number(position) == Some(text),
+        Answer::Found {
+            text,
+            position: Some(position),
+        } => frozen.number(position) == Some(text),
+        Answer::Resolved {
+            position,
+            there: true,
+            text,
+        } => { text.is_some() && frozen.number(position) == text }
+        Answer::Walked { texts, sum } => frozen.sum(texts) == Some(sum),
+        Answer::Refused { kind, .. } => kind != LassoErrorKind::FailedAllocation,
+        _ => true,
+    }
+}
+
+// Whether the answer may come where the list and the usage are at least these.
+fn is_late(frozen: &Frozen, answer: &Answer, least: Bound) -> bool {
+    match *answer {
+        Answer::Refused { text, .. } => least.texts <= frozen.position(text),
+        Answer::Found {
+            text,
+            position: None,
+        } => least.texts <= frozen.position(text),
+        Answer::Resolved {
+            position,
+            there: false,
+            ..
+        } => least.texts <= position,
+        Answer::Counted { texts } => least.texts <= texts,
+        Answer::Walked { texts, .. } => least.texts <= texts,
+        Answer::Used { bytes } => least.usage <= bytes,
+        _ => true,
+    }
+}
+
+// Whether a refusal has its reason. The usage only grows: so one for the limit has none where the least usage that was read behind it, with
+// the text's bytes, is within each limit that can have been in force. Keys are asked for at the list's end: so one for want of a key has
+// none where the longest list that it may be about has a next key.
+fn is_refused_rightly<K: Key>(
+    texts: &Texts,
+    reigns: &[Reign],
+    setter: &Setter,
+    answer: &Answer,
+    times: Times,
+) -> bool {
+    let Answer::Refused { text, copied, kind } = *answer else {
+        return true;
+    };
+    let bytes = texts.text(text).len();
+    match kind {
+        LassoErrorKind::KeySpaceExhaustion => K::try_from_usize(times.most.texts).is_none(),
+        LassoErrorKind::MemoryLimitReached => {
+            let past = times.most.usage.saturating_add(bytes);
+            copied
+                && bytes > 0
+                && reigns.iter().any(|reign| {
+                    reign.bytes < past && reign.may_be_at(setter, times.least, times.most)
+                })
+        }
+        _ => false,
+    }
+}
+
+// Whether a limit that was read can have been in force, and whether a usage that was read can have been reached. A step that raises the usage
+// ends within the limit in force: so a usage that rose since the last reading is within one that can have been in force since then. It may lie
+// above a limit that fell, and then it stays.
+fn is_within_limits(reigns: &[Reign], setter: &Setter, answer: &Answer, times: Times) -> bool {
+    match *answer {
+        Answer::Used { bytes } => {
+            bytes == times.least.usage
+                || reigns.iter().any(|reign| {
+                    bytes <= reign.bytes && reign.may_be_at(setter, times.since, times.most)
+                })
+        }
+        Answer::Allowed { bytes } => reigns.iter().any(|reign| {
+            reign.bytes == bytes && reign.may_be_at(setter, times.least, times.most)
+        }),
+        _ => true,
+    }
+}

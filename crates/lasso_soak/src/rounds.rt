@@ -1,0 +1,134 @@
+//! Rounds of random calls that threads make of one interner, and whether one list explains all answers.
+ghost use Rattle.std.specs.Prelude.{◌≡◌};
+
+use crate::answers::{Answer, Limits, readings};
+use crate::checker::{Round, check};
+use crate::frozen::Frozen;
+use crate::passes::{Found, THREADS, Work, by_all};
+use crate::texts::Texts;
+use anyhow::{Result, bail, ensure};
+use lasso::log::Pass;
+use lasso::{Capacity, FixedState, Key, MemoryLimits, MicroSpur, Spur, ThreadedRodeo};
+use std::alloc::Global;
+use std::rt::Clock;
+use std::sync::Wait;
+use std::thread::Threads;
+use std::time::Instant;
+
+// The bytes of the first bucket.
+const FIRST: usize = 16;
+
+// The least limit.
+const LEAST: usize = 1000;
+
+/// Makes rounds of so many calls a thread, each with another seed from 0 on, until so many seconds are over, and gives how many rounds it
+/// were. It fails where a round does, and where the clock does.
+pub fn rounds_in<R: AllocGlobal + Clock + Print + Threads + Wait + Sync>(
+    rt: &R,
+    seconds: u64,
+    calls: u32,
+) -> Result<u64> {
+    let start = Instant::now(rt)?;
+    for seed in 0..u64::MAX {
+        if start.elapsed(rt)?.as_secs() >= seconds {
+            return Ok(seed);
+        }
+        if let Err(error) = calls_in_round(rt, seed, calls) {
+            return Err(error.context(format_args!("round {seed}")));
+        }
+    }
+    Ok(u64::MAX)
+}
+
+/// A round: four threads make so many random calls each, and each answer is checked. Rounds of even seeds have keys enough; of the odd ones
+/// keys run out. In every third round one thread alone sets limits. How many texts there are in the end. It fails with a message where an
+/// answer is wrong, and for want of memory.
+pub fn calls_in_round<R: AllocGlobal + Threads + Wait + Sync>(
+    rt: &R,
+    seed: u64,
+    calls: u32,
+) -> Result<usize> {
+    let count = if seed % 2 == 0 { 4000 } else { 400 };
+    let texts = Texts::new(rt.alloc(), count)?;
+    let limits = Limits {
+        least: LEAST,
+        count: count * 8,
+        set: true,
+    };
+    let setter = if seed % 3 == 2 {
+        Some((seed / 3) as usize % THREADS)
+    } else {
+        None
+    };
+    let work = Work {
+        texts: &texts,
+        limits,
+        setter,
+        seed,
+        calls,
+    };
+    if seed % 2 == 0 {
+        round::<Spur, R>(rt, work)
+    } else {
+        round::<MicroSpur, R>(rt, work)
+    }
+}
+
+// A round with keys of this type.
+fn round<K: Key + Send + Sync, R: AllocGlobal + Threads + Wait + Sync>(
+    rt: &R,
+    work: Work<'_>,
+) -> Result<usize> {
+    let limit = LEAST.saturating_add(work.limits.count / 2);
+    let rodeo: ThreadedRodeo<K, FixedState> = ThreadedRodeo::with_capacity_and_memory_limits(
+        rt.alloc(),
+        Capacity::for_bytes(FIRST),
+        MemoryLimits::new(limit),
+    )?;
+    let mut pass = rodeo.pass();
+    let found = by_all(rt, &rodeo, &mut pass, work)?;
+    let last = readings(rt, &rodeo, &mut pass);
+    let frozen = freeze(rt, rodeo, &mut pass, work.texts)?;
+    let round = Round {
+        texts: work.texts,
+        frozen: &frozen,
+        usage: FIRST,
+        limit,
+        alone: work.setter,
+    };
+    let found = with_last(rt.alloc(), found, last)?;
+    check::<K>(rt.alloc(), &round, found.as_slice())?;
+    Ok(frozen.len())
+}
+
+// The texts of the interner, as the pass has then seen them.
+fn freeze<K: Key, R: AllocGlobal + Wait>(
+    rt: &R,
+    rodeo: ThreadedRodeo<K, FixedState>,
+    pass: &mut Pass<K>,
+    texts: &Texts,
+) -> Result<Frozen>
+    requires { pass.old.of ≡ rodeo }
+{
+    let reader = rodeo.into_reader_as(rt, pass)?;
+    let mut frozen = Frozen::new(rt.alloc(), texts)?;
+    for text in reader.strings() {
+        frozen.push(texts, text)?;
+    }
+    Ok(frozen)
+}
+
+// The answers of each thread, and behind them those of the pass that has seen what all had.
+fn with_last(alloc: Global, found: Vec<Found>, last: [Answer; 3]) -> Result<Vec<Vec<Answer>>> {
+    let mut all = Vec::new(alloc);
+    for answers in found {
+        let Ok(mut answers) = answers else {
+            bail!("no memory for the answers");
+        };
+        for answer in last {
+            answers.push(answer)?;
+        }
+        all.push(answers)?;
+    }
+    Ok(all)
+}

@@ -1,0 +1,9 @@
+//! What the tests of several crates share: key types that lack numbers, hashers that choose where a text goes or count
+//! the texts, an allocator that refuses a request, lists of texts, and pseudorandom numbers.
+#![tactic(auto)]
+
+pub mod draws;
+pub mod hashers;
+pub mod keys;
+pub mod refusing;
+pub mod texts;
