@@ -42,6 +42,16 @@ fn defaults_are_number_0(rt: HostRuntime) {
 }
 
 #[test]
+fn positions_in_32_bits(rt: HostRuntime) -> Result<(), Fail> {
+    assert!(rt; Spur::default().into_position() == 0);
+    let third = Spur::try_from_usize(2).ok_or("no key")?;
+    assert!(rt; third.into_position() == 2);
+    let last = Spur::try_from_usize(4_294_967_294).ok_or("no last key")?;
+    assert!(rt; last.into_position() == 4_294_967_294);
+    Ok(())
+}
+
+#[test]
 fn debug_shows_the_kept_number(rt: HostRuntime) -> Result<(), Fail> {
     let last = MicroSpur::try_from_usize(254).ok_or("no key")?;
     let printed = format!(in rt.alloc();

@@ -39,6 +39,18 @@ impl Spur {
     {
         self.kept
     }
+
+    /// The key's position in 32 bits, as columns keep it. No key has position 4294967295.
+    ///
+    /// ```rust
+    /// let third = Spur::try_from_usize(2).ok_or("no key")?;
+    /// assert!(rt; third.into_position() == 2);
+    /// ```
+    pub fn into_position(self) -> u32
+        ensures position { result ≡ self - 1 }
+    {
+        self.kept - 1
+    }
 }
 
 impl Key for Spur {
