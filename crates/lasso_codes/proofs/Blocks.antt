@@ -7,7 +7,7 @@ use Rattle.std.specs.Prelude.{flat_map}
 use Rattle.std.proofs.lemmas.Grind.{flat_map-append}
 use Rattle.std.proofs.lemmas.List.{take-append-drop}
 use Rattle.lasso_codes.specs.Streams.{WritesAll}
-use Rattle.lasso_codes.specs.declared.fault.RunFault.{RunFault}
+use Rattle.lasso_codes.specs.declared.error.RunError.{RunError}
 use Rattle.lasso_codes.proofs.Flat.{flat_then}
 use Rattle.lasso_codes.proofs.Written.{front_then}
 
@@ -19,13 +19,13 @@ module _ {X : Type 0} (bytes : X → List ℕ) (xs : List X) (i : ℕ) (part hel
       ∙ flat_then bytes xs i x next (part ++ held) (bytes x) so_far refl
 
   -- the block is written in part
-  pub block_fails : (more : List ℕ) (fault : RunFault) → WritesAll held (Err fault) more → WritesAll (flat_map bytes xs) (Err fault) (part ++ more)
-  block_fails more fault written =
+  pub block_fails : (more : List ℕ) (error : RunError) → WritesAll held (Err error) more → WritesAll (flat_map bytes xs) (Err error) (part ++ more)
+  block_fails more error written =
       let others = flat_map bytes (drop i xs) in
       let all : flat_map bytes xs ≡ (part ++ held) ++ others = ap (flat_map bytes) (sym (take-append-drop i xs)) ∙ flat_map-append bytes (take i xs) (drop i xs) ∙ ap (λ bs. bs ++ others) (sym so_far) in
       let grown : part ++ held ≡ (part ++ more) ++ written.1.0 = ap (λ bs. part ++ bs) written.1.1 ∙ sym (append_assoc part more written.1.0) in
       (written.0, (written.1.0 ++ others, all ∙ ap (λ bs. bs ++ others) grown ∙ append_assoc (part ++ more) written.1.0 others))
 
 -- the last block is written
-pub block_ends : (part held whole more : List ℕ) (result : Result (Unit {0}) RunFault) → part ++ held ≡ whole → WritesAll held result more → WritesAll whole result (part ++ more)
+pub block_ends : (part held whole more : List ℕ) (result : Result (Unit {0}) RunError) → part ++ held ≡ whole → WritesAll held result more → WritesAll whole result (part ++ more)
 block_ends part held whole more result is written = subst (λ bs. WritesAll bs result (part ++ more)) is (front_then part more part held result refl written)

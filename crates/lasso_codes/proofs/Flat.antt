@@ -7,7 +7,7 @@ use Rattle.std.specs.Prelude.{flat_map}
 use Rattle.std.proofs.lemmas.Grind.{flat_map-append}
 use Rattle.std.proofs.lemmas.List.{append-nil, take-append-drop}
 use Rattle.lasso_codes.specs.Streams.{WritesAll}
-use Rattle.lasso_codes.specs.declared.fault.RunFault.{RunFault}
+use Rattle.lasso_codes.specs.declared.error.RunError.{RunError}
 
 -- the bytes of items that are seen as others
 pub flat_seen : {X Y : Type 0} (f : Y → List ℕ) (see : X → Y) (xs : List X) → flat_map f (map see xs) ≡ flat_map (λ x. f (see x)) xs
@@ -24,8 +24,8 @@ module _ {X : Type 0} (f : X → List ℕ) (xs : List X) (i : ℕ) (x : X) (next
   flat_then part more so_far is = ap (λ bs. bs ++ more) so_far ∙ ap (λ bs. flat_map f (take i xs) ++ bs) is ∙ sym flat_more
 
   -- an item is written in part
-  pub flat_fails : (part more : List ℕ) (fault : RunFault) → part ≡ flat_map f (take i xs) → WritesAll (f x) (Err fault) more → WritesAll (flat_map f xs) (Err fault) (part ++ more)
-  flat_fails part more fault so_far written =
+  pub flat_fails : (part more : List ℕ) (error : RunError) → part ≡ flat_map f (take i xs) → WritesAll (f x) (Err error) more → WritesAll (flat_map f xs) (Err error) (part ++ more)
+  flat_fails part more error so_far written =
       let others = flat_map f (drop (i + 1) xs) in
       let front : flat_map f (take (i + 1) xs) ≡ part ++ f x = flat_more ∙ ap (λ bs. bs ++ f x) (sym so_far) in
       let whole : flat_map f xs ≡ flat_map f (take (i + 1) xs) ++ others = ap (λ ys. flat_map f ys) (sym (take-append-drop (i + 1) xs)) ∙ flat_map-append f (take (i + 1) xs) (drop (i + 1) xs) in

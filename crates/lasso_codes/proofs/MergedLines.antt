@@ -17,7 +17,7 @@ use Rattle.lasso_codes.specs.Merge.{code_or_past, recoded, entries_of, read_list
 use Rattle.lasso_codes.specs.Reading.{ReadItems, ReadTexts, cut_entry, on_item, items_from, head_of, on_texts, on_head, texts_from}
 use Rattle.lasso_codes.specs.declared.entries.Entry.{Entry}
 use Rattle.lasso_codes.specs.declared.entries.Entry.TheVariants.{Missing, Bad, Null, Code}
-use Rattle.lasso_codes.specs.declared.fault.ColumnFault.{ColumnFault}
+use Rattle.lasso_codes.specs.declared.error.ColumnError.{ColumnError}
 use Rattle.lasso_codes.specs.declared.reading.Header.{Header}
 use Rattle.lasso_codes.proofs.ReadBack.{HasCode, entry_for, AreLinesOf, column_back, fresh_new, AllFound, found_new}
 use Rattle.lasso_codes.proofs.ReadTexts.{ArePlain, plain_both, texts_plain}
@@ -97,9 +97,9 @@ one_line null list texts (Code code) number item line few found e e' = code_line
 abbrev Fit : Option Text → List Text → ReadItems (Option ℕ) → ReadItems Text → List ℕ → List ℕ → Type 0
 Fit null list entries lines rest rest' = AreLinesOf null list entries.0 lines.0 × (rest ≡ rest')
 
-both_items : (null : Option Text) (list : List Text) (r : Result (Option ℕ) ColumnFault) (l : Result Text ColumnFault) (entries : ReadItems (Option ℕ)) (lines : ReadItems Text) (rest rest' : List ℕ) → (on_item r entries).1 ≡ Ok rest → (on_item l lines).1 ≡ Ok rest' → ((entry : Option ℕ) (line : Text) → r ≡ Ok entry → l ≡ Ok line → IsLineOf null list entry line) → (entries.1 ≡ Ok rest → lines.1 ≡ Ok rest' → Fit null list entries lines rest rest') → Fit null list (on_item r entries) (on_item l lines) rest rest'
-both_items null list (Err fault) l entries lines rest rest' e e' one others = absurd (cc)
-both_items null list (Ok entry) (Err fault) entries lines rest rest' e e' one others = absurd (cc)
+both_items : (null : Option Text) (list : List Text) (r : Result (Option ℕ) ColumnError) (l : Result Text ColumnError) (entries : ReadItems (Option ℕ)) (lines : ReadItems Text) (rest rest' : List ℕ) → (on_item r entries).1 ≡ Ok rest → (on_item l lines).1 ≡ Ok rest' → ((entry : Option ℕ) (line : Text) → r ≡ Ok entry → l ≡ Ok line → IsLineOf null list entry line) → (entries.1 ≡ Ok rest → lines.1 ≡ Ok rest' → Fit null list entries lines rest rest') → Fit null list (on_item r entries) (on_item l lines) rest rest'
+both_items null list (Err error) l entries lines rest rest' e e' one others = absurd (cc)
+both_items null list (Ok entry) (Err error) entries lines rest rest' e e' one others = absurd (cc)
 both_items null list (Ok entry) (Ok line) entries lines rest rest' e e' one others =
     let first = one entry line refl refl in
     let then = others e e' in
@@ -113,7 +113,7 @@ items_fit null list texts (suc n) binary number bytes rest rest' few found e e' 
     (λ entry line is is'. one_line null list texts cut.0 number entry line few found is is') (λ is is'. items_fit null list texts n binary (number + 1) cut.1 rest rest' few found is is')
 
 texts_fit : (null : Option Text) (list : List Text) (header : Header) (read : ReadTexts) (rest rest' : List ℕ) → length list < 2 ^ 32 → AllFound list (read_list read) → (on_texts (recoded list) header read).1 ≡ Ok rest → (on_texts (line_at null) header read).1 ≡ Ok rest' → Fit null list (on_texts (recoded list) header read) (on_texts (line_at null) header read) rest rest'
-texts_fit null list header (Err fault) rest rest' few found e e' = absurd (cc)
+texts_fit null list header (Err error) rest rest' few found e e' = absurd (cc)
 texts_fit null list header (Ok texts) rest rest' few found e e' = items_fit null list texts.0 header.lines header.binary 1 texts.1 rest rest' few found e e'
 
 head_fit : (null : Option Text) (list : List Text) (head : Option (Header × List ℕ)) (rest rest' : List ℕ) → length list < 2 ^ 32 → AllFound list (head_list head) → (on_head (recoded list) head).1 ≡ Ok rest → (on_head (line_at null) head).1 ≡ Ok rest' → Fit null list (on_head (recoded list) head) (on_head (line_at null) head) rest rest'
@@ -122,7 +122,7 @@ head_fit null list (Some head) rest rest' few found e e' = texts_fit null list h
 
 -- the dictionary of a column is text
 read_plain : (n : ℕ) (bytes : List ℕ) (read : ReadTexts) → texts_from n [] bytes ≡ read → ArePlain (read_list read)
-read_plain n bytes (Err fault) e = tt
+read_plain n bytes (Err error) e = tt
 read_plain n bytes (Ok texts) e = texts_plain n [] bytes texts e tt
 
 head_plain : (head : Option (Header × List ℕ)) → ArePlain (head_list head)
@@ -187,10 +187,10 @@ merging_keeps_lines_lem binary null n input rest more texts entries lines merges
 
 -- ---- columns that were merged can be decoded
 
-item_too : (r : Result (Option ℕ) ColumnFault) (l : Result Text ColumnFault) (entries : ReadItems (Option ℕ)) (lines : ReadItems Text) (rest : List ℕ) → (on_item r entries).1 ≡ Ok rest → ((entry : Option ℕ) → r ≡ Ok entry → (line : Text) × (l ≡ Ok line)) → (entries.1 ≡ Ok rest → lines.1 ≡ Ok rest) → (on_item l lines).1 ≡ Ok rest
-item_too (Err fault) l entries lines rest e one others = absurd (cc)
+item_too : (r : Result (Option ℕ) ColumnError) (l : Result Text ColumnError) (entries : ReadItems (Option ℕ)) (lines : ReadItems Text) (rest : List ℕ) → (on_item r entries).1 ≡ Ok rest → ((entry : Option ℕ) → r ≡ Ok entry → (line : Text) × (l ≡ Ok line)) → (entries.1 ≡ Ok rest → lines.1 ≡ Ok rest) → (on_item l lines).1 ≡ Ok rest
+item_too (Err error) l entries lines rest e one others = absurd (cc)
 item_too (Ok entry) l entries lines rest e one others =
-    let told = one entry refl in subst (λ (m : Result Text ColumnFault). (on_item m lines).1 ≡ Ok rest) (sym told.1) (others e)
+    let told = one entry refl in subst (λ (m : Result Text ColumnError). (on_item m lines).1 ≡ Ok rest) (sym told.1) (others e)
 
 code_too : (list : List Text) (o : Option Text) (number : ℕ) (item : Option ℕ) → code_or_past list o number ≡ Ok item → (line : Text) × (text_or_past o number ≡ Ok line)
 code_too list None number item e = absurd (cc)
@@ -210,7 +210,7 @@ items_too word list texts (suc n) binary number bytes rest e =
     (λ entry is. line_too word list texts cut.0 number entry is) (λ is. items_too word list texts n binary (number + 1) cut.1 rest is)
 
 texts_too : (word : Text) (list : List Text) (header : Header) (read : ReadTexts) (rest : List ℕ) → (on_texts (recoded list) header read).1 ≡ Ok rest → (on_texts (line_at (Some word)) header read).1 ≡ Ok rest
-texts_too word list header (Err fault) rest e = absurd (cc)
+texts_too word list header (Err error) rest e = absurd (cc)
 texts_too word list header (Ok texts) rest e = items_too word list texts.0 header.lines header.binary 1 texts.1 rest e
 
 head_too : (word : Text) (list : List Text) (head : Option (Header × List ℕ)) (rest : List ℕ) → (on_head (recoded list) head).1 ≡ Ok rest → (on_head (line_at (Some word)) head).1 ≡ Ok rest

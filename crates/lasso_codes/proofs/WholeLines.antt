@@ -25,9 +25,9 @@ use Rattle.lasso_columns.specs.Parts.{new_texts}
 use Rattle.lasso_columns.specs.declared.faults.LineError.TheVariants.{Refused, NotText}
 use Rattle.lasso_counts.proofs.Rest.{first, found_extended, take_front}
 use Rattle.lasso_codes.specs.Columns.{is_null, texts_of, dictionary_of, entry_of, entry_at}
-use Rattle.lasso_codes.specs.Encode.{AreNumbered, EncodingFault}
+use Rattle.lasso_codes.specs.Encode.{AreNumbered, EncodingError}
 use Rattle.lasso_codes.specs.Whole.{AreTextLines, on_code, spread}
-use Rattle.lasso_codes.specs.declared.fault.RunFault.TheVariants.{Line}
+use Rattle.lasso_codes.specs.declared.error.RunError.TheVariants.{Line}
 use Rattle.lasso_codes.specs.Stages.{AreEntries, IsEntryAs}
 use Rattle.lasso_codes.proofs.EncodedLines.{entries_are, texts_push}
 use Rattle.lasso_codes.proofs.FewTexts.{few_texts}
@@ -236,10 +236,10 @@ module _ (old now : InternerView) (null : Option Text) (lines texts : List Text)
       subst (λ (ts : List Text). extend spur_at old ts accepted now) (these ∙ ap (texts_of null) (sym same)) encoded.list
 
   -- the next text was refused
-  pub whole_refused : (limit : ℕ) (error : LassoError) → old ≡ made_with 4096 limit → IsSomeAnd (slice_get (texts_of null texts) (length codes)) (λ text. IsRefused now text error) → EncodingFault limit null lines (Line (Refused (length numbers + 1) error))
+  pub whole_refused : (limit : ℕ) (error : LassoError) → old ≡ made_with 4096 limit → IsSomeAnd (slice_get (texts_of null texts) (length codes)) (λ text. IsRefused now text error) → EncodingError limit null lines (Line (Refused (length numbers + 1) error))
   whole_refused limit error made refused = refused_at (slice_get (texts_of null texts) (length codes)) refl refused
     where
-      refused_at : (o : Option Text) → slice_get (texts_of null texts) (length codes) ≡ o → IsSomeAnd o (λ text. IsRefused now text error) → EncodingFault limit null lines (Line (Refused (length numbers + 1) error))
+      refused_at : (o : Option Text) → slice_get (texts_of null texts) (length codes) ≡ o → IsSomeAnd o (λ text. IsRefused now text error) → EncodingError limit null lines (Line (Refused (length numbers + 1) error))
       refused_at None at holds = absurd holds
       refused_at (Some text) at holds =
           let here : slice_get texts (length numbers) ≡ Some text = ap (λ (ns : List ℕ). slice_get texts (length ns)) is ∙ spread_next null texts codes text at in
@@ -251,7 +251,7 @@ module _ (old now : InternerView) (null : Option Text) (lines texts : List Text)
     each_numbered = ap length is ∙ spread_all null texts codes many
 
     -- the next line is no text
-    pub whole_not_text : (limit : ℕ) → old ≡ made_with 4096 limit → whole ≡ false → EncodingFault limit null lines (Line (NotText (length numbers + 1)))
+    pub whole_not_text : (limit : ℕ) → old ≡ made_with 4096 limit → whole ≡ false → EncodingError limit null lines (Line (NotText (length numbers + 1)))
     whole_not_text limit made not_whole =
         let stop : AreTextLines false texts lines = subst (λ b. AreTextLines b texts lines) not_whole are in
         let bad = bad_line now texts lines stop in
@@ -261,8 +261,8 @@ module _ (old now : InternerView) (null : Option Text) (lines texts : List Text)
 
     -- these are all lines
     pub whole_numbered : old.texts ≡ [] → whole ≡ true → All IsUtf8 lines × AreNumbered null lines now.texts numbers
-    whole_numbered empty is_whole =
-        let all : AreTextLines true texts lines = subst (λ b. AreTextLines b texts lines) is_whole are in
+    whole_numbered empty is_complete =
+        let all : AreTextLines true texts lines = subst (λ b. AreTextLines b texts lines) is_complete are in
         let every : take (length codes) (texts_of null texts) ≡ texts_of null texts = take_all (length codes) (texts_of null texts) (omega (arith, many)) in
         let interned : extend spur_at old (texts_of null texts) accepted now = subst (λ (ts : List Text). extend spur_at old ts accepted now) every encoded.list in
         let coded : AreCodes now.texts (texts_of null texts) codes = subst (λ (ts : List Text). AreCodes now.texts ts codes) every encoded.codes_are in

@@ -12,8 +12,8 @@ use Rattle.lasso_codes.specs.declared.arguments.Setting.TheVariants.{Limit, Top,
 use Rattle.lasso_codes.specs.declared.arguments.Reading.{Reading}
 use Rattle.lasso_codes.specs.declared.arguments.Meaning.{Meaning}
 use Rattle.lasso_codes.specs.declared.arguments.Meaning.TheVariants.{AsksHelp, IsBinary, IsQuiet, Wants, Has, Nothing}
-use Rattle.lasso_codes.specs.declared.arguments.ArgumentFault.{ArgumentFault}
-use Rattle.lasso_codes.specs.declared.arguments.ArgumentFault.TheVariants.{NoVerb, NotVerb, NotOption, NoNumber, NoWord, NotNumber, NoWorkers, PastWorkers, NotText}
+use Rattle.lasso_codes.specs.declared.arguments.ArgumentError.{ArgumentError}
+use Rattle.lasso_codes.specs.declared.arguments.ArgumentError.TheVariants.{NoVerb, NotVerb, NotOption, NoNumber, NoWord, NotNumber, NoWorkers, PastWorkers, NotText}
 
 -- an ASCII digit
 abbrev pub is_digit : ℕ → Bool
@@ -72,7 +72,7 @@ no_workers = codes "--workers: 0 is below 1"
 abbrev pub past_workers : ℕ → List ℕ
 past_workers count = codes "--workers: " ++ (decimal count ++ codes " is past 64")
 
-abbrev pub argument_text : ArgumentFault → List ℕ
+abbrev pub argument_text : ArgumentError → List ℕ
 argument_text NoVerb = no_verb
 argument_text (NotVerb word) = not_verb word.now
 argument_text (NotOption word) = not_option word.now

@@ -5,10 +5,10 @@ use Rattle.lasso_parts.specs.Texts.{Text}
 use Rattle.lasso_columns.specs.Lines.{lines_of}
 use Rattle.lasso_columns.specs.Parts.{new_texts}
 use Rattle.lasso_counts.specs.Counts.{count_of, ranked_cmp}
-use Rattle.lasso_codes.specs.Distinct.{IsFaultAfter}
+use Rattle.lasso_codes.specs.Distinct.{IsErrorAfter}
 use Rattle.lasso_codes.specs.Streams.{Begins}
-use Rattle.lasso_codes.specs.declared.fault.RunFault.{RunFault}
-use Rattle.lasso_codes.specs.declared.fault.RunFault.TheVariants.{Line, TooManyLines, ReadFailed, WriteFailed, ReaderGone, Column}
+use Rattle.lasso_codes.specs.declared.error.RunError.{RunError}
+use Rattle.lasso_codes.specs.declared.error.RunError.TheVariants.{Line, TooManyLines, ReadFailed, WriteFailed, ReaderGone, Column}
 
 -- a line with its count: the count's digits, a space, the line and a line feed
 abbrev pub count_line : ℕ × Text → List ℕ
@@ -26,28 +26,28 @@ IsCountsReport lines top report =
     × (report ≡ flat_map count_line (take top ranked))
 
 -- why lines were not counted
-abbrev pub CountingFault : ℕ → List Text → RunFault → Type 0
-CountingFault limit lines (Line error) = (n : ℕ) × IsFaultAfter limit lines n error
-CountingFault limit lines TooManyLines = Unit {0}
-CountingFault limit lines ReadFailed = Unit {0}
-CountingFault limit lines WriteFailed = ⊥
-CountingFault limit lines ReaderGone = ⊥
-CountingFault limit lines (Column column fault) = ⊥
+abbrev pub CountingError : ℕ → List Text → RunError → Type 0
+CountingError limit lines (Line error) = (n : ℕ) × IsErrorAfter limit lines n error
+CountingError limit lines TooManyLines = Unit {0}
+CountingError limit lines ReadFailed = Unit {0}
+CountingError limit lines WriteFailed = ⊥
+CountingError limit lines ReaderGone = ⊥
+CountingError limit lines (Column column error) = ⊥
 
 -- nothing is written, or a beginning of a report
 abbrev pub IsBegun : List Text → ℕ → List ℕ → Type 0
 IsBegun lines top part = (part ≡ []) ⊎ ((whole : List ℕ) × IsCountsReport lines top whole × Begins part whole)
 
 -- how a run ends that has written the part: nothing is written where the lines were not all counted
-abbrev pub CountsFault : ℕ → List Text → ℕ → List ℕ → RunFault → Type 0
-CountsFault limit lines top part (Line error) = (part ≡ []) × CountingFault limit lines (Line error)
-CountsFault limit lines top part TooManyLines = part ≡ []
-CountsFault limit lines top part ReadFailed = part ≡ []
-CountsFault limit lines top part WriteFailed = IsBegun lines top part
-CountsFault limit lines top part ReaderGone = IsBegun lines top part
-CountsFault limit lines top part (Column column fault) = ⊥
+abbrev pub CountsError : ℕ → List Text → ℕ → List ℕ → RunError → Type 0
+CountsError limit lines top part (Line error) = (part ≡ []) × CountingError limit lines (Line error)
+CountsError limit lines top part TooManyLines = part ≡ []
+CountsError limit lines top part ReadFailed = part ≡ []
+CountsError limit lines top part WriteFailed = IsBegun lines top part
+CountsError limit lines top part ReaderGone = IsBegun lines top part
+CountsError limit lines top part (Column column error) = ⊥
 
 -- without a fault all lines are text, and the part is a report of them
-abbrev pub CountsEnd : List ℕ → ℕ → ℕ → List ℕ → Result (Unit {0}) RunFault → Type 0
+abbrev pub CountsEnd : List ℕ → ℕ → ℕ → List ℕ → Result (Unit {0}) RunError → Type 0
 CountsEnd input limit top part result =
-    MatchResult result (λ _. All IsUtf8 (lines_of input) × IsCountsReport (lines_of input) top part) (CountsFault limit (lines_of input) top part)
+    MatchResult result (λ _. All IsUtf8 (lines_of input) × IsCountsReport (lines_of input) top part) (CountsError limit (lines_of input) top part)

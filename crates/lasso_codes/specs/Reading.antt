@@ -10,12 +10,12 @@ use Rattle.lasso_single.specs.Interner.{InternerView, made_with}
 use Rattle.lasso_columns.specs.Encoding.{spur_at, IsRefused}
 use Rattle.lasso_codes.specs.Arguments.{digits_value}
 use Rattle.lasso_codes.specs.Columns.{header_front}
-use Rattle.lasso_codes.specs.Fault.{IsReadFault}
+use Rattle.lasso_codes.specs.Errors.{IsReadError}
 use Rattle.lasso_codes.specs.Streams.{cut_line}
-use Rattle.lasso_codes.specs.declared.fault.ColumnFault.{ColumnFault}
-use Rattle.lasso_codes.specs.declared.fault.ColumnFault.TheVariants.{NoHeader, NoText, NotUtf8, Doubled, TextRefused, NoEntry, NotEntry, PastTexts, IsNull, NotMerged}
-use Rattle.lasso_codes.specs.declared.fault.RunFault.{RunFault}
-use Rattle.lasso_codes.specs.declared.fault.RunFault.TheVariants.{Column}
+use Rattle.lasso_codes.specs.declared.error.ColumnError.{ColumnError}
+use Rattle.lasso_codes.specs.declared.error.ColumnError.TheVariants.{NoHeader, NoText, NotUtf8, Doubled, TextRefused, NoEntry, NotEntry, PastTexts, IsNull, NotMerged}
+use Rattle.lasso_codes.specs.declared.error.RunError.{RunError}
+use Rattle.lasso_codes.specs.declared.error.RunError.TheVariants.{Column}
 use Rattle.lasso_codes.specs.declared.entries.Entry.{Entry}
 use Rattle.lasso_codes.specs.declared.entries.Entry.TheVariants.{Missing, Bad, Null, Code}
 use Rattle.lasso_codes.specs.declared.reading.Header.{Header}
@@ -67,14 +67,14 @@ abbrev pub HasNoHeader : List ℕ → Type 0
 HasNoHeader bytes = (0 < length bytes) × (head_of bytes ≡ None)
 
 -- why the header of the column of this number was not read
-abbrev pub HeaderFault : Option (List ℕ) → ℕ → RunFault → Type 0
-HeaderFault before column fault = IsReadFault 0 fault ⊎ ((fault ≡ Column column NoHeader) × ((bytes : List ℕ) → before ≡ Some bytes → HasNoHeader bytes))
+abbrev pub HeaderError : Option (List ℕ) → ℕ → RunError → Type 0
+HeaderError before column error = IsReadError 0 error ⊎ ((error ≡ Column column NoHeader) × ((bytes : List ℕ) → before ≡ Some bytes → HasNoHeader bytes))
 
 -- ---- the dictionary
 
 -- texts and the bytes after them, or why there are none
 abbrev pub ReadTexts : Type 0
-ReadTexts = Result (List Text × List ℕ) ColumnFault
+ReadTexts = Result (List Text × List ℕ) ColumnError
 
 -- a text has to be new, and UTF-8
 abbrev pub on_text : Option (Text × List ℕ) → List Text → (List Text → List ℕ → ReadTexts) → ReadTexts
@@ -93,17 +93,17 @@ abbrev pub AddsText : InternerView → Text → InternerView → Type 0
 AddsText old text new = IsUtf8 text × (position_of old.texts text ≡ None) × ((key : ℕ) × InternsIn {K = ℕ} spur_at old text (Ok key) new)
 
 -- why the text of this number was not added
-abbrev pub AddFault : InternerView → Text → ℕ → ColumnFault → Type 0
-AddFault old text number NoHeader = ⊥
-AddFault old text number (NoText at) = ⊥
-AddFault old text number (NotUtf8 at) = (at ≡ number) × ¬ (IsUtf8 text)
-AddFault old text number (Doubled at) = (at ≡ number) × IsUtf8 text × (is_some (position_of old.texts text) ≡ true)
-AddFault old text number (TextRefused at error) = (at ≡ number) × IsUtf8 text × IsRefused old text error
-AddFault old text number (NoEntry at) = ⊥
-AddFault old text number (NotEntry at) = ⊥
-AddFault old text number (PastTexts at) = ⊥
-AddFault old text number (IsNull at) = ⊥
-AddFault old text number (NotMerged error) = ⊥
+abbrev pub AddError : InternerView → Text → ℕ → ColumnError → Type 0
+AddError old text number NoHeader = ⊥
+AddError old text number (NoText at) = ⊥
+AddError old text number (NotUtf8 at) = (at ≡ number) × ¬ (IsUtf8 text)
+AddError old text number (Doubled at) = (at ≡ number) × IsUtf8 text × (is_some (position_of old.texts text) ≡ true)
+AddError old text number (TextRefused at error) = (at ≡ number) × IsUtf8 text × IsRefused old text error
+AddError old text number (NoEntry at) = ⊥
+AddError old text number (NotEntry at) = ⊥
+AddError old text number (PastTexts at) = ⊥
+AddError old text number (IsNull at) = ⊥
+AddError old text number (NotMerged error) = ⊥
 
 -- the text of this number is refused by an interner with this limit that holds those before it
 abbrev pub IsTextRefused : ℕ → ℕ → List ℕ → ℕ → LassoError → Type 0
@@ -117,14 +117,14 @@ abbrev pub TakesTexts : Option (List ℕ) → Option (List ℕ) → ℕ → List
 TakesTexts before after distinct list = (bytes : List ℕ) → before ≡ Some bytes → (rest : List ℕ) × (after ≡ Some rest) × (texts_from distinct [] bytes ≡ Ok (list, rest))
 
 -- why so many texts were not read from these bytes
-abbrev pub IsTextFault : ℕ → ℕ → List ℕ → ColumnFault → Type 0
-IsTextFault limit distinct bytes NoHeader = ⊥
-IsTextFault limit distinct bytes (NotMerged error) = ⊥
-IsTextFault limit distinct bytes (TextRefused number error) = IsTextRefused limit distinct bytes number error
-IsTextFault limit distinct bytes fault = texts_from distinct [] bytes ≡ Err fault
+abbrev pub IsTextError : ℕ → ℕ → List ℕ → ColumnError → Type 0
+IsTextError limit distinct bytes NoHeader = ⊥
+IsTextError limit distinct bytes (NotMerged error) = ⊥
+IsTextError limit distinct bytes (TextRefused number error) = IsTextRefused limit distinct bytes number error
+IsTextError limit distinct bytes error = texts_from distinct [] bytes ≡ Err error
 
-abbrev pub TextsFault : ℕ → ℕ → ℕ → List ℕ → RunFault → Type 0
-TextsFault limit distinct column bytes fault = IsReadFault 0 fault ⊎ ((reason : ColumnFault) × (fault ≡ Column column reason) × IsTextFault limit distinct bytes reason)
+abbrev pub TextsError : ℕ → ℕ → ℕ → List ℕ → RunError → Type 0
+TextsError limit distinct column bytes error = IsReadError 0 error ⊎ ((reason : ColumnError) × (error ≡ Column column reason) × IsTextError limit distinct bytes reason)
 
 -- ---- entries
 
@@ -164,14 +164,14 @@ TakesEntry binary before after entry = (bytes : List ℕ) → before ≡ Some by
 
 -- what an entry of this number stands for, or what is wrong with it
 abbrev pub Makes : Type 0 → Type 0
-Makes X = Entry → ℕ → Result X ColumnFault
+Makes X = Entry → ℕ → Result X ColumnError
 
 -- items, and the bytes after them or what is wrong there
 abbrev pub ReadItems : Type 0 → Type 0
-ReadItems X = List X × Result (List ℕ) ColumnFault
+ReadItems X = List X × Result (List ℕ) ColumnError
 
-abbrev pub on_item : {X : Type 0} → Result X ColumnFault → ReadItems X → ReadItems X
-on_item (Err fault) others = ([], Err fault)
+abbrev pub on_item : {X : Type 0} → Result X ColumnError → ReadItems X → ReadItems X
+on_item (Err error) others = ([], Err error)
 on_item (Ok item) others = (item ∷ others.0, others.1)
 
 -- what so many entries stand for, the first of which has this number
@@ -181,22 +181,22 @@ items_from make (suc n) binary number bytes =
     let cut = cut_entry binary bytes in on_item (make cut.0 number) (items_from make n binary (number + 1) cut.1)
 
 -- it is the fault of an entry
-abbrev pub IsEntryFault : ColumnFault → Type 0
-IsEntryFault NoHeader = ⊥
-IsEntryFault (NoText number) = ⊥
-IsEntryFault (NotUtf8 number) = ⊥
-IsEntryFault (Doubled number) = ⊥
-IsEntryFault (TextRefused number error) = ⊥
-IsEntryFault (NoEntry number) = Unit {0}
-IsEntryFault (NotEntry number) = Unit {0}
-IsEntryFault (PastTexts number) = Unit {0}
-IsEntryFault (IsNull number) = Unit {0}
-IsEntryFault (NotMerged error) = ⊥
+abbrev pub IsEntryError : ColumnError → Type 0
+IsEntryError NoHeader = ⊥
+IsEntryError (NoText number) = ⊥
+IsEntryError (NotUtf8 number) = ⊥
+IsEntryError (Doubled number) = ⊥
+IsEntryError (TextRefused number error) = ⊥
+IsEntryError (NoEntry number) = Unit {0}
+IsEntryError (NotEntry number) = Unit {0}
+IsEntryError (PastTexts number) = Unit {0}
+IsEntryError (IsNull number) = Unit {0}
+IsEntryError (NotMerged error) = ⊥
 
 -- ---- columns
 
 abbrev pub on_texts : {X : Type 0} → (List Text → Makes X) → Header → ReadTexts → ReadItems X
-on_texts make header (Err fault) = ([], Err fault)
+on_texts make header (Err error) = ([], Err error)
 on_texts make header (Ok texts) = items_from (make texts.0) header.lines header.binary 1 texts.1
 
 abbrev pub on_head : {X : Type 0} → (List Text → Makes X) → Option (Header × List ℕ) → ReadItems X
@@ -209,8 +209,8 @@ abbrev pub read_column : {X : Type 0} → (List Text → Makes X) → List ℕ �
 read_column make bytes = on_head make (head_of bytes)
 
 -- why the column that the bytes begin with was not read
-abbrev pub IsColumnFault : {X : Type 0} → (List Text → Makes X) → ℕ → List ℕ → ColumnFault → Type 0
-IsColumnFault make limit bytes (TextRefused number error) =
+abbrev pub IsColumnError : {X : Type 0} → (List Text → Makes X) → ℕ → List ℕ → ColumnError → Type 0
+IsColumnError make limit bytes (TextRefused number error) =
     (head : Header × List ℕ) × (head_of bytes ≡ Some head) × IsTextRefused limit head.0.distinct head.1 number error
-IsColumnFault make limit bytes NoHeader = HasNoHeader bytes
-IsColumnFault make limit bytes fault = (read_column make bytes).1 ≡ Err fault
+IsColumnError make limit bytes NoHeader = HasNoHeader bytes
+IsColumnError make limit bytes error = (read_column make bytes).1 ≡ Err error

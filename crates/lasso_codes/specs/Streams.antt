@@ -2,10 +2,10 @@
 use Rattle.std.specs.Prelude.{ℕ, ◌≡◌, ◌<◌, Bool, true, false, List, [], ◌∷◌, ◌++◌, length, Option, Some, None, Result, MatchResult, option_map, if◌then◌else◌}
 use Rattle.std.specs.Io.KnownBytes.{Appends}
 use Rattle.lasso_columns.specs.Lines.{lines_of, is_line_feed}
-use Rattle.lasso_codes.specs.Fault.{IsWriteFault}
+use Rattle.lasso_codes.specs.Errors.{IsWriteError}
 use Rattle.lasso_codes.specs.declared.input.Cut.{Cut}
 use Rattle.lasso_codes.specs.declared.input.Cut.TheVariants.{Whole, Part, End}
-use Rattle.lasso_codes.specs.declared.fault.RunFault.{RunFault}
+use Rattle.lasso_codes.specs.declared.error.RunError.{RunError}
 
 -- the first list begins the second
 abbrev pub Begins : List ℕ → List ℕ → Type 0
@@ -16,8 +16,8 @@ abbrev pub Writes : Option (List ℕ) → Option (List ℕ) → (List ℕ → Ty
 Writes before after P = (part : List ℕ) × Appends before after part × P part
 
 -- all bytes are written; or a write failed, and the part is a beginning of them
-abbrev pub WritesAll : List ℕ → Result (Unit {0}) RunFault → List ℕ → Type 0
-WritesAll bytes result part = MatchResult result (λ _. part ≡ bytes) (λ fault. IsWriteFault fault × Begins part bytes)
+abbrev pub WritesAll : List ℕ → Result (Unit {0}) RunError → List ℕ → Type 0
+WritesAll bytes result part = MatchResult result (λ _. part ≡ bytes) (λ error. IsWriteError error × Begins part bytes)
 
 -- the first line of the known bytes was read, and the lines of the rest are left; or there were no bytes
 abbrev pub TakesLine : Option (List ℕ) → Option (List ℕ) → Bool → List ℕ → Type 0

@@ -64,7 +64,7 @@ pub struct Request<'a> {
 
 /// Why arguments are refused. The word that is at fault is named.
 #[derive(Clone, Copy, Debug, PartialEq, Eq)]
-pub enum ArgumentFault<'a> {
+pub enum ArgumentError<'a> {
     /// There is no word.
     NoVerb,
     /// The first word is neither a verb nor `--help` or `--version`.
@@ -85,20 +85,20 @@ pub enum ArgumentFault<'a> {
     NotText,
 }
 
-impl fmt::Display for ArgumentFault<'_> {
-    ghost output = { λ fault. Some (argument_text fault) };
+impl fmt::Display for ArgumentError<'_> {
+    ghost output = { λ error. Some (argument_text error) };
 
     fn fmt<W: fmt::Write>(&self, f: &mut fmt::Formatter<W>) -> fmt::Result {
         match self {
-            ArgumentFault::NoVerb => write!(f, "no verb (see lasso_codes --help)"),
-            ArgumentFault::NotVerb(word) => write!(f, "{word}: no such verb"),
-            ArgumentFault::NotOption(word) => write!(f, "{word}: no such option"),
-            ArgumentFault::NoNumber(word) => write!(f, "{word}: a number is missing"),
-            ArgumentFault::NoWord(word) => write!(f, "{word}: a word is missing"),
-            ArgumentFault::NotNumber(word) => write!(f, "{word}: not a number below 2^64"),
-            ArgumentFault::NoWorkers => write!(f, "--workers: 0 is below 1"),
-            ArgumentFault::PastWorkers(count) => write!(f, "--workers: {count} is past 64"),
-            ArgumentFault::NotText => write!(f, "an argument is not UTF-8"),
+            ArgumentError::NoVerb => write!(f, "no verb (see lasso_codes --help)"),
+            ArgumentError::NotVerb(word) => write!(f, "{word}: no such verb"),
+            ArgumentError::NotOption(word) => write!(f, "{word}: no such option"),
+            ArgumentError::NoNumber(word) => write!(f, "{word}: a number is missing"),
+            ArgumentError::NoWord(word) => write!(f, "{word}: a word is missing"),
+            ArgumentError::NotNumber(word) => write!(f, "{word}: not a number below 2^64"),
+            ArgumentError::NoWorkers => write!(f, "--workers: 0 is below 1"),
+            ArgumentError::PastWorkers(count) => write!(f, "--workers: {count} is past 64"),
+            ArgumentError::NotText => write!(f, "an argument is not UTF-8"),
         }
     }
 }
@@ -135,13 +135,13 @@ enum Meaning {
 ///
 /// # Errors
 /// The first word that is at fault.
-pub fn command_of(words: &[String]) -> Result<Request<'_>, ArgumentFault<'_>>
+pub fn command_of(words: &[String]) -> Result<Request<'_>, ArgumentError<'_>>
     ensures { MatchResult result
         (λ asked. command_of (map string_bytes words.now) ≡ Ok (asked.command, word_of asked.null))
-        (λ fault. command_of (map string_bytes words.now) ≡ Err (argument_text fault)) }
+        (λ error. command_of (map string_bytes words.now) ≡ Err (argument_text error)) }
 {
     if words.is_empty() {
-        return Err(ArgumentFault::NoVerb);
+        return Err(ArgumentError::NoVerb);
     }
     let word = words[0].as_str();
     if word == "--help" {
@@ -158,7 +158,7 @@ pub fn command_of(words: &[String]) -> Result<Request<'_>, ArgumentFault<'_>>
     }
     match verb_of(word) {
         Some(verb) => options_of(verb, &words[1..]),
-        None => Err(ArgumentFault::NotVerb(word)),
+        None => Err(ArgumentError::NotVerb(word)),
     }
 }
 
@@ -185,10 +185,10 @@ struct Reading<'a> {
 }
 
 // The verb with the settings that the words give.
-fn options_of(verb: Verb, words: &[String]) -> Result<Request<'_>, ArgumentFault<'_>>
+fn options_of(verb: Verb, words: &[String]) -> Result<Request<'_>, ArgumentError<'_>>
     ensures { MatchResult result
         (λ asked. options_of verb unset None None (map string_bytes words.now) ≡ Ok (asked.command, word_of asked.null))
-        (λ fault. options_of verb unset None None (map string_bytes words.now) ≡ Err (argument_text fault)) }
+        (λ error. options_of verb unset None None (map string_bytes words.now) ≡ Err (argument_text error)) }
 {
     let mut reading = Reading {
         settings: Settings {
@@ -210,7 +210,7 @@ fn options_of(verb: Verb, words: &[String]) -> Result<Request<'_>, ArgumentFault
                     null: None,
                 });
             }
-            Err(fault) => return Err(fault),
+            Err(error) => return Err(error),
         }
     }
     match reading.wanted {
@@ -223,12 +223,12 @@ fn options_of(verb: Verb, words: &[String]) -> Result<Request<'_>, ArgumentFault
 }
 
 // The value of the setting is missing.
-fn no_value<'a>(setting: Setting, word: &'a str) -> ArgumentFault<'a>
+fn no_value<'a>(setting: Setting, word: &'a str) -> ArgumentError<'a>
     ensures { argument_text result ≡ no_value setting word.now }
 {
     match setting {
-        Setting::Limit | Setting::Top | Setting::Workers => ArgumentFault::NoNumber(word),
-        Setting::Null => ArgumentFault::NoWord(word),
+        Setting::Limit | Setting::Top | Setting::Workers => ArgumentError::NoNumber(word),
+        Setting::Null => ArgumentError::NoWord(word),
     }
 }
 
@@ -237,10 +237,10 @@ fn read_word<'a>(
     verb: Verb,
     reading: Reading<'a>,
     word: &'a str,
-) -> Result<Option<Reading<'a>>, ArgumentFault<'a>>
+) -> Result<Option<Reading<'a>>, ArgumentError<'a>>
     ensures { (words : List Text) → let asked = options_of verb reading.entry.settings (word_of reading.entry.null) (wanted_of reading.entry) (word.now ∷ words) in MatchResult result
         (λ next. MatchOption next (asked ≡ Ok (Command.VerbHelp verb, None)) (λ after. asked ≡ options_of verb after.settings (word_of after.null) (wanted_of after) words))
-        (λ fault. asked ≡ Err (argument_text fault)) }
+        (λ error. asked ≡ Err (argument_text error)) }
 {
     if let Some((setting, _)) = reading.wanted {
         return with_value(reading, setting, word, 0);
@@ -266,7 +266,7 @@ fn read_word<'a>(
             ..reading
         })),
         Meaning::Has(setting, at) => with_value(reading, setting, word, at + 1),
-        Meaning::Nothing => Err(ArgumentFault::NotOption(word)),
+        Meaning::Nothing => Err(ArgumentError::NotOption(word)),
     }
 }
 
@@ -357,11 +357,11 @@ fn with_value<'a>(
     setting: Setting,
     word: &'a str,
     from: usize,
-) -> Result<Option<Reading<'a>>, ArgumentFault<'a>>
+) -> Result<Option<Reading<'a>>, ArgumentError<'a>>
     requires { from ≤ length word.now }
     ensures { MatchResult result
         (λ next. IfSome next (λ after. (value_of reading.entry.settings (word_of reading.entry.null) setting (drop from word.now) word.now ≡ Ok (after.settings, word_of after.null)) × (after.wanted ≡ None)) × IsSome next)
-        (λ fault. value_of reading.entry.settings (word_of reading.entry.null) setting (drop from word.now) word.now ≡ Err (argument_text fault)) }
+        (λ error. value_of reading.entry.settings (word_of reading.entry.null) setting (drop from word.now) word.now ≡ Err (argument_text error)) }
 {
     let value = &word.as_bytes()[from..];
     let mut null = reading.null;
@@ -380,28 +380,28 @@ fn with_value<'a>(
 }
 
 // The number that the value says.
-fn number_in<'a>(value: &[u8], word: &'a str) -> Result<usize, ArgumentFault<'a>>
+fn number_in<'a>(value: &[u8], word: &'a str) -> Result<usize, ArgumentError<'a>>
     ensures { MatchResult result
         (λ number. number_of value.now ≡ Some number)
-        (λ fault. (number_of value.now ≡ None) × (argument_text fault ≡ not_number word.now)) }
+        (λ error. (number_of value.now ≡ None) × (argument_text error ≡ not_number word.now)) }
 {
     match parse_number(value) {
         Some(number) => Ok(number),
-        None => Err(ArgumentFault::NotNumber(word)),
+        None => Err(ArgumentError::NotNumber(word)),
     }
 }
 
 // `count` as a number of workers, if it is 1 to 64.
-fn workers_in(count: usize) -> Result<usize, ArgumentFault<'static>>
+fn workers_in(count: usize) -> Result<usize, ArgumentError<'static>>
     ensures { MatchResult result
         (λ workers. workers_of count ≡ Ok workers)
-        (λ fault. workers_of count ≡ Err (argument_text fault)) }
+        (λ error. workers_of count ≡ Err (argument_text error)) }
 {
     if count == 0 {
-        return Err(ArgumentFault::NoWorkers);
+        return Err(ArgumentError::NoWorkers);
     }
     if count > MOST_WORKERS {
-        return Err(ArgumentFault::PastWorkers(count));
+        return Err(ArgumentError::PastWorkers(count));
     }
     Ok(count)
 }

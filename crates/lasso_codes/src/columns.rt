@@ -4,7 +4,7 @@ ghost use Rattle.lasso_codes.specs.Columns.{column_of, entry_at, entry_bytes, he
 ghost use Rattle.lasso_codes.specs.Distinct.{with_feed};
 ghost use Rattle.lasso_codes.specs.Streams.{Writes, WritesAll};
 
-use crate::fault::RunFault;
+use crate::error::RunError;
 use crate::output::{write_bytes, write_line, write_number};
 use itoa::Buffer;
 use lasso::SpurRodeo;
@@ -29,7 +29,7 @@ pub fn write_column<W: Write>(
     rodeo: &SpurRodeo,
     numbers: &[u32],
     binary: bool,
-) -> Result<(), RunFault>
+) -> Result<(), RunError>
     ensures { Writes (W.contents output.old) (W.contents output.new) (WritesAll (column_of binary rodeo.now.texts (map entry_at numbers.now)) result) }
 {
     let distinct = rodeo.len();
@@ -45,7 +45,7 @@ fn write_header<W: Write>(
     binary: bool,
     distinct: u64,
     lines: u64,
-) -> Result<(), RunFault>
+) -> Result<(), RunError>
     ensures { Writes (W.contents output.old) (W.contents output.new) (WritesAll (header binary distinct lines) result) }
 {
     write_front(output, binary)?;
@@ -54,7 +54,7 @@ fn write_header<W: Write>(
 }
 
 // Writes what is before the numbers of the header.
-fn write_front<W: Write>(output: &mut W, binary: bool) -> Result<(), RunFault>
+fn write_front<W: Write>(output: &mut W, binary: bool) -> Result<(), RunError>
     ensures { Writes (W.contents output.old) (W.contents output.new) (WritesAll (header_front binary) result) }
 {
     if binary {
@@ -65,7 +65,7 @@ fn write_front<W: Write>(output: &mut W, binary: bool) -> Result<(), RunFault>
 }
 
 // Writes the number's digits and the bytes after them.
-fn write_number_and<W: Write>(output: &mut W, number: u64, after: &[u8]) -> Result<(), RunFault>
+fn write_number_and<W: Write>(output: &mut W, number: u64, after: &[u8]) -> Result<(), RunError>
     ensures { Writes (W.contents output.old) (W.contents output.new) (WritesAll (decimal number ++ after.now) result) }
 {
     write_number(output, number)?;
@@ -73,7 +73,7 @@ fn write_number_and<W: Write>(output: &mut W, number: u64, after: &[u8]) -> Resu
 }
 
 // Writes each text as a line.
-fn write_texts<W: Write>(output: &mut W, rodeo: &SpurRodeo) -> Result<(), RunFault>
+fn write_texts<W: Write>(output: &mut W, rodeo: &SpurRodeo) -> Result<(), RunError>
     ensures { Writes (W.contents output.old) (W.contents output.new) (WritesAll (flat_map with_feed rodeo.now.texts) result) }
 {
     for position in 0..rodeo.len() {
@@ -89,7 +89,7 @@ const BLOCK: usize = 4096;
 const LONGEST_ENTRY: usize = 11;
 
 // Writes the entry of each number.
-fn write_entries<W: Write>(output: &mut W, binary: bool, numbers: &[u32]) -> Result<(), RunFault>
+fn write_entries<W: Write>(output: &mut W, binary: bool, numbers: &[u32]) -> Result<(), RunError>
     ensures { Writes (W.contents output.old) (W.contents output.new) (WritesAll (flat_map (λ n. entry_bytes binary (entry_at n)) numbers.now) result) }
 {
     let mut block = [0; BLOCK];
@@ -104,13 +104,13 @@ fn write_entries<W: Write>(output: &mut W, binary: bool, numbers: &[u32]) -> Res
 // Writes the first bytes of the block, those that are filled, where there is no room for an entry after them. Returns how many are filled
 // then.
 #[inline]
-fn make_room<W: Write>(output: &mut W, block: &[u8], filled: usize) -> Result<usize, RunFault>
+fn make_room<W: Write>(output: &mut W, block: &[u8], filled: usize) -> Result<usize, RunError>
     requires fits { filled ≤ 4096 }
     requires long { length block.now ≡ 4096 }
     ensures room { IfOk result (λ left. left + 11 ≤ 4096) }
     ensures written { MatchResult result
         (λ left. Writes (W.contents output.old) (W.contents output.new) (λ part. part ++ take left block.now ≡ take filled block.now))
-        (λ fault. Writes (W.contents output.old) (W.contents output.new) (WritesAll (take filled block.now) (Err fault))) }
+        (λ error. Writes (W.contents output.old) (W.contents output.new) (WritesAll (take filled block.now) (Err error))) }
 {
     if filled <= BLOCK - LONGEST_ENTRY {
         return Ok(filled);

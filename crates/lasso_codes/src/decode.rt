@@ -2,8 +2,8 @@
 ghost use Rattle.std.specs.Prelude.{◌≡◌, ◌+◌, ◌-◌, ◌≤◌, ◌++◌, [], ℕ, List, Option, Some, IfOk, IfErr, drop, length};
 ghost use Rattle.std.specs.Io.Buffered.{reader_remaining, writer_contents, writer_buffer};
 ghost use Rattle.lasso_codes.specs.Arguments.{word_of};
-ghost use Rattle.lasso_codes.specs.Decode.{line_at, DecodeEnd, LinesFault, WritesEntry, WritesLines};
-ghost use Rattle.lasso_codes.specs.Fault.{IsWriteEnd};
+ghost use Rattle.lasso_codes.specs.Decode.{line_at, DecodeEnd, DecodingError, WritesEntry, WritesLines};
+ghost use Rattle.lasso_codes.specs.Errors.{IsWriteEnd};
 ghost use Rattle.lasso_codes.specs.Reading.{items_from, ReadItems};
 ghost use Rattle.lasso_codes.specs.Stages.{LinesAhead};
 ghost use Rattle.lasso_parts.specs.Texts.{Text};
@@ -11,8 +11,8 @@ ghost use Rattle.lasso_codes.specs.Streams.{Writes};
 
 use crate::distinct::new_rodeo;
 use crate::entries::{Entry, first_entry, line_at, next_entry};
-use crate::fault::RunFault;
-use crate::input::{at_hand, use_up};
+use crate::error::RunError;
+use crate::input::{buffered, consume};
 use crate::output::{end_flushed, write_line};
 use crate::reading::{Header, next_header, read_texts};
 use lasso::{MemoryLimits, SpurRodeo};
@@ -31,7 +31,7 @@ pub fn decode<R: Read + Drop, W: Write + Drop>(
     output: &mut BufWriter<W>,
     limits: MemoryLimits,
     null: Option<&[u8]>,
-) -> Result<(), RunFault>
+) -> Result<(), RunError>
     ensures report { (bytes : List ℕ) → reader_remaining R.remaining input.old ≡ Some bytes →
         Writes (writer_contents W.contents output.old) (writer_contents W.contents output.new) (λ part. DecodeEnd bytes limits (word_of null.entry) part result) }
     ensures flushed { ¬ (IsWriteEnd result) → writer_buffer output.new ≡ [] }
@@ -47,7 +47,7 @@ fn write_decoded<R: Read + Drop, W: Write>(
     output: &mut W,
     limits: MemoryLimits,
     null: Option<&[u8]>,
-) -> Result<(), RunFault>
+) -> Result<(), RunError>
     ensures { (bytes : List ℕ) → reader_remaining R.remaining input.old ≡ Some bytes →
         Writes (W.contents output.old) (W.contents output.new) (λ part. DecodeEnd bytes limits (word_of null.entry) part result) }
 {
@@ -60,7 +60,7 @@ fn write_decoded<R: Read + Drop, W: Write>(
         read_texts(input, &mut line, &mut rodeo, header.distinct, column)?;
         write_lines(input, output, &mut line, &rodeo, header, null, column)?;
     }
-    Err(RunFault::TooManyLines)
+    Err(RunError::TooManyLines)
 }
 
 // Writes the lines of the entries.
@@ -72,16 +72,16 @@ fn write_lines<R: Read + Drop, W: Write>(
     header: Header,
     null: Option<&[u8]>,
     column: usize,
-) -> Result<(), RunFault>
+) -> Result<(), RunError>
     ensures { (bytes : List ℕ) → reader_remaining R.remaining input.old ≡ Some bytes →
         Writes (W.contents output.old) (W.contents output.new) (λ part. WritesLines (items_from (line_at (word_of null.entry) rodeo.now.texts) header.lines header.binary 1 bytes)
         column (reader_remaining R.remaining input.new) part result) }
 {
     let mut count = 0;
     while count < header.lines {
-        let shown = at_hand(input);
+        let shown = buffered(input);
         let (next, used) = write_stretch(output, rodeo, header, null, column, shown, count)?;
-        use_up(input, used);
+        consume(input, used);
         if next == header.lines {
             return Ok(());
         }
@@ -102,16 +102,16 @@ fn write_stretch<W: Write>(
     column: usize,
     stretch: &[u8],
     count: usize,
-) -> Result<(usize, usize), RunFault>
+) -> Result<(usize, usize), RunError>
     requires { count ≤ header.lines }
     ensures written { IfOk result (λ at. (read : ReadItems Text) (later : List ℕ) (before : Option (List ℕ)) →
         Writes before (W.contents output.old) (LinesAhead (items_from (line_at (word_of null.entry) rodeo.now.texts) (header.lines - count) header.binary (count + 1) (stretch.now ++ later)) read) →
         Writes before (W.contents output.new) (LinesAhead (items_from (line_at (word_of null.entry) rodeo.now.texts) (header.lines - at.0) header.binary (at.0 + 1) (drop at.1 stretch.now ++ later)) read)) }
     ensures more { IfOk result (λ at. (count ≤ at.0) × (at.0 ≤ header.lines)) }
     ensures within { IfOk result (λ at. at.1 ≤ length stretch.now) }
-    ensures fault { IfErr result (λ fault. (read : ReadItems Text) (later : List ℕ) (before : Option (List ℕ)) →
+    ensures error { IfErr result (λ error. (read : ReadItems Text) (later : List ℕ) (before : Option (List ℕ)) →
         Writes before (W.contents output.old) (LinesAhead (items_from (line_at (word_of null.entry) rodeo.now.texts) (header.lines - count) header.binary (count + 1) (stretch.now ++ later)) read) →
-        Writes before (W.contents output.new) (λ part. LinesFault read column part fault)) }
+        Writes before (W.contents output.new) (λ part. DecodingError read column part error)) }
 {
     let mut used = 0;
     for position in count..header.lines {
@@ -133,11 +133,11 @@ fn write_entry_line<W: Write>(
     column: usize,
     entry: Entry,
     number: usize,
-) -> Result<(), RunFault>
+) -> Result<(), RunError>
     ensures { Writes (W.contents output.old) (W.contents output.new) (WritesEntry (line_at (word_of null.entry) rodeo.now.texts entry number) column result) }
 {
     match line_at(rodeo, null, entry, number) {
         Ok(decoded) => write_line(output, decoded),
-        Err(fault) => Err(RunFault::Column(column, fault)),
+        Err(error) => Err(RunError::Column(column, error)),
     }
 }

@@ -4,10 +4,10 @@ ghost use Rattle.std.specs.Io.Buffered.{reader_remaining};
 ghost use Rattle.lasso_codes.specs.Arguments.{word_of};
 ghost use Rattle.lasso_codes.specs.Decode.{line_at};
 ghost use Rattle.lasso_codes.specs.Reading.{cut_entry, cut_number, entry_in, number_entry, TakesEntry};
-ghost use Rattle.lasso_codes.specs.Fault.{IsReadFault};
+ghost use Rattle.lasso_codes.specs.Errors.{IsReadError};
 
 use crate::columns::NULL;
-use crate::fault::{ColumnFault, RunFault};
+use crate::error::{ColumnError, RunError};
 use crate::input::{Cut, next_byte, next_whole_line};
 use crate::numbers::parse_digits;
 use lasso::SpurRodeo;
@@ -36,9 +36,9 @@ pub fn next_entry<R: Read + Drop>(
     input: &mut BufReader<R>,
     line: &mut Vec<u8>,
     binary: bool,
-) -> Result<Entry, RunFault>
+) -> Result<Entry, RunError>
     ensures taken { IfOk result (TakesEntry binary (reader_remaining R.remaining input.old) (reader_remaining R.remaining input.new)) }
-    ensures faults { IfErr result (IsReadFault 0) }
+    ensures errors { IfErr result (IsReadError 0) }
 {
     if binary {
         return next_number(input);
@@ -50,9 +50,9 @@ pub fn next_entry<R: Read + Drop>(
 }
 
 // Reads an entry of four bytes.
-fn next_number<R: Read + Drop>(input: &mut BufReader<R>) -> Result<Entry, RunFault>
+fn next_number<R: Read + Drop>(input: &mut BufReader<R>) -> Result<Entry, RunError>
     ensures taken { IfOk result (TakesEntry true (reader_remaining R.remaining input.old) (reader_remaining R.remaining input.new)) }
-    ensures faults { IfErr result (IsReadFault 0) }
+    ensures errors { IfErr result (IsReadError 0) }
 {
     let Some(first) = next_byte(input)? else {
         return Ok(Entry::Missing);
@@ -131,21 +131,21 @@ pub fn line_at<'a>(
     null: Option<&'a [u8]>,
     entry: Entry,
     number: usize,
-) -> Result<&'a [u8], ColumnFault>
+) -> Result<&'a [u8], ColumnError>
     ensures { MatchResult result
         (λ line. line_at (word_of null.entry) rodeo.now.texts entry number ≡ Ok line.now)
-        (λ fault. line_at (word_of null.entry) rodeo.now.texts entry number ≡ Err fault) }
+        (λ error. line_at (word_of null.entry) rodeo.now.texts entry number ≡ Err error) }
 {
     match entry {
-        Entry::Missing => Err(ColumnFault::NoEntry(number)),
-        Entry::Bad => Err(ColumnFault::NotEntry(number)),
+        Entry::Missing => Err(ColumnError::NoEntry(number)),
+        Entry::Bad => Err(ColumnError::NotEntry(number)),
         Entry::Null => match null {
             Some(word) => Ok(word),
-            None => Err(ColumnFault::IsNull(number)),
+            None => Err(ColumnError::IsNull(number)),
         },
         Entry::Code(code) => {
             if code >= rodeo.len() {
-                return Err(ColumnFault::PastTexts(number));
+                return Err(ColumnError::PastTexts(number));
             }
             Ok(rodeo.text_at(code).as_bytes())
         }

@@ -3,9 +3,9 @@ ghost use Rattle.std.specs.Prelude.{◌≡◌, ◌≤◌, ℕ, List, [], ◌∷�
 ghost use Rattle.std.specs.Io.Buffered.{reader_buffer, reader_remaining};
 ghost use Rattle.lasso_columns.specs.Lines.{NoFeed};
 ghost use Rattle.lasso_codes.specs.Streams.{CutsLine, TakesByte, TakesLine};
-ghost use Rattle.lasso_codes.specs.Fault.{IsReadFault};
+ghost use Rattle.lasso_codes.specs.Errors.{IsReadError};
 
-use crate::fault::RunFault;
+use crate::error::RunError;
 use std::io::{BufRead, BufReader, ErrorKind, Read};
 
 /// Reads the next line into `line`, without its line feed, and returns whether there was one. Bytes after the last line feed are
@@ -17,9 +17,9 @@ pub fn next_line<R: Read + Drop>(
     input: &mut BufReader<R>,
     line: &mut Vec<u8>,
     number: usize,
-) -> Result<bool, RunFault>
+) -> Result<bool, RunError>
     ensures taken { IfOk result (λ is_line. TakesLine (reader_remaining R.remaining input.old) (reader_remaining R.remaining input.new) is_line line.new.items) }
-    ensures faults { IfErr result (IsReadFault number) }
+    ensures errors { IfErr result (IsReadError number) }
 {
     line.clear();
     match input.read_until(b'\n', line) {
@@ -28,8 +28,8 @@ pub fn next_line<R: Read + Drop>(
             strip_feed(line);
             Ok(true)
         }
-        Err(error) if error.kind() == ErrorKind::OutOfMemory => Err(RunFault::no_memory(number)),
-        Err(_) => Err(RunFault::ReadFailed),
+        Err(error) if error.kind() == ErrorKind::OutOfMemory => Err(RunError::no_memory(number)),
+        Err(_) => Err(RunError::ReadFailed),
     }
 }
 
@@ -51,9 +51,9 @@ pub enum Cut {
 pub fn next_whole_line<R: Read + Drop>(
     input: &mut BufReader<R>,
     line: &mut Vec<u8>,
-) -> Result<Cut, RunFault>
+) -> Result<Cut, RunError>
     ensures taken { IfOk result (λ cut. CutsLine (reader_remaining R.remaining input.old) (reader_remaining R.remaining input.new) cut line.new.items) }
-    ensures faults { IfErr result (IsReadFault 0) }
+    ensures errors { IfErr result (IsReadError 0) }
 {
     line.clear();
     match input.read_until(b'\n', line) {
@@ -67,8 +67,8 @@ pub fn next_whole_line<R: Read + Drop>(
                 Ok(Cut::Part)
             }
         }
-        Err(error) if error.kind() == ErrorKind::OutOfMemory => Err(RunFault::no_memory(0)),
-        Err(_) => Err(RunFault::ReadFailed),
+        Err(error) if error.kind() == ErrorKind::OutOfMemory => Err(RunError::no_memory(0)),
+        Err(_) => Err(RunError::ReadFailed),
     }
 }
 
@@ -76,9 +76,9 @@ pub fn next_whole_line<R: Read + Drop>(
 ///
 /// # Errors
 /// The reader failed.
-pub fn next_byte<R: Read + Drop>(input: &mut BufReader<R>) -> Result<Option<u8>, RunFault>
+pub fn next_byte<R: Read + Drop>(input: &mut BufReader<R>) -> Result<Option<u8>, RunError>
     ensures taken { IfOk result (TakesByte (reader_remaining R.remaining input.old) (reader_remaining R.remaining input.new)) }
-    ensures faults { IfErr result (λ fault. fault ≡ RunFault.ReadFailed) }
+    ensures errors { IfErr result (λ error. error ≡ RunError.ReadFailed) }
 {
     let mut byte = [0];
     for _ in 0..u64::MAX {
@@ -86,10 +86,10 @@ pub fn next_byte<R: Read + Drop>(input: &mut BufReader<R>) -> Result<Option<u8>,
             Ok(0) => return Ok(None),
             Ok(_) => return Ok(Some(byte[0])),
             Err(error) if error.kind() == ErrorKind::Interrupted => {}
-            Err(_) => return Err(RunFault::ReadFailed),
+            Err(_) => return Err(RunError::ReadFailed),
         }
     }
-    Err(RunFault::ReadFailed)
+    Err(RunError::ReadFailed)
 }
 
 // Takes the line feed off the end of the line.
@@ -105,7 +105,7 @@ fn strip_feed(line: &mut Vec<u8>)
 
 /// The bytes at hand, which are the first of those that are left.
 #[inline]
-pub fn at_hand<R: Read + Drop>(input: &BufReader<R>) -> &[u8]
+pub fn buffered<R: Read + Drop>(input: &BufReader<R>) -> &[u8]
     ensures value { result.now ≡ reader_buffer input.now }
     ensures first { (bytes : List ℕ) → reader_remaining R.remaining input.now ≡ Some bytes → (later : List ℕ) × (bytes ≡ result.now ++ later) }
 {
@@ -113,7 +113,7 @@ pub fn at_hand<R: Read + Drop>(input: &BufReader<R>) -> &[u8]
 }
 
 /// Uses up the first `count` bytes at hand.
-pub fn use_up<R: Read + Drop>(input: &mut BufReader<R>, count: usize)
+pub fn consume<R: Read + Drop>(input: &mut BufReader<R>, count: usize)
     requires { count ≤ length (reader_buffer input.old) }
     ensures { (later : List ℕ) → reader_remaining R.remaining input.old ≡ Some (reader_buffer input.old ++ later) →
         reader_remaining R.remaining input.new ≡ Some (drop count (reader_buffer input.old) ++ later) }

@@ -8,7 +8,7 @@ pub mod decode;
 pub mod distinct;
 pub mod encode;
 pub mod entries;
-pub mod fault;
+pub mod error;
 pub mod help;
 pub mod input;
 pub mod laws;
@@ -23,8 +23,8 @@ pub mod reading;
 mod tests;
 pub mod whole;
 
-use arguments::{ArgumentFault, Request, command_of};
-use fault::RunFault;
+use arguments::{ArgumentError, Request, command_of};
+use error::RunError;
 use program::{BUFFER, run_request};
 use progress::{Terminals, Watched, shows_progress};
 use std::alloc::AllocError;
@@ -40,15 +40,15 @@ const BAD_ARGUMENTS: u8 = 3;
 fn main(rt: HostRuntime) -> ExitCode {
     let words = match argument_words(&rt) {
         Ok(Some(words)) => words,
-        Ok(None) => return refuse(&rt, &ArgumentFault::NotText),
-        Err(fault) => return end(&rt, &fault),
+        Ok(None) => return refuse(&rt, &ArgumentError::NotText),
+        Err(error) => return end(&rt, &error),
     };
     match command_of(&words) {
         Ok(request) => match run_program(&rt, &request, terminals(&rt)) {
             Ok(()) => ExitCode::SUCCESS,
-            Err(fault) => end(&rt, &fault),
+            Err(error) => end(&rt, &error),
         },
-        Err(fault) => refuse(&rt, &fault),
+        Err(error) => refuse(&rt, &error),
     }
 }
 
@@ -66,14 +66,14 @@ fn run_program<R: AllocGlobal + Input + Print + Eprint + Clock + Threads + Sync>
     rt: &R,
     request: &Request<'_>,
     terminals: Terminals,
-) -> Result<(), RunFault> {
+) -> Result<(), RunError> {
     let is_shown = shows_progress(request.command, terminals);
     let watched = Watched::new(rt.reader(), rt, is_shown);
     let Ok(mut input) = BufReader::with_capacity(rt.alloc(), BUFFER, watched) else {
-        return Err(RunFault::no_memory(0));
+        return Err(RunError::no_memory(0));
     };
     let Ok(mut output) = BufWriter::with_capacity(rt.alloc(), BUFFER, io::writer(rt)) else {
-        return Err(RunFault::no_memory(0));
+        return Err(RunError::no_memory(0));
     };
     let ended = run_request(rt, request, &mut input, &mut output);
     input.get_mut().wipe();
@@ -83,21 +83,21 @@ fn run_program<R: AllocGlobal + Input + Print + Eprint + Clock + Threads + Sync>
 }
 
 // Says why the arguments are refused.
-fn refuse<R: Eprint>(rt: &R, fault: &ArgumentFault<'_>) -> ExitCode {
-    let _ = eprintln!(rt; "{fault}");
+fn refuse<R: Eprint>(rt: &R, error: &ArgumentError<'_>) -> ExitCode {
+    let _ = eprintln!(rt; "{error}");
     ExitCode::from(BAD_ARGUMENTS)
 }
 
 // Says why the run ended, unless it is because its reader is gone.
-fn end<R: Eprint>(rt: &R, fault: &RunFault) -> ExitCode {
-    if *fault != RunFault::ReaderGone {
-        let _ = eprintln!(rt; "{fault}");
+fn end<R: Eprint>(rt: &R, error: &RunError) -> ExitCode {
+    if *error != RunError::ReaderGone {
+        let _ = eprintln!(rt; "{error}");
     }
-    ExitCode::from(fault.status())
+    ExitCode::from(error.status())
 }
 
 // The words after the program's name, or `None` where one is not text.
-fn argument_words<R: AllocGlobal + Env>(rt: &R) -> Result<Option<Vec<String>>, RunFault> {
+fn argument_words<R: AllocGlobal + Env>(rt: &R) -> Result<Option<Vec<String>>, RunError> {
     let mut all = match env::args(rt) {
         Ok(all) => all,
         Err(error) if error.kind() == ErrorKind::OutOfMemory => return Err(no_memory(AllocError)),
@@ -109,6 +109,6 @@ fn argument_words<R: AllocGlobal + Env>(rt: &R) -> Result<Option<Vec<String>>, R
 }
 
 // Out of memory at no line.
-fn no_memory(_: AllocError) -> RunFault {
-    RunFault::no_memory(0)
+fn no_memory(_: AllocError) -> RunError {
+    RunError::no_memory(0)
 }

@@ -6,7 +6,7 @@ ghost use Rattle.lasso_codes.specs.Counts.{CountsEnd};
 ghost use Rattle.lasso_codes.specs.Decode.{DecodeEnd};
 ghost use Rattle.lasso_codes.specs.Distinct.{DistinctEnd};
 ghost use Rattle.lasso_codes.specs.Encode.{EncodeEnd};
-ghost use Rattle.lasso_codes.specs.Fault.{IsWriteEnd};
+ghost use Rattle.lasso_codes.specs.Errors.{IsWriteEnd};
 ghost use Rattle.lasso_codes.specs.Merge.{MergeEnd};
 ghost use Rattle.lasso_codes.specs.Streams.{Writes};
 ghost use Rattle.lasso_codes.specs.declared.arguments.Settings.{Settings};
@@ -18,7 +18,7 @@ use crate::counts::counts;
 use crate::decode::decode;
 use crate::distinct::distinct;
 use crate::encode::encode;
-use crate::fault::RunFault;
+use crate::error::RunError;
 use crate::help::{HELP, VERSION, verb_help};
 use crate::merge::merge;
 use crate::output::{flush, write_bytes};
@@ -38,7 +38,7 @@ pub fn run_request<H: AllocGlobal + Threads + Sync, R: Read + Drop, W: Write + D
     request: &Request<'_>,
     input: &mut BufReader<R>,
     output: &mut BufWriter<W>,
-) -> Result<(), RunFault>
+) -> Result<(), RunError>
     ensures distinct { (settings : Settings) (bytes : List ℕ) → request.now.command ≡ Run Distinct settings → reader_remaining R.remaining input.old ≡ Some bytes →
         Writes (writer_contents W.contents output.old) (writer_contents W.contents output.new) (λ part. DistinctEnd bytes settings.limit part result) }
     ensures counts { (settings : Settings) (bytes : List ℕ) → request.now.command ≡ Run Counts settings → reader_remaining R.remaining input.old ≡ Some bytes →
@@ -70,7 +70,7 @@ pub fn run_request<H: AllocGlobal + Threads + Sync, R: Read + Drop, W: Write + D
 }
 
 // Writes the text.
-fn show<W: Write + Drop>(output: &mut BufWriter<W>, text: &str) -> Result<(), RunFault>
+fn show<W: Write + Drop>(output: &mut BufWriter<W>, text: &str) -> Result<(), RunError>
     ensures { ¬ (IsWriteEnd result) → writer_buffer output.new ≡ [] }
 {
     write_bytes(output, text.as_bytes())?;

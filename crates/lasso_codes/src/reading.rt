@@ -6,11 +6,11 @@ ghost use Rattle.lasso_single.specs.Interner.{InternerView, made_with};
 ghost use Rattle.lasso_columns.specs.Encoding.{spur_at};
 ghost use Rattle.lasso_codes.specs.Arguments.{word_of};
 ghost use Rattle.lasso_codes.specs.Stages.{Reading};
-ghost use Rattle.lasso_codes.specs.Reading.{after_front, header_in, header_of, header_with, AddFault, AddsText, HeaderFault, TakesHeader, TakesTexts, TextsFault};
+ghost use Rattle.lasso_codes.specs.Reading.{after_front, header_in, header_of, header_with, AddError, AddsText, HeaderError, TakesHeader, TakesTexts, TextsError};
 
 use crate::columns::{BINARY_FRONT, TEXT_FRONT};
-use crate::fault::{ColumnFault, RunFault};
-use crate::input::{Cut, at_hand, next_whole_line, use_up};
+use crate::error::{ColumnError, RunError};
+use crate::input::{Cut, buffered, consume, next_whole_line};
 use crate::lines::{intern_line, untested_len};
 use crate::numbers::parse_digits;
 use lasso::SpurRodeo;
@@ -38,16 +38,16 @@ pub fn next_header<R: Read + Drop>(
     input: &mut BufReader<R>,
     line: &mut Vec<u8>,
     column: usize,
-) -> Result<Option<Header>, RunFault>
+) -> Result<Option<Header>, RunError>
     ensures taken { IfOk result (TakesHeader (reader_remaining R.remaining input.old) (reader_remaining R.remaining input.new)) }
-    ensures fault { IfErr result (HeaderFault (reader_remaining R.remaining input.old) column) }
+    ensures error { IfErr result (HeaderError (reader_remaining R.remaining input.old) column) }
 {
     match next_whole_line(input, line)? {
         Cut::Whole => match header_of(line) {
             Some(header) => Ok(Some(header)),
-            None => Err(RunFault::Column(column, ColumnFault::NoHeader)),
+            None => Err(RunError::Column(column, ColumnError::NoHeader)),
         },
-        Cut::Part => Err(RunFault::Column(column, ColumnFault::NoHeader)),
+        Cut::Part => Err(RunError::Column(column, ColumnError::NoHeader)),
         Cut::End => Ok(None),
     }
 }
@@ -62,28 +62,28 @@ pub fn read_texts<R: Read + Drop>(
     rodeo: &mut SpurRodeo,
     distinct: usize,
     column: usize,
-) -> Result<(), RunFault>
+) -> Result<(), RunError>
     requires { rodeo.old.texts ≡ [] }
     ensures taken { OnOk result (TakesTexts (reader_remaining R.remaining input.old) (reader_remaining R.remaining input.new) distinct rodeo.new.texts) }
-    ensures fault { IfErr result (λ fault. (bytes : List ℕ) → reader_remaining R.remaining input.old ≡ Some bytes →
-        (limit : ℕ) → rodeo.old ≡ made_with 4096 limit → TextsFault limit distinct column bytes fault) }
+    ensures error { IfErr result (λ error. (bytes : List ℕ) → reader_remaining R.remaining input.old ≡ Some bytes →
+        (limit : ℕ) → rodeo.old ≡ made_with 4096 limit → TextsError limit distinct column bytes error) }
 {
     let mut count = 0;
     while count < distinct {
-        let (next, used) = add_texts(rodeo, at_hand(input), distinct, count, column)?;
-        use_up(input, used);
+        let (next, used) = add_texts(rodeo, buffered(input), distinct, count, column)?;
+        consume(input, used);
         if next == distinct {
             return Ok(());
         }
         let number = next + 1;
         match next_whole_line(input, line)? {
             Cut::Whole => {
-                if let Err(fault) = add_text(rodeo, line, false, number) {
-                    return Err(RunFault::Column(column, fault));
+                if let Err(error) = add_text(rodeo, line, false, number) {
+                    return Err(RunError::Column(column, error));
                 }
             }
             Cut::Part | Cut::End => {
-                return Err(RunFault::Column(column, ColumnFault::NoText(number)));
+                return Err(RunError::Column(column, ColumnError::NoText(number)));
             }
         }
         count = number;
@@ -99,14 +99,14 @@ fn add_texts(
     distinct: usize,
     count: usize,
     column: usize,
-) -> Result<(usize, usize), RunFault>
+) -> Result<(usize, usize), RunError>
     requires { count ≤ distinct }
     ensures added { IfOk result (λ at. (bytes later : List ℕ) → Reading bytes (stretch.now ++ later) count rodeo.old → Reading bytes (drop at.1 stretch.now ++ later) at.0 rodeo.new) }
     ensures list { OnOk result ((start : InternerView) → extend spur_at start rodeo.old.texts (Ok tt) rodeo.old → extend spur_at start rodeo.new.texts (Ok tt) rodeo.new) }
     ensures more { IfOk result (λ at. (count ≤ at.0) × (at.0 ≤ distinct)) }
     ensures within { IfOk result (λ at. at.1 ≤ length stretch.now) }
-    ensures fault { IfErr result (λ fault. (bytes later : List ℕ) (limit : ℕ) → Reading bytes (stretch.now ++ later) count rodeo.old →
-        extend spur_at (made_with 4096 limit) rodeo.old.texts (Ok tt) rodeo.old → TextsFault limit distinct column bytes fault) }
+    ensures error { IfErr result (λ error. (bytes later : List ℕ) (limit : ℕ) → Reading bytes (stretch.now ++ later) count rodeo.old →
+        extend spur_at (made_with 4096 limit) rodeo.old.texts (Ok tt) rodeo.old → TextsError limit distinct column bytes error) }
 {
     let untested = untested_len(stretch);
     let mut used = 0;
@@ -116,8 +116,8 @@ fn add_texts(
             return Ok((position, used));
         };
         let is_text = untested < rest.len() - len;
-        if let Err(fault) = add_text(rodeo, &rest[..len], is_text, position + 1) {
-            return Err(RunFault::Column(column, fault));
+        if let Err(error) = add_text(rodeo, &rest[..len], is_text, position + 1) {
+            return Err(RunError::Column(column, error));
         }
         used += len + 1;
     }
@@ -130,15 +130,15 @@ fn add_text(
     line: &[u8],
     is_text: bool,
     number: usize,
-) -> Result<(), ColumnFault>
+) -> Result<(), ColumnError>
     requires { IsTrue is_text → IsUtf8 line.now }
-    ensures { MatchResult result (λ _. AddsText rodeo.old line.now rodeo.new) (AddFault rodeo.old line.now number) }
+    ensures { MatchResult result (λ _. AddsText rodeo.old line.now rodeo.new) (AddError rodeo.old line.now number) }
 {
     match intern_line(rodeo, line, is_text, number) {
         Ok(true) => Ok(()),
-        Ok(false) => Err(ColumnFault::Doubled(number)),
-        Err(LineError::NotText(_)) => Err(ColumnFault::NotUtf8(number)),
-        Err(LineError::Refused(_, error)) => Err(ColumnFault::TextRefused(number, error)),
+        Ok(false) => Err(ColumnError::Doubled(number)),
+        Err(LineError::NotText(_)) => Err(ColumnError::NotUtf8(number)),
+        Err(LineError::Refused(_, error)) => Err(ColumnError::TextRefused(number, error)),
     }
 }
 

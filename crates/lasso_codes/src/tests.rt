@@ -9,7 +9,7 @@ mod verbs;
 mod words;
 
 use crate::arguments::{Command, Request, Settings, Verb};
-use crate::fault::RunFault;
+use crate::error::RunError;
 use std::alloc::Global;
 use std::io::{BufReader, BufWriter};
 use std::process::Abort;
@@ -69,17 +69,17 @@ fn writer_of(alloc: Global) -> Result<BufWriter<Vec<u8>>, Fail> {
 }
 
 // The fault has these words and this status.
-fn assert_fault<R: AllocGlobal + Abort>(
+fn assert_error<R: AllocGlobal + Abort>(
     rt: &R,
-    ended: Result<(), RunFault>,
+    ended: Result<(), RunError>,
     words: &str,
     status: u8,
 ) -> Result<(), Fail> {
-    let Err(fault) = ended else {
-        return Err(Fail::from("there is no fault"));
+    let Err(error) = ended else {
+        return Err(Fail::from("there is no error"));
     };
-    let told = fault.to_string(rt.alloc())?;
+    let told = error.to_string(rt.alloc())?;
     assert!(rt; told.as_str() == words);
-    assert!(rt; fault.status() == status);
+    assert!(rt; error.status() == status);
     Ok(())
 }

@@ -3,7 +3,7 @@ use Rattle.std.specs.Prelude.{ℕ, ◌≡◌, ◌+◌, List, [], ◌∷◌, ◌+
 use Rattle.lasso_parts.specs.Errors.{error_text}
 use Rattle.lasso_parts.specs.Texts.{Text, position_of}
 use Rattle.lasso_counts.specs.Counts.{count_of, count_at}
-use Rattle.lasso_counts.specs.declared.fault.CountError.{CountError}
+use Rattle.lasso_counts.specs.declared.error.CountError.{CountError}
 
 abbrev pub count_error_text : CountError → List ℕ
 count_error_text error = codes "Text at position " ++ (decimal error.position ++ (codes ": " ++ error_text error.error))
@@ -15,12 +15,12 @@ counted_of (Err error) texts = take error.position texts
 
 -- each text's count has grown by how often it is among these, and there is a count for each text of the list that they left
 pub record AddsCounts (texts before : List Text) (counts : List ℕ) (after : List Text) (counts' : List ℕ) : Type 0 where
-  pub tell : (text : Text) → count_at counts' (position_of after text) ≡ count_at counts (position_of before text) + count_of texts text
-  pub beside : length counts' ≡ length after
+  pub each : (text : Text) → count_at counts' (position_of after text) ≡ count_at counts (position_of before text) + count_of texts text
+  pub lengths : length counts' ≡ length after
   pub total : sum counts' ≡ sum counts + length texts
 
 -- each text's count has grown by its amount beside another list
 pub record AddsAmounts (list from : List Text) (amounts old new : List ℕ) : Type 0 where
-  pub tell : (text : Text) → count_at new (position_of list text) ≡ count_at old (position_of list text) + count_at amounts (position_of from text)
+  pub each : (text : Text) → count_at new (position_of list text) ≡ count_at old (position_of list text) + count_at amounts (position_of from text)
   pub long : length new ≡ length old
   pub total : sum new ≡ sum old + sum amounts

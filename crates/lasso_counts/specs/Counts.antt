@@ -22,8 +22,8 @@ count_at counts (Some n) = slice_index counts n
 -- to the texts
 pub record AreCounts (texts list : List Text) (counts : List ℕ) : Type 0 where
   pub list_is : list ≡ new_texts [] texts
-  pub tell : (text : Text) → count_of texts text ≡ count_at counts (position_of list text)
-  pub beside : length counts ≡ length list
+  pub each : (text : Text) → count_of texts text ≡ count_at counts (position_of list text)
+  pub lengths : length counts ≡ length list
   pub total : sum counts ≡ length texts
 
 -- each distinct text once, with how often it came

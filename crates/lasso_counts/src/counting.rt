@@ -7,7 +7,7 @@ ghost use Rattle.lasso_single.specs.Filling.{extend};
 ghost use Rattle.lasso_counts.specs.Counts.{AreCounts, counted, added};
 ghost use Rattle.lasso_counts.specs.Adding.{AddsCounts, counted_of};
 
-use crate::fault::CountError;
+use crate::error::CountError;
 use lasso::{Key, LassoResult, Rodeo, Spur};
 use std::alloc::Allocator;
 use std::hash::BuildHasher;
@@ -32,11 +32,11 @@ pub fn count_text<S: BuildHasher, A: Allocator + Clone>(
     text: &str,
     counts: &mut Vec<u64>,
 ) -> LassoResult<()>
-    requires beside { vec_len counts.old ≡ length rodeo.old.texts }
+    requires lengths { vec_len counts.old ≡ length rodeo.old.texts }
     requires fits { sum counts.old.items < 2 ^ 64 - 1 }
     ensures interns { OnOk result ((key : ℕ) × InternsIn {K = ℕ} spur_at rodeo.old text.now (Ok key) rodeo.new) }
     ensures step { OnOk result (counts.new.items ≡ counted counts.old.items (position_of rodeo.old.texts text.now)) }
-    ensures beside { vec_len counts.new ≡ length rodeo.new.texts }
+    ensures lengths { vec_len counts.new ≡ length rodeo.new.texts }
     ensures counts { OnOk result ((texts : List Text) → AreCounts texts rodeo.old.texts counts.old.items → AreCounts (texts ++ text.now ∷ []) rodeo.new.texts counts.new.items) }
     ensures total { OnOk result (sum counts.new.items ≡ sum counts.old.items + 1) }
     ensures kept { OnErr result (rodeo.new ≡ rodeo.old) }
@@ -67,7 +67,7 @@ pub fn count_texts<S: BuildHasher, A: Allocator + Clone>(
     texts: &[&str],
     counts: &mut Vec<u64>,
 ) -> Result<(), CountError>
-    requires beside { vec_len counts.old ≡ length rodeo.old.texts }
+    requires lengths { vec_len counts.old ≡ length rodeo.old.texts }
     requires fits { sum counts.old.items + length texts.now < 2 ^ 64 }
     ensures list { extend spur_at rodeo.old (counted_of result (map (λ t. t.now) texts.now)) (Ok tt) rodeo.new }
     ensures counts { AddsCounts (counted_of result (map (λ t. t.now) texts.now)) rodeo.old.texts counts.old.items rodeo.new.texts counts.new.items }

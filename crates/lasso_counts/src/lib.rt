@@ -11,13 +11,13 @@
 #![tactic(auto)]
 
 mod counting;
-mod fault;
+mod error;
 mod parts;
 mod ranking;
 #[cfg(test)]
 mod tests;
 
 pub use counting::{count_text, count_texts};
-pub use fault::CountError;
+pub use error::CountError;
 pub use parts::count_in_parts;
 pub use ranking::{Ranked, by_frequency};

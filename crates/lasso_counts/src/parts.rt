@@ -10,7 +10,7 @@ ghost use Rattle.lasso_counts.specs.Counts.{AreCounts};
 ghost use Rattle.lasso_counts.specs.Adding.{AddsAmounts, AddsCounts, counted_of};
 
 use crate::counting::count_texts;
-use crate::fault::CountError;
+use crate::error::CountError;
 use lasso::{Key, Rodeo, Spur, SpurRodeoReader};
 use lasso_columns::merge;
 use std::alloc::{Allocator, Global};
@@ -42,7 +42,7 @@ pub fn count_in_parts<R: AllocGlobal + Threads + Sync, S: BuildHasher, A: Alloca
     counts: &mut Vec<u64>,
     workers: usize,
 ) -> Result<(), CountError>
-    requires beside { vec_len counts.old ≡ length rodeo.old.texts }
+    requires lengths { vec_len counts.old ≡ length rodeo.old.texts }
     requires fits { sum counts.old.items + length texts.now < 2 ^ 64 }
     ensures list { extend spur_at rodeo.old (counted_of result (map (λ t. t.now) texts.now)) (Ok tt) rodeo.new }
     ensures counts { AddsCounts (counted_of result (map (λ t. t.now) texts.now)) rodeo.old.texts counts.old.items rodeo.new.texts counts.new.items }
@@ -62,8 +62,8 @@ pub fn count_in_parts<R: AllocGlobal + Threads + Sync, S: BuildHasher, A: Alloca
     for part in 0..parts.len() {
         let count = size.min(texts.len() - start);
         let here = &texts[start..start + count];
-        if let Err(fault) = put_part(rt.alloc(), rodeo, here, &parts[part], counts) {
-            return Err(fault.after(start));
+        if let Err(error) = put_part(rt.alloc(), rodeo, here, &parts[part], counts) {
+            return Err(error.after(start));
         }
         start += count;
     }
@@ -102,7 +102,7 @@ fn put_part<S: BuildHasher, A: Allocator + Clone>(
     part: &Option<Part>,
     counts: &mut Vec<u64>,
 ) -> Result<(), CountError>
-    requires beside { vec_len counts.old ≡ length rodeo.old.texts }
+    requires lengths { vec_len counts.old ≡ length rodeo.old.texts }
     requires fits { sum counts.old.items + length texts.now < 2 ^ 64 }
     requires counted { IfSome part.now (λ counted. AreCounts (map (λ t. t.now) texts.now) counted.list counted.counts.items) }
     ensures list { extend spur_at rodeo.old (counted_of result (map (λ t. t.now) texts.now)) (Ok tt) rodeo.new }
@@ -155,7 +155,7 @@ fn count_rest<S: BuildHasher, A: Allocator + Clone>(
     texts: &[&str],
     counts: &mut Vec<u64>,
 ) -> Result<(), CountError>
-    requires beside { vec_len counts.old ≡ length rodeo.old.texts }
+    requires lengths { vec_len counts.old ≡ length rodeo.old.texts }
     requires fits { sum counts.old.items + length texts.now < 2 ^ 64 }
     ensures list { (before : InternerView) (n : ℕ) → extend spur_at before (take n (new_texts [] (map (λ t. t.now) texts.now))) (Ok tt) rodeo.old → extend spur_at before (counted_of result (map (λ t. t.now) texts.now)) (Ok tt) rodeo.new }
     ensures counts { AddsCounts (counted_of result (map (λ t. t.now) texts.now)) rodeo.old.texts counts.old.items rodeo.new.texts counts.new.items }
@@ -164,7 +164,7 @@ fn count_rest<S: BuildHasher, A: Allocator + Clone>(
     let found = count_found(rodeo, texts, counts);
     match count_texts(rodeo, &texts[found..], counts) {
         Ok(()) => Ok(()),
-        Err(fault) => Err(fault.after(found)),
+        Err(error) => Err(error.after(found)),
     }
 }
 
@@ -174,7 +174,7 @@ fn count_found<S: BuildHasher, A: Allocator>(
     texts: &[&str],
     counts: &mut Vec<u64>,
 ) -> usize
-    requires beside { vec_len counts.old ≡ length rodeo.now.texts }
+    requires lengths { vec_len counts.old ≡ length rodeo.now.texts }
     requires fits { sum counts.old.items + length texts.now < 2 ^ 64 }
     ensures within { result ≤ length texts.now }
     ensures found { All (λ text. IsSome (key_of spur_at rodeo.now.texts text)) (take result (map (λ t. t.now) texts.now)) }

@@ -100,11 +100,11 @@ fn the_refused_text_is_told(rt: HostRuntime) -> Result<(), Fail> {
             count_text(&mut rodeo, filler, &mut counts)?;
             assert!(rt; texts.len() == 8);
             let ended = count_in_parts(&rt, &mut rodeo, texts, &mut counts, workers);
-            let Err(fault) = ended else {
+            let Err(refused) = ended else {
                 return Err(Fail::from("no text is refused"));
             };
-            assert!(rt; fault.position == position);
-            assert!(rt; fault.error.kind() == LassoErrorKind::MemoryLimitReached);
+            assert!(rt; refused.position == position);
+            assert!(rt; refused.error.kind() == LassoErrorKind::MemoryLimitReached);
             let len = if count > 0 { 2 } else { 1 };
             assert!(rt; rodeo.len() == len);
             assert!(rt; counts.len() == len);
@@ -117,12 +117,12 @@ fn the_refused_text_is_told(rt: HostRuntime) -> Result<(), Fail> {
 
 #[test]
 fn a_refused_text_is_printed(rt: HostRuntime) -> Result<(), Fail> {
-    let fault = CountError {
+    let error = CountError {
         position: 7,
         error: LassoError::new(LassoErrorKind::MemoryLimitReached),
     };
     let words =
         "Text at position 7: Lasso encountered an error: The configured memory limit was reached";
-    assert!(rt; fault.to_string(rt.alloc())?.as_str() == words);
+    assert!(rt; error.to_string(rt.alloc())?.as_str() == words);
     Ok(())
 }

@@ -89,7 +89,7 @@ fn codes_past_a_byte(rt: HostRuntime) -> Result<(), Fail> {
 
 // The line that is refused or is not UTF-8 is told by its number among all lines, nulls too.
 #[test]
-fn faults_are_counted_with_the_nulls(rt: HostRuntime) -> Result<(), Fail> {
+fn errors_count_nulls_too(rt: HostRuntime) -> Result<(), Fail> {
     let with_null = |settings| Request {
         null: Some(b"NA"),
         ..runs(Verb::Encode, settings)

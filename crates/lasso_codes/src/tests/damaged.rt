@@ -115,7 +115,7 @@ fn damaged_columns(rt: HostRuntime) -> Result<(), Fail> {
 
 // The lines before the fault are written: those of the columns before, and those of the entries before.
 #[test]
-fn lines_before_a_fault(rt: HostRuntime) -> Result<(), Fail> {
+fn lines_before_an_error(rt: HostRuntime) -> Result<(), Fail> {
     let input = b"lasso-codes 1 text 1 1\na\n0\nlasso-codes 1 text 2 3\nb\nc\n1\n0\n2\n";
     let past = ("column 2: entry 3 is past the texts", 2);
     assert_stops(&rt, runs(Verb::Decode, PLAIN), input, b"a\nc\nb\n", past)?;

@@ -1,5 +1,5 @@
 //! A reader and a writer that give or take three bytes a call, and then fail.
-use super::{PLAIN, assert_fault, runs};
+use super::{PLAIN, assert_error, runs};
 use crate::arguments::Verb;
 use crate::program::run_request;
 use std::alloc::Global;
@@ -123,7 +123,7 @@ fn each_read_fails_in_turn(rt: HostRuntime) -> Result<(), Fail> {
                 whole = true;
                 break;
             }
-            assert_fault(&rt, ended, "read failed", 4)?;
+            assert_error(&rt, ended, "read failed", 4)?;
         }
         assert!(rt; whole);
     }
@@ -141,7 +141,7 @@ fn lines_are_written_before_the_next_read(rt: HostRuntime) -> Result<(), Fail> {
         let mut writer = BufWriter::new(rt.alloc(), Vec::new(rt.alloc()))?;
         let request = runs(Verb::Distinct, PLAIN);
         let ended = run_request(&rt, &request, &mut input, &mut writer);
-        assert_fault(&rt, ended, "read failed", 4)?;
+        assert_error(&rt, ended, "read failed", 4)?;
         assert!(rt; writer.get_ref().as_slice() == written);
     }
     Ok(())
@@ -170,7 +170,7 @@ fn each_write_fails_in_turn(rt: HostRuntime) -> Result<(), Fail> {
                     whole = true;
                     break;
                 }
-                assert_fault(&rt, ended, words, status)?;
+                assert_error(&rt, ended, words, status)?;
             }
             assert!(rt; whole);
         }
@@ -180,7 +180,7 @@ fn each_write_fails_in_turn(rt: HostRuntime) -> Result<(), Fail> {
 
 // A reader that is gone is told as such only where nothing else failed.
 #[test]
-fn a_fault_stays_one_where_the_reader_is_gone(rt: HostRuntime) -> Result<(), Fail> {
+fn an_error_stays_one_where_the_reader_is_gone(rt: HostRuntime) -> Result<(), Fail> {
     let rows: [(&[u8], &str, u8); 2] = [
         (b"b\na\n", "the output's reader is gone", 0),
         (b"b\n\xff\n", "write failed", 4),
@@ -193,7 +193,7 @@ fn a_fault_stays_one_where_the_reader_is_gone(rt: HostRuntime) -> Result<(), Fai
         let ended = run_request(&rt, &request, &mut input, &mut writer);
         let (target, _) = writer.into_parts();
         assert!(rt; target.taken.is_empty());
-        assert_fault(&rt, ended, words, status)?;
+        assert_error(&rt, ended, words, status)?;
     }
     Ok(())
 }

@@ -40,7 +40,7 @@ fn columns_as_a_binary_one(rt: HostRuntime) -> Result<(), Fail> {
 
 // A damaged column after good ones: nothing is written.
 #[test]
-fn nothing_before_a_fault(rt: HostRuntime) -> Result<(), Fail> {
+fn nothing_before_an_error(rt: HostRuntime) -> Result<(), Fail> {
     let cases: [(&[u8], &str); 4] = [
         (
             b"lasso-codes 1 text 1 1\na\n0\nlasso-codes 1 text 1 2\na\n-\n1\n",

@@ -1,5 +1,5 @@
 //! What the verbs write.
-use super::{PLAIN, asks, assert_fault, by_workers, reader_of, runs, writer_of};
+use super::{PLAIN, asks, assert_error, by_workers, reader_of, runs, writer_of};
 use crate::arguments::{Command, Request, Settings, Verb};
 use crate::help::{HELP, VERSION, verb_help};
 use crate::program::run_request;
@@ -154,7 +154,7 @@ pub fn assert_stops<R: AllocGlobal + Abort + Threads + Sync>(
         let (written, left) = writer.into_parts();
         assert!(rt; left.is_empty());
         assert!(rt; written.as_slice() == output);
-        assert_fault(rt, ended, words, status)?;
+        assert_error(rt, ended, words, status)?;
     }
     Ok(())
 }

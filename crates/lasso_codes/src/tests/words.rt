@@ -227,7 +227,7 @@ fn bad_words_are_named(rt: HostRuntime) -> Result<(), Fail> {
     for (words, told) in cases {
         match command_of(&owned_words(&rt, words)?) {
             Ok(_) => return Err(Fail::from("bad words ask for something")),
-            Err(fault) => assert!(rt; fault.to_string(rt.alloc())?.as_str() == told),
+            Err(error) => assert!(rt; error.to_string(rt.alloc())?.as_str() == told),
         }
     }
     Ok(())

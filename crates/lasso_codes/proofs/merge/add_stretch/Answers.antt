@@ -8,8 +8,8 @@ use Rattle.lasso_codes.proofs.MergedColumns.{number_added, number_fails}
 use Rattle.lasso_codes.proofs.Stretches.{next_entry_cut}
 use Rattle.lasso_codes.proofs.merge.add_stretch.Goals as goal
 
-pub returns-in_err-add_number-clause-fault : goal.returns-in_err-add_number-clause-fault
-returns-in_err-add_number-clause-fault c =
+pub returns-in_err-add_number-clause-error : goal.returns-in_err-add_number-clause-error
+returns-in_err-add_number-clause-error c =
     let p = err_from_is_err_and c.from_residual.result c.from_residual.ensures.1 in
     let at = c.loop-position in
     let stretch = c.args.stretch.now in

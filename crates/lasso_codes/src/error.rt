@@ -1,7 +1,7 @@
 //! Why a run ends before all is written.
 ghost use Rattle.std.specs.Prelude.{◌≡◌, Some};
 ghost use Rattle.std.specs.IoError.{error_kind};
-ghost use Rattle.lasso_codes.specs.Fault.{column_fault_text, column_status, status_of, fault_text, IsWriteFault};
+ghost use Rattle.lasso_codes.specs.Errors.{column_fault_text, column_status, status_of, run_error_text, IsWriteError};
 ghost use Rattle.lasso_columns.specs.declared.faults.LineError.TheVariants.{Refused};
 ghost use Rattle.lasso_parts.specs.declared.util.LassoErrorKind.TheVariants.{FailedAllocation};
 
@@ -12,7 +12,7 @@ use std::{fmt, io};
 
 /// Why a run ended before all was written. Lines are numbered from 1.
 #[derive(Debug, Drop, PartialEq, Eq)]
-pub enum RunFault {
+pub enum RunError {
     /// A line was refused or is not UTF-8. Number 0: there was no memory before the first line, or after the last one.
     Line(LineError),
     /// The input has more lines than `usize` can count.
@@ -24,12 +24,12 @@ pub enum RunFault {
     /// Whoever reads the output is gone.
     ReaderGone,
     /// The column of this number is damaged, or one of its texts was refused. Columns are numbered from 1.
-    Column(usize, ColumnFault),
+    Column(usize, ColumnError),
 }
 
 /// What is wrong with a column. Texts and entries are numbered from 1.
 #[derive(Debug, Drop, PartialEq, Eq)]
-pub enum ColumnFault {
+pub enum ColumnError {
     /// It does not begin with a header line.
     NoHeader,
     /// The bytes end before this text does.
@@ -52,59 +52,59 @@ pub enum ColumnFault {
     NotMerged(LassoError),
 }
 
-impl ColumnFault {
+impl ColumnError {
     // The status that the program ends with.
     fn status(&self) -> u8
         ensures { result ≡ column_status self.now }
     {
         match self {
-            ColumnFault::TextRefused(_, _) | ColumnFault::NotMerged(_) => 1,
+            ColumnError::TextRefused(_, _) | ColumnError::NotMerged(_) => 1,
             _ => 2,
         }
     }
 }
 
-impl fmt::Display for ColumnFault {
-    ghost output = { λ fault. Some (column_fault_text fault) };
+impl fmt::Display for ColumnError {
+    ghost output = { λ error. Some (column_fault_text error) };
 
     fn fmt<W: fmt::Write>(&self, f: &mut fmt::Formatter<W>) -> fmt::Result {
         match self {
-            ColumnFault::NoHeader => write!(f, "no header"),
-            ColumnFault::NoText(number) => write!(f, "text {number} is missing"),
-            ColumnFault::NotUtf8(number) => write!(f, "text {number} is not UTF-8"),
-            ColumnFault::Doubled(number) => write!(f, "text {number} comes twice"),
-            ColumnFault::TextRefused(number, error) => write!(f, "text {number}: {error}"),
-            ColumnFault::NoEntry(number) => write!(f, "entry {number} is missing"),
-            ColumnFault::NotEntry(number) => write!(f, "entry {number} is no code"),
-            ColumnFault::PastTexts(number) => write!(f, "entry {number} is past the texts"),
-            ColumnFault::IsNull(number) => write!(
+            ColumnError::NoHeader => write!(f, "no header"),
+            ColumnError::NoText(number) => write!(f, "text {number} is missing"),
+            ColumnError::NotUtf8(number) => write!(f, "text {number} is not UTF-8"),
+            ColumnError::Doubled(number) => write!(f, "text {number} comes twice"),
+            ColumnError::TextRefused(number, error) => write!(f, "text {number}: {error}"),
+            ColumnError::NoEntry(number) => write!(f, "entry {number} is missing"),
+            ColumnError::NotEntry(number) => write!(f, "entry {number} is no code"),
+            ColumnError::PastTexts(number) => write!(f, "entry {number} is past the texts"),
+            ColumnError::IsNull(number) => write!(
                 f,
                 "entry {number} is a null, and --null is missing"
             ),
-            ColumnFault::NotMerged(error) => write!(f, "{error}"),
+            ColumnError::NotMerged(error) => write!(f, "{error}"),
         }
     }
 }
 
-impl RunFault {
+impl RunError {
     /// Out of memory at the line of this number.
     pub fn no_memory(number: usize) -> Self
-        ensures { result ≡ RunFault.Line (Refused number FailedAllocation) }
+        ensures { result ≡ RunError.Line (Refused number FailedAllocation) }
     {
         let error = LassoError::new(LassoErrorKind::FailedAllocation);
-        RunFault::Line(LineError::Refused(number, error))
+        RunError::Line(LineError::Refused(number, error))
     }
 
     /// The fault of a failed write: `ReaderGone` for a broken pipe.
     pub fn of_write(error: &io::Error) -> Self
-        ensures is_write { IsWriteFault result }
-        ensures gone { error_kind error.now ≡ ErrorKind.BrokenPipe → result ≡ RunFault.ReaderGone }
-        ensures failed { ¬ (error_kind error.now ≡ ErrorKind.BrokenPipe) → result ≡ RunFault.WriteFailed }
+        ensures is_write { IsWriteError result }
+        ensures gone { error_kind error.now ≡ ErrorKind.BrokenPipe → result ≡ RunError.ReaderGone }
+        ensures failed { ¬ (error_kind error.now ≡ ErrorKind.BrokenPipe) → result ≡ RunError.WriteFailed }
     {
         if error.kind() == ErrorKind::BrokenPipe {
-            RunFault::ReaderGone
+            RunError::ReaderGone
         } else {
-            RunFault::WriteFailed
+            RunError::WriteFailed
         }
     }
 
@@ -114,26 +114,26 @@ impl RunFault {
         ensures { result ≡ status_of self.now }
     {
         match self {
-            RunFault::Line(LineError::Refused(_, _)) | RunFault::TooManyLines => 1,
-            RunFault::Line(LineError::NotText(_)) => 2,
-            RunFault::ReadFailed | RunFault::WriteFailed => 4,
-            RunFault::ReaderGone => 0,
-            RunFault::Column(_, fault) => fault.status(),
+            RunError::Line(LineError::Refused(_, _)) | RunError::TooManyLines => 1,
+            RunError::Line(LineError::NotText(_)) => 2,
+            RunError::ReadFailed | RunError::WriteFailed => 4,
+            RunError::ReaderGone => 0,
+            RunError::Column(_, error) => error.status(),
         }
     }
 }
 
-impl fmt::Display for RunFault {
-    ghost output = { λ fault. Some (fault_text fault) };
+impl fmt::Display for RunError {
+    ghost output = { λ error. Some (run_error_text error) };
 
     fn fmt<W: fmt::Write>(&self, f: &mut fmt::Formatter<W>) -> fmt::Result {
         match self {
-            RunFault::Line(error) => write!(f, "{error}"),
-            RunFault::TooManyLines => write!(f, "too many lines"),
-            RunFault::ReadFailed => write!(f, "read failed"),
-            RunFault::WriteFailed => write!(f, "write failed"),
-            RunFault::ReaderGone => write!(f, "the output's reader is gone"),
-            RunFault::Column(column, fault) => write!(f, "column {column}: {fault}"),
+            RunError::Line(error) => write!(f, "{error}"),
+            RunError::TooManyLines => write!(f, "too many lines"),
+            RunError::ReadFailed => write!(f, "read failed"),
+            RunError::WriteFailed => write!(f, "write failed"),
+            RunError::ReaderGone => write!(f, "the output's reader is gone"),
+            RunError::Column(column, error) => write!(f, "column {column}: {error}"),
         }
     }
 }
