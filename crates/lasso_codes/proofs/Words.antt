@@ -8,7 +8,7 @@ use Rattle.lasso_parts.specs.Texts.{Text}
 use Rattle.lasso_codes.specs.Arguments.{Asked, command_of, verb_of, on_verb, not_verb, is_binary, meaning_of, at_equals}
 use Rattle.lasso_codes.proofs.FirstBytes.{first_byte_at}
 use Rattle.lasso_codes.specs.declared.arguments.Verb.{Verb}
-use Rattle.lasso_codes.specs.declared.arguments.Meaning.TheVariants.{AsksHelp, IsBinary, IsQuiet}
+use Rattle.lasso_codes.specs.declared.options.Meaning.TheVariants.{AsksHelp, IsBinary, IsQuiet}
 use Rattle.lasso_codes.specs.declared.arguments.Command.TheVariants.{Help, Version}
 
 -- the first word

@@ -7,11 +7,11 @@ use Rattle.lasso_codes.specs.declared.arguments.Verb.TheVariants.{Counts, Decode
 use Rattle.lasso_codes.specs.declared.arguments.Settings.{Settings}
 use Rattle.lasso_codes.specs.declared.arguments.Command.{Command}
 use Rattle.lasso_codes.specs.declared.arguments.Command.TheVariants.{Help, VerbHelp, Version, Run}
-use Rattle.lasso_codes.specs.declared.arguments.Setting.{Setting}
-use Rattle.lasso_codes.specs.declared.arguments.Setting.TheVariants.{Limit, Top, Null, Workers}
-use Rattle.lasso_codes.specs.declared.arguments.Reading.{Reading}
-use Rattle.lasso_codes.specs.declared.arguments.Meaning.{Meaning}
-use Rattle.lasso_codes.specs.declared.arguments.Meaning.TheVariants.{AsksHelp, IsBinary, IsQuiet, Wants, Has, Nothing}
+use Rattle.lasso_codes.specs.declared.options.Setting.{Setting}
+use Rattle.lasso_codes.specs.declared.options.Setting.TheVariants.{Limit, Top, Null, Workers}
+use Rattle.lasso_codes.specs.declared.options.Reading.{Reading}
+use Rattle.lasso_codes.specs.declared.options.Meaning.{Meaning}
+use Rattle.lasso_codes.specs.declared.options.Meaning.TheVariants.{AsksHelp, IsBinary, IsQuiet, Wants, Has, Nothing}
 use Rattle.lasso_codes.specs.declared.arguments.ArgumentError.{ArgumentError}
 use Rattle.lasso_codes.specs.declared.arguments.ArgumentError.TheVariants.{NoVerb, NotVerb, NotOption, NoNumber, NoWord, NotNumber, NoWorkers, PastWorkers, NotText}
 

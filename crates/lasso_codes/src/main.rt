@@ -15,6 +15,7 @@ pub mod laws;
 pub mod lines;
 pub mod merge;
 pub mod numbers;
+pub mod options;
 pub mod output;
 pub mod program;
 pub mod progress;
