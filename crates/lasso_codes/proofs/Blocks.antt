@@ -1,7 +1,8 @@
--- Bytes that are put into a block, which is written where it has no room for more.
+-- Bytes that are put into a block, which is written when it has no room for more.
 --
--- What is written and then what is in the block are always the bytes of the first items. So one item more goes to the end of the block;
--- a block that is written moves to what is written; and what was written when a write fails is a beginning of all.
+-- The written bytes, followed by those of the block, are always the bytes of the first items. One more item
+-- goes to the end of the block. Writing the block moves its bytes to the written ones. So what was written
+-- when a write fails is a beginning of all bytes.
 use Rattle.std.proofs.Common.{ℕ, ◌≡◌, ◌+◌, List, [], ◌∷◌, ◌++◌, take, drop, Result, Err, refl, sym, ap, subst, ◌∙◌, append_assoc}
 use Rattle.std.specs.Prelude.{flat_map}
 use Rattle.std.proofs.lemmas.Grind.{flat_map-append}
@@ -18,7 +19,7 @@ module _ {X : Type 0} (bytes : X → List ℕ) (xs : List X) (i : ℕ) (part hel
       ap (λ bs. (part ++ more) ++ bs) put ∙ sym (append_assoc (part ++ more) kept (bytes x)) ∙ ap (λ bs. bs ++ bytes x) (append_assoc part more kept ∙ ap (λ bs. part ++ bs) moved)
       ∙ flat_then bytes xs i x next (part ++ held) (bytes x) so_far refl
 
-  -- the block is written in part
+  -- a part of the block is written
   pub block_fails : (more : List ℕ) (error : RunError) → WritesAll held (Err error) more → WritesAll (flat_map bytes xs) (Err error) (part ++ more)
   block_fails more error written =
       let others = flat_map bytes (drop i xs) in

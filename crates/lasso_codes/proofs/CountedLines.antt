@@ -1,8 +1,8 @@
 -- Lines that were counted one after another, and their report.
 --
--- The lines of the input are those that were counted and those of the rest. Where nothing is left all were counted, and the ranked
--- texts are each distinct line once with its count. The report is written from the front: so what was written when a write fails is a
--- beginning of it. Before that nothing is written.
+-- The lines of the input are those that were counted, and then those of the rest. If nothing is left, all
+-- were counted, and the ranked texts are each distinct line once with its count. The report is written from
+-- its start, so what was written when a write fails is a beginning of it. Nothing is written before that.
 use Rattle.std.proofs.Common.{ℕ, ◌≡◌, ◌+◌, List, [], ◌∷◌, ◌++◌, length, map, take, drop, get_or, ◌⊎◌, ◌<◌, min, Result, Ok, Err, refl, sym, ap, subst, ◌∙◌, arith, append_assoc, inl, inr}
 use Rattle.std.specs.Prelude.{All, flat_map, slice_get, IsSomeAnd, IsPermutation, IsSorted, sum_by}
 use Rattle.std.specs.Str.{IsUtf8}
@@ -62,7 +62,7 @@ module _ (input rest : List ℕ) (number : ℕ) (old now : InternerView) (counts
   counting_read_fails limit ReaderGone is = absurd is
   counting_read_fails limit (Column column error) is = absurd is
 
-  -- the next line is faulty
+  -- the next line is refused or not UTF-8
   pub counting_line_fails : (limit : ℕ) (line left : List ℕ) (error : LineError) → old ≡ made_with 4096 limit → lines_of rest ≡ line ∷ lines_of left → IsFaultOf now line number error → CountingError limit (lines_of input) (Line error)
   counting_line_fails limit line left error made cut is =
       let list : extend spur_at (made_with 4096 limit) so_far.done accepted now = subst (λ (i : InternerView). extend spur_at i so_far.done accepted now) made so_far.list in
@@ -89,7 +89,7 @@ pub lines_push : {X : Type 0} (see : X → ℕ × Text) (xs : List X) (i : ℕ) 
 lines_push see xs i d small =
     ap (λ ys. flat_map count_line (map see ys)) (take_more xs i d small) ∙ both_parts see (take i xs) (get_or xs i d)
 
--- a ranked line is written in part
+-- a part of a ranked line is written
 pub lines_fail : {X : Type 0} (see : X → ℕ × Text) (xs : List X) (i : ℕ) (d : X) (part more : List ℕ) (error : RunError) → i < length xs → part ≡ flat_map count_line (map see (take i xs)) → WritesAll (count_line (see (get_or xs i d))) (Err error) more → WritesAll (flat_map count_line (map see xs)) (Err error) (part ++ more)
 lines_fail see xs i d part more error small so_far written =
     let one = count_line (see (get_or xs i d)) in
@@ -118,7 +118,7 @@ none_written input limit top WriteFailed is = absurd is
 none_written input limit top ReaderGone is = absurd is
 none_written input limit top (Column column error) is = absurd is
 
--- there was no memory at no line
+-- out of memory outside of a line
 pub unmade : (limit : ℕ) (lines : List Text) (error : RunError) → error ≡ Line (Refused 0 FailedAllocation) → CountingError limit lines error
 unmade limit lines error is = subst (CountingError limit lines) (sym is) (0, inl refl)
 
@@ -129,7 +129,7 @@ take_least xs top = elim (cases_order (length xs) top) [
   | inr (inr more) ↦ let least : min (length xs) top ≡ top = omega (arith, more) in ap (λ n. take n xs) least
 ]
 
--- the first so many, as the code cuts them out
+-- the first `top` lines, as the code cuts them out
 pub first_ranked : {X : Type 0} (see : X → ℕ × Text) (xs whole : List X) (top most : ℕ) → most ≡ min (length xs) top → whole ≡ xs → map see (take most whole) ≡ take top (map see xs)
 first_ranked see xs whole top most is same =
     ap (λ n. map see (take n whole)) is ∙ ap (λ ys. map see (take (min (length xs) top) ys)) same ∙ ap (map see) (take_least xs top) ∙ sym (take-map see top xs)
@@ -152,7 +152,7 @@ write_end input limit top part (Err WriteFailed) begun is = begun
 write_end input limit top part (Err ReaderGone) begun is = begun
 write_end input limit top part (Err (Column column error)) begun is = absurd is
 
--- a run that ends as it did, or with a failed flush
+-- the run ends as it did before the flush, or with the error of the flush
 pub end_then : (input : List ℕ) (limit top : ℕ) (part : List ℕ) (given result : Result (Unit {0}) RunError) → CountsEnd input limit top part given → (result ≡ given) ⊎ IsWriteEnd result → CountsEnd input limit top part result
 end_then input limit top part given result end (inl same) = subst (CountsEnd input limit top part) (sym same) end
 end_then input limit top part given result end (inr is) = write_end input limit top part result (end_begun input limit top part given end) is

@@ -1,7 +1,8 @@
 -- The lines of columns, written one after another.
 --
--- After each column the lines so far are written, and the bytes after it are left. Within a column the lines of the entries so far are
--- written after those. So a run that ends early has written lines that are whole, up to the fault, or a beginning of them.
+-- After each column, the lines so far are written and the bytes after the column are left. Within a column,
+-- the lines of the entries so far are written after those. So a run that ends early has written whole lines,
+-- up to the error, or a beginning of the lines.
 use Rattle.std.proofs.Common.{ℕ, suc, ◌≡◌, ◌+◌, ◌-◌, ◌<◌, Bool, List, [], ◌∷◌, ◌++◌, length, take, drop, Option, Some, None, Result, Ok, Err, ◌⊎◌, refl, sym, ap, subst, ◌∙◌, arith, append_assoc, inl, inr}
 use Rattle.std.specs.Prelude.{slice_get}
 use Rattle.std.proofs.lemmas.Grind.{flat_map-append}
@@ -57,7 +58,7 @@ module _ (others read : ReadItems Text) (part : List ℕ) (so_far : LinesAhead o
     part_is = ap (λ bs. bs ++ more) so_far.part_is ∙ ap (λ bs. fed_lines so_far.done ++ bs) is ∙ sym (fed_push so_far.done line);
   }
 
-  -- a line is written in part
+  -- a part of a line is written
   line_begun : (later : ReadItems Text) (more : List ℕ) (line : Text) → IsAhead (so_far.done ++ line ∷ []) later read → Begins more (with_feed line) → Begins (part ++ more) (fed_lines read.0)
   line_begun later more line ahead b =
       let front : fed_lines (so_far.done ++ line ∷ []) ≡ (part ++ more) ++ b.0 =
@@ -86,7 +87,7 @@ module _ (others read : ReadItems Text) (part : List ℕ) (so_far : LinesAhead o
   lines_read_fails column ReaderGone is = absurd is
   lines_read_fails column (Column number error) is = absurd is
 
-  -- an entry is faulty
+  -- an entry is bad
   pub lines_entry_fails : (column : ℕ) (error : ColumnError) → IsEntryError error → (read.0 ≡ so_far.done) × (read.1 ≡ Err error) → DecodingError read column part (Column column error)
   lines_entry_fails column error is ended = (refl, is, ended.1, so_far.part_is ∙ ap fed_lines (sym ended.0))
 
@@ -94,7 +95,7 @@ module _ (others read : ReadItems Text) (part : List ℕ) (so_far : LinesAhead o
   pub lines_end : (column : ℕ) (after : Option (List ℕ)) (rest : List ℕ) → after ≡ Some rest → (read.0 ≡ so_far.done) × (read.1 ≡ Ok rest) → WritesLines read column after part (Ok tt)
   lines_end column after rest left ended = (rest, left, ended.1, so_far.part_is ∙ ap fed_lines (sym ended.0))
 
--- the fault of a line's entry
+-- the error of a line's entry
 same_error : (error other : ColumnError) → IsEntryError error → ◌≡◌ {A = Result Text ColumnError} (Err error) (Err other) → IsEntryError other
 same_error error other is e = let same : error ≡ other = cc in subst IsEntryError same is
 
@@ -112,7 +113,7 @@ line_error null list Bad number error e = same_error (NotEntry number) error tt 
 line_error null list Null number error e = null_error null number error e
 line_error null list (Code code) number error e = past_error (slice_get list code) number error e
 
--- the entry at a position, whose line is written or is not
+-- the entry at a position; its line is written, or its entry is bad
 module _ (null : Option Text) (texts : List Text) (lines position : ℕ) (binary : Bool) (bytes rest : List ℕ) (entry : Entry) (read : ReadItems Text) (part : List ℕ) (small : position < lines) (cut : cut_entry binary bytes ≡ (entry, rest)) (so_far : LinesAhead (items_from (line_at null texts) (lines - position) binary (position + 1) bytes) read part) where
   abbrev others : ReadItems Text
   others = items_from (line_at null texts) (lines - position) binary (position + 1) bytes
@@ -137,7 +138,7 @@ module _ (null : Option Text) (texts : List Text) (lines position : ℕ) (binary
 
 -- ---- columns on their way
 
--- the lines of the columns before this one are written, and the rest is left
+-- the lines of the columns before this one were written, and the rest is left
 pub record ColumnsAhead (input : List ℕ) (null : Option Text) (rest : List ℕ) (column : ℕ) (part : List ℕ) : Type 0 where
   pub count : ℕ
   pub lines : List Text
@@ -168,7 +169,7 @@ module _ (input : List ℕ) (limit : ℕ) (null : Option Text) (rest : List ℕ)
   whole_so_far : IsWhole input null part
   whole_so_far = (way.count, way.lines, rest, way.reads, (0, way.part_is ∙ ap fed_lines (sym (append-nil way.lines))))
 
-  -- there are more columns than numbers
+  -- there are more columns than `usize` can number
   pub columns_many : DecodeEnd input limit null part (Err TooManyLines)
   columns_many = whole_so_far
 
@@ -184,7 +185,7 @@ module _ (input : List ℕ) (limit : ℕ) (null : Option Text) (rest : List ℕ)
   pub columns_unmade : (error : RunError) → error ≡ Line (Refused 0 FailedAllocation) → DecodeEnd input limit null part (Err error)
   columns_unmade error is = subst (λ f. DecodeEnd input limit null part (Err f)) (sym is) (refl, whole_so_far)
 
-  -- a column is faulty before its lines
+  -- the header or the dictionary of a column is bad
   no_lines : (error : ColumnError) → lines_before null rest error ≡ [] → part ≡ fed_lines (way.lines ++ lines_before null rest error)
   no_lines error none = way.part_is ∙ ap fed_lines (sym (append-nil way.lines)) ∙ ap (λ (ls : List Text). fed_lines (way.lines ++ ls)) (sym none)
 
@@ -285,7 +286,7 @@ write_end input limit null part (Err WriteFailed) begun is = begun
 write_end input limit null part (Err ReaderGone) begun is = begun
 write_end input limit null part (Err (Column column error)) begun is = absurd is
 
--- a run that ends as it did, or with a failed flush
+-- the run ends as it did before the flush, or with the error of the flush
 pub end_then : (input : List ℕ) (limit : ℕ) (null : Option Text) (part : List ℕ) (given result : Result (Unit {0}) RunError) → DecodeEnd input limit null part given → (result ≡ given) ⊎ IsWriteEnd result → DecodeEnd input limit null part result
 end_then input limit null part given result end (inl same) = subst (DecodeEnd input limit null part) (sym same) end
 end_then input limit null part given result end (inr is) = write_end input limit null part result (end_begun input limit null part given end) is

@@ -1,8 +1,9 @@
 -- The distinct lines, written one after another.
 --
--- The report of lines and one more is the report of the lines, and that line behind it where no line before was the same: the list of
--- the interner is that of the distinct lines so far. So the report of first lines begins the report of all, and what is written after
--- each line is the report so far. A run that ends early has written the report of the lines before, or a beginning of it.
+-- One more line leaves the report as it is, or appends the line if no line before was the same: the
+-- interner's list is that of the distinct lines so far. So the report of the first lines is a beginning of
+-- the report of all, and what is written after each line is the report so far. A run that ends early has
+-- written the report of the lines before, or a beginning of it.
 use Rattle.std.proofs.Common.{ℕ, ◌≡◌, ◌+◌, List, [], ◌∷◌, ◌++◌, length, take, drop, Bool, true, false, cond, is_some, Result, Ok, Err, ◌⊎◌, refl, sym, ap, subst, ◌∙◌, append_assoc, inl, inr}
 use Rattle.std.specs.Prelude.{flat_map, All, slice_get, IsSomeAnd}
 use Rattle.std.specs.Str.{IsUtf8}
@@ -93,7 +94,7 @@ module _ (input : List ℕ) (limit : ℕ) (rest : List ℕ) (number : ℕ) (now 
       let all : lines_of input ≡ way.done = taken_all input rest number way.done way.taken none in
       (subst (λ (ls : List Text). All IsUtf8 ls) (sym all) way.taken.texts, way.part_is ∙ ap distinct_report (sym all))
 
-  -- there are more lines than numbers
+  -- there are more lines than `usize` can number
   pub way_many : DistinctEnd input limit part (Err TooManyLines)
   way_many = (length way.done, way_first)
 
@@ -113,7 +114,7 @@ module _ (input : List ℕ) (limit : ℕ) (rest : List ℕ) (number : ℕ) (now 
   way_write_fails ReaderGone is = way_begins
   way_write_fails (Column column error) is = absurd is
 
-  -- the next line is faulty, or was written in part
+  -- the next line is refused or not UTF-8, or a part of it was written
   passed_begins : (line more : List ℕ) (left : List (List ℕ)) → lines_of rest ≡ line ∷ left → Begins more (passed now.texts line) → Begins (part ++ more) (distinct_report (lines_of input))
   passed_begins line more left cut b =
       let pushed : distinct_report (way.done ++ line ∷ []) ≡ part ++ passed now.texts line =
@@ -163,7 +164,7 @@ write_end input limit part (Err WriteFailed) begun is = begun
 write_end input limit part (Err ReaderGone) begun is = begun
 write_end input limit part (Err (Column column error)) begun is = absurd is
 
--- a run that ends as it did, or with a failed flush
+-- the run ends as it did before the flush, or with the error of the flush
 pub end_then : (input : List ℕ) (limit : ℕ) (part : List ℕ) (given result : Result (Unit {0}) RunError) → DistinctEnd input limit part given → (result ≡ given) ⊎ IsWriteEnd result → DistinctEnd input limit part result
 end_then input limit part given result end (inl same) = subst (DistinctEnd input limit part) (sym same) end
 end_then input limit part given result end (inr is) = write_end input limit part result (end_begins input limit part given end) is

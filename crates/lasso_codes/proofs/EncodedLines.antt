@@ -1,8 +1,9 @@
 -- Lines that were encoded one after another, and their column.
 --
--- A number is that of a null, or the position of its line in the list. The list only grows at its end, so a position stays that of its
--- line, and the numbers stand for the entries of the lines. Where nothing of the input is left all lines were encoded, and the list is
--- their dictionary. The column is written after that, from the front: what was written when a write fails is a beginning of it.
+-- A number is that of a null, or the position of its line in the list. The list only grows at its end, so
+-- positions stay the same, and the numbers are those of the entries of the lines. If nothing of the input is
+-- left, all lines were encoded, and the list is their dictionary. The column is written after that, from its
+-- start, so what was written when a write fails is a beginning of it.
 use Rattle.std.proofs.Common.{ℕ, ◌≡◌, ◌+◌, ◌^◌, ◌<◌, ◌≤◌, ◌==◌, Bool, true, false, not, cond, List, [], ◌∷◌, ◌++◌, length, map, take, is_some, Option, Some, None, ◌⊎◌, Result, Ok, Err, refl, sym, ap, subst, ◌∙◌, arith, inl, inr}
 use Rattle.std.specs.Prelude.{All, slice_get, IsSomeAnd}
 use Rattle.std.specs.Str.{IsUtf8}
@@ -45,7 +46,7 @@ entries_longer null list last [] (n ∷ ns) are = are
 entries_longer null list last (l ∷ ls) [] are = are
 entries_longer null list last (l ∷ ls) (n ∷ ns) are = (entry_stays (is_null null l) list last l n are.0, entries_longer null list last ls ns are.1)
 
--- they stay when another text goes last, or none
+-- they stay the same when a text is appended, or none
 entries_stay : (null : Option Text) (there : Bool) (list : List Text) (last : Text) (lines : List Text) (numbers : List ℕ) → AreEntries null list lines numbers → AreEntries null (cond there list (list ++ last ∷ [])) lines numbers
 entries_stay null true list last lines numbers are = are
 entries_stay null false list last lines numbers are = entries_longer null list last lines numbers are
@@ -144,7 +145,7 @@ module _ (input rest : List ℕ) (number : ℕ) (null : Option Text) (old now : 
   encoding_read_fails limit ReaderGone is = absurd is
   encoding_read_fails limit (Column column error) is = absurd is
 
-  -- the next line is faulty
+  -- the next line is refused or not UTF-8
   pub encoding_line_fails : (limit : ℕ) (line left : List ℕ) (error : LineError) → old ≡ made_with 4096 limit → lines_of rest ≡ line ∷ lines_of left → IsFaultOf now line number error → EncodingError limit null (lines_of input) (Line error)
   encoding_line_fails limit line left error made cut is =
       let list : extend spur_at (made_with 4096 limit) (texts_of null so_far.done) accepted now = subst (λ (i : InternerView). extend spur_at i (texts_of null so_far.done) accepted now) made so_far.list in
@@ -186,7 +187,7 @@ none_written input limit null binary WriteFailed is = absurd is
 none_written input limit null binary ReaderGone is = absurd is
 none_written input limit null binary (Column column error) is = absurd is
 
--- there was no memory at no line
+-- out of memory outside of a line
 pub unmade : (limit : ℕ) (null : Option Text) (lines : List Text) (error : RunError) → error ≡ Line (Refused 0 FailedAllocation) → EncodingError limit null lines error
 unmade limit null lines error is = subst (EncodingError limit null lines) (sym is) (0, inl refl)
 
@@ -211,7 +212,7 @@ write_end input limit null binary part (Err WriteFailed) begun is = begun
 write_end input limit null binary part (Err ReaderGone) begun is = begun
 write_end input limit null binary part (Err (Column column error)) begun is = absurd is
 
--- a run that ends as it did, or with a failed flush
+-- the run ends as it did before the flush, or with the error of the flush
 pub end_then : (input : List ℕ) (limit : ℕ) (null : Option Text) (binary : Bool) (part : List ℕ) (given result : Result (Unit {0}) RunError) → EncodeEnd input limit null binary part given → (result ≡ given) ⊎ IsWriteEnd result → EncodeEnd input limit null binary part result
 end_then input limit null binary part given result end (inl same) = subst (EncodeEnd input limit null binary part) (sym same) end
 end_then input limit null binary part given result end (inr is) = write_end input limit null binary part result (end_begun input limit null binary part given end) is

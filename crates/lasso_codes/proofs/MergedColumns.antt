@@ -1,8 +1,9 @@
--- Columns that were merged one after another, and their one column.
+-- Columns that were merged one after another, and the merged column.
 --
--- The texts of each dictionary are interned in order, and the table has the code that each has then. So an entry's code is rewritten to
--- that of its text. The list only grows at its end, and a text keeps its code: the entries of the columns before stay as they are.
--- Where nothing of the input is left all columns were merged, and the list is that of the distinct texts of all dictionaries.
+-- The texts of each dictionary are interned in order, and the table has the new code of each. So an entry's
+-- code is rewritten to the new code of its text. The list only grows at its end, and a text keeps its code,
+-- so the entries of the columns before stay the same. If nothing of the input is left, all columns were
+-- merged, and the list is that of the distinct texts of all dictionaries.
 use Rattle.std.proofs.Common.{ℕ, zero, suc, ◌≡◌, ◌+◌, ◌-◌, ◌^◌, ◌<◌, ◌≤◌, ◌==◌, Bool, false, cond, List, [], ◌∷◌, ◌++◌, length, get_or, map, take, Option, Some, None, ◌⊎◌, Result, Ok, Err, refl, sym, ap, subst, ◌∙◌, arith, append_assoc, inl, inr}
 use Rattle.std.specs.Prelude.{slice_get, IsSomeAnd}
 use Rattle.std.proofs.lemmas.Bool.Decides.{nat_tests}
@@ -115,7 +116,7 @@ entries_read_fails read column WriteFailed is = absurd is
 entries_read_fails read column ReaderGone is = absurd is
 entries_read_fails read column (Column number error) is = absurd is
 
--- the entry at a position, whose number is added or is not
+-- the entry at a position; its number is added, or the entry is bad
 module _ (list texts : List Text) (lines position : ℕ) (binary : Bool) (bytes rest : List ℕ) (entry : Entry) (read : ReadItems (Option ℕ)) (before numbers : List ℕ) (small : position < lines) (cut : cut_entry binary bytes ≡ (entry, rest)) (so_far : EntriesAhead (items_from (recoded list texts) (lines - position) binary (position + 1) bytes) read before numbers) where
   abbrev others : ReadItems (Option ℕ)
   others = items_from (recoded list texts) (lines - position) binary (position + 1) bytes
@@ -156,7 +157,7 @@ merging_none input limit now numbers made none = record {
 }
 
 module _ (input rest : List ℕ) (limit column : ℕ) (now : InternerView) (numbers : List ℕ) (way : Merging input rest limit column now numbers) where
-  -- the list is that of the distinct texts, which are few
+  -- the list is that of the distinct texts, and their codes fit
   list_is : now.texts ≡ distinct_of way.texts
   list_is = list_extended (made_with 4096 limit) now way.texts way.list
 
@@ -179,7 +180,7 @@ module _ (input rest : List ℕ) (limit column : ℕ) (now : InternerView) (numb
   pub merging_unmade : (error : RunError) → error ≡ Line (Refused 0 FailedAllocation) → MergingError input limit error
   merging_unmade error is = subst (MergingError input limit) (sym is) refl
 
-  -- the column is faulty
+  -- the column is bad
   column_fails : (error : ColumnError) → IsMergeError limit way.texts rest error → MergingError input limit (Column column error)
   column_fails error is = (way.count, way.texts, map entry_at numbers, rest, way.merges, sym way.counted, is)
 
@@ -203,7 +204,7 @@ module _ (input rest : List ℕ) (limit column : ℕ) (now : InternerView) (numb
       texts_are : texts_at rest ≡ dictionary
       texts_are = ap head_list head ∙ ap read_list read
 
-      -- a text is refused by the interner of all
+      -- a text is refused by the interner of the merged column
       pub merging_refused : (error : LassoError) (n : ℕ) (after : InternerView) → extend spur_at now (take n dictionary) accepted after → IsSomeAnd (slice_get dictionary n) (λ text. IsRefused after text error) → MergingError input limit (Column column (NotMerged error))
       merging_refused error n after list refused =
           column_fails (NotMerged error)
@@ -305,7 +306,7 @@ write_end input limit binary part (Err WriteFailed) begun is = begun
 write_end input limit binary part (Err ReaderGone) begun is = begun
 write_end input limit binary part (Err (Column column error)) begun is = absurd is
 
--- a run that ends as it did, or with a failed flush
+-- the run ends as it did before the flush, or with the error of the flush
 pub end_then : (input : List ℕ) (limit : ℕ) (binary : Bool) (part : List ℕ) (given result : Result (Unit {0}) RunError) → MergeEnd input limit binary part given → (result ≡ given) ⊎ IsWriteEnd result → MergeEnd input limit binary part result
 end_then input limit binary part given result end (inl same) = subst (MergeEnd input limit binary part) (sym same) end
 end_then input limit binary part given result end (inr is) = write_end input limit binary part result (end_begun input limit binary part given end) is

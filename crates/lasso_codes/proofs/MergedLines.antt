@@ -1,7 +1,8 @@
--- The one column of columns decodes to the lines of each.
+-- The merged column decodes to the lines of each of the columns.
 --
--- An entry of a column and its entry in the one column stand for the same line: both are a null, or the text at the one code is the text
--- at the other. That holds still where the list has grown. So the entries of all columns stand for the lines of all, one after the other.
+-- An entry of a column and its entry in the merged column stand for the same line: both are a null, or their
+-- codes have the same text. That still holds after the list has grown. So the merged entries stand for the
+-- lines of all columns, in order.
 use Rattle.std.proofs.Common.{ℕ, zero, suc, ◌≡◌, ◌+◌, ◌^◌, ◌<◌, Bool, true, false, cond, List, [], ◌∷◌, ◌++◌, length, is_some, Option, Some, None, Result, Ok, Err, refl, sym, ap, subst, ◌∙◌, arith, append_assoc}
 use Rattle.std.specs.Prelude.{slice_get}
 use Rattle.std.proofs.lemmas.List.{append-nil, length-append}
@@ -120,7 +121,7 @@ head_fit : (null : Option Text) (list : List Text) (head : Option (Header × Lis
 head_fit null list None rest rest' few found e e' = absurd (cc)
 head_fit null list (Some head) rest rest' few found e e' = texts_fit null list head.0 (texts_from head.0.distinct [] head.1) rest rest' few found e e'
 
--- the dictionary of a column is text
+-- the texts of a dictionary are UTF-8
 read_plain : (n : ℕ) (bytes : List ℕ) (read : ReadTexts) → texts_from n [] bytes ≡ read → ArePlain (read_list read)
 read_plain n bytes (Err error) e = tt
 read_plain n bytes (Ok texts) e = texts_plain n [] bytes texts e tt
@@ -132,7 +133,7 @@ head_plain (Some head) = read_plain head.0.distinct head.1 (texts_from head.0.di
 -- ---- all columns
 
 module _ (null : Option Text) (before dictionary : List Text) where
-  -- the list of the columns before begins that of all
+  -- the list of the columns before is a beginning of the list of all
   grown : distinct_of (before ++ dictionary) ≡ distinct_of before ++ new_texts (distinct_of before) dictionary
   grown = new_both [] before dictionary
 
@@ -149,7 +150,7 @@ module _ (null : Option Text) (before dictionary : List Text) where
   old_lines entries lines are =
       subst (λ (ts : List Text). AreLinesOf null ts entries lines) (sym grown) (lines_stay null (distinct_of before) (new_texts (distinct_of before) dictionary) entries lines are)
 
--- the entries stand for the lines, the texts are text, and the same is left
+-- the entries stand for the lines, the texts are UTF-8, and the same bytes are left
 abbrev AllFit : Option Text → List Text → List (Option ℕ) → List Text → List ℕ → List ℕ → Type 0
 AllFit null texts entries lines rest rest' = AreLinesOf null (distinct_of texts) entries lines × ArePlain texts × (rest ≡ rest')
 

@@ -1,7 +1,7 @@
 -- The texts of a dictionary, read one after another.
 --
--- After the first texts the others are read from the bytes that are left, with the first ones before them. So one more text is read
--- after those, and a fault of the next text is the fault of all.
+-- After the first texts, the others are read from the bytes that are left. So one more text is read after
+-- those, and an error of the next text is the error of all.
 use Rattle.std.proofs.Common.{ℕ, zero, suc, ◌≡◌, ◌+◌, ◌-◌, ◌<◌, Bool, true, false, cond, List, [], ◌∷◌, ◌++◌, length, is_some, Option, Some, None, option_map, Ok, Err, refl, sym, ap, subst, ◌∙◌, arith, inr}
 use Rattle.std.specs.Str.{IsUtf8, is_utf8}
 use Rattle.std.proofs.lemmas.Bool.{false_from_ne_true}
@@ -66,7 +66,7 @@ not_utf8 line not = false_from_ne_true _ (λ e. not (IsUtf8-from_is_utf8 line e)
 
 -- ---- a dictionary on its way
 
--- a text that was added went last
+-- a text that was added was appended
 added_last : (now after : InternerView) (line : Text) → AddsText now line after → after.texts ≡ now.texts ++ line ∷ []
 added_last now after line adds =
     list_interned spur_at now after line adds.2.0 adds.2.1 ∙ ap (λ (o : Option ℕ). cond (is_some o) now.texts (now.texts ++ line ∷ [])) adds.1
@@ -105,7 +105,7 @@ module _ (bytes rest : List ℕ) (position distinct : ℕ) (now : InternerView) 
       let error : texts_from distinct [] bytes ≡ Err (NoText (length now.texts + 1)) = next_ahead ∙ texts_missing (distinct - (position + 1)) now.texts rest cut in
       inr (NoText (position + 1), refl, error ∙ ap (λ n. Err (NoText (n + 1))) so_far.counted)
 
-  -- the next text is faulty
+  -- the next text is bad
   faulty : (limit : ℕ) (line : Text) (left : List ℕ) (error : ColumnError) → extend spur_at (made_with 4096 limit) now.texts accepted now → cut_line rest ≡ Some (line, left) → AddError now line (position + 1) error → IsTextError limit distinct bytes error
   faulty limit line left NoHeader list cut is = absurd is
   faulty limit line left (NoText number) list cut is = absurd is
@@ -130,7 +130,7 @@ module _ (bytes rest : List ℕ) (position distinct : ℕ) (now : InternerView) 
 
 -- ---- texts that were read
 
--- each is text without a line feed
+-- each is UTF-8 without a line feed
 abbrev pub ArePlain : List Text → Type 0
 ArePlain [] = Unit {0}
 ArePlain (t ∷ ts) = (is_utf8 t ≡ true) × NoFeed t × ArePlain ts

@@ -1,4 +1,4 @@
--- What was counted of an input that is read as a whole.
+-- The counts of an input that is read as a whole.
 use Rattle.std.proofs.Common.{ℕ, ◌≡◌, ◌+◌, ◌≤◌, Bool, true, false, List, length, take, Option, Some, None, refl, sym, subst, arith, inr}
 use Rattle.std.specs.Prelude.{All, slice_get, IsSomeAnd}
 use Rattle.std.specs.Str.{IsUtf8}
@@ -29,7 +29,7 @@ first_interned old now texts lines whole limit n are made few list =
     subst (λ (ts : List Text). extend spur_at (made_with 4096 limit) ts accepted now) (sym (first_same n texts lines (texts_begin whole texts lines are) few))
     (subst (λ (i : InternerView). extend spur_at i (take n texts) accepted now) made list)
 
--- all texts were counted, and the next line is no text
+-- all texts were counted, and the next line is not UTF-8
 pub not_text : (old now : InternerView) (texts lines : List Text) (whole : Bool) (limit : ℕ) → whole ≡ false → AreTextLines whole texts lines → old ≡ made_with 4096 limit → extend spur_at old texts accepted now → CountingError limit lines (Line (NotText (length texts + 1)))
 not_text old now texts lines whole limit not_whole are made list =
     let stop : AreTextLines false texts lines = subst (λ b. AreTextLines b texts lines) not_whole are in

@@ -36,7 +36,7 @@ writes_kept before mid after P Q w kept then = (w.0, appends_kept before mid aft
 
 -- ---- bytes that several calls take
 
--- so much is written, and the rest is left
+-- these bytes are written, and the rest is left
 abbrev pub HasLeft : List ℕ → List ℕ → List ℕ → Type 0
 HasLeft bytes rest part = part ++ rest ≡ bytes
 

@@ -19,15 +19,15 @@ use Rattle.lasso_codes.specs.declared.error.RunError.TheVariants.{Line, TooManyL
 abbrev pub with_feed : List ℕ → List ℕ
 with_feed line = line ++ 10 ∷ []
 
--- each distinct line once, where it first comes, with a line feed after it
+-- each distinct line once, in the order of first occurrences, with a line feed
 abbrev pub distinct_report : List Text → List ℕ
 distinct_report lines = flat_map with_feed (new_texts [] lines)
 
--- what is written of a line: it and a line feed where the list lacks it, and else nothing
+-- what is written for a line: the line and a line feed if it is new, and else nothing
 abbrev pub passed : List Text → Text → List ℕ
 passed texts line = if is_some (position_of texts line) then [] else with_feed line
 
--- the line is faulty, and nothing is written; or a write failed
+-- the line is refused or not UTF-8, and nothing was written; or a write failed
 abbrev pub PassError : InternerView → Text → ℕ → List ℕ → RunError → Type 0
 PassError now line number part (Line error) = (part ≡ []) × IsFaultOf now line number error
 PassError now line number part TooManyLines = ⊥
@@ -36,22 +36,22 @@ PassError now line number part WriteFailed = Begins part (passed now.texts line)
 PassError now line number part ReaderGone = Begins part (passed now.texts line)
 PassError now line number part (Column column error) = ⊥
 
--- the line is interned, and written if it was new
+-- the line was interned, and written if it was new
 abbrev pub PassesLine : InternerView → Text → ℕ → List ℕ → InternerView → Result (Unit {0}) RunError → Type 0
 PassesLine before line number part after result = MatchResult result
     (λ _. IsUtf8 line × ((key : ℕ) × InternsIn {K = ℕ} spur_at before line (Ok key) after) × (part ≡ passed before.texts line))
     (PassError before line number part)
 
--- so many lines were interned with this limit, and there was no memory for the next one, or it is faulty; number 0: there was no
--- memory at no line
+-- the first n lines were interned with this limit. The next line is refused or not UTF-8, or there was no
+-- memory for it. Line 0: out of memory outside of a line
 abbrev pub IsErrorAfter : ℕ → List Text → ℕ → LineError → Type 0
 IsErrorAfter limit lines n error =
     (error ≡ Refused 0 FailedAllocation)
     ⊎ ((error ≡ Refused (n + 1) FailedAllocation)
     ⊎ ((now : InternerView) × extend spur_at (made_with 4096 limit) (take n lines) (Ok tt) now × IsSomeAnd (slice_get lines n) (λ line. IsFaultOf now line (n + 1) error)))
 
--- how a run ends that has written the part: after a failed write it is a beginning of the report, and after another fault it is the
--- report of the lines before it
+-- how a run ends with an error after it has written the part. After a failed write the part is a beginning of
+-- the report; after another error it is the report of the lines before it
 abbrev pub DistinctError : ℕ → List Text → List ℕ → RunError → Type 0
 DistinctError limit lines part (Line error) = (n : ℕ) × (part ≡ distinct_report (take n lines)) × IsErrorAfter limit lines n error
 DistinctError limit lines part TooManyLines = (n : ℕ) × (part ≡ distinct_report (take n lines))
@@ -60,7 +60,7 @@ DistinctError limit lines part WriteFailed = Begins part (distinct_report lines)
 DistinctError limit lines part ReaderGone = Begins part (distinct_report lines)
 DistinctError limit lines part (Column column error) = ⊥
 
--- without a fault all lines are text, and the part is the report
+-- without an error, all lines are UTF-8 and the part is their report
 abbrev pub DistinctEnd : List ℕ → ℕ → List ℕ → Result (Unit {0}) RunError → Type 0
 DistinctEnd input limit part result =
     MatchResult result (λ _. All IsUtf8 (lines_of input) × (part ≡ distinct_report (lines_of input))) (DistinctError limit (lines_of input) part)

@@ -1,4 +1,4 @@
--- The text and the status of a fault, and which faults a read and a write have.
+-- The message and the status of each error, and which errors come from reads and from writes.
 use Rattle.std.specs.Prelude.{ℕ, ◌≡◌, List, ◌++◌, codes, decimal, Result, Ok, Err}
 use Rattle.lasso_parts.specs.Errors.{error_text}
 use Rattle.lasso_parts.specs.declared.util.LassoErrorKind.TheVariants.{FailedAllocation}

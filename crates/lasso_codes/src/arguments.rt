@@ -5,22 +5,22 @@ ghost use Rattle.lasso_codes.specs.Arguments.{argument_text, command_of, verb_of
 use crate::options::options_of;
 use std::fmt;
 
-/// What the program can do with lines.
+/// The verbs: what the program does with its input.
 #[derive(Clone, Copy, Debug, PartialEq, Eq)]
 pub enum Verb {
-    /// How often each distinct line came.
+    /// Counts the lines.
     Counts,
-    /// The lines of columns.
+    /// Decodes columns into their lines.
     Decode,
-    /// The distinct lines.
+    /// Lists the distinct lines.
     Distinct,
-    /// The lines as a column.
+    /// Encodes the lines as a column.
     Encode,
-    /// The columns as one.
+    /// Merges columns into one.
     Merge,
 }
 
-/// What the options of a verb say.
+/// The values of a verb's options.
 #[derive(Clone, Copy, Debug, PartialEq, Eq)]
 pub struct Settings {
     /// The most bytes that the interner's buckets may take.
@@ -35,7 +35,7 @@ pub struct Settings {
     pub quiet: bool,
 }
 
-/// What the arguments ask for.
+/// The command that the arguments name.
 #[derive(Clone, Copy, Debug, PartialEq, Eq)]
 pub enum Command {
     /// The program's help.
@@ -48,33 +48,33 @@ pub enum Command {
     Run(Verb, Settings),
 }
 
-/// What the arguments ask for, and the word of `--null`.
+/// A command, and the word of `--null`.
 #[derive(Clone, Copy, Debug, PartialEq, Eq)]
 pub struct Request<'a> {
-    /// What they ask for.
+    /// The command.
     pub command: Command,
-    /// The line that is a null, where a word says which.
+    /// The text of a null, if one is given.
     pub null: Option<&'a [u8]>,
 }
 
-/// Why arguments are refused. The word that is at fault is named.
+/// Why the arguments are refused, with the word that is wrong.
 #[derive(Clone, Copy, Debug, PartialEq, Eq)]
 pub enum ArgumentError<'a> {
-    /// There is no word.
+    /// There are no arguments.
     NoVerb,
     /// The first word is neither a verb nor `--help` or `--version`.
     NotVerb(&'a str),
     /// The verb has no such option.
     NotOption(&'a str),
-    /// The option is the last word, and its number is missing.
+    /// The option is the last word: its number is missing.
     NoNumber(&'a str),
-    /// The option is the last word, and the word after it is missing.
+    /// The option is the last word: the word after it is missing.
     NoWord(&'a str),
-    /// The word's number is not one, or is not below 2^64.
+    /// The value is not a number, or is not below 2^64.
     NotNumber(&'a str),
-    /// There are to be no workers.
+    /// The number of workers is 0.
     NoWorkers,
-    /// There are to be more than 64 workers: this many.
+    /// The number of workers is this one, which is more than 64.
     PastWorkers(usize),
     /// A word is not UTF-8.
     NotText,
@@ -98,12 +98,13 @@ impl fmt::Display for ArgumentError<'_> {
     }
 }
 
-/// What the words ask for: `--help`, `--version`, or a verb and its options. Words after `--help` and `--version` are not read. Of
-/// an option that is given twice the last one counts. Without them the limit and the most lines are the greatest numbers, no line is
-/// a null, one worker does the work, and a progress line may be shown.
+/// Parses the arguments: `--help`, `--version`, or a verb and its options.
+///
+/// Words after `--help` and `--version` are not read. If an option is given twice, the last one counts. The
+/// defaults are no limit, all lines, no null, codes as text, one worker, and a progress line.
 ///
 /// # Errors
-/// The first word that is at fault.
+/// The first word that is wrong, and why.
 pub fn command_of(words: &[String]) -> Result<Request<'_>, ArgumentError<'_>>
     ensures { MatchResult result
         (λ asked. command_of (map string_bytes words.now) ≡ Ok (asked.command, word_of asked.null))

@@ -1,4 +1,5 @@
-//! A column: a header line, the dictionary's lines in the order of their codes, and an entry for each line.
+//! Writes a column: a header line, the dictionary's lines in the order of their codes, and an entry for each
+//! line.
 ghost use Rattle.std.specs.Prelude.{◌≡◌, ◌+◌, ◌≤◌, ◌++◌, ◌∷◌, [], Err, IfOk, MatchResult, length, map, take, decimal, flat_map};
 ghost use Rattle.lasso_codes.specs.Columns.{column_of, entry_at, entry_bytes, header, header_front};
 ghost use Rattle.lasso_codes.specs.Distinct.{with_feed};
@@ -11,16 +12,17 @@ use lasso::SpurRodeo;
 use lasso::index::Texts;
 use std::io::Write;
 
-/// The number of a null, which is no code.
+/// The number of a null. It is never a code.
 pub const NULL: u32 = u32::MAX;
 
-/// What is before the numbers in the header of a column whose entries are lines.
+/// The start of the header of a column whose entries are lines.
 pub const TEXT_FRONT: &[u8] = b"lasso-codes 1 text ";
 
-/// What is before the numbers in the header of a column whose entries are bytes.
+/// The start of the header of a column whose entries are bytes.
 pub const BINARY_FRONT: &[u8] = b"lasso-codes 1 binary ";
 
-/// Writes the column of the interner's texts and of the entries with these numbers: codes, and `NULL` for a null.
+/// Writes the column whose dictionary is the interner's texts. `numbers` has an entry for each line: its
+/// code, or `NULL`.
 ///
 /// # Errors
 /// As `write_bytes`.
@@ -53,7 +55,7 @@ fn write_header<W: Write>(
     write_number_and(output, lines, b"\n")
 }
 
-// Writes what is before the numbers of the header.
+// Writes the start of the header.
 fn write_front<W: Write>(output: &mut W, binary: bool) -> Result<(), RunError>
     ensures { Writes (W.contents output.old) (W.contents output.new) (WritesAll (header_front binary) result) }
 {
@@ -64,7 +66,7 @@ fn write_front<W: Write>(output: &mut W, binary: bool) -> Result<(), RunError>
     }
 }
 
-// Writes the number's digits and the bytes after them.
+// Writes the number's digits, and then the bytes `after`.
 fn write_number_and<W: Write>(output: &mut W, number: u64, after: &[u8]) -> Result<(), RunError>
     ensures { Writes (W.contents output.old) (W.contents output.new) (WritesAll (decimal number ++ after.now) result) }
 {
@@ -82,10 +84,10 @@ fn write_texts<W: Write>(output: &mut W, rodeo: &SpurRodeo) -> Result<(), RunErr
     Ok(())
 }
 
-// How many bytes of entries are written at once.
+// Entries are written in blocks of this size.
 const BLOCK: usize = 4096;
 
-// The most bytes that an entry takes: ten digits and a line feed.
+// The length of the longest entry: ten digits and a line feed.
 const LONGEST_ENTRY: usize = 11;
 
 // Writes the entry of each number.
@@ -101,8 +103,8 @@ fn write_entries<W: Write>(output: &mut W, binary: bool, numbers: &[u32]) -> Res
     write_bytes(output, &block[..filled])
 }
 
-// Writes the first bytes of the block, those that are filled, where there is no room for an entry after them. Returns how many are filled
-// then.
+// Writes the first `filled` bytes of the block if there is no room for an entry after them. Returns the
+// number of filled bytes that are left.
 #[inline]
 fn make_room<W: Write>(output: &mut W, block: &[u8], filled: usize) -> Result<usize, RunError>
     requires fits { filled ≤ 4096 }
@@ -119,7 +121,7 @@ fn make_room<W: Write>(output: &mut W, block: &[u8], filled: usize) -> Result<us
     Ok(0)
 }
 
-// Puts the entry of the number into the block, at this position. Returns the position after it.
+// Puts the entry of the number into the block at the position `at`. Returns the position after it.
 #[inline]
 fn put_entry(block: &mut [u8], at: usize, binary: bool, number: u32) -> usize
     requires { at + 11 ≤ length block.old }
@@ -138,7 +140,7 @@ fn put_entry(block: &mut [u8], at: usize, binary: bool, number: u32) -> usize
     put(block, after, b"\n")
 }
 
-// Puts the bytes into the block, at this position. Returns the position after them.
+// Puts the bytes into the block at the position `at`. Returns the position after them.
 #[inline]
 fn put(block: &mut [u8], at: usize, bytes: &[u8]) -> usize
     requires { at + length bytes.now ≤ length block.old }

@@ -1,4 +1,4 @@
-//! How often each distinct line came.
+//! Counts the lines.
 ghost use Rattle.std.specs.Prelude.{◌≡◌, ◌+◌, ◌-◌, ◌^◌, ◌<◌, ◌≤◌, ◌++◌, ◌∷◌, [], ℕ, List, Some, Ok, OnOk, IfOk, IfErr, MatchResult, All, IsTrue, IsUtf8, length, drop, map, sum, flat_map, vec_len};
 ghost use Rattle.std.specs.Io.Buffered.{reader_remaining, writer_contents, writer_buffer};
 ghost use Rattle.lasso_parts.specs.Texts.{Text};
@@ -29,13 +29,13 @@ use std::cmp::Reverse;
 use std::io::{BufReader, BufWriter, Read, Write};
 use std::thread::Threads;
 
-/// Reads all lines, and then writes each distinct one once after the number of times that it came, the most frequent first. Lines
-/// that came equally often are in the order of their bytes. At most `top` of them are written. Of more than one worker each counts
-/// a part of the lines, and the input is read as a whole first.
+/// Counts the lines, and writes each distinct line after its count, the most frequent first. Lines with equal
+/// counts are in the order of their bytes. At most `top` lines are written. With several workers, the whole
+/// input is read first, and each worker counts a part of the lines.
 ///
 /// # Errors
-/// A line that is refused or is not UTF-8, a failed read and out of memory end the run, and nothing is written. After a failed
-/// write, what was written is a beginning of the list.
+/// A line that is refused or is not UTF-8, a failed read, or out of memory: nothing is written. After a
+/// failed write, a beginning of the list was written.
 pub fn counts<H: AllocGlobal + Threads + Sync, R: Read + Drop, W: Write + Drop>(
     rt: &H,
     input: &mut BufReader<R>,
@@ -50,7 +50,7 @@ pub fn counts<H: AllocGlobal + Threads + Sync, R: Read + Drop, W: Write + Drop>(
     end_flushed(output, result)
 }
 
-// Counts the lines and writes them, and leaves the last of what is written in the buffer.
+// Counts the lines and writes them. The last bytes stay in the buffer.
 fn write_counts<H: AllocGlobal + Threads + Sync, R: Read + Drop, W: Write>(
     rt: &H,
     input: &mut BufReader<R>,
@@ -70,7 +70,7 @@ fn write_counts<H: AllocGlobal + Threads + Sync, R: Read + Drop, W: Write>(
     write_ranked(output, &ranked[..most])
 }
 
-// Counts each line, line by line or by the workers.
+// Counts all lines, with one worker or several.
 fn count_all<H: AllocGlobal + Threads + Sync, R: Read + Drop>(
     rt: &H,
     input: &mut BufReader<R>,
@@ -92,7 +92,7 @@ fn count_all<H: AllocGlobal + Threads + Sync, R: Read + Drop>(
     count_whole(rt, input, rodeo, counts, workers)
 }
 
-// Counts each line up to the end of the input.
+// Counts all lines, one after another.
 fn count_lines<R: Read + Drop>(
     alloc: Global,
     input: &mut BufReader<R>,
@@ -123,8 +123,8 @@ fn count_lines<R: Read + Drop>(
     Err(RunError::TooManyLines)
 }
 
-// Counts the lines that end in the stretch, the first of which has this number. Returns the number of the line after them, and where
-// it begins.
+// Counts the lines that end in the stretch; `first` is the number of the first one. Returns the number of the
+// line after them, and the position where it begins.
 fn count_stretch(
     rodeo: &mut SpurRodeo,
     counts: &mut Vec<u64>,
@@ -158,7 +158,7 @@ fn count_stretch(
     Err(RunError::TooManyLines)
 }
 
-// Counts the line of this number. `is_text`: the caller has checked that it is UTF-8.
+// Counts the line with this number. `is_text`: the caller has checked that it is UTF-8.
 fn count_line(
     rodeo: &mut SpurRodeo,
     counts: &mut Vec<u64>,
@@ -184,7 +184,7 @@ fn count_line(
     }
 }
 
-// Counts each line of the input, which is read as a whole, by the workers.
+// Reads the whole input, and counts its lines with several workers.
 fn count_whole<H: AllocGlobal + Threads + Sync, R: Read + Drop>(
     rt: &H,
     input: &mut BufReader<R>,

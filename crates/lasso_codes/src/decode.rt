@@ -1,4 +1,4 @@
-//! Columns to lines.
+//! Decodes columns into their lines.
 ghost use Rattle.std.specs.Prelude.{◌≡◌, ◌+◌, ◌-◌, ◌≤◌, ◌++◌, [], ℕ, List, Option, Some, IfOk, IfErr, drop, length};
 ghost use Rattle.std.specs.Io.Buffered.{reader_remaining, writer_contents, writer_buffer};
 ghost use Rattle.lasso_codes.specs.Arguments.{word_of};
@@ -19,12 +19,12 @@ use lasso::{MemoryLimits, SpurRodeo};
 use std::alloc::Global;
 use std::io::{BufReader, BufWriter, Read, Write};
 
-/// Reads columns, one or several one after another, and writes their lines, each with a line feed after it. A null is written as the
-/// word `null`.
+/// Decodes the columns of the input, and writes their lines, each with a line feed. A null is written as
+/// `null`.
 ///
 /// # Errors
-/// A damaged column, a text that is refused, a failed read and out of memory end the run, after the lines before. After a failed
-/// write, what was written is a beginning of the lines.
+/// A damaged column, a null if `null` is `None`, a text that is refused, a failed read, or out of memory: the
+/// lines before it were written. After a failed write, a beginning of the lines was written.
 pub fn decode<R: Read + Drop, W: Write + Drop>(
     alloc: Global,
     input: &mut BufReader<R>,
@@ -40,7 +40,7 @@ pub fn decode<R: Read + Drop, W: Write + Drop>(
     end_flushed(output, result)
 }
 
-// Writes the lines of each column, and leaves the last of them in the buffer.
+// Writes the lines of each column. The last bytes stay in the buffer.
 fn write_decoded<R: Read + Drop, W: Write>(
     alloc: Global,
     input: &mut BufReader<R>,
@@ -63,7 +63,7 @@ fn write_decoded<R: Read + Drop, W: Write>(
     Err(RunError::TooManyLines)
 }
 
-// Writes the lines of the entries.
+// Writes the lines of a column's entries.
 fn write_lines<R: Read + Drop, W: Write>(
     input: &mut BufReader<R>,
     output: &mut W,
@@ -92,8 +92,8 @@ fn write_lines<R: Read + Drop, W: Write>(
     Ok(())
 }
 
-// Writes the lines of the entries that end in the stretch, `count` entries after the first. Returns how many are before the next one
-// then, and where it begins.
+// Writes the lines of the entries that end in the stretch. `count` entries came before. Returns the number of
+// entries before the next one, and the position where that begins.
 fn write_stretch<W: Write>(
     output: &mut W,
     rodeo: &SpurRodeo,
@@ -124,7 +124,7 @@ fn write_stretch<W: Write>(
     Ok((header.lines, used))
 }
 
-// Writes the line of the entry of this number.
+// Writes the line of the entry with this number.
 #[inline]
 fn write_entry_line<W: Write>(
     output: &mut W,

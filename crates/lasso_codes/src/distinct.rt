@@ -1,4 +1,4 @@
-//! The distinct lines.
+//! Lists the distinct lines.
 ghost use Rattle.std.specs.Prelude.{◌≡◌, ◌<◌, ◌≤◌, ◌-◌, ◌^◌, ◌++◌, ℕ, List, [], Option, Some, Err, IfOk, IfErr, IsTrue, IsUtf8, drop, length};
 ghost use Rattle.lasso_single.specs.Interner.{made_with};
 ghost use Rattle.lasso_columns.specs.declared.faults.LineError.TheVariants.{Refused};
@@ -18,12 +18,12 @@ use lasso_columns::lines::find_newline;
 use std::alloc::Global;
 use std::io::{BufReader, BufWriter, Read, Write};
 
-/// Writes each distinct line once, where it first comes, with a line feed after it. What is written is flushed before a read that
-/// may wait, and before each return.
+/// Writes each distinct line once, where it first occurs, with a line feed. The output is flushed before a
+/// read that may wait, and before each return.
 ///
 /// # Errors
-/// The first line that is refused or is not UTF-8 ends the run, after the distinct lines before it. So does a failed read. After a
-/// failed write, what was written is a beginning of all distinct lines.
+/// The first line that is refused or is not UTF-8, a failed read, or out of memory: the distinct lines before
+/// it were written. After a failed write, a beginning of the distinct lines was written.
 pub fn distinct<R: Read + Drop, W: Write + Drop>(
     alloc: Global,
     input: &mut BufReader<R>,
@@ -38,7 +38,7 @@ pub fn distinct<R: Read + Drop, W: Write + Drop>(
     end_flushed(output, result)
 }
 
-// Writes the distinct lines, and leaves the last of them in the buffer.
+// Writes the distinct lines. The last bytes may stay in the buffer.
 fn write_distinct<R: Read + Drop, W: Write + Drop>(
     alloc: Global,
     input: &mut BufReader<R>,
@@ -54,7 +54,7 @@ fn write_distinct<R: Read + Drop, W: Write + Drop>(
     for _ in 1..usize::MAX {
         let (next, used) = pass_stretch(&mut rodeo, buffered(input), number, output)?;
         consume(input, used);
-        // The next line is not at hand as a whole, so reading it may wait.
+        // The next line is not in the buffer as a whole, so reading it may wait.
         flush(output)?;
         if !next_line(input, &mut line, next)? {
             return Ok(());
@@ -65,8 +65,8 @@ fn write_distinct<R: Read + Drop, W: Write + Drop>(
     Err(RunError::TooManyLines)
 }
 
-// Interns the lines that end in the stretch, the first of which has this number, and writes those that are new. Returns the number of
-// the line after them, and where it begins.
+// Interns the lines that end in the stretch, and writes the new ones; `first` is the number of the first
+// line. Returns the number of the line after them, and the position where it begins.
 fn pass_stretch<W: Write>(
     rodeo: &mut SpurRodeo,
     stretch: &[u8],
@@ -96,7 +96,8 @@ fn pass_stretch<W: Write>(
     Err(RunError::TooManyLines)
 }
 
-// Interns the line of this number, and writes it if it is new. `is_text`: the caller has checked that it is UTF-8.
+// Interns the line with this number, and writes it if it is new. `is_text`: the caller has checked that it is
+// UTF-8.
 fn pass_line<W: Write>(
     rodeo: &mut SpurRodeo,
     line: &[u8],
@@ -114,7 +115,10 @@ fn pass_line<W: Write>(
     }
 }
 
-/// An interner for lines, which holds nothing. Out of memory is the fault of line 0.
+/// A new interner for lines.
+///
+/// # Errors
+/// Out of memory, with the line number 0.
 pub fn new_rodeo(alloc: Global, limits: MemoryLimits) -> Result<SpurRodeo, RunError>
     ensures made { IfOk result (λ rodeo. rodeo ≡ made_with 4096 limits) }
     ensures refused { IfErr result (λ error. error ≡ RunError.Line (Refused 0 FailedAllocation)) }

@@ -1,4 +1,4 @@
-//! Lines to a column.
+//! Encodes lines as a column.
 ghost use Rattle.std.specs.Prelude.{◌≡◌, ◌<◌, ◌≤◌, ◌-◌, ◌^◌, ◌++◌, ◌∷◌, [], ℕ, List, Some, OnOk, IfOk, IfErr, MatchResult, All, IsTrue, IsUtf8, drop, length, map};
 ghost use Rattle.std.specs.Io.Buffered.{reader_remaining, writer_contents, writer_buffer};
 ghost use Rattle.lasso_single.specs.Interner.{InternerView, made_with};
@@ -30,12 +30,12 @@ use std::alloc::Global;
 use std::io::{BufReader, BufWriter, Read, Write};
 use std::thread::Threads;
 
-/// Reads all lines, and then writes them as a column. A line that is the word `null` is a null. Of more than one worker each encodes a
-/// part of the lines, and the input is read as a whole first.
+/// Encodes the lines, and writes their column. A line that equals `null` is a null. With several workers, the
+/// whole input is read first, and each worker encodes a part of the lines.
 ///
 /// # Errors
-/// A line that is refused or is not UTF-8, a failed read and out of memory end the run, and nothing is written. After a failed
-/// write, what was written is a beginning of the column.
+/// A line that is refused or is not UTF-8, a failed read, or out of memory: nothing is written. After a
+/// failed write, a beginning of the column was written.
 pub fn encode<H: AllocGlobal + Threads + Sync, R: Read + Drop, W: Write + Drop>(
     rt: &H,
     input: &mut BufReader<R>,
@@ -51,7 +51,7 @@ pub fn encode<H: AllocGlobal + Threads + Sync, R: Read + Drop, W: Write + Drop>(
     end_flushed(output, result)
 }
 
-// Encodes the lines and writes their column, and leaves the last of it in the buffer.
+// Encodes the lines and writes their column. The last bytes stay in the buffer.
 fn write_encoded<H: AllocGlobal + Threads + Sync, R: Read + Drop, W: Write>(
     rt: &H,
     input: &mut BufReader<R>,
@@ -68,7 +68,7 @@ fn write_encoded<H: AllocGlobal + Threads + Sync, R: Read + Drop, W: Write>(
     write_column(output, &rodeo, &numbers, settings.binary)
 }
 
-// Numbers each line, line by line or by the workers.
+// Encodes all lines, with one worker or several.
 fn number_lines<H: AllocGlobal + Threads + Sync, R: Read + Drop>(
     rt: &H,
     input: &mut BufReader<R>,
@@ -90,7 +90,7 @@ fn number_lines<H: AllocGlobal + Threads + Sync, R: Read + Drop>(
     encode_whole(rt, input, rodeo, numbers, null, workers)
 }
 
-// Numbers each line up to the end of the input.
+// Encodes all lines, one after another.
 fn encode_lines<R: Read + Drop>(
     alloc: Global,
     input: &mut BufReader<R>,
@@ -121,8 +121,8 @@ fn encode_lines<R: Read + Drop>(
     Err(RunError::TooManyLines)
 }
 
-// Numbers the lines that end in the stretch, the first of which has this number. Returns the number of the line after them, and where
-// it begins.
+// Encodes the lines that end in the stretch; `first` is the number of the first one. Returns the number of
+// the line after them, and the position where it begins.
 fn encode_stretch(
     rodeo: &mut SpurRodeo,
     numbers: &mut Vec<u32>,
@@ -155,7 +155,7 @@ fn encode_stretch(
     Err(RunError::TooManyLines)
 }
 
-// Numbers each line of the input, which is read as a whole, by the workers.
+// Reads the whole input, and encodes its lines with several workers.
 fn encode_whole<H: AllocGlobal + Threads + Sync, R: Read + Drop>(
     rt: &H,
     input: &mut BufReader<R>,
@@ -185,7 +185,7 @@ fn encode_whole<H: AllocGlobal + Threads + Sync, R: Read + Drop>(
     }
 }
 
-// The lines that are no null.
+// The lines that are not null.
 fn texts_of<'a>(
     alloc: Global,
     lines: &[&'a str],
@@ -206,7 +206,8 @@ fn texts_of<'a>(
     Ok(texts)
 }
 
-// Appends the number of each line, up to the first that is no null and has no code.
+// Appends the entry of each line: `NULL`, or the next of the codes. Stops at the first line for which there
+// is no code.
 fn number_texts(
     lines: &[&str],
     null: Option<&[u8]>,
@@ -235,7 +236,7 @@ fn number_texts(
     Ok(())
 }
 
-// Appends the number that stands for the entry of the line, which has this number. `is_text`: the caller has checked that it is UTF-8.
+// Appends the entry of the line with this number. `is_text`: the caller has checked that it is UTF-8.
 fn encode_line(
     rodeo: &mut SpurRodeo,
     numbers: &mut Vec<u32>,
@@ -253,7 +254,7 @@ fn encode_line(
     Ok(())
 }
 
-// The number that stands for the entry of the line, which has this number. The line is interned, unless it is a null.
+// The entry of the line with this number. Interns the line, unless it is a null.
 fn entry_of(
     rodeo: &mut SpurRodeo,
     null: Option<&[u8]>,
@@ -275,10 +276,10 @@ fn entry_of(
     }
 }
 
-/// Appends the entry of the line of this number.
+/// Appends the entry of the line with this number.
 ///
 /// # Errors
-/// There is no memory for it. The entries are as they were.
+/// Out of memory. The entries are as they were.
 pub fn append(numbers: &mut Vec<u32>, entry: u32, number: usize) -> Result<(), LineError>
     ensures items { OnOk result (numbers.new.items ≡ numbers.old.items ++ entry ∷ []) }
     ensures error { IfErr result (λ error. error ≡ Refused number FailedAllocation) }
@@ -290,7 +291,7 @@ pub fn append(numbers: &mut Vec<u32>, entry: u32, number: usize) -> Result<(), L
     Ok(())
 }
 
-// The number that stands for the text's entry. The text is interned, unless it is a null.
+// The entry of the text. Interns the text, unless it is a null.
 fn number_of(rodeo: &mut SpurRodeo, null: Option<&[u8]>, text: &str) -> LassoResult<u32>
     ensures { MatchResult result (IsNumbered (word_of null.entry) rodeo.old text.now rodeo.new) (IsRefused rodeo.old text.now) }
 {
@@ -301,7 +302,7 @@ fn number_of(rodeo: &mut SpurRodeo, null: Option<&[u8]>, text: &str) -> LassoRes
     Ok(key.into_inner() - 1)
 }
 
-// Whether the line is the word of a null.
+// Whether the line is a null.
 fn is_null(null: Option<&[u8]>, line: &[u8]) -> bool
     ensures { result ≡ is_null (word_of null.entry) line.now }
 {

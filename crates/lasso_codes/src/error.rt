@@ -1,4 +1,4 @@
-//! Why a run ends before all is written.
+//! Errors: why a run ends before all is written.
 ghost use Rattle.std.specs.Prelude.{◌≡◌, Some};
 ghost use Rattle.std.specs.IoError.{error_kind};
 ghost use Rattle.lasso_codes.specs.Errors.{column_fault_text, column_status, status_of, run_error_text, IsWriteError};
@@ -13,17 +13,18 @@ use std::{fmt, io};
 /// Why a run ended before all was written. Lines are numbered from 1.
 #[derive(Debug, Drop, PartialEq, Eq)]
 pub enum RunError {
-    /// A line was refused or is not UTF-8. Number 0: there was no memory before the first line, or after the last one.
+    /// A line was refused or is not UTF-8. Line 0: out of memory before the first line, or after the last
+    /// one.
     Line(LineError),
-    /// The input has more lines than `usize` can count.
+    /// The number of lines does not fit in `usize`.
     TooManyLines,
     /// The reader failed.
     ReadFailed,
     /// The writer failed.
     WriteFailed,
-    /// Whoever reads the output is gone.
+    /// The reader of the output is gone.
     ReaderGone,
-    /// The column of this number is damaged, or one of its texts was refused. Columns are numbered from 1.
+    /// The column with this number is damaged, or one of its texts was refused. Columns are numbered from 1.
     Column(usize, ColumnError),
 }
 
@@ -32,7 +33,7 @@ pub enum RunError {
 pub enum ColumnError {
     /// It does not begin with a header line.
     NoHeader,
-    /// The bytes end before this text does.
+    /// The input ends before this text does.
     NoText(usize),
     /// The text is not UTF-8.
     NotUtf8(usize),
@@ -40,20 +41,20 @@ pub enum ColumnError {
     Doubled(usize),
     /// The text was refused.
     TextRefused(usize, LassoError),
-    /// The bytes end before this entry does.
+    /// The input ends before this entry does.
     NoEntry(usize),
     /// The entry is neither a code nor a null.
     NotEntry(usize),
     /// The entry's code is past the texts.
     PastTexts(usize),
-    /// The entry is a null, and no word says how it is written.
+    /// The entry is a null, and `--null` is not given.
     IsNull(usize),
-    /// One of the texts was refused by the dictionary of all columns.
+    /// One of the texts was refused by the merged dictionary.
     NotMerged(LassoError),
 }
 
 impl ColumnError {
-    // The status that the program ends with.
+    // The program's exit status.
     fn status(&self) -> u8
         ensures { result ≡ column_status self.now }
     {
@@ -87,7 +88,7 @@ impl fmt::Display for ColumnError {
 }
 
 impl RunError {
-    /// Out of memory at the line of this number.
+    /// Out of memory at the line with this number.
     pub fn no_memory(number: usize) -> Self
         ensures { result ≡ RunError.Line (Refused number FailedAllocation) }
     {
@@ -95,7 +96,7 @@ impl RunError {
         RunError::Line(LineError::Refused(number, error))
     }
 
-    /// The fault of a failed write: `ReaderGone` for a broken pipe.
+    /// The error of a failed write: `ReaderGone` for a broken pipe, else `WriteFailed`.
     pub fn of_write(error: &io::Error) -> Self
         ensures is_write { IsWriteError result }
         ensures gone { error_kind error.now ≡ ErrorKind.BrokenPipe → result ≡ RunError.ReaderGone }
@@ -108,8 +109,8 @@ impl RunError {
         }
     }
 
-    /// The status that the program ends with: 1 for a refused line or text, 2 for a line that is not UTF-8 and for a damaged
-    /// column, 4 for a failed read or write, 0 where the reader of the output is gone.
+    /// The program's exit status: 1 for a refused line or text, 2 for a line that is not UTF-8 and for a
+    /// damaged column, 4 for a failed read or write, 0 if the reader of the output is gone.
     pub fn status(&self) -> u8
         ensures { result ≡ status_of self.now }
     {

@@ -1,4 +1,4 @@
-//! The lines and bytes of a reader, one after another.
+//! Reads lines and bytes from a buffered reader.
 ghost use Rattle.std.specs.Prelude.{◌≡◌, ◌≤◌, ℕ, List, [], ◌∷◌, ◌++◌, Some, IfOk, IfErr, drop, length};
 ghost use Rattle.std.specs.Io.Buffered.{reader_buffer, reader_remaining};
 ghost use Rattle.lasso_columns.specs.Lines.{NoFeed};
@@ -8,11 +8,11 @@ ghost use Rattle.lasso_codes.specs.Errors.{IsReadError};
 use crate::error::RunError;
 use std::io::{BufRead, BufReader, ErrorKind, Read};
 
-/// Reads the next line into `line`, without its line feed, and returns whether there was one. Bytes after the last line feed are
-/// a line.
+/// Reads the next line into `line`, without its line feed. Returns whether there was a line. Bytes after the
+/// last line feed are a line.
 ///
 /// # Errors
-/// The reader failed, or there is no memory for the line, which has this number.
+/// The reader failed, or out of memory at the line with this number.
 pub fn next_line<R: Read + Drop>(
     input: &mut BufReader<R>,
     line: &mut Vec<u8>,
@@ -33,21 +33,21 @@ pub fn next_line<R: Read + Drop>(
     }
 }
 
-/// What was read up to a line feed.
+/// How a read up to a line feed ended.
 #[derive(Clone, Copy, Debug, PartialEq, Eq)]
 pub enum Cut {
-    /// A line that a line feed ends.
+    /// A line that ends with a line feed.
     Whole,
-    /// The last bytes, which no line feed ends.
+    /// The last bytes, which don't end with a line feed.
     Part,
-    /// Nothing: the reader was at its end.
+    /// There were no bytes left.
     End,
 }
 
-/// Reads the next line into `line`, without the line feed that ends it.
+/// Reads the next line into `line`, without its line feed.
 ///
 /// # Errors
-/// The reader failed, or there is no memory for the line.
+/// The reader failed, or out of memory.
 pub fn next_whole_line<R: Read + Drop>(
     input: &mut BufReader<R>,
     line: &mut Vec<u8>,
@@ -72,7 +72,7 @@ pub fn next_whole_line<R: Read + Drop>(
     }
 }
 
-/// Reads the next byte, or `None` at the end.
+/// Reads the next byte. `None` at the end of the input.
 ///
 /// # Errors
 /// The reader failed.
@@ -92,7 +92,7 @@ pub fn next_byte<R: Read + Drop>(input: &mut BufReader<R>) -> Result<Option<u8>,
     Err(RunError::ReadFailed)
 }
 
-// Takes the line feed off the end of the line.
+// Removes a line feed at the end of the line.
 fn strip_feed(line: &mut Vec<u8>)
     ensures ended { (front : List ℕ) → line.old.items ≡ front ++ 10 ∷ [] → line.new.items ≡ front }
     ensures unended { NoFeed line.old.items → line.new.items ≡ line.old.items }
@@ -103,7 +103,7 @@ fn strip_feed(line: &mut Vec<u8>)
     }
 }
 
-/// The bytes at hand, which are the first of those that are left.
+/// The bytes in the buffer: the next bytes of the input, without reading.
 #[inline]
 pub fn buffered<R: Read + Drop>(input: &BufReader<R>) -> &[u8]
     ensures value { result.now ≡ reader_buffer input.now }
@@ -112,7 +112,7 @@ pub fn buffered<R: Read + Drop>(input: &BufReader<R>) -> &[u8]
     input.buffer()
 }
 
-/// Uses up the first `count` bytes at hand.
+/// Removes the first `count` bytes from the buffer.
 pub fn consume<R: Read + Drop>(input: &mut BufReader<R>, count: usize)
     requires { count ≤ length (reader_buffer input.old) }
     ensures { (later : List ℕ) → reader_remaining R.remaining input.old ≡ Some (reader_buffer input.old ++ later) →

@@ -1,4 +1,5 @@
-//! A filter over the lines of standard input: the distinct ones, how often each came, or all of them as a column; and back.
+//! A filter over the lines of standard input. It lists the distinct lines, counts them, or encodes all lines
+//! as a column; and it decodes and merges columns.
 #![tactic(auto)]
 
 pub mod arguments;
@@ -35,7 +36,7 @@ use std::rt::{Clock, Env};
 use std::thread::Threads;
 use std::{env, io};
 
-// The status of bad arguments.
+// The exit status for bad arguments.
 const BAD_ARGUMENTS: u8 = 3;
 
 fn main(rt: HostRuntime) -> ExitCode {
@@ -62,7 +63,7 @@ fn terminals(rt: &HostRuntime) -> Terminals {
     }
 }
 
-// Does what is asked for over standard input and output. It may show a progress line, which is gone when it returns.
+// Runs the request over standard input and output. A progress line that it shows is wiped before it returns.
 fn run_program<R: AllocGlobal + Input + Print + Eprint + Clock + Threads + Sync>(
     rt: &R,
     request: &Request<'_>,
@@ -78,18 +79,18 @@ fn run_program<R: AllocGlobal + Input + Print + Eprint + Clock + Threads + Sync>
     };
     let ended = run_request(rt, request, &mut input, &mut output);
     input.get_mut().wipe();
-    // To drop the writer would hand on what a failed write left, and nothing is tried again.
+    // Dropping the writer would write what a failed write left in the buffer. Nothing is tried again.
     let (_writer, _left) = output.into_parts();
     ended
 }
 
-// Says why the arguments are refused.
+// Prints why the arguments are refused.
 fn refuse<R: Eprint>(rt: &R, error: &ArgumentError<'_>) -> ExitCode {
     let _ = eprintln!(rt; "{error}");
     ExitCode::from(BAD_ARGUMENTS)
 }
 
-// Says why the run ended, unless it is because its reader is gone.
+// Prints why the run ended, unless the reader of the output is gone.
 fn end<R: Eprint>(rt: &R, error: &RunError) -> ExitCode {
     if *error != RunError::ReaderGone {
         let _ = eprintln!(rt; "{error}");
@@ -97,7 +98,7 @@ fn end<R: Eprint>(rt: &R, error: &RunError) -> ExitCode {
     ExitCode::from(error.status())
 }
 
-// The words after the program's name, or `None` where one is not text.
+// The words after the program's name. `None` if one is not UTF-8.
 fn argument_words<R: AllocGlobal + Env>(rt: &R) -> Result<Option<Vec<String>>, RunError> {
     let mut all = match env::args(rt) {
         Ok(all) => all,
@@ -109,7 +110,7 @@ fn argument_words<R: AllocGlobal + Env>(rt: &R) -> Result<Option<Vec<String>>, R
     Ok(Some(words))
 }
 
-// Out of memory at no line.
+// Out of memory outside of a line.
 fn no_memory(_: AllocError) -> RunError {
     RunError::no_memory(0)
 }

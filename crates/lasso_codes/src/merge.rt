@@ -1,4 +1,4 @@
-//! Columns to one column.
+//! Merges columns into one column.
 ghost use Rattle.std.specs.Prelude.{◌≡◌, ◌+◌, ◌-◌, ◌<◌, ◌≤◌, ◌^◌, ◌++◌, ◌∷◌, [], ℕ, List, drop, length, Option, Some, Ok, Err, OnOk, IfOk, IfErr, MatchResult};
 ghost use Rattle.std.specs.Io.Buffered.{reader_remaining, writer_contents, writer_buffer};
 ghost use Rattle.lasso_parts.specs.Texts.{Text};
@@ -26,11 +26,12 @@ use lasso_columns::merge as merge_texts;
 use std::alloc::Global;
 use std::io::{BufReader, BufWriter, Read, Write};
 
-/// Reads columns, one or several one after another, and then writes one column, with one dictionary, of the lines of all.
+/// Reads the columns of the input, and then writes one column with one dictionary, which has the lines of
+/// all.
 ///
 /// # Errors
-/// A damaged column, a text that is refused, a failed read and out of memory end the run, and nothing is written. After a failed
-/// write, what was written is a beginning of the column.
+/// A damaged column, a text that is refused, a failed read, or out of memory: nothing is written. After a
+/// failed write, a beginning of the column was written.
 pub fn merge<R: Read + Drop, W: Write + Drop>(
     alloc: Global,
     input: &mut BufReader<R>,
@@ -46,7 +47,7 @@ pub fn merge<R: Read + Drop, W: Write + Drop>(
     end_flushed(output, result)
 }
 
-// Merges the columns and writes the one, and leaves the last of it in the buffer.
+// Merges the columns and writes the merged one. The last bytes stay in the buffer.
 fn write_merged<R: Read + Drop, W: Write>(
     alloc: Global,
     input: &mut BufReader<R>,
@@ -63,7 +64,7 @@ fn write_merged<R: Read + Drop, W: Write>(
     write_column(output, &rodeo, &numbers, binary)
 }
 
-// Interns the texts of each column, and appends the numbers that stand for its entries then.
+// Interns the texts of each column, and appends its entries with the codes of these.
 fn merge_columns<R: Read + Drop>(
     alloc: Global,
     input: &mut BufReader<R>,
@@ -91,7 +92,7 @@ fn merge_columns<R: Read + Drop>(
     Err(RunError::TooManyLines)
 }
 
-// Appends the number of each entry, whose code the table rewrites.
+// Appends each entry of a column. `table` has the new code for each code of the column.
 fn add_numbers<R: Read + Drop>(
     input: &mut BufReader<R>,
     line: &mut Vec<u8>,
@@ -118,8 +119,8 @@ fn add_numbers<R: Read + Drop>(
     Ok(())
 }
 
-// Appends the numbers of the entries that end in the stretch, `count` entries after the first. Returns how many are before the next
-// one then, and where it begins.
+// Appends the entries that end in the stretch. `count` entries came before. Returns the number of entries
+// before the next one, and the position where that begins.
 fn add_stretch(
     numbers: &mut Vec<u32>,
     table: &[u32],
@@ -151,7 +152,7 @@ fn add_stretch(
     Ok((header.lines, used))
 }
 
-// Appends the number of the entry of this number.
+// Appends the entry with this number.
 #[inline]
 fn add_number(
     numbers: &mut Vec<u32>,
@@ -169,7 +170,7 @@ fn add_number(
     }
 }
 
-// Appends the number, where there is memory for it.
+// Appends the number. The only error is out of memory.
 fn append_number(numbers: &mut Vec<u32>, number: u32) -> Result<(), RunError>
     ensures items { OnOk result (numbers.new.items ≡ numbers.old.items ++ number ∷ []) }
     ensures error { IfErr result (λ error. error ≡ RunError.Line (Refused 0 FailedAllocation)) }
@@ -180,7 +181,7 @@ fn append_number(numbers: &mut Vec<u32>, number: u32) -> Result<(), RunError>
     }
 }
 
-// The number of the entry of this number: what the table has for its code.
+// The new entry for the entry with this number: the table's code for its code.
 fn number_at(table: &[u32], entry: Entry, number: usize) -> Result<u32, ColumnError>
     ensures { (list texts : List Text) → AreCodes list texts table.now → length list < 2 ^ 32 → MatchResult result
         (λ rewritten. recoded list texts entry number ≡ Ok (entry_at rewritten))

@@ -22,21 +22,21 @@ enum Setting {
 // What a word among the options means.
 #[derive(Clone, Copy, Debug, PartialEq, Eq)]
 enum Meaning {
-    // The verb's help.
+    // Shows the verb's help.
     AsksHelp,
-    // Codes as bytes.
+    // Writes codes as bytes.
     IsBinary,
-    // No progress line.
+    // Shows no progress line.
     IsQuiet,
-    // A setting, whose value is the next word.
+    // A setting whose value is the next word.
     Wants(Setting),
-    // A setting, whose value follows the `=` at this position.
+    // A setting whose value follows the `=` at this position.
     Has(Setting, usize),
-    // None.
+    // It is not an option of the verb.
     Nothing,
 }
 
-// The settings and the null so far, and the setting that waits for its value, with its word.
+// What was read so far: the settings, the null, and the setting whose value is the next word.
 #[derive(Clone, Copy)]
 struct Reading<'a> {
     settings: Settings,
@@ -44,10 +44,10 @@ struct Reading<'a> {
     wanted: Option<(Setting, &'a str)>,
 }
 
-/// The verb with the settings that the words give.
+/// Parses the words as options of the verb.
 ///
 /// # Errors
-/// The first word that is refused, and why.
+/// The first word that is wrong, and why.
 pub fn options_of(verb: Verb, words: &[String]) -> Result<Request<'_>, ArgumentError<'_>>
     ensures { MatchResult result
         (λ asked. options_of verb unset None None (map string_bytes words.now) ≡ Ok (asked.command, word_of asked.null))
@@ -85,7 +85,7 @@ pub fn options_of(verb: Verb, words: &[String]) -> Result<Request<'_>, ArgumentE
     }
 }
 
-// The value of the setting is missing.
+// The error of a setting without a value.
 fn no_value<'a>(setting: Setting, word: &'a str) -> ArgumentError<'a>
     ensures { argument_text result ≡ no_value setting word.now }
 {
@@ -95,7 +95,7 @@ fn no_value<'a>(setting: Setting, word: &'a str) -> ArgumentError<'a>
     }
 }
 
-// What is read with the word, or `None` where it asks for help.
+// Reads one more word. Returns `None` if it is `--help`.
 fn read_word<'a>(
     verb: Verb,
     reading: Reading<'a>,
@@ -133,7 +133,7 @@ fn read_word<'a>(
     }
 }
 
-// What the word means among the options of the verb.
+// The meaning of the word as an option of the verb.
 fn meaning_of(verb: Verb, word: &str) -> Meaning
     ensures value { result ≡ meaning_of verb word.now }
     ensures at { IsWithin result word.now }
@@ -160,7 +160,7 @@ fn meaning_of(verb: Verb, word: &str) -> Meaning
     }
 }
 
-// Whether the word is the verb's option for codes as bytes.
+// Whether the word is `--binary`, and the verb has that option.
 fn is_binary(verb: Verb, word: &str) -> bool
     ensures { result ≡ is_binary verb word.now }
 {
@@ -184,7 +184,7 @@ fn setting_of(verb: Verb, name: &[u8]) -> Option<Setting>
     }
 }
 
-// Whether the verb has nulls.
+// Whether the verb has the option `--null`.
 fn takes_null(verb: Verb) -> bool
     ensures { result ≡ takes_null verb }
 {
@@ -194,7 +194,7 @@ fn takes_null(verb: Verb) -> bool
     }
 }
 
-// Whether the verb writes columns.
+// Whether the verb has the option `--binary`.
 fn takes_binary(verb: Verb) -> bool
     ensures { result ≡ takes_binary verb }
 {
@@ -204,7 +204,7 @@ fn takes_binary(verb: Verb) -> bool
     }
 }
 
-// Whether threads may share the work of the verb.
+// Whether the verb has the option `--workers`.
 fn takes_workers(verb: Verb) -> bool
     ensures { result ≡ takes_workers verb }
 {
@@ -214,7 +214,7 @@ fn takes_workers(verb: Verb) -> bool
     }
 }
 
-// What is read with the value that the word says from this position on.
+// Reads the value of the setting, which is the word from the position `from` on.
 fn with_value<'a>(
     reading: Reading<'a>,
     setting: Setting,
@@ -242,7 +242,7 @@ fn with_value<'a>(
     }))
 }
 
-// The number that the value says.
+// Parses the value as a number.
 fn number_in<'a>(value: &[u8], word: &'a str) -> Result<usize, ArgumentError<'a>>
     ensures { MatchResult result
         (λ number. number_of value.now ≡ Some number)
@@ -254,7 +254,7 @@ fn number_in<'a>(value: &[u8], word: &'a str) -> Result<usize, ArgumentError<'a>
     }
 }
 
-// `count` as a number of workers, if it is 1 to 64.
+// Returns `count` if it is a number of workers: 1 to 64.
 fn workers_in(count: usize) -> Result<usize, ArgumentError<'static>>
     ensures { MatchResult result
         (λ workers. workers_of count ≡ Ok workers)

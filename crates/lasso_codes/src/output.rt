@@ -1,4 +1,4 @@
-//! Bytes to a writer.
+//! Writes bytes, lines and numbers.
 ghost use Rattle.std.specs.Prelude.{◌≡◌, ◌⊎◌, ◌++◌, ◌∷◌, [], Err, OnOk, IfErr, decimal};
 ghost use Rattle.std.specs.Io.Buffered.{writer_contents, writer_buffer};
 ghost use Rattle.std.specs.Io.KnownBytes.{Keeps};
@@ -9,7 +9,7 @@ use crate::error::RunError;
 use itoa::Buffer;
 use std::io::{BufWriter, Write};
 
-/// Writes the bytes by as many calls as it takes.
+/// Writes all of the bytes.
 ///
 /// # Errors
 /// The writer failed, or its reader is gone. A beginning of the bytes was written.
@@ -49,10 +49,10 @@ pub fn write_number<W: Write>(output: &mut W, number: u64) -> Result<(), RunErro
     write_bytes(output, digits.format(number).as_bytes())
 }
 
-/// Hands all that is buffered to the inner writer, and flushes it.
+/// Writes the buffered bytes to the inner writer, and flushes that.
 ///
 /// # Errors
-/// The writer failed, or its reader is gone. What is not handed on stays in the buffer.
+/// The writer failed, or its reader is gone. Bytes that were not written stay in the buffer.
 pub fn flush<W: Write + Drop>(output: &mut BufWriter<W>) -> Result<(), RunError>
     ensures kept { Keeps (writer_contents W.contents output.old) (writer_contents W.contents output.new) }
     ensures all { OnOk result (writer_buffer output.new ≡ []) }
@@ -64,8 +64,9 @@ pub fn flush<W: Write + Drop>(output: &mut BufWriter<W>) -> Result<(), RunError>
     }
 }
 
-/// Flushes what is written, unless the run ended because a write failed. How the run ends: as it did, or with the failed flush. A
-/// reader that is gone is told only where nothing else failed: after another fault it is a failed write.
+/// Ends a run: flushes the output, unless the run ended because a write failed. Returns how the run ended, or
+/// the error of the flush. After another error, a reader that is gone is a failed write: `ReaderGone` is
+/// returned only if nothing else failed.
 pub fn end_flushed<W: Write + Drop>(
     output: &mut BufWriter<W>,
     ended: Result<(), RunError>,

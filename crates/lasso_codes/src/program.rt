@@ -1,4 +1,4 @@
-//! The program between its ends: a command, a reader and a writer.
+//! The program without its streams: runs a request over a reader and a writer.
 ghost use Rattle.std.specs.Prelude.{◌≡◌, ℕ, List, [], Some};
 ghost use Rattle.std.specs.Io.Buffered.{reader_remaining, writer_contents, writer_buffer};
 ghost use Rattle.lasso_codes.specs.Arguments.{word_of};
@@ -26,13 +26,13 @@ use lasso::MemoryLimits;
 use std::io::{BufReader, BufWriter, Read, Write};
 use std::thread::Threads;
 
-/// How many bytes the buffers of the reader and of the writer take.
+/// The size of the reader's buffer and of the writer's buffer, in bytes.
 pub const BUFFER: usize = 65536;
 
-/// Does what is asked for: the verb over the reader's lines, or it writes a help text and reads nothing.
+/// Runs the verb, or writes a help text and reads nothing.
 ///
 /// # Errors
-/// As the verb. A help text fails as `write_bytes` does.
+/// As the verb, or as `write_bytes` for a help text.
 pub fn run_request<H: AllocGlobal + Threads + Sync, R: Read + Drop, W: Write + Drop>(
     rt: &H,
     request: &Request<'_>,
@@ -69,7 +69,7 @@ pub fn run_request<H: AllocGlobal + Threads + Sync, R: Read + Drop, W: Write + D
     }
 }
 
-// Writes the text.
+// Writes the text, and flushes it.
 fn show<W: Write + Drop>(output: &mut BufWriter<W>, text: &str) -> Result<(), RunError>
     ensures { ¬ (IsWriteEnd result) → writer_buffer output.new ≡ [] }
 {

@@ -1,4 +1,4 @@
-//! The header and the dictionary of a column, read from a reader.
+//! Reads the header and the dictionary of a column.
 ghost use Rattle.std.specs.Prelude.{◌≡◌, ◌≤◌, ◌-◌, ◌++◌, ◌∷◌, [], ℕ, List, Some, Ok, IfOk, IfErr, IsTrue, IsUtf8, OnOk, MatchResult, drop, length};
 ghost use Rattle.std.specs.Io.Buffered.{reader_remaining};
 ghost use Rattle.lasso_single.specs.Filling.{extend};
@@ -19,21 +19,22 @@ use lasso_columns::lines::find_newline;
 use memchr::memchr;
 use std::io::{BufReader, Read};
 
-/// What the header line of a column says.
+/// The header line of a column.
 #[derive(Clone, Copy, Debug, PartialEq, Eq)]
 pub struct Header {
-    /// Whether an entry is four bytes, and no line.
+    /// Whether an entry is four bytes, rather than a line.
     pub binary: bool,
-    /// How many texts the dictionary has.
+    /// The number of texts in the dictionary.
     pub distinct: usize,
-    /// How many entries follow it.
+    /// The number of entries.
     pub lines: usize,
 }
 
-/// Reads the header of the column of this number, or `None` at the end. `line` is used for its bytes.
+/// Reads the header of the column with this number. `None` at the end of the input. `line` is a buffer for
+/// its bytes.
 ///
 /// # Errors
-/// The reader failed, there is no memory for the header, or the bytes do not begin with one.
+/// The reader failed, out of memory, or the input does not go on with a header.
 pub fn next_header<R: Read + Drop>(
     input: &mut BufReader<R>,
     line: &mut Vec<u8>,
@@ -52,10 +53,11 @@ pub fn next_header<R: Read + Drop>(
     }
 }
 
-/// Reads the texts of the dictionary of the column of this number into the interner, which holds none. `line` is used for their bytes.
+/// Reads the dictionary of the column with this number into the interner, which must be empty. `line` is a
+/// buffer for the bytes of a text.
 ///
 /// # Errors
-/// The reader failed, there is no memory for a text, or a text is missing, comes twice, is not UTF-8 or is refused.
+/// The reader failed, out of memory, or a text is missing, comes twice, is not UTF-8 or is refused.
 pub fn read_texts<R: Read + Drop>(
     input: &mut BufReader<R>,
     line: &mut Vec<u8>,
@@ -91,8 +93,8 @@ pub fn read_texts<R: Read + Drop>(
     Ok(())
 }
 
-// Interns the texts that end in the stretch, of which `count` came before. Returns how many these are then, and where the next one
-// begins.
+// Interns the texts that end in the stretch. `count` texts came before. Returns the number of texts before
+// the next one, and the position where that begins.
 fn add_texts(
     rodeo: &mut SpurRodeo,
     stretch: &[u8],
@@ -124,7 +126,7 @@ fn add_texts(
     Ok((distinct, used))
 }
 
-// Interns the text of this number, which has to be new. `is_text`: the caller has checked that it is UTF-8.
+// Interns the text with this number, which has to be new. `is_text`: the caller has checked that it is UTF-8.
 fn add_text(
     rodeo: &mut SpurRodeo,
     line: &[u8],
@@ -142,7 +144,7 @@ fn add_text(
     }
 }
 
-/// What the header line says, or `None` where it is none.
+/// Parses a header line. `None` if the line is not a header.
 pub fn header_of(line: &[u8]) -> Option<Header>
     ensures { result ≡ header_of line.now }
 {
@@ -152,14 +154,14 @@ pub fn header_of(line: &[u8]) -> Option<Header>
     }
 }
 
-// What follows the front of the line.
+// The rest of the line after `front`, if the line begins with that.
 fn after_front<'a>(line: &'a [u8], front: &[u8]) -> Option<&'a [u8]>
     ensures { word_of result ≡ after_front front.now line.now }
 {
     line.strip_prefix(front)
 }
 
-// The header of these two numbers.
+// Parses the two numbers of a header.
 fn header_in(binary: bool, numbers: &[u8]) -> Option<Header>
     ensures { result ≡ header_in binary numbers.now }
 {
@@ -173,7 +175,7 @@ fn header_in(binary: bool, numbers: &[u8]) -> Option<Header>
     }
 }
 
-// The header of the numbers, where both are there.
+// The header with these numbers, if both are numbers.
 fn header_with(binary: bool, distinct: Option<usize>, lines: Option<usize>) -> Option<Header>
     ensures { result ≡ header_with binary distinct lines }
 {

@@ -1,4 +1,4 @@
-//! An input that is read as a whole, and its lines as texts.
+//! Reads a whole input, and cuts it into lines of text.
 ghost use Rattle.std.specs.Prelude.{◌≡◌, ℕ, List, Some, IfOk, IfErr, map};
 ghost use Rattle.std.specs.Io.Buffered.{reader_remaining};
 ghost use Rattle.lasso_columns.specs.Lines.{lines_of};
@@ -13,10 +13,10 @@ use std::alloc::Global;
 use std::io::{BufReader, ErrorKind, Read};
 use std::str::from_utf8;
 
-/// All bytes that the reader has left.
+/// Reads all bytes that are left.
 ///
 /// # Errors
-/// The reader failed, or there is no memory for the bytes, which is the fault of line 0.
+/// The reader failed, or out of memory, with the line number 0.
 pub fn read_whole<R: Read + Drop>(
     alloc: Global,
     input: &mut BufReader<R>,
@@ -32,26 +32,26 @@ pub fn read_whole<R: Read + Drop>(
     }
 }
 
-/// The first lines of some bytes, as texts.
+/// Lines of text.
 #[derive(Drop)]
 pub struct TextLines<'a> {
     /// The lines, up to the first that is not UTF-8.
     pub texts: Vec<&'a str>,
-    /// Whether these are all lines.
+    /// Whether these are all lines of the input.
     pub is_complete: bool,
 }
 
-/// The lines of the bytes as texts, up to the first that is not UTF-8.
+/// Cuts the bytes into lines of text, up to the first line that is not UTF-8.
 ///
 /// # Errors
-/// Out of memory, which is the fault of line 0.
+/// Out of memory, with the line number 0.
 pub fn text_lines(alloc: Global, bytes: &[u8]) -> Result<TextLines<'_>, RunError>
     ensures lines { IfOk result (λ lines. AreTextLines lines.is_complete (map (λ t. t.now) lines.texts.items) (lines_of bytes.now)) }
     ensures errors { IfErr result (λ error. error ≡ RunError.Line (Refused 0 FailedAllocation)) }
 {
     let mut texts = Vec::new(alloc);
     let mut rest = bytes;
-    while let Some((line, behind)) = first_line(rest) {
+    while let Some((line, after)) = first_line(rest) {
         let Ok(text) = from_utf8(line) else {
             return Ok(TextLines {
                 texts,
@@ -61,7 +61,7 @@ pub fn text_lines(alloc: Global, bytes: &[u8]) -> Result<TextLines<'_>, RunError
         if texts.push(text).is_err() {
             return Err(RunError::no_memory(0));
         }
-        rest = behind;
+        rest = after;
     }
     Ok(TextLines {
         texts,

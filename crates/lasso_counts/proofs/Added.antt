@@ -1,8 +1,9 @@
 -- Counts that grow by those of other texts.
 --
--- Each text's count grows by how often it is among the texts. So of two lists of texts, one counted after the other, the growths add up.
--- An interner that has grown gets a zero for each new text, which tells nothing else of any text. Then the counts of a part are added one
--- after another: the first n texts of the part's list have their counts, and each other text has grown by nothing.
+-- The count of each text grows by the number of times that it is among the texts. If two lists are counted
+-- one after the other, the growths add up. After an interner has grown, a zero is appended for each new text,
+-- which changes the count of none. Then the counts of a part are added one after another: the counts of the
+-- first n texts of the part's list have grown, and the others have not.
 use Rattle.std.proofs.Common.{ℕ, zero, suc, ◌≡◌, ◌+◌, ◌-◌, ◌<◌, ◌≤◌, List, [], ◌∷◌, ◌++◌, length, take, drop, get_or, set, sum, map, Bor, Bool, true, false, cond, Option, Some, None, Result, Ok, Err, is_some, is_err, refl, sym, ap, subst, ◌∙◌, arith, append_assoc, add-zero, length-append}
 use Rattle.std.specs.Prelude.{option_and_then, slice_get, replicate}
 use Rattle.std.proofs.lemmas.Option.{slice_get_within}
@@ -67,7 +68,7 @@ value_at [] i v small is = absurd (omega (arith, small))
 value_at (x ∷ xs) zero v small is = is
 value_at (x ∷ xs) (suc i) v small is = value_at xs i v (omega (arith, small)) is
 
--- a text more that is there
+-- one more present text
 key_position : (list : List Text) (text : Text) (key : ℕ) (o : Option ℕ) → position_of list text ≡ o → option_and_then spur_at o ≡ Some key → o ≡ Some (key - 1)
 key_position list text key None at is = absurd (cc)
 key_position list text key (Some n) at is = ap (λ k. Some k) (position_of_key n key is)
@@ -135,7 +136,7 @@ pads list counts (last ∷ more) lengths =
     subst (λ (ts : List Text). AddsCounts [] list counts ts (counts ++ replicate (suc (length more)) 0)) (append_assoc list (last ∷ []) more)
     (subst (λ cs. AddsCounts [] list counts ((list ++ last ∷ []) ++ more) cs) (append_assoc counts (0 ∷ []) (replicate (length more) 0)) joined)
 
--- as many zeros as the list has grown
+-- a zero for each text by which the list has grown
 pub padded : (list more : List Text) (counts : List ℕ) (now : List Text) (n : ℕ) (after : List ℕ) → length counts ≡ length list → now ≡ list ++ more → n ≡ length now - length counts → after ≡ counts ++ replicate n 0 → AddsCounts [] list counts now after
 padded list more counts now n after lengths grown many is =
     let same : n ≡ length more = omega (arith, many, ap length grown, length-append list more, lengths) in

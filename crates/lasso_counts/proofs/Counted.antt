@@ -1,9 +1,9 @@
--- Counts beside a list of texts that grows.
+-- Counts of the texts of a list that grows.
 --
--- A text that is counted is found in the list, or goes last in it. In the first case its count grows by one, and no other text
--- is found there; in the second the list had it nowhere, so that it did not come before, and its count is one. Each other text
--- is found where it was found before. So each text's count still tells how often it came, and the sum of the counts grows by
--- one, as the number of texts does.
+-- A text that is counted is in the list, or is appended to it. If it is in the list, its count grows by one,
+-- and no other text is at its position. If not, it did not occur before, and its count is one. Each other
+-- text is found where it was before. So the count of each text is still the number of times that it occurs,
+-- and the sum of the counts grows by one, as the number of texts does.
 use Rattle.std.proofs.Common.{ℕ, ◌≡◌, ◌≢◌, ◌+◌, ◌-◌, ◌<◌, List, [], ◌∷◌, ◌++◌, length, get_or, set, sum, Bool, true, false, cond, Option, Some, None, Ok, is_some, refl, sym, ap, subst, ◌∙◌, arith, append_assoc, get_or-set_same, get_or-set_other, add-zero}
 use Rattle.std.specs.Prelude.{slice_get}
 use Rattle.std.specs.Str.{bytes_eq}
@@ -47,7 +47,7 @@ distinct_last : (list : List Text) (text : Text) (o : Option ℕ) → position_o
 distinct_last list text None at distinct = distinct_push list text distinct at
 distinct_last list text (Some n) at distinct = distinct
 
--- no text stands twice among the distinct ones
+-- no text is twice among the distinct ones
 pub distinct_new : (list texts : List Text) → IsDistinct list → IsDistinct (list ++ new_texts list texts)
 distinct_new list [] distinct = subst IsDistinct (sym (append-nil list)) distinct
 distinct_new list (t ∷ texts) distinct =
@@ -67,7 +67,7 @@ inside list counts text n lengths at = let small = slice_get_within list n text 
 pub last_one : (counts : List ℕ) (n amount : ℕ) → length counts ≡ n → get_or (counts ++ amount ∷ []) n 0 ≡ amount
 last_one counts n amount e = ap (λ k. get_or (counts ++ amount ∷ []) k 0) (sym e) ∙ get_or-append_seam counts amount [] 0
 
--- a text that goes last, with a count of so much
+-- a new text with a given count
 pub tell_new : (list : List Text) (counts : List ℕ) (amount : ℕ) (text s : Text) (same : Bool) (o : Option ℕ) → position_of list text ≡ None → length counts ≡ length list → bytes_eq text s ≡ same → position_of list s ≡ o → count_at (counts ++ amount ∷ []) (position_of (list ++ text ∷ []) s) ≡ count_at counts o + cond same amount 0
 tell_new list counts amount text s true o none lengths e at =
     let is : text ≡ s = same_text text s e in
@@ -88,7 +88,7 @@ apart list text s n k at at' other = λ e.
     let is : text ≡ s = cc in
     let equal : bytes_eq text s ≡ true = (bytes_eq-Decides text s).1 is in cc
 
--- a present text, whose count grows by so much
+-- a present text whose count grows by a given amount
 pub tell_old : (list : List Text) (counts : List ℕ) (amount : ℕ) (text s : Text) (n : ℕ) (same : Bool) (o : Option ℕ) → position_of list text ≡ Some n → length counts ≡ length list → bytes_eq text s ≡ same → position_of list s ≡ o → count_at (set counts n (get_or counts n 0 + amount)) o ≡ count_at counts o + cond same amount 0
 tell_old list counts amount text s n true o here lengths e at =
     let is : text ≡ s = same_text text s e in
@@ -151,7 +151,7 @@ place_of list counts text lengths n at = inside list counts text n lengths at
 
 -- ---- a text that is interned and counted
 
--- what is told of the counts by the key that the text got
+-- the counts after the text got its key
 pub counted_is : (list : List Text) (counts reserved after : List ℕ) (text : Text) (n key : ℕ) → length counts ≡ length list → reserved ≡ counts → after ≡ added reserved n → n ≡ key - 1 → spur_at (interned_position list text) ≡ Some key → after ≡ counted counts (position_of list text)
 counted_is list counts reserved after text n key lengths same is n_is key_is =
     let place : n ≡ interned_position list text = n_is ∙ sym (position_of_key (interned_position list text) key key_is) in

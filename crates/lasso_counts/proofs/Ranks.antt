@@ -13,7 +13,7 @@ use Rattle.lasso_parts.specs.Texts.{Text, IsDistinct}
 use Rattle.lasso_counts.specs.Counts.{AreCounts, count_of, count_at, counted_texts}
 use Rattle.lasso_counts.proofs.Counted.{distinct_new}
 
--- sorted values are sorted by what is seen of them
+-- sorted values stay sorted when they are mapped
 pub sorted_map : {X Y : Type 0} (f : X → Y) (lt : Y → Y → Bool) (xs : List X) → IsSortedBy (λ a b. lt (f a) (f b)) xs → IsSortedBy lt (map f xs)
 sorted_map f lt [] sorted = λ k d low small. absurd (omega (arith, small))
 sorted_map f lt (x ∷ xs) sorted = λ k d low small.
@@ -48,7 +48,7 @@ zip_map f (c ∷ counts) (t ∷ list) lengths each =
     ap (λ (n : ℕ). (n, t) ∷ zip counts list) (each 0 t refl)
     ∙ ap (λ (ps : List (ℕ × Text)). (f t, t) ∷ ps) (zip_map f counts list (omega (arith, lengths)) (λ k text at. each (suc k) text at))
 
--- the distinct texts with the counts that tell how often they came
+-- the distinct texts with their counts
 pub counted_pairs : (texts list : List Text) (counts : List ℕ) → AreCounts texts list counts → zip counts list ≡ counted_texts texts
 counted_pairs texts list counts are =
     let distinct : IsDistinct list = subst IsDistinct (sym are.list_is) (distinct_new [] texts no_text_twice) in

@@ -1,4 +1,4 @@
-//! How often each text came, beside the texts of an interner: the count of the key at position n is the n-th of a list.
+//! Counts texts next to an interner: a list has the count of each text, at the position of its key.
 //!
 //! ```rust
 //! let mut rodeo: SpurRodeo = Rodeo::default(rt.alloc())?;

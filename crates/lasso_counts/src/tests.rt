@@ -38,8 +38,8 @@ fn equal_counts_go_by_bytes(rt: HostRuntime) -> Result<(), Fail> {
     Ok(())
 }
 
-// What some of 500 texts leave, however many workers count them: text n is "text k" for k = n modulo 60, but that the last hundred
-// are those of k = n modulo 7.
+// 500 texts, with each number of workers. Text n is "text k" for k = n modulo 60; for the last hundred, k = n
+// modulo 7.
 #[test]
 fn parts_count_as_one(rt: HostRuntime) -> Result<(), Fail> {
     let mut names = Vec::new(rt.alloc());
@@ -74,8 +74,8 @@ fn parts_count_as_one(rt: HostRuntime) -> Result<(), Fail> {
     Ok(())
 }
 
-// The limit lets in one bucket, which the first texts fill. The text past it is refused, and those before it are counted: also where
-// the text is of a later part, or comes again after it.
+// The limit allows one bucket, which the first texts fill. The next text is refused, and those before it are
+// counted, also if it is in a later part or occurs again later.
 #[test]
 fn the_refused_text_is_told(rt: HostRuntime) -> Result<(), Fail> {
     let long = "a long text that takes some bytes";

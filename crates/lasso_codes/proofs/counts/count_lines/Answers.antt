@@ -9,7 +9,7 @@ use Rattle.lasso_codes.proofs.CountedLines.{counting_push, counting_ends, counti
 use Rattle.lasso_codes.proofs.Stretches.{left_after}
 use Rattle.lasso_codes.proofs.counts.count_lines.Goals as goal
 
--- a line at hand is faulty
+-- a buffered line is refused or not UTF-8
 pub returns-in_err-next-clause-error : goal.returns-in_err-next-clause-error
 returns-in_err-next-clause-error g c =
     let p = err_from_is_err_and c.from_residual.result c.from_residual.ensures.1 in

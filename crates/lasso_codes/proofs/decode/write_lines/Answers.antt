@@ -25,7 +25,7 @@ returns-in_err-next g c = λ bytes e.
     let so_far = subst (λ bs. Writes before (g.W.Write.contents at.output) (LinesAhead (items_from make (header.lines - at.count) header.binary (at.count + 1) bs) read)) hand.1 ahead.2 in
     rw (p.1, p.2) (c.in_err-next.ensures.error read hand.0 before so_far)
 
--- the last entry is at hand
+-- the last entry is in the buffer
 pub returns-then-next-header : goal.returns-then-next-header
 returns-then-next-header g c = λ bytes e.
     let at = c.loop-count in

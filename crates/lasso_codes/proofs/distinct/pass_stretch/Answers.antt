@@ -48,9 +48,9 @@ loop-number-preserved g c =
       text = others_tested stretch rest at.used len same found c.untested_len-untested.result at.invariant.text;
       passed = λ input later limit before so_far.
           let left = drop at.used stretch ++ later in
-          let behind = drop (at.used + (len + 1)) stretch ++ later in
-          writes_then _ _ _ (OnTheWay input limit left at.number at.rodeo) (λ more. PassesLine at.rodeo line at.number more after (Ok c.in_ok-pass_line.field-0)) (OnTheWay input limit behind (at.number + 1) after) (at.invariant.passed input later limit before so_far) c.in_ok-pass_line.ensures (λ part more on passed.
-          way_push input limit left at.number at.rodeo after part more behind line passed.1.0 on (next_cut stretch rest at.used len same found later) passed.0 passed.1.1 passed.2);
+          let following = drop (at.used + (len + 1)) stretch ++ later in
+          writes_then _ _ _ (OnTheWay input limit left at.number at.rodeo) (λ more. PassesLine at.rodeo line at.number more after (Ok c.in_ok-pass_line.field-0)) (OnTheWay input limit following (at.number + 1) after) (at.invariant.passed input later limit before so_far) c.in_ok-pass_line.ensures (λ part more on passed.
+          way_push input limit left at.number at.rodeo after part more following line passed.1.0 on (next_cut stretch rest at.used len same found later) passed.0 passed.1.1 passed.2);
     }
 
 pub returns-clause-error : goal.returns-clause-error

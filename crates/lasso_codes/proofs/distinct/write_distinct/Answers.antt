@@ -16,7 +16,7 @@ returns-in_err-rodeo g c = λ bytes e.
     let p = err_from_is_err_and c.from_residual.result c.from_residual.ensures.1 in
     rw (p.1, p.2) (writes_none _ _ (end_unmade bytes c.args.limits c.in_err-rodeo.field-0.0 c.in_err-rodeo.ensures.refused))
 
--- a line at hand is faulty, or is not written
+-- a buffered line is refused or not UTF-8, or is not written
 pub returns-in_err-next : goal.returns-in_err-next
 returns-in_err-next g c = λ bytes e.
     let p = err_from_is_err_and c.from_residual-in_err-next.result c.from_residual-in_err-next.ensures.1 in

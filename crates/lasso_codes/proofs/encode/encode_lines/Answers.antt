@@ -10,7 +10,7 @@ use Rattle.lasso_codes.proofs.EncodedLines.{encoding_push, encoding_ends, encodi
 use Rattle.lasso_codes.proofs.Stretches.{left_after}
 use Rattle.lasso_codes.proofs.encode.encode_lines.Goals as goal
 
--- a line at hand is faulty
+-- a buffered line is refused or not UTF-8
 pub returns-in_err-next-clause-error : goal.returns-in_err-next-clause-error
 returns-in_err-next-clause-error g c =
     let p = err_from_is_err_and c.from_residual.result c.from_residual.ensures.1 in

@@ -23,7 +23,7 @@ returns-in_err-next g c =
     let so_far = subst (λ bs. EntriesAhead (items_from make (header.lines - at.count) header.binary (at.count + 1) bs) read before at.numbers.items) hand.1 ahead.2 in
     c.in_err-next.ensures.error list texts are few read hand.0 before so_far)
 
--- the last entry is at hand
+-- the last entry is in the buffer
 pub returns-then-next-header : goal.returns-then-next-header
 returns-then-next-header g c = λ list texts are few bytes e.
     let at = c.loop-count in

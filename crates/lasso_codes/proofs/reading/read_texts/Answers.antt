@@ -12,7 +12,7 @@ use Rattle.lasso_codes.proofs.ReadTexts.{reading_push, reading_misses, reading_f
 use Rattle.lasso_codes.proofs.Stretches.{left_after}
 use Rattle.lasso_codes.proofs.reading.read_texts.Goals as goal
 
--- a text at hand is faulty
+-- a buffered text is bad
 pub returns-in_err-next-clause-error : goal.returns-in_err-next-clause-error
 returns-in_err-next-clause-error g c =
     let p = err_from_is_err_and c.from_residual.result c.from_residual.ensures.1 in
@@ -24,7 +24,7 @@ returns-in_err-next-clause-error g c =
     let list = subst (λ (i : InternerView). extend spur_at i at.rodeo.texts accepted at.rodeo) made at.invariant.list in
     c.in_err-next.ensures.error bytes hand.0 limit so_far list)
 
--- the last text is at hand
+-- the last text is in the buffer
 pub returns-then-next-distinct-clause-taken : goal.returns-then-next-distinct-clause-taken
 returns-then-next-distinct-clause-taken g c = λ bytes e.
     let at = c.loop-count in
