@@ -16,10 +16,10 @@ use std::io::Write;
 pub const NULL: u32 = u32::MAX;
 
 /// The start of the header of a column whose entries are lines.
-pub const TEXT_FRONT: &[u8] = b"lasso-codes 1 text ";
+pub const TEXT_HEADER: &[u8] = b"lasso-codes 1 text ";
 
 /// The start of the header of a column whose entries are bytes.
-pub const BINARY_FRONT: &[u8] = b"lasso-codes 1 binary ";
+pub const BINARY_HEADER: &[u8] = b"lasso-codes 1 binary ";
 
 /// Writes the column whose dictionary is the interner's texts. `numbers` has an entry for each line: its
 /// code, or `NULL`.
@@ -60,9 +60,9 @@ fn write_front<W: Write>(output: &mut W, binary: bool) -> Result<(), RunError>
     ensures { Writes (W.contents output.old) (W.contents output.new) (WritesAll (header_front binary) result) }
 {
     if binary {
-        write_bytes(output, BINARY_FRONT)
+        write_bytes(output, BINARY_HEADER)
     } else {
-        write_bytes(output, TEXT_FRONT)
+        write_bytes(output, TEXT_HEADER)
     }
 }
 
@@ -85,7 +85,7 @@ fn write_texts<W: Write>(output: &mut W, rodeo: &SpurRodeo) -> Result<(), RunErr
 }
 
 // Entries are written in blocks of this size.
-const BLOCK: usize = 4096;
+const BLOCK_SIZE: usize = 4096;
 
 // The length of the longest entry: ten digits and a line feed.
 const LONGEST_ENTRY: usize = 11;
@@ -94,7 +94,7 @@ const LONGEST_ENTRY: usize = 11;
 fn write_entries<W: Write>(output: &mut W, binary: bool, numbers: &[u32]) -> Result<(), RunError>
     ensures { Writes (W.contents output.old) (W.contents output.new) (WritesAll (flat_map (λ n. entry_bytes binary (entry_at n)) numbers.now) result) }
 {
-    let mut block = [0; BLOCK];
+    let mut block = [0; BLOCK_SIZE];
     let mut filled = 0;
     for number in numbers {
         filled = make_room(output, &block, filled)?;
@@ -114,7 +114,7 @@ fn make_room<W: Write>(output: &mut W, block: &[u8], filled: usize) -> Result<us
         (λ left. Writes (W.contents output.old) (W.contents output.new) (λ part. part ++ take left block.now ≡ take filled block.now))
         (λ error. Writes (W.contents output.old) (W.contents output.new) (WritesAll (take filled block.now) (Err error))) }
 {
-    if filled <= BLOCK - LONGEST_ENTRY {
+    if filled <= BLOCK_SIZE - LONGEST_ENTRY {
         return Ok(filled);
     }
     write_bytes(output, &block[..filled])?;

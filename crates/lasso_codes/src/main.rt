@@ -27,7 +27,7 @@ pub mod whole;
 
 use arguments::{ArgumentError, Request, command_of};
 use error::RunError;
-use program::{BUFFER, run_request};
+use program::{BUFFER_SIZE, run_request};
 use progress::{Terminals, Watched, shows_progress};
 use std::alloc::AllocError;
 use std::io::{BufReader, BufWriter, ErrorKind, IsTerminal};
@@ -71,10 +71,10 @@ fn run_program<R: AllocGlobal + Input + Print + Eprint + Clock + Threads + Sync>
 ) -> Result<(), RunError> {
     let is_shown = shows_progress(request.command, terminals);
     let watched = Watched::new(rt.reader(), rt, is_shown);
-    let Ok(mut input) = BufReader::with_capacity(rt.alloc(), BUFFER, watched) else {
+    let Ok(mut input) = BufReader::with_capacity(rt.alloc(), BUFFER_SIZE, watched) else {
         return Err(RunError::no_memory(0));
     };
-    let Ok(mut output) = BufWriter::with_capacity(rt.alloc(), BUFFER, io::writer(rt)) else {
+    let Ok(mut output) = BufWriter::with_capacity(rt.alloc(), BUFFER_SIZE, io::writer(rt)) else {
         return Err(RunError::no_memory(0));
     };
     let ended = run_request(rt, request, &mut input, &mut output);

@@ -8,7 +8,7 @@ use crate::numbers::parse_number;
 use memchr::memchr;
 
 /// The most threads that may share the work.
-pub const MOST_WORKERS: usize = 64;
+pub const MAX_WORKERS: usize = 64;
 
 // An option that takes a value: a number, or the word of a null.
 #[derive(Clone, Copy, Debug, PartialEq, Eq)]
@@ -263,7 +263,7 @@ fn workers_in(count: usize) -> Result<usize, ArgumentError<'static>>
     if count == 0 {
         return Err(ArgumentError::NoWorkers);
     }
-    if count > MOST_WORKERS {
+    if count > MAX_WORKERS {
         return Err(ArgumentError::PastWorkers(count));
     }
     Ok(count)

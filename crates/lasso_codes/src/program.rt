@@ -27,7 +27,7 @@ use std::io::{BufReader, BufWriter, Read, Write};
 use std::thread::Threads;
 
 /// The size of the reader's buffer and of the writer's buffer, in bytes.
-pub const BUFFER: usize = 65536;
+pub const BUFFER_SIZE: usize = 65536;
 
 /// Runs the verb, or writes a help text and reads nothing.
 ///

@@ -8,7 +8,7 @@ ghost use Rattle.lasso_codes.specs.Arguments.{word_of};
 ghost use Rattle.lasso_codes.specs.Stages.{Reading};
 ghost use Rattle.lasso_codes.specs.Reading.{after_front, header_in, header_of, header_with, AddError, AddsText, HeaderError, TakesHeader, TakesTexts, TextsError};
 
-use crate::columns::{BINARY_FRONT, TEXT_FRONT};
+use crate::columns::{BINARY_HEADER, TEXT_HEADER};
 use crate::error::{ColumnError, RunError};
 use crate::input::{Cut, buffered, consume, next_whole_line};
 use crate::lines::{intern_line, untested_len};
@@ -148,9 +148,9 @@ fn add_text(
 pub fn header_of(line: &[u8]) -> Option<Header>
     ensures { result ≡ header_of line.now }
 {
-    match after_front(line, TEXT_FRONT) {
+    match after_front(line, TEXT_HEADER) {
         Some(numbers) => header_in(false, numbers),
-        None => header_in(true, after_front(line, BINARY_FRONT)?),
+        None => header_in(true, after_front(line, BINARY_HEADER)?),
     }
 }
 
