@@ -1,8 +1,8 @@
 -- Lines that were counted one after another, and their report.
 --
--- The lines of the input are those that were counted and those of the rest. Where nothing is left all were counted, and the ranked
--- texts are each distinct line once with its count. The report is written from the front: so what was written when a write fails is a
--- beginning of it. Before that nothing is written.
+-- The lines of the input are those that were counted, and then those of the rest. If nothing is left, all
+-- were counted, and the ranked texts are each distinct line once with its count. The report is written from
+-- its start, so what was written when a write fails is a beginning of it. Nothing is written before that.
 use Rattle.std.proofs.Common.{ℕ, ◌≡◌, ◌+◌, List, [], ◌∷◌, ◌++◌, length, map, take, drop, get_or, ◌⊎◌, ◌<◌, min, Result, Ok, Err, refl, sym, ap, subst, ◌∙◌, arith, append_assoc, inl, inr}
 use Rattle.std.specs.Prelude.{All, flat_map, slice_get, IsSomeAnd, IsPermutation, IsSorted, sum_by}
 use Rattle.std.specs.Str.{IsUtf8}
@@ -22,12 +22,12 @@ use Rattle.lasso_columns.specs.declared.faults.LineError.{LineError}
 use Rattle.lasso_columns.specs.declared.faults.LineError.TheVariants.{Refused}
 use Rattle.lasso_counts.specs.Counts.{AreCounts, counted_texts, ranked_cmp}
 use Rattle.lasso_counts.proofs.Counted.{counts_none}
-use Rattle.lasso_codes.specs.Counts.{count_line, CountingFault, CountsEnd, IsBegun}
-use Rattle.lasso_codes.specs.Fault.{IsReadFault, IsWriteEnd}
+use Rattle.lasso_codes.specs.Counts.{count_line, CountingError, CountsEnd, IsBegun}
+use Rattle.lasso_codes.specs.Errors.{IsReadError, IsWriteEnd}
 use Rattle.lasso_codes.specs.Stages.{Counting}
 use Rattle.lasso_codes.specs.Streams.{WritesAll}
-use Rattle.lasso_codes.specs.declared.fault.RunFault.{RunFault}
-use Rattle.lasso_codes.specs.declared.fault.RunFault.TheVariants.{Line, TooManyLines, ReadFailed, WriteFailed, ReaderGone, Column}
+use Rattle.lasso_codes.specs.declared.error.RunError.{RunError}
+use Rattle.lasso_codes.specs.declared.error.RunError.TheVariants.{Line, TooManyLines, ReadFailed, WriteFailed, ReaderGone, Column}
 use Rattle.lasso_codes.proofs.Taken.{taken_none, taken_push, taken_all, taken_first, taken_next}
 
 pub counting_none : (input : List ℕ) (old : InternerView) (counts : List ℕ) → old.texts ≡ [] → counts ≡ [] → Counting input input 1 old old counts
@@ -54,21 +54,21 @@ module _ (input rest : List ℕ) (number : ℕ) (old now : InternerView) (counts
       let all : lines_of input ≡ so_far.done = taken_all input rest number so_far.done so_far.taken none in
       (subst (λ (ls : List Text). All IsUtf8 ls) (sym all) so_far.taken.texts, subst (λ (ls : List Text). AreCounts ls now.texts counts) (sym all) so_far.counted)
 
-  pub counting_read_fails : (limit : ℕ) (fault : RunFault) → IsReadFault number fault → CountingFault limit (lines_of input) fault
+  pub counting_read_fails : (limit : ℕ) (error : RunError) → IsReadError number error → CountingError limit (lines_of input) error
   counting_read_fails limit (Line error) is = (length so_far.done, inr (inl (is ∙ ap (λ n. Refused n FailedAllocation) (sym so_far.taken.counted))))
   counting_read_fails limit TooManyLines is = absurd is
   counting_read_fails limit ReadFailed is = tt
   counting_read_fails limit WriteFailed is = absurd is
   counting_read_fails limit ReaderGone is = absurd is
-  counting_read_fails limit (Column column fault) is = absurd is
+  counting_read_fails limit (Column column error) is = absurd is
 
-  -- the next line is faulty
-  pub counting_line_fails : (limit : ℕ) (line left : List ℕ) (error : LineError) → old ≡ made_with 4096 limit → lines_of rest ≡ line ∷ lines_of left → IsFaultOf now line number error → CountingFault limit (lines_of input) (Line error)
-  counting_line_fails limit line left error made cut fault =
+  -- the next line is refused or not UTF-8
+  pub counting_line_fails : (limit : ℕ) (line left : List ℕ) (error : LineError) → old ≡ made_with 4096 limit → lines_of rest ≡ line ∷ lines_of left → IsFaultOf now line number error → CountingError limit (lines_of input) (Line error)
+  counting_line_fails limit line left error made cut is =
       let list : extend spur_at (made_with 4096 limit) so_far.done accepted now = subst (λ (i : InternerView). extend spur_at i so_far.done accepted now) made so_far.list in
       let first : extend spur_at (made_with 4096 limit) (take (length so_far.done) (lines_of input)) accepted now =
       subst (λ (ls : List Text). extend spur_at (made_with 4096 limit) ls accepted now) (sym (taken_first input rest number so_far.done so_far.taken)) list in
-      let faulty : IsFaultOf now line (length so_far.done + 1) error = subst (λ n. IsFaultOf now line n error) (sym so_far.taken.counted) fault in
+      let faulty : IsFaultOf now line (length so_far.done + 1) error = subst (λ n. IsFaultOf now line n error) (sym so_far.taken.counted) is in
       let next : IsSomeAnd (slice_get (lines_of input) (length so_far.done)) (λ l. IsFaultOf now l (length so_far.done + 1) error) =
       subst (λ o. IsSomeAnd o (λ l. IsFaultOf now l (length so_far.done + 1) error)) (sym (taken_next input rest number so_far.done line (lines_of left) so_far.taken cut)) faulty in
       (length so_far.done, inr (inr (now, first, next)))
@@ -89,9 +89,9 @@ pub lines_push : {X : Type 0} (see : X → ℕ × Text) (xs : List X) (i : ℕ) 
 lines_push see xs i d small =
     ap (λ ys. flat_map count_line (map see ys)) (take_more xs i d small) ∙ both_parts see (take i xs) (get_or xs i d)
 
--- a ranked line is written in part
-pub lines_fail : {X : Type 0} (see : X → ℕ × Text) (xs : List X) (i : ℕ) (d : X) (part more : List ℕ) (fault : RunFault) → i < length xs → part ≡ flat_map count_line (map see (take i xs)) → WritesAll (count_line (see (get_or xs i d))) (Err fault) more → WritesAll (flat_map count_line (map see xs)) (Err fault) (part ++ more)
-lines_fail see xs i d part more fault small so_far written =
+-- a part of a ranked line is written
+pub lines_fail : {X : Type 0} (see : X → ℕ × Text) (xs : List X) (i : ℕ) (d : X) (part more : List ℕ) (error : RunError) → i < length xs → part ≡ flat_map count_line (map see (take i xs)) → WritesAll (count_line (see (get_or xs i d))) (Err error) more → WritesAll (flat_map count_line (map see xs)) (Err error) (part ++ more)
+lines_fail see xs i d part more error small so_far written =
     let one = count_line (see (get_or xs i d)) in
     let rest = flat_map count_line (map see (drop (i + 1) xs)) in
     let front : flat_map count_line (map see (take (i + 1) xs)) ≡ part ++ one = lines_push see xs i d small ∙ ap (λ bs. bs ++ one) (sym so_far) in
@@ -100,27 +100,27 @@ lines_fail see xs i d part more fault small so_far written =
     (written.0, (written.1.0 ++ rest, whole ∙ ap (λ bs. bs ++ rest) (front ∙ grown) ∙ append_assoc (part ++ more) written.1.0 rest))
 
 -- a report is written, or a beginning of it
-pub report_written : (input : List ℕ) (limit top : ℕ) (ranked : List (ℕ × Text)) (part : List ℕ) (result : Result (Unit {0}) RunFault) → All IsUtf8 (lines_of input) → IsPermutation (counted_texts (lines_of input)) ranked → IsSorted ranked_cmp ranked → sum_by (λ pair. pair.0) ranked ≡ length (lines_of input) → WritesAll (flat_map count_line (take top ranked)) result part → CountsEnd input limit top part result
+pub report_written : (input : List ℕ) (limit top : ℕ) (ranked : List (ℕ × Text)) (part : List ℕ) (result : Result (Unit {0}) RunError) → All IsUtf8 (lines_of input) → IsPermutation (counted_texts (lines_of input)) ranked → IsSorted ranked_cmp ranked → sum_by (λ pair. pair.0) ranked ≡ length (lines_of input) → WritesAll (flat_map count_line (take top ranked)) result part → CountsEnd input limit top part result
 report_written input limit top ranked part (Ok x) texts order sorted total written = (texts, (ranked, order, sorted, total, written))
 report_written input limit top ranked part (Err (Line error)) texts order sorted total written = absurd written.0
 report_written input limit top ranked part (Err TooManyLines) texts order sorted total written = absurd written.0
 report_written input limit top ranked part (Err ReadFailed) texts order sorted total written = absurd written.0
 report_written input limit top ranked part (Err WriteFailed) texts order sorted total written = inr (flat_map count_line (take top ranked), (ranked, order, sorted, total, refl), written.1)
 report_written input limit top ranked part (Err ReaderGone) texts order sorted total written = inr (flat_map count_line (take top ranked), (ranked, order, sorted, total, refl), written.1)
-report_written input limit top ranked part (Err (Column column fault)) texts order sorted total written = absurd written.0
+report_written input limit top ranked part (Err (Column column error)) texts order sorted total written = absurd written.0
 
 -- lines were not counted, and nothing is written
-pub none_written : (input : List ℕ) (limit top : ℕ) (fault : RunFault) → CountingFault limit (lines_of input) fault → CountsEnd input limit top [] (Err fault)
+pub none_written : (input : List ℕ) (limit top : ℕ) (error : RunError) → CountingError limit (lines_of input) error → CountsEnd input limit top [] (Err error)
 none_written input limit top (Line error) is = (refl, is)
 none_written input limit top TooManyLines is = refl
 none_written input limit top ReadFailed is = refl
 none_written input limit top WriteFailed is = absurd is
 none_written input limit top ReaderGone is = absurd is
-none_written input limit top (Column column fault) is = absurd is
+none_written input limit top (Column column error) is = absurd is
 
--- there was no memory at no line
-pub unmade : (limit : ℕ) (lines : List Text) (fault : RunFault) → fault ≡ Line (Refused 0 FailedAllocation) → CountingFault limit lines fault
-unmade limit lines fault is = subst (CountingFault limit lines) (sym is) (0, inl refl)
+-- out of memory outside of a line
+pub unmade : (limit : ℕ) (lines : List Text) (error : RunError) → error ≡ Line (Refused 0 FailedAllocation) → CountingError limit lines error
+unmade limit lines error is = subst (CountingError limit lines) (sym is) (0, inl refl)
 
 take_least : {X : Type 0} (xs : List X) (top : ℕ) → take (min (length xs) top) xs ≡ take top xs
 take_least xs top = elim (cases_order (length xs) top) [
@@ -129,30 +129,30 @@ take_least xs top = elim (cases_order (length xs) top) [
   | inr (inr more) ↦ let least : min (length xs) top ≡ top = omega (arith, more) in ap (λ n. take n xs) least
 ]
 
--- the first so many, as the code cuts them out
+-- the first `top` lines, as the code cuts them out
 pub first_ranked : {X : Type 0} (see : X → ℕ × Text) (xs whole : List X) (top most : ℕ) → most ≡ min (length xs) top → whole ≡ xs → map see (take most whole) ≡ take top (map see xs)
 first_ranked see xs whole top most is same =
     ap (λ n. map see (take n whole)) is ∙ ap (λ ys. map see (take (min (length xs) top) ys)) same ∙ ap (map see) (take_least xs top) ∙ sym (take-map see top xs)
 
-end_begun : (input : List ℕ) (limit top : ℕ) (part : List ℕ) (result : Result (Unit {0}) RunFault) → CountsEnd input limit top part result → IsBegun (lines_of input) top part
+end_begun : (input : List ℕ) (limit top : ℕ) (part : List ℕ) (result : Result (Unit {0}) RunError) → CountsEnd input limit top part result → IsBegun (lines_of input) top part
 end_begun input limit top part (Ok x) end = inr (part, end.1, ([], sym (append-nil part)))
 end_begun input limit top part (Err (Line error)) end = inl end.0
 end_begun input limit top part (Err TooManyLines) end = inl end
 end_begun input limit top part (Err ReadFailed) end = inl end
 end_begun input limit top part (Err WriteFailed) end = end
 end_begun input limit top part (Err ReaderGone) end = end
-end_begun input limit top part (Err (Column column fault)) end = absurd end
+end_begun input limit top part (Err (Column column error)) end = absurd end
 
-write_end : (input : List ℕ) (limit top : ℕ) (part : List ℕ) (result : Result (Unit {0}) RunFault) → IsBegun (lines_of input) top part → IsWriteEnd result → CountsEnd input limit top part result
+write_end : (input : List ℕ) (limit top : ℕ) (part : List ℕ) (result : Result (Unit {0}) RunError) → IsBegun (lines_of input) top part → IsWriteEnd result → CountsEnd input limit top part result
 write_end input limit top part (Ok x) begun is = absurd is
 write_end input limit top part (Err (Line error)) begun is = absurd is
 write_end input limit top part (Err TooManyLines) begun is = absurd is
 write_end input limit top part (Err ReadFailed) begun is = absurd is
 write_end input limit top part (Err WriteFailed) begun is = begun
 write_end input limit top part (Err ReaderGone) begun is = begun
-write_end input limit top part (Err (Column column fault)) begun is = absurd is
+write_end input limit top part (Err (Column column error)) begun is = absurd is
 
--- a run that ends as it did, or with a failed flush
-pub end_then : (input : List ℕ) (limit top : ℕ) (part : List ℕ) (given result : Result (Unit {0}) RunFault) → CountsEnd input limit top part given → (result ≡ given) ⊎ IsWriteEnd result → CountsEnd input limit top part result
+-- the run ends as it did before the flush, or with the error of the flush
+pub end_then : (input : List ℕ) (limit top : ℕ) (part : List ℕ) (given result : Result (Unit {0}) RunError) → CountsEnd input limit top part given → (result ≡ given) ⊎ IsWriteEnd result → CountsEnd input limit top part result
 end_then input limit top part given result end (inl same) = subst (CountsEnd input limit top part) (sym same) end
 end_then input limit top part given result end (inr is) = write_end input limit top part result (end_begun input limit top part given end) is

@@ -1,7 +1,7 @@
 -- Numbers as decimal digits, written and read.
 --
--- The digits of a number are read back as the number: they are at most 20, each is a digit, and the value after each is at most that of
--- all, which is below 2 ^ 64. None of them is a space, a line feed or a minus sign.
+-- The digits of a number are read back as the number: there are at most 20, and the value after each digit is
+-- at most that of all, which is below 2 ^ 64. None of them is a space, a line feed or a minus sign.
 use Rattle.std.proofs.Common.{ℕ, ◌≡◌, ◌+◌, ◌-◌, ◌*◌, ◌^◌, ◌<◌, ◌≤◌, ◌==◌, true, false, cond, ◌&&◌, List, [], ◌∷◌, length, Option, Some, None, refl, ap, ◌∙◌, arith}
 use Rattle.std.specs.Prelude.{decimal, nat_le, nat_lt, bytes_eq}
 use Rattle.std.specs.Char.{digit_value}
@@ -58,7 +58,7 @@ pub lacks_feed : (bytes : List ℕ) → Lacks 10 bytes → NoFeed bytes
 lacks_feed [] lacks = tt
 lacks_feed (b ∷ bytes) lacks = (lacks.0, lacks_feed bytes lacks.1)
 
--- the digits are no minus sign
+-- the digits are not a minus sign
 pub no_minus : (ds : List ℕ) → Lacks 45 ds → bytes_eq ds (45 ∷ []) ≡ false
 no_minus [] lacks = refl
 no_minus (c ∷ cs) lacks = ap (λ b. b && bytes_eq cs []) lacks.0

@@ -1,8 +1,9 @@
 -- The distinct lines, written one after another.
 --
--- The report of lines and one more is the report of the lines, and that line behind it where no line before was the same: the list of
--- the interner is that of the distinct lines so far. So the report of first lines begins the report of all, and what is written after
--- each line is the report so far. A run that ends early has written the report of the lines before, or a beginning of it.
+-- One more line leaves the report as it is, or appends the line if no line before was the same: the
+-- interner's list is that of the distinct lines so far. So the report of the first lines is a beginning of
+-- the report of all, and what is written after each line is the report so far. A run that ends early has
+-- written the report of the lines before, or a beginning of it.
 use Rattle.std.proofs.Common.{ℕ, ◌≡◌, ◌+◌, List, [], ◌∷◌, ◌++◌, length, take, drop, Bool, true, false, cond, is_some, Result, Ok, Err, ◌⊎◌, refl, sym, ap, subst, ◌∙◌, append_assoc, inl, inr}
 use Rattle.std.specs.Prelude.{flat_map, All, slice_get, IsSomeAnd}
 use Rattle.std.specs.Str.{IsUtf8}
@@ -20,12 +21,12 @@ use Rattle.lasso_columns.specs.Parts.{new_texts}
 use Rattle.lasso_columns.specs.declared.faults.LineError.TheVariants.{Refused}
 use Rattle.lasso_parts.specs.declared.util.LassoErrorKind.TheVariants.{FailedAllocation}
 use Rattle.lasso_counts.proofs.Counted.{list_push}
-use Rattle.lasso_codes.specs.Distinct.{with_feed, distinct_report, passed, PassFault, DistinctEnd}
-use Rattle.lasso_codes.specs.Fault.{IsReadFault, IsWriteFault, IsWriteEnd}
+use Rattle.lasso_codes.specs.Distinct.{with_feed, distinct_report, passed, PassError, DistinctEnd}
+use Rattle.lasso_codes.specs.Errors.{IsReadError, IsWriteError, IsWriteEnd}
 use Rattle.lasso_codes.specs.Stages.{OnTheWay}
 use Rattle.lasso_codes.specs.Streams.{Begins}
-use Rattle.lasso_codes.specs.declared.fault.RunFault.{RunFault}
-use Rattle.lasso_codes.specs.declared.fault.RunFault.TheVariants.{Line, TooManyLines, ReadFailed, WriteFailed, ReaderGone, Column}
+use Rattle.lasso_codes.specs.declared.error.RunError.{RunError}
+use Rattle.lasso_codes.specs.declared.error.RunError.TheVariants.{Line, TooManyLines, ReadFailed, WriteFailed, ReaderGone, Column}
 use Rattle.lasso_codes.proofs.Taken.{taken_none, taken_push, taken_all, taken_first, taken_next}
 
 -- ---- the report of one line more
@@ -93,27 +94,27 @@ module _ (input : List ℕ) (limit : ℕ) (rest : List ℕ) (number : ℕ) (now 
       let all : lines_of input ≡ way.done = taken_all input rest number way.done way.taken none in
       (subst (λ (ls : List Text). All IsUtf8 ls) (sym all) way.taken.texts, way.part_is ∙ ap distinct_report (sym all))
 
-  -- there are more lines than numbers
+  -- there are more lines than `usize` can number
   pub way_many : DistinctEnd input limit part (Err TooManyLines)
   way_many = (length way.done, way_first)
 
-  pub way_read_fails : (fault : RunFault) → IsReadFault number fault → DistinctEnd input limit part (Err fault)
+  pub way_read_fails : (error : RunError) → IsReadError number error → DistinctEnd input limit part (Err error)
   way_read_fails (Line error) is = (length way.done, way_first, inr (inl (is ∙ ap (λ n. Refused n FailedAllocation) (sym number_is))))
   way_read_fails TooManyLines is = absurd is
   way_read_fails ReadFailed is = (length way.done, way_first)
   way_read_fails WriteFailed is = absurd is
   way_read_fails ReaderGone is = absurd is
-  way_read_fails (Column column fault) is = absurd is
+  way_read_fails (Column column error) is = absurd is
 
-  pub way_write_fails : (fault : RunFault) → IsWriteFault fault → DistinctEnd input limit part (Err fault)
+  pub way_write_fails : (error : RunError) → IsWriteError error → DistinctEnd input limit part (Err error)
   way_write_fails (Line error) is = absurd is
   way_write_fails TooManyLines is = absurd is
   way_write_fails ReadFailed is = absurd is
   way_write_fails WriteFailed is = way_begins
   way_write_fails ReaderGone is = way_begins
-  way_write_fails (Column column fault) is = absurd is
+  way_write_fails (Column column error) is = absurd is
 
-  -- the next line is faulty, or was written in part
+  -- the next line is refused or not UTF-8, or a part of it was written
   passed_begins : (line more : List ℕ) (left : List (List ℕ)) → lines_of rest ≡ line ∷ left → Begins more (passed now.texts line) → Begins (part ++ more) (distinct_report (lines_of input))
   passed_begins line more left cut b =
       let pushed : distinct_report (way.done ++ line ∷ []) ≡ part ++ passed now.texts line =
@@ -123,7 +124,7 @@ module _ (input : List ℕ) (limit : ℕ) (rest : List ℕ) (number : ℕ) (now 
       begins_then (part ++ more) (distinct_report (way.done ++ line ∷ [])) (distinct_report (lines_of input)) there
       (subst (λ (ls : List Text). Begins (distinct_report (way.done ++ line ∷ [])) (distinct_report ls)) whole (report_begins (way.done ++ line ∷ []) left))
 
-  pub way_pass_fails : (line more left : List ℕ) (fault : RunFault) → lines_of rest ≡ line ∷ lines_of left → PassFault now line number more fault → DistinctEnd input limit (part ++ more) (Err fault)
+  pub way_pass_fails : (line more left : List ℕ) (error : RunError) → lines_of rest ≡ line ∷ lines_of left → PassError now line number more error → DistinctEnd input limit (part ++ more) (Err error)
   way_pass_fails line more left (Line error) cut is =
       let same : part ++ more ≡ part = ap (λ bs. part ++ bs) is.0 ∙ append-nil part in
       let so_far : extend spur_at (made_with 4096 limit) (take (length way.done) (lines_of input)) accepted now =
@@ -136,34 +137,34 @@ module _ (input : List ℕ) (limit : ℕ) (rest : List ℕ) (number : ℕ) (now 
   way_pass_fails line more left ReadFailed cut is = absurd is
   way_pass_fails line more left WriteFailed cut is = passed_begins line more (lines_of left) cut is
   way_pass_fails line more left ReaderGone cut is = passed_begins line more (lines_of left) cut is
-  way_pass_fails line more left (Column column fault) cut is = absurd is
+  way_pass_fails line more left (Column column error) cut is = absurd is
 
 -- ---- the end
 
 -- there was no memory for the interner
-pub end_unmade : (input : List ℕ) (limit : ℕ) (fault : RunFault) → fault ≡ Line (Refused 0 FailedAllocation) → DistinctEnd input limit [] (Err fault)
-end_unmade input limit fault is = subst (λ f. DistinctEnd input limit [] (Err f)) (sym is) (0, refl, inl refl)
+pub end_unmade : (input : List ℕ) (limit : ℕ) (error : RunError) → error ≡ Line (Refused 0 FailedAllocation) → DistinctEnd input limit [] (Err error)
+end_unmade input limit error is = subst (λ f. DistinctEnd input limit [] (Err f)) (sym is) (0, refl, inl refl)
 
 -- what is written when the last flush fails is a beginning
-end_begins : (input : List ℕ) (limit : ℕ) (part : List ℕ) (result : Result (Unit {0}) RunFault) → DistinctEnd input limit part result → Begins part (distinct_report (lines_of input))
+end_begins : (input : List ℕ) (limit : ℕ) (part : List ℕ) (result : Result (Unit {0}) RunError) → DistinctEnd input limit part result → Begins part (distinct_report (lines_of input))
 end_begins input limit part (Ok x) end = ([], sym end.1 ∙ sym (append-nil part))
 end_begins input limit part (Err (Line error)) end = first_begins (lines_of input) end.0 part end.1
 end_begins input limit part (Err TooManyLines) end = first_begins (lines_of input) end.0 part end.1
 end_begins input limit part (Err ReadFailed) end = first_begins (lines_of input) end.0 part end.1
 end_begins input limit part (Err WriteFailed) end = end
 end_begins input limit part (Err ReaderGone) end = end
-end_begins input limit part (Err (Column column fault)) end = absurd end
+end_begins input limit part (Err (Column column error)) end = absurd end
 
-write_end : (input : List ℕ) (limit : ℕ) (part : List ℕ) (result : Result (Unit {0}) RunFault) → Begins part (distinct_report (lines_of input)) → IsWriteEnd result → DistinctEnd input limit part result
+write_end : (input : List ℕ) (limit : ℕ) (part : List ℕ) (result : Result (Unit {0}) RunError) → Begins part (distinct_report (lines_of input)) → IsWriteEnd result → DistinctEnd input limit part result
 write_end input limit part (Ok x) begun is = absurd is
 write_end input limit part (Err (Line error)) begun is = absurd is
 write_end input limit part (Err TooManyLines) begun is = absurd is
 write_end input limit part (Err ReadFailed) begun is = absurd is
 write_end input limit part (Err WriteFailed) begun is = begun
 write_end input limit part (Err ReaderGone) begun is = begun
-write_end input limit part (Err (Column column fault)) begun is = absurd is
+write_end input limit part (Err (Column column error)) begun is = absurd is
 
--- a run that ends as it did, or with a failed flush
-pub end_then : (input : List ℕ) (limit : ℕ) (part : List ℕ) (given result : Result (Unit {0}) RunFault) → DistinctEnd input limit part given → (result ≡ given) ⊎ IsWriteEnd result → DistinctEnd input limit part result
+-- the run ends as it did before the flush, or with the error of the flush
+pub end_then : (input : List ℕ) (limit : ℕ) (part : List ℕ) (given result : Result (Unit {0}) RunError) → DistinctEnd input limit part given → (result ≡ given) ⊎ IsWriteEnd result → DistinctEnd input limit part result
 end_then input limit part given result end (inl same) = subst (DistinctEnd input limit part) (sym same) end
 end_then input limit part given result end (inr is) = write_end input limit part result (end_begins input limit part given end) is

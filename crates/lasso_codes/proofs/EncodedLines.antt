@@ -1,8 +1,9 @@
 -- Lines that were encoded one after another, and their column.
 --
--- A number is that of a null, or the position of its line in the list. The list only grows at its end, so a position stays that of its
--- line, and the numbers stand for the entries of the lines. Where nothing of the input is left all lines were encoded, and the list is
--- their dictionary. The column is written after that, from the front: what was written when a write fails is a beginning of it.
+-- A number is that of a null, or the position of its line in the list. The list only grows at its end, so
+-- positions stay the same, and the numbers are those of the entries of the lines. If nothing of the input is
+-- left, all lines were encoded, and the list is their dictionary. The column is written after that, from its
+-- start, so what was written when a write fails is a beginning of it.
 use Rattle.std.proofs.Common.{ℕ, ◌≡◌, ◌+◌, ◌^◌, ◌<◌, ◌≤◌, ◌==◌, Bool, true, false, not, cond, List, [], ◌∷◌, ◌++◌, length, map, take, is_some, Option, Some, None, ◌⊎◌, Result, Ok, Err, refl, sym, ap, subst, ◌∙◌, arith, inl, inr}
 use Rattle.std.specs.Prelude.{All, slice_get, IsSomeAnd}
 use Rattle.std.specs.Str.{IsUtf8}
@@ -24,12 +25,12 @@ use Rattle.lasso_columns.specs.Parts.{new_texts}
 use Rattle.lasso_columns.specs.declared.faults.LineError.{LineError}
 use Rattle.lasso_columns.specs.declared.faults.LineError.TheVariants.{Refused}
 use Rattle.lasso_codes.specs.Columns.{is_null, texts_of, dictionary_of, entry_of, entry_at, column_of, column_bytes}
-use Rattle.lasso_codes.specs.Encode.{IsNumberedAs, IsNumbered, AreNumbered, AreCodable, EncodingFault, EncodeEnd}
-use Rattle.lasso_codes.specs.Fault.{IsReadFault, IsWriteEnd}
+use Rattle.lasso_codes.specs.Encode.{IsNumberedAs, IsNumbered, AreNumbered, AreCodable, EncodingError, EncodeEnd}
+use Rattle.lasso_codes.specs.Errors.{IsReadError, IsWriteEnd}
 use Rattle.lasso_codes.specs.Stages.{IsEntryAs, AreEntries, Encoding}
 use Rattle.lasso_codes.specs.Streams.{Begins, WritesAll}
-use Rattle.lasso_codes.specs.declared.fault.RunFault.{RunFault}
-use Rattle.lasso_codes.specs.declared.fault.RunFault.TheVariants.{Line, TooManyLines, ReadFailed, WriteFailed, ReaderGone, Column}
+use Rattle.lasso_codes.specs.declared.error.RunError.{RunError}
+use Rattle.lasso_codes.specs.declared.error.RunError.TheVariants.{Line, TooManyLines, ReadFailed, WriteFailed, ReaderGone, Column}
 use Rattle.lasso_codes.proofs.FewTexts.{few_texts}
 use Rattle.lasso_codes.proofs.Taken.{taken_none, taken_push, taken_all, taken_first, taken_next}
 
@@ -45,7 +46,7 @@ entries_longer null list last [] (n ∷ ns) are = are
 entries_longer null list last (l ∷ ls) [] are = are
 entries_longer null list last (l ∷ ls) (n ∷ ns) are = (entry_stays (is_null null l) list last l n are.0, entries_longer null list last ls ns are.1)
 
--- they stay when another text goes last, or none
+-- they stay the same when a text is appended, or none
 entries_stay : (null : Option Text) (there : Bool) (list : List Text) (last : Text) (lines : List Text) (numbers : List ℕ) → AreEntries null list lines numbers → AreEntries null (cond there list (list ++ last ∷ [])) lines numbers
 entries_stay null true list last lines numbers are = are
 entries_stay null false list last lines numbers are = entries_longer null list last lines numbers are
@@ -136,38 +137,38 @@ module _ (input rest : List ℕ) (number : ℕ) (null : Option Text) (old now : 
         subst (λ (ls : List Text). AreNumbered null ls now.texts numbers) (sym all) (list, entries, few),
       )
 
-  pub encoding_read_fails : (limit : ℕ) (fault : RunFault) → IsReadFault number fault → EncodingFault limit null (lines_of input) fault
+  pub encoding_read_fails : (limit : ℕ) (error : RunError) → IsReadError number error → EncodingError limit null (lines_of input) error
   encoding_read_fails limit (Line error) is = (length so_far.done, inr (inl (is ∙ ap (λ n. Refused n FailedAllocation) (sym so_far.taken.counted))))
   encoding_read_fails limit TooManyLines is = absurd is
   encoding_read_fails limit ReadFailed is = tt
   encoding_read_fails limit WriteFailed is = absurd is
   encoding_read_fails limit ReaderGone is = absurd is
-  encoding_read_fails limit (Column column fault) is = absurd is
+  encoding_read_fails limit (Column column error) is = absurd is
 
-  -- the next line is faulty
-  pub encoding_line_fails : (limit : ℕ) (line left : List ℕ) (error : LineError) → old ≡ made_with 4096 limit → lines_of rest ≡ line ∷ lines_of left → IsFaultOf now line number error → EncodingFault limit null (lines_of input) (Line error)
-  encoding_line_fails limit line left error made cut fault =
+  -- the next line is refused or not UTF-8
+  pub encoding_line_fails : (limit : ℕ) (line left : List ℕ) (error : LineError) → old ≡ made_with 4096 limit → lines_of rest ≡ line ∷ lines_of left → IsFaultOf now line number error → EncodingError limit null (lines_of input) (Line error)
+  encoding_line_fails limit line left error made cut is =
       let list : extend spur_at (made_with 4096 limit) (texts_of null so_far.done) accepted now = subst (λ (i : InternerView). extend spur_at i (texts_of null so_far.done) accepted now) made so_far.list in
       let first : extend spur_at (made_with 4096 limit) (texts_of null (take (length so_far.done) (lines_of input))) accepted now =
       subst (λ (ls : List Text). extend spur_at (made_with 4096 limit) (texts_of null ls) accepted now) (sym (taken_first input rest number so_far.done so_far.taken)) list in
-      let faulty : IsFaultOf now line (length so_far.done + 1) error = subst (λ n. IsFaultOf now line n error) (sym so_far.taken.counted) fault in
+      let faulty : IsFaultOf now line (length so_far.done + 1) error = subst (λ n. IsFaultOf now line n error) (sym so_far.taken.counted) is in
       let next : IsSomeAnd (slice_get (lines_of input) (length so_far.done)) (λ l. IsFaultOf now l (length so_far.done + 1) error) =
       subst (λ o. IsSomeAnd o (λ l. IsFaultOf now l (length so_far.done + 1) error)) (sym (taken_next input rest number so_far.done line (lines_of left) so_far.taken cut)) faulty in
       (length so_far.done, inr (inr (now, first, next)))
 
 -- ---- the column
 
-written_end : (input : List ℕ) (limit : ℕ) (null : Option Text) (binary : Bool) (part : List ℕ) (result : Result (Unit {0}) RunFault) → All IsUtf8 (lines_of input) → AreCodable null (lines_of input) → WritesAll (column_bytes binary null (lines_of input)) result part → EncodeEnd input limit null binary part result
+written_end : (input : List ℕ) (limit : ℕ) (null : Option Text) (binary : Bool) (part : List ℕ) (result : Result (Unit {0}) RunError) → All IsUtf8 (lines_of input) → AreCodable null (lines_of input) → WritesAll (column_bytes binary null (lines_of input)) result part → EncodeEnd input limit null binary part result
 written_end input limit null binary part (Ok x) texts few written = (texts, written, few)
 written_end input limit null binary part (Err (Line error)) texts few written = absurd written.0
 written_end input limit null binary part (Err TooManyLines) texts few written = absurd written.0
 written_end input limit null binary part (Err ReadFailed) texts few written = absurd written.0
 written_end input limit null binary part (Err WriteFailed) texts few written = written.1
 written_end input limit null binary part (Err ReaderGone) texts few written = written.1
-written_end input limit null binary part (Err (Column column fault)) texts few written = absurd written.0
+written_end input limit null binary part (Err (Column column error)) texts few written = absurd written.0
 
 -- a column is written, or a beginning of it
-pub column_written : (input : List ℕ) (limit : ℕ) (null : Option Text) (binary : Bool) (list : List Text) (numbers : List ℕ) (part : List ℕ) (result : Result (Unit {0}) RunFault) → All IsUtf8 (lines_of input) → AreNumbered null (lines_of input) list numbers → length numbers < 2 ^ 64 → WritesAll (column_of binary list (map entry_at numbers)) result part → EncodeEnd input limit null binary part result
+pub column_written : (input : List ℕ) (limit : ℕ) (null : Option Text) (binary : Bool) (list : List Text) (numbers : List ℕ) (part : List ℕ) (result : Result (Unit {0}) RunError) → All IsUtf8 (lines_of input) → AreNumbered null (lines_of input) list numbers → length numbers < 2 ^ 64 → WritesAll (column_of binary list (map entry_at numbers)) result part → EncodeEnd input limit null binary part result
 column_written input limit null binary list numbers part result texts are many written =
     let lines = lines_of input in
     let dictionary = dictionary_of null lines in
@@ -178,40 +179,40 @@ column_written input limit null binary list numbers part result texts are many w
     written_end input limit null binary part result texts (few, subst (λ n. n < 2 ^ 64) count many) (subst (λ bs. WritesAll bs result part) whole written)
 
 -- lines were not encoded, and nothing is written
-pub none_written : (input : List ℕ) (limit : ℕ) (null : Option Text) (binary : Bool) (fault : RunFault) → EncodingFault limit null (lines_of input) fault → EncodeEnd input limit null binary [] (Err fault)
+pub none_written : (input : List ℕ) (limit : ℕ) (null : Option Text) (binary : Bool) (error : RunError) → EncodingError limit null (lines_of input) error → EncodeEnd input limit null binary [] (Err error)
 none_written input limit null binary (Line error) is = (refl, is)
 none_written input limit null binary TooManyLines is = refl
 none_written input limit null binary ReadFailed is = refl
 none_written input limit null binary WriteFailed is = absurd is
 none_written input limit null binary ReaderGone is = absurd is
-none_written input limit null binary (Column column fault) is = absurd is
+none_written input limit null binary (Column column error) is = absurd is
 
--- there was no memory at no line
-pub unmade : (limit : ℕ) (null : Option Text) (lines : List Text) (fault : RunFault) → fault ≡ Line (Refused 0 FailedAllocation) → EncodingFault limit null lines fault
-unmade limit null lines fault is = subst (EncodingFault limit null lines) (sym is) (0, inl refl)
+-- out of memory outside of a line
+pub unmade : (limit : ℕ) (null : Option Text) (lines : List Text) (error : RunError) → error ≡ Line (Refused 0 FailedAllocation) → EncodingError limit null lines error
+unmade limit null lines error is = subst (EncodingError limit null lines) (sym is) (0, inl refl)
 
 nothing_begins : (part whole : List ℕ) → part ≡ [] → Begins part whole
 nothing_begins part whole none = (whole, ap (λ bs. bs ++ whole) (sym none))
 
-end_begun : (input : List ℕ) (limit : ℕ) (null : Option Text) (binary : Bool) (part : List ℕ) (result : Result (Unit {0}) RunFault) → EncodeEnd input limit null binary part result → Begins part (column_bytes binary null (lines_of input))
+end_begun : (input : List ℕ) (limit : ℕ) (null : Option Text) (binary : Bool) (part : List ℕ) (result : Result (Unit {0}) RunError) → EncodeEnd input limit null binary part result → Begins part (column_bytes binary null (lines_of input))
 end_begun input limit null binary part (Ok x) end = ([], sym end.1 ∙ sym (append-nil part))
 end_begun input limit null binary part (Err (Line error)) end = nothing_begins part (column_bytes binary null (lines_of input)) end.0
 end_begun input limit null binary part (Err TooManyLines) end = nothing_begins part (column_bytes binary null (lines_of input)) end
 end_begun input limit null binary part (Err ReadFailed) end = nothing_begins part (column_bytes binary null (lines_of input)) end
 end_begun input limit null binary part (Err WriteFailed) end = end
 end_begun input limit null binary part (Err ReaderGone) end = end
-end_begun input limit null binary part (Err (Column column fault)) end = absurd end
+end_begun input limit null binary part (Err (Column column error)) end = absurd end
 
-write_end : (input : List ℕ) (limit : ℕ) (null : Option Text) (binary : Bool) (part : List ℕ) (result : Result (Unit {0}) RunFault) → Begins part (column_bytes binary null (lines_of input)) → IsWriteEnd result → EncodeEnd input limit null binary part result
+write_end : (input : List ℕ) (limit : ℕ) (null : Option Text) (binary : Bool) (part : List ℕ) (result : Result (Unit {0}) RunError) → Begins part (column_bytes binary null (lines_of input)) → IsWriteEnd result → EncodeEnd input limit null binary part result
 write_end input limit null binary part (Ok x) begun is = absurd is
 write_end input limit null binary part (Err (Line error)) begun is = absurd is
 write_end input limit null binary part (Err TooManyLines) begun is = absurd is
 write_end input limit null binary part (Err ReadFailed) begun is = absurd is
 write_end input limit null binary part (Err WriteFailed) begun is = begun
 write_end input limit null binary part (Err ReaderGone) begun is = begun
-write_end input limit null binary part (Err (Column column fault)) begun is = absurd is
+write_end input limit null binary part (Err (Column column error)) begun is = absurd is
 
--- a run that ends as it did, or with a failed flush
-pub end_then : (input : List ℕ) (limit : ℕ) (null : Option Text) (binary : Bool) (part : List ℕ) (given result : Result (Unit {0}) RunFault) → EncodeEnd input limit null binary part given → (result ≡ given) ⊎ IsWriteEnd result → EncodeEnd input limit null binary part result
+-- the run ends as it did before the flush, or with the error of the flush
+pub end_then : (input : List ℕ) (limit : ℕ) (null : Option Text) (binary : Bool) (part : List ℕ) (given result : Result (Unit {0}) RunError) → EncodeEnd input limit null binary part given → (result ≡ given) ⊎ IsWriteEnd result → EncodeEnd input limit null binary part result
 end_then input limit null binary part given result end (inl same) = subst (EncodeEnd input limit null binary part) (sym same) end
 end_then input limit null binary part given result end (inr is) = write_end input limit null binary part result (end_begun input limit null binary part given end) is

@@ -1,7 +1,8 @@
--- The first line of bytes, as a reader gives it: up to and including the first line feed.
+-- The first line of bytes, as a reader returns it: up to and including the first line feed.
 --
--- Bytes either have no line feed, and all of them are given; or they are a line without one, the first line feed and the rest, and
--- the line and the line feed are given. In both cases the line is what is given without a line feed at its end.
+-- If the bytes have no line feed, all of them are returned. Else they are a line, the first line feed and the
+-- rest, and the line and the line feed are returned. In both cases the line is what is returned, without a
+-- line feed at its end.
 use Rattle.std.proofs.Common.{ℕ, zero, suc, ◌≡◌, ◌+◌, ◌-◌, ◌<◌, ◌≤◌, ◌==◌, Bool, true, false, cond, List, [], ◌∷◌, ◌++◌, length, get_or, Option, Some, None, option_map, refl, sym, ap, subst, ◌∙◌, arith, ◌⊎◌, inl, inr}
 use Rattle.std.specs.Prelude.{IfSome}
 use Rattle.std.specs.Io.BufRead.{take_through, drop_through}
@@ -14,7 +15,7 @@ use Rattle.lasso_codes.specs.Streams.{cut_line, CutsLine, TakesLine}
 use Rattle.lasso_codes.specs.declared.input.Cut.{Cut}
 use Rattle.lasso_codes.specs.declared.input.Cut.TheVariants.{Whole, Part, End}
 
--- what is given of bytes, and what is left
+-- what is returned of bytes, and what is left
 pub data Gives (bytes : List ℕ) : Type 0 where
   ended : (front rest : List ℕ) → NoFeed front → bytes ≡ front ++ 10 ∷ rest → take_through 10 bytes ≡ front ++ 10 ∷ [] → drop_through 10 bytes ≡ rest → Gives bytes
   unended : NoFeed bytes → take_through 10 bytes ≡ bytes → drop_through 10 bytes ≡ [] → Gives bytes
@@ -69,20 +70,20 @@ pub takes_none : (before after : Option (List ℕ)) (line : List ℕ) → IsAtEn
 takes_none None after line end = λ bytes e. absurd (cc)
 takes_none (Some known) after line end = λ bytes e. let same : known ≡ bytes = cc in sym same ∙ end
 
--- what a call told of the lines, by its answer
+-- what a call says of the lines, by its result
 pub no_line : (before after : Option (List ℕ)) (is_line : Bool) (line : List ℕ) → TakesLine before after is_line line → is_line ≡ false → TakesLine before after false line
 no_line before after is_line line taken e = subst (λ b. TakesLine before after b line) e taken
 
 pub one_line : (before after : Option (List ℕ)) (is_line : Bool) (line : List ℕ) → TakesLine before after is_line line → is_line ≡ true → TakesLine before after true line
 one_line before after is_line line taken e = subst (λ b. TakesLine before after b line) e taken
 
--- something was given
+-- something was returned
 pub some_given : (len held n many : ℕ) → len ≡ held + n → len ≡ many → (n ≡ 0 → ⊥) → 0 < many
 some_given len held n many is count some = omega (arith, is, count, some)
 
 -- ---- a line that a line feed ends
 
--- a line without a line feed is cut off at the one that ends it
+-- a line without a line feed is cut off at the line feed after it
 pub cut_fed : (line rest : List ℕ) → NoFeed line → cut_line (line ++ 10 ∷ rest) ≡ Some (line, rest)
 cut_fed [] rest none = refl
 cut_fed (b ∷ line) rest none =
@@ -97,7 +98,7 @@ cut_open (b ∷ bytes) none =
     let onto : List ℕ × List ℕ → List ℕ × List ℕ = λ cut. (b ∷ cut.0, cut.1) in
     ap (λ t. cond t stop (option_map onto (cut_line bytes))) none.0 ∙ ap (option_map onto) (cut_open bytes none.1)
 
--- a line is shorter than what was given exactly where a line feed ended it
+-- a line is shorter than what was returned exactly if it ended with a line feed
 whole_of : (bytes got line : List ℕ) → Gives bytes → got ≡ take_through 10 bytes → ((front : List ℕ) → got ≡ front ++ 10 ∷ [] → line ≡ front) → (NoFeed got → line ≡ got) → length line < length got → cut_line bytes ≡ Some (line, drop_through 10 bytes)
 whole_of bytes got line (ended front rest none is taken left) got_is at_end at_open shorter =
     let line_is : line ≡ front = at_end front (got_is ∙ taken) in
@@ -137,11 +138,11 @@ pub cuts_none : (before after : Option (List ℕ)) (line : List ℕ) → IfSome 
 cuts_none None after line after_is end = λ bytes e. absurd (cc)
 cuts_none (Some known) after line after_is end = λ bytes e. let same : known ≡ bytes = cc in (after_is ∙ ap (λ bs. Some (drop_through 10 bs)) end, sym same ∙ end)
 
--- what a call told of the line, by its answer
+-- what a call says of the line, by its result
 pub cut_as : (before after : Option (List ℕ)) (cut other : Cut) (line : List ℕ) → CutsLine before after cut line → cut ≡ other → CutsLine before after other line
 cut_as before after cut other line cuts e = subst (λ c. CutsLine before after c line) e cuts
 
--- there was no line that a line feed ends
+-- there was no line that ends with a line feed
 pub no_cut : (before after : Option (List ℕ)) (cut : Cut) (line : List ℕ) → CutsLine before after cut line → (cut ≡ Part) ⊎ (cut ≡ End) → (bytes : List ℕ) → before ≡ Some bytes → (after ≡ Some []) × (cut_line bytes ≡ None)
 no_cut before after cut line cuts (inl is) bytes e = let told = cut_as before after cut Part line cuts is bytes e in (told.0, told.2)
 no_cut before after cut line cuts (inr is) bytes e = let told = cut_as before after cut End line cuts is bytes e in (told.0, ap cut_line told.1)

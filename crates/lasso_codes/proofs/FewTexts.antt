@@ -1,6 +1,6 @@
--- How many texts an interner has that a column is written from.
+-- The number of texts in the interner of a column.
 --
--- A text that goes last has a key at its position, which is below 4294967295. So there are at most that number of texts.
+-- A new text has the key of its position, which is below 4294967295. So there are at most that many texts.
 use Rattle.std.proofs.Common.{ℕ, ◌≡◌, ◌≤◌, cond, List, [], ◌∷◌, ◌++◌, length, is_some, Option, Some, None, Result, Ok, Err, MatchResult, sym, subst, arith}
 use Rattle.std.specs.Prelude.{unwrap_or}
 use Rattle.std.proofs.lemmas.List.{length_push}
@@ -26,7 +26,7 @@ few_more old mid new text texts (Ok key) interns rest few then =
     then (subst (λ (ts : List Text). length ts ≤ 4294967295) (sym list) (few_with old.texts text (position_of old.texts text) key interns.0.1 few)) rest
 few_more old mid new text texts (Err error) interns rest few then = let e = rest.0 in absurd (cc)
 
--- so many texts have codes
+-- this number of texts has codes
 pub few_texts : (old new : InternerView) (texts : List Text) → extend spur_at old texts accepted new → length old.texts ≤ 4294967295 → length new.texts ≤ 4294967295
 few_texts old new [] all few = subst (λ (i : InternerView). length i.texts ≤ 4294967295) (sym all.1) few
 few_texts old new (text ∷ texts) all few = few_more old all.1 new text texts all.0 all.2 all.3 few (λ mid rest. few_texts all.1 new texts rest mid)

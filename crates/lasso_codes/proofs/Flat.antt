@@ -1,15 +1,16 @@
 -- Items that are written one after another, each as some bytes.
 --
--- The bytes of the first items and of one more are those of the first, and its own after them. So after each item the bytes of the
--- items so far are written; and where an item is written in part, that is a beginning of the bytes of all.
+-- The bytes of the first items and one more are the bytes of the first items, and then its own. So after each
+-- item the bytes of the items so far are written. If a part of an item is written, that is a beginning of the
+-- bytes of all.
 use Rattle.std.proofs.Common.{ℕ, ◌≡◌, ◌+◌, List, [], ◌∷◌, ◌++◌, map, take, drop, Err, refl, sym, ap, ◌∙◌, append_assoc}
 use Rattle.std.specs.Prelude.{flat_map}
 use Rattle.std.proofs.lemmas.Grind.{flat_map-append}
 use Rattle.std.proofs.lemmas.List.{append-nil, take-append-drop}
 use Rattle.lasso_codes.specs.Streams.{WritesAll}
-use Rattle.lasso_codes.specs.declared.fault.RunFault.{RunFault}
+use Rattle.lasso_codes.specs.declared.error.RunError.{RunError}
 
--- the bytes of items that are seen as others
+-- the bytes of items that are mapped
 pub flat_seen : {X Y : Type 0} (f : Y → List ℕ) (see : X → Y) (xs : List X) → flat_map f (map see xs) ≡ flat_map (λ x. f (see x)) xs
 flat_seen f see [] = refl
 flat_seen f see (x ∷ xs) = ap (λ bs. f (see x) ++ bs) (flat_seen f see xs)
@@ -23,9 +24,9 @@ module _ {X : Type 0} (f : X → List ℕ) (xs : List X) (i : ℕ) (x : X) (next
   pub flat_then : (part more : List ℕ) → part ≡ flat_map f (take i xs) → more ≡ f x → part ++ more ≡ flat_map f (take (i + 1) xs)
   flat_then part more so_far is = ap (λ bs. bs ++ more) so_far ∙ ap (λ bs. flat_map f (take i xs) ++ bs) is ∙ sym flat_more
 
-  -- an item is written in part
-  pub flat_fails : (part more : List ℕ) (fault : RunFault) → part ≡ flat_map f (take i xs) → WritesAll (f x) (Err fault) more → WritesAll (flat_map f xs) (Err fault) (part ++ more)
-  flat_fails part more fault so_far written =
+  -- a part of an item is written
+  pub flat_fails : (part more : List ℕ) (error : RunError) → part ≡ flat_map f (take i xs) → WritesAll (f x) (Err error) more → WritesAll (flat_map f xs) (Err error) (part ++ more)
+  flat_fails part more error so_far written =
       let others = flat_map f (drop (i + 1) xs) in
       let front : flat_map f (take (i + 1) xs) ≡ part ++ f x = flat_more ∙ ap (λ bs. bs ++ f x) (sym so_far) in
       let whole : flat_map f xs ≡ flat_map f (take (i + 1) xs) ++ others = ap (λ ys. flat_map f ys) (sym (take-append-drop (i + 1) xs)) ∙ flat_map-append f (take (i + 1) xs) (drop (i + 1) xs) in

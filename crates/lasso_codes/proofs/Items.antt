@@ -1,23 +1,24 @@
--- Entries that are read one after another, and what each stands for.
+-- Entries that are read one after another, and the items that they stand for.
 --
--- What all entries stand for is what those before stand for, and what the others stand for after them. One more entry goes from the
--- others to those before. At a faulty entry those before are all, and the fault is that of all.
+-- The items of all entries are the items so far, and then those of the other entries. One more entry moves
+-- from the others to those so far. At a bad entry, the items so far are all, and its error is the error of
+-- all.
 use Rattle.std.proofs.Common.{ℕ, suc, ◌≡◌, ◌+◌, ◌-◌, ◌<◌, Bool, false, ◌⊎◌, List, [], ◌∷◌, ◌++◌, take, length, Option, Some, None, Result, Ok, Err, sym, ap, subst, ◌∙◌, append_assoc, arith, inl, inr}
 use Rattle.std.proofs.Math.Seq.{take-append_seam}
 use Rattle.std.proofs.lemmas.List.{append-nil}
 use Rattle.lasso_parts.specs.Texts.{Text}
-use Rattle.lasso_codes.specs.Reading.{Makes, ReadItems, ReadTexts, TakesEntry, TakesHeader, HeaderFault, HasNoHeader, cut_entry, on_entry_line, on_item, items_from, texts_from, head_of, on_texts, on_head, read_column, IsEntryFault, IsColumnFault}
+use Rattle.lasso_codes.specs.Reading.{Makes, ReadItems, ReadTexts, TakesEntry, TakesHeader, HeaderError, HasNoHeader, cut_entry, on_entry_line, on_item, items_from, texts_from, head_of, on_texts, on_head, read_column, IsEntryError, IsColumnError}
 use Rattle.lasso_codes.specs.Stages.{IsAhead}
 use Rattle.lasso_codes.specs.Streams.{CutsLine}
 use Rattle.lasso_codes.specs.declared.entries.Entry.{Entry}
 use Rattle.lasso_codes.specs.declared.entries.Entry.TheVariants.{Missing}
 use Rattle.lasso_codes.specs.declared.input.Cut.{Cut}
 use Rattle.lasso_codes.specs.declared.input.Cut.TheVariants.{Part, End}
-use Rattle.lasso_codes.specs.declared.fault.ColumnFault.{ColumnFault}
-use Rattle.lasso_codes.specs.declared.fault.ColumnFault.TheVariants.{NoHeader, TextRefused}
-use Rattle.lasso_codes.specs.declared.fault.RunFault.{RunFault}
-use Rattle.lasso_codes.specs.declared.fault.RunFault.TheVariants.{Column}
-use Rattle.lasso_codes.specs.Fault.{IsReadFault}
+use Rattle.lasso_codes.specs.declared.error.ColumnError.{ColumnError}
+use Rattle.lasso_codes.specs.declared.error.ColumnError.TheVariants.{NoHeader, TextRefused}
+use Rattle.lasso_codes.specs.declared.error.RunError.{RunError}
+use Rattle.lasso_codes.specs.declared.error.RunError.TheVariants.{Column}
+use Rattle.lasso_codes.specs.Errors.{IsReadError}
 use Rattle.lasso_codes.specs.declared.reading.Header.{Header}
 use Rattle.lasso_codes.proofs.Feeds.{no_cut}
 
@@ -38,14 +39,14 @@ module _ {X : Type 0} (make : Makes X) (k n : ℕ) (binary : Bool) (number : ℕ
   pub ahead_push : (item : X) → make entry number ≡ Ok item → IsAhead (done ++ item ∷ []) (items_from make n binary (number + 1) rest) read
   ahead_push item is =
       let others : ReadItems X = items_from make n binary (number + 1) rest in
-      let now : IsAhead done (on_item (Ok item) others) read = subst (λ (m : Result X ColumnFault). IsAhead done (on_item m others) read) is step in
+      let now : IsAhead done (on_item (Ok item) others) read = subst (λ (m : Result X ColumnError). IsAhead done (on_item m others) read) is step in
       (now.0 ∙ sym (append_assoc done (item ∷ []) others.0), now.1)
 
-  -- the entry is faulty
-  pub ahead_fault : (fault : ColumnFault) → make entry number ≡ Err fault → (read.0 ≡ done) × (read.1 ≡ Err fault)
-  ahead_fault fault is =
+  -- the entry is bad
+  pub ahead_error : (error : ColumnError) → make entry number ≡ Err error → (read.0 ≡ done) × (read.1 ≡ Err error)
+  ahead_error error is =
       let others : ReadItems X = items_from make n binary (number + 1) rest in
-      let now : IsAhead done (on_item (Err fault) others) read = subst (λ (m : Result X ColumnFault). IsAhead done (on_item m others) read) is step in
+      let now : IsAhead done (on_item (Err error) others) read = subst (λ (m : Result X ColumnError). IsAhead done (on_item m others) read) is step in
       (now.0 ∙ append-nil done, now.1)
 
 -- no entry is left
@@ -54,7 +55,7 @@ ahead_all {X} make k binary number bytes read done none ahead =
     let now : IsAhead done (items_from make 0 binary number bytes) read = subst (λ m. IsAhead done (items_from make m binary number bytes) read) none ahead in
     (now.0 ∙ append-nil done, now.1)
 
--- those that are done are the first ones
+-- the items so far are the first ones
 pub ahead_first : {X : Type 0} (others read : ReadItems X) (done : List X) → IsAhead done others read → take (length done) read.0 ≡ done
 ahead_first others read done ahead = ap (take (length done)) ahead.0 ∙ take-append_seam done others.0
 
@@ -67,18 +68,18 @@ pub entry_missing : (before after : Option (List ℕ)) (cut : Cut) (line : List 
 entry_missing before after cut line binary cuts which lines = λ bytes e.
     let none = no_cut before after cut line cuts which bytes e in ([], none.0, ap (λ b. cut_entry b bytes) lines ∙ ap on_entry_line none.1)
 
--- the header that was read
+-- a header was read
 pub header_taken : (before after : Option (List ℕ)) (told : Option Header) (header : Header) → TakesHeader before after told → told ≡ Some header → TakesHeader before after (Some header)
 header_taken before after told header taken is = subst (λ (o : Option Header). TakesHeader before after o) is taken
 
--- there was none
+-- there was no header
 pub header_none : (before after : Option (List ℕ)) (told : Option Header) → TakesHeader before after told → told ≡ None → (bytes : List ℕ) → before ≡ Some bytes → bytes ≡ []
 header_none before after told taken is = subst (λ (o : Option Header). TakesHeader before after o) is taken
 
--- it was not read
-pub header_unread : (before : Option (List ℕ)) (column : ℕ) (fault : RunFault) (bytes : List ℕ) → HeaderFault before column fault → before ≡ Some bytes → IsReadFault 0 fault ⊎ ((fault ≡ Column column NoHeader) × HasNoHeader bytes)
-header_unread before column fault bytes (inl is) e = inl is
-header_unread before column fault bytes (inr is) e = inr (is.0, is.1 bytes e)
+-- the header was not read
+pub header_unread : (before : Option (List ℕ)) (column : ℕ) (error : RunError) (bytes : List ℕ) → HeaderError before column error → before ≡ Some bytes → IsReadError 0 error ⊎ ((error ≡ Column column NoHeader) × HasNoHeader bytes)
+header_unread before column error bytes (inl is) e = inl is
+header_unread before column error bytes (inr is) e = inr (is.0, is.1 bytes e)
 
 -- ---- columns
 
@@ -90,12 +91,12 @@ module _ {X : Type 0} (make : List Text → Makes X) (bytes left : List ℕ) (he
   pub column_read : (list : List Text) (rest : List ℕ) → texts_from header.distinct [] left ≡ Ok (list, rest) → read_column make bytes ≡ items_from (make list) header.lines header.binary 1 rest
   column_read list rest is = on_it (Ok (list, rest)) is
 
-  -- it was not
-  pub column_unread : (fault : ColumnFault) → texts_from header.distinct [] left ≡ Err fault → read_column make bytes ≡ ([], Err fault)
-  column_unread fault is = on_it (Err fault) is
+  -- the dictionary was not read
+  pub column_unread : (error : ColumnError) → texts_from header.distinct [] left ≡ Err error → read_column make bytes ≡ ([], Err error)
+  column_unread error is = on_it (Err error) is
 
--- the fault of an entry is that of the column
-pub entry_fault : {X : Type 0} (make : List Text → Makes X) (limit : ℕ) (bytes : List ℕ) (fault : ColumnFault) → IsEntryFault fault → (read_column make bytes).1 ≡ Err fault → IsColumnFault make limit bytes fault
-entry_fault make limit bytes NoHeader is e = absurd is
-entry_fault make limit bytes (TextRefused number error) is e = absurd is
-entry_fault make limit bytes fault is e = e
+-- the error of an entry is that of the column
+pub entry_error : {X : Type 0} (make : List Text → Makes X) (limit : ℕ) (bytes : List ℕ) (error : ColumnError) → IsEntryError error → (read_column make bytes).1 ≡ Err error → IsColumnError make limit bytes error
+entry_error make limit bytes NoHeader is e = absurd is
+entry_error make limit bytes (TextRefused number error) is e = absurd is
+entry_error make limit bytes error is e = e

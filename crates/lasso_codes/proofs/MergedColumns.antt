@@ -1,8 +1,9 @@
--- Columns that were merged one after another, and their one column.
+-- Columns that were merged one after another, and the merged column.
 --
--- The texts of each dictionary are interned in order, and the table has the code that each has then. So an entry's code is rewritten to
--- that of its text. The list only grows at its end, and a text keeps its code: the entries of the columns before stay as they are.
--- Where nothing of the input is left all columns were merged, and the list is that of the distinct texts of all dictionaries.
+-- The texts of each dictionary are interned in order, and the table has the new code of each. So an entry's
+-- code is rewritten to the new code of its text. The list only grows at its end, and a text keeps its code,
+-- so the entries of the columns before stay the same. If nothing of the input is left, all columns were
+-- merged, and the list is that of the distinct texts of all dictionaries.
 use Rattle.std.proofs.Common.{ℕ, zero, suc, ◌≡◌, ◌+◌, ◌-◌, ◌^◌, ◌<◌, ◌≤◌, ◌==◌, Bool, false, cond, List, [], ◌∷◌, ◌++◌, length, get_or, map, take, Option, Some, None, ◌⊎◌, Result, Ok, Err, refl, sym, ap, subst, ◌∙◌, arith, append_assoc, inl, inr}
 use Rattle.std.specs.Prelude.{slice_get, IsSomeAnd}
 use Rattle.std.proofs.lemmas.Bool.Decides.{nat_tests}
@@ -22,20 +23,20 @@ use Rattle.lasso_columns.specs.Codes.{AreCodes}
 use Rattle.lasso_columns.specs.Encoding.{spur_at, IsRefused}
 use Rattle.lasso_columns.specs.declared.faults.LineError.TheVariants.{Refused}
 use Rattle.lasso_codes.specs.Columns.{entry_at, column_of}
-use Rattle.lasso_codes.specs.Fault.{IsReadFault, IsWriteEnd}
-use Rattle.lasso_codes.specs.Merge.{code_or_past, recoded, entries_of, read_list, head_list, texts_at, distinct_of, Merges, EntriesFault, AddsEntry, AddsEntries, AreMerged, IsNotMerged, IsMergeFault, IsMergeBegun, MergingFault, MergeEnd}
+use Rattle.lasso_codes.specs.Errors.{IsReadError, IsWriteEnd}
+use Rattle.lasso_codes.specs.Merge.{code_or_past, recoded, entries_of, read_list, head_list, texts_at, distinct_of, Merges, EntriesError, AddsEntry, AddsEntries, AreMerged, IsNotMerged, IsMergeError, IsMergeBegun, MergingError, MergeEnd}
 use Rattle.lasso_codes.specs.Stages.{IsAhead, EntriesAhead}
-use Rattle.lasso_codes.specs.Reading.{ReadItems, cut_entry, head_of, texts_from, items_from, HasNoHeader, IsTextFault, TextsFault, IsEntryFault}
+use Rattle.lasso_codes.specs.Reading.{ReadItems, cut_entry, head_of, texts_from, items_from, HasNoHeader, IsTextError, TextsError, IsEntryError}
 use Rattle.lasso_codes.specs.Streams.{WritesAll}
 use Rattle.lasso_codes.specs.declared.entries.Entry.{Entry}
 use Rattle.lasso_codes.specs.declared.entries.Entry.TheVariants.{Missing, Bad, Null, Code}
-use Rattle.lasso_codes.specs.declared.fault.ColumnFault.{ColumnFault}
-use Rattle.lasso_codes.specs.declared.fault.ColumnFault.TheVariants.{NoHeader, TextRefused, NoEntry, NotEntry, PastTexts, NotMerged}
-use Rattle.lasso_codes.specs.declared.fault.RunFault.{RunFault}
-use Rattle.lasso_codes.specs.declared.fault.RunFault.TheVariants.{Line, TooManyLines, ReadFailed, WriteFailed, ReaderGone, Column}
+use Rattle.lasso_codes.specs.declared.error.ColumnError.{ColumnError}
+use Rattle.lasso_codes.specs.declared.error.ColumnError.TheVariants.{NoHeader, TextRefused, NoEntry, NotEntry, PastTexts, NotMerged}
+use Rattle.lasso_codes.specs.declared.error.RunError.{RunError}
+use Rattle.lasso_codes.specs.declared.error.RunError.TheVariants.{Line, TooManyLines, ReadFailed, WriteFailed, ReaderGone, Column}
 use Rattle.lasso_codes.specs.declared.reading.Header.{Header}
 use Rattle.lasso_codes.proofs.FewTexts.{few_texts}
-use Rattle.lasso_codes.proofs.Items.{ahead_push, ahead_fault, one_fewer, column_read, column_unread, entry_fault}
+use Rattle.lasso_codes.proofs.Items.{ahead_push, ahead_error, one_fewer, column_read, column_unread, entry_error}
 
 -- ---- interning texts, and then others
 
@@ -76,18 +77,18 @@ code_rewritten list texts table code number are few small =
 pub code_past : (list texts : List Text) (table : List ℕ) (code number : ℕ) → AreCodes list texts table → length table ≤ code → recoded list texts (Code code) number ≡ Err (PastTexts number)
 code_past list texts table code number are past = ap (λ o. code_or_past list o number) (none_past texts code (omega (arith, past, map_some_length (position_of list) texts table are)))
 
-same_fault : (fault other : ColumnFault) → IsEntryFault fault → ◌≡◌ {A = Result (Option ℕ) ColumnFault} (Err fault) (Err other) → IsEntryFault other
-same_fault fault other is e = let same : fault ≡ other = cc in subst IsEntryFault same is
+same_error : (error other : ColumnError) → IsEntryError error → ◌≡◌ {A = Result (Option ℕ) ColumnError} (Err error) (Err other) → IsEntryError other
+same_error error other is e = let same : error ≡ other = cc in subst IsEntryError same is
 
-past_fault : (list : List Text) (o : Option Text) (number : ℕ) (fault : ColumnFault) → code_or_past list o number ≡ Err fault → IsEntryFault fault
-past_fault list None number fault e = same_fault (PastTexts number) fault tt e
-past_fault list (Some text) number fault e = absurd (cc)
+past_error : (list : List Text) (o : Option Text) (number : ℕ) (error : ColumnError) → code_or_past list o number ≡ Err error → IsEntryError error
+past_error list None number error e = same_error (PastTexts number) error tt e
+past_error list (Some text) number error e = absurd (cc)
 
-pub recode_fault : (list texts : List Text) (entry : Entry) (number : ℕ) (fault : ColumnFault) → recoded list texts entry number ≡ Err fault → IsEntryFault fault
-recode_fault list texts Missing number fault e = same_fault (NoEntry number) fault tt e
-recode_fault list texts Bad number fault e = same_fault (NotEntry number) fault tt e
-recode_fault list texts Null number fault e = absurd (cc)
-recode_fault list texts (Code code) number fault e = past_fault list (slice_get texts code) number fault e
+pub recode_error : (list texts : List Text) (entry : Entry) (number : ℕ) (error : ColumnError) → recoded list texts entry number ≡ Err error → IsEntryError error
+recode_error list texts Missing number error e = same_error (NoEntry number) error tt e
+recode_error list texts Bad number error e = same_error (NotEntry number) error tt e
+recode_error list texts Null number error e = absurd (cc)
+recode_error list texts (Code code) number error e = past_error list (slice_get texts code) number error e
 
 -- ---- the entries of a column on their way
 
@@ -107,15 +108,15 @@ module _ (others read : ReadItems (Option ℕ)) (before numbers : List ℕ) (so_
   pub entries_end : (column : ℕ) (left : Option (List ℕ)) (rest : List ℕ) → left ≡ Some rest → (read.0 ≡ so_far.done) × (read.1 ≡ Ok rest) → AddsEntries read column left before numbers (Ok tt)
   entries_end column left rest is ended = (rest, is, ended.1, so_far.numbers_are ∙ ap (λ (es : List (Option ℕ)). map entry_at before ++ es) (sym ended.0))
 
-pub entries_read_fails : (read : ReadItems (Option ℕ)) (column : ℕ) (fault : RunFault) → IsReadFault 0 fault → EntriesFault read column fault
+pub entries_read_fails : (read : ReadItems (Option ℕ)) (column : ℕ) (error : RunError) → IsReadError 0 error → EntriesError read column error
 entries_read_fails read column (Line error) is = is
 entries_read_fails read column TooManyLines is = absurd is
 entries_read_fails read column ReadFailed is = tt
 entries_read_fails read column WriteFailed is = absurd is
 entries_read_fails read column ReaderGone is = absurd is
-entries_read_fails read column (Column number fault) is = absurd is
+entries_read_fails read column (Column number error) is = absurd is
 
--- the entry at a position, whose number is added or is not
+-- the entry at a position; its number is added, or the entry is bad
 module _ (list texts : List Text) (lines position : ℕ) (binary : Bool) (bytes rest : List ℕ) (entry : Entry) (read : ReadItems (Option ℕ)) (before numbers : List ℕ) (small : position < lines) (cut : cut_entry binary bytes ≡ (entry, rest)) (so_far : EntriesAhead (items_from (recoded list texts) (lines - position) binary (position + 1) bytes) read before numbers) where
   abbrev others : ReadItems (Option ℕ)
   others = items_from (recoded list texts) (lines - position) binary (position + 1) bytes
@@ -123,18 +124,18 @@ module _ (list texts : List Text) (lines position : ℕ) (binary : Bool) (bytes 
   abbrev later : ReadItems (Option ℕ)
   later = items_from (recoded list texts) (lines - (position + 1)) binary (position + 1 + 1) rest
 
-  pub number_added : (made : Result (Option ℕ) ColumnFault) (column : ℕ) (after : List ℕ) → recoded list texts entry (position + 1) ≡ made → AddsEntry made column numbers after (Ok tt) → EntriesAhead later read before after
+  pub number_added : (made : Result (Option ℕ) ColumnError) (column : ℕ) (after : List ℕ) → recoded list texts entry (position + 1) ≡ made → AddsEntry made column numbers after (Ok tt) → EntriesAhead later read before after
   number_added (Ok item) column after is added =
       let ahead = ahead_push (recoded list texts) (lines - position) (lines - (position + 1)) binary (position + 1) bytes rest entry read so_far.done (one_fewer lines position small) cut so_far.ahead (entry_at added.0) (is ∙ ap (λ (o : Option ℕ). Ok o) added.1) in
       entries_push others read before numbers so_far later added.0 after ahead added.2
-  number_added (Err fault) column after is added = absurd (cc)
+  number_added (Err error) column after is added = absurd (cc)
 
-  pub number_fails : (made : Result (Option ℕ) ColumnFault) (column : ℕ) (after : List ℕ) (fault : RunFault) → recoded list texts entry (position + 1) ≡ made → AddsEntry made column numbers after (Err fault) → EntriesFault read column fault
-  number_fails (Ok item) column after fault is added = subst (λ f. EntriesFault read column f) (sym added) refl
-  number_fails (Err reason) column after fault is added =
-      let told : fault ≡ Column column reason = cc in
-      let ended = ahead_fault (recoded list texts) (lines - position) (lines - (position + 1)) binary (position + 1) bytes rest entry read so_far.done (one_fewer lines position small) cut so_far.ahead reason is in
-      rw told (refl, recode_fault list texts entry (position + 1) reason is, ended.1)
+  pub number_fails : (made : Result (Option ℕ) ColumnError) (column : ℕ) (after : List ℕ) (error : RunError) → recoded list texts entry (position + 1) ≡ made → AddsEntry made column numbers after (Err error) → EntriesError read column error
+  number_fails (Ok item) column after error is added = subst (λ f. EntriesError read column f) (sym added) refl
+  number_fails (Err reason) column after error is added =
+      let told : error ≡ Column column reason = cc in
+      let ended = ahead_error (recoded list texts) (lines - position) (lines - (position + 1)) binary (position + 1) bytes rest entry read so_far.done (one_fewer lines position small) cut so_far.ahead reason is in
+      rw told (refl, recode_error list texts entry (position + 1) reason is, ended.1)
 
 -- ---- columns on their way
 
@@ -156,7 +157,7 @@ merging_none input limit now numbers made none = record {
 }
 
 module _ (input rest : List ℕ) (limit column : ℕ) (now : InternerView) (numbers : List ℕ) (way : Merging input rest limit column now numbers) where
-  -- the list is that of the distinct texts, which are few
+  -- the list is that of the distinct texts, and their codes fit
   list_is : now.texts ≡ distinct_of way.texts
   list_is = list_extended (made_with 4096 limit) now way.texts way.list
 
@@ -168,43 +169,43 @@ module _ (input rest : List ℕ) (limit column : ℕ) (now : InternerView) (numb
   merging_ends none = (way.count, way.texts, subst (λ bs. Merges way.count input way.texts (map entry_at numbers) bs) none way.merges, list_is, merging_few)
 
   -- a read failed, or there was no memory
-  pub merging_read_fails : (fault : RunFault) → IsReadFault 0 fault → MergingFault input limit fault
+  pub merging_read_fails : (error : RunError) → IsReadError 0 error → MergingError input limit error
   merging_read_fails (Line error) is = is
   merging_read_fails TooManyLines is = absurd is
   merging_read_fails ReadFailed is = tt
   merging_read_fails WriteFailed is = absurd is
   merging_read_fails ReaderGone is = absurd is
-  merging_read_fails (Column number fault) is = absurd is
+  merging_read_fails (Column number error) is = absurd is
 
-  pub merging_unmade : (fault : RunFault) → fault ≡ Line (Refused 0 FailedAllocation) → MergingFault input limit fault
-  merging_unmade fault is = subst (MergingFault input limit) (sym is) refl
+  pub merging_unmade : (error : RunError) → error ≡ Line (Refused 0 FailedAllocation) → MergingError input limit error
+  merging_unmade error is = subst (MergingError input limit) (sym is) refl
 
-  -- the column is faulty
-  column_fails : (fault : ColumnFault) → IsMergeFault limit way.texts rest fault → MergingFault input limit (Column column fault)
-  column_fails fault is = (way.count, way.texts, map entry_at numbers, rest, way.merges, sym way.counted, is)
+  -- the column is bad
+  column_fails : (error : ColumnError) → IsMergeError limit way.texts rest error → MergingError input limit (Column column error)
+  column_fails error is = (way.count, way.texts, map entry_at numbers, rest, way.merges, sym way.counted, is)
 
-  pub merging_header_fails : (fault : RunFault) → IsReadFault 0 fault ⊎ ((fault ≡ Column column NoHeader) × HasNoHeader rest) → MergingFault input limit fault
-  merging_header_fails fault (inl is) = merging_read_fails fault is
-  merging_header_fails fault (inr is) = subst (MergingFault input limit) (sym is.0) (column_fails NoHeader is.1)
+  pub merging_header_fails : (error : RunError) → IsReadError 0 error ⊎ ((error ≡ Column column NoHeader) × HasNoHeader rest) → MergingError input limit error
+  merging_header_fails error (inl is) = merging_read_fails error is
+  merging_header_fails error (inr is) = subst (MergingError input limit) (sym is.0) (column_fails NoHeader is.1)
 
   module _ (header : Header) (left : List ℕ) (head : head_of rest ≡ Some (header, left)) where
-    text_fails : (reason : ColumnFault) → IsTextFault limit header.distinct left reason → IsMergeFault limit way.texts rest reason
+    text_fails : (reason : ColumnError) → IsTextError limit header.distinct left reason → IsMergeError limit way.texts rest reason
     text_fails NoHeader is = absurd is
     text_fails (TextRefused number error) is = ((header, left), head, is)
     text_fails (NotMerged error) is = absurd is
     text_fails reason is =
         ap (λ (r : ReadItems (Option ℕ)). r.1) (column_unread (recoded (distinct_of (way.texts ++ texts_at rest))) rest left header head reason is)
 
-    pub merging_texts_fail : (fault : RunFault) → TextsFault limit header.distinct column left fault → MergingFault input limit fault
-    merging_texts_fail fault (inl is) = merging_read_fails fault is
-    merging_texts_fail fault (inr is) = subst (MergingFault input limit) (sym is.1) (column_fails is.0 (text_fails is.0 is.2))
+    pub merging_texts_fail : (error : RunError) → TextsError limit header.distinct column left error → MergingError input limit error
+    merging_texts_fail error (inl is) = merging_read_fails error is
+    merging_texts_fail error (inr is) = subst (MergingError input limit) (sym is.1) (column_fails is.0 (text_fails is.0 is.2))
 
     module _ (dictionary : List Text) (body : List ℕ) (read : texts_from header.distinct [] left ≡ Ok (dictionary, body)) where
       texts_are : texts_at rest ≡ dictionary
       texts_are = ap head_list head ∙ ap read_list read
 
-      -- a text is refused by the interner of all
-      pub merging_refused : (error : LassoError) (n : ℕ) (after : InternerView) → extend spur_at now (take n dictionary) accepted after → IsSomeAnd (slice_get dictionary n) (λ text. IsRefused after text error) → MergingFault input limit (Column column (NotMerged error))
+      -- a text is refused by the interner of the merged column
+      pub merging_refused : (error : LassoError) (n : ℕ) (after : InternerView) → extend spur_at now (take n dictionary) accepted after → IsSomeAnd (slice_get dictionary n) (λ text. IsRefused after text error) → MergingError input limit (Column column (NotMerged error))
       merging_refused error n after list refused =
           column_fails (NotMerged error)
           (subst (λ (ts : List Text). IsNotMerged limit way.texts ts error) (sym texts_are) (n, after, extend_both (made_with 4096 limit) now after way.texts (take n dictionary) way.list list, refused))
@@ -242,32 +243,32 @@ module _ (input rest : List ℕ) (limit column : ℕ) (now : InternerView) (numb
           list = all;
         }
 
-        entry_fails : (fault : ColumnFault) → IsEntryFault fault → (items_from (recoded after.texts dictionary) header.lines header.binary 1 body).1 ≡ Err fault → IsMergeFault limit way.texts rest fault
+        entry_fails : (error : ColumnError) → IsEntryError error → (items_from (recoded after.texts dictionary) header.lines header.binary 1 body).1 ≡ Err error → IsMergeError limit way.texts rest error
         entry_fails (NotMerged error) is e = absurd is
-        entry_fails fault is e =
-            entry_fault (recoded (distinct_of (way.texts ++ texts_at rest))) limit rest fault is (ap (λ (r : ReadItems (Option ℕ)). r.1) entries_are ∙ e)
+        entry_fails error is e =
+            entry_error (recoded (distinct_of (way.texts ++ texts_at rest))) limit rest error is (ap (λ (r : ReadItems (Option ℕ)). r.1) entries_are ∙ e)
 
-        pub merging_entries_fail : (fault : RunFault) → EntriesFault (items_from (recoded after.texts dictionary) header.lines header.binary 1 body) column fault → MergingFault input limit fault
+        pub merging_entries_fail : (error : RunError) → EntriesError (items_from (recoded after.texts dictionary) header.lines header.binary 1 body) column error → MergingError input limit error
         merging_entries_fail (Line error) is = is
         merging_entries_fail TooManyLines is = absurd is
         merging_entries_fail ReadFailed is = tt
         merging_entries_fail WriteFailed is = absurd is
         merging_entries_fail ReaderGone is = absurd is
-        merging_entries_fail (Column number fault) is = subst (λ n. MergingFault input limit (Column n fault)) (sym is.0) (column_fails fault (entry_fails fault is.1 is.2))
+        merging_entries_fail (Column number error) is = subst (λ n. MergingError input limit (Column n error)) (sym is.0) (column_fails error (entry_fails error is.1 is.2))
 
 -- ---- the one column
 
-written_end : (input : List ℕ) (limit : ℕ) (binary : Bool) (n : ℕ) (texts : List Text) (entries : List (Option ℕ)) (part : List ℕ) (result : Result (Unit {0}) RunFault) → Merges n input texts entries [] → length (distinct_of texts) < 2 ^ 32 → length entries < 2 ^ 64 → WritesAll (column_of binary (distinct_of texts) entries) result part → MergeEnd input limit binary part result
+written_end : (input : List ℕ) (limit : ℕ) (binary : Bool) (n : ℕ) (texts : List Text) (entries : List (Option ℕ)) (part : List ℕ) (result : Result (Unit {0}) RunError) → Merges n input texts entries [] → length (distinct_of texts) < 2 ^ 32 → length entries < 2 ^ 64 → WritesAll (column_of binary (distinct_of texts) entries) result part → MergeEnd input limit binary part result
 written_end input limit binary n texts entries part (Ok x) merges few few' written = (n, texts, entries, merges, (few, few'), written)
 written_end input limit binary n texts entries part (Err (Line error)) merges few few' written = absurd written.0
 written_end input limit binary n texts entries part (Err TooManyLines) merges few few' written = absurd written.0
 written_end input limit binary n texts entries part (Err ReadFailed) merges few few' written = absurd written.0
 written_end input limit binary n texts entries part (Err WriteFailed) merges few few' written = inr (n, texts, entries, merges, written.1)
 written_end input limit binary n texts entries part (Err ReaderGone) merges few few' written = inr (n, texts, entries, merges, written.1)
-written_end input limit binary n texts entries part (Err (Column column fault)) merges few few' written = absurd written.0
+written_end input limit binary n texts entries part (Err (Column column error)) merges few few' written = absurd written.0
 
 -- the column is written, or a beginning of it
-pub merged_written : (input : List ℕ) (limit : ℕ) (binary : Bool) (list : List Text) (numbers part : List ℕ) (result : Result (Unit {0}) RunFault) → AreMerged input list numbers → length numbers < 2 ^ 64 → WritesAll (column_of binary list (map entry_at numbers)) result part → MergeEnd input limit binary part result
+pub merged_written : (input : List ℕ) (limit : ℕ) (binary : Bool) (list : List Text) (numbers part : List ℕ) (result : Result (Unit {0}) RunError) → AreMerged input list numbers → length numbers < 2 ^ 64 → WritesAll (column_of binary list (map entry_at numbers)) result part → MergeEnd input limit binary part result
 merged_written input limit binary list numbers part result are few written =
     let texts = are.1 in
     let entries = map entry_at numbers in
@@ -275,37 +276,37 @@ merged_written input limit binary list numbers part result are few written =
     (subst (λ (ts : List Text). WritesAll (column_of binary ts entries) result part) are.3 written)
 
 -- columns were not merged, and nothing is written
-pub none_merged : (input : List ℕ) (limit : ℕ) (binary : Bool) (fault : RunFault) → MergingFault input limit fault → MergeEnd input limit binary [] (Err fault)
+pub none_merged : (input : List ℕ) (limit : ℕ) (binary : Bool) (error : RunError) → MergingError input limit error → MergeEnd input limit binary [] (Err error)
 none_merged input limit binary (Line error) is = (refl, is)
 none_merged input limit binary TooManyLines is = refl
 none_merged input limit binary ReadFailed is = refl
 none_merged input limit binary WriteFailed is = absurd is
 none_merged input limit binary ReaderGone is = absurd is
-none_merged input limit binary (Column column fault) is = (refl, is)
+none_merged input limit binary (Column column error) is = (refl, is)
 
 -- there was no memory for the interner
-pub unmade : (input : List ℕ) (limit : ℕ) (fault : RunFault) → fault ≡ Line (Refused 0 FailedAllocation) → MergingFault input limit fault
-unmade input limit fault is = subst (MergingFault input limit) (sym is) refl
+pub unmade : (input : List ℕ) (limit : ℕ) (error : RunError) → error ≡ Line (Refused 0 FailedAllocation) → MergingError input limit error
+unmade input limit error is = subst (MergingError input limit) (sym is) refl
 
-end_begun : (input : List ℕ) (limit : ℕ) (binary : Bool) (part : List ℕ) (result : Result (Unit {0}) RunFault) → MergeEnd input limit binary part result → IsMergeBegun input binary part
+end_begun : (input : List ℕ) (limit : ℕ) (binary : Bool) (part : List ℕ) (result : Result (Unit {0}) RunError) → MergeEnd input limit binary part result → IsMergeBegun input binary part
 end_begun input limit binary part (Ok x) end = inr (end.0, end.1, end.2, end.3, ([], sym end.5 ∙ sym (append-nil part)))
 end_begun input limit binary part (Err (Line error)) end = inl end.0
 end_begun input limit binary part (Err TooManyLines) end = inl end
 end_begun input limit binary part (Err ReadFailed) end = inl end
 end_begun input limit binary part (Err WriteFailed) end = end
 end_begun input limit binary part (Err ReaderGone) end = end
-end_begun input limit binary part (Err (Column column fault)) end = inl end.0
+end_begun input limit binary part (Err (Column column error)) end = inl end.0
 
-write_end : (input : List ℕ) (limit : ℕ) (binary : Bool) (part : List ℕ) (result : Result (Unit {0}) RunFault) → IsMergeBegun input binary part → IsWriteEnd result → MergeEnd input limit binary part result
+write_end : (input : List ℕ) (limit : ℕ) (binary : Bool) (part : List ℕ) (result : Result (Unit {0}) RunError) → IsMergeBegun input binary part → IsWriteEnd result → MergeEnd input limit binary part result
 write_end input limit binary part (Ok x) begun is = absurd is
 write_end input limit binary part (Err (Line error)) begun is = absurd is
 write_end input limit binary part (Err TooManyLines) begun is = absurd is
 write_end input limit binary part (Err ReadFailed) begun is = absurd is
 write_end input limit binary part (Err WriteFailed) begun is = begun
 write_end input limit binary part (Err ReaderGone) begun is = begun
-write_end input limit binary part (Err (Column column fault)) begun is = absurd is
+write_end input limit binary part (Err (Column column error)) begun is = absurd is
 
--- a run that ends as it did, or with a failed flush
-pub end_then : (input : List ℕ) (limit : ℕ) (binary : Bool) (part : List ℕ) (given result : Result (Unit {0}) RunFault) → MergeEnd input limit binary part given → (result ≡ given) ⊎ IsWriteEnd result → MergeEnd input limit binary part result
+-- the run ends as it did before the flush, or with the error of the flush
+pub end_then : (input : List ℕ) (limit : ℕ) (binary : Bool) (part : List ℕ) (given result : Result (Unit {0}) RunError) → MergeEnd input limit binary part given → (result ≡ given) ⊎ IsWriteEnd result → MergeEnd input limit binary part result
 end_then input limit binary part given result end (inl same) = subst (MergeEnd input limit binary part) (sym same) end
 end_then input limit binary part given result end (inr is) = write_end input limit binary part result (end_begun input limit binary part given end) is

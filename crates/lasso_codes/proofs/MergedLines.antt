@@ -1,7 +1,8 @@
--- The one column of columns decodes to the lines of each.
+-- The merged column decodes to the lines of each of the columns.
 --
--- An entry of a column and its entry in the one column stand for the same line: both are a null, or the text at the one code is the text
--- at the other. That holds still where the list has grown. So the entries of all columns stand for the lines of all, one after the other.
+-- An entry of a column and its entry in the merged column stand for the same line: both are a null, or their
+-- codes have the same text. That still holds after the list has grown. So the merged entries stand for the
+-- lines of all columns, in order.
 use Rattle.std.proofs.Common.{ℕ, zero, suc, ◌≡◌, ◌+◌, ◌^◌, ◌<◌, Bool, true, false, cond, List, [], ◌∷◌, ◌++◌, length, is_some, Option, Some, None, Result, Ok, Err, refl, sym, ap, subst, ◌∙◌, arith, append_assoc}
 use Rattle.std.specs.Prelude.{slice_get}
 use Rattle.std.proofs.lemmas.List.{append-nil, length-append}
@@ -17,7 +18,7 @@ use Rattle.lasso_codes.specs.Merge.{code_or_past, recoded, entries_of, read_list
 use Rattle.lasso_codes.specs.Reading.{ReadItems, ReadTexts, cut_entry, on_item, items_from, head_of, on_texts, on_head, texts_from}
 use Rattle.lasso_codes.specs.declared.entries.Entry.{Entry}
 use Rattle.lasso_codes.specs.declared.entries.Entry.TheVariants.{Missing, Bad, Null, Code}
-use Rattle.lasso_codes.specs.declared.fault.ColumnFault.{ColumnFault}
+use Rattle.lasso_codes.specs.declared.error.ColumnError.{ColumnError}
 use Rattle.lasso_codes.specs.declared.reading.Header.{Header}
 use Rattle.lasso_codes.proofs.ReadBack.{HasCode, entry_for, AreLinesOf, column_back, fresh_new, AllFound, found_new}
 use Rattle.lasso_codes.proofs.ReadTexts.{ArePlain, plain_both, texts_plain}
@@ -97,9 +98,9 @@ one_line null list texts (Code code) number item line few found e e' = code_line
 abbrev Fit : Option Text → List Text → ReadItems (Option ℕ) → ReadItems Text → List ℕ → List ℕ → Type 0
 Fit null list entries lines rest rest' = AreLinesOf null list entries.0 lines.0 × (rest ≡ rest')
 
-both_items : (null : Option Text) (list : List Text) (r : Result (Option ℕ) ColumnFault) (l : Result Text ColumnFault) (entries : ReadItems (Option ℕ)) (lines : ReadItems Text) (rest rest' : List ℕ) → (on_item r entries).1 ≡ Ok rest → (on_item l lines).1 ≡ Ok rest' → ((entry : Option ℕ) (line : Text) → r ≡ Ok entry → l ≡ Ok line → IsLineOf null list entry line) → (entries.1 ≡ Ok rest → lines.1 ≡ Ok rest' → Fit null list entries lines rest rest') → Fit null list (on_item r entries) (on_item l lines) rest rest'
-both_items null list (Err fault) l entries lines rest rest' e e' one others = absurd (cc)
-both_items null list (Ok entry) (Err fault) entries lines rest rest' e e' one others = absurd (cc)
+both_items : (null : Option Text) (list : List Text) (r : Result (Option ℕ) ColumnError) (l : Result Text ColumnError) (entries : ReadItems (Option ℕ)) (lines : ReadItems Text) (rest rest' : List ℕ) → (on_item r entries).1 ≡ Ok rest → (on_item l lines).1 ≡ Ok rest' → ((entry : Option ℕ) (line : Text) → r ≡ Ok entry → l ≡ Ok line → IsLineOf null list entry line) → (entries.1 ≡ Ok rest → lines.1 ≡ Ok rest' → Fit null list entries lines rest rest') → Fit null list (on_item r entries) (on_item l lines) rest rest'
+both_items null list (Err error) l entries lines rest rest' e e' one others = absurd (cc)
+both_items null list (Ok entry) (Err error) entries lines rest rest' e e' one others = absurd (cc)
 both_items null list (Ok entry) (Ok line) entries lines rest rest' e e' one others =
     let first = one entry line refl refl in
     let then = others e e' in
@@ -113,16 +114,16 @@ items_fit null list texts (suc n) binary number bytes rest rest' few found e e' 
     (λ entry line is is'. one_line null list texts cut.0 number entry line few found is is') (λ is is'. items_fit null list texts n binary (number + 1) cut.1 rest rest' few found is is')
 
 texts_fit : (null : Option Text) (list : List Text) (header : Header) (read : ReadTexts) (rest rest' : List ℕ) → length list < 2 ^ 32 → AllFound list (read_list read) → (on_texts (recoded list) header read).1 ≡ Ok rest → (on_texts (line_at null) header read).1 ≡ Ok rest' → Fit null list (on_texts (recoded list) header read) (on_texts (line_at null) header read) rest rest'
-texts_fit null list header (Err fault) rest rest' few found e e' = absurd (cc)
+texts_fit null list header (Err error) rest rest' few found e e' = absurd (cc)
 texts_fit null list header (Ok texts) rest rest' few found e e' = items_fit null list texts.0 header.lines header.binary 1 texts.1 rest rest' few found e e'
 
 head_fit : (null : Option Text) (list : List Text) (head : Option (Header × List ℕ)) (rest rest' : List ℕ) → length list < 2 ^ 32 → AllFound list (head_list head) → (on_head (recoded list) head).1 ≡ Ok rest → (on_head (line_at null) head).1 ≡ Ok rest' → Fit null list (on_head (recoded list) head) (on_head (line_at null) head) rest rest'
 head_fit null list None rest rest' few found e e' = absurd (cc)
 head_fit null list (Some head) rest rest' few found e e' = texts_fit null list head.0 (texts_from head.0.distinct [] head.1) rest rest' few found e e'
 
--- the dictionary of a column is text
+-- the texts of a dictionary are UTF-8
 read_plain : (n : ℕ) (bytes : List ℕ) (read : ReadTexts) → texts_from n [] bytes ≡ read → ArePlain (read_list read)
-read_plain n bytes (Err fault) e = tt
+read_plain n bytes (Err error) e = tt
 read_plain n bytes (Ok texts) e = texts_plain n [] bytes texts e tt
 
 head_plain : (head : Option (Header × List ℕ)) → ArePlain (head_list head)
@@ -132,7 +133,7 @@ head_plain (Some head) = read_plain head.0.distinct head.1 (texts_from head.0.di
 -- ---- all columns
 
 module _ (null : Option Text) (before dictionary : List Text) where
-  -- the list of the columns before begins that of all
+  -- the list of the columns before is a beginning of the list of all
   grown : distinct_of (before ++ dictionary) ≡ distinct_of before ++ new_texts (distinct_of before) dictionary
   grown = new_both [] before dictionary
 
@@ -149,7 +150,7 @@ module _ (null : Option Text) (before dictionary : List Text) where
   old_lines entries lines are =
       subst (λ (ts : List Text). AreLinesOf null ts entries lines) (sym grown) (lines_stay null (distinct_of before) (new_texts (distinct_of before) dictionary) entries lines are)
 
--- the entries stand for the lines, the texts are text, and the same is left
+-- the entries stand for the lines, the texts are UTF-8, and the same bytes are left
 abbrev AllFit : Option Text → List Text → List (Option ℕ) → List Text → List ℕ → List ℕ → Type 0
 AllFit null texts entries lines rest rest' = AreLinesOf null (distinct_of texts) entries lines × ArePlain texts × (rest ≡ rest')
 
@@ -187,10 +188,10 @@ merging_keeps_lines_lem binary null n input rest more texts entries lines merges
 
 -- ---- columns that were merged can be decoded
 
-item_too : (r : Result (Option ℕ) ColumnFault) (l : Result Text ColumnFault) (entries : ReadItems (Option ℕ)) (lines : ReadItems Text) (rest : List ℕ) → (on_item r entries).1 ≡ Ok rest → ((entry : Option ℕ) → r ≡ Ok entry → (line : Text) × (l ≡ Ok line)) → (entries.1 ≡ Ok rest → lines.1 ≡ Ok rest) → (on_item l lines).1 ≡ Ok rest
-item_too (Err fault) l entries lines rest e one others = absurd (cc)
+item_too : (r : Result (Option ℕ) ColumnError) (l : Result Text ColumnError) (entries : ReadItems (Option ℕ)) (lines : ReadItems Text) (rest : List ℕ) → (on_item r entries).1 ≡ Ok rest → ((entry : Option ℕ) → r ≡ Ok entry → (line : Text) × (l ≡ Ok line)) → (entries.1 ≡ Ok rest → lines.1 ≡ Ok rest) → (on_item l lines).1 ≡ Ok rest
+item_too (Err error) l entries lines rest e one others = absurd (cc)
 item_too (Ok entry) l entries lines rest e one others =
-    let told = one entry refl in subst (λ (m : Result Text ColumnFault). (on_item m lines).1 ≡ Ok rest) (sym told.1) (others e)
+    let told = one entry refl in subst (λ (m : Result Text ColumnError). (on_item m lines).1 ≡ Ok rest) (sym told.1) (others e)
 
 code_too : (list : List Text) (o : Option Text) (number : ℕ) (item : Option ℕ) → code_or_past list o number ≡ Ok item → (line : Text) × (text_or_past o number ≡ Ok line)
 code_too list None number item e = absurd (cc)
@@ -210,7 +211,7 @@ items_too word list texts (suc n) binary number bytes rest e =
     (λ entry is. line_too word list texts cut.0 number entry is) (λ is. items_too word list texts n binary (number + 1) cut.1 rest is)
 
 texts_too : (word : Text) (list : List Text) (header : Header) (read : ReadTexts) (rest : List ℕ) → (on_texts (recoded list) header read).1 ≡ Ok rest → (on_texts (line_at (Some word)) header read).1 ≡ Ok rest
-texts_too word list header (Err fault) rest e = absurd (cc)
+texts_too word list header (Err error) rest e = absurd (cc)
 texts_too word list header (Ok texts) rest e = items_too word list texts.0 header.lines header.binary 1 texts.1 rest e
 
 head_too : (word : Text) (list : List Text) (head : Option (Header × List ℕ)) (rest : List ℕ) → (on_head (recoded list) head).1 ≡ Ok rest → (on_head (line_at (Some word)) head).1 ≡ Ok rest

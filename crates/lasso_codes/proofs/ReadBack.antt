@@ -1,8 +1,9 @@
 -- A column that was written is read back.
 --
--- A line without a line feed is cut off at the line feed that ends it. So the header line is read as its numbers, the dictionary's lines
--- as its texts, each of which is new, and an entry as its code or as a null. The text at a line's code is the line, and a null is the
--- word that it was. So the lines are those that were encoded, and what comes after the column is left.
+-- A line without a line feed is cut off at the line feed after it. So the header line is read as its numbers,
+-- the dictionary's lines as its texts, each of which is new, and an entry as its code or as a null. The text
+-- at a line's code is the line, and a null is written as the same word. So the lines are those that were
+-- encoded, and the bytes after the column are left.
 use Rattle.std.proofs.Common.{ℕ, zero, suc, ◌≡◌, ◌+◌, ◌^◌, ◌<◌, ◌==◌, Bool, true, false, cond, not, ◌&&◌, List, [], ◌∷◌, ◌++◌, length, map, take, drop, get_or, is_some, Option, Some, None, Ok, option_map, refl, sym, ap, subst, ◌∙◌, arith, append_assoc}
 use Rattle.std.specs.Prelude.{All, flat_map, decimal, slice_get, position}
 use Rattle.std.specs.Int.{w32, to_le_bytes}
@@ -107,7 +108,7 @@ head_back binary d n rest small small' =
 
 -- ---- the dictionary
 
--- each of the texts is text without a line feed, and is absent from the list and from those before it
+-- each of the texts is UTF-8 without a line feed, and is absent from the list and from the texts before it
 abbrev pub AreFresh : List Text → List Text → Type 0
 AreFresh list [] = Unit {0}
 AreFresh list (t ∷ ts) = (is_utf8 t ≡ true) × NoFeed t × (position_of list t ≡ None) × AreFresh (list ++ t ∷ []) ts
@@ -174,7 +175,7 @@ lines_back binary null list (e ∷ es) (l ∷ ls) number rest are =
 
 -- ---- a column
 
--- a dictionary of texts and entries that stand for lines are read back
+-- a dictionary, and entries that stand for lines, are read back
 pub column_back : (binary : Bool) (null : Option Text) (list : List Text) (entries : List (Option ℕ)) (lines : List Text) (rest : List ℕ) → AreFresh [] list → AreLinesOf null list entries lines → length list < 2 ^ 64 → length entries < 2 ^ 64 → decoded null (column_of binary list entries ++ rest) ≡ (lines, Ok rest)
 column_back binary null list entries lines rest fresh are few few' =
     let d = length list in
@@ -224,7 +225,7 @@ plain_texts : (null : Option Text) (lines : List Text) → ArePlain lines → Ar
 plain_texts null [] plain = tt
 plain_texts null (l ∷ ls) plain = plain_one (not (is_null null l)) l (texts_of null ls) plain.0 plain.1 (plain_texts null ls plain.2)
 
--- each of the lines that is no null stands in the list
+-- each of the lines that is not null is in the list
 abbrev StandsAs : Bool → List Text → Text → Type 0
 StandsAs true list l = Unit {0}
 StandsAs false list l = (n : ℕ) × (position_of list l ≡ Some n)
@@ -258,7 +259,7 @@ pub found_new : (list ts : List Text) → AllFound (list ++ new_texts list ts) t
 found_new list [] = tt
 found_new list (t ∷ ts) = (found_one list t ts (position_of list t) refl, found_rest list t ts (position_of list t) refl (found_new list ts) (found_new (list ++ t ∷ []) ts))
 
--- the lines that are no null stand in a list in which their texts are found
+-- the lines that are not null are in a list in which their texts are found
 stand_one : (keep : Bool) (list : List Text) (l : Text) (texts : List Text) → AllFound list (cond keep (l ∷ texts) texts) → StandsAs (not keep) list l × AllFound list texts
 stand_one true list l texts found = (found.0, found.1)
 stand_one false list l texts found = (tt, found)

@@ -1,7 +1,7 @@
 -- The texts of a dictionary, read one after another.
 --
--- After the first texts the others are read from the bytes that are left, with the first ones before them. So one more text is read
--- after those, and a fault of the next text is the fault of all.
+-- After the first texts, the others are read from the bytes that are left. So one more text is read after
+-- those, and an error of the next text is the error of all.
 use Rattle.std.proofs.Common.{ℕ, zero, suc, ◌≡◌, ◌+◌, ◌-◌, ◌<◌, Bool, true, false, cond, List, [], ◌∷◌, ◌++◌, length, is_some, Option, Some, None, option_map, Ok, Err, refl, sym, ap, subst, ◌∙◌, arith, inr}
 use Rattle.std.specs.Str.{IsUtf8, is_utf8}
 use Rattle.std.proofs.lemmas.Bool.{false_from_ne_true}
@@ -15,15 +15,15 @@ use Rattle.lasso.proofs.Calling.{list_interned}
 use Rattle.lasso_columns.specs.Encoding.{spur_at}
 use Rattle.lasso_columns.specs.Lines.{NoFeed, is_line_feed}
 use Rattle.lasso_codes.specs.Stages.{Reading}
-use Rattle.lasso_codes.specs.Reading.{ReadTexts, on_text, texts_from, AddsText, AddFault, IsTextFault, TextsFault}
+use Rattle.lasso_codes.specs.Reading.{ReadTexts, on_text, texts_from, AddsText, AddError, IsTextError, TextsError}
 use Rattle.lasso_codes.specs.Streams.{cut_line}
-use Rattle.lasso_codes.specs.declared.fault.ColumnFault.{ColumnFault}
-use Rattle.lasso_codes.specs.declared.fault.ColumnFault.TheVariants.{NoHeader, NoText, NotUtf8, Doubled, TextRefused, NoEntry, NotEntry, PastTexts, IsNull, NotMerged}
-use Rattle.lasso_codes.specs.declared.fault.RunFault.TheVariants.{Column}
+use Rattle.lasso_codes.specs.declared.error.ColumnError.{ColumnError}
+use Rattle.lasso_codes.specs.declared.error.ColumnError.TheVariants.{NoHeader, NoText, NotUtf8, Doubled, TextRefused, NoEntry, NotEntry, PastTexts, IsNull, NotMerged}
+use Rattle.lasso_codes.specs.declared.error.RunError.TheVariants.{Column}
 
 -- ---- texts after the first ones
 
-tested : (text there : Bool) (doubled bad : ColumnFault) (first whole res : ReadTexts) (read : List Text × List ℕ) → cond text (cond there (Err doubled) first) (Err bad) ≡ Ok read → (first ≡ Ok read → whole ≡ res) → cond text (cond there (Err doubled) whole) (Err bad) ≡ res
+tested : (text there : Bool) (doubled bad : ColumnError) (first whole res : ReadTexts) (read : List Text × List ℕ) → cond text (cond there (Err doubled) first) (Err bad) ≡ Ok read → (first ≡ Ok read → whole ≡ res) → cond text (cond there (Err doubled) whole) (Err bad) ≡ res
 tested true true doubled bad first whole res read e then = cc
 tested true false doubled bad first whole res read e then = then e
 tested false there doubled bad first whole res read e then = cc
@@ -66,7 +66,7 @@ not_utf8 line not = false_from_ne_true _ (λ e. not (IsUtf8-from_is_utf8 line e)
 
 -- ---- a dictionary on its way
 
--- a text that was added went last
+-- a text that was added was appended
 added_last : (now after : InternerView) (line : Text) → AddsText now line after → after.texts ≡ now.texts ++ line ∷ []
 added_last now after line adds =
     list_interned spur_at now after line adds.2.0 adds.2.1 ∙ ap (λ (o : Option ℕ). cond (is_some o) now.texts (now.texts ++ line ∷ [])) adds.1
@@ -100,13 +100,13 @@ module _ (bytes rest : List ℕ) (position distinct : ℕ) (now : InternerView) 
       }
 
   -- the next text is missing
-  pub reading_misses : (limit column : ℕ) → cut_line rest ≡ None → TextsFault limit distinct column bytes (Column column (NoText (position + 1)))
+  pub reading_misses : (limit column : ℕ) → cut_line rest ≡ None → TextsError limit distinct column bytes (Column column (NoText (position + 1)))
   reading_misses limit column cut =
-      let fault : texts_from distinct [] bytes ≡ Err (NoText (length now.texts + 1)) = next_ahead ∙ texts_missing (distinct - (position + 1)) now.texts rest cut in
-      inr (NoText (position + 1), refl, fault ∙ ap (λ n. Err (NoText (n + 1))) so_far.counted)
+      let error : texts_from distinct [] bytes ≡ Err (NoText (length now.texts + 1)) = next_ahead ∙ texts_missing (distinct - (position + 1)) now.texts rest cut in
+      inr (NoText (position + 1), refl, error ∙ ap (λ n. Err (NoText (n + 1))) so_far.counted)
 
-  -- the next text is faulty
-  faulty : (limit : ℕ) (line : Text) (left : List ℕ) (fault : ColumnFault) → extend spur_at (made_with 4096 limit) now.texts accepted now → cut_line rest ≡ Some (line, left) → AddFault now line (position + 1) fault → IsTextFault limit distinct bytes fault
+  -- the next text is bad
+  faulty : (limit : ℕ) (line : Text) (left : List ℕ) (error : ColumnError) → extend spur_at (made_with 4096 limit) now.texts accepted now → cut_line rest ≡ Some (line, left) → AddError now line (position + 1) error → IsTextError limit distinct bytes error
   faulty limit line left NoHeader list cut is = absurd is
   faulty limit line left (NoText number) list cut is = absurd is
   faulty limit line left (NotUtf8 number) list cut is =
@@ -125,12 +125,12 @@ module _ (bytes rest : List ℕ) (position distinct : ℕ) (now : InternerView) 
   faulty limit line left (IsNull number) list cut is = absurd is
   faulty limit line left (NotMerged error) list cut is = absurd is
 
-  pub reading_fails : (limit column : ℕ) (line : Text) (left : List ℕ) (fault : ColumnFault) → extend spur_at (made_with 4096 limit) now.texts accepted now → cut_line rest ≡ Some (line, left) → AddFault now line (position + 1) fault → TextsFault limit distinct column bytes (Column column fault)
-  reading_fails limit column line left fault list cut is = inr (fault, refl, faulty limit line left fault list cut is)
+  pub reading_fails : (limit column : ℕ) (line : Text) (left : List ℕ) (error : ColumnError) → extend spur_at (made_with 4096 limit) now.texts accepted now → cut_line rest ≡ Some (line, left) → AddError now line (position + 1) error → TextsError limit distinct column bytes (Column column error)
+  reading_fails limit column line left error list cut is = inr (error, refl, faulty limit line left error list cut is)
 
 -- ---- texts that were read
 
--- each is text without a line feed
+-- each is UTF-8 without a line feed
 abbrev pub ArePlain : List Text → Type 0
 ArePlain [] = Unit {0}
 ArePlain (t ∷ ts) = (is_utf8 t ≡ true) × NoFeed t × ArePlain ts
@@ -149,7 +149,7 @@ cut_free : (bytes line left : List ℕ) → cut_line bytes ≡ Some (line, left)
 cut_free [] line left e = absurd (cc)
 cut_free (b ∷ bytes) line left e = feed_free b bytes line left (is_line_feed b) (cut_line bytes) refl e (λ front rest is. cut_free bytes front rest is)
 
-plain_tests : (text there : Bool) (doubled bad : ColumnFault) (line : Text) (others : ReadTexts) (read : List Text × List ℕ) → is_utf8 line ≡ text → cond text (cond there (Err doubled) others) (Err bad) ≡ Ok read → (is_utf8 line ≡ true) × (others ≡ Ok read)
+plain_tests : (text there : Bool) (doubled bad : ColumnError) (line : Text) (others : ReadTexts) (read : List Text × List ℕ) → is_utf8 line ≡ text → cond text (cond there (Err doubled) others) (Err bad) ≡ Ok read → (is_utf8 line ≡ true) × (others ≡ Ok read)
 plain_tests true true doubled bad line others read is e = absurd (cc)
 plain_tests true false doubled bad line others read is e = (is, e)
 plain_tests false there doubled bad line others read is e = absurd (cc)

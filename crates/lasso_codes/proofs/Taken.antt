@@ -1,7 +1,7 @@
 -- The lines of bytes that were read one after another.
 --
--- The lines of the input are those that were read and those of the rest. So the first ones, as many as were read, are these; the next
--- one is the first of the rest; and where nothing is left they are all.
+-- The lines of the input are those that were read, and then those of the rest. So the first lines are those
+-- that were read, and the next one is the first of the rest. If nothing is left, all lines were read.
 use Rattle.std.proofs.Common.{ℕ, ◌≡◌, ◌+◌, List, [], ◌∷◌, ◌++◌, length, take, Some, refl, sym, ap, ◌∙◌, append_assoc}
 use Rattle.std.specs.Prelude.{slice_get}
 use Rattle.std.specs.Str.{IsUtf8}

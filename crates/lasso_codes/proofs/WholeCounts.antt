@@ -1,4 +1,4 @@
--- What was counted of an input that is read as a whole.
+-- The counts of an input that is read as a whole.
 use Rattle.std.proofs.Common.{ℕ, ◌≡◌, ◌+◌, ◌≤◌, Bool, true, false, List, length, take, Option, Some, None, refl, sym, subst, arith, inr}
 use Rattle.std.specs.Prelude.{All, slice_get, IsSomeAnd}
 use Rattle.std.specs.Str.{IsUtf8}
@@ -12,15 +12,15 @@ use Rattle.lasso_single.proofs.Filled.{accepted}
 use Rattle.lasso_columns.specs.Encoding.{spur_at, IsRefused}
 use Rattle.lasso_columns.specs.declared.faults.LineError.TheVariants.{Refused, NotText}
 use Rattle.lasso_counts.specs.Counts.{AreCounts}
-use Rattle.lasso_codes.specs.Counts.{CountingFault}
+use Rattle.lasso_codes.specs.Counts.{CountingError}
 use Rattle.lasso_codes.specs.Whole.{AreTextLines}
-use Rattle.lasso_codes.specs.declared.fault.RunFault.TheVariants.{Line}
+use Rattle.lasso_codes.specs.declared.error.RunError.TheVariants.{Line}
 use Rattle.lasso_codes.proofs.WholeLines.{texts_begin, first_same, refused_line, bad_line}
 
 -- all lines were counted
 pub whole_counted : (texts lines list : List Text) (counts : List ℕ) (whole : Bool) → whole ≡ true → AreTextLines whole texts lines → AreCounts texts list counts → All IsUtf8 lines × AreCounts lines list counts
-whole_counted texts lines list counts whole is_whole are counted =
-    let all : AreTextLines true texts lines = subst (λ b. AreTextLines b texts lines) is_whole are in
+whole_counted texts lines list counts whole is_complete are counted =
+    let all : AreTextLines true texts lines = subst (λ b. AreTextLines b texts lines) is_complete are in
     (subst (λ (ls : List Text). All IsUtf8 ls) (sym all.1) all.0, subst (λ (ls : List Text). AreCounts ls list counts) (sym all.1) counted)
 
 -- some of the texts were interned, which are the first lines
@@ -29,8 +29,8 @@ first_interned old now texts lines whole limit n are made few list =
     subst (λ (ts : List Text). extend spur_at (made_with 4096 limit) ts accepted now) (sym (first_same n texts lines (texts_begin whole texts lines are) few))
     (subst (λ (i : InternerView). extend spur_at i (take n texts) accepted now) made list)
 
--- all texts were counted, and the next line is no text
-pub not_text : (old now : InternerView) (texts lines : List Text) (whole : Bool) (limit : ℕ) → whole ≡ false → AreTextLines whole texts lines → old ≡ made_with 4096 limit → extend spur_at old texts accepted now → CountingFault limit lines (Line (NotText (length texts + 1)))
+-- all texts were counted, and the next line is not UTF-8
+pub not_text : (old now : InternerView) (texts lines : List Text) (whole : Bool) (limit : ℕ) → whole ≡ false → AreTextLines whole texts lines → old ≡ made_with 4096 limit → extend spur_at old texts accepted now → CountingError limit lines (Line (NotText (length texts + 1)))
 not_text old now texts lines whole limit not_whole are made list =
     let stop : AreTextLines false texts lines = subst (λ b. AreTextLines b texts lines) not_whole are in
     let all : take (length texts) texts ≡ texts = take_all (length texts) texts (omega arith) in
@@ -38,10 +38,10 @@ not_text old now texts lines whole limit not_whole are made list =
     (length texts, inr (inr (now, first_interned old now texts lines false limit (length texts) stop made (omega arith) these, bad_line now texts lines stop)))
 
 -- a text was refused
-pub text_refused : (old now : InternerView) (texts lines : List Text) (whole : Bool) (limit n : ℕ) (error : LassoError) → AreTextLines whole texts lines → old ≡ made_with 4096 limit → extend spur_at old (take n texts) accepted now → IsSomeAnd (slice_get texts n) (λ text. IsRefused now text error) → CountingFault limit lines (Line (Refused (n + 1) error))
+pub text_refused : (old now : InternerView) (texts lines : List Text) (whole : Bool) (limit n : ℕ) (error : LassoError) → AreTextLines whole texts lines → old ≡ made_with 4096 limit → extend spur_at old (take n texts) accepted now → IsSomeAnd (slice_get texts n) (λ text. IsRefused now text error) → CountingError limit lines (Line (Refused (n + 1) error))
 text_refused old now texts lines whole limit n error are made list refused = refused_at (slice_get texts n) refl refused
   where
-    refused_at : (o : Option Text) → slice_get texts n ≡ o → IsSomeAnd o (λ text. IsRefused now text error) → CountingFault limit lines (Line (Refused (n + 1) error))
+    refused_at : (o : Option Text) → slice_get texts n ≡ o → IsSomeAnd o (λ text. IsRefused now text error) → CountingError limit lines (Line (Refused (n + 1) error))
     refused_at None at holds = absurd holds
     refused_at (Some text) at holds =
         let small = slice_get_within texts n text at in

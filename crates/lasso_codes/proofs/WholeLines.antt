@@ -1,7 +1,8 @@
--- An input that is read as a whole: its lines as texts, and what was encoded or counted of them.
+-- An input that is read as a whole: its lines as texts, and those that were encoded or counted.
 --
--- The codes of the texts are spread over the lines: each line that is no null takes the next code. So where codes are wanting, the first
--- line without a number is the one whose text comes next after those that have codes; and where each text has one, each line has a number.
+-- The codes of the texts are spread over the lines: each line that is not null takes the next code. If there
+-- are fewer codes than texts, the first line without a number is that of the first text without a code. If
+-- each text has a code, each line has a number.
 use Rattle.std.proofs.Common.{ℕ, zero, suc, ◌≡◌, ◌+◌, ◌-◌, ◌^◌, ◌<◌, ◌≤◌, Bool, true, false, not, cond, List, [], ◌∷◌, ◌++◌, length, map, take, drop, is_some, is_ok, is_err, Option, Some, None, Bor, get_or, Result, Ok, Err, refl, sym, ap, subst, ◌∙◌, arith, inr, append_assoc}
 use Rattle.std.specs.Prelude.{All, IsSome, slice_get, IsSomeAnd}
 use Rattle.std.specs.Str.{IsUtf8}
@@ -25,16 +26,16 @@ use Rattle.lasso_columns.specs.Parts.{new_texts}
 use Rattle.lasso_columns.specs.declared.faults.LineError.TheVariants.{Refused, NotText}
 use Rattle.lasso_counts.proofs.Rest.{first, found_extended, take_front}
 use Rattle.lasso_codes.specs.Columns.{is_null, texts_of, dictionary_of, entry_of, entry_at}
-use Rattle.lasso_codes.specs.Encode.{AreNumbered, EncodingFault}
+use Rattle.lasso_codes.specs.Encode.{AreNumbered, EncodingError}
 use Rattle.lasso_codes.specs.Whole.{AreTextLines, on_code, spread}
-use Rattle.lasso_codes.specs.declared.fault.RunFault.TheVariants.{Line}
+use Rattle.lasso_codes.specs.declared.error.RunError.TheVariants.{Line}
 use Rattle.lasso_codes.specs.Stages.{AreEntries, IsEntryAs}
 use Rattle.lasso_codes.proofs.EncodedLines.{entries_are, texts_push}
 use Rattle.lasso_codes.proofs.FewTexts.{few_texts}
 
 -- ---- the lines as texts
 
--- these lines are text, and the rest is left
+-- these lines are UTF-8, and the rest is left
 pub record FirstTexts (bytes rest : List ℕ) (texts : List Text) : Type 0 where
   pub split : lines_of bytes ≡ texts ++ lines_of rest
   pub each : All IsUtf8 texts
@@ -83,7 +84,7 @@ all_at P (t ∷ texts) zero text all at = let same : t ≡ text = cc in subst P 
 all_at P (t ∷ texts) (suc n) text all at = all_at P texts n text (λ k d small. all (suc k) d (omega (arith, small))) at
 all_at P [] n text all at = absurd (cc)
 
--- a text that was refused is the fault of its line
+-- the error of a text is that of its line
 pub refused_line : (now : InternerView) (whole : Bool) (texts lines : List Text) (n : ℕ) (text : Text) (error : LassoError) → AreTextLines whole texts lines → slice_get texts n ≡ Some text → IsRefused now text error → IsSomeAnd (slice_get lines n) (λ line. IsFaultOf now line (n + 1) (Refused (n + 1) error))
 refused_line now whole texts lines n text error are at refused =
     let is : IsFaultOf now text (n + 1) (Refused (n + 1) error) = (refl, all_at IsUtf8 texts n text (texts_utf8 whole texts lines are) at, refused) in
@@ -93,7 +94,7 @@ at_seam : (done : List Text) (line : Text) (more : List Text) → slice_get (don
 at_seam [] line more = refl
 at_seam (t ∷ done) line more = at_seam done line more
 
--- and so is a line that is no text, after those that are
+-- the error of the first line that is not UTF-8
 pub bad_line : (now : InternerView) (texts lines : List Text) → AreTextLines false texts lines → IsSomeAnd (slice_get lines (length texts)) (λ line. IsFaultOf now line (length texts + 1) (NotText (length texts + 1)))
 bad_line now texts lines are =
     let at : slice_get lines (length texts) ≡ Some are.1.0 = ap (λ (ls : List Text). slice_get ls (length texts)) are.1.2 ∙ at_seam texts are.1.0 are.1.1 in
@@ -104,7 +105,7 @@ bad_line now texts lines are =
 abbrev number_by : Option Text → List Text → List ℕ → Bool → List ℕ
 number_by null lines codes b = cond b (4294967295 ∷ spread null lines codes) (on_code codes (spread null lines))
 
--- those that have codes are those of the lines that have numbers
+-- the texts that have codes are those of the lines that have numbers
 abbrev IsFirst : Option Text → List Text → List ℕ → Type 0
 IsFirst null lines codes = take (length codes) (texts_of null lines) ≡ texts_of null (take (length (spread null lines codes)) lines)
 
@@ -135,7 +136,7 @@ pub spread_next : (null : Option Text) (lines : List Text) (codes : List ℕ) (t
 spread_next null [] codes text = λ at. absurd (cc)
 spread_next null (line ∷ lines) codes text = λ at. next_by null line lines codes text (is_null null line) (λ cs. spread_next null lines cs text) at
 
--- where each text has a code, each line has a number
+-- if each text has a code, each line has a number
 all_by : (null : Option Text) (line : Text) (lines : List Text) (codes : List ℕ) (b : Bool) → ((cs : List ℕ) → length cs ≡ length (texts_of null lines) → length (spread null lines cs) ≡ length lines) → length codes ≡ length (cond (not b) (line ∷ texts_of null lines) (texts_of null lines)) → length (number_by null lines codes b) ≡ suc (length lines)
 all_by null line lines codes true others many = ap suc (others codes many)
 all_by null line lines [] false others many = absurd (omega (arith, many))
@@ -211,7 +212,7 @@ texts_encoded old now texts before after none list codes =
     }
 
 module _ (old now : InternerView) (null : Option Text) (lines texts : List Text) (whole : Bool) (codes numbers : List ℕ) (are : AreTextLines whole texts lines) (encoded : TextsEncoded old now (texts_of null texts) codes) (is : numbers ≡ spread null texts codes) where
-  -- the numbers are no more than the texts
+  -- there are at most as many numbers as lines
   numbers_few : length numbers ≤ length texts
   numbers_few = numbers_most texts codes numbers is
     where
@@ -236,10 +237,10 @@ module _ (old now : InternerView) (null : Option Text) (lines texts : List Text)
       subst (λ (ts : List Text). extend spur_at old ts accepted now) (these ∙ ap (texts_of null) (sym same)) encoded.list
 
   -- the next text was refused
-  pub whole_refused : (limit : ℕ) (error : LassoError) → old ≡ made_with 4096 limit → IsSomeAnd (slice_get (texts_of null texts) (length codes)) (λ text. IsRefused now text error) → EncodingFault limit null lines (Line (Refused (length numbers + 1) error))
+  pub whole_refused : (limit : ℕ) (error : LassoError) → old ≡ made_with 4096 limit → IsSomeAnd (slice_get (texts_of null texts) (length codes)) (λ text. IsRefused now text error) → EncodingError limit null lines (Line (Refused (length numbers + 1) error))
   whole_refused limit error made refused = refused_at (slice_get (texts_of null texts) (length codes)) refl refused
     where
-      refused_at : (o : Option Text) → slice_get (texts_of null texts) (length codes) ≡ o → IsSomeAnd o (λ text. IsRefused now text error) → EncodingFault limit null lines (Line (Refused (length numbers + 1) error))
+      refused_at : (o : Option Text) → slice_get (texts_of null texts) (length codes) ≡ o → IsSomeAnd o (λ text. IsRefused now text error) → EncodingError limit null lines (Line (Refused (length numbers + 1) error))
       refused_at None at holds = absurd holds
       refused_at (Some text) at holds =
           let here : slice_get texts (length numbers) ≡ Some text = ap (λ (ns : List ℕ). slice_get texts (length ns)) is ∙ spread_next null texts codes text at in
@@ -250,8 +251,8 @@ module _ (old now : InternerView) (null : Option Text) (lines texts : List Text)
     pub each_numbered : length numbers ≡ length texts
     each_numbered = ap length is ∙ spread_all null texts codes many
 
-    -- the next line is no text
-    pub whole_not_text : (limit : ℕ) → old ≡ made_with 4096 limit → whole ≡ false → EncodingFault limit null lines (Line (NotText (length numbers + 1)))
+    -- the next line is not UTF-8
+    pub whole_not_text : (limit : ℕ) → old ≡ made_with 4096 limit → whole ≡ false → EncodingError limit null lines (Line (NotText (length numbers + 1)))
     whole_not_text limit made not_whole =
         let stop : AreTextLines false texts lines = subst (λ b. AreTextLines b texts lines) not_whole are in
         let bad = bad_line now texts lines stop in
@@ -261,8 +262,8 @@ module _ (old now : InternerView) (null : Option Text) (lines texts : List Text)
 
     -- these are all lines
     pub whole_numbered : old.texts ≡ [] → whole ≡ true → All IsUtf8 lines × AreNumbered null lines now.texts numbers
-    whole_numbered empty is_whole =
-        let all : AreTextLines true texts lines = subst (λ b. AreTextLines b texts lines) is_whole are in
+    whole_numbered empty is_complete =
+        let all : AreTextLines true texts lines = subst (λ b. AreTextLines b texts lines) is_complete are in
         let every : take (length codes) (texts_of null texts) ≡ texts_of null texts = take_all (length codes) (texts_of null texts) (omega (arith, many)) in
         let interned : extend spur_at old (texts_of null texts) accepted now = subst (λ (ts : List Text). extend spur_at old ts accepted now) every encoded.list in
         let coded : AreCodes now.texts (texts_of null texts) codes = subst (λ (ts : List Text). AreCodes now.texts ts codes) every encoded.codes_are in
@@ -277,7 +278,7 @@ module _ (old now : InternerView) (null : Option Text) (lines texts : List Text)
 
 -- ---- one line after another
 
--- the first lines and one more, of which those that are no null are kept
+-- the lines that are not null, among the first lines and one more
 pub kept_null : (null : Option Text) (lines : List Text) (line : Text) → is_null null line ≡ true → texts_of null (lines ++ line ∷ []) ≡ texts_of null lines
 kept_null null lines line e = texts_push null lines line true e ∙ append-nil (texts_of null lines)
 
@@ -313,7 +314,7 @@ drop_none (c ∷ codes) (suc i) at = drop_none codes i at
 
 -- ---- a line more, as the code reads it
 
--- what a push leaves that didn't fail
+-- the list after a push that succeeded
 pub pushed : {X E : Type 0} (r : Result (Unit {0}) E) (after grown before : List X) → after ≡ cond (is_ok r) grown before → is_err r ≡ false → after ≡ grown
 pushed (Ok done) after grown before is fine = is
 pushed (Err e) after grown before is fine = absurd (cc)

@@ -1,6 +1,7 @@
 -- The words of the command line, one after another.
 --
--- A word is read with those after it: what it leaves to be read is asked of the others. A search for an equals sign finds the first one.
+-- A word is read, and then the words after it, with what was read so far. A search for an equals sign finds
+-- the first one.
 use Rattle.std.proofs.Common.{ℕ, zero, suc, ◌≡◌, ◌+◌, ◌<◌, ◌==◌, false, cond, List, [], ◌∷◌, length, map, drop, get_or, Option, Some, None, Ok, Err, sym, ap, subst, ◌∙◌, arith}
 use Rattle.std.specs.Prelude.{slice_get, MatchOption, position, codes, bytes_eq}
 use Rattle.memchr.specs.Find.{IsFirstByte, is_byte}
@@ -8,7 +9,7 @@ use Rattle.lasso_parts.specs.Texts.{Text}
 use Rattle.lasso_codes.specs.Arguments.{Asked, command_of, verb_of, on_verb, not_verb, is_binary, meaning_of, at_equals}
 use Rattle.lasso_codes.proofs.FirstBytes.{first_byte_at}
 use Rattle.lasso_codes.specs.declared.arguments.Verb.{Verb}
-use Rattle.lasso_codes.specs.declared.arguments.Meaning.TheVariants.{AsksHelp, IsBinary, IsQuiet}
+use Rattle.lasso_codes.specs.declared.options.Meaning.TheVariants.{AsksHelp, IsBinary, IsQuiet}
 use Rattle.lasso_codes.specs.declared.arguments.Command.TheVariants.{Help, Version}
 
 -- the first word
@@ -24,7 +25,7 @@ next_word see (w ∷ words) (suc i) word small is =
     let more : suc (i + 1) ≡ suc i + 1 = omega arith in
     next_word see words i word (omega (arith, small)) is ∙ ap (λ n. see word ∷ drop n (see w ∷ map see words)) more
 
--- the first word is no verb
+-- the first word is not a verb
 pub no_verb_is : (words : List Text) (word : Text) → slice_get words 0 ≡ Some word → bytes_eq word (codes "--help") ≡ false → bytes_eq word (codes "--version") ≡ false → verb_of word ≡ None → command_of words ≡ Err (not_verb word)
 no_verb_is [] word at help version none = cc
 no_verb_is (w ∷ words) word at help version none =
@@ -35,7 +36,7 @@ no_verb_is (w ∷ words) word at help version none =
     ∙ ap (λ b. cond b help_asked (cond (bytes_eq word (codes "--version")) version_asked (on_verb (verb_of word) word words))) help
     ∙ ap (λ b. cond b version_asked (on_verb (verb_of word) word words)) version ∙ ap (λ o. on_verb o word words) none
 
--- what is told of a word, where nothing is left to read and where something is
+-- what is read with a word, if it ends the command and if it does not
 pub told_none : {X R : Type 0} (o : Option X) (asked done : R) (go : X → R) → o ≡ None → MatchOption o (asked ≡ done) (λ after. asked ≡ go after) → asked ≡ done
 told_none o asked done go e told = subst (λ p. MatchOption p (asked ≡ done) (λ after. asked ≡ go after)) e told
 
@@ -47,7 +48,7 @@ told_some o after asked done go e told = subst (λ p. MatchOption p (asked ≡ d
 equals_is : (word : Text) (o : Option ℕ) → IsFirstByte (is_byte 61) word o → position (λ b. b == 61) word ≡ o
 equals_is word o found = first_byte_at 61 word o found
 
--- the meaning of a word that does not ask for help, for no line, or for codes as bytes
+-- the meaning of a word that is not `--help`, `--quiet` or `--binary`
 pub meaning_is : (verb : Verb) (word bytes : Text) (o : Option ℕ) → bytes ≡ word → bytes_eq word (codes "--help") ≡ false → bytes_eq word (codes "--quiet") ≡ false → is_binary verb word ≡ false → IsFirstByte (is_byte 61) bytes o → meaning_of verb word ≡ at_equals verb word o
 meaning_is verb word bytes o same help quiet binary found =
     let value = at_equals verb word (position (λ c. c == 61) word) in

@@ -3,7 +3,7 @@ use Rattle.std.proofs.Common.{ℕ, ◌≡◌, List, [], ◌++◌, take, Option, 
 use Rattle.std.specs.Io.KnownBytes.{Appends, Keeps}
 use Rattle.std.proofs.lemmas.List.{append-nil}
 use Rattle.lasso_codes.specs.Streams.{Begins, Writes, WritesAll}
-use Rattle.lasso_codes.specs.declared.fault.RunFault.{RunFault}
+use Rattle.lasso_codes.specs.declared.error.RunError.{RunError}
 
 pub appends_none : (known : Option (List ℕ)) → Appends known known []
 appends_none None = tt
@@ -36,7 +36,7 @@ writes_kept before mid after P Q w kept then = (w.0, appends_kept before mid aft
 
 -- ---- bytes that several calls take
 
--- so much is written, and the rest is left
+-- these bytes are written, and the rest is left
 abbrev pub HasLeft : List ℕ → List ℕ → List ℕ → Type 0
 HasLeft bytes rest part = part ++ rest ≡ bytes
 
@@ -51,18 +51,18 @@ pub begins_first : (part front back : List ℕ) → Begins part front → Begins
 begins_first part front back b = (b.0 ++ back, ap (λ bs. bs ++ back) b.1 ∙ append_assoc part b.0 back)
 
 -- the front of some bytes is written, and then the others, or a beginning of them
-pub front_then : (part more front back : List ℕ) (result : Result (Unit {0}) RunFault) → part ≡ front → WritesAll back result more → WritesAll (front ++ back) result (part ++ more)
+pub front_then : (part more front back : List ℕ) (result : Result (Unit {0}) RunError) → part ≡ front → WritesAll back result more → WritesAll (front ++ back) result (part ++ more)
 front_then part more front back (Ok x) is w = ap (λ bs. bs ++ more) is ∙ ap (λ bs. front ++ bs) w
-front_then part more front back (Err fault) is w = (w.0, begins_split part more back (front ++ back) (ap (λ bs. bs ++ back) is) w.1)
+front_then part more front back (Err error) is w = (w.0, begins_split part more back (front ++ back) (ap (λ bs. bs ++ back) is) w.1)
 
-pub front_fails : (part front back : List ℕ) (fault : RunFault) → WritesAll front (Err fault) part → WritesAll (front ++ back) (Err fault) part
-front_fails part front back fault w = (w.0, begins_first part front back w.1)
+pub front_fails : (part front back : List ℕ) (error : RunError) → WritesAll front (Err error) part → WritesAll (front ++ back) (Err error) part
+front_fails part front back error w = (w.0, begins_first part front back w.1)
 
 -- the same of known bytes that grow
-pub writes_front : (before mid after : Option (List ℕ)) (front back : List ℕ) (result : Result (Unit {0}) RunFault) → Writes before mid (λ part. part ≡ front) → Writes mid after (WritesAll back result) → Writes before after (WritesAll (front ++ back) result)
+pub writes_front : (before mid after : Option (List ℕ)) (front back : List ℕ) (result : Result (Unit {0}) RunError) → Writes before mid (λ part. part ≡ front) → Writes mid after (WritesAll back result) → Writes before after (WritesAll (front ++ back) result)
 writes_front before mid after front back result v w =
     writes_then before mid after (λ part. part ≡ front) (WritesAll back result) (WritesAll (front ++ back) result) v w (λ part more is x. front_then part more front back result is x)
 
-pub writes_front_fails : (before after : Option (List ℕ)) (front back : List ℕ) (fault : RunFault) → Writes before after (WritesAll front (Err fault)) → Writes before after (WritesAll (front ++ back) (Err fault))
-writes_front_fails before after front back fault v =
-    writes_as before after (WritesAll front (Err fault)) (WritesAll (front ++ back) (Err fault)) v (λ part w. front_fails part front back fault w)
+pub writes_front_fails : (before after : Option (List ℕ)) (front back : List ℕ) (error : RunError) → Writes before after (WritesAll front (Err error)) → Writes before after (WritesAll (front ++ back) (Err error))
+writes_front_fails before after front back error v =
+    writes_as before after (WritesAll front (Err error)) (WritesAll (front ++ back) (Err error)) v (λ part w. front_fails part front back error w)

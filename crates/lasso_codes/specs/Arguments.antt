@@ -1,4 +1,4 @@
--- What the words of the command line ask for, and why they are refused.
+-- How the arguments are parsed, and why they are refused.
 use Rattle.std.specs.Prelude.{ℕ, ◌+◌, ◌-◌, ◌*◌, ◌^◌, ◌<◌, ◌==◌, Bool, true, false, ◌&&◌, List, [], ◌∷◌, ◌++◌, length, take, drop, nat_le, nat_lt, Option, Some, None, Result, Ok, Err, slice_get, option_and_then, option_map, position, codes, decimal, bytes_eq, if◌then◌else◌}
 use denote.Ref.{Bor}
 use Rattle.lasso_parts.specs.Texts.{Text}
@@ -7,19 +7,19 @@ use Rattle.lasso_codes.specs.declared.arguments.Verb.TheVariants.{Counts, Decode
 use Rattle.lasso_codes.specs.declared.arguments.Settings.{Settings}
 use Rattle.lasso_codes.specs.declared.arguments.Command.{Command}
 use Rattle.lasso_codes.specs.declared.arguments.Command.TheVariants.{Help, VerbHelp, Version, Run}
-use Rattle.lasso_codes.specs.declared.arguments.Setting.{Setting}
-use Rattle.lasso_codes.specs.declared.arguments.Setting.TheVariants.{Limit, Top, Null, Workers}
-use Rattle.lasso_codes.specs.declared.arguments.Reading.{Reading}
-use Rattle.lasso_codes.specs.declared.arguments.Meaning.{Meaning}
-use Rattle.lasso_codes.specs.declared.arguments.Meaning.TheVariants.{AsksHelp, IsBinary, IsQuiet, Wants, Has, Nothing}
-use Rattle.lasso_codes.specs.declared.arguments.ArgumentFault.{ArgumentFault}
-use Rattle.lasso_codes.specs.declared.arguments.ArgumentFault.TheVariants.{NoVerb, NotVerb, NotOption, NoNumber, NoWord, NotNumber, NoWorkers, PastWorkers, NotText}
+use Rattle.lasso_codes.specs.declared.options.Setting.{Setting}
+use Rattle.lasso_codes.specs.declared.options.Setting.TheVariants.{Limit, Top, Null, Workers}
+use Rattle.lasso_codes.specs.declared.options.Reading.{Reading}
+use Rattle.lasso_codes.specs.declared.options.Meaning.{Meaning}
+use Rattle.lasso_codes.specs.declared.options.Meaning.TheVariants.{AsksHelp, IsBinary, IsQuiet, Wants, Has, Nothing}
+use Rattle.lasso_codes.specs.declared.arguments.ArgumentError.{ArgumentError}
+use Rattle.lasso_codes.specs.declared.arguments.ArgumentError.TheVariants.{NoVerb, NotVerb, NotOption, NoNumber, NoWord, NotNumber, NoWorkers, PastWorkers, NotText}
 
 -- an ASCII digit
 abbrev pub is_digit : ℕ → Bool
 is_digit b = nat_le 48 b && nat_le b 57
 
--- the value of digits after others of this value, where it is below 2 ^ 64
+-- the value of digits that follow digits of this value, if it is below 2 ^ 64
 abbrev pub digits_after : ℕ → List ℕ → Option ℕ
 digits_after value [] = Some value
 digits_after value (b ∷ bytes) =
@@ -29,20 +29,20 @@ digits_after value (b ∷ bytes) =
 abbrev pub digits_value : List ℕ → Option ℕ
 digits_value word = if nat_le 1 (length word) && nat_le (length word) 20 then digits_after 0 word else None
 
--- what the last byte multiplies by: 1024 for K, and its square and cube for M and G
+-- the factor that the last byte stands for: 1024 for K, and its square and cube for M and G
 abbrev pub unit_of : Option ℕ → ℕ
 unit_of None = 1
 unit_of (Some b) = if b == 75 then 1024 else (if b == 77 then 1048576 else (if b == 71 then 1073741824 else 1))
 
--- so many units, where that is below 2 ^ 64
+-- n times the unit, if that is below 2 ^ 64
 abbrev pub times : ℕ → ℕ → Option ℕ
 times unit n = if nat_lt (n * unit) (2 ^ 64) then Some (n * unit) else None
 
--- digits and a unit, or digits alone
+-- digits with a unit, or digits alone
 abbrev pub in_units : ℕ → List ℕ → Option ℕ
 in_units unit word = option_and_then (times unit) (digits_value (if unit == 1 then word else take (length word - 1) word))
 
--- the number that the word says
+-- the number that a word stands for
 abbrev pub number_of : List ℕ → Option ℕ
 number_of word = in_units (unit_of (slice_get word (length word - 1))) word
 
@@ -72,7 +72,7 @@ no_workers = codes "--workers: 0 is below 1"
 abbrev pub past_workers : ℕ → List ℕ
 past_workers count = codes "--workers: " ++ (decimal count ++ codes " is past 64")
 
-abbrev pub argument_text : ArgumentFault → List ℕ
+abbrev pub argument_text : ArgumentError → List ℕ
 argument_text NoVerb = no_verb
 argument_text (NotVerb word) = not_verb word.now
 argument_text (NotOption word) = not_option word.now
@@ -129,16 +129,16 @@ abbrev pub has : Option Setting → ℕ → Meaning
 has None at = Nothing
 has (Some setting) at = Has setting at
 
--- a setting with its value, where the word has an equals sign, and else a setting alone
+-- a setting with its value if the word has an equals sign, and else a setting alone
 abbrev pub at_equals : Verb → Text → Option ℕ → Meaning
 at_equals verb word None = wants (setting_of verb word)
 at_equals verb word (Some at) = has (setting_of verb (take at word)) at
 
--- the word is the verb's option for codes as bytes
+-- the word is `--binary`, and the verb has that option
 abbrev pub is_binary : Verb → Text → Bool
 is_binary verb word = bytes_eq word (codes "--binary") && takes_binary verb
 
--- what the word means among the options of the verb; an equals sign is byte 61
+-- the meaning of the word as an option of the verb; an equals sign is byte 61
 abbrev pub meaning_of : Verb → Text → Meaning
 meaning_of verb word =
     if bytes_eq word (codes "--help") then AsksHelp
@@ -154,43 +154,43 @@ IsWithin (Wants setting) word = Unit {0}
 IsWithin (Has setting at) word = at < length word
 IsWithin Nothing word = Unit {0}
 
--- the bytes of a word that is lent
+-- the bytes of a borrowed word
 abbrev pub word_of : Option (Bor Text) → Option Text
 word_of word = option_map (λ w. w.now) word
 
--- the setting that waits for its value, with its word
+-- the setting whose value is the next word, with its name
 abbrev pub wanted_of : Reading → Option (Setting × Text)
 wanted_of reading = option_map (λ wanted. (wanted.0, wanted.1.now)) reading.wanted
 
--- so many workers, where that is 1 to 64; or why there can't be so many
+-- the number of workers if it is 1 to 64, and else the message
 abbrev pub workers_of : ℕ → Result ℕ (List ℕ)
 workers_of count = if nat_lt count 1 then Err no_workers else (if nat_le count 64 then Ok count else Err (past_workers count))
 
--- what goes on with a number, or else the message
+-- continues with the number, or returns the message
 abbrev pub on_number : {X : Type 0} → Option ℕ → Text → (ℕ → Result X (List ℕ)) → Result X (List ℕ)
 on_number None word go = Err (not_number word)
 on_number (Some n) word go = go n
 
--- the settings with so many workers
+-- the settings with this number of workers
 abbrev pub with_workers : Settings → Option Text → Result ℕ (List ℕ) → Result (Settings × Option Text) (List ℕ)
 with_workers settings null (Ok n) = Ok (record settings { workers = n }, null)
 with_workers settings null (Err message) = Err message
 
--- the settings and the null with the value that the bytes say, which are of this word; or why it is refused
+-- the settings and the null with this value of the setting; or the message, which names the word
 abbrev pub value_of : Settings → Option Text → Setting → Text → Text → Result (Settings × Option Text) (List ℕ)
 value_of settings null Limit value word = on_number (number_of value) word (λ n. Ok (record settings { limit = n }, null))
 value_of settings null Top value word = on_number (number_of value) word (λ n. Ok (record settings { top = n }, null))
 value_of settings null Null value word = Ok (settings, Some value)
 value_of settings null Workers value word = on_number (number_of value) word (λ n. with_workers settings null (workers_of n))
 
--- why an option without a value is refused
+-- the message for an option without a value
 abbrev pub no_value : Setting → Text → List ℕ
 no_value Limit word = no_number word
 no_value Top word = no_number word
 no_value Null word = no_word word
 no_value Workers word = no_number word
 
--- what a verb is asked for, and its null; or why the words are refused
+-- a command and its null, or the message
 abbrev pub Asked : Type 0
 Asked = Result (Command × Option Text) (List ℕ)
 
@@ -206,8 +206,8 @@ on_meaning (Wants setting) help binary quiet wants has nothing = wants setting
 on_meaning (Has setting at) help binary quiet wants has nothing = has setting at
 on_meaning Nothing help binary quiet wants has nothing = nothing
 
--- what the verb is asked for by the words, where the settings and the null are these so far and this setting waits for its value; or
--- why the words are refused
+-- the command that the rest of the words gives. So far, the settings and the null are these, and `wanted` is
+-- the setting whose value is the next word
 abbrev pub options_of : Verb → Settings → Option Text → Option (Setting × Text) → List Text → Asked
 options_of verb settings null None [] = Ok (Run verb settings, null)
 options_of verb settings null (Some wanted) [] = Err (no_value wanted.0 wanted.1)
@@ -230,7 +230,7 @@ verb_of word =
     else (if bytes_eq word (codes "distinct") then Some Distinct
     else (if bytes_eq word (codes "encode") then Some Encode else (if bytes_eq word (codes "merge") then Some Merge else None))))
 
--- no limit, all lines, codes as text, one worker, and a progress line
+-- the default settings: no limit, all lines, codes as text, one worker, and a progress line
 abbrev pub unset : Settings
 unset = record { limit = 2 ^ 64 - 1; top = 2 ^ 64 - 1; binary = false; workers = 1; quiet = false }
 
@@ -238,7 +238,7 @@ abbrev pub on_verb : Option Verb → Text → List Text → Asked
 on_verb None word words = Err (not_verb word)
 on_verb (Some verb) word words = options_of verb unset None None words
 
--- what the words ask for, or why they are refused
+-- the command that the arguments give, or the message
 abbrev pub command_of : List Text → Asked
 command_of [] = Err no_verb
 command_of (word ∷ words) =

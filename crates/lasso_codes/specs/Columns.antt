@@ -1,4 +1,5 @@
--- The bytes of a column: a header, the dictionary's lines in the order of their codes, and an entry for each line.
+-- The bytes of a column: a header, the dictionary's lines in the order of their codes, and an entry for each
+-- line.
 use Rattle.std.specs.Prelude.{ℕ, ◌==◌, Bool, true, false, not, List, [], ◌∷◌, ◌++◌, length, map, flat_map, Option, Some, None, unwrap_or, bytes_eq, codes, decimal, if◌then◌else◌}
 use Rattle.std.specs.List.{filter}
 use Rattle.std.specs.Int.{w32, to_le_bytes}
@@ -8,35 +9,35 @@ use Rattle.lasso_codes.specs.Distinct.{with_feed}
 
 -- ---- nulls
 
--- the line is the word that stands for a null
+-- whether the line is a null
 abbrev pub is_null : Option Text → Text → Bool
 is_null None line = false
 is_null (Some word) line = bytes_eq word line
 
--- the lines that are texts of the column: those that are no null
+-- the lines that are not null
 abbrev pub texts_of : Option Text → List Text → List Text
 texts_of null lines = filter (λ line. not (is_null null line)) lines
 
--- each distinct text once, where it first comes
+-- each distinct text once, in the order of first occurrences
 abbrev pub dictionary_of : Option Text → List Text → List Text
 dictionary_of null lines = new_texts [] (texts_of null lines)
 
 -- ---- entries
 
--- none for a null, and else the line's code: its position in the dictionary
+-- the entry of a line: none for a null, and else the code of the line, its position in the dictionary
 abbrev pub entry_of : Option Text → List Text → Text → Option ℕ
 entry_of null list line = if is_null null line then None else position_of list line
 
--- the entry that a number stands for: 4294967295 is a null, and no code
+-- the entry with this number: 4294967295 is a null and never a code
 abbrev pub entry_at : ℕ → Option ℕ
 entry_at number = if number == 4294967295 then None else Some number
 
--- a line of its own; byte 45 is a minus sign
+-- an entry as a line; byte 45 is a minus sign
 abbrev pub entry_line : Option ℕ → List ℕ
 entry_line None = 45 ∷ 10 ∷ []
 entry_line (Some code) = decimal code ++ 10 ∷ []
 
--- four bytes, the least first; or a line
+-- an entry as four bytes, the least significant first, or as a line
 abbrev pub entry_bytes : Bool → Option ℕ → List ℕ
 entry_bytes true entry = to_le_bytes w32 (unwrap_or entry 4294967295)
 entry_bytes false entry = entry_line entry
@@ -47,7 +48,7 @@ abbrev pub header_front : Bool → List ℕ
 header_front true = codes "lasso-codes 1 binary "
 header_front false = codes "lasso-codes 1 text "
 
--- the header line, with the numbers of distinct texts and of lines; byte 32 is a space
+-- the header line, with the number of distinct texts and the number of lines; byte 32 is a space
 abbrev pub header : Bool → ℕ → ℕ → List ℕ
 header binary distinct lines = header_front binary ++ (decimal distinct ++ 32 ∷ [] ++ (decimal lines ++ 10 ∷ []))
 

@@ -6,36 +6,37 @@ use Rattle.lasso_columns.specs.Lines.{lines_of}
 use Rattle.lasso_columns.specs.declared.faults.LineError.TheVariants.{Refused}
 use Rattle.lasso_codes.specs.Distinct.{with_feed}
 use Rattle.lasso_codes.specs.Encode.{EncodeEnd}
-use Rattle.lasso_codes.specs.Reading.{Makes, ReadItems, read_column, IsEntryFault, IsColumnFault}
+use Rattle.lasso_codes.specs.Reading.{Makes, ReadItems, read_column, IsEntryError, IsColumnError}
 use Rattle.lasso_codes.specs.Streams.{Begins, WritesAll}
 use Rattle.lasso_codes.specs.declared.entries.Entry.TheVariants.{Missing, Bad, Null, Code}
-use Rattle.lasso_codes.specs.declared.fault.ColumnFault.{ColumnFault}
-use Rattle.lasso_codes.specs.declared.fault.ColumnFault.TheVariants.{TextRefused, NoEntry, NotEntry, PastTexts, IsNull}
-use Rattle.lasso_codes.specs.declared.fault.RunFault.{RunFault}
-use Rattle.lasso_codes.specs.declared.fault.RunFault.TheVariants.{Line, TooManyLines, ReadFailed, WriteFailed, ReaderGone, Column}
+use Rattle.lasso_codes.specs.declared.error.ColumnError.{ColumnError}
+use Rattle.lasso_codes.specs.declared.error.ColumnError.TheVariants.{TextRefused, NoEntry, NotEntry, PastTexts, IsNull}
+use Rattle.lasso_codes.specs.declared.error.RunError.{RunError}
+use Rattle.lasso_codes.specs.declared.error.RunError.TheVariants.{Line, TooManyLines, ReadFailed, WriteFailed, ReaderGone, Column}
 
 -- ---- the lines of columns
 
-abbrev pub text_or_past : Option Text → ℕ → Result Text ColumnFault
+abbrev pub text_or_past : Option Text → ℕ → Result Text ColumnError
 text_or_past None number = Err (PastTexts number)
 text_or_past (Some text) number = Ok text
 
-abbrev pub null_line : Option Text → ℕ → Result Text ColumnFault
+abbrev pub null_line : Option Text → ℕ → Result Text ColumnError
 null_line None number = Err (IsNull number)
 null_line (Some word) number = Ok word
 
--- the line of the entry of this number: the text at its code, or the word of a null
+-- the line of the entry with this number: the text at its code, or the word for a null
 abbrev pub line_at : Option Text → List Text → Makes Text
 line_at null list Missing number = Err (NoEntry number)
 line_at null list Bad number = Err (NotEntry number)
 line_at null list Null number = null_line null number
 line_at null list (Code code) number = text_or_past (slice_get list code) number
 
--- the lines of the column that the bytes begin with, where nulls are this word, and the bytes after it; or the lines up to a fault
+-- the lines of the first column of the bytes, and the bytes after it; or the lines before an error. `null` is
+-- the word for a null
 abbrev pub decoded : Option Text → List ℕ → ReadItems Text
 decoded null bytes = read_column (line_at null) bytes
 
--- so many columns begin the bytes: these are their lines, and the rest is left
+-- the bytes begin with n columns, which have these lines, and the rest follows them
 abbrev pub Reads : Option Text → ℕ → List ℕ → List Text → List ℕ → Type 0
 Reads null zero bytes lines rest = (lines ≡ []) × (rest ≡ bytes)
 Reads null (suc n) bytes lines rest =
@@ -47,60 +48,61 @@ Reads null (suc n) bytes lines rest =
 abbrev pub fed_lines : List Text → List ℕ
 fed_lines lines = flat_map with_feed lines
 
--- why not all lines of the column of this number were written: those before a faulty entry are, and after a failed write a beginning
-abbrev pub LinesFault : ReadItems Text → ℕ → List ℕ → RunFault → Type 0
-LinesFault read column part (Line error) = (error ≡ Refused 0 FailedAllocation) × ((m : ℕ) × (part ≡ fed_lines (take m read.0)))
-LinesFault read column part TooManyLines = ⊥
-LinesFault read column part ReadFailed = (m : ℕ) × (part ≡ fed_lines (take m read.0))
-LinesFault read column part WriteFailed = Begins part (fed_lines read.0)
-LinesFault read column part ReaderGone = Begins part (fed_lines read.0)
-LinesFault read column part (Column number fault) = (number ≡ column) × IsEntryFault fault × (read.1 ≡ Err fault) × (part ≡ fed_lines read.0)
+-- why not all lines of the column with this number were written. The lines before a bad entry were; after a
+-- failed write, a beginning of the lines was
+abbrev pub DecodingError : ReadItems Text → ℕ → List ℕ → RunError → Type 0
+DecodingError read column part (Line error) = (error ≡ Refused 0 FailedAllocation) × ((m : ℕ) × (part ≡ fed_lines (take m read.0)))
+DecodingError read column part TooManyLines = ⊥
+DecodingError read column part ReadFailed = (m : ℕ) × (part ≡ fed_lines (take m read.0))
+DecodingError read column part WriteFailed = Begins part (fed_lines read.0)
+DecodingError read column part ReaderGone = Begins part (fed_lines read.0)
+DecodingError read column part (Column number error) = (number ≡ column) × IsEntryError error × (read.1 ≡ Err error) × (part ≡ fed_lines read.0)
 
--- the line is written, or its entry is faulty and nothing is
-abbrev pub WritesEntry : Result Text ColumnFault → ℕ → Result (Unit {0}) RunFault → List ℕ → Type 0
+-- the line was written; or its entry is bad, and nothing was written
+abbrev pub WritesEntry : Result Text ColumnError → ℕ → Result (Unit {0}) RunError → List ℕ → Type 0
 WritesEntry (Ok line) column result part = WritesAll (with_feed line) result part
-WritesEntry (Err fault) column result part = (result ≡ Err (Column column fault)) × (part ≡ [])
+WritesEntry (Err error) column result part = (result ≡ Err (Column column error)) × (part ≡ [])
 
--- all lines of the column of this number are written, and the bytes after it are left
-abbrev pub WritesLines : ReadItems Text → ℕ → Option (List ℕ) → List ℕ → Result (Unit {0}) RunFault → Type 0
+-- all lines of the column with this number were written, and the bytes after it are left
+abbrev pub WritesLines : ReadItems Text → ℕ → Option (List ℕ) → List ℕ → Result (Unit {0}) RunError → Type 0
 WritesLines read column after part result =
-    MatchResult result (λ _. (rest : List ℕ) × (after ≡ Some rest) × (read.1 ≡ Ok rest) × (part ≡ fed_lines read.0)) (LinesFault read column part)
+    MatchResult result (λ _. (rest : List ℕ) × (after ≡ Some rest) × (read.1 ≡ Ok rest) × (part ≡ fed_lines read.0)) (DecodingError read column part)
 
 -- ---- how a run ends
 
--- the lines of the first columns are written, and so many of the next one
+-- the lines of the first n columns were written, and the first m lines of the next column
 abbrev pub IsWhole : List ℕ → Option Text → List ℕ → Type 0
 IsWhole input null part =
     (n : ℕ) × (lines : List Text) × (rest : List ℕ) × Reads null n input lines rest × ((m : ℕ) × (part ≡ fed_lines (lines ++ take m (decoded null rest).0)))
 
--- a beginning of these lines is written
+-- a beginning of these lines was written
 abbrev pub IsBegun : List ℕ → Option Text → List ℕ → Type 0
 IsBegun input null part = (n : ℕ) × (lines : List Text) × (rest : List ℕ) × Reads null n input lines rest × Begins part (fed_lines (lines ++ (decoded null rest).0))
 
--- the lines of the column that are written before the fault
-abbrev pub lines_before : Option Text → List ℕ → ColumnFault → List Text
+-- the lines of the column that are written before the error
+abbrev pub lines_before : Option Text → List ℕ → ColumnError → List Text
 lines_before null bytes (TextRefused number error) = []
-lines_before null bytes fault = (decoded null bytes).0
+lines_before null bytes error = (decoded null bytes).0
 
--- how a run ends that has written the part
-abbrev pub DecodeFault : List ℕ → ℕ → Option Text → List ℕ → RunFault → Type 0
-DecodeFault input limit null part (Line error) = (error ≡ Refused 0 FailedAllocation) × IsWhole input null part
-DecodeFault input limit null part TooManyLines = IsWhole input null part
-DecodeFault input limit null part ReadFailed = IsWhole input null part
-DecodeFault input limit null part WriteFailed = IsBegun input null part
-DecodeFault input limit null part ReaderGone = IsBegun input null part
-DecodeFault input limit null part (Column column fault) =
-    (n : ℕ) × (lines : List Text) × (rest : List ℕ) × Reads null n input lines rest × (column ≡ n + 1) × IsColumnFault (line_at null) limit rest fault
-    × (part ≡ fed_lines (lines ++ lines_before null rest fault))
+-- how a run ends with an error after it has written the part
+abbrev pub DecodeError : List ℕ → ℕ → Option Text → List ℕ → RunError → Type 0
+DecodeError input limit null part (Line error) = (error ≡ Refused 0 FailedAllocation) × IsWhole input null part
+DecodeError input limit null part TooManyLines = IsWhole input null part
+DecodeError input limit null part ReadFailed = IsWhole input null part
+DecodeError input limit null part WriteFailed = IsBegun input null part
+DecodeError input limit null part ReaderGone = IsBegun input null part
+DecodeError input limit null part (Column column error) =
+    (n : ℕ) × (lines : List Text) × (rest : List ℕ) × Reads null n input lines rest × (column ≡ n + 1) × IsColumnError (line_at null) limit rest error
+    × (part ≡ fed_lines (lines ++ lines_before null rest error))
 
--- without a fault the input is columns, and the part is their lines
-abbrev pub DecodeEnd : List ℕ → ℕ → Option Text → List ℕ → Result (Unit {0}) RunFault → Type 0
+-- without an error, the input is columns and the part is their lines
+abbrev pub DecodeEnd : List ℕ → ℕ → Option Text → List ℕ → Result (Unit {0}) RunError → Type 0
 DecodeEnd input limit null part result =
-    MatchResult result (λ _. (n : ℕ) × (lines : List Text) × Reads null n input lines [] × (part ≡ fed_lines lines)) (DecodeFault input limit null part)
+    MatchResult result (λ _. (n : ℕ) × (lines : List Text) × Reads null n input lines [] × (part ≡ fed_lines lines)) (DecodeError input limit null part)
 
 -- ---- the law
 
--- decoding what `encode` wrote of an input gives its lines, whatever comes after it
+-- decoding what `encode` wrote for an input gives the lines of the input, whatever follows the column
 abbrev pub DecodingGivesLines : Type 0
 DecodingGivesLines =
     (input : List ℕ) (limit : ℕ) (null : Option Text) (binary : Bool) (part rest : List ℕ)

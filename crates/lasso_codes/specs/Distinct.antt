@@ -13,54 +13,54 @@ use Rattle.lasso_columns.specs.Parts.{new_texts}
 use Rattle.lasso_columns.specs.declared.faults.LineError.{LineError}
 use Rattle.lasso_columns.specs.declared.faults.LineError.TheVariants.{Refused}
 use Rattle.lasso_codes.specs.Streams.{Begins}
-use Rattle.lasso_codes.specs.declared.fault.RunFault.{RunFault}
-use Rattle.lasso_codes.specs.declared.fault.RunFault.TheVariants.{Line, TooManyLines, ReadFailed, WriteFailed, ReaderGone, Column}
+use Rattle.lasso_codes.specs.declared.error.RunError.{RunError}
+use Rattle.lasso_codes.specs.declared.error.RunError.TheVariants.{Line, TooManyLines, ReadFailed, WriteFailed, ReaderGone, Column}
 
 abbrev pub with_feed : List ℕ → List ℕ
 with_feed line = line ++ 10 ∷ []
 
--- each distinct line once, where it first comes, with a line feed after it
+-- each distinct line once, in the order of first occurrences, with a line feed
 abbrev pub distinct_report : List Text → List ℕ
 distinct_report lines = flat_map with_feed (new_texts [] lines)
 
--- what is written of a line: it and a line feed where the list lacks it, and else nothing
+-- what is written for a line: the line and a line feed if it is new, and else nothing
 abbrev pub passed : List Text → Text → List ℕ
 passed texts line = if is_some (position_of texts line) then [] else with_feed line
 
--- the line is faulty, and nothing is written; or a write failed
-abbrev pub PassFault : InternerView → Text → ℕ → List ℕ → RunFault → Type 0
-PassFault now line number part (Line error) = (part ≡ []) × IsFaultOf now line number error
-PassFault now line number part TooManyLines = ⊥
-PassFault now line number part ReadFailed = ⊥
-PassFault now line number part WriteFailed = Begins part (passed now.texts line)
-PassFault now line number part ReaderGone = Begins part (passed now.texts line)
-PassFault now line number part (Column column fault) = ⊥
+-- the line is refused or not UTF-8, and nothing was written; or a write failed
+abbrev pub PassError : InternerView → Text → ℕ → List ℕ → RunError → Type 0
+PassError now line number part (Line error) = (part ≡ []) × IsFaultOf now line number error
+PassError now line number part TooManyLines = ⊥
+PassError now line number part ReadFailed = ⊥
+PassError now line number part WriteFailed = Begins part (passed now.texts line)
+PassError now line number part ReaderGone = Begins part (passed now.texts line)
+PassError now line number part (Column column error) = ⊥
 
--- the line is interned, and written if it was new
-abbrev pub PassesLine : InternerView → Text → ℕ → List ℕ → InternerView → Result (Unit {0}) RunFault → Type 0
+-- the line was interned, and written if it was new
+abbrev pub PassesLine : InternerView → Text → ℕ → List ℕ → InternerView → Result (Unit {0}) RunError → Type 0
 PassesLine before line number part after result = MatchResult result
     (λ _. IsUtf8 line × ((key : ℕ) × InternsIn {K = ℕ} spur_at before line (Ok key) after) × (part ≡ passed before.texts line))
-    (PassFault before line number part)
+    (PassError before line number part)
 
--- so many lines were interned with this limit, and there was no memory for the next one, or it is faulty; number 0: there was no
--- memory at no line
-abbrev pub IsFaultAfter : ℕ → List Text → ℕ → LineError → Type 0
-IsFaultAfter limit lines n error =
+-- the first n lines were interned with this limit. The next line is refused or not UTF-8, or there was no
+-- memory for it. Line 0: out of memory outside of a line
+abbrev pub IsErrorAfter : ℕ → List Text → ℕ → LineError → Type 0
+IsErrorAfter limit lines n error =
     (error ≡ Refused 0 FailedAllocation)
     ⊎ ((error ≡ Refused (n + 1) FailedAllocation)
     ⊎ ((now : InternerView) × extend spur_at (made_with 4096 limit) (take n lines) (Ok tt) now × IsSomeAnd (slice_get lines n) (λ line. IsFaultOf now line (n + 1) error)))
 
--- how a run ends that has written the part: after a failed write it is a beginning of the report, and after another fault it is the
--- report of the lines before it
-abbrev pub DistinctFault : ℕ → List Text → List ℕ → RunFault → Type 0
-DistinctFault limit lines part (Line error) = (n : ℕ) × (part ≡ distinct_report (take n lines)) × IsFaultAfter limit lines n error
-DistinctFault limit lines part TooManyLines = (n : ℕ) × (part ≡ distinct_report (take n lines))
-DistinctFault limit lines part ReadFailed = (n : ℕ) × (part ≡ distinct_report (take n lines))
-DistinctFault limit lines part WriteFailed = Begins part (distinct_report lines)
-DistinctFault limit lines part ReaderGone = Begins part (distinct_report lines)
-DistinctFault limit lines part (Column column fault) = ⊥
+-- how a run ends with an error after it has written the part. After a failed write the part is a beginning of
+-- the report; after another error it is the report of the lines before it
+abbrev pub DistinctError : ℕ → List Text → List ℕ → RunError → Type 0
+DistinctError limit lines part (Line error) = (n : ℕ) × (part ≡ distinct_report (take n lines)) × IsErrorAfter limit lines n error
+DistinctError limit lines part TooManyLines = (n : ℕ) × (part ≡ distinct_report (take n lines))
+DistinctError limit lines part ReadFailed = (n : ℕ) × (part ≡ distinct_report (take n lines))
+DistinctError limit lines part WriteFailed = Begins part (distinct_report lines)
+DistinctError limit lines part ReaderGone = Begins part (distinct_report lines)
+DistinctError limit lines part (Column column error) = ⊥
 
--- without a fault all lines are text, and the part is the report
-abbrev pub DistinctEnd : List ℕ → ℕ → List ℕ → Result (Unit {0}) RunFault → Type 0
+-- without an error, all lines are UTF-8 and the part is their report
+abbrev pub DistinctEnd : List ℕ → ℕ → List ℕ → Result (Unit {0}) RunError → Type 0
 DistinctEnd input limit part result =
-    MatchResult result (λ _. All IsUtf8 (lines_of input) × (part ≡ distinct_report (lines_of input))) (DistinctFault limit (lines_of input) part)
+    MatchResult result (λ _. All IsUtf8 (lines_of input) × (part ≡ distinct_report (lines_of input))) (DistinctError limit (lines_of input) part)

@@ -13,57 +13,58 @@ use Rattle.lasso_columns.specs.declared.faults.LineError.{LineError}
 use Rattle.lasso_columns.specs.declared.faults.LineError.TheVariants.{Refused}
 use Rattle.lasso_codes.specs.Columns.{is_null, texts_of, dictionary_of, entry_of, entry_at, column_bytes}
 use Rattle.lasso_codes.specs.Streams.{Begins}
-use Rattle.lasso_codes.specs.declared.fault.RunFault.{RunFault}
-use Rattle.lasso_codes.specs.declared.fault.RunFault.TheVariants.{Line, TooManyLines, ReadFailed, WriteFailed, ReaderGone, Column}
+use Rattle.lasso_codes.specs.declared.error.RunError.{RunError}
+use Rattle.lasso_codes.specs.declared.error.RunError.TheVariants.{Line, TooManyLines, ReadFailed, WriteFailed, ReaderGone, Column}
 
--- a null changes nothing, and its number is no code; another line is interned, and its number is its code
+-- the number of a line. A null changes nothing. Another line is interned, and its number is its code
 abbrev pub IsNumberedAs : Bool → InternerView → Text → InternerView → ℕ → Type 0
 IsNumberedAs true old line new number = (new ≡ old) × (number ≡ 4294967295)
 IsNumberedAs false old line new number =
     ((key : ℕ) × InternsIn {K = ℕ} spur_at old line (Ok key) new) × (position_of new.texts line ≡ Some number) × (number < 4294967295)
 
--- the line got this number
+-- the line has this number
 abbrev pub IsNumbered : Option Text → InternerView → Text → InternerView → ℕ → Type 0
 IsNumbered null old line new number = IsNumberedAs (is_null null line) old line new number
 
--- the list is the dictionary of the lines, and the numbers stand for their entries; each text has a code
+-- the list is the dictionary of the lines, the numbers are those of their entries, and each text has a code
 abbrev pub AreNumbered : Option Text → List Text → List Text → List ℕ → Type 0
 AreNumbered null lines list numbers =
     (list ≡ dictionary_of null lines) × (map entry_at numbers ≡ map (entry_of null (dictionary_of null lines)) lines) × (length list < 2 ^ 32)
 
--- so many lines were encoded with this limit, and there was no memory for the next one, or it is faulty; number 0: there was no
--- memory at no line
-abbrev pub IsEncodeFault : ℕ → Option Text → List Text → ℕ → LineError → Type 0
-IsEncodeFault limit null lines n error =
+-- the first n lines were encoded with this limit. The next line is refused or not UTF-8, or there was no
+-- memory for it. Line 0: out of memory outside of a line
+abbrev pub IsEncodeError : ℕ → Option Text → List Text → ℕ → LineError → Type 0
+IsEncodeError limit null lines n error =
     (error ≡ Refused 0 FailedAllocation)
     ⊎ ((error ≡ Refused (n + 1) FailedAllocation)
     ⊎ ((now : InternerView) × extend spur_at (made_with 4096 limit) (texts_of null (take n lines)) (Ok tt) now
     × IsSomeAnd (slice_get lines n) (λ line. IsFaultOf now line (n + 1) error)))
 
 -- why lines were not encoded
-abbrev pub EncodingFault : ℕ → Option Text → List Text → RunFault → Type 0
-EncodingFault limit null lines (Line error) = (n : ℕ) × IsEncodeFault limit null lines n error
-EncodingFault limit null lines TooManyLines = Unit {0}
-EncodingFault limit null lines ReadFailed = Unit {0}
-EncodingFault limit null lines WriteFailed = ⊥
-EncodingFault limit null lines ReaderGone = ⊥
-EncodingFault limit null lines (Column column fault) = ⊥
+abbrev pub EncodingError : ℕ → Option Text → List Text → RunError → Type 0
+EncodingError limit null lines (Line error) = (n : ℕ) × IsEncodeError limit null lines n error
+EncodingError limit null lines TooManyLines = Unit {0}
+EncodingError limit null lines ReadFailed = Unit {0}
+EncodingError limit null lines WriteFailed = ⊥
+EncodingError limit null lines ReaderGone = ⊥
+EncodingError limit null lines (Column column error) = ⊥
 
--- how a run ends that has written the part: nothing is written where the lines were not all encoded
-abbrev pub EncodeFault : ℕ → Option Text → Bool → List Text → List ℕ → RunFault → Type 0
-EncodeFault limit null binary lines part (Line error) = (part ≡ []) × EncodingFault limit null lines (Line error)
-EncodeFault limit null binary lines part TooManyLines = part ≡ []
-EncodeFault limit null binary lines part ReadFailed = part ≡ []
-EncodeFault limit null binary lines part WriteFailed = Begins part (column_bytes binary null lines)
-EncodeFault limit null binary lines part ReaderGone = Begins part (column_bytes binary null lines)
-EncodeFault limit null binary lines part (Column column fault) = ⊥
+-- how a run ends with an error after it has written the part. Nothing was written unless all lines were
+-- encoded
+abbrev pub EncodeError : ℕ → Option Text → Bool → List Text → List ℕ → RunError → Type 0
+EncodeError limit null binary lines part (Line error) = (part ≡ []) × EncodingError limit null lines (Line error)
+EncodeError limit null binary lines part TooManyLines = part ≡ []
+EncodeError limit null binary lines part ReadFailed = part ≡ []
+EncodeError limit null binary lines part WriteFailed = Begins part (column_bytes binary null lines)
+EncodeError limit null binary lines part ReaderGone = Begins part (column_bytes binary null lines)
+EncodeError limit null binary lines part (Column column error) = ⊥
 
--- the lines are so few that codes and the header can tell them
+-- the codes and the number of lines fit into a column
 abbrev pub AreCodable : Option Text → List Text → Type 0
 AreCodable null lines = (length (dictionary_of null lines) < 2 ^ 32) × (length lines < 2 ^ 64)
 
--- without a fault all lines are text, and the part is their column
-abbrev pub EncodeEnd : List ℕ → ℕ → Option Text → Bool → List ℕ → Result (Unit {0}) RunFault → Type 0
+-- without an error, all lines are UTF-8 and the part is their column
+abbrev pub EncodeEnd : List ℕ → ℕ → Option Text → Bool → List ℕ → Result (Unit {0}) RunError → Type 0
 EncodeEnd input limit null binary part result =
     MatchResult result (λ _. All IsUtf8 (lines_of input) × (part ≡ column_bytes binary null (lines_of input)) × AreCodable null (lines_of input))
-    (EncodeFault limit null binary (lines_of input) part)
+    (EncodeError limit null binary (lines_of input) part)

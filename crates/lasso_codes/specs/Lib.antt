@@ -1,4 +1,4 @@
-pub mod Fault
+pub mod Errors
 pub mod Streams
 pub mod Distinct
 pub mod Counts

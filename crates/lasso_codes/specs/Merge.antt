@@ -10,135 +10,140 @@ use Rattle.lasso_columns.specs.Parts.{new_texts}
 use Rattle.lasso_columns.specs.declared.faults.LineError.TheVariants.{Refused}
 use Rattle.lasso_codes.specs.Columns.{column_of, entry_at}
 use Rattle.lasso_codes.specs.Decode.{decoded, Reads}
-use Rattle.lasso_codes.specs.Reading.{Makes, ReadItems, ReadTexts, texts_from, head_of, read_column, IsEntryFault, IsColumnFault}
+use Rattle.lasso_codes.specs.Reading.{Makes, ReadItems, ReadTexts, texts_from, head_of, read_column, IsEntryError, IsColumnError}
 use Rattle.lasso_codes.specs.Streams.{Begins}
 use Rattle.lasso_codes.specs.declared.entries.Entry.TheVariants.{Missing, Bad, Null, Code}
-use Rattle.lasso_codes.specs.declared.fault.ColumnFault.{ColumnFault}
-use Rattle.lasso_codes.specs.declared.fault.ColumnFault.TheVariants.{NoEntry, NotEntry, PastTexts, NotMerged}
-use Rattle.lasso_codes.specs.declared.fault.RunFault.{RunFault}
-use Rattle.lasso_codes.specs.declared.fault.RunFault.TheVariants.{Line, TooManyLines, ReadFailed, WriteFailed, ReaderGone, Column}
+use Rattle.lasso_codes.specs.declared.error.ColumnError.{ColumnError}
+use Rattle.lasso_codes.specs.declared.error.ColumnError.TheVariants.{NoEntry, NotEntry, PastTexts, NotMerged}
+use Rattle.lasso_codes.specs.declared.error.RunError.{RunError}
+use Rattle.lasso_codes.specs.declared.error.RunError.TheVariants.{Line, TooManyLines, ReadFailed, WriteFailed, ReaderGone, Column}
 use Rattle.lasso_codes.specs.declared.reading.Header.{Header}
 
 -- ---- the entries of a column in the dictionary of all
 
--- the code that the text has in the list
-abbrev pub code_or_past : List Text → Option Text → ℕ → Result (Option ℕ) ColumnFault
+-- the code of the text in the list
+abbrev pub code_or_past : List Text → Option Text → ℕ → Result (Option ℕ) ColumnError
 code_or_past list None number = Err (PastTexts number)
 code_or_past list (Some text) number = Ok (position_of list text)
 
--- the entry of this number, whose code is of these texts, in the list: none for a null, and else the code of its text
+-- the entry with this number, rewritten for the list: none for a null, and else the code of its text in the
+-- list. `texts` is the dictionary of the entry's column
 abbrev pub recoded : List Text → List Text → Makes (Option ℕ)
 recoded list texts Missing number = Err (NoEntry number)
 recoded list texts Bad number = Err (NotEntry number)
 recoded list texts Null number = Ok None
 recoded list texts (Code code) number = code_or_past list (slice_get texts code) number
 
--- the entries of the column that the bytes begin with, in the list, and the bytes after it; or the entries up to a fault
+-- the entries of the first column of the bytes, rewritten for the list, and the bytes after it; or the
+-- entries before an error
 abbrev pub entries_of : List Text → List ℕ → ReadItems (Option ℕ)
 entries_of list bytes = read_column (recoded list) bytes
 
 abbrev pub read_list : ReadTexts → List Text
-read_list (Err fault) = []
+read_list (Err error) = []
 read_list (Ok read) = read.0
 
 abbrev pub head_list : Option (Header × List ℕ) → List Text
 head_list None = []
 head_list (Some head) = read_list (texts_from head.0.distinct [] head.1)
 
--- the dictionary of the column that the bytes begin with; nothing where it can't be read
+-- the dictionary of the first column of the bytes; empty if it can't be read
 abbrev pub texts_at : List ℕ → List Text
 texts_at bytes = head_list (head_of bytes)
 
 -- ---- columns as one
 
--- each distinct text once, where it first comes
+-- each distinct text once, in the order of first occurrences
 abbrev pub distinct_of : List Text → List Text
 distinct_of texts = new_texts [] texts
 
--- so many columns begin the bytes: these are the texts of their dictionaries, one after the other, and their entries, as codes of the
--- distinct ones of these texts, and the rest is left
+-- the bytes begin with n columns, and the rest follows them. `texts` are the texts of their dictionaries, in
+-- order. `entries` are their entries; a code is the position of its text among the distinct texts
 abbrev pub Merges : ℕ → List ℕ → List Text → List (Option ℕ) → List ℕ → Type 0
 Merges zero bytes texts entries rest = (texts ≡ []) × (entries ≡ []) × (rest ≡ bytes)
 Merges (suc n) bytes texts entries rest =
     (before : List Text) × (first : List (Option ℕ)) × (mid : List ℕ) × Merges n bytes before first mid × (texts ≡ before ++ texts_at mid)
     × ((entries_of (distinct_of texts) mid).1 ≡ Ok rest) × (entries ≡ first ++ (entries_of (distinct_of texts) mid).0)
 
--- why the entries of the column of this number were not added
-abbrev pub EntriesFault : ReadItems (Option ℕ) → ℕ → RunFault → Type 0
-EntriesFault read column (Line error) = error ≡ Refused 0 FailedAllocation
-EntriesFault read column TooManyLines = ⊥
-EntriesFault read column ReadFailed = Unit {0}
-EntriesFault read column WriteFailed = ⊥
-EntriesFault read column ReaderGone = ⊥
-EntriesFault read column (Column number fault) = (number ≡ column) × IsEntryFault fault × (read.1 ≡ Err fault)
+-- why the entries of the column with this number were not added
+abbrev pub EntriesError : ReadItems (Option ℕ) → ℕ → RunError → Type 0
+EntriesError read column (Line error) = error ≡ Refused 0 FailedAllocation
+EntriesError read column TooManyLines = ⊥
+EntriesError read column ReadFailed = Unit {0}
+EntriesError read column WriteFailed = ⊥
+EntriesError read column ReaderGone = ⊥
+EntriesError read column (Column number error) = (number ≡ column) × IsEntryError error × (read.1 ≡ Err error)
 
--- the number of the entry was added, or there is no memory for it; or the entry is faulty
-abbrev pub AddsEntry : Result (Option ℕ) ColumnFault → ℕ → List ℕ → List ℕ → Result (Unit {0}) RunFault → Type 0
+-- the number of the entry was added, or there was no memory for it; or the entry is bad
+abbrev pub AddsEntry : Result (Option ℕ) ColumnError → ℕ → List ℕ → List ℕ → Result (Unit {0}) RunError → Type 0
 AddsEntry (Ok entry) column before after result =
-    MatchResult result (λ _. (number : ℕ) × (entry ≡ entry_at number) × (after ≡ before ++ number ∷ [])) (λ fault. fault ≡ Line (Refused 0 FailedAllocation))
-AddsEntry (Err fault) column before after result = result ≡ Err (Column column fault)
+    MatchResult result (λ _. (number : ℕ) × (entry ≡ entry_at number) × (after ≡ before ++ number ∷ [])) (λ error. error ≡ Line (Refused 0 FailedAllocation))
+AddsEntry (Err error) column before after result = result ≡ Err (Column column error)
 
--- the entries of the column of this number were added, and the bytes after them are left
-abbrev pub AddsEntries : ReadItems (Option ℕ) → ℕ → Option (List ℕ) → List ℕ → List ℕ → Result (Unit {0}) RunFault → Type 0
+-- the entries of the column with this number were added, and the bytes after them are left
+abbrev pub AddsEntries : ReadItems (Option ℕ) → ℕ → Option (List ℕ) → List ℕ → List ℕ → Result (Unit {0}) RunError → Type 0
 AddsEntries read column left before after result =
-    MatchResult result (λ _. (rest : List ℕ) × (left ≡ Some rest) × (read.1 ≡ Ok rest) × (map entry_at after ≡ map entry_at before ++ read.0)) (EntriesFault read column)
+    MatchResult result (λ _. (rest : List ℕ) × (left ≡ Some rest) × (read.1 ≡ Ok rest) × (map entry_at after ≡ map entry_at before ++ read.0)) (EntriesError read column)
 
 -- ---- how a run ends
 
--- one of the texts is refused by an interner with this limit that holds the others before it, and those of the columns before
+-- one of the texts is refused by an interner with this limit that holds the texts before it and those of the
+-- columns before
 abbrev pub IsNotMerged : ℕ → List Text → List Text → LassoError → Type 0
 IsNotMerged limit before texts error =
     (n : ℕ) × (now : InternerView) × extend spur_at (made_with 4096 limit) (before ++ take n texts) (Ok tt) now × IsSomeAnd (slice_get texts n) (λ text. IsRefused now text error)
 
--- why the column that the bytes begin with was not merged after those with these texts
-abbrev pub IsMergeFault : ℕ → List Text → List ℕ → ColumnFault → Type 0
-IsMergeFault limit before bytes (NotMerged error) = IsNotMerged limit before (texts_at bytes) error
-IsMergeFault limit before bytes fault = IsColumnFault (recoded (distinct_of (before ++ texts_at bytes))) limit bytes fault
+-- why the first column of the bytes was not merged. `before` are the texts of the columns before it
+abbrev pub IsMergeError : ℕ → List Text → List ℕ → ColumnError → Type 0
+IsMergeError limit before bytes (NotMerged error) = IsNotMerged limit before (texts_at bytes) error
+IsMergeError limit before bytes error = IsColumnError (recoded (distinct_of (before ++ texts_at bytes))) limit bytes error
 
--- nothing is written, or a beginning of the one column of all
+-- nothing was written, or a beginning of the merged column
 abbrev pub IsMergeBegun : List ℕ → Bool → List ℕ → Type 0
 IsMergeBegun input binary part =
     (part ≡ []) ⊎ ((n : ℕ) × (texts : List Text) × (entries : List (Option ℕ)) × Merges n input texts entries [] × Begins part (column_of binary (distinct_of texts) entries))
 
--- the list is the dictionary of the one column, and the numbers stand for its entries
+-- the list is the dictionary of the merged column, and the numbers are those of its entries
 abbrev pub AreMerged : List ℕ → List Text → List ℕ → Type 0
 AreMerged input list numbers =
     (n : ℕ) × (texts : List Text) × Merges n input texts (map entry_at numbers) [] × (list ≡ distinct_of texts) × (length list < 2 ^ 32)
 
 -- why columns were not merged
-abbrev pub MergingFault : List ℕ → ℕ → RunFault → Type 0
-MergingFault input limit (Line error) = error ≡ Refused 0 FailedAllocation
-MergingFault input limit TooManyLines = Unit {0}
-MergingFault input limit ReadFailed = Unit {0}
-MergingFault input limit WriteFailed = ⊥
-MergingFault input limit ReaderGone = ⊥
-MergingFault input limit (Column column fault) =
-    (n : ℕ) × (texts : List Text) × (entries : List (Option ℕ)) × (rest : List ℕ) × Merges n input texts entries rest × (column ≡ n + 1) × IsMergeFault limit texts rest fault
+abbrev pub MergingError : List ℕ → ℕ → RunError → Type 0
+MergingError input limit (Line error) = error ≡ Refused 0 FailedAllocation
+MergingError input limit TooManyLines = Unit {0}
+MergingError input limit ReadFailed = Unit {0}
+MergingError input limit WriteFailed = ⊥
+MergingError input limit ReaderGone = ⊥
+MergingError input limit (Column column error) =
+    (n : ℕ) × (texts : List Text) × (entries : List (Option ℕ)) × (rest : List ℕ) × Merges n input texts entries rest × (column ≡ n + 1) × IsMergeError limit texts rest error
 
--- how a run ends that has written the part: nothing is written where the columns were not all merged
-abbrev pub MergeFault : List ℕ → ℕ → Bool → List ℕ → RunFault → Type 0
-MergeFault input limit binary part (Line error) = (part ≡ []) × MergingFault input limit (Line error)
-MergeFault input limit binary part TooManyLines = part ≡ []
-MergeFault input limit binary part ReadFailed = part ≡ []
-MergeFault input limit binary part WriteFailed = IsMergeBegun input binary part
-MergeFault input limit binary part ReaderGone = IsMergeBegun input binary part
-MergeFault input limit binary part (Column column fault) = (part ≡ []) × MergingFault input limit (Column column fault)
+-- how a run ends with an error after it has written the part. Nothing was written unless all columns were
+-- merged
+abbrev pub MergeError : List ℕ → ℕ → Bool → List ℕ → RunError → Type 0
+MergeError input limit binary part (Line error) = (part ≡ []) × MergingError input limit (Line error)
+MergeError input limit binary part TooManyLines = part ≡ []
+MergeError input limit binary part ReadFailed = part ≡ []
+MergeError input limit binary part WriteFailed = IsMergeBegun input binary part
+MergeError input limit binary part ReaderGone = IsMergeBegun input binary part
+MergeError input limit binary part (Column column error) = (part ≡ []) × MergingError input limit (Column column error)
 
--- the texts and entries are so few that codes and the header can tell them
+-- the codes and the number of entries fit into a column
 abbrev pub AreFew : List Text → List (Option ℕ) → Type 0
 AreFew list entries = (length list < 2 ^ 32) × (length entries < 2 ^ 64)
 
--- without a fault the input is columns, and the part is the one column of all
-abbrev pub MergeEnd : List ℕ → ℕ → Bool → List ℕ → Result (Unit {0}) RunFault → Type 0
+-- without an error, the input is columns and the part is the merged column
+abbrev pub MergeEnd : List ℕ → ℕ → Bool → List ℕ → Result (Unit {0}) RunError → Type 0
 MergeEnd input limit binary part result =
     MatchResult result
     (λ _. (n : ℕ) × (texts : List Text) × (entries : List (Option ℕ)) × Merges n input texts entries [] × AreFew (distinct_of texts) entries
     × (part ≡ column_of binary (distinct_of texts) entries))
-    (MergeFault input limit binary part)
+    (MergeError input limit binary part)
 
 -- ---- the laws
 
--- the one column of columns decodes to the lines of each, one after the other, whatever comes after it and whichever word a null has
+-- the merged column decodes to the lines of each of the columns, in order, whatever follows it and whichever
+-- word a null has
 abbrev pub MergingKeepsLines : Type 0
 MergingKeepsLines =
     (binary : Bool) (null : Option Text) (n : ℕ) (input rest more : List ℕ) (texts : List Text) (entries : List (Option ℕ)) (lines : List Text)
@@ -151,6 +156,6 @@ MergedColumnsDecode =
     (word : Text) (n : ℕ) (input rest : List ℕ) (texts : List Text) (entries : List (Option ℕ))
     → Merges n input texts entries rest → (lines : List Text) × Reads (Some word) n input lines rest
 
--- no dictionary has a text twice
+-- the distinct texts are distinct
 abbrev pub DictionariesAreDistinct : Type 0
 DictionariesAreDistinct = (texts : List Text) → IsDistinct (distinct_of texts)

@@ -15,7 +15,8 @@ writes_while_reading Distinct = true
 writes_while_reading Encode = false
 writes_while_reading Merge = false
 
--- a verb is run without --quiet, standard error is a terminal, and neither typed input nor the output is mixed with the line
+-- a verb is run without --quiet, standard error is a terminal, standard input is not, and the verb does not
+-- write to a terminal while it reads
 abbrev pub shows_progress : Command → Terminals → Bool
 shows_progress Help terminals = false
 shows_progress (VerbHelp verb) terminals = false
@@ -23,6 +24,6 @@ shows_progress Version terminals = false
 shows_progress (Run verb settings) terminals =
     terminals.error && (not terminals.input && (not settings.quiet && not (terminals.output && writes_while_reading verb)))
 
--- the line without what moves to its beginning
+-- the text of the line
 abbrev pub tally_text : Tally → List ℕ
 tally_text tally = codes "lasso_codes: " ++ (decimal (tally.bytes / 1000000) ++ (codes " MB read in " ++ (decimal tally.seconds ++ codes " s")))

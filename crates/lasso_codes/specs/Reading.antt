@@ -1,4 +1,4 @@
--- How a column is read from bytes: a header line, so many texts, and so many entries.
+-- How a column is read from bytes: a header line, the texts of its dictionary, and its entries.
 use Rattle.std.specs.Prelude.{ℕ, zero, suc, ◌≡◌, ◌+◌, ◌<◌, ◌==◌, ◌⊎◌, Bool, true, false, List, [], ◌∷◌, ◌++◌, length, take, drop, is_some, Option, Some, None, Result, Ok, Err, option_map, position, bytes_eq, if◌then◌else◌}
 use Rattle.std.specs.Int.{w32, from_le_bytes}
 use Rattle.std.specs.Str.{IsUtf8, is_utf8}
@@ -10,19 +10,19 @@ use Rattle.lasso_single.specs.Interner.{InternerView, made_with}
 use Rattle.lasso_columns.specs.Encoding.{spur_at, IsRefused}
 use Rattle.lasso_codes.specs.Arguments.{digits_value}
 use Rattle.lasso_codes.specs.Columns.{header_front}
-use Rattle.lasso_codes.specs.Fault.{IsReadFault}
+use Rattle.lasso_codes.specs.Errors.{IsReadError}
 use Rattle.lasso_codes.specs.Streams.{cut_line}
-use Rattle.lasso_codes.specs.declared.fault.ColumnFault.{ColumnFault}
-use Rattle.lasso_codes.specs.declared.fault.ColumnFault.TheVariants.{NoHeader, NoText, NotUtf8, Doubled, TextRefused, NoEntry, NotEntry, PastTexts, IsNull, NotMerged}
-use Rattle.lasso_codes.specs.declared.fault.RunFault.{RunFault}
-use Rattle.lasso_codes.specs.declared.fault.RunFault.TheVariants.{Column}
+use Rattle.lasso_codes.specs.declared.error.ColumnError.{ColumnError}
+use Rattle.lasso_codes.specs.declared.error.ColumnError.TheVariants.{NoHeader, NoText, NotUtf8, Doubled, TextRefused, NoEntry, NotEntry, PastTexts, IsNull, NotMerged}
+use Rattle.lasso_codes.specs.declared.error.RunError.{RunError}
+use Rattle.lasso_codes.specs.declared.error.RunError.TheVariants.{Column}
 use Rattle.lasso_codes.specs.declared.entries.Entry.{Entry}
 use Rattle.lasso_codes.specs.declared.entries.Entry.TheVariants.{Missing, Bad, Null, Code}
 use Rattle.lasso_codes.specs.declared.reading.Header.{Header}
 
 -- ---- the header
 
--- what follows the front of the line
+-- the rest of the line after its front
 abbrev pub after_front : List ℕ → Text → Option (List ℕ)
 after_front front line = if bytes_eq (take (length front) line) front then Some (drop (length front) line) else None
 
@@ -31,7 +31,7 @@ header_with binary None lines = None
 header_with binary (Some distinct) None = None
 header_with binary (Some distinct) (Some lines) = Some (record { binary = binary; distinct = distinct; lines = lines })
 
--- the numbers before and after the space
+-- the header with the numbers before and after the space
 abbrev pub header_at : Bool → List ℕ → Option ℕ → Option Header
 header_at binary numbers None = None
 header_at binary numbers (Some at) = header_with binary (digits_value (take at numbers)) (digits_value (drop (at + 1) numbers))
@@ -45,7 +45,7 @@ header_or (Some numbers) other = header_in false numbers
 header_or None (Some numbers) = header_in true numbers
 header_or None None = None
 
--- what the header line says, where it is one
+-- the header of a header line
 abbrev pub header_of : Text → Option Header
 header_of line = header_or (after_front (header_front false) line) (after_front (header_front true) line)
 
@@ -53,7 +53,7 @@ abbrev pub on_header_line : Option (Text × List ℕ) → Option (Header × List
 on_header_line None = None
 on_header_line (Some cut) = option_map (λ header. (header, cut.1)) (header_of cut.0)
 
--- the header that the bytes begin with, and the bytes after it
+-- the header at the start of the bytes, and the bytes after it
 abbrev pub head_of : List ℕ → Option (Header × List ℕ)
 head_of bytes = on_header_line (cut_line bytes)
 
@@ -66,15 +66,15 @@ TakesHeader before after (Some header) = (bytes : List ℕ) → before ≡ Some 
 abbrev pub HasNoHeader : List ℕ → Type 0
 HasNoHeader bytes = (0 < length bytes) × (head_of bytes ≡ None)
 
--- why the header of the column of this number was not read
-abbrev pub HeaderFault : Option (List ℕ) → ℕ → RunFault → Type 0
-HeaderFault before column fault = IsReadFault 0 fault ⊎ ((fault ≡ Column column NoHeader) × ((bytes : List ℕ) → before ≡ Some bytes → HasNoHeader bytes))
+-- why the header of the column with this number was not read
+abbrev pub HeaderError : Option (List ℕ) → ℕ → RunError → Type 0
+HeaderError before column error = IsReadError 0 error ⊎ ((error ≡ Column column NoHeader) × ((bytes : List ℕ) → before ≡ Some bytes → HasNoHeader bytes))
 
 -- ---- the dictionary
 
--- texts and the bytes after them, or why there are none
+-- texts and the bytes after them, or the error
 abbrev pub ReadTexts : Type 0
-ReadTexts = Result (List Text × List ℕ) ColumnFault
+ReadTexts = Result (List Text × List ℕ) ColumnError
 
 -- a text has to be new, and UTF-8
 abbrev pub on_text : Option (Text × List ℕ) → List Text → (List Text → List ℕ → ReadTexts) → ReadTexts
@@ -83,48 +83,48 @@ on_text (Some cut) list go =
     if is_utf8 cut.0 then (if is_some (position_of list cut.0) then Err (Doubled (length list + 1)) else go (list ++ cut.0 ∷ []) cut.1)
     else Err (NotUtf8 (length list + 1))
 
--- so many texts more, after these
+-- reads n more texts after these
 abbrev pub texts_from : ℕ → List Text → List ℕ → ReadTexts
 texts_from zero list bytes = Ok (list, bytes)
 texts_from (suc n) list bytes = on_text (cut_line bytes) list (texts_from n)
 
--- the text goes last in an interner that lacks it
+-- the text is new, and was interned
 abbrev pub AddsText : InternerView → Text → InternerView → Type 0
 AddsText old text new = IsUtf8 text × (position_of old.texts text ≡ None) × ((key : ℕ) × InternsIn {K = ℕ} spur_at old text (Ok key) new)
 
--- why the text of this number was not added
-abbrev pub AddFault : InternerView → Text → ℕ → ColumnFault → Type 0
-AddFault old text number NoHeader = ⊥
-AddFault old text number (NoText at) = ⊥
-AddFault old text number (NotUtf8 at) = (at ≡ number) × ¬ (IsUtf8 text)
-AddFault old text number (Doubled at) = (at ≡ number) × IsUtf8 text × (is_some (position_of old.texts text) ≡ true)
-AddFault old text number (TextRefused at error) = (at ≡ number) × IsUtf8 text × IsRefused old text error
-AddFault old text number (NoEntry at) = ⊥
-AddFault old text number (NotEntry at) = ⊥
-AddFault old text number (PastTexts at) = ⊥
-AddFault old text number (IsNull at) = ⊥
-AddFault old text number (NotMerged error) = ⊥
+-- why the text with this number was not added
+abbrev pub AddError : InternerView → Text → ℕ → ColumnError → Type 0
+AddError old text number NoHeader = ⊥
+AddError old text number (NoText at) = ⊥
+AddError old text number (NotUtf8 at) = (at ≡ number) × ¬ (IsUtf8 text)
+AddError old text number (Doubled at) = (at ≡ number) × IsUtf8 text × (is_some (position_of old.texts text) ≡ true)
+AddError old text number (TextRefused at error) = (at ≡ number) × IsUtf8 text × IsRefused old text error
+AddError old text number (NoEntry at) = ⊥
+AddError old text number (NotEntry at) = ⊥
+AddError old text number (PastTexts at) = ⊥
+AddError old text number (IsNull at) = ⊥
+AddError old text number (NotMerged error) = ⊥
 
--- the text of this number is refused by an interner with this limit that holds those before it
+-- the text with this number is refused by an interner with this limit that holds the texts before it
 abbrev pub IsTextRefused : ℕ → ℕ → List ℕ → ℕ → LassoError → Type 0
 IsTextRefused limit distinct bytes number error =
     (n : ℕ) × (number ≡ n + 1) × (n < distinct) × ((list : List Text) × (rest : List ℕ) × (texts_from n [] bytes ≡ Ok (list, rest))
     × ((line : Text) × (left : List ℕ) × (cut_line rest ≡ Some (line, left)) × IsUtf8 line
     × ((now : InternerView) × extend spur_at (made_with 4096 limit) list (Ok tt) now × IsRefused now line error)))
 
--- so many texts were read, and the bytes after them are left
+-- this number of texts was read, and the bytes after them are left
 abbrev pub TakesTexts : Option (List ℕ) → Option (List ℕ) → ℕ → List Text → Type 0
 TakesTexts before after distinct list = (bytes : List ℕ) → before ≡ Some bytes → (rest : List ℕ) × (after ≡ Some rest) × (texts_from distinct [] bytes ≡ Ok (list, rest))
 
--- why so many texts were not read from these bytes
-abbrev pub IsTextFault : ℕ → ℕ → List ℕ → ColumnFault → Type 0
-IsTextFault limit distinct bytes NoHeader = ⊥
-IsTextFault limit distinct bytes (NotMerged error) = ⊥
-IsTextFault limit distinct bytes (TextRefused number error) = IsTextRefused limit distinct bytes number error
-IsTextFault limit distinct bytes fault = texts_from distinct [] bytes ≡ Err fault
+-- why this number of texts was not read from these bytes
+abbrev pub IsTextError : ℕ → ℕ → List ℕ → ColumnError → Type 0
+IsTextError limit distinct bytes NoHeader = ⊥
+IsTextError limit distinct bytes (NotMerged error) = ⊥
+IsTextError limit distinct bytes (TextRefused number error) = IsTextRefused limit distinct bytes number error
+IsTextError limit distinct bytes error = texts_from distinct [] bytes ≡ Err error
 
-abbrev pub TextsFault : ℕ → ℕ → ℕ → List ℕ → RunFault → Type 0
-TextsFault limit distinct column bytes fault = IsReadFault 0 fault ⊎ ((reason : ColumnFault) × (fault ≡ Column column reason) × IsTextFault limit distinct bytes reason)
+abbrev pub TextsError : ℕ → ℕ → ℕ → List ℕ → RunError → Type 0
+TextsError limit distinct column bytes error = IsReadError 0 error ⊎ ((reason : ColumnError) × (error ≡ Column column reason) × IsTextError limit distinct bytes reason)
 
 -- ---- entries
 
@@ -136,7 +136,7 @@ abbrev pub code_in : Option ℕ → Entry
 code_in None = Bad
 code_in (Some n) = Code n
 
--- the entry that a line says; byte 45 is a minus sign
+-- a line as an entry; byte 45 is a minus sign
 abbrev pub entry_in : Text → Entry
 entry_in line = if bytes_eq line (45 ∷ []) then Null else code_in (digits_value line)
 
@@ -151,7 +151,7 @@ cut_number (a ∷ b ∷ []) = (Missing, [])
 cut_number (a ∷ b ∷ c ∷ []) = (Missing, [])
 cut_number (a ∷ b ∷ c ∷ d ∷ bytes) = (number_entry (from_le_bytes w32 (a ∷ b ∷ c ∷ d ∷ [])), bytes)
 
--- the entry that the bytes begin with, and the bytes after it
+-- the entry at the start of the bytes, and the bytes after it
 abbrev pub cut_entry : Bool → List ℕ → Entry × List ℕ
 cut_entry true bytes = cut_number bytes
 cut_entry false bytes = on_entry_line (cut_line bytes)
@@ -162,55 +162,55 @@ TakesEntry binary before after entry = (bytes : List ℕ) → before ≡ Some by
 
 -- ---- what is made of the entries
 
--- what an entry of this number stands for, or what is wrong with it
+-- turns the entry with this number into an item, or returns what is wrong with it
 abbrev pub Makes : Type 0 → Type 0
-Makes X = Entry → ℕ → Result X ColumnFault
+Makes X = Entry → ℕ → Result X ColumnError
 
--- items, and the bytes after them or what is wrong there
+-- items, and the bytes after them, or the error after them
 abbrev pub ReadItems : Type 0 → Type 0
-ReadItems X = List X × Result (List ℕ) ColumnFault
+ReadItems X = List X × Result (List ℕ) ColumnError
 
-abbrev pub on_item : {X : Type 0} → Result X ColumnFault → ReadItems X → ReadItems X
-on_item (Err fault) others = ([], Err fault)
+abbrev pub on_item : {X : Type 0} → Result X ColumnError → ReadItems X → ReadItems X
+on_item (Err error) others = ([], Err error)
 on_item (Ok item) others = (item ∷ others.0, others.1)
 
--- what so many entries stand for, the first of which has this number
+-- the items of the next n entries, the first of which has this number
 abbrev pub items_from : {X : Type 0} → Makes X → ℕ → Bool → ℕ → List ℕ → ReadItems X
 items_from make zero binary number bytes = ([], Ok bytes)
 items_from make (suc n) binary number bytes =
     let cut = cut_entry binary bytes in on_item (make cut.0 number) (items_from make n binary (number + 1) cut.1)
 
--- it is the fault of an entry
-abbrev pub IsEntryFault : ColumnFault → Type 0
-IsEntryFault NoHeader = ⊥
-IsEntryFault (NoText number) = ⊥
-IsEntryFault (NotUtf8 number) = ⊥
-IsEntryFault (Doubled number) = ⊥
-IsEntryFault (TextRefused number error) = ⊥
-IsEntryFault (NoEntry number) = Unit {0}
-IsEntryFault (NotEntry number) = Unit {0}
-IsEntryFault (PastTexts number) = Unit {0}
-IsEntryFault (IsNull number) = Unit {0}
-IsEntryFault (NotMerged error) = ⊥
+-- it is the error of an entry
+abbrev pub IsEntryError : ColumnError → Type 0
+IsEntryError NoHeader = ⊥
+IsEntryError (NoText number) = ⊥
+IsEntryError (NotUtf8 number) = ⊥
+IsEntryError (Doubled number) = ⊥
+IsEntryError (TextRefused number error) = ⊥
+IsEntryError (NoEntry number) = Unit {0}
+IsEntryError (NotEntry number) = Unit {0}
+IsEntryError (PastTexts number) = Unit {0}
+IsEntryError (IsNull number) = Unit {0}
+IsEntryError (NotMerged error) = ⊥
 
 -- ---- columns
 
 abbrev pub on_texts : {X : Type 0} → (List Text → Makes X) → Header → ReadTexts → ReadItems X
-on_texts make header (Err fault) = ([], Err fault)
+on_texts make header (Err error) = ([], Err error)
 on_texts make header (Ok texts) = items_from (make texts.0) header.lines header.binary 1 texts.1
 
 abbrev pub on_head : {X : Type 0} → (List Text → Makes X) → Option (Header × List ℕ) → ReadItems X
 on_head make None = ([], Err NoHeader)
 on_head make (Some head) = on_texts make head.0 (texts_from head.0.distinct [] head.1)
 
--- what the entries of the column that the bytes begin with stand for, where the dictionary says it, and the bytes after it; or the
--- items up to a fault
+-- the items of the entries of the first column of the bytes, and the bytes after it; or the items before an
+-- error. `make` is given the dictionary
 abbrev pub read_column : {X : Type 0} → (List Text → Makes X) → List ℕ → ReadItems X
 read_column make bytes = on_head make (head_of bytes)
 
--- why the column that the bytes begin with was not read
-abbrev pub IsColumnFault : {X : Type 0} → (List Text → Makes X) → ℕ → List ℕ → ColumnFault → Type 0
-IsColumnFault make limit bytes (TextRefused number error) =
+-- why the first column of the bytes was not read
+abbrev pub IsColumnError : {X : Type 0} → (List Text → Makes X) → ℕ → List ℕ → ColumnError → Type 0
+IsColumnError make limit bytes (TextRefused number error) =
     (head : Header × List ℕ) × (head_of bytes ≡ Some head) × IsTextRefused limit head.0.distinct head.1 number error
-IsColumnFault make limit bytes NoHeader = HasNoHeader bytes
-IsColumnFault make limit bytes fault = (read_column make bytes).1 ≡ Err fault
+IsColumnError make limit bytes NoHeader = HasNoHeader bytes
+IsColumnError make limit bytes error = (read_column make bytes).1 ≡ Err error

@@ -12,7 +12,7 @@ use Rattle.lasso_codes.specs.Decode.{fed_lines}
 use Rattle.lasso_codes.specs.Distinct.{distinct_report}
 use Rattle.lasso_codes.specs.Reading.{ReadItems, texts_from}
 
--- these lines were read and are text, the rest is left, and its first line has this number
+-- these lines were read and are UTF-8. The rest is left, and its first line has this number
 pub record Taken (input rest : List ℕ) (number : ℕ) (done : List Text) : Type 0 where
   pub split : lines_of input ≡ done ++ lines_of rest
   pub texts : All IsUtf8 done
@@ -32,7 +32,7 @@ pub record OnTheWay (input : List ℕ) (limit : ℕ) (rest : List ℕ) (number :
   pub list : extend spur_at (made_with 4096 limit) done (Ok tt) now
   pub part_is : part ≡ distinct_report done
 
--- the number of a line is that of a null, or its position, which is not that
+-- the number of a line: that of a null, or the position of the line, which is never that of a null
 abbrev pub IsEntryAs : Bool → List Text → Text → ℕ → Type 0
 IsEntryAs true list line number = number ≡ 4294967295
 IsEntryAs false list line number = (position_of list line ≡ Some number) × (number < 4294967295)
@@ -50,17 +50,17 @@ pub record Encoding (input rest : List ℕ) (number : ℕ) (null : Option Text) 
   pub entries : AreEntries null now.texts done numbers
   pub list : extend spur_at old (texts_of null done) (Ok tt) now
 
--- these are done, and the others are ahead
+-- these items are done, and the others follow
 abbrev pub IsAhead : {X : Type 0} → List X → ReadItems X → ReadItems X → Type 0
 IsAhead done others read = (read.0 ≡ done ++ others.0) × (read.1 ≡ others.1)
 
--- the lines that are done are written
+-- the lines so far were written
 pub record LinesAhead (others read : ReadItems Text) (part : List ℕ) : Type 0 where
   pub done : List Text
   pub ahead : IsAhead done others read
   pub part_is : part ≡ fed_lines done
 
--- the numbers of the entries that are done were added
+-- the numbers of the entries so far were added
 pub record EntriesAhead (others read : ReadItems (Option ℕ)) (before numbers : List ℕ) : Type 0 where
   pub done : List (Option ℕ)
   pub ahead : IsAhead done others read

@@ -1,23 +1,23 @@
--- What a call does to the bytes that a reader has left, and to those that a writer has, where they are known.
+-- How calls change the bytes that a reader has left and those that a writer has, if they are known.
 use Rattle.std.specs.Prelude.{ℕ, ◌≡◌, ◌<◌, Bool, true, false, List, [], ◌∷◌, ◌++◌, length, Option, Some, None, Result, MatchResult, option_map, if◌then◌else◌}
 use Rattle.std.specs.Io.KnownBytes.{Appends}
 use Rattle.lasso_columns.specs.Lines.{lines_of, is_line_feed}
-use Rattle.lasso_codes.specs.Fault.{IsWriteFault}
+use Rattle.lasso_codes.specs.Errors.{IsWriteError}
 use Rattle.lasso_codes.specs.declared.input.Cut.{Cut}
 use Rattle.lasso_codes.specs.declared.input.Cut.TheVariants.{Whole, Part, End}
-use Rattle.lasso_codes.specs.declared.fault.RunFault.{RunFault}
+use Rattle.lasso_codes.specs.declared.error.RunError.{RunError}
 
 -- the first list begins the second
 abbrev pub Begins : List ℕ → List ℕ → Type 0
 Begins part whole = (rest : List ℕ) × (whole ≡ part ++ rest)
 
--- known bytes grow by a part, of which P holds
+-- known bytes grow by a part for which P holds
 abbrev pub Writes : Option (List ℕ) → Option (List ℕ) → (List ℕ → Type 0) → Type 0
 Writes before after P = (part : List ℕ) × Appends before after part × P part
 
--- all bytes are written; or a write failed, and the part is a beginning of them
-abbrev pub WritesAll : List ℕ → Result (Unit {0}) RunFault → List ℕ → Type 0
-WritesAll bytes result part = MatchResult result (λ _. part ≡ bytes) (λ fault. IsWriteFault fault × Begins part bytes)
+-- all bytes were written; or a write failed, and the part is a beginning of them
+abbrev pub WritesAll : List ℕ → Result (Unit {0}) RunError → List ℕ → Type 0
+WritesAll bytes result part = MatchResult result (λ _. part ≡ bytes) (λ error. IsWriteError error × Begins part bytes)
 
 -- the first line of the known bytes was read, and the lines of the rest are left; or there were no bytes
 abbrev pub TakesLine : Option (List ℕ) → Option (List ℕ) → Bool → List ℕ → Type 0
@@ -30,14 +30,14 @@ abbrev pub cut_line : List ℕ → Option (List ℕ × List ℕ)
 cut_line [] = None
 cut_line (b ∷ bytes) = if is_line_feed b then Some ([], bytes) else option_map (λ cut. (b ∷ cut.0, cut.1)) (cut_line bytes)
 
--- the line that a line feed ends was read; or there were bytes without one; or there were none
+-- a line that ends with a line feed was read; or there were bytes without a line feed; or there were no bytes
 abbrev pub CutsLine : Option (List ℕ) → Option (List ℕ) → Cut → List ℕ → Type 0
 CutsLine before after Whole line =
     (bytes : List ℕ) → before ≡ Some bytes → (rest : List ℕ) × (after ≡ Some rest) × (cut_line bytes ≡ Some (line, rest))
 CutsLine before after Part line = (bytes : List ℕ) → before ≡ Some bytes → (after ≡ Some []) × (0 < length bytes) × (cut_line bytes ≡ None)
 CutsLine before after End line = (bytes : List ℕ) → before ≡ Some bytes → (after ≡ Some []) × (bytes ≡ [])
 
--- the first byte was read; or there were none
+-- the first byte was read; or there were no bytes
 abbrev pub TakesByte : Option (List ℕ) → Option (List ℕ) → Option ℕ → Type 0
 TakesByte before after (Some byte) = (bytes : List ℕ) → before ≡ Some bytes → (rest : List ℕ) × (after ≡ Some rest) × (bytes ≡ byte ∷ rest)
 TakesByte before after None = (bytes : List ℕ) → before ≡ Some bytes → (after ≡ Some []) × (bytes ≡ [])

@@ -1,31 +1,26 @@
-//! The program's arguments.
-ghost use Rattle.std.specs.Prelude.{◌≡◌, ◌+◌, ◌≤◌, ◌∷◌, ℕ, List, None, Some, Ok, Err, IfSome, IsSome, MatchOption, MatchResult, drop, length, map, string_bytes};
-ghost use Rattle.lasso_parts.specs.Texts.{Text};
-ghost use Rattle.lasso_codes.specs.Arguments.{IsWithin, argument_text, command_of, is_binary, meaning_of, no_value, not_number, number_of, options_of, setting_of, takes_binary, takes_null, takes_workers, unset, value_of, verb_of, wanted_of, word_of, workers_of};
+//! The program's arguments: a verb and its options.
+ghost use Rattle.std.specs.Prelude.{◌≡◌, Some, Ok, Err, MatchResult, map, string_bytes};
+ghost use Rattle.lasso_codes.specs.Arguments.{argument_text, command_of, verb_of, word_of};
 
-use crate::numbers::parse_number;
-use memchr::memchr;
+use crate::options::options_of;
 use std::fmt;
 
-/// What the program can do with lines.
+/// The verbs: what the program does with its input.
 #[derive(Clone, Copy, Debug, PartialEq, Eq)]
 pub enum Verb {
-    /// How often each distinct line came.
+    /// Counts the lines.
     Counts,
-    /// The lines of columns.
+    /// Decodes columns into their lines.
     Decode,
-    /// The distinct lines.
+    /// Lists the distinct lines.
     Distinct,
-    /// The lines as a column.
+    /// Encodes the lines as a column.
     Encode,
-    /// The columns as one.
+    /// Merges columns into one.
     Merge,
 }
 
-/// The most threads that may share the work.
-pub const MOST_WORKERS: usize = 64;
-
-/// What the options of a verb say.
+/// The values of a verb's options.
 #[derive(Clone, Copy, Debug, PartialEq, Eq)]
 pub struct Settings {
     /// The most bytes that the interner's buckets may take.
@@ -40,7 +35,7 @@ pub struct Settings {
     pub quiet: bool,
 }
 
-/// What the arguments ask for.
+/// The command that the arguments name.
 #[derive(Clone, Copy, Debug, PartialEq, Eq)]
 pub enum Command {
     /// The program's help.
@@ -53,95 +48,70 @@ pub enum Command {
     Run(Verb, Settings),
 }
 
-/// What the arguments ask for, and the word of `--null`.
+/// A command, and the word of `--null`.
 #[derive(Clone, Copy, Debug, PartialEq, Eq)]
 pub struct Request<'a> {
-    /// What they ask for.
+    /// The command.
     pub command: Command,
-    /// The line that is a null, where a word says which.
+    /// The text of a null, if one is given.
     pub null: Option<&'a [u8]>,
 }
 
-/// Why arguments are refused. The word that is at fault is named.
+/// Why the arguments are refused, with the word that is wrong.
 #[derive(Clone, Copy, Debug, PartialEq, Eq)]
-pub enum ArgumentFault<'a> {
-    /// There is no word.
+pub enum ArgumentError<'a> {
+    /// There are no arguments.
     NoVerb,
     /// The first word is neither a verb nor `--help` or `--version`.
     NotVerb(&'a str),
     /// The verb has no such option.
     NotOption(&'a str),
-    /// The option is the last word, and its number is missing.
+    /// The option is the last word: its number is missing.
     NoNumber(&'a str),
-    /// The option is the last word, and the word after it is missing.
+    /// The option is the last word: the word after it is missing.
     NoWord(&'a str),
-    /// The word's number is not one, or is not below 2^64.
+    /// The value is not a number, or is not below 2^64.
     NotNumber(&'a str),
-    /// There are to be no workers.
+    /// The number of workers is 0.
     NoWorkers,
-    /// There are to be more than 64 workers: this many.
+    /// The number of workers is this one, which is more than 64.
     PastWorkers(usize),
     /// A word is not UTF-8.
     NotText,
 }
 
-impl fmt::Display for ArgumentFault<'_> {
-    ghost output = { λ fault. Some (argument_text fault) };
+impl fmt::Display for ArgumentError<'_> {
+    ghost output = { λ error. Some (argument_text error) };
 
     fn fmt<W: fmt::Write>(&self, f: &mut fmt::Formatter<W>) -> fmt::Result {
         match self {
-            ArgumentFault::NoVerb => write!(f, "no verb (see lasso_codes --help)"),
-            ArgumentFault::NotVerb(word) => write!(f, "{word}: no such verb"),
-            ArgumentFault::NotOption(word) => write!(f, "{word}: no such option"),
-            ArgumentFault::NoNumber(word) => write!(f, "{word}: a number is missing"),
-            ArgumentFault::NoWord(word) => write!(f, "{word}: a word is missing"),
-            ArgumentFault::NotNumber(word) => write!(f, "{word}: not a number below 2^64"),
-            ArgumentFault::NoWorkers => write!(f, "--workers: 0 is below 1"),
-            ArgumentFault::PastWorkers(count) => write!(f, "--workers: {count} is past 64"),
-            ArgumentFault::NotText => write!(f, "an argument is not UTF-8"),
+            ArgumentError::NoVerb => write!(f, "no verb (see lasso_codes --help)"),
+            ArgumentError::NotVerb(word) => write!(f, "{word}: no such verb"),
+            ArgumentError::NotOption(word) => write!(f, "{word}: no such option"),
+            ArgumentError::NoNumber(word) => write!(f, "{word}: a number is missing"),
+            ArgumentError::NoWord(word) => write!(f, "{word}: a word is missing"),
+            ArgumentError::NotNumber(word) => write!(f, "{word}: not a number below 2^64"),
+            ArgumentError::NoWorkers => write!(f, "--workers: 0 is below 1"),
+            ArgumentError::PastWorkers(count) => write!(f, "--workers: {count} is past 64"),
+            ArgumentError::NotText => write!(f, "an argument is not UTF-8"),
         }
     }
 }
 
-// An option that takes a value: a number, or the word of a null.
-#[derive(Clone, Copy, Debug, PartialEq, Eq)]
-enum Setting {
-    Limit,
-    Top,
-    Null,
-    Workers,
-}
-
-// What a word among the options means.
-#[derive(Clone, Copy, Debug, PartialEq, Eq)]
-enum Meaning {
-    // The verb's help.
-    AsksHelp,
-    // Codes as bytes.
-    IsBinary,
-    // No progress line.
-    IsQuiet,
-    // A setting, whose value is the next word.
-    Wants(Setting),
-    // A setting, whose value follows the `=` at this position.
-    Has(Setting, usize),
-    // None.
-    Nothing,
-}
-
-/// What the words ask for: `--help`, `--version`, or a verb and its options. Words after `--help` and `--version` are not read. Of
-/// an option that is given twice the last one counts. Without them the limit and the most lines are the greatest numbers, no line is
-/// a null, one worker does the work, and a progress line may be shown.
+/// Parses the arguments: `--help`, `--version`, or a verb and its options.
+///
+/// Words after `--help` and `--version` are not read. If an option is given twice, the last one counts. The
+/// defaults are no limit, all lines, no null, codes as text, one worker, and a progress line.
 ///
 /// # Errors
-/// The first word that is at fault.
-pub fn command_of(words: &[String]) -> Result<Request<'_>, ArgumentFault<'_>>
+/// The first word that is wrong, and why.
+pub fn command_of(words: &[String]) -> Result<Request<'_>, ArgumentError<'_>>
     ensures { MatchResult result
         (λ asked. command_of (map string_bytes words.now) ≡ Ok (asked.command, word_of asked.null))
-        (λ fault. command_of (map string_bytes words.now) ≡ Err (argument_text fault)) }
+        (λ error. command_of (map string_bytes words.now) ≡ Err (argument_text error)) }
 {
     if words.is_empty() {
-        return Err(ArgumentFault::NoVerb);
+        return Err(ArgumentError::NoVerb);
     }
     let word = words[0].as_str();
     if word == "--help" {
@@ -158,7 +128,7 @@ pub fn command_of(words: &[String]) -> Result<Request<'_>, ArgumentFault<'_>>
     }
     match verb_of(word) {
         Some(verb) => options_of(verb, &words[1..]),
-        None => Err(ArgumentFault::NotVerb(word)),
+        None => Err(ArgumentError::NotVerb(word)),
     }
 }
 
@@ -174,234 +144,4 @@ fn verb_of(word: &str) -> Option<Verb>
         "merge" => Some(Verb::Merge),
         _ => None,
     }
-}
-
-// The settings and the null so far, and the setting that waits for its value, with its word.
-#[derive(Clone, Copy)]
-struct Reading<'a> {
-    settings: Settings,
-    null: Option<&'a [u8]>,
-    wanted: Option<(Setting, &'a str)>,
-}
-
-// The verb with the settings that the words give.
-fn options_of(verb: Verb, words: &[String]) -> Result<Request<'_>, ArgumentFault<'_>>
-    ensures { MatchResult result
-        (λ asked. options_of verb unset None None (map string_bytes words.now) ≡ Ok (asked.command, word_of asked.null))
-        (λ fault. options_of verb unset None None (map string_bytes words.now) ≡ Err (argument_text fault)) }
-{
-    let mut reading = Reading {
-        settings: Settings {
-            limit: usize::MAX,
-            top: usize::MAX,
-            binary: false,
-            workers: 1,
-            quiet: false,
-        },
-        null: None,
-        wanted: None,
-    };
-    for word in words {
-        match read_word(verb, reading, word.as_str()) {
-            Ok(Some(next)) => reading = next,
-            Ok(None) => {
-                return Ok(Request {
-                    command: Command::VerbHelp(verb),
-                    null: None,
-                });
-            }
-            Err(fault) => return Err(fault),
-        }
-    }
-    match reading.wanted {
-        Some((setting, word)) => Err(no_value(setting, word)),
-        None => Ok(Request {
-            command: Command::Run(verb, reading.settings),
-            null: reading.null,
-        }),
-    }
-}
-
-// The value of the setting is missing.
-fn no_value<'a>(setting: Setting, word: &'a str) -> ArgumentFault<'a>
-    ensures { argument_text result ≡ no_value setting word.now }
-{
-    match setting {
-        Setting::Limit | Setting::Top | Setting::Workers => ArgumentFault::NoNumber(word),
-        Setting::Null => ArgumentFault::NoWord(word),
-    }
-}
-
-// What is read with the word, or `None` where it asks for help.
-fn read_word<'a>(
-    verb: Verb,
-    reading: Reading<'a>,
-    word: &'a str,
-) -> Result<Option<Reading<'a>>, ArgumentFault<'a>>
-    ensures { (words : List Text) → let asked = options_of verb reading.entry.settings (word_of reading.entry.null) (wanted_of reading.entry) (word.now ∷ words) in MatchResult result
-        (λ next. MatchOption next (asked ≡ Ok (Command.VerbHelp verb, None)) (λ after. asked ≡ options_of verb after.settings (word_of after.null) (wanted_of after) words))
-        (λ fault. asked ≡ Err (argument_text fault)) }
-{
-    if let Some((setting, _)) = reading.wanted {
-        return with_value(reading, setting, word, 0);
-    }
-    match meaning_of(verb, word) {
-        Meaning::AsksHelp => Ok(None),
-        Meaning::IsBinary => Ok(Some(Reading {
-            settings: Settings {
-                binary: true,
-                ..reading.settings
-            },
-            ..reading
-        })),
-        Meaning::IsQuiet => Ok(Some(Reading {
-            settings: Settings {
-                quiet: true,
-                ..reading.settings
-            },
-            ..reading
-        })),
-        Meaning::Wants(setting) => Ok(Some(Reading {
-            wanted: Some((setting, word)),
-            ..reading
-        })),
-        Meaning::Has(setting, at) => with_value(reading, setting, word, at + 1),
-        Meaning::Nothing => Err(ArgumentFault::NotOption(word)),
-    }
-}
-
-// What the word means among the options of the verb.
-fn meaning_of(verb: Verb, word: &str) -> Meaning
-    ensures value { result ≡ meaning_of verb word.now }
-    ensures at { IsWithin result word.now }
-{
-    if word == "--help" {
-        return Meaning::AsksHelp;
-    }
-    if word == "--quiet" {
-        return Meaning::IsQuiet;
-    }
-    if is_binary(verb, word) {
-        return Meaning::IsBinary;
-    }
-    let bytes = word.as_bytes();
-    match memchr(b'=', bytes) {
-        Some(at) => match setting_of(verb, &bytes[..at]) {
-            Some(setting) => Meaning::Has(setting, at),
-            None => Meaning::Nothing,
-        },
-        None => match setting_of(verb, bytes) {
-            Some(setting) => Meaning::Wants(setting),
-            None => Meaning::Nothing,
-        },
-    }
-}
-
-// Whether the word is the verb's option for codes as bytes.
-fn is_binary(verb: Verb, word: &str) -> bool
-    ensures { result ≡ is_binary verb word.now }
-{
-    word == "--binary" && takes_binary(verb)
-}
-
-// The verb's setting of this name.
-fn setting_of(verb: Verb, name: &[u8]) -> Option<Setting>
-    ensures { result ≡ setting_of verb name.now }
-{
-    if name == b"--limit".as_slice() {
-        Some(Setting::Limit)
-    } else if name == b"--top".as_slice() && verb == Verb::Counts {
-        Some(Setting::Top)
-    } else if name == b"--null".as_slice() && takes_null(verb) {
-        Some(Setting::Null)
-    } else if name == b"--workers".as_slice() && takes_workers(verb) {
-        Some(Setting::Workers)
-    } else {
-        None
-    }
-}
-
-// Whether the verb has nulls.
-fn takes_null(verb: Verb) -> bool
-    ensures { result ≡ takes_null verb }
-{
-    match verb {
-        Verb::Counts | Verb::Distinct | Verb::Merge => false,
-        Verb::Decode | Verb::Encode => true,
-    }
-}
-
-// Whether the verb writes columns.
-fn takes_binary(verb: Verb) -> bool
-    ensures { result ≡ takes_binary verb }
-{
-    match verb {
-        Verb::Counts | Verb::Decode | Verb::Distinct => false,
-        Verb::Encode | Verb::Merge => true,
-    }
-}
-
-// Whether threads may share the work of the verb.
-fn takes_workers(verb: Verb) -> bool
-    ensures { result ≡ takes_workers verb }
-{
-    match verb {
-        Verb::Counts | Verb::Encode => true,
-        Verb::Decode | Verb::Distinct | Verb::Merge => false,
-    }
-}
-
-// What is read with the value that the word says from this position on.
-fn with_value<'a>(
-    reading: Reading<'a>,
-    setting: Setting,
-    word: &'a str,
-    from: usize,
-) -> Result<Option<Reading<'a>>, ArgumentFault<'a>>
-    requires { from ≤ length word.now }
-    ensures { MatchResult result
-        (λ next. IfSome next (λ after. (value_of reading.entry.settings (word_of reading.entry.null) setting (drop from word.now) word.now ≡ Ok (after.settings, word_of after.null)) × (after.wanted ≡ None)) × IsSome next)
-        (λ fault. value_of reading.entry.settings (word_of reading.entry.null) setting (drop from word.now) word.now ≡ Err (argument_text fault)) }
-{
-    let value = &word.as_bytes()[from..];
-    let mut null = reading.null;
-    let mut settings = reading.settings;
-    match setting {
-        Setting::Limit => settings.limit = number_in(value, word)?,
-        Setting::Top => settings.top = number_in(value, word)?,
-        Setting::Workers => settings.workers = workers_in(number_in(value, word)?)?,
-        Setting::Null => null = Some(value),
-    }
-    Ok(Some(Reading {
-        settings,
-        null,
-        wanted: None,
-    }))
-}
-
-// The number that the value says.
-fn number_in<'a>(value: &[u8], word: &'a str) -> Result<usize, ArgumentFault<'a>>
-    ensures { MatchResult result
-        (λ number. number_of value.now ≡ Some number)
-        (λ fault. (number_of value.now ≡ None) × (argument_text fault ≡ not_number word.now)) }
-{
-    match parse_number(value) {
-        Some(number) => Ok(number),
-        None => Err(ArgumentFault::NotNumber(word)),
-    }
-}
-
-// `count` as a number of workers, if it is 1 to 64.
-fn workers_in(count: usize) -> Result<usize, ArgumentFault<'static>>
-    ensures { MatchResult result
-        (λ workers. workers_of count ≡ Ok workers)
-        (λ fault. workers_of count ≡ Err (argument_text fault)) }
-{
-    if count == 0 {
-        return Err(ArgumentFault::NoWorkers);
-    }
-    if count > MOST_WORKERS {
-        return Err(ArgumentFault::PastWorkers(count));
-    }
-    Ok(count)
 }

@@ -1,26 +1,28 @@
-//! A column: a header line, the dictionary's lines in the order of their codes, and an entry for each line.
+//! Writes a column: a header line, the dictionary's lines in the order of their codes, and an entry for each
+//! line.
 ghost use Rattle.std.specs.Prelude.{◌≡◌, ◌+◌, ◌≤◌, ◌++◌, ◌∷◌, [], Err, IfOk, MatchResult, length, map, take, decimal, flat_map};
 ghost use Rattle.lasso_codes.specs.Columns.{column_of, entry_at, entry_bytes, header, header_front};
 ghost use Rattle.lasso_codes.specs.Distinct.{with_feed};
 ghost use Rattle.lasso_codes.specs.Streams.{Writes, WritesAll};
 
-use crate::fault::RunFault;
+use crate::error::RunError;
 use crate::output::{write_bytes, write_line, write_number};
 use itoa::Buffer;
 use lasso::SpurRodeo;
 use lasso::index::Texts;
 use std::io::Write;
 
-/// The number of a null, which is no code.
+/// The number of a null. It is never a code.
 pub const NULL: u32 = u32::MAX;
 
-/// What is before the numbers in the header of a column whose entries are lines.
-pub const TEXT_FRONT: &[u8] = b"lasso-codes 1 text ";
+/// The start of the header of a column whose entries are lines.
+pub const TEXT_HEADER: &[u8] = b"lasso-codes 1 text ";
 
-/// What is before the numbers in the header of a column whose entries are bytes.
-pub const BINARY_FRONT: &[u8] = b"lasso-codes 1 binary ";
+/// The start of the header of a column whose entries are bytes.
+pub const BINARY_HEADER: &[u8] = b"lasso-codes 1 binary ";
 
-/// Writes the column of the interner's texts and of the entries with these numbers: codes, and `NULL` for a null.
+/// Writes the column whose dictionary is the interner's texts. `numbers` has an entry for each line: its
+/// code, or `NULL`.
 ///
 /// # Errors
 /// As `write_bytes`.
@@ -29,7 +31,7 @@ pub fn write_column<W: Write>(
     rodeo: &SpurRodeo,
     numbers: &[u32],
     binary: bool,
-) -> Result<(), RunFault>
+) -> Result<(), RunError>
     ensures { Writes (W.contents output.old) (W.contents output.new) (WritesAll (column_of binary rodeo.now.texts (map entry_at numbers.now)) result) }
 {
     let distinct = rodeo.len();
@@ -45,7 +47,7 @@ fn write_header<W: Write>(
     binary: bool,
     distinct: u64,
     lines: u64,
-) -> Result<(), RunFault>
+) -> Result<(), RunError>
     ensures { Writes (W.contents output.old) (W.contents output.new) (WritesAll (header binary distinct lines) result) }
 {
     write_front(output, binary)?;
@@ -53,19 +55,19 @@ fn write_header<W: Write>(
     write_number_and(output, lines, b"\n")
 }
 
-// Writes what is before the numbers of the header.
-fn write_front<W: Write>(output: &mut W, binary: bool) -> Result<(), RunFault>
+// Writes the start of the header.
+fn write_front<W: Write>(output: &mut W, binary: bool) -> Result<(), RunError>
     ensures { Writes (W.contents output.old) (W.contents output.new) (WritesAll (header_front binary) result) }
 {
     if binary {
-        write_bytes(output, BINARY_FRONT)
+        write_bytes(output, BINARY_HEADER)
     } else {
-        write_bytes(output, TEXT_FRONT)
+        write_bytes(output, TEXT_HEADER)
     }
 }
 
-// Writes the number's digits and the bytes after them.
-fn write_number_and<W: Write>(output: &mut W, number: u64, after: &[u8]) -> Result<(), RunFault>
+// Writes the number's digits, and then the bytes `after`.
+fn write_number_and<W: Write>(output: &mut W, number: u64, after: &[u8]) -> Result<(), RunError>
     ensures { Writes (W.contents output.old) (W.contents output.new) (WritesAll (decimal number ++ after.now) result) }
 {
     write_number(output, number)?;
@@ -73,7 +75,7 @@ fn write_number_and<W: Write>(output: &mut W, number: u64, after: &[u8]) -> Resu
 }
 
 // Writes each text as a line.
-fn write_texts<W: Write>(output: &mut W, rodeo: &SpurRodeo) -> Result<(), RunFault>
+fn write_texts<W: Write>(output: &mut W, rodeo: &SpurRodeo) -> Result<(), RunError>
     ensures { Writes (W.contents output.old) (W.contents output.new) (WritesAll (flat_map with_feed rodeo.now.texts) result) }
 {
     for position in 0..rodeo.len() {
@@ -82,17 +84,17 @@ fn write_texts<W: Write>(output: &mut W, rodeo: &SpurRodeo) -> Result<(), RunFau
     Ok(())
 }
 
-// How many bytes of entries are written at once.
-const BLOCK: usize = 4096;
+// Entries are written in blocks of this size.
+const BLOCK_SIZE: usize = 4096;
 
-// The most bytes that an entry takes: ten digits and a line feed.
+// The length of the longest entry: ten digits and a line feed.
 const LONGEST_ENTRY: usize = 11;
 
 // Writes the entry of each number.
-fn write_entries<W: Write>(output: &mut W, binary: bool, numbers: &[u32]) -> Result<(), RunFault>
+fn write_entries<W: Write>(output: &mut W, binary: bool, numbers: &[u32]) -> Result<(), RunError>
     ensures { Writes (W.contents output.old) (W.contents output.new) (WritesAll (flat_map (λ n. entry_bytes binary (entry_at n)) numbers.now) result) }
 {
-    let mut block = [0; BLOCK];
+    let mut block = [0; BLOCK_SIZE];
     let mut filled = 0;
     for number in numbers {
         filled = make_room(output, &block, filled)?;
@@ -101,25 +103,25 @@ fn write_entries<W: Write>(output: &mut W, binary: bool, numbers: &[u32]) -> Res
     write_bytes(output, &block[..filled])
 }
 
-// Writes the first bytes of the block, those that are filled, where there is no room for an entry after them. Returns how many are filled
-// then.
+// Writes the first `filled` bytes of the block if there is no room for an entry after them. Returns the
+// number of filled bytes that are left.
 #[inline]
-fn make_room<W: Write>(output: &mut W, block: &[u8], filled: usize) -> Result<usize, RunFault>
+fn make_room<W: Write>(output: &mut W, block: &[u8], filled: usize) -> Result<usize, RunError>
     requires fits { filled ≤ 4096 }
     requires long { length block.now ≡ 4096 }
     ensures room { IfOk result (λ left. left + 11 ≤ 4096) }
     ensures written { MatchResult result
         (λ left. Writes (W.contents output.old) (W.contents output.new) (λ part. part ++ take left block.now ≡ take filled block.now))
-        (λ fault. Writes (W.contents output.old) (W.contents output.new) (WritesAll (take filled block.now) (Err fault))) }
+        (λ error. Writes (W.contents output.old) (W.contents output.new) (WritesAll (take filled block.now) (Err error))) }
 {
-    if filled <= BLOCK - LONGEST_ENTRY {
+    if filled <= BLOCK_SIZE - LONGEST_ENTRY {
         return Ok(filled);
     }
     write_bytes(output, &block[..filled])?;
     Ok(0)
 }
 
-// Puts the entry of the number into the block, at this position. Returns the position after it.
+// Puts the entry of the number into the block at the position `at`. Returns the position after it.
 #[inline]
 fn put_entry(block: &mut [u8], at: usize, binary: bool, number: u32) -> usize
     requires { at + 11 ≤ length block.old }
@@ -138,7 +140,7 @@ fn put_entry(block: &mut [u8], at: usize, binary: bool, number: u32) -> usize
     put(block, after, b"\n")
 }
 
-// Puts the bytes into the block, at this position. Returns the position after them.
+// Puts the bytes into the block at the position `at`. Returns the position after them.
 #[inline]
 fn put(block: &mut [u8], at: usize, bytes: &[u8]) -> usize
     requires { at + length bytes.now ≤ length block.old }

@@ -1,4 +1,4 @@
-//! How often each distinct line came.
+//! Counts the lines.
 ghost use Rattle.std.specs.Prelude.{◌≡◌, ◌+◌, ◌-◌, ◌^◌, ◌<◌, ◌≤◌, ◌++◌, ◌∷◌, [], ℕ, List, Some, Ok, OnOk, IfOk, IfErr, MatchResult, All, IsTrue, IsUtf8, length, drop, map, sum, flat_map, vec_len};
 ghost use Rattle.std.specs.Io.Buffered.{reader_remaining, writer_contents, writer_buffer};
 ghost use Rattle.lasso_parts.specs.Texts.{Text};
@@ -8,15 +8,15 @@ ghost use Rattle.lasso_columns.specs.Encoding.{spur_at};
 ghost use Rattle.lasso_columns.specs.Faults.{IsFaultOf};
 ghost use Rattle.lasso_columns.specs.Lines.{lines_of};
 ghost use Rattle.lasso_counts.specs.Counts.{AreCounts, pair_of};
-ghost use Rattle.lasso_codes.specs.Counts.{CountsEnd, CountingFault, count_line};
+ghost use Rattle.lasso_codes.specs.Counts.{CountsEnd, CountingError, count_line};
 ghost use Rattle.lasso_codes.specs.Stages.{Counting};
 ghost use Rattle.lasso_codes.specs.Streams.{Writes, WritesAll};
-ghost use Rattle.lasso_codes.specs.Fault.{IsWriteEnd};
+ghost use Rattle.lasso_codes.specs.Errors.{IsWriteEnd};
 
 use crate::arguments::Settings;
 use crate::distinct::new_rodeo;
-use crate::fault::RunFault;
-use crate::input::{at_hand, next_line, use_up};
+use crate::error::RunError;
+use crate::input::{buffered, consume, next_line};
 use crate::lines::{line_text, untested_len};
 use crate::output::{end_flushed, write_bytes, write_line, write_number};
 use crate::whole::{read_whole, text_lines};
@@ -29,19 +29,19 @@ use std::cmp::Reverse;
 use std::io::{BufReader, BufWriter, Read, Write};
 use std::thread::Threads;
 
-/// Reads all lines, and then writes each distinct one once after the number of times that it came, the most frequent first. Lines
-/// that came equally often are in the order of their bytes. At most `top` of them are written. Of more than one worker each counts
-/// a part of the lines, and the input is read as a whole first.
+/// Counts the lines, and writes each distinct line after its count, the most frequent first. Lines with equal
+/// counts are in the order of their bytes. At most `top` lines are written. With several workers, the whole
+/// input is read first, and each worker counts a part of the lines.
 ///
 /// # Errors
-/// A line that is refused or is not UTF-8, a failed read and out of memory end the run, and nothing is written. After a failed
-/// write, what was written is a beginning of the list.
+/// A line that is refused or is not UTF-8, a failed read, or out of memory: nothing is written. After a
+/// failed write, a beginning of the list was written.
 pub fn counts<H: AllocGlobal + Threads + Sync, R: Read + Drop, W: Write + Drop>(
     rt: &H,
     input: &mut BufReader<R>,
     output: &mut BufWriter<W>,
     settings: Settings,
-) -> Result<(), RunFault>
+) -> Result<(), RunError>
     ensures report { (bytes : List ℕ) → reader_remaining R.remaining input.old ≡ Some bytes →
         Writes (writer_contents W.contents output.old) (writer_contents W.contents output.new) (λ part. CountsEnd bytes settings.limit settings.top part result) }
     ensures flushed { ¬ (IsWriteEnd result) → writer_buffer output.new ≡ [] }
@@ -50,13 +50,13 @@ pub fn counts<H: AllocGlobal + Threads + Sync, R: Read + Drop, W: Write + Drop>(
     end_flushed(output, result)
 }
 
-// Counts the lines and writes them, and leaves the last of what is written in the buffer.
+// Counts the lines and writes them. The last bytes stay in the buffer.
 fn write_counts<H: AllocGlobal + Threads + Sync, R: Read + Drop, W: Write>(
     rt: &H,
     input: &mut BufReader<R>,
     output: &mut W,
     settings: Settings,
-) -> Result<(), RunFault>
+) -> Result<(), RunError>
     ensures { (bytes : List ℕ) → reader_remaining R.remaining input.old ≡ Some bytes →
         Writes (W.contents output.old) (W.contents output.new) (λ part. CountsEnd bytes settings.limit settings.top part result) }
 {
@@ -64,27 +64,27 @@ fn write_counts<H: AllocGlobal + Threads + Sync, R: Read + Drop, W: Write>(
     let mut counts = Vec::new(rt.alloc());
     count_all(rt, input, &mut rodeo, &mut counts, settings.workers)?;
     let Ok(ranked) = by_frequency(rt.alloc(), &rodeo, &counts) else {
-        return Err(RunFault::no_memory(0));
+        return Err(RunError::no_memory(0));
     };
     let most = ranked.len().min(settings.top);
     write_ranked(output, &ranked[..most])
 }
 
-// Counts each line, line by line or by the workers.
+// Counts all lines, with one worker or several.
 fn count_all<H: AllocGlobal + Threads + Sync, R: Read + Drop>(
     rt: &H,
     input: &mut BufReader<R>,
     rodeo: &mut SpurRodeo,
     counts: &mut Vec<u64>,
     workers: usize,
-) -> Result<(), RunFault>
+) -> Result<(), RunError>
     requires no_texts { rodeo.old.texts ≡ [] }
     requires no_counts { counts.old.items ≡ [] }
     ensures counted { OnOk result ((bytes : List ℕ) → reader_remaining R.remaining input.old ≡ Some bytes →
         All IsUtf8 (lines_of bytes) × AreCounts (lines_of bytes) rodeo.new.texts counts.new.items) }
-    ensures beside { vec_len counts.new ≡ length rodeo.new.texts }
-    ensures fault { IfErr result (λ fault. (bytes : List ℕ) → reader_remaining R.remaining input.old ≡ Some bytes →
-        (limit : ℕ) → rodeo.old ≡ made_with 4096 limit → CountingFault limit (lines_of bytes) fault) }
+    ensures lengths { vec_len counts.new ≡ length rodeo.new.texts }
+    ensures error { IfErr result (λ error. (bytes : List ℕ) → reader_remaining R.remaining input.old ≡ Some bytes →
+        (limit : ℕ) → rodeo.old ≡ made_with 4096 limit → CountingError limit (lines_of bytes) error) }
 {
     if workers < 2 {
         return count_lines(rt.alloc(), input, rodeo, counts);
@@ -92,55 +92,55 @@ fn count_all<H: AllocGlobal + Threads + Sync, R: Read + Drop>(
     count_whole(rt, input, rodeo, counts, workers)
 }
 
-// Counts each line up to the end of the input.
+// Counts all lines, one after another.
 fn count_lines<R: Read + Drop>(
     alloc: Global,
     input: &mut BufReader<R>,
     rodeo: &mut SpurRodeo,
     counts: &mut Vec<u64>,
-) -> Result<(), RunFault>
+) -> Result<(), RunError>
     requires no_texts { rodeo.old.texts ≡ [] }
     requires no_counts { counts.old.items ≡ [] }
     ensures counted { OnOk result ((bytes : List ℕ) → reader_remaining R.remaining input.old ≡ Some bytes →
         All IsUtf8 (lines_of bytes) × AreCounts (lines_of bytes) rodeo.new.texts counts.new.items) }
-    ensures beside { vec_len counts.new ≡ length rodeo.new.texts }
-    ensures fault { IfErr result (λ fault. (bytes : List ℕ) → reader_remaining R.remaining input.old ≡ Some bytes →
-        (limit : ℕ) → rodeo.old ≡ made_with 4096 limit → CountingFault limit (lines_of bytes) fault) }
+    ensures lengths { vec_len counts.new ≡ length rodeo.new.texts }
+    ensures error { IfErr result (λ error. (bytes : List ℕ) → reader_remaining R.remaining input.old ≡ Some bytes →
+        (limit : ℕ) → rodeo.old ≡ made_with 4096 limit → CountingError limit (lines_of bytes) error) }
 {
     let mut line = Vec::new(alloc);
     let mut number = 1;
     for _ in 1..usize::MAX {
-        let (next, used) = count_stretch(rodeo, counts, at_hand(input), number)?;
-        use_up(input, used);
+        let (next, used) = count_stretch(rodeo, counts, buffered(input), number)?;
+        consume(input, used);
         if !next_line(input, &mut line, next)? {
             return Ok(());
         }
         if let Err(error) = count_line(rodeo, counts, &line, false, next) {
-            return Err(RunFault::Line(error));
+            return Err(RunError::Line(error));
         }
         number = next + 1;
     }
-    Err(RunFault::TooManyLines)
+    Err(RunError::TooManyLines)
 }
 
-// Counts the lines that end in the stretch, the first of which has this number. Returns the number of the line after them, and where
-// it begins.
+// Counts the lines that end in the stretch; `first` is the number of the first one. Returns the number of the
+// line after them, and the position where it begins.
 fn count_stretch(
     rodeo: &mut SpurRodeo,
     counts: &mut Vec<u64>,
     stretch: &[u8],
     first: usize,
-) -> Result<(usize, usize), RunFault>
-    requires beside { vec_len counts.old ≡ length rodeo.old.texts }
+) -> Result<(usize, usize), RunError>
+    requires lengths { vec_len counts.old ≡ length rodeo.old.texts }
     requires total { sum counts.old.items + 1 ≡ first }
     ensures counted { IfOk result (λ at. (input later : List ℕ) (start : InternerView) →
         Counting input (stretch.now ++ later) first start rodeo.old counts.old.items → Counting input (drop at.1 stretch.now ++ later) at.0 start rodeo.new counts.new.items) }
-    ensures beside { vec_len counts.new ≡ length rodeo.new.texts }
+    ensures lengths { vec_len counts.new ≡ length rodeo.new.texts }
     ensures total { IfOk result (λ at. sum counts.new.items + 1 ≡ at.0) }
     ensures number { IfOk result (λ at. at.0 < 2 ^ 64 - 1) }
     ensures within { IfOk result (λ at. at.1 ≤ length stretch.now) }
-    ensures fault { IfErr result (λ fault. (input later : List ℕ) (limit : ℕ) →
-        Counting input (stretch.now ++ later) first (made_with 4096 limit) rodeo.old counts.old.items → CountingFault limit (lines_of input) fault) }
+    ensures error { IfErr result (λ error. (input later : List ℕ) (limit : ℕ) →
+        Counting input (stretch.now ++ later) first (made_with 4096 limit) rodeo.old counts.old.items → CountingError limit (lines_of input) error) }
 {
     let untested = untested_len(stretch);
     let mut used = 0;
@@ -151,14 +151,14 @@ fn count_stretch(
         };
         let is_text = untested < rest.len() - len;
         if let Err(error) = count_line(rodeo, counts, &rest[..len], is_text, number) {
-            return Err(RunFault::Line(error));
+            return Err(RunError::Line(error));
         }
         used += len + 1;
     }
-    Err(RunFault::TooManyLines)
+    Err(RunError::TooManyLines)
 }
 
-// Counts the line of this number. `is_text`: the caller has checked that it is UTF-8.
+// Counts the line with this number. `is_text`: the caller has checked that it is UTF-8.
 fn count_line(
     rodeo: &mut SpurRodeo,
     counts: &mut Vec<u64>,
@@ -167,13 +167,13 @@ fn count_line(
     number: usize,
 ) -> Result<(), LineError>
     requires text { IsTrue is_text → IsUtf8 line.now }
-    requires beside { vec_len counts.old ≡ length rodeo.old.texts }
+    requires lengths { vec_len counts.old ≡ length rodeo.old.texts }
     requires fits { sum counts.old.items < 2 ^ 64 - 1 }
     ensures interned { OnOk result (IsUtf8 line.now × ((key : ℕ) × InternsIn {K = ℕ} spur_at rodeo.old line.now (Ok key) rodeo.new)) }
     ensures counted { OnOk result ((texts : List Text) → AreCounts texts rodeo.old.texts counts.old.items → AreCounts (texts ++ line.now ∷ []) rodeo.new.texts counts.new.items) }
     ensures total { OnOk result (sum counts.new.items ≡ sum counts.old.items + 1) }
-    ensures beside { vec_len counts.new ≡ length rodeo.new.texts }
-    ensures fault { IfErr result (IsFaultOf rodeo.old line.now number) }
+    ensures lengths { vec_len counts.new ≡ length rodeo.new.texts }
+    ensures error { IfErr result (IsFaultOf rodeo.old line.now number) }
 {
     let Ok(text) = line_text(line, is_text) else {
         return Err(LineError::NotText(number));
@@ -184,33 +184,36 @@ fn count_line(
     }
 }
 
-// Counts each line of the input, which is read as a whole, by the workers.
+// Reads the whole input, and counts its lines with several workers.
 fn count_whole<H: AllocGlobal + Threads + Sync, R: Read + Drop>(
     rt: &H,
     input: &mut BufReader<R>,
     rodeo: &mut SpurRodeo,
     counts: &mut Vec<u64>,
     workers: usize,
-) -> Result<(), RunFault>
+) -> Result<(), RunError>
     requires no_texts { rodeo.old.texts ≡ [] }
     requires no_counts { counts.old.items ≡ [] }
     ensures counted { OnOk result ((bytes : List ℕ) → reader_remaining R.remaining input.old ≡ Some bytes →
         All IsUtf8 (lines_of bytes) × AreCounts (lines_of bytes) rodeo.new.texts counts.new.items) }
-    ensures beside { vec_len counts.new ≡ length rodeo.new.texts }
-    ensures fault { IfErr result (λ fault. (bytes : List ℕ) → reader_remaining R.remaining input.old ≡ Some bytes →
-        (limit : ℕ) → rodeo.old ≡ made_with 4096 limit → CountingFault limit (lines_of bytes) fault) }
+    ensures lengths { vec_len counts.new ≡ length rodeo.new.texts }
+    ensures error { IfErr result (λ error. (bytes : List ℕ) → reader_remaining R.remaining input.old ≡ Some bytes →
+        (limit : ℕ) → rodeo.old ≡ made_with 4096 limit → CountingError limit (lines_of bytes) error) }
 {
     let whole = read_whole(rt.alloc(), input)?;
     let lines = text_lines(rt.alloc(), &whole)?;
     match count_in_parts(rt, rodeo, &lines.texts, counts, workers) {
-        Ok(()) if lines.is_whole => Ok(()),
-        Ok(()) => Err(RunFault::Line(LineError::NotText(lines.texts.len() + 1))),
-        Err(fault) => Err(RunFault::Line(LineError::Refused(fault.position + 1, fault.error))),
+        Ok(()) if lines.is_complete => Ok(()),
+        Ok(()) => Err(RunError::Line(LineError::NotText(lines.texts.len() + 1))),
+        Err(refused) => Err(RunError::Line(LineError::Refused(
+            refused.position + 1,
+            refused.error,
+        ))),
     }
 }
 
 // Writes each count and its text as a line.
-fn write_ranked<W: Write>(output: &mut W, ranked: &[Ranked<'_>]) -> Result<(), RunFault>
+fn write_ranked<W: Write>(output: &mut W, ranked: &[Ranked<'_>]) -> Result<(), RunError>
     ensures { Writes (W.contents output.old) (W.contents output.new) (WritesAll (flat_map count_line (map pair_of ranked.now)) result) }
 {
     for one in ranked {
@@ -220,7 +223,7 @@ fn write_ranked<W: Write>(output: &mut W, ranked: &[Ranked<'_>]) -> Result<(), R
 }
 
 // Writes the count, a space, the text and a line feed.
-fn write_count<W: Write>(output: &mut W, ranked: &Ranked<'_>) -> Result<(), RunFault>
+fn write_count<W: Write>(output: &mut W, ranked: &Ranked<'_>) -> Result<(), RunError>
     ensures { Writes (W.contents output.old) (W.contents output.new) (WritesAll (count_line (pair_of ranked.now)) result) }
 {
     let (Reverse(count), text) = *ranked;

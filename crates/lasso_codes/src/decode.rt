@@ -1,9 +1,9 @@
-//! Columns to lines.
+//! Decodes columns into their lines.
 ghost use Rattle.std.specs.Prelude.{◌≡◌, ◌+◌, ◌-◌, ◌≤◌, ◌++◌, [], ℕ, List, Option, Some, IfOk, IfErr, drop, length};
 ghost use Rattle.std.specs.Io.Buffered.{reader_remaining, writer_contents, writer_buffer};
 ghost use Rattle.lasso_codes.specs.Arguments.{word_of};
-ghost use Rattle.lasso_codes.specs.Decode.{line_at, DecodeEnd, LinesFault, WritesEntry, WritesLines};
-ghost use Rattle.lasso_codes.specs.Fault.{IsWriteEnd};
+ghost use Rattle.lasso_codes.specs.Decode.{line_at, DecodeEnd, DecodingError, WritesEntry, WritesLines};
+ghost use Rattle.lasso_codes.specs.Errors.{IsWriteEnd};
 ghost use Rattle.lasso_codes.specs.Reading.{items_from, ReadItems};
 ghost use Rattle.lasso_codes.specs.Stages.{LinesAhead};
 ghost use Rattle.lasso_parts.specs.Texts.{Text};
@@ -11,27 +11,27 @@ ghost use Rattle.lasso_codes.specs.Streams.{Writes};
 
 use crate::distinct::new_rodeo;
 use crate::entries::{Entry, first_entry, line_at, next_entry};
-use crate::fault::RunFault;
-use crate::input::{at_hand, use_up};
+use crate::error::RunError;
+use crate::input::{buffered, consume};
 use crate::output::{end_flushed, write_line};
 use crate::reading::{Header, next_header, read_texts};
 use lasso::{MemoryLimits, SpurRodeo};
 use std::alloc::Global;
 use std::io::{BufReader, BufWriter, Read, Write};
 
-/// Reads columns, one or several one after another, and writes their lines, each with a line feed after it. A null is written as the
-/// word `null`.
+/// Decodes the columns of the input, and writes their lines, each with a line feed. A null is written as
+/// `null`.
 ///
 /// # Errors
-/// A damaged column, a text that is refused, a failed read and out of memory end the run, after the lines before. After a failed
-/// write, what was written is a beginning of the lines.
+/// A damaged column, a null if `null` is `None`, a text that is refused, a failed read, or out of memory: the
+/// lines before it were written. After a failed write, a beginning of the lines was written.
 pub fn decode<R: Read + Drop, W: Write + Drop>(
     alloc: Global,
     input: &mut BufReader<R>,
     output: &mut BufWriter<W>,
     limits: MemoryLimits,
     null: Option<&[u8]>,
-) -> Result<(), RunFault>
+) -> Result<(), RunError>
     ensures report { (bytes : List ℕ) → reader_remaining R.remaining input.old ≡ Some bytes →
         Writes (writer_contents W.contents output.old) (writer_contents W.contents output.new) (λ part. DecodeEnd bytes limits (word_of null.entry) part result) }
     ensures flushed { ¬ (IsWriteEnd result) → writer_buffer output.new ≡ [] }
@@ -40,14 +40,14 @@ pub fn decode<R: Read + Drop, W: Write + Drop>(
     end_flushed(output, result)
 }
 
-// Writes the lines of each column, and leaves the last of them in the buffer.
+// Writes the lines of each column. The last bytes stay in the buffer.
 fn write_decoded<R: Read + Drop, W: Write>(
     alloc: Global,
     input: &mut BufReader<R>,
     output: &mut W,
     limits: MemoryLimits,
     null: Option<&[u8]>,
-) -> Result<(), RunFault>
+) -> Result<(), RunError>
     ensures { (bytes : List ℕ) → reader_remaining R.remaining input.old ≡ Some bytes →
         Writes (W.contents output.old) (W.contents output.new) (λ part. DecodeEnd bytes limits (word_of null.entry) part result) }
 {
@@ -60,10 +60,10 @@ fn write_decoded<R: Read + Drop, W: Write>(
         read_texts(input, &mut line, &mut rodeo, header.distinct, column)?;
         write_lines(input, output, &mut line, &rodeo, header, null, column)?;
     }
-    Err(RunFault::TooManyLines)
+    Err(RunError::TooManyLines)
 }
 
-// Writes the lines of the entries.
+// Writes the lines of a column's entries.
 fn write_lines<R: Read + Drop, W: Write>(
     input: &mut BufReader<R>,
     output: &mut W,
@@ -72,16 +72,16 @@ fn write_lines<R: Read + Drop, W: Write>(
     header: Header,
     null: Option<&[u8]>,
     column: usize,
-) -> Result<(), RunFault>
+) -> Result<(), RunError>
     ensures { (bytes : List ℕ) → reader_remaining R.remaining input.old ≡ Some bytes →
         Writes (W.contents output.old) (W.contents output.new) (λ part. WritesLines (items_from (line_at (word_of null.entry) rodeo.now.texts) header.lines header.binary 1 bytes)
         column (reader_remaining R.remaining input.new) part result) }
 {
     let mut count = 0;
     while count < header.lines {
-        let shown = at_hand(input);
+        let shown = buffered(input);
         let (next, used) = write_stretch(output, rodeo, header, null, column, shown, count)?;
-        use_up(input, used);
+        consume(input, used);
         if next == header.lines {
             return Ok(());
         }
@@ -92,8 +92,8 @@ fn write_lines<R: Read + Drop, W: Write>(
     Ok(())
 }
 
-// Writes the lines of the entries that end in the stretch, `count` entries after the first. Returns how many are before the next one
-// then, and where it begins.
+// Writes the lines of the entries that end in the stretch. `count` entries came before. Returns the number of
+// entries before the next one, and the position where that begins.
 fn write_stretch<W: Write>(
     output: &mut W,
     rodeo: &SpurRodeo,
@@ -102,16 +102,16 @@ fn write_stretch<W: Write>(
     column: usize,
     stretch: &[u8],
     count: usize,
-) -> Result<(usize, usize), RunFault>
+) -> Result<(usize, usize), RunError>
     requires { count ≤ header.lines }
     ensures written { IfOk result (λ at. (read : ReadItems Text) (later : List ℕ) (before : Option (List ℕ)) →
         Writes before (W.contents output.old) (LinesAhead (items_from (line_at (word_of null.entry) rodeo.now.texts) (header.lines - count) header.binary (count + 1) (stretch.now ++ later)) read) →
         Writes before (W.contents output.new) (LinesAhead (items_from (line_at (word_of null.entry) rodeo.now.texts) (header.lines - at.0) header.binary (at.0 + 1) (drop at.1 stretch.now ++ later)) read)) }
     ensures more { IfOk result (λ at. (count ≤ at.0) × (at.0 ≤ header.lines)) }
     ensures within { IfOk result (λ at. at.1 ≤ length stretch.now) }
-    ensures fault { IfErr result (λ fault. (read : ReadItems Text) (later : List ℕ) (before : Option (List ℕ)) →
+    ensures error { IfErr result (λ error. (read : ReadItems Text) (later : List ℕ) (before : Option (List ℕ)) →
         Writes before (W.contents output.old) (LinesAhead (items_from (line_at (word_of null.entry) rodeo.now.texts) (header.lines - count) header.binary (count + 1) (stretch.now ++ later)) read) →
-        Writes before (W.contents output.new) (λ part. LinesFault read column part fault)) }
+        Writes before (W.contents output.new) (λ part. DecodingError read column part error)) }
 {
     let mut used = 0;
     for position in count..header.lines {
@@ -124,7 +124,7 @@ fn write_stretch<W: Write>(
     Ok((header.lines, used))
 }
 
-// Writes the line of the entry of this number.
+// Writes the line of the entry with this number.
 #[inline]
 fn write_entry_line<W: Write>(
     output: &mut W,
@@ -133,11 +133,11 @@ fn write_entry_line<W: Write>(
     column: usize,
     entry: Entry,
     number: usize,
-) -> Result<(), RunFault>
+) -> Result<(), RunError>
     ensures { Writes (W.contents output.old) (W.contents output.new) (WritesEntry (line_at (word_of null.entry) rodeo.now.texts entry number) column result) }
 {
     match line_at(rodeo, null, entry, number) {
         Ok(decoded) => write_line(output, decoded),
-        Err(fault) => Err(RunFault::Column(column, fault)),
+        Err(error) => Err(RunError::Column(column, error)),
     }
 }

@@ -1,4 +1,4 @@
-//! The distinct lines.
+//! Lists the distinct lines.
 ghost use Rattle.std.specs.Prelude.{◌≡◌, ◌<◌, ◌≤◌, ◌-◌, ◌^◌, ◌++◌, ℕ, List, [], Option, Some, Err, IfOk, IfErr, IsTrue, IsUtf8, drop, length};
 ghost use Rattle.lasso_single.specs.Interner.{made_with};
 ghost use Rattle.lasso_columns.specs.declared.faults.LineError.TheVariants.{Refused};
@@ -7,10 +7,10 @@ ghost use Rattle.std.specs.Io.Buffered.{reader_remaining, writer_contents, write
 ghost use Rattle.lasso_codes.specs.Stages.{OnTheWay};
 ghost use Rattle.lasso_codes.specs.Streams.{Writes};
 ghost use Rattle.lasso_codes.specs.Distinct.{DistinctEnd, PassesLine};
-ghost use Rattle.lasso_codes.specs.Fault.{IsWriteEnd};
+ghost use Rattle.lasso_codes.specs.Errors.{IsWriteEnd};
 
-use crate::fault::RunFault;
-use crate::input::{at_hand, next_line, use_up};
+use crate::error::RunError;
+use crate::input::{buffered, consume, next_line};
 use crate::lines::{intern_line, untested_len};
 use crate::output::{end_flushed, flush, write_line};
 use lasso::{Capacity, MemoryLimits, Rodeo, SpurRodeo};
@@ -18,18 +18,18 @@ use lasso_columns::lines::find_newline;
 use std::alloc::Global;
 use std::io::{BufReader, BufWriter, Read, Write};
 
-/// Writes each distinct line once, where it first comes, with a line feed after it. What is written is flushed before a read that
-/// may wait, and before each return.
+/// Writes each distinct line once, where it first occurs, with a line feed. The output is flushed before a
+/// read that may wait, and before each return.
 ///
 /// # Errors
-/// The first line that is refused or is not UTF-8 ends the run, after the distinct lines before it. So does a failed read. After a
-/// failed write, what was written is a beginning of all distinct lines.
+/// The first line that is refused or is not UTF-8, a failed read, or out of memory: the distinct lines before
+/// it were written. After a failed write, a beginning of the distinct lines was written.
 pub fn distinct<R: Read + Drop, W: Write + Drop>(
     alloc: Global,
     input: &mut BufReader<R>,
     output: &mut BufWriter<W>,
     limits: MemoryLimits,
-) -> Result<(), RunFault>
+) -> Result<(), RunError>
     ensures report { (bytes : List ℕ) → reader_remaining R.remaining input.old ≡ Some bytes →
         Writes (writer_contents W.contents output.old) (writer_contents W.contents output.new) (λ part. DistinctEnd bytes limits part result) }
     ensures flushed { ¬ (IsWriteEnd result) → writer_buffer output.new ≡ [] }
@@ -38,13 +38,13 @@ pub fn distinct<R: Read + Drop, W: Write + Drop>(
     end_flushed(output, result)
 }
 
-// Writes the distinct lines, and leaves the last of them in the buffer.
+// Writes the distinct lines. The last bytes may stay in the buffer.
 fn write_distinct<R: Read + Drop, W: Write + Drop>(
     alloc: Global,
     input: &mut BufReader<R>,
     output: &mut BufWriter<W>,
     limits: MemoryLimits,
-) -> Result<(), RunFault>
+) -> Result<(), RunError>
     ensures { (bytes : List ℕ) → reader_remaining R.remaining input.old ≡ Some bytes →
         Writes (writer_contents W.contents output.old) (writer_contents W.contents output.new) (λ part. DistinctEnd bytes limits part result) }
 {
@@ -52,9 +52,9 @@ fn write_distinct<R: Read + Drop, W: Write + Drop>(
     let mut line = Vec::new(alloc);
     let mut number = 1;
     for _ in 1..usize::MAX {
-        let (next, used) = pass_stretch(&mut rodeo, at_hand(input), number, output)?;
-        use_up(input, used);
-        // The next line is not at hand as a whole, so reading it may wait.
+        let (next, used) = pass_stretch(&mut rodeo, buffered(input), number, output)?;
+        consume(input, used);
+        // The next line is not in the buffer as a whole, so reading it may wait.
         flush(output)?;
         if !next_line(input, &mut line, next)? {
             return Ok(());
@@ -62,25 +62,25 @@ fn write_distinct<R: Read + Drop, W: Write + Drop>(
         pass_line(&mut rodeo, &line, false, next, output)?;
         number = next + 1;
     }
-    Err(RunFault::TooManyLines)
+    Err(RunError::TooManyLines)
 }
 
-// Interns the lines that end in the stretch, the first of which has this number, and writes those that are new. Returns the number of
-// the line after them, and where it begins.
+// Interns the lines that end in the stretch, and writes the new ones; `first` is the number of the first
+// line. Returns the number of the line after them, and the position where it begins.
 fn pass_stretch<W: Write>(
     rodeo: &mut SpurRodeo,
     stretch: &[u8],
     first: usize,
     output: &mut W,
-) -> Result<(usize, usize), RunFault>
+) -> Result<(usize, usize), RunError>
     ensures passed { IfOk result (λ at. (input later : List ℕ) (limit : ℕ) (before : Option (List ℕ)) →
         Writes before (W.contents output.old) (OnTheWay input limit (stretch.now ++ later) first rodeo.old) →
         Writes before (W.contents output.new) (OnTheWay input limit (drop at.1 stretch.now ++ later) at.0 rodeo.new)) }
     ensures number { IfOk result (λ at. at.0 < 2 ^ 64 - 1) }
     ensures within { IfOk result (λ at. at.1 ≤ length stretch.now) }
-    ensures fault { IfErr result (λ fault. (input later : List ℕ) (limit : ℕ) (before : Option (List ℕ)) →
+    ensures error { IfErr result (λ error. (input later : List ℕ) (limit : ℕ) (before : Option (List ℕ)) →
         Writes before (W.contents output.old) (OnTheWay input limit (stretch.now ++ later) first rodeo.old) →
-        Writes before (W.contents output.new) (λ part. DistinctEnd input limit part (Err fault))) }
+        Writes before (W.contents output.new) (λ part. DistinctEnd input limit part (Err error))) }
 {
     let untested = untested_len(stretch);
     let mut used = 0;
@@ -93,34 +93,38 @@ fn pass_stretch<W: Write>(
         pass_line(rodeo, &rest[..len], is_text, number, output)?;
         used += len + 1;
     }
-    Err(RunFault::TooManyLines)
+    Err(RunError::TooManyLines)
 }
 
-// Interns the line of this number, and writes it if it is new. `is_text`: the caller has checked that it is UTF-8.
+// Interns the line with this number, and writes it if it is new. `is_text`: the caller has checked that it is
+// UTF-8.
 fn pass_line<W: Write>(
     rodeo: &mut SpurRodeo,
     line: &[u8],
     is_text: bool,
     number: usize,
     output: &mut W,
-) -> Result<(), RunFault>
+) -> Result<(), RunError>
     requires { IsTrue is_text → IsUtf8 line.now }
     ensures { Writes (W.contents output.old) (W.contents output.new) (λ part. PassesLine rodeo.old line.now number part rodeo.new result) }
 {
     match intern_line(rodeo, line, is_text, number) {
         Ok(true) => write_line(output, line),
         Ok(false) => Ok(()),
-        Err(error) => Err(RunFault::Line(error)),
+        Err(error) => Err(RunError::Line(error)),
     }
 }
 
-/// An interner for lines, which holds nothing. Out of memory is the fault of line 0.
-pub fn new_rodeo(alloc: Global, limits: MemoryLimits) -> Result<SpurRodeo, RunFault>
+/// A new interner for lines.
+///
+/// # Errors
+/// Out of memory, with the line number 0.
+pub fn new_rodeo(alloc: Global, limits: MemoryLimits) -> Result<SpurRodeo, RunError>
     ensures made { IfOk result (λ rodeo. rodeo ≡ made_with 4096 limits) }
-    ensures refused { IfErr result (λ fault. fault ≡ RunFault.Line (Refused 0 FailedAllocation)) }
+    ensures refused { IfErr result (λ error. error ≡ RunError.Line (Refused 0 FailedAllocation)) }
 {
     match Rodeo::with_capacity_and_memory_limits(alloc, Capacity::default(), limits) {
         Ok(rodeo) => Ok(rodeo),
-        Err(_) => Err(RunFault::no_memory(0)),
+        Err(_) => Err(RunError::no_memory(0)),
     }
 }

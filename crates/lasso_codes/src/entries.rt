@@ -1,13 +1,13 @@
-//! The entries of a column, read from a reader one after another.
+//! Reads the entries of a column.
 ghost use Rattle.std.specs.Prelude.{◌≡◌, ◌≤◌, ◌++◌, ℕ, List, true, Some, Ok, Err, IfOk, IfErr, IfSome, MatchResult, drop, length};
 ghost use Rattle.std.specs.Io.Buffered.{reader_remaining};
 ghost use Rattle.lasso_codes.specs.Arguments.{word_of};
 ghost use Rattle.lasso_codes.specs.Decode.{line_at};
 ghost use Rattle.lasso_codes.specs.Reading.{cut_entry, cut_number, entry_in, number_entry, TakesEntry};
-ghost use Rattle.lasso_codes.specs.Fault.{IsReadFault};
+ghost use Rattle.lasso_codes.specs.Errors.{IsReadError};
 
 use crate::columns::NULL;
-use crate::fault::{ColumnFault, RunFault};
+use crate::error::{ColumnError, RunError};
 use crate::input::{Cut, next_byte, next_whole_line};
 use crate::numbers::parse_digits;
 use lasso::SpurRodeo;
@@ -15,10 +15,10 @@ use lasso::index::Texts;
 use lasso_columns::lines::find_newline;
 use std::io::{BufReader, Read};
 
-/// What the next bytes of a column say of a line.
+/// An entry of a column, as it is read.
 #[derive(Clone, Copy, Debug, PartialEq, Eq)]
 pub enum Entry {
-    /// The bytes end before the entry does.
+    /// The input ends before the entry does.
     Missing,
     /// A line that is neither a number nor a minus sign.
     Bad,
@@ -28,17 +28,17 @@ pub enum Entry {
     Code(usize),
 }
 
-/// Reads the next entry. `line` is used for its bytes.
+/// Reads the next entry. `line` is a buffer for its bytes.
 ///
 /// # Errors
-/// The reader failed, or there is no memory for the entry.
+/// The reader failed, or out of memory.
 pub fn next_entry<R: Read + Drop>(
     input: &mut BufReader<R>,
     line: &mut Vec<u8>,
     binary: bool,
-) -> Result<Entry, RunFault>
+) -> Result<Entry, RunError>
     ensures taken { IfOk result (TakesEntry binary (reader_remaining R.remaining input.old) (reader_remaining R.remaining input.new)) }
-    ensures faults { IfErr result (IsReadFault 0) }
+    ensures errors { IfErr result (IsReadError 0) }
 {
     if binary {
         return next_number(input);
@@ -50,9 +50,9 @@ pub fn next_entry<R: Read + Drop>(
 }
 
 // Reads an entry of four bytes.
-fn next_number<R: Read + Drop>(input: &mut BufReader<R>) -> Result<Entry, RunFault>
+fn next_number<R: Read + Drop>(input: &mut BufReader<R>) -> Result<Entry, RunError>
     ensures taken { IfOk result (TakesEntry true (reader_remaining R.remaining input.old) (reader_remaining R.remaining input.new)) }
-    ensures faults { IfErr result (IsReadFault 0) }
+    ensures errors { IfErr result (IsReadError 0) }
 {
     let Some(first) = next_byte(input)? else {
         return Ok(Entry::Missing);
@@ -70,7 +70,7 @@ fn next_number<R: Read + Drop>(input: &mut BufReader<R>) -> Result<Entry, RunFau
     Ok(number_entry(number))
 }
 
-/// The entry that the stretch begins with, and how many bytes it takes; or `None`, where the stretch does not have all of it.
+/// The first entry of the stretch, and its length. `None` if the stretch ends before the entry does.
 #[inline]
 pub fn first_entry(stretch: &[u8], binary: bool) -> Option<(Entry, usize)>
     ensures cut { IfSome result (λ first. (later : List ℕ) → cut_entry binary (stretch.now ++ later) ≡ (first.0, drop first.1 stretch.now ++ later)) }
@@ -85,7 +85,7 @@ pub fn first_entry(stretch: &[u8], binary: bool) -> Option<(Entry, usize)>
     }
 }
 
-// The same of an entry of four bytes.
+// The same for an entry of four bytes.
 #[inline]
 fn first_number(stretch: &[u8]) -> Option<(Entry, usize)>
     ensures cut { IfSome result (λ first. (later : List ℕ) → cut_number (stretch.now ++ later) ≡ (first.0, drop first.1 stretch.now ++ later)) }
@@ -98,7 +98,7 @@ fn first_number(stretch: &[u8]) -> Option<(Entry, usize)>
     Some((number_entry(number), 4))
 }
 
-// The entry that the number stands for.
+// The entry with this number.
 fn number_entry(number: u32) -> Entry
     ensures { result ≡ number_entry number }
 {
@@ -109,7 +109,7 @@ fn number_entry(number: u32) -> Entry
     }
 }
 
-// The entry that the line says.
+// Parses a line as an entry.
 fn entry_in(line: &[u8]) -> Entry
     ensures { result ≡ entry_in line.now }
 {
@@ -122,30 +122,30 @@ fn entry_in(line: &[u8]) -> Entry
     }
 }
 
-/// The line of the entry of this number: the text of its code, or the null's word.
+/// The line of the entry with this number: the text of its code, or `null` for a null.
 ///
 /// # Errors
-/// The entry is missing or is none, its code is past the texts, or it is a null, for which there is no word.
+/// The entry is missing, is not a code, or its code is past the texts. Or it is a null, and `null` is `None`.
 pub fn line_at<'a>(
     rodeo: &'a SpurRodeo,
     null: Option<&'a [u8]>,
     entry: Entry,
     number: usize,
-) -> Result<&'a [u8], ColumnFault>
+) -> Result<&'a [u8], ColumnError>
     ensures { MatchResult result
         (λ line. line_at (word_of null.entry) rodeo.now.texts entry number ≡ Ok line.now)
-        (λ fault. line_at (word_of null.entry) rodeo.now.texts entry number ≡ Err fault) }
+        (λ error. line_at (word_of null.entry) rodeo.now.texts entry number ≡ Err error) }
 {
     match entry {
-        Entry::Missing => Err(ColumnFault::NoEntry(number)),
-        Entry::Bad => Err(ColumnFault::NotEntry(number)),
+        Entry::Missing => Err(ColumnError::NoEntry(number)),
+        Entry::Bad => Err(ColumnError::NotEntry(number)),
         Entry::Null => match null {
             Some(word) => Ok(word),
-            None => Err(ColumnFault::IsNull(number)),
+            None => Err(ColumnError::IsNull(number)),
         },
         Entry::Code(code) => {
             if code >= rodeo.len() {
-                return Err(ColumnFault::PastTexts(number));
+                return Err(ColumnError::PastTexts(number));
             }
             Ok(rodeo.text_at(code).as_bytes())
         }

@@ -1,25 +1,25 @@
-//! The lines and bytes of a reader, one after another.
+//! Reads lines and bytes from a buffered reader.
 ghost use Rattle.std.specs.Prelude.{◌≡◌, ◌≤◌, ℕ, List, [], ◌∷◌, ◌++◌, Some, IfOk, IfErr, drop, length};
 ghost use Rattle.std.specs.Io.Buffered.{reader_buffer, reader_remaining};
 ghost use Rattle.lasso_columns.specs.Lines.{NoFeed};
 ghost use Rattle.lasso_codes.specs.Streams.{CutsLine, TakesByte, TakesLine};
-ghost use Rattle.lasso_codes.specs.Fault.{IsReadFault};
+ghost use Rattle.lasso_codes.specs.Errors.{IsReadError};
 
-use crate::fault::RunFault;
+use crate::error::RunError;
 use std::io::{BufRead, BufReader, ErrorKind, Read};
 
-/// Reads the next line into `line`, without its line feed, and returns whether there was one. Bytes after the last line feed are
-/// a line.
+/// Reads the next line into `line`, without its line feed. Returns whether there was a line. Bytes after the
+/// last line feed are a line.
 ///
 /// # Errors
-/// The reader failed, or there is no memory for the line, which has this number.
+/// The reader failed, or out of memory at the line with this number.
 pub fn next_line<R: Read + Drop>(
     input: &mut BufReader<R>,
     line: &mut Vec<u8>,
     number: usize,
-) -> Result<bool, RunFault>
+) -> Result<bool, RunError>
     ensures taken { IfOk result (λ is_line. TakesLine (reader_remaining R.remaining input.old) (reader_remaining R.remaining input.new) is_line line.new.items) }
-    ensures faults { IfErr result (IsReadFault number) }
+    ensures errors { IfErr result (IsReadError number) }
 {
     line.clear();
     match input.read_until(b'\n', line) {
@@ -28,32 +28,32 @@ pub fn next_line<R: Read + Drop>(
             strip_feed(line);
             Ok(true)
         }
-        Err(error) if error.kind() == ErrorKind::OutOfMemory => Err(RunFault::no_memory(number)),
-        Err(_) => Err(RunFault::ReadFailed),
+        Err(error) if error.kind() == ErrorKind::OutOfMemory => Err(RunError::no_memory(number)),
+        Err(_) => Err(RunError::ReadFailed),
     }
 }
 
-/// What was read up to a line feed.
+/// How a read up to a line feed ended.
 #[derive(Clone, Copy, Debug, PartialEq, Eq)]
 pub enum Cut {
-    /// A line that a line feed ends.
+    /// A line that ends with a line feed.
     Whole,
-    /// The last bytes, which no line feed ends.
+    /// The last bytes, which don't end with a line feed.
     Part,
-    /// Nothing: the reader was at its end.
+    /// There were no bytes left.
     End,
 }
 
-/// Reads the next line into `line`, without the line feed that ends it.
+/// Reads the next line into `line`, without its line feed.
 ///
 /// # Errors
-/// The reader failed, or there is no memory for the line.
+/// The reader failed, or out of memory.
 pub fn next_whole_line<R: Read + Drop>(
     input: &mut BufReader<R>,
     line: &mut Vec<u8>,
-) -> Result<Cut, RunFault>
+) -> Result<Cut, RunError>
     ensures taken { IfOk result (λ cut. CutsLine (reader_remaining R.remaining input.old) (reader_remaining R.remaining input.new) cut line.new.items) }
-    ensures faults { IfErr result (IsReadFault 0) }
+    ensures errors { IfErr result (IsReadError 0) }
 {
     line.clear();
     match input.read_until(b'\n', line) {
@@ -67,18 +67,18 @@ pub fn next_whole_line<R: Read + Drop>(
                 Ok(Cut::Part)
             }
         }
-        Err(error) if error.kind() == ErrorKind::OutOfMemory => Err(RunFault::no_memory(0)),
-        Err(_) => Err(RunFault::ReadFailed),
+        Err(error) if error.kind() == ErrorKind::OutOfMemory => Err(RunError::no_memory(0)),
+        Err(_) => Err(RunError::ReadFailed),
     }
 }
 
-/// Reads the next byte, or `None` at the end.
+/// Reads the next byte. `None` at the end of the input.
 ///
 /// # Errors
 /// The reader failed.
-pub fn next_byte<R: Read + Drop>(input: &mut BufReader<R>) -> Result<Option<u8>, RunFault>
+pub fn next_byte<R: Read + Drop>(input: &mut BufReader<R>) -> Result<Option<u8>, RunError>
     ensures taken { IfOk result (TakesByte (reader_remaining R.remaining input.old) (reader_remaining R.remaining input.new)) }
-    ensures faults { IfErr result (λ fault. fault ≡ RunFault.ReadFailed) }
+    ensures errors { IfErr result (λ error. error ≡ RunError.ReadFailed) }
 {
     let mut byte = [0];
     for _ in 0..u64::MAX {
@@ -86,13 +86,13 @@ pub fn next_byte<R: Read + Drop>(input: &mut BufReader<R>) -> Result<Option<u8>,
             Ok(0) => return Ok(None),
             Ok(_) => return Ok(Some(byte[0])),
             Err(error) if error.kind() == ErrorKind::Interrupted => {}
-            Err(_) => return Err(RunFault::ReadFailed),
+            Err(_) => return Err(RunError::ReadFailed),
         }
     }
-    Err(RunFault::ReadFailed)
+    Err(RunError::ReadFailed)
 }
 
-// Takes the line feed off the end of the line.
+// Removes a line feed at the end of the line.
 fn strip_feed(line: &mut Vec<u8>)
     ensures ended { (front : List ℕ) → line.old.items ≡ front ++ 10 ∷ [] → line.new.items ≡ front }
     ensures unended { NoFeed line.old.items → line.new.items ≡ line.old.items }
@@ -103,17 +103,17 @@ fn strip_feed(line: &mut Vec<u8>)
     }
 }
 
-/// The bytes at hand, which are the first of those that are left.
+/// The bytes in the buffer: the next bytes of the input, without reading.
 #[inline]
-pub fn at_hand<R: Read + Drop>(input: &BufReader<R>) -> &[u8]
+pub fn buffered<R: Read + Drop>(input: &BufReader<R>) -> &[u8]
     ensures value { result.now ≡ reader_buffer input.now }
     ensures first { (bytes : List ℕ) → reader_remaining R.remaining input.now ≡ Some bytes → (later : List ℕ) × (bytes ≡ result.now ++ later) }
 {
     input.buffer()
 }
 
-/// Uses up the first `count` bytes at hand.
-pub fn use_up<R: Read + Drop>(input: &mut BufReader<R>, count: usize)
+/// Removes the first `count` bytes from the buffer.
+pub fn consume<R: Read + Drop>(input: &mut BufReader<R>, count: usize)
     requires { count ≤ length (reader_buffer input.old) }
     ensures { (later : List ℕ) → reader_remaining R.remaining input.old ≡ Some (reader_buffer input.old ++ later) →
         reader_remaining R.remaining input.new ≡ Some (drop count (reader_buffer input.old) ++ later) }

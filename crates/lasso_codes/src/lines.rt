@@ -1,4 +1,4 @@
-//! Lines as texts, and as texts of an interner.
+//! Checks lines for UTF-8, and interns them.
 ghost use Rattle.std.specs.Prelude.{◌≡◌, ◌-◌, ℕ, Ok, MatchResult, IsTrue, IsUtf8, is_none, length, take};
 ghost use Rattle.lasso_parts.specs.Texts.{position_of};
 ghost use Rattle.lasso_single.specs.Intern.{InternsIn};
@@ -11,7 +11,8 @@ use std::alloc::Allocator;
 use std::hash::BuildHasher;
 use std::str::{Utf8Error, from_utf8, from_utf8_unchecked};
 
-/// Interns the line of this number, and returns whether it is new. `is_text`: the caller has checked that it is UTF-8.
+/// Interns the line with this number, and returns whether it is new. `is_text`: the caller has checked that
+/// it is UTF-8.
 ///
 /// # Errors
 /// The line is not UTF-8, or it is refused. The interner is as it was.
@@ -36,7 +37,7 @@ pub fn intern_line<S: BuildHasher, A: Allocator + Clone>(
     }
 }
 
-/// The line as a text, if it is UTF-8. `is_text`: the caller has checked that it is.
+/// The line as a `str`, if it is UTF-8. `is_text`: the caller has checked that it is.
 #[inline]
 pub fn line_text(line: &[u8], is_text: bool) -> Result<&str, Utf8Error>
     requires { IsTrue is_text → IsUtf8 line.now }
@@ -48,11 +49,11 @@ pub fn line_text(line: &[u8], is_text: bool) -> Result<&str, Utf8Error>
     from_utf8(line)
 }
 
-/// How many bytes at the end are not known to be UTF-8. Those before them are.
+/// The number of bytes at the end that may not be UTF-8. The bytes before them are UTF-8.
 pub fn untested_len(bytes: &[u8]) -> usize
     ensures { IsUtf8 (take (length bytes.now - result) bytes.now) }
 {
-    // ASCII is the faster test.
+    // The test for ASCII is faster.
     if bytes.is_ascii() {
         return 0;
     }

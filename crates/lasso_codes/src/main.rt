@@ -1,4 +1,5 @@
-//! A filter over the lines of standard input: the distinct ones, how often each came, or all of them as a column; and back.
+//! A filter over the lines of standard input. It lists the distinct lines, counts them, or encodes all lines
+//! as a column; and it decodes and merges columns.
 #![tactic(auto)]
 
 pub mod arguments;
@@ -8,13 +9,14 @@ pub mod decode;
 pub mod distinct;
 pub mod encode;
 pub mod entries;
-pub mod fault;
+pub mod error;
 pub mod help;
 pub mod input;
 pub mod laws;
 pub mod lines;
 pub mod merge;
 pub mod numbers;
+pub mod options;
 pub mod output;
 pub mod program;
 pub mod progress;
@@ -23,9 +25,9 @@ pub mod reading;
 mod tests;
 pub mod whole;
 
-use arguments::{ArgumentFault, Request, command_of};
-use fault::RunFault;
-use program::{BUFFER, run_request};
+use arguments::{ArgumentError, Request, command_of};
+use error::RunError;
+use program::{BUFFER_SIZE, run_request};
 use progress::{Terminals, Watched, shows_progress};
 use std::alloc::AllocError;
 use std::io::{BufReader, BufWriter, ErrorKind, IsTerminal};
@@ -34,21 +36,21 @@ use std::rt::{Clock, Env};
 use std::thread::Threads;
 use std::{env, io};
 
-// The status of bad arguments.
+// The exit status for bad arguments.
 const BAD_ARGUMENTS: u8 = 3;
 
 fn main(rt: HostRuntime) -> ExitCode {
     let words = match argument_words(&rt) {
         Ok(Some(words)) => words,
-        Ok(None) => return refuse(&rt, &ArgumentFault::NotText),
-        Err(fault) => return end(&rt, &fault),
+        Ok(None) => return refuse(&rt, &ArgumentError::NotText),
+        Err(error) => return end(&rt, &error),
     };
     match command_of(&words) {
         Ok(request) => match run_program(&rt, &request, terminals(&rt)) {
             Ok(()) => ExitCode::SUCCESS,
-            Err(fault) => end(&rt, &fault),
+            Err(error) => end(&rt, &error),
         },
-        Err(fault) => refuse(&rt, &fault),
+        Err(error) => refuse(&rt, &error),
     }
 }
 
@@ -61,43 +63,43 @@ fn terminals(rt: &HostRuntime) -> Terminals {
     }
 }
 
-// Does what is asked for over standard input and output. It may show a progress line, which is gone when it returns.
+// Runs the request over standard input and output. A progress line that it shows is wiped before it returns.
 fn run_program<R: AllocGlobal + Input + Print + Eprint + Clock + Threads + Sync>(
     rt: &R,
     request: &Request<'_>,
     terminals: Terminals,
-) -> Result<(), RunFault> {
+) -> Result<(), RunError> {
     let is_shown = shows_progress(request.command, terminals);
     let watched = Watched::new(rt.reader(), rt, is_shown);
-    let Ok(mut input) = BufReader::with_capacity(rt.alloc(), BUFFER, watched) else {
-        return Err(RunFault::no_memory(0));
+    let Ok(mut input) = BufReader::with_capacity(rt.alloc(), BUFFER_SIZE, watched) else {
+        return Err(RunError::no_memory(0));
     };
-    let Ok(mut output) = BufWriter::with_capacity(rt.alloc(), BUFFER, io::writer(rt)) else {
-        return Err(RunFault::no_memory(0));
+    let Ok(mut output) = BufWriter::with_capacity(rt.alloc(), BUFFER_SIZE, io::writer(rt)) else {
+        return Err(RunError::no_memory(0));
     };
     let ended = run_request(rt, request, &mut input, &mut output);
     input.get_mut().wipe();
-    // To drop the writer would hand on what a failed write left, and nothing is tried again.
+    // Dropping the writer would write what a failed write left in the buffer. Nothing is tried again.
     let (_writer, _left) = output.into_parts();
     ended
 }
 
-// Says why the arguments are refused.
-fn refuse<R: Eprint>(rt: &R, fault: &ArgumentFault<'_>) -> ExitCode {
-    let _ = eprintln!(rt; "{fault}");
+// Prints why the arguments are refused.
+fn refuse<R: Eprint>(rt: &R, error: &ArgumentError<'_>) -> ExitCode {
+    let _ = eprintln!(rt; "{error}");
     ExitCode::from(BAD_ARGUMENTS)
 }
 
-// Says why the run ended, unless it is because its reader is gone.
-fn end<R: Eprint>(rt: &R, fault: &RunFault) -> ExitCode {
-    if *fault != RunFault::ReaderGone {
-        let _ = eprintln!(rt; "{fault}");
+// Prints why the run ended, unless the reader of the output is gone.
+fn end<R: Eprint>(rt: &R, error: &RunError) -> ExitCode {
+    if *error != RunError::ReaderGone {
+        let _ = eprintln!(rt; "{error}");
     }
-    ExitCode::from(fault.status())
+    ExitCode::from(error.status())
 }
 
-// The words after the program's name, or `None` where one is not text.
-fn argument_words<R: AllocGlobal + Env>(rt: &R) -> Result<Option<Vec<String>>, RunFault> {
+// The words after the program's name. `None` if one is not UTF-8.
+fn argument_words<R: AllocGlobal + Env>(rt: &R) -> Result<Option<Vec<String>>, RunError> {
     let mut all = match env::args(rt) {
         Ok(all) => all,
         Err(error) if error.kind() == ErrorKind::OutOfMemory => return Err(no_memory(AllocError)),
@@ -108,7 +110,7 @@ fn argument_words<R: AllocGlobal + Env>(rt: &R) -> Result<Option<Vec<String>>, R
     Ok(Some(words))
 }
 
-// Out of memory at no line.
-fn no_memory(_: AllocError) -> RunFault {
-    RunFault::no_memory(0)
+// Out of memory outside of a line.
+fn no_memory(_: AllocError) -> RunError {
+    RunError::no_memory(0)
 }

@@ -1,4 +1,4 @@
-//! Columns to one column.
+//! Merges columns into one column.
 ghost use Rattle.std.specs.Prelude.{◌≡◌, ◌+◌, ◌-◌, ◌<◌, ◌≤◌, ◌^◌, ◌++◌, ◌∷◌, [], ℕ, List, drop, length, Option, Some, Ok, Err, OnOk, IfOk, IfErr, MatchResult};
 ghost use Rattle.std.specs.Io.Buffered.{reader_remaining, writer_contents, writer_buffer};
 ghost use Rattle.lasso_parts.specs.Texts.{Text};
@@ -7,8 +7,8 @@ ghost use Rattle.lasso_columns.specs.Codes.{AreCodes};
 ghost use Rattle.lasso_columns.specs.declared.faults.LineError.TheVariants.{Refused};
 ghost use Rattle.lasso_parts.specs.declared.util.LassoErrorKind.TheVariants.{FailedAllocation};
 ghost use Rattle.lasso_codes.specs.Columns.{entry_at};
-ghost use Rattle.lasso_codes.specs.Fault.{IsWriteEnd};
-ghost use Rattle.lasso_codes.specs.Merge.{recoded, AddsEntries, AddsEntry, AreMerged, EntriesFault, MergeEnd, MergingFault};
+ghost use Rattle.lasso_codes.specs.Errors.{IsWriteEnd};
+ghost use Rattle.lasso_codes.specs.Merge.{recoded, AddsEntries, AddsEntry, AreMerged, EntriesError, MergeEnd, MergingError};
 ghost use Rattle.lasso_codes.specs.Stages.{EntriesAhead};
 ghost use Rattle.lasso_codes.specs.Reading.{items_from, ReadItems};
 ghost use Rattle.lasso_codes.specs.Streams.{Writes};
@@ -17,8 +17,8 @@ use crate::columns::{NULL, write_column};
 use crate::distinct::new_rodeo;
 use crate::encode::append;
 use crate::entries::{Entry, first_entry, next_entry};
-use crate::fault::{ColumnFault, RunFault};
-use crate::input::{at_hand, use_up};
+use crate::error::{ColumnError, RunError};
+use crate::input::{buffered, consume};
 use crate::output::end_flushed;
 use crate::reading::{Header, next_header, read_texts};
 use lasso::{MemoryLimits, SpurRodeo};
@@ -26,18 +26,19 @@ use lasso_columns::merge as merge_texts;
 use std::alloc::Global;
 use std::io::{BufReader, BufWriter, Read, Write};
 
-/// Reads columns, one or several one after another, and then writes one column, with one dictionary, of the lines of all.
+/// Reads the columns of the input, and then writes one column with one dictionary, which has the lines of
+/// all.
 ///
 /// # Errors
-/// A damaged column, a text that is refused, a failed read and out of memory end the run, and nothing is written. After a failed
-/// write, what was written is a beginning of the column.
+/// A damaged column, a text that is refused, a failed read, or out of memory: nothing is written. After a
+/// failed write, a beginning of the column was written.
 pub fn merge<R: Read + Drop, W: Write + Drop>(
     alloc: Global,
     input: &mut BufReader<R>,
     output: &mut BufWriter<W>,
     limits: MemoryLimits,
     binary: bool,
-) -> Result<(), RunFault>
+) -> Result<(), RunError>
     ensures report { (bytes : List ℕ) → reader_remaining R.remaining input.old ≡ Some bytes →
         Writes (writer_contents W.contents output.old) (writer_contents W.contents output.new) (λ part. MergeEnd bytes limits binary part result) }
     ensures flushed { ¬ (IsWriteEnd result) → writer_buffer output.new ≡ [] }
@@ -46,14 +47,14 @@ pub fn merge<R: Read + Drop, W: Write + Drop>(
     end_flushed(output, result)
 }
 
-// Merges the columns and writes the one, and leaves the last of it in the buffer.
+// Merges the columns and writes the merged one. The last bytes stay in the buffer.
 fn write_merged<R: Read + Drop, W: Write>(
     alloc: Global,
     input: &mut BufReader<R>,
     output: &mut W,
     limits: MemoryLimits,
     binary: bool,
-) -> Result<(), RunFault>
+) -> Result<(), RunError>
     ensures { (bytes : List ℕ) → reader_remaining R.remaining input.old ≡ Some bytes →
         Writes (W.contents output.old) (W.contents output.new) (λ part. MergeEnd bytes limits binary part result) }
 {
@@ -63,18 +64,18 @@ fn write_merged<R: Read + Drop, W: Write>(
     write_column(output, &rodeo, &numbers, binary)
 }
 
-// Interns the texts of each column, and appends the numbers that stand for its entries then.
+// Interns the texts of each column, and appends its entries with the codes of these.
 fn merge_columns<R: Read + Drop>(
     alloc: Global,
     input: &mut BufReader<R>,
     rodeo: &mut SpurRodeo,
     numbers: &mut Vec<u32>,
     limits: MemoryLimits,
-) -> Result<(), RunFault>
+) -> Result<(), RunError>
     requires made { rodeo.old ≡ made_with 4096 limits }
     requires no_numbers { numbers.old.items ≡ [] }
     ensures merged { OnOk result ((bytes : List ℕ) → reader_remaining R.remaining input.old ≡ Some bytes → AreMerged bytes rodeo.new.texts numbers.new.items) }
-    ensures fault { IfErr result (λ fault. (bytes : List ℕ) → reader_remaining R.remaining input.old ≡ Some bytes → MergingFault bytes limits fault) }
+    ensures error { IfErr result (λ error. (bytes : List ℕ) → reader_remaining R.remaining input.old ≡ Some bytes → MergingError bytes limits error) }
 {
     let mut line = Vec::new(alloc);
     for column in 1..usize::MAX {
@@ -85,13 +86,13 @@ fn merge_columns<R: Read + Drop>(
         read_texts(input, &mut line, &mut texts, header.distinct, column)?;
         match merge_texts(alloc, rodeo, &texts.into_reader()) {
             Ok(table) => add_numbers(input, &mut line, numbers, &table, header, column)?,
-            Err(error) => return Err(RunFault::Column(column, ColumnFault::NotMerged(error))),
+            Err(error) => return Err(RunError::Column(column, ColumnError::NotMerged(error))),
         }
     }
-    Err(RunFault::TooManyLines)
+    Err(RunError::TooManyLines)
 }
 
-// Appends the number of each entry, whose code the table rewrites.
+// Appends each entry of a column. `table` has the new code for each code of the column.
 fn add_numbers<R: Read + Drop>(
     input: &mut BufReader<R>,
     line: &mut Vec<u8>,
@@ -99,15 +100,15 @@ fn add_numbers<R: Read + Drop>(
     table: &[u32],
     header: Header,
     column: usize,
-) -> Result<(), RunFault>
+) -> Result<(), RunError>
     ensures { (list texts : List Text) → AreCodes list texts table.now → length list < 2 ^ 32 →
         (bytes : List ℕ) → reader_remaining R.remaining input.old ≡ Some bytes →
         AddsEntries (items_from (recoded list texts) header.lines header.binary 1 bytes) column (reader_remaining R.remaining input.new) numbers.old.items numbers.new.items result }
 {
     let mut count = 0;
     while count < header.lines {
-        let (next, used) = add_stretch(numbers, table, header, column, at_hand(input), count)?;
-        use_up(input, used);
+        let (next, used) = add_stretch(numbers, table, header, column, buffered(input), count)?;
+        consume(input, used);
         if next == header.lines {
             return Ok(());
         }
@@ -118,8 +119,8 @@ fn add_numbers<R: Read + Drop>(
     Ok(())
 }
 
-// Appends the numbers of the entries that end in the stretch, `count` entries after the first. Returns how many are before the next
-// one then, and where it begins.
+// Appends the entries that end in the stretch. `count` entries came before. Returns the number of entries
+// before the next one, and the position where that begins.
 fn add_stretch(
     numbers: &mut Vec<u32>,
     table: &[u32],
@@ -127,7 +128,7 @@ fn add_stretch(
     column: usize,
     stretch: &[u8],
     count: usize,
-) -> Result<(usize, usize), RunFault>
+) -> Result<(usize, usize), RunError>
     requires { count ≤ header.lines }
     ensures added { IfOk result (λ at. (list texts : List Text) → AreCodes list texts table.now → length list < 2 ^ 32 →
         (read : ReadItems (Option ℕ)) (later before : List ℕ) →
@@ -135,10 +136,10 @@ fn add_stretch(
         EntriesAhead (items_from (recoded list texts) (header.lines - at.0) header.binary (at.0 + 1) (drop at.1 stretch.now ++ later)) read before numbers.new.items) }
     ensures more { IfOk result (λ at. (count ≤ at.0) × (at.0 ≤ header.lines)) }
     ensures within { IfOk result (λ at. at.1 ≤ length stretch.now) }
-    ensures fault { IfErr result (λ fault. (list texts : List Text) → AreCodes list texts table.now → length list < 2 ^ 32 →
+    ensures error { IfErr result (λ error. (list texts : List Text) → AreCodes list texts table.now → length list < 2 ^ 32 →
         (read : ReadItems (Option ℕ)) (later before : List ℕ) →
         EntriesAhead (items_from (recoded list texts) (header.lines - count) header.binary (count + 1) (stretch.now ++ later)) read before numbers.old.items →
-        EntriesFault read column fault) }
+        EntriesError read column error) }
 {
     let mut used = 0;
     for position in count..header.lines {
@@ -151,7 +152,7 @@ fn add_stretch(
     Ok((header.lines, used))
 }
 
-// Appends the number of the entry of this number.
+// Appends the entry with this number.
 #[inline]
 fn add_number(
     numbers: &mut Vec<u32>,
@@ -159,42 +160,42 @@ fn add_number(
     column: usize,
     entry: Entry,
     number: usize,
-) -> Result<(), RunFault>
+) -> Result<(), RunError>
     ensures { (list texts : List Text) → AreCodes list texts table.now → length list < 2 ^ 32 →
         AddsEntry (recoded list texts entry number) column numbers.old.items numbers.new.items result }
 {
     match number_at(table, entry, number) {
         Ok(number) => append_number(numbers, number),
-        Err(fault) => Err(RunFault::Column(column, fault)),
+        Err(error) => Err(RunError::Column(column, error)),
     }
 }
 
-// Appends the number, where there is memory for it.
-fn append_number(numbers: &mut Vec<u32>, number: u32) -> Result<(), RunFault>
+// Appends the number. The only error is out of memory.
+fn append_number(numbers: &mut Vec<u32>, number: u32) -> Result<(), RunError>
     ensures items { OnOk result (numbers.new.items ≡ numbers.old.items ++ number ∷ []) }
-    ensures fault { IfErr result (λ fault. fault ≡ RunFault.Line (Refused 0 FailedAllocation)) }
+    ensures error { IfErr result (λ error. error ≡ RunError.Line (Refused 0 FailedAllocation)) }
 {
     match append(numbers, number, 0) {
         Ok(()) => Ok(()),
-        Err(error) => Err(RunFault::Line(error)),
+        Err(error) => Err(RunError::Line(error)),
     }
 }
 
-// The number of the entry of this number: what the table has for its code.
-fn number_at(table: &[u32], entry: Entry, number: usize) -> Result<u32, ColumnFault>
+// The new entry for the entry with this number: the table's code for its code.
+fn number_at(table: &[u32], entry: Entry, number: usize) -> Result<u32, ColumnError>
     ensures { (list texts : List Text) → AreCodes list texts table.now → length list < 2 ^ 32 → MatchResult result
         (λ rewritten. recoded list texts entry number ≡ Ok (entry_at rewritten))
-        (λ fault. recoded list texts entry number ≡ Err fault) }
+        (λ error. recoded list texts entry number ≡ Err error) }
 {
     match entry {
-        Entry::Missing => Err(ColumnFault::NoEntry(number)),
-        Entry::Bad => Err(ColumnFault::NotEntry(number)),
+        Entry::Missing => Err(ColumnError::NoEntry(number)),
+        Entry::Bad => Err(ColumnError::NotEntry(number)),
         Entry::Null => Ok(NULL),
         Entry::Code(code) => {
             if code < table.len() {
                 Ok(table[code])
             } else {
-                Err(ColumnFault::PastTexts(number))
+                Err(ColumnError::PastTexts(number))
             }
         }
     }

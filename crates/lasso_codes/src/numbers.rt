@@ -1,9 +1,9 @@
-//! Numbers in arguments.
+//! Parses numbers.
 ghost use Rattle.std.specs.Prelude.{◌≡◌, ◌-◌, length, slice_get};
 ghost use Rattle.lasso_codes.specs.Arguments.{digits_value, number_of, unit_of};
 
-/// The number that the word says: 1 to 20 digits, and after them nothing or `K`, `M` or `G` for 1024 and its square and cube. `None`
-/// for other words, and where the number is not below 2^64.
+/// Parses 1 to 20 digits, and after them nothing, `K`, `M` or `G`, which multiply by 1024, its square and its
+/// cube. `None` for other words, and for numbers that are not below 2^64.
 pub fn parse_number(word: &[u8]) -> Option<usize>
     ensures { result ≡ number_of word.now }
 {
@@ -16,7 +16,7 @@ pub fn parse_number(word: &[u8]) -> Option<usize>
     parse_digits(digits)?.checked_mul(unit)
 }
 
-// What the last byte multiplies by: 1 for no unit.
+// The factor that the last byte stands for; 1 if it is no unit.
 fn unit_of(word: &[u8]) -> usize
     ensures { result ≡ unit_of (slice_get word.now (length word.now - 1)) }
 {
@@ -28,7 +28,7 @@ fn unit_of(word: &[u8]) -> usize
     }
 }
 
-/// The value of 1 to 20 digits, or `None` for other words, and where it is not below 2^64.
+/// Parses 1 to 20 digits. `None` for other words, and for numbers that are not below 2^64.
 pub fn parse_digits(digits: &[u8]) -> Option<usize>
     ensures { result ≡ digits_value digits.now }
 {

@@ -1,27 +1,27 @@
-//! Bytes to a writer.
+//! Writes bytes, lines and numbers.
 ghost use Rattle.std.specs.Prelude.{◌≡◌, ◌⊎◌, ◌++◌, ◌∷◌, [], Err, OnOk, IfErr, decimal};
 ghost use Rattle.std.specs.Io.Buffered.{writer_contents, writer_buffer};
 ghost use Rattle.std.specs.Io.KnownBytes.{Keeps};
 ghost use Rattle.lasso_codes.specs.Streams.{Writes, WritesAll};
-ghost use Rattle.lasso_codes.specs.Fault.{IsWriteFault, IsWriteEnd};
+ghost use Rattle.lasso_codes.specs.Errors.{IsWriteError, IsWriteEnd};
 
-use crate::fault::RunFault;
+use crate::error::RunError;
 use itoa::Buffer;
 use std::io::{BufWriter, Write};
 
-/// Writes the bytes by as many calls as it takes.
+/// Writes all of the bytes.
 ///
 /// # Errors
 /// The writer failed, or its reader is gone. A beginning of the bytes was written.
-pub fn write_bytes<W: Write>(output: &mut W, bytes: &[u8]) -> Result<(), RunFault>
+pub fn write_bytes<W: Write>(output: &mut W, bytes: &[u8]) -> Result<(), RunError>
     ensures { Writes (W.contents output.old) (W.contents output.new) (WritesAll bytes.now result) }
 {
     let mut rest = bytes;
     while !rest.is_empty() {
         match output.write(rest) {
-            Ok(0) => return Err(RunFault::WriteFailed),
+            Ok(0) => return Err(RunError::WriteFailed),
             Ok(count) => rest = &rest[count..],
-            Err(error) => return Err(RunFault::of_write(&error)),
+            Err(error) => return Err(RunError::of_write(&error)),
         }
     }
     Ok(())
@@ -31,7 +31,7 @@ pub fn write_bytes<W: Write>(output: &mut W, bytes: &[u8]) -> Result<(), RunFaul
 ///
 /// # Errors
 /// As `write_bytes`.
-pub fn write_line<W: Write>(output: &mut W, line: &[u8]) -> Result<(), RunFault>
+pub fn write_line<W: Write>(output: &mut W, line: &[u8]) -> Result<(), RunError>
     ensures { Writes (W.contents output.old) (W.contents output.new) (WritesAll (line.now ++ 10 ∷ []) result) }
 {
     write_bytes(output, line)?;
@@ -42,45 +42,46 @@ pub fn write_line<W: Write>(output: &mut W, line: &[u8]) -> Result<(), RunFault>
 ///
 /// # Errors
 /// As `write_bytes`.
-pub fn write_number<W: Write>(output: &mut W, number: u64) -> Result<(), RunFault>
+pub fn write_number<W: Write>(output: &mut W, number: u64) -> Result<(), RunError>
     ensures { Writes (W.contents output.old) (W.contents output.new) (WritesAll (decimal number) result) }
 {
     let mut digits = Buffer::new();
     write_bytes(output, digits.format(number).as_bytes())
 }
 
-/// Hands all that is buffered to the inner writer, and flushes it.
+/// Writes the buffered bytes to the inner writer, and flushes that.
 ///
 /// # Errors
-/// The writer failed, or its reader is gone. What is not handed on stays in the buffer.
-pub fn flush<W: Write + Drop>(output: &mut BufWriter<W>) -> Result<(), RunFault>
+/// The writer failed, or its reader is gone. Bytes that were not written stay in the buffer.
+pub fn flush<W: Write + Drop>(output: &mut BufWriter<W>) -> Result<(), RunError>
     ensures kept { Keeps (writer_contents W.contents output.old) (writer_contents W.contents output.new) }
     ensures all { OnOk result (writer_buffer output.new ≡ []) }
-    ensures faults { IfErr result IsWriteFault }
+    ensures errors { IfErr result IsWriteError }
 {
     match output.flush() {
         Ok(()) => Ok(()),
-        Err(error) => Err(RunFault::of_write(&error)),
+        Err(error) => Err(RunError::of_write(&error)),
     }
 }
 
-/// Flushes what is written, unless the run ended because a write failed. How the run ends: as it did, or with the failed flush. A
-/// reader that is gone is told only where nothing else failed: after another fault it is a failed write.
+/// Ends a run: flushes the output, unless the run ended because a write failed. Returns how the run ended, or
+/// the error of the flush. After another error, a reader that is gone is a failed write: `ReaderGone` is
+/// returned only if nothing else failed.
 pub fn end_flushed<W: Write + Drop>(
     output: &mut BufWriter<W>,
-    ended: Result<(), RunFault>,
-) -> Result<(), RunFault>
+    ended: Result<(), RunError>,
+) -> Result<(), RunError>
     ensures kept { Keeps (writer_contents W.contents output.old) (writer_contents W.contents output.new) }
     ensures ends { (result ≡ ended) ⊎ IsWriteEnd result }
-    ensures told { IfErr ended (λ fault. (result ≡ Err fault) ⊎ (result ≡ Err RunFault.WriteFailed)) }
+    ensures kept_error { IfErr ended (λ error. (result ≡ Err error) ⊎ (result ≡ Err RunError.WriteFailed)) }
     ensures flushed { ¬ (IsWriteEnd result) → writer_buffer output.new ≡ [] }
 {
     match ended {
         Ok(()) => flush(output),
-        Err(RunFault::WriteFailed | RunFault::ReaderGone) => ended,
+        Err(RunError::WriteFailed | RunError::ReaderGone) => ended,
         Err(_) => match flush(output) {
             Ok(()) => ended,
-            Err(_) => Err(RunFault::WriteFailed),
+            Err(_) => Err(RunError::WriteFailed),
         },
     }
 }

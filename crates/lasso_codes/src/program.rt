@@ -1,4 +1,4 @@
-//! The program between its ends: a command, a reader and a writer.
+//! The program without its streams: runs a request over a reader and a writer.
 ghost use Rattle.std.specs.Prelude.{◌≡◌, ℕ, List, [], Some};
 ghost use Rattle.std.specs.Io.Buffered.{reader_remaining, writer_contents, writer_buffer};
 ghost use Rattle.lasso_codes.specs.Arguments.{word_of};
@@ -6,7 +6,7 @@ ghost use Rattle.lasso_codes.specs.Counts.{CountsEnd};
 ghost use Rattle.lasso_codes.specs.Decode.{DecodeEnd};
 ghost use Rattle.lasso_codes.specs.Distinct.{DistinctEnd};
 ghost use Rattle.lasso_codes.specs.Encode.{EncodeEnd};
-ghost use Rattle.lasso_codes.specs.Fault.{IsWriteEnd};
+ghost use Rattle.lasso_codes.specs.Errors.{IsWriteEnd};
 ghost use Rattle.lasso_codes.specs.Merge.{MergeEnd};
 ghost use Rattle.lasso_codes.specs.Streams.{Writes};
 ghost use Rattle.lasso_codes.specs.declared.arguments.Settings.{Settings};
@@ -18,7 +18,7 @@ use crate::counts::counts;
 use crate::decode::decode;
 use crate::distinct::distinct;
 use crate::encode::encode;
-use crate::fault::RunFault;
+use crate::error::RunError;
 use crate::help::{HELP, VERSION, verb_help};
 use crate::merge::merge;
 use crate::output::{flush, write_bytes};
@@ -26,19 +26,19 @@ use lasso::MemoryLimits;
 use std::io::{BufReader, BufWriter, Read, Write};
 use std::thread::Threads;
 
-/// How many bytes the buffers of the reader and of the writer take.
-pub const BUFFER: usize = 65536;
+/// The size of the reader's buffer and of the writer's buffer, in bytes.
+pub const BUFFER_SIZE: usize = 65536;
 
-/// Does what is asked for: the verb over the reader's lines, or it writes a help text and reads nothing.
+/// Runs the verb, or writes a help text and reads nothing.
 ///
 /// # Errors
-/// As the verb. A help text fails as `write_bytes` does.
+/// As the verb, or as `write_bytes` for a help text.
 pub fn run_request<H: AllocGlobal + Threads + Sync, R: Read + Drop, W: Write + Drop>(
     rt: &H,
     request: &Request<'_>,
     input: &mut BufReader<R>,
     output: &mut BufWriter<W>,
-) -> Result<(), RunFault>
+) -> Result<(), RunError>
     ensures distinct { (settings : Settings) (bytes : List ℕ) → request.now.command ≡ Run Distinct settings → reader_remaining R.remaining input.old ≡ Some bytes →
         Writes (writer_contents W.contents output.old) (writer_contents W.contents output.new) (λ part. DistinctEnd bytes settings.limit part result) }
     ensures counts { (settings : Settings) (bytes : List ℕ) → request.now.command ≡ Run Counts settings → reader_remaining R.remaining input.old ≡ Some bytes →
@@ -69,8 +69,8 @@ pub fn run_request<H: AllocGlobal + Threads + Sync, R: Read + Drop, W: Write + D
     }
 }
 
-// Writes the text.
-fn show<W: Write + Drop>(output: &mut BufWriter<W>, text: &str) -> Result<(), RunFault>
+// Writes the text, and flushes it.
+fn show<W: Write + Drop>(output: &mut BufWriter<W>, text: &str) -> Result<(), RunError>
     ensures { ¬ (IsWriteEnd result) → writer_buffer output.new ≡ [] }
 {
     write_bytes(output, text.as_bytes())?;

@@ -1,4 +1,4 @@
-//! The line on a terminal that says how much of the input was read.
+//! A line on a terminal that shows how much of the input was read.
 ghost use Rattle.std.specs.Prelude.{◌≡◌, ◌+◌, ◌-◌, ◌^◌, true, false, Some, min};
 ghost use Rattle.lasso_codes.specs.declared.arguments.Settings.{Settings};
 ghost use Rattle.lasso_codes.specs.declared.arguments.Command.TheVariants.{Run};
@@ -10,22 +10,23 @@ use std::rt::Clock;
 use std::time::Instant;
 use std::{fmt, io};
 
-// Goes to the first column of a terminal, and empties the line.
+// Returns to the start of the line on a terminal, and erases it.
 const WIPE: &str = "\r\x1b[K";
 
 /// Which of the standard streams are terminals.
 #[derive(Clone, Copy, Debug, PartialEq, Eq)]
 pub struct Terminals {
-    /// Standard input is one.
+    /// Standard input is a terminal.
     pub input: bool,
-    /// Standard output is one.
+    /// Standard output is a terminal.
     pub output: bool,
-    /// Standard error is one.
+    /// Standard error is a terminal.
     pub error: bool,
 }
 
-/// Whether the command shows a progress line: it runs a verb without `--quiet`, and standard error is a terminal. Input that is typed at
-/// a terminal has none, nor has a verb that writes to a terminal while it reads.
+/// Whether the command shows a progress line. It must run a verb without `--quiet`, and standard error must
+/// be a terminal. There is none if the input comes from a terminal, or if the verb writes to a terminal while
+/// it reads.
 pub fn shows_progress(command: Command, terminals: Terminals) -> bool
     ensures decided { result ≡ shows_progress command terminals }
     ensures quiet { (verb : Verb) (settings : Settings) → command ≡ Run verb settings → settings.quiet ≡ true → result ≡ false }
@@ -40,7 +41,7 @@ pub fn shows_progress(command: Command, terminals: Terminals) -> bool
     }
 }
 
-// Whether the verb writes before all of the input was read.
+// Whether the verb writes before it has read all of the input.
 fn writes_while_reading(verb: Verb) -> bool
     ensures { result ≡ writes_while_reading verb }
 {
@@ -50,10 +51,10 @@ fn writes_while_reading(verb: Verb) -> bool
     }
 }
 
-/// How many bytes were read, and in how many whole seconds. Displays as a progress line.
+/// The number of bytes that were read, and of whole seconds since the start. Its text is a progress line.
 #[derive(Clone, Copy, Debug, PartialEq, Eq)]
 pub struct Tally {
-    /// The bytes; those past 2^64 - 1 are not counted.
+    /// The bytes, at most 2^64 - 1.
     pub bytes: u64,
     /// The seconds.
     pub seconds: u64,
@@ -69,17 +70,17 @@ impl fmt::Display for Tally {
     }
 }
 
-// A progress line, and the clock that says when the next one is due.
+// A progress line, and the clock that tells when to write it again.
 #[derive(Drop)]
 struct Progress<'a, H> {
     rt: &'a H,
     start: Instant,
-    // What was read so far; its seconds are those of the last line, or 0 before the first one.
+    // What was read so far. Its seconds are those of the last line that was written, or 0 if there was none.
     tally: Tally,
 }
 
 impl<'a, H: Clock + Eprint> Progress<'a, H> {
-    // Begins to count, or returns `None` where the clock fails.
+    // Starts the clock. `None` if the clock fails.
     fn start(rt: &'a H) -> Option<Self> {
         let start = Instant::now(rt).ok()?;
         let tally = Tally {
@@ -89,7 +90,7 @@ impl<'a, H: Clock + Eprint> Progress<'a, H> {
         Some(Progress { rt, start, tally })
     }
 
-    // Counts `count` bytes more. At most once in each second it then writes the line again, and never in the first one.
+    // Counts `count` more bytes. Writes the line at most once in each second, and not in the first one.
     fn advance(&mut self, count: usize)
         ensures { self.new.tally.bytes ≡ min (self.old.tally.bytes + count) (2 ^ 64 - 1) }
     {
@@ -113,8 +114,8 @@ impl<'a, H: Clock + Eprint> Progress<'a, H> {
     }
 }
 
-/// A reader that may show how much was read of it. It gives what the inner reader gives. A progress line that can't be written changes
-/// nothing.
+/// A reader that may show a progress line. It reads what the inner reader reads. If the line can't be
+/// written, nothing else changes.
 #[derive(Drop)]
 pub struct Watched<'a, R, H> {
     inner: R,
@@ -122,7 +123,7 @@ pub struct Watched<'a, R, H> {
 }
 
 impl<'a, R: Read + Drop, H: Clock + Eprint> Watched<'a, R, H> {
-    /// Wraps the reader. Without `is_shown`, nothing is ever written.
+    /// Wraps the reader. Without `is_shown`, no line is ever written.
     pub fn new(inner: R, rt: &'a H, is_shown: bool) -> Self
         ensures { result.inner ≡ inner }
     {

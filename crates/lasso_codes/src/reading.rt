@@ -1,4 +1,4 @@
-//! The header and the dictionary of a column, read from a reader.
+//! Reads the header and the dictionary of a column.
 ghost use Rattle.std.specs.Prelude.{◌≡◌, ◌≤◌, ◌-◌, ◌++◌, ◌∷◌, [], ℕ, List, Some, Ok, IfOk, IfErr, IsTrue, IsUtf8, OnOk, MatchResult, drop, length};
 ghost use Rattle.std.specs.Io.Buffered.{reader_remaining};
 ghost use Rattle.lasso_single.specs.Filling.{extend};
@@ -6,11 +6,11 @@ ghost use Rattle.lasso_single.specs.Interner.{InternerView, made_with};
 ghost use Rattle.lasso_columns.specs.Encoding.{spur_at};
 ghost use Rattle.lasso_codes.specs.Arguments.{word_of};
 ghost use Rattle.lasso_codes.specs.Stages.{Reading};
-ghost use Rattle.lasso_codes.specs.Reading.{after_front, header_in, header_of, header_with, AddFault, AddsText, HeaderFault, TakesHeader, TakesTexts, TextsFault};
+ghost use Rattle.lasso_codes.specs.Reading.{after_front, header_in, header_of, header_with, AddError, AddsText, HeaderError, TakesHeader, TakesTexts, TextsError};
 
-use crate::columns::{BINARY_FRONT, TEXT_FRONT};
-use crate::fault::{ColumnFault, RunFault};
-use crate::input::{Cut, at_hand, next_whole_line, use_up};
+use crate::columns::{BINARY_HEADER, TEXT_HEADER};
+use crate::error::{ColumnError, RunError};
+use crate::input::{Cut, buffered, consume, next_whole_line};
 use crate::lines::{intern_line, untested_len};
 use crate::numbers::parse_digits;
 use lasso::SpurRodeo;
@@ -19,71 +19,73 @@ use lasso_columns::lines::find_newline;
 use memchr::memchr;
 use std::io::{BufReader, Read};
 
-/// What the header line of a column says.
+/// The header line of a column.
 #[derive(Clone, Copy, Debug, PartialEq, Eq)]
 pub struct Header {
-    /// Whether an entry is four bytes, and no line.
+    /// Whether an entry is four bytes, rather than a line.
     pub binary: bool,
-    /// How many texts the dictionary has.
+    /// The number of texts in the dictionary.
     pub distinct: usize,
-    /// How many entries follow it.
+    /// The number of entries.
     pub lines: usize,
 }
 
-/// Reads the header of the column of this number, or `None` at the end. `line` is used for its bytes.
+/// Reads the header of the column with this number. `None` at the end of the input. `line` is a buffer for
+/// its bytes.
 ///
 /// # Errors
-/// The reader failed, there is no memory for the header, or the bytes do not begin with one.
+/// The reader failed, out of memory, or the input does not go on with a header.
 pub fn next_header<R: Read + Drop>(
     input: &mut BufReader<R>,
     line: &mut Vec<u8>,
     column: usize,
-) -> Result<Option<Header>, RunFault>
+) -> Result<Option<Header>, RunError>
     ensures taken { IfOk result (TakesHeader (reader_remaining R.remaining input.old) (reader_remaining R.remaining input.new)) }
-    ensures fault { IfErr result (HeaderFault (reader_remaining R.remaining input.old) column) }
+    ensures error { IfErr result (HeaderError (reader_remaining R.remaining input.old) column) }
 {
     match next_whole_line(input, line)? {
         Cut::Whole => match header_of(line) {
             Some(header) => Ok(Some(header)),
-            None => Err(RunFault::Column(column, ColumnFault::NoHeader)),
+            None => Err(RunError::Column(column, ColumnError::NoHeader)),
         },
-        Cut::Part => Err(RunFault::Column(column, ColumnFault::NoHeader)),
+        Cut::Part => Err(RunError::Column(column, ColumnError::NoHeader)),
         Cut::End => Ok(None),
     }
 }
 
-/// Reads the texts of the dictionary of the column of this number into the interner, which holds none. `line` is used for their bytes.
+/// Reads the dictionary of the column with this number into the interner, which must be empty. `line` is a
+/// buffer for the bytes of a text.
 ///
 /// # Errors
-/// The reader failed, there is no memory for a text, or a text is missing, comes twice, is not UTF-8 or is refused.
+/// The reader failed, out of memory, or a text is missing, comes twice, is not UTF-8 or is refused.
 pub fn read_texts<R: Read + Drop>(
     input: &mut BufReader<R>,
     line: &mut Vec<u8>,
     rodeo: &mut SpurRodeo,
     distinct: usize,
     column: usize,
-) -> Result<(), RunFault>
+) -> Result<(), RunError>
     requires { rodeo.old.texts ≡ [] }
     ensures taken { OnOk result (TakesTexts (reader_remaining R.remaining input.old) (reader_remaining R.remaining input.new) distinct rodeo.new.texts) }
-    ensures fault { IfErr result (λ fault. (bytes : List ℕ) → reader_remaining R.remaining input.old ≡ Some bytes →
-        (limit : ℕ) → rodeo.old ≡ made_with 4096 limit → TextsFault limit distinct column bytes fault) }
+    ensures error { IfErr result (λ error. (bytes : List ℕ) → reader_remaining R.remaining input.old ≡ Some bytes →
+        (limit : ℕ) → rodeo.old ≡ made_with 4096 limit → TextsError limit distinct column bytes error) }
 {
     let mut count = 0;
     while count < distinct {
-        let (next, used) = add_texts(rodeo, at_hand(input), distinct, count, column)?;
-        use_up(input, used);
+        let (next, used) = add_texts(rodeo, buffered(input), distinct, count, column)?;
+        consume(input, used);
         if next == distinct {
             return Ok(());
         }
         let number = next + 1;
         match next_whole_line(input, line)? {
             Cut::Whole => {
-                if let Err(fault) = add_text(rodeo, line, false, number) {
-                    return Err(RunFault::Column(column, fault));
+                if let Err(error) = add_text(rodeo, line, false, number) {
+                    return Err(RunError::Column(column, error));
                 }
             }
             Cut::Part | Cut::End => {
-                return Err(RunFault::Column(column, ColumnFault::NoText(number)));
+                return Err(RunError::Column(column, ColumnError::NoText(number)));
             }
         }
         count = number;
@@ -91,22 +93,22 @@ pub fn read_texts<R: Read + Drop>(
     Ok(())
 }
 
-// Interns the texts that end in the stretch, of which `count` came before. Returns how many these are then, and where the next one
-// begins.
+// Interns the texts that end in the stretch. `count` texts came before. Returns the number of texts before
+// the next one, and the position where that begins.
 fn add_texts(
     rodeo: &mut SpurRodeo,
     stretch: &[u8],
     distinct: usize,
     count: usize,
     column: usize,
-) -> Result<(usize, usize), RunFault>
+) -> Result<(usize, usize), RunError>
     requires { count ≤ distinct }
     ensures added { IfOk result (λ at. (bytes later : List ℕ) → Reading bytes (stretch.now ++ later) count rodeo.old → Reading bytes (drop at.1 stretch.now ++ later) at.0 rodeo.new) }
     ensures list { OnOk result ((start : InternerView) → extend spur_at start rodeo.old.texts (Ok tt) rodeo.old → extend spur_at start rodeo.new.texts (Ok tt) rodeo.new) }
     ensures more { IfOk result (λ at. (count ≤ at.0) × (at.0 ≤ distinct)) }
     ensures within { IfOk result (λ at. at.1 ≤ length stretch.now) }
-    ensures fault { IfErr result (λ fault. (bytes later : List ℕ) (limit : ℕ) → Reading bytes (stretch.now ++ later) count rodeo.old →
-        extend spur_at (made_with 4096 limit) rodeo.old.texts (Ok tt) rodeo.old → TextsFault limit distinct column bytes fault) }
+    ensures error { IfErr result (λ error. (bytes later : List ℕ) (limit : ℕ) → Reading bytes (stretch.now ++ later) count rodeo.old →
+        extend spur_at (made_with 4096 limit) rodeo.old.texts (Ok tt) rodeo.old → TextsError limit distinct column bytes error) }
 {
     let untested = untested_len(stretch);
     let mut used = 0;
@@ -116,50 +118,50 @@ fn add_texts(
             return Ok((position, used));
         };
         let is_text = untested < rest.len() - len;
-        if let Err(fault) = add_text(rodeo, &rest[..len], is_text, position + 1) {
-            return Err(RunFault::Column(column, fault));
+        if let Err(error) = add_text(rodeo, &rest[..len], is_text, position + 1) {
+            return Err(RunError::Column(column, error));
         }
         used += len + 1;
     }
     Ok((distinct, used))
 }
 
-// Interns the text of this number, which has to be new. `is_text`: the caller has checked that it is UTF-8.
+// Interns the text with this number, which has to be new. `is_text`: the caller has checked that it is UTF-8.
 fn add_text(
     rodeo: &mut SpurRodeo,
     line: &[u8],
     is_text: bool,
     number: usize,
-) -> Result<(), ColumnFault>
+) -> Result<(), ColumnError>
     requires { IsTrue is_text → IsUtf8 line.now }
-    ensures { MatchResult result (λ _. AddsText rodeo.old line.now rodeo.new) (AddFault rodeo.old line.now number) }
+    ensures { MatchResult result (λ _. AddsText rodeo.old line.now rodeo.new) (AddError rodeo.old line.now number) }
 {
     match intern_line(rodeo, line, is_text, number) {
         Ok(true) => Ok(()),
-        Ok(false) => Err(ColumnFault::Doubled(number)),
-        Err(LineError::NotText(_)) => Err(ColumnFault::NotUtf8(number)),
-        Err(LineError::Refused(_, error)) => Err(ColumnFault::TextRefused(number, error)),
+        Ok(false) => Err(ColumnError::Doubled(number)),
+        Err(LineError::NotText(_)) => Err(ColumnError::NotUtf8(number)),
+        Err(LineError::Refused(_, error)) => Err(ColumnError::TextRefused(number, error)),
     }
 }
 
-/// What the header line says, or `None` where it is none.
+/// Parses a header line. `None` if the line is not a header.
 pub fn header_of(line: &[u8]) -> Option<Header>
     ensures { result ≡ header_of line.now }
 {
-    match after_front(line, TEXT_FRONT) {
+    match after_front(line, TEXT_HEADER) {
         Some(numbers) => header_in(false, numbers),
-        None => header_in(true, after_front(line, BINARY_FRONT)?),
+        None => header_in(true, after_front(line, BINARY_HEADER)?),
     }
 }
 
-// What follows the front of the line.
+// The rest of the line after `front`, if the line begins with that.
 fn after_front<'a>(line: &'a [u8], front: &[u8]) -> Option<&'a [u8]>
     ensures { word_of result ≡ after_front front.now line.now }
 {
     line.strip_prefix(front)
 }
 
-// The header of these two numbers.
+// Parses the two numbers of a header.
 fn header_in(binary: bool, numbers: &[u8]) -> Option<Header>
     ensures { result ≡ header_in binary numbers.now }
 {
@@ -173,7 +175,7 @@ fn header_in(binary: bool, numbers: &[u8]) -> Option<Header>
     }
 }
 
-// The header of the numbers, where both are there.
+// The header with these numbers, if both are numbers.
 fn header_with(binary: bool, distinct: Option<usize>, lines: Option<usize>) -> Option<Header>
     ensures { result ≡ header_with binary distinct lines }
 {

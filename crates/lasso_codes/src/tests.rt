@@ -1,4 +1,4 @@
-//! The program's words, runs over small and long inputs, and readers and writers that fail.
+//! Tests of the arguments, of runs over small and long inputs, and of readers and writers that fail.
 mod columns;
 mod damaged;
 mod failing;
@@ -9,13 +9,13 @@ mod verbs;
 mod words;
 
 use crate::arguments::{Command, Request, Settings, Verb};
-use crate::fault::RunFault;
+use crate::error::RunError;
 use std::alloc::Global;
 use std::io::{BufReader, BufWriter};
 use std::process::Abort;
 use std::test::Fail;
 
-// All lines, with no limit and no null, codes as text, and one worker.
+// The default settings.
 const PLAIN: Settings = Settings {
     limit: usize::MAX,
     top: usize::MAX,
@@ -37,7 +37,7 @@ fn runs<'a>(verb: Verb, settings: Settings) -> Request<'a> {
     asks(Command::Run(verb, settings))
 }
 
-// The request, and the same of several workers where the verb has workers.
+// The request with 1, 2, 3 and 64 workers, if the verb has workers.
 fn by_workers(request: Request<'_>) -> [Request<'_>; 4] {
     let Command::Run(verb, settings) = request.command else {
         return [request; 4];
@@ -58,7 +58,7 @@ fn by_workers(request: Request<'_>) -> [Request<'_>; 4] {
     })
 }
 
-// A reader of these bytes. Its buffer is so small that most lines are longer.
+// A reader of these bytes. Its buffer is shorter than most lines.
 fn reader_of(alloc: Global, bytes: &[u8]) -> Result<BufReader<&[u8]>, Fail> {
     Ok(BufReader::with_capacity(alloc, 4, bytes)?)
 }
@@ -68,18 +68,18 @@ fn writer_of(alloc: Global) -> Result<BufWriter<Vec<u8>>, Fail> {
     Ok(BufWriter::with_capacity(alloc, 16, Vec::new(alloc))?)
 }
 
-// The fault has these words and this status.
-fn assert_fault<R: AllocGlobal + Abort>(
+// Checks the message and the status of the error.
+fn assert_error<R: AllocGlobal + Abort>(
     rt: &R,
-    ended: Result<(), RunFault>,
+    ended: Result<(), RunError>,
     words: &str,
     status: u8,
 ) -> Result<(), Fail> {
-    let Err(fault) = ended else {
-        return Err(Fail::from("there is no fault"));
+    let Err(error) = ended else {
+        return Err(Fail::from("there is no error"));
     };
-    let told = fault.to_string(rt.alloc())?;
+    let told = error.to_string(rt.alloc())?;
     assert!(rt; told.as_str() == words);
-    assert!(rt; fault.status() == status);
+    assert!(rt; error.status() == status);
     Ok(())
 }

@@ -1,8 +1,9 @@
 -- Counts that grow by those of other texts.
 --
--- Each text's count grows by how often it is among the texts. So of two lists of texts, one counted after the other, the growths add up.
--- An interner that has grown gets a zero for each new text, which tells nothing else of any text. Then the counts of a part are added one
--- after another: the first n texts of the part's list have their counts, and each other text has grown by nothing.
+-- The count of each text grows by the number of times that it is among the texts. If two lists are counted
+-- one after the other, the growths add up. After an interner has grown, a zero is appended for each new text,
+-- which changes the count of none. Then the counts of a part are added one after another: the counts of the
+-- first n texts of the part's list have grown, and the others have not.
 use Rattle.std.proofs.Common.{ℕ, zero, suc, ◌≡◌, ◌+◌, ◌-◌, ◌<◌, ◌≤◌, List, [], ◌∷◌, ◌++◌, length, take, drop, get_or, set, sum, map, Bor, Bool, true, false, cond, Option, Some, None, Result, Ok, Err, is_some, is_err, refl, sym, ap, subst, ◌∙◌, arith, append_assoc, add-zero, length-append}
 use Rattle.std.specs.Prelude.{option_and_then, slice_get, replicate}
 use Rattle.std.proofs.lemmas.Option.{slice_get_within}
@@ -22,11 +23,11 @@ use Rattle.lasso_columns.proofs.PartLists.{list_extended}
 use Rattle.lasso_columns.specs.Codes.{AreCodes}
 use Rattle.lasso_columns.specs.Encoding.{spur_at}
 use Rattle.lasso_columns.specs.Parts.{new_texts}
-use Rattle.lasso_counts.specs.declared.fault.CountError.{CountError}
+use Rattle.lasso_counts.specs.declared.error.CountError.{CountError}
 use Rattle.lasso_counts.specs.Counts.{AreCounts, count_of, count_at, counted}
 use Rattle.lasso_counts.specs.Adding.{AddsAmounts, AddsCounts, counted_of}
 use Rattle.lasso_counts.proofs.Rest.{Grown}
-use Rattle.lasso_counts.proofs.Counted.{tells, tell_new, tell_old, position_absent, same_text, inside, last_one, counted_beside, counted_total, place_of}
+use Rattle.lasso_counts.proofs.Counted.{tells, tell_new, tell_old, position_absent, same_text, inside, last_one, counted_lengths, counted_total, place_of}
 
 -- ---- growths that add up
 
@@ -37,28 +38,28 @@ count_push : (texts : List Text) (last text : Text) → count_of (texts ++ last 
 count_push texts last text = sum_by_push (λ t. cond (bytes_eq t text) 1 0) texts last
 
 pub adds_none : (list : List Text) (counts : List ℕ) → length counts ≡ length list → AddsCounts [] list counts list counts
-adds_none list counts beside = record { tell = λ s. sym (add-zero (count_at counts (position_of list s))); beside = beside; total = sym (add-zero (sum counts)) }
+adds_none list counts lengths = record { each = λ s. sym (add-zero (count_at counts (position_of list s))); lengths = lengths; total = sym (add-zero (sum counts)) }
 
 pub adds_join : (texts more before mid after : List Text) (old now new : List ℕ) → AddsCounts texts before old mid now → AddsCounts more mid now after new → AddsCounts (texts ++ more) before old after new
 adds_join texts more before mid after old now new one two = record {
-  tell = λ s. let first = one.tell s in let second = two.tell s in let both = count_both texts more s in omega (arith, first, second, both);
-  beside = two.beside;
+  each = λ s. let first = one.each s in let second = two.each s in let both = count_both texts more s in omega (arith, first, second, both);
+  lengths = two.lengths;
   total = omega (arith, one.total, two.total, length-append texts more);
 }
 
 -- one text more
 pub adds_push : (texts before mid after : List Text) (old now new : List ℕ) (text : Text) → AddsCounts texts before old mid now → new ≡ counted now (position_of mid text) → after ≡ with_last mid text → AddsCounts (texts ++ text ∷ []) before old after new
 adds_push texts before mid after old now new text so_far is grown = record {
-  tell = λ s.
-      let first = so_far.tell s in
+  each = λ s.
+      let first = so_far.each s in
       let here : count_at new (position_of after s) ≡ count_at now (position_of mid s) + cond (bytes_eq text s) 1 0 =
-      ap (λ cs. count_at cs (position_of after s)) is ∙ ap (λ (ts : List Text). count_at (counted now (position_of mid text)) (position_of ts s)) grown ∙ tells mid now text s (position_of mid text) refl so_far.beside in
+      ap (λ cs. count_at cs (position_of after s)) is ∙ ap (λ (ts : List Text). count_at (counted now (position_of mid text)) (position_of ts s)) grown ∙ tells mid now text s (position_of mid text) refl so_far.lengths in
       let both = count_push texts text s in omega (arith, first, here, both);
-  beside =
+  lengths =
       let long : length new ≡ length (counted now (position_of mid text)) = ap (λ (cs : List ℕ). length cs) is in
-      let same : length after ≡ length (with_last mid text) = ap (λ (ts : List Text). length ts) grown in long ∙ counted_beside now mid text so_far.beside ∙ sym same;
+      let same : length after ≡ length (with_last mid text) = ap (λ (ts : List Text). length ts) grown in long ∙ counted_lengths now mid text so_far.lengths ∙ sym same;
   total =
-      let here : sum new ≡ sum now + 1 = ap sum is ∙ counted_total now (position_of mid text) (place_of mid now text so_far.beside) in omega (arith, so_far.total, here, length_push texts text);
+      let here : sum new ≡ sum now + 1 = ap sum is ∙ counted_total now (position_of mid text) (place_of mid now text so_far.lengths) in omega (arith, so_far.total, here, length_push texts text);
 }
 
 -- what is read at an index
@@ -67,7 +68,7 @@ value_at [] i v small is = absurd (omega (arith, small))
 value_at (x ∷ xs) zero v small is = is
 value_at (x ∷ xs) (suc i) v small is = value_at xs i v (omega (arith, small)) is
 
--- a text more that is there
+-- one more present text
 key_position : (list : List Text) (text : Text) (key : ℕ) (o : Option ℕ) → position_of list text ≡ o → option_and_then spur_at o ≡ Some key → o ≡ Some (key - 1)
 key_position list text key None at is = absurd (cc)
 key_position list text key (Some n) at is = ap (λ k. Some k) (position_of_key n key is)
@@ -75,7 +76,7 @@ key_position list text key (Some n) at is = ap (λ k. Some k) (position_of_key n
 pub adds_found : (texts list : List Text) (old now new : List ℕ) (text : Text) (key at value : ℕ) → AddsCounts texts list old list now → key_of spur_at list text ≡ Some key → at ≡ key - 1 → value ≡ get_or now at value → new ≡ set now at (value + 1) → AddsCounts (texts ++ text ∷ []) list old list new
 adds_found texts list old now new text key at value so_far found at_is value_is is =
     let here : position_of list text ≡ Some (key - 1) = key_position list text key (position_of list text) refl found in
-    let small : at < length now = let within = inside list now text (key - 1) so_far.beside here in omega (arith, within, at_is) in
+    let small : at < length now = let within = inside list now text (key - 1) so_far.lengths here in omega (arith, within, at_is) in
     let grown : list ≡ with_last list text = ap (λ o. cond (is_some o) list (list ++ text ∷ [])) (sym here) in
     let counted_is : new ≡ counted now (position_of list text) =
     is ∙ ap (λ v. set now at (v + 1)) (value_at now at value small value_is) ∙ ap (λ n. set now n (get_or now n 0 + 1)) at_is ∙ ap (λ o. counted now o) (sym here) in
@@ -85,7 +86,7 @@ adds_found texts list old now new text key at value so_far found at_is value_is 
 pub adds_are : (texts list : List Text) (counts : List ℕ) (before : List Text) (old : List ℕ) → before ≡ [] → old ≡ [] → AddsCounts texts before old list counts → (s : Text) → count_of texts s ≡ count_at counts (position_of list s)
 adds_are texts list counts before old none empty adds s =
     let is : AddsCounts texts [] [] list counts = subst (λ (ts : List Text). AddsCounts texts ts [] list counts) none (subst (λ cs. AddsCounts texts before cs list counts) empty adds) in
-    let told = is.tell s in
+    let told = is.each s in
     let zero : count_at [] (position_of [] s) ≡ 0 = refl in omega (arith, told, zero)
 
 not_err : (r : Result (Unit {0}) CountError) (texts : List Text) → is_err r ≡ false → counted_of r texts ≡ texts
@@ -95,8 +96,8 @@ not_err (Err error) texts fine = absurd (cc)
 pub all_are : (old now : InternerView) (texts : List Text) (before counts : List ℕ) → old.texts ≡ [] → before ≡ [] → extend spur_at old texts accepted now → AddsCounts texts old.texts before now.texts counts → AreCounts texts now.texts counts
 all_are old now texts before counts none empty list adds = record {
   list_is = list_extended old now texts list ∙ ap (λ (ts : List Text). ts ++ new_texts ts texts) none;
-  tell = adds_are texts now.texts counts old.texts before none empty adds;
-  beside = adds.beside;
+  each = adds_are texts now.texts counts old.texts before none empty adds;
+  lengths = adds.lengths;
   total = let zero : sum before ≡ 0 = ap sum empty in omega (arith, adds.total, zero);
 }
 
@@ -109,70 +110,70 @@ part_are old now texts before counts r none empty fine list adds =
 -- ---- zeros for new texts
 
 pad_tell : (list : List Text) (counts : List ℕ) (last s : Text) (same : Bool) (o : Option ℕ) → length counts ≡ length list → bytes_eq last s ≡ same → position_of list s ≡ o → count_at (counts ++ 0 ∷ []) (position_of (list ++ last ∷ []) s) ≡ count_at counts o
-pad_tell list counts last s same (Some n) beside e at =
-    ap (λ p. count_at (counts ++ 0 ∷ []) p) (position_stays list last s n at) ∙ get_or_append_left counts (0 ∷ []) 0 n (inside list counts s n beside at)
-pad_tell list counts last s true None beside e at =
+pad_tell list counts last s same (Some n) lengths e at =
+    ap (λ p. count_at (counts ++ 0 ∷ []) p) (position_stays list last s n at) ∙ get_or_append_left counts (0 ∷ []) 0 n (inside list counts s n lengths at)
+pad_tell list counts last s true None lengths e at =
     let is : last ≡ s = same_text last s e in
     let here : position_of (list ++ last ∷ []) s ≡ Some (length list) = subst (λ (t : Text). position_of (list ++ t ∷ []) s ≡ Some (length list)) (sym is) (position_last list s at) in
-    ap (λ p. count_at (counts ++ 0 ∷ []) p) here ∙ last_one counts (length list) 0 beside
-pad_tell list counts last s false None beside e at =
+    ap (λ p. count_at (counts ++ 0 ∷ []) p) here ∙ last_one counts (length list) 0 lengths
+pad_tell list counts last s false None lengths e at =
     ap (λ p. count_at (counts ++ 0 ∷ []) p) (position_absent list last s at e)
 
 pad_one : (list : List Text) (counts : List ℕ) (last : Text) → length counts ≡ length list → AddsCounts [] list counts (list ++ last ∷ []) (counts ++ 0 ∷ [])
-pad_one list counts last beside = record {
-  tell = λ s. pad_tell list counts last s (bytes_eq last s) (position_of list s) beside refl refl ∙ sym (add-zero (count_at counts (position_of list s)));
-  beside = length_push counts 0 ∙ ap (λ n. n + 1) beside ∙ sym (length_push list last);
+pad_one list counts last lengths = record {
+  each = λ s. pad_tell list counts last s (bytes_eq last s) (position_of list s) lengths refl refl ∙ sym (add-zero (count_at counts (position_of list s)));
+  lengths = length_push counts 0 ∙ ap (λ n. n + 1) lengths ∙ sym (length_push list last);
   total = sum_by_push (λ x. x) counts 0;
 }
 
 pub pads : (list : List Text) (counts : List ℕ) (more : List Text) → length counts ≡ length list → AddsCounts [] list counts (list ++ more) (counts ++ replicate (length more) 0)
-pads list counts [] beside =
-    subst (λ (ts : List Text). AddsCounts [] list counts ts (counts ++ [])) (sym (append-nil list)) (subst (λ cs. AddsCounts [] list counts list cs) (sym (append-nil counts)) (adds_none list counts beside))
-pads list counts (last ∷ more) beside =
-    let one = pad_one list counts last beside in
-    let others = pads (list ++ last ∷ []) (counts ++ 0 ∷ []) more one.beside in
+pads list counts [] lengths =
+    subst (λ (ts : List Text). AddsCounts [] list counts ts (counts ++ [])) (sym (append-nil list)) (subst (λ cs. AddsCounts [] list counts list cs) (sym (append-nil counts)) (adds_none list counts lengths))
+pads list counts (last ∷ more) lengths =
+    let one = pad_one list counts last lengths in
+    let others = pads (list ++ last ∷ []) (counts ++ 0 ∷ []) more one.lengths in
     let joined = adds_join [] [] list (list ++ last ∷ []) ((list ++ last ∷ []) ++ more) counts (counts ++ 0 ∷ []) ((counts ++ 0 ∷ []) ++ replicate (length more) 0) one others in
     subst (λ (ts : List Text). AddsCounts [] list counts ts (counts ++ replicate (suc (length more)) 0)) (append_assoc list (last ∷ []) more)
     (subst (λ cs. AddsCounts [] list counts ((list ++ last ∷ []) ++ more) cs) (append_assoc counts (0 ∷ []) (replicate (length more) 0)) joined)
 
--- as many zeros as the list has grown
+-- a zero for each text by which the list has grown
 pub padded : (list more : List Text) (counts : List ℕ) (now : List Text) (n : ℕ) (after : List ℕ) → length counts ≡ length list → now ≡ list ++ more → n ≡ length now - length counts → after ≡ counts ++ replicate n 0 → AddsCounts [] list counts now after
-padded list more counts now n after beside grown many is =
-    let same : n ≡ length more = omega (arith, many, ap length grown, length-append list more, beside) in
-    subst (λ (ts : List Text). AddsCounts [] list counts ts after) (sym grown) (subst (λ cs. AddsCounts [] list counts (list ++ more) cs) (sym (is ∙ ap (λ k. counts ++ replicate k 0) same)) (pads list counts more beside))
+padded list more counts now n after lengths grown many is =
+    let same : n ≡ length more = omega (arith, many, ap length grown, length-append list more, lengths) in
+    subst (λ (ts : List Text). AddsCounts [] list counts ts after) (sym grown) (subst (λ cs. AddsCounts [] list counts (list ++ more) cs) (sym (is ∙ ap (λ k. counts ++ replicate k 0) same)) (pads list counts more lengths))
 
 -- the same after merging a list, with room made before
 pub put_padded : (old now : InternerView) (list : List Text) (counts reserved after : List ℕ) (n : ℕ) → length counts ≡ length old.texts → Grown old.texts now.texts (length list) → reserved ≡ counts → n ≡ length now.texts - length counts → after ≡ reserved ++ replicate n 0 → AddsCounts [] old.texts counts now.texts after
-put_padded old now list counts reserved after n beside grown same many is =
-    padded old.texts grown.0 counts now.texts n after beside grown.1 many (is ∙ ap (λ cs. cs ++ replicate n 0) same)
+put_padded old now list counts reserved after n lengths grown same many is =
+    padded old.texts grown.0 counts now.texts n after lengths grown.1 many (is ∙ ap (λ cs. cs ++ replicate n 0) same)
 
 -- ---- the counts of a list that are added
 
 pub amounts_none : (list : List Text) (counts : List ℕ) → AddsAmounts list [] [] counts counts
-amounts_none list counts = record { tell = λ s. sym (add-zero (count_at counts (position_of list s))); long = refl; total = sym (add-zero (sum counts)) }
+amounts_none list counts = record { each = λ s. sym (add-zero (count_at counts (position_of list s))); long = refl; total = sym (add-zero (sum counts)) }
 
 pub amounts_push : (list from : List Text) (amounts old now new : List ℕ) (text : Text) (amount place : ℕ) → length old ≡ length list → length amounts ≡ length from → AddsAmounts list from amounts old now → position_of list text ≡ Some place → position_of from text ≡ None → new ≡ set now place (get_or now place 0 + amount) → AddsAmounts list (from ++ text ∷ []) (amounts ++ amount ∷ []) old new
-amounts_push list from amounts old now new text amount place beside each so_far here absent is =
-    let beside' : length now ≡ length list = so_far.long ∙ beside in record {
-      tell = λ s.
-          let first = so_far.tell s in
+amounts_push list from amounts old now new text amount place lengths each so_far here absent is =
+    let lengths' : length now ≡ length list = so_far.long ∙ lengths in record {
+      each = λ s.
+          let first = so_far.each s in
           let grown : count_at new (position_of list s) ≡ count_at now (position_of list s) + cond (bytes_eq text s) amount 0 =
-          ap (λ cs. count_at cs (position_of list s)) is ∙ tell_old list now amount text s place (bytes_eq text s) (position_of list s) here beside' refl refl in
+          ap (λ cs. count_at cs (position_of list s)) is ∙ tell_old list now amount text s place (bytes_eq text s) (position_of list s) here lengths' refl refl in
           let both : count_at (amounts ++ amount ∷ []) (position_of (from ++ text ∷ []) s) ≡ count_at amounts (position_of from s) + cond (bytes_eq text s) amount 0 =
           tell_new from amounts amount text s (bytes_eq text s) (position_of from s) absent each refl refl in omega (arith, first, grown, both);
       long = ap length is ∙ length-set now place (get_or now place 0 + amount) ∙ so_far.long;
       total =
-          let change = sum_by-set (λ x. x) now place (get_or now place 0 + amount) 0 (inside list now text place beside' here) in
+          let change = sum_by-set (λ x. x) now place (get_or now place 0 + amount) 0 (inside list now text place lengths' here) in
           let whole : sum new ≡ sum (set now place (get_or now place 0 + amount)) = ap sum is in
           let pushed : sum (amounts ++ amount ∷ []) ≡ sum amounts + amount = sum_by_push (λ x. x) amounts amount in omega (arith, change, whole, pushed, so_far.total);
     }
 
 -- the first i of them and one more
 pub amounts_more : (list from : List Text) (places amounts old now new : List ℕ) (i place amount : ℕ) (text : Text) → length old ≡ length list → IsDistinct from → AreCodes list from places → length amounts ≡ length from → AddsAmounts list (take i from) (take i amounts) old now → slice_get from i ≡ Some text → slice_get places i ≡ Some place → amount ≡ get_or amounts i 0 → i < length amounts → new ≡ set now place (get_or now place 0 + amount) → AddsAmounts list (take (i + 1) from) (take (i + 1) amounts) old new
-amounts_more list from places amounts old now new i place amount text beside distinct are each so_far at at' amount_is small is =
+amounts_more list from places amounts old now new i place amount text lengths distinct are each so_far at at' amount_is small is =
     let here : position_of list text ≡ Some place = map_some_at (position_of list) from places i text place are at at' in
     let each' : length (take i amounts) ≡ length (take i from) = omega (arith, length-take i amounts, length-take i from, each) in
-    let pushed = amounts_push list (take i from) (take i amounts) old now new text amount place beside each' so_far here (absent_before from i text distinct at) is in
+    let pushed = amounts_push list (take i from) (take i amounts) old now new text amount place lengths each' so_far here (absent_before from i text distinct at) is in
     let more : take (i + 1) amounts ≡ take i amounts ++ amount ∷ [] = take_more amounts i 0 small ∙ ap (λ n. take i amounts ++ n ∷ []) (sym amount_is) in
     subst (λ (ts : List Text). AddsAmounts list ts (take (i + 1) amounts) old new) (sym (take_more_at from i text at)) (subst (λ cs. AddsAmounts list (take i from ++ text ∷ []) cs old new) (sym more) pushed)
 
@@ -212,9 +213,9 @@ places_inside list (t ∷ from) (p ∷ places) are (suc k) d small = places_insi
 
 -- the counts of a part, added to padded counts
 pub adds_part : (part from list : List Text) (amounts old new : List ℕ) → length old ≡ length list → AreCounts part from amounts → AddsAmounts list from amounts old new → AddsCounts part list old list new
-adds_part part from list amounts old new beside are adds = record {
-  tell = λ s. adds.tell s ∙ ap (λ n. count_at old (position_of list s) + n) (sym (are.tell s));
-  beside = adds.long ∙ beside;
+adds_part part from list amounts old new lengths are adds = record {
+  each = λ s. adds.each s ∙ ap (λ n. count_at old (position_of list s) + n) (sym (are.each s));
+  lengths = adds.long ∙ lengths;
   total = adds.total ∙ ap (λ n. sum old + n) are.total;
 }
 

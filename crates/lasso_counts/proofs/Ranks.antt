@@ -13,7 +13,7 @@ use Rattle.lasso_parts.specs.Texts.{Text, IsDistinct}
 use Rattle.lasso_counts.specs.Counts.{AreCounts, count_of, count_at, counted_texts}
 use Rattle.lasso_counts.proofs.Counted.{distinct_new}
 
--- sorted values are sorted by what is seen of them
+-- sorted values stay sorted when they are mapped
 pub sorted_map : {X Y : Type 0} (f : X → Y) (lt : Y → Y → Bool) (xs : List X) → IsSortedBy (λ a b. lt (f a) (f b)) xs → IsSortedBy lt (map f xs)
 sorted_map f lt [] sorted = λ k d low small. absurd (omega (arith, small))
 sorted_map f lt (x ∷ xs) sorted = λ k d low small.
@@ -41,22 +41,22 @@ no_text_twice : IsDistinct []
 no_text_twice = IsDistinct-from_apart bytes_eq [] (λ i j d below inside. absurd (omega (arith, inside)))
 
 zip_map : (f : Text → ℕ) (counts : List ℕ) (list : List Text) → length counts ≡ length list → ((k : ℕ) (text : Text) → slice_get list k ≡ Some text → get_or counts k 0 ≡ f text) → zip counts list ≡ map (λ text. (f text, text)) list
-zip_map f [] [] beside tell = refl
-zip_map f [] (t ∷ list) beside tell = absurd (omega (arith, beside))
-zip_map f (c ∷ counts) [] beside tell = absurd (omega (arith, beside))
-zip_map f (c ∷ counts) (t ∷ list) beside tell =
-    ap (λ (n : ℕ). (n, t) ∷ zip counts list) (tell 0 t refl)
-    ∙ ap (λ (ps : List (ℕ × Text)). (f t, t) ∷ ps) (zip_map f counts list (omega (arith, beside)) (λ k text at. tell (suc k) text at))
+zip_map f [] [] lengths each = refl
+zip_map f [] (t ∷ list) lengths each = absurd (omega (arith, lengths))
+zip_map f (c ∷ counts) [] lengths each = absurd (omega (arith, lengths))
+zip_map f (c ∷ counts) (t ∷ list) lengths each =
+    ap (λ (n : ℕ). (n, t) ∷ zip counts list) (each 0 t refl)
+    ∙ ap (λ (ps : List (ℕ × Text)). (f t, t) ∷ ps) (zip_map f counts list (omega (arith, lengths)) (λ k text at. each (suc k) text at))
 
--- the distinct texts with the counts that tell how often they came
+-- the distinct texts with their counts
 pub counted_pairs : (texts list : List Text) (counts : List ℕ) → AreCounts texts list counts → zip counts list ≡ counted_texts texts
 counted_pairs texts list counts are =
     let distinct : IsDistinct list = subst IsDistinct (sym are.list_is) (distinct_new [] texts no_text_twice) in
-    zip_map (count_of texts) counts list are.beside (λ k text at. ap (count_at counts) (sym (position_of_at list text k distinct at)) ∙ sym (are.tell text))
+    zip_map (count_of texts) counts list are.lengths (λ k text at. ap (count_at counts) (sym (position_of_at list text k distinct at)) ∙ sym (are.each text))
     ∙ ap (λ (ts : List Text). map (λ text. (count_of texts text, text)) ts) are.list_is
 
 -- their counts are the counts
 pub pairs_total : (counts : List ℕ) (list : List Text) (pairs : List (ℕ × Text)) → length counts ≡ length list → IsPermutation (zip counts list) pairs → sum_by (λ pair. pair.0) pairs ≡ sum counts
-pairs_total counts list pairs beside order =
+pairs_total counts list pairs lengths order =
     sum_by-IsPermutation (λ (pair : ℕ × Text). pair.0) (zip counts list) pairs order ∙ sym (sum-map (λ (pair : ℕ × Text). pair.0) (zip counts list))
-    ∙ ap sum (firsts-zip counts list (sym beside))
+    ∙ ap sum (firsts-zip counts list (sym lengths))

@@ -1,8 +1,9 @@
--- Texts of which the first were interned before they are counted.
+-- Texts that are counted after the first of them were interned.
 --
--- Where interning the distinct texts of a part stops, some of the part's texts are there. They are counted up to the first that is not
--- there: this one comes no sooner than the text at which it stopped, since each text before that is there. So interning the texts up to
--- it leaves the same list, and the others are counted one by one after them.
+-- When interning the distinct texts of a part stops, some of the part's texts are present. The texts before
+-- the first absent one are counted. That one is not before the text at which interning stopped, since each
+-- text before that is present. So interning the texts before it leaves the same list, and the others are
+-- counted one by one after them.
 use Rattle.std.proofs.Common.{ℕ, zero, suc, ◌≡◌, ◌+◌, ◌-◌, ◌<◌, ◌≤◌, List, [], ◌∷◌, ◌++◌, length, take, drop, get_or, map, Bor, Bool, true, false, cond, Option, Some, None, Result, Ok, Err, OnOk, IfErr, MatchResult, IfSome, IsSomeAnd, is_some, refl, sym, ap, subst, ◌∙◌, arith, length-append}
 use Rattle.std.specs.Prelude.{All, IsSome, option_and_then, slice_get}
 use Rattle.std.proofs.Math.Seq.{take-add}
@@ -146,7 +147,7 @@ grown_by : (old now : InternerView) (texts : List Text) (n : ℕ) → length tex
 grown_by old now texts n few h =
     let most = new_few old.texts texts in (new_texts old.texts texts, list_extended old now texts h, omega (arith, most, few))
 
--- whether merging a list ended well or not
+-- whether merging a list succeeded or not
 pub merged_grown : {X : Type 0} (old now : InternerView) (list : List Text) (r : Result X LassoError) (P : LassoError → ℕ → Type 0) → OnOk r (extend spur_at old list accepted now) → IfErr r (λ error. (n : ℕ) × extend spur_at old (take n list) accepted now × P error n) → Grown old.texts now.texts (length list)
 merged_grown old now list (Ok x) P ok err = grown_by old now list (length list) (omega arith) ok
 merged_grown old now list (Err e) P ok err =
@@ -196,7 +197,7 @@ within_by P xs k (Some text) at holds = slice_get_within xs k text at
 pub within : (P : Text → Type 0) (xs : List Text) (k : ℕ) → IsSomeAnd (slice_get xs k) P → k < length xs
 within P xs k holds = within_by P xs k (slice_get xs k) refl holds
 
--- a text of a part stands among all where the part's start and its own position say
+-- the position of a text among all is the start of its part plus its position there
 pub next_here : (P : Text → Type 0) (all : List Text) (start count k : ℕ) → IsSomeAnd (slice_get (take count (drop start all)) k) P → IsSomeAnd (slice_get all (start + k)) P
 next_here P all start count k holds =
     let xs = drop start all in

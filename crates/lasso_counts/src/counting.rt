@@ -1,4 +1,4 @@
-//! Texts that are interned and counted.
+//! Interns texts and counts them.
 ghost use Rattle.std.specs.Prelude.{◌≡◌, ◌+◌, ◌-◌, ◌^◌, ◌<◌, ◌++◌, ◌∷◌, [], ℕ, List, Ok, OnOk, OnErr, IfErr, IsSomeAnd, length, map, slice_get, sum, vec_len, vec_capacity};
 ghost use Rattle.lasso_parts.specs.Texts.{Text, position_of};
 ghost use Rattle.lasso_single.specs.Intern.{InternsIn};
@@ -7,18 +7,18 @@ ghost use Rattle.lasso_single.specs.Filling.{extend};
 ghost use Rattle.lasso_counts.specs.Counts.{AreCounts, counted, added};
 ghost use Rattle.lasso_counts.specs.Adding.{AddsCounts, counted_of};
 
-use crate::fault::CountError;
+use crate::error::CountError;
 use lasso::{Key, LassoResult, Rodeo, Spur};
 use std::alloc::Allocator;
 use std::hash::BuildHasher;
 
 /// Interns the text and adds one to its count. A new text gets the count 1, after the others.
 ///
-/// The counts must be one for each text of the interner, with a sum below `u64::MAX`.
+/// There must be one count for each text of the interner, and their sum must be below `u64::MAX`.
 ///
 /// # Errors
-/// The text is refused because the keys or the memory limit are used up, or because there is no memory for the text or for its
-/// count. Nothing has changed then.
+/// The text is refused: no key is left, the memory limit leaves no room, or out of memory. The interner and
+/// the counts are as they were.
 ///
 /// ```rust
 /// let mut rodeo: SpurRodeo = Rodeo::default(rt.alloc())?;
@@ -32,11 +32,11 @@ pub fn count_text<S: BuildHasher, A: Allocator + Clone>(
     text: &str,
     counts: &mut Vec<u64>,
 ) -> LassoResult<()>
-    requires beside { vec_len counts.old ≡ length rodeo.old.texts }
+    requires lengths { vec_len counts.old ≡ length rodeo.old.texts }
     requires fits { sum counts.old.items < 2 ^ 64 - 1 }
     ensures interns { OnOk result ((key : ℕ) × InternsIn {K = ℕ} spur_at rodeo.old text.now (Ok key) rodeo.new) }
     ensures step { OnOk result (counts.new.items ≡ counted counts.old.items (position_of rodeo.old.texts text.now)) }
-    ensures beside { vec_len counts.new ≡ length rodeo.new.texts }
+    ensures lengths { vec_len counts.new ≡ length rodeo.new.texts }
     ensures counts { OnOk result ((texts : List Text) → AreCounts texts rodeo.old.texts counts.old.items → AreCounts (texts ++ text.now ∷ []) rodeo.new.texts counts.new.items) }
     ensures total { OnOk result (sum counts.new.items ≡ sum counts.old.items + 1) }
     ensures kept { OnErr result (rodeo.new ≡ rodeo.old) }
@@ -49,12 +49,13 @@ pub fn count_text<S: BuildHasher, A: Allocator + Clone>(
     Ok(())
 }
 
-/// Interns and counts each of the texts in order, as `count_text` does.
+/// Interns and counts the texts in order, each as `count_text` does.
 ///
-/// The counts must be one for each text of the interner, and their sum and the number of texts together below 2^64.
+/// There must be one count for each text of the interner. Their sum plus the number of texts must be below
+/// 2^64.
 ///
 /// # Errors
-/// The first text that is refused ends it. The texts before it are interned and counted, and no text after it is taken.
+/// The first text that is refused. The texts before it are interned and counted, and those after it are not.
 ///
 /// ```rust
 /// let mut rodeo: SpurRodeo = Rodeo::default(rt.alloc())?;
@@ -67,7 +68,7 @@ pub fn count_texts<S: BuildHasher, A: Allocator + Clone>(
     texts: &[&str],
     counts: &mut Vec<u64>,
 ) -> Result<(), CountError>
-    requires beside { vec_len counts.old ≡ length rodeo.old.texts }
+    requires lengths { vec_len counts.old ≡ length rodeo.old.texts }
     requires fits { sum counts.old.items + length texts.now < 2 ^ 64 }
     ensures list { extend spur_at rodeo.old (counted_of result (map (λ t. t.now) texts.now)) (Ok tt) rodeo.new }
     ensures counts { AddsCounts (counted_of result (map (λ t. t.now) texts.now)) rodeo.old.texts counts.old.items rodeo.new.texts counts.new.items }
@@ -81,7 +82,7 @@ pub fn count_texts<S: BuildHasher, A: Allocator + Clone>(
     Ok(())
 }
 
-// Adds one to the count at the position, or appends the count 1 at the first position that has none.
+// Adds one to the count at the position. At the position after the last count it appends the count 1.
 fn add_one(counts: &mut Vec<u64>, position: usize)
     requires fits { sum counts.old.items < 2 ^ 64 - 1 }
     requires room { vec_len counts.old < vec_capacity counts.old }

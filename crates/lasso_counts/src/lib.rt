@@ -1,4 +1,4 @@
-//! How often each text came, beside the texts of an interner: the count of the key at position n is the n-th of a list.
+//! Counts texts next to an interner: a list has the count of each text, at the position of its key.
 //!
 //! ```rust
 //! let mut rodeo: SpurRodeo = Rodeo::default(rt.alloc())?;
@@ -11,13 +11,13 @@
 #![tactic(auto)]
 
 mod counting;
-mod fault;
+mod error;
 mod parts;
 mod ranking;
 #[cfg(test)]
 mod tests;
 
 pub use counting::{count_text, count_texts};
-pub use fault::CountError;
+pub use error::CountError;
 pub use parts::count_in_parts;
 pub use ranking::{Ranked, by_frequency};

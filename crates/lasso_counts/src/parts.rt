@@ -1,4 +1,4 @@
-//! Texts that are counted in parts, each by a thread with an interner of its own.
+//! Counts texts in parts. A thread counts each part with its own interner.
 ghost use Rattle.std.specs.Prelude.{◌≡◌, ℕ, List, [], ◌+◌, ◌-◌, ◌^◌, ◌<◌, ◌≤◌, ◌++◌, Ok, IfErr, IfSome, IsSome, IsSomeAnd, All, length, map, None, replicate, slice_get, sum, take, vec_len, vec_capacity};
 ghost use Rattle.lasso_parts.specs.Texts.{IsDistinct, Text, key_of, position_of};
 ghost use Rattle.lasso_single.specs.Filling.{extend};
@@ -10,24 +10,25 @@ ghost use Rattle.lasso_counts.specs.Counts.{AreCounts};
 ghost use Rattle.lasso_counts.specs.Adding.{AddsAmounts, AddsCounts, counted_of};
 
 use crate::counting::count_texts;
-use crate::fault::CountError;
+use crate::error::CountError;
 use lasso::{Key, Rodeo, Spur, SpurRodeoReader};
 use lasso_columns::merge;
 use std::alloc::{Allocator, Global};
 use std::hash::BuildHasher;
 use std::thread::{Threads, map_chunks};
 
-/// Does what `count_texts` does, with up to `workers` threads: the list and the counts are the same, whatever the number of threads.
-/// Each thread counts a part of the texts with an interner of its own. Then the caller interns the distinct texts of each part, in
-/// the order of the parts, and adds its counts.
+/// Does what `count_texts` does, with up to `workers` threads. The list and the counts are the same for each
+/// number of threads. Each thread counts a part of the texts with its own interner. Then the caller interns
+/// the distinct texts of each part, in the order of the parts, and adds their counts.
 ///
-/// It pays where most texts repeat within their part. A part that runs out of memory, or for which no thread can be started, is
-/// counted by the caller. With one worker, or none, it is `count_texts`.
+/// It pays if most texts repeat within their part. The caller counts a part for which there is no memory or
+/// no thread. With at most one worker it is `count_texts`.
 ///
-/// The counts must be one for each text of the interner, and their sum and the number of texts together below 2^64.
+/// There must be one count for each text of the interner. Their sum plus the number of texts must be below
+/// 2^64.
 ///
 /// # Errors
-/// The first text that is refused ends it, as in `count_texts`: the texts before it are interned and counted.
+/// The first text that is refused, as for `count_texts`: the texts before it are interned and counted.
 ///
 /// ```rust
 /// let mut rodeo: SpurRodeo = Rodeo::default(rt.alloc())?;
@@ -42,7 +43,7 @@ pub fn count_in_parts<R: AllocGlobal + Threads + Sync, S: BuildHasher, A: Alloca
     counts: &mut Vec<u64>,
     workers: usize,
 ) -> Result<(), CountError>
-    requires beside { vec_len counts.old ≡ length rodeo.old.texts }
+    requires lengths { vec_len counts.old ≡ length rodeo.old.texts }
     requires fits { sum counts.old.items + length texts.now < 2 ^ 64 }
     ensures list { extend spur_at rodeo.old (counted_of result (map (λ t. t.now) texts.now)) (Ok tt) rodeo.new }
     ensures counts { AddsCounts (counted_of result (map (λ t. t.now) texts.now)) rodeo.old.texts counts.old.items rodeo.new.texts counts.new.items }
@@ -62,22 +63,22 @@ pub fn count_in_parts<R: AllocGlobal + Threads + Sync, S: BuildHasher, A: Alloca
     for part in 0..parts.len() {
         let count = size.min(texts.len() - start);
         let here = &texts[start..start + count];
-        if let Err(fault) = put_part(rt.alloc(), rodeo, here, &parts[part], counts) {
-            return Err(fault.after(start));
+        if let Err(error) = put_part(rt.alloc(), rodeo, here, &parts[part], counts) {
+            return Err(error.after(start));
         }
         start += count;
     }
     Ok(())
 }
 
-// The distinct texts of a part, and how often each came.
+// The distinct texts of a part, and their counts.
 #[derive(Drop)]
 struct Part {
     list: SpurRodeoReader,
     counts: Vec<u64>,
 }
 
-// Counts the texts with an interner of their own. `None` where memory runs out.
+// Counts the texts with a new interner. `None` if it runs out of memory.
 fn count_part(alloc: Global, texts: &[&str]) -> Option<Part>
     ensures { IfSome result (λ counted. AreCounts (map (λ t. t.now) texts.now) counted.list counted.counts.items) }
 {
@@ -94,7 +95,8 @@ fn count_part(alloc: Global, texts: &[&str]) -> Option<Part>
     })
 }
 
-// Does what `count_texts` does with the texts, which are those of the part where there is one.
+// Does what `count_texts` does, and uses the counts of the part if there is one. `texts` are the texts of the
+// part.
 fn put_part<S: BuildHasher, A: Allocator + Clone>(
     alloc: Global,
     rodeo: &mut Rodeo<Spur, S, A>,
@@ -102,7 +104,7 @@ fn put_part<S: BuildHasher, A: Allocator + Clone>(
     part: &Option<Part>,
     counts: &mut Vec<u64>,
 ) -> Result<(), CountError>
-    requires beside { vec_len counts.old ≡ length rodeo.old.texts }
+    requires lengths { vec_len counts.old ≡ length rodeo.old.texts }
     requires fits { sum counts.old.items + length texts.now < 2 ^ 64 }
     requires counted { IfSome part.now (λ counted. AreCounts (map (λ t. t.now) texts.now) counted.list counted.counts.items) }
     ensures list { extend spur_at rodeo.old (counted_of result (map (λ t. t.now) texts.now)) (Ok tt) rodeo.new }
@@ -112,7 +114,7 @@ fn put_part<S: BuildHasher, A: Allocator + Clone>(
     let Some(part) = part else {
         return count_texts(rodeo, texts, counts);
     };
-    // There is room for a count of each text of the part before one is interned.
+    // Reserves room for the counts before a text of the part is interned.
     let Ok(()) = counts.reserve(part.list.len()) else {
         return count_texts(rodeo, texts, counts);
     };
@@ -137,7 +139,7 @@ fn pad(counts: &mut Vec<u64>, len: usize)
     }
 }
 
-// Adds each amount to the count at its place: the places of the texts of one list in another.
+// Adds each amount to the count at its place.
 fn add_counts(counts: &mut Vec<u64>, places: &[u32], amounts: &[u64])
     requires inside { All (λ place. place < vec_len counts.old) places.now }
     requires each { length places.now ≡ length amounts.now }
@@ -149,13 +151,13 @@ fn add_counts(counts: &mut Vec<u64>, places: &[u32], amounts: &[u64])
     }
 }
 
-// Does what `count_texts` does, where some texts that come first are interned and not counted.
+// Does what `count_texts` does, after some of the first texts were interned and not counted.
 fn count_rest<S: BuildHasher, A: Allocator + Clone>(
     rodeo: &mut Rodeo<Spur, S, A>,
     texts: &[&str],
     counts: &mut Vec<u64>,
 ) -> Result<(), CountError>
-    requires beside { vec_len counts.old ≡ length rodeo.old.texts }
+    requires lengths { vec_len counts.old ≡ length rodeo.old.texts }
     requires fits { sum counts.old.items + length texts.now < 2 ^ 64 }
     ensures list { (before : InternerView) (n : ℕ) → extend spur_at before (take n (new_texts [] (map (λ t. t.now) texts.now))) (Ok tt) rodeo.old → extend spur_at before (counted_of result (map (λ t. t.now) texts.now)) (Ok tt) rodeo.new }
     ensures counts { AddsCounts (counted_of result (map (λ t. t.now) texts.now)) rodeo.old.texts counts.old.items rodeo.new.texts counts.new.items }
@@ -164,17 +166,17 @@ fn count_rest<S: BuildHasher, A: Allocator + Clone>(
     let found = count_found(rodeo, texts, counts);
     match count_texts(rodeo, &texts[found..], counts) {
         Ok(()) => Ok(()),
-        Err(fault) => Err(fault.after(found)),
+        Err(error) => Err(error.after(found)),
     }
 }
 
-// Counts the texts up to the first that is not interned, and returns how many these are.
+// Counts the texts before the first that is not interned. Returns the number of these texts.
 fn count_found<S: BuildHasher, A: Allocator>(
     rodeo: &Rodeo<Spur, S, A>,
     texts: &[&str],
     counts: &mut Vec<u64>,
 ) -> usize
-    requires beside { vec_len counts.old ≡ length rodeo.now.texts }
+    requires lengths { vec_len counts.old ≡ length rodeo.now.texts }
     requires fits { sum counts.old.items + length texts.now < 2 ^ 64 }
     ensures within { result ≤ length texts.now }
     ensures found { All (λ text. IsSome (key_of spur_at rodeo.now.texts text)) (take result (map (λ t. t.now) texts.now)) }

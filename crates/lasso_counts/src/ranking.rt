@@ -1,4 +1,4 @@
-//! Texts in the order of their counts.
+//! Ranks texts by their counts.
 ghost use Rattle.std.specs.Prelude.{◌≡◌, List, IfOk, IsPermutation, IsSorted, length, map, sum, sum_by, zip};
 ghost use Rattle.lasso_parts.specs.Texts.{Text};
 ghost use Rattle.lasso_counts.specs.Counts.{AreCounts, counted_texts, ranked_cmp, pair_of};
@@ -9,15 +9,16 @@ use std::alloc::{AllocError, Allocator, Global};
 use std::cmp::Reverse;
 use std::hash::BuildHasher;
 
-/// A count and its text. Such pairs are ordered as `by_frequency` orders them.
+/// A count and its text. Their order is that of `by_frequency`.
 pub type Ranked<'r> = (Reverse<u64>, &'r str);
 
-/// The texts of the interner with their counts, the most frequent first; texts with equal counts are in the order of their bytes.
+/// The texts of the interner with their counts, the most frequent first. Texts with equal counts are in the
+/// order of their bytes.
 ///
 /// There must be one count for each text.
 ///
 /// # Errors
-/// There is no memory for the list.
+/// Out of memory.
 ///
 /// ```rust
 /// let mut rodeo: SpurRodeo = Rodeo::default(rt.alloc())?;

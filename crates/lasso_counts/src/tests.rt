@@ -38,8 +38,8 @@ fn equal_counts_go_by_bytes(rt: HostRuntime) -> Result<(), Fail> {
     Ok(())
 }
 
-// What some of 500 texts leave, however many workers count them: text n is "text k" for k = n modulo 60, but that the last hundred
-// are those of k = n modulo 7.
+// 500 texts, with each number of workers. Text n is "text k" for k = n modulo 60; for the last hundred, k = n
+// modulo 7.
 #[test]
 fn parts_count_as_one(rt: HostRuntime) -> Result<(), Fail> {
     let mut names = Vec::new(rt.alloc());
@@ -74,8 +74,8 @@ fn parts_count_as_one(rt: HostRuntime) -> Result<(), Fail> {
     Ok(())
 }
 
-// The limit lets in one bucket, which the first texts fill. The text past it is refused, and those before it are counted: also where
-// the text is of a later part, or comes again after it.
+// The limit allows one bucket, which the first texts fill. The next text is refused, and those before it are
+// counted, also if it is in a later part or occurs again later.
 #[test]
 fn the_refused_text_is_told(rt: HostRuntime) -> Result<(), Fail> {
     let long = "a long text that takes some bytes";
@@ -100,11 +100,11 @@ fn the_refused_text_is_told(rt: HostRuntime) -> Result<(), Fail> {
             count_text(&mut rodeo, filler, &mut counts)?;
             assert!(rt; texts.len() == 8);
             let ended = count_in_parts(&rt, &mut rodeo, texts, &mut counts, workers);
-            let Err(fault) = ended else {
+            let Err(refused) = ended else {
                 return Err(Fail::from("no text is refused"));
             };
-            assert!(rt; fault.position == position);
-            assert!(rt; fault.error.kind() == LassoErrorKind::MemoryLimitReached);
+            assert!(rt; refused.position == position);
+            assert!(rt; refused.error.kind() == LassoErrorKind::MemoryLimitReached);
             let len = if count > 0 { 2 } else { 1 };
             assert!(rt; rodeo.len() == len);
             assert!(rt; counts.len() == len);
@@ -117,12 +117,12 @@ fn the_refused_text_is_told(rt: HostRuntime) -> Result<(), Fail> {
 
 #[test]
 fn a_refused_text_is_printed(rt: HostRuntime) -> Result<(), Fail> {
-    let fault = CountError {
+    let error = CountError {
         position: 7,
         error: LassoError::new(LassoErrorKind::MemoryLimitReached),
     };
     let words =
         "Text at position 7: Lasso encountered an error: The configured memory limit was reached";
-    assert!(rt; fault.to_string(rt.alloc())?.as_str() == words);
+    assert!(rt; error.to_string(rt.alloc())?.as_str() == words);
     Ok(())
 }

@@ -1,7 +1,7 @@
 -- Words and their keys.
 --
--- A text keeps its position in a list that grows, so keys stand for their words in every longer list, and those of two shares stand for
--- the words of both there.
+-- A text keeps its position in a list that grows, so keys stand for their words in every longer list, and
+-- those of two shares stand for the words of both there.
 use denote.Ref.{Bor}
 use Rattle.std.proofs.Common.{zero, suc, take, drop, get_or, ℕ, ◌≡◌, ◌+◌, ◌<◌, List, [], ◌∷◌, ◌++◌, length, map, Some, Result, Ok, Err, IfOk, sym, ap, ◌∙◌, arith}
 use Rattle.std.specs.Prelude.{Vec, slice_get}

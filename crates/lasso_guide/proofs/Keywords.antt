@@ -1,7 +1,7 @@
 -- Keywords and their keys.
 --
--- The keywords are the first texts of a lexer's list, and no text comes twice in it. So a key is a keyword's exactly where its
--- position is below the number of keywords.
+-- The keywords are the first texts of a lexer's list, and no text comes twice in it. So a key is a keyword's
+-- exactly where its position is below the number of keywords.
 use Rattle.std.proofs.Common.{ℕ, ◌≡◌, ◌<◌, List, [], length, get_or, Some, ap, subst, ◌∙◌}
 use Rattle.std.specs.Prelude.{slice_get}
 use Rattle.std.proofs.lemmas.Option.{slice_get-get_or}

@@ -1,7 +1,8 @@
 -- Variables and their names.
 --
--- The texts of an interner are distinct, so a variable has a name exactly where its key has the number of the name's position. A name that
--- is not in the list is the name of no variable. The names of variables stay while the list grows.
+-- The texts of an interner are distinct, so a variable has a name exactly where its key has the number of the
+-- name's position. A name that is not in the list is the name of no variable. The names of variables stay
+-- while the list grows.
 use Rattle.std.proofs.Common.{ℕ, ◌≡◌, ◌<◌, ◌+◌, ◌==◌, List, [], ◌∷◌, ◌++◌, length, All, get_or, false, is_some, Option, Some, None, refl, sym, ap, subst, ◌∙◌, arith}
 use Rattle.std.specs.Prelude.{slice_get, option_map}
 use Rattle.std.specs.List.{AllByRecursion}

@@ -1,7 +1,8 @@
 -- Pieces of a text.
 --
--- Of a piece and the byte after it, one is ASCII: a byte past ASCII is a letter, and no piece that goes on with a letter stops before one.
--- So no character is split. White space before a cut is part of the space before its first token.
+-- Of a piece and the byte after it, one is ASCII: a byte past ASCII is a letter, and no piece that goes on
+-- with a letter stops before one. So no character is split. White space before a cut is part of the space
+-- before its first token.
 use Rattle.std.proofs.Common.{ℕ, ◌≡◌, ◌+◌, ◌-◌, ◌<◌, ◌≤◌, ◌++◌, ◌∷◌, [], List, length, get_or, take, drop, true, false, IsUtf8, refl, sym, ap, subst, ◌∙◌, ⊎_elim, append_assoc, arith, add-zero, length-drop, length-take-le, take-append-drop, get_or-drop, get_or-take}
 use Rattle.std.specs.Prelude.{All}
 use Rattle.std.specs.Str.{IsCharBoundary}

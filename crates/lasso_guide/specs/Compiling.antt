@@ -8,8 +8,9 @@ use Rattle.lasso_guide.specs.declared.compiler.Token.TheVariants.{Number, Name, 
 use Rattle.lasso_guide.specs.declared.compiler.Instruction.{Instruction}
 use Rattle.lasso_guide.specs.declared.compiler.Instruction.TheVariants.{Push, Load, Add, Store}
 
--- This is the code of the tokens where these names are in scope, at their slots, and each open scope began at these counts. A name loads the
--- slot of the variable of that name that was declared last; a closed scope leaves the variables that there were when it was opened.
+-- This is the code of the tokens where these names are in scope, at their slots, and each open scope began at
+-- these counts. A name loads the slot of the variable of that name that was declared last; a closed scope
+-- leaves the variables that there were when it was opened.
 abbrev pub IsCodeOf : List (Option Text) → List ℕ → List Token → List Instruction → Type 0
 IsCodeOf names opened [] code = code ≡ []
 IsCodeOf names opened (Number n ∷ tokens) code =

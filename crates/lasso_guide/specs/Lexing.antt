@@ -33,8 +33,8 @@ kind_of byte =
     else (if is_ascii_alphabetic byte || (byte == 95 || nat_le 0x80 byte) then Letters
     else Mark))
 
--- whether a piece goes on with a byte of this kind: a word with letters and digits, a number with digits, white space with its
--- like, and a symbol with none
+-- whether a piece goes on with a byte of this kind: a word with letters and digits, a number with digits,
+-- white space with white space, and a symbol with none
 abbrev pub goes_on : Kind → Kind → Bool
 goes_on Letters Letters = true
 goes_on Letters Digits = true
@@ -45,7 +45,7 @@ goes_on _ _ = false
 abbrev pub continues : Kind → ℕ → Bool
 continues kind byte = goes_on kind (kind_of byte)
 
--- the text is a piece, as long as can be, and what follows it
+-- the text is the longest piece at its start, and what follows it
 pub record IsPiece (text piece after : Text) : Type 0 where
   pub whole : piece ++ after ≡ text
   pub begins : 0 < length piece

@@ -1,5 +1,5 @@
-//! A compiler of small programs over nested scopes. Expressions are in postfix order, so the value of `x + 1` is
-//! `x`, `1`, `Plus`.
+//! A compiler of small programs over nested scopes. Expressions are in postfix order, so the value of `x + 1`
+//! is `x`, `1`, `Plus`.
 ghost use Rattle.std.specs.Prelude.{◌≡◌, [], IfOk};
 ghost use Rattle.lasso_guide.specs.Compiling.{IsCodeOf, Translates};
 ghost use Rattle.lasso_guide.specs.Scopes.{names_of};
@@ -26,7 +26,7 @@ pub enum Token<'t> {
     Close,
 }
 
-/// What a machine with a stack, and a slot for each variable, is told.
+/// The instructions for a machine with a stack and a slot for each variable.
 #[derive(Clone, Copy, PartialEq, Debug)]
 pub enum Instruction {
     Push(u64),
@@ -71,8 +71,8 @@ impl<T: Drop> From<AllocFailed<T>> for CompileError {
     }
 }
 
-/// The instructions of a program: each `Load` has the slot of the variable that its name means there, and each `Store`
-/// the slot of the variable that is declared.
+/// The instructions of a program: each `Load` has the slot of the variable that its name means there, and
+/// each `Store` the slot of the variable that is declared.
 pub fn compile(alloc: Global, tokens: &[Token<'_>]) -> Result<Vec<Instruction>, CompileError>
     ensures { IfOk result (λ code. IsCodeOf [] [] tokens.now code.items) }
 {

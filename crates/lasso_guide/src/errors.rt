@@ -1,4 +1,4 @@
-//! An error type of one's own, over calls that intern and calls that allocate.
+//! An error type for calls that intern and calls that allocate.
 ghost use Rattle.std.specs.Prelude.{◌≡◌, ◌∷◌, ◌++◌, [], Some, IfOk, OnErr, OnOk, slice_get};
 ghost use Rattle.lasso_guide.specs.declared.errors.DeclareError.TheVariants.{OutOfMemory, Refused};
 
@@ -13,7 +13,7 @@ mod tests;
 pub enum DeclareError {
     /// The interner refused the name.
     Refused(LassoError),
-    /// There is no memory for its value.
+    /// Out of memory for its value.
     OutOfMemory,
 }
 

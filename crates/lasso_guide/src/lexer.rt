@@ -1,5 +1,5 @@
-//! A lexer with keywords. It interns the keywords first, so a key below `KEYWORDS.len()` is a keyword's, and any other
-//! is a name's.
+//! A lexer with keywords. It interns the keywords first, so a key below `KEYWORDS.len()` is a keyword's, and
+//! any other is a name's.
 ghost use Rattle.std.specs.Prelude.{◌≡◌, ◌↔◌, ◌<◌, ◌≤◌, ◌++◌, ℕ, false, true, IfOk, Some, IsTrue, MatchOption, length, option_map, slice_get, slice_index};
 ghost use Rattle.lasso.specs.Spurs.{spur_number};
 ghost use Rattle.lasso_guide.specs.declared.lexer.Kind.TheVariants.{Space};
@@ -11,17 +11,17 @@ use std::alloc::Global;
 #[cfg(test)]
 mod tests;
 
-/// The words that are no names.
+/// The words that are not names.
 pub const KEYWORDS: [&str; 4] = ["else", "if", "let", "while"];
 
-/// What a source text is cut into.
+/// A token of a source text.
 #[derive(Clone, Copy, PartialEq, Debug)]
 pub enum Token<'s> {
-    /// A keyword or a name, by its key: `is_keyword` tells which.
+    /// The key of a keyword or a name: `is_keyword` says which.
     Name(Spur),
     /// Its digits.
     Number(&'s str),
-    /// Any other character that is no white space.
+    /// Any other character that is not white space.
     Symbol(&'s str),
 }
 

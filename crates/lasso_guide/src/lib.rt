@@ -1,5 +1,5 @@
-//! Callers of an interner, each on a page, with contracts that a crate of one's own may take as a model. docs/CALLING.md
-//! goes through them.
+//! Callers of an interner, with contracts that your own crate can take as a model. docs/CALLING.md explains
+//! them.
 #![tactic(auto)]
 
 pub mod closures;

@@ -1,5 +1,5 @@
-//! Two threads that intern a name each, by a pass of its own. Then the caller's pass learns what theirs have seen. There both
-//! names have their keys, which are equal exactly where the names are.
+//! Two threads intern a name each, by passes of their own. Then the caller's pass learns what theirs have
+//! seen: both names have their keys there, and the keys are equal exactly if the names are.
 ghost use Rattle.std.specs.Prelude.{◌≡◌, ◌↔◌, ℕ, IfErr, IfOk, Some, slice_get};
 ghost use Rattle.lasso.specs.Texts.{Text};
 ghost use Rattle.lasso.specs.Views.{InternerId, IsSamePass, SnapshotView, PassView, list_of, seen};
@@ -14,8 +14,8 @@ use std::thread::{Threads, join};
 #[cfg(test)]
 mod tests;
 
-/// The keys of both names, which two threads intern if a thread can be started. Fails as `try_get_or_intern_as` does: the
-/// pass is unchanged then, and one of the names may be interned.
+/// The keys of both names, which two threads intern if a thread can be started. Fails as
+/// `try_get_or_intern_as` does: the pass is unchanged then, and one of the names may be interned.
 pub fn intern_pair<R: Threads + Wait + Sync, K: Key + Send + Sync + Drop>(
     rt: &R,
     rodeo: &ThreadedRodeo<K, FixedState>,
@@ -53,7 +53,7 @@ struct Find<K: Key + Drop> {
     known: Snapshot<K>,
 }
 
-// Interns the name by a pass of its own.
+// Interns the name by a new pass.
 fn intern_alone<R: Wait, K: Key + Drop>(
     rt: &R,
     rodeo: &ThreadedRodeo<K, FixedState>,

@@ -1,5 +1,5 @@
-//! Saving an interner as JSON text, and loading it again: it has the same list, so each key stands for the
-//! text that it stood for.
+//! Saves an interner as JSON text, and loads it again. It has the same list, so each key stands for the same
+//! text as before.
 ghost use Rattle.std.specs.Prelude.{◌≡◌, Some, Ok, IfOk, true, string_bytes};
 ghost use Rattle.serde_json.specs.Data.{Data};
 ghost use Rattle.serde_json.specs.Read.{read as read_text};
@@ -18,9 +18,9 @@ mod tests;
 /// Why a saved text was not loaded.
 #[derive(Debug, Drop)]
 pub enum LoadError {
-    /// It is no JSON text, or there is no memory for its value.
+    /// It is not JSON text, or there is no memory for its value.
     Text(serde_json::Error),
-    /// Its value is no list of texts for these keys, or there is no memory for them.
+    /// Its value is not a list of texts for these keys, or there is no memory for them.
     List(JsonError),
 }
 

@@ -1,5 +1,6 @@
-//! A symbol table with nested scopes, for a compiler of small expressions. A variable's slot is how many variables were
-//! in scope where it was declared; a name means the variable of that name that was declared last.
+//! A symbol table with nested scopes, for a compiler of small expressions. A variable's slot is how many
+//! variables were in scope where it was declared; a name means the variable of that name that was declared
+//! last.
 ghost use Rattle.std.specs.Prelude.{◌≡◌, ℕ, ◌<◌, ◌∷◌, ◌++◌, [], All, IsFalse, IsTrue, OnErr, IfOk, Some, length, take};
 ghost use Rattle.lasso_guide.specs.Scopes.{IsLast, IsNamed, names_of};
 
@@ -42,7 +43,8 @@ impl<K: Key + Drop> Scopes<K> {
         Ok(())
     }
 
-    /// Closes the innermost scope: its variables are in scope no more. `false` if only the outermost is open, which stays.
+    /// Closes the innermost scope, and takes its variables out of scope. Returns `false` if only the
+    /// outermost scope is open, which stays open.
     pub fn close(&mut self) -> bool
         ensures outermost { IsFalse result → (self.old.opened.items ≡ []) × (self.new.variables.items ≡ self.old.variables.items) }
         ensures closed { IsTrue result → (count : ℕ) × (self.old.opened.items ≡ self.new.opened.items ++ count ∷ []) × (names_of K.number self.new.names.texts self.new.variables.items ≡ take count (names_of K.number self.old.names.texts self.old.variables.items)) }
@@ -56,8 +58,8 @@ impl<K: Key + Drop> Scopes<K> {
         }
     }
 
-    /// Declares a variable in the innermost scope, and returns its slot. After an error the variables in scope are the
-    /// same.
+    /// Declares a variable in the innermost scope, and returns its slot. After an error the variables in
+    /// scope are the same.
     pub fn declare(&mut self, name: &str) -> LassoResult<usize>
         ensures slot { IfOk result (λ slot. slot ≡ length self.old.variables.items) }
         ensures declared { IfOk result (λ _. names_of K.number self.new.names.texts self.new.variables.items ≡ names_of K.number self.old.names.texts self.old.variables.items ++ Some name.now ∷ []) }

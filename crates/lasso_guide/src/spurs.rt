@@ -1,5 +1,5 @@
-//! A symbol table whose keys are `Spur`s. In a contract a `Spur` is the number that it keeps, and `spur_number` is the
-//! position that it stands for.
+//! A symbol table whose keys are `Spur`s. In a contract a `Spur` is the number that it keeps, and
+//! `spur_number` is the position that it stands for.
 ghost use Rattle.std.specs.Prelude.{◌≡◌, ℕ, [], Some, IfErr, IfOk, option_map, slice_get};
 ghost use Rattle.lasso.specs.Spurs.{spur_number};
 ghost use Rattle.lasso.specs.Texts.{Text};
@@ -26,8 +26,8 @@ impl SpurTable {
         })
     }
 
-    /// The symbol of the name, which it stands for from now on. Each symbol from before keeps its name. A refusal changes
-    /// no name.
+    /// The symbol of the name, which it stands for from now on. Each symbol from before keeps its name. A
+    /// refusal changes no name.
     pub fn declare(&mut self, name: &str) -> LassoResult<Spur>
         ensures named { IfOk result (λ symbol. slice_get self.new.names.texts (spur_number symbol) ≡ Some name.now) }
         ensures kept { (n : ℕ) (text : Text) → slice_get self.old.names.texts n ≡ Some text → slice_get self.new.names.texts n ≡ Some text }

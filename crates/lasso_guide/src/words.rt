@@ -1,5 +1,5 @@
-//! The word count of a text by four threads: each interns its share of the words with a pass of its own. Where two
-//! threads meet, a pass learns what both have seen, and so does the caller's in the end.
+//! Counts the words of a text by four threads. Each interns its share of the words with its own pass. When
+//! two threads have ended, a pass learns what both have seen, and so does the caller's pass at the end.
 ghost use Rattle.std.specs.Prelude.{◌≡◌, ℕ, ◌<◌, ◌==◌, ◌++◌, List, All, IfOk, get_or, length, map, sum};
 ghost use Rattle.std.specs.List.{count_by};
 ghost use Rattle.lasso.specs.Texts.{Text};
@@ -19,13 +19,13 @@ mod tests;
 pub struct WordCount<K: Key + Drop> {
     /// The key of each word, in the order of the words.
     pub keys: Vec<K>,
-    /// How often each key comes among them, at the key's position.
+    /// The count of each key among them, at the key's position.
     pub counts: Vec<usize>,
 }
 
-/// Interns the words by up to four threads, and counts each. Where a thread can't be started the caller does its
-/// work. A refusal is returned: no key left, over the memory limit, or out of memory; the words that were interned
-/// stay. It adds no event to the pass itself, which has afterwards seen what the threads did.
+/// Interns the words by up to four threads, and counts each. If a thread can't be started, the caller does
+/// its work. Fails if a word is refused: no key left, over the memory limit, or out of memory; the words that
+/// were interned stay. It adds no event to the pass itself, which has afterwards seen what the threads did.
 pub fn count_words<R: AllocGlobal + Threads + Wait + Sync, K: Key + Send + Sync + Drop>(
     rt: &R,
     rodeo: &ThreadedRodeo<K, FixedState>,
@@ -122,7 +122,7 @@ fn joined<K: Key + Drop>(
     Ok(keys)
 }
 
-// Interns a share of the words by a pass of its own.
+// Interns a share of the words by a new pass.
 fn intern_share<R: AllocGlobal + Wait, K: Key + Drop>(
     rt: &R,
     rodeo: &ThreadedRodeo<K, FixedState>,
@@ -157,7 +157,7 @@ fn intern_all<R: AllocGlobal + Wait, K: Key + Drop>(
     Ok(keys)
 }
 
-// How often each key comes, at its position. Each position is below `texts`.
+// The count of each key, at its position. Each position is below `texts`.
 fn tally<K: Key + Drop>(alloc: Global, keys: &[K], texts: usize) -> Result<Vec<usize>, AllocError>
     requires { All (λ key. K.number key < texts) keys.now }
     ensures counts { IfOk result (λ counts. (n : ℕ) → get_or counts.items n 0 ≡ count_by (λ key. K.number key == n) keys.now) }

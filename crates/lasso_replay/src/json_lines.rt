@@ -1,12 +1,12 @@
-//! Lines with JSON values: what a value is to be read as.
+//! Lines with JSON values: an interner or a key to read from each.
 
-use crate::faults::Reason;
+use crate::errors::Reason;
 use crate::key_types::{KeyType, SpurType, parse_key_type, parse_spur_type};
 use crate::lines::parse_text;
 use serde_json::Value;
 use std::alloc::{AllocError, Global};
 
-/// A form of interner that is read from JSON.
+/// The forms of interners that are read from JSON.
 #[derive(Clone, Copy)]
 pub enum Form {
     Rodeo,
@@ -15,7 +15,7 @@ pub enum Form {
     Threaded,
 }
 
-/// A value to be read as an interner of one form and key type.
+/// A JSON value to read as an interner of this form and key type.
 #[derive(Drop)]
 pub struct InternerLine {
     pub form: Form,
@@ -23,14 +23,14 @@ pub struct InternerLine {
     pub value: Value,
 }
 
-/// A value to be read as a key.
+/// A JSON value to read as a key of this type.
 #[derive(Drop)]
 pub struct KeyLine {
     pub key_type: SpurType,
     pub value: Value,
 }
 
-/// What the words after `json` say, or why they are bad.
+/// Parses the words after `json`. The inner error says why they are bad.
 pub fn parse_interner_line(
     alloc: Global,
     words: &[&str],
@@ -54,7 +54,7 @@ pub fn parse_interner_line(
     }
 }
 
-/// What the words after `key` say, or why they are bad.
+/// Parses the words after `key`. The inner error says why they are bad.
 pub fn parse_key_line(
     alloc: Global,
     words: &[&str],
@@ -81,7 +81,7 @@ fn parse_form(word: &str) -> Option<Form> {
     }
 }
 
-// The value of a JSON text in hexadecimal digits, or why there is none.
+// Parses a JSON text that is written in hexadecimal digits. The inner error says why it is bad.
 fn parse_value(alloc: Global, word: &str) -> Result<Result<Value, Reason>, AllocError> {
     let Some(text) = parse_text(alloc, word)? else {
         return Ok(Err(Reason::NotHexadecimal));

@@ -1,4 +1,4 @@
-//! The words for key types, and replaying with keys of the type that a word stands for.
+//! Key types by their names, and replaying with keys of a type that is known at run time.
 
 use lasso::{Key, LargeSpur, MicroSpur, MiniSpur, Spur};
 use lasso_testing::keys::{BelowTwo, WithoutTwo};
@@ -18,10 +18,12 @@ pub enum KeyType {
     WithoutTwo,
 }
 
-/// What is replayed with keys of any type.
+/// What can be replayed with keys of any type.
 pub trait Replayed {
-    /// Makes the interner, carries out what is asked of it, and writes the replies. Where memory is wanting for the interner, that is the
-    /// error.
+    /// Makes the interner, carries out the commands, and writes the replies.
+    ///
+    /// # Errors
+    /// Out of memory for the interner, or the writer failed.
     fn replay_with<R: Wait, K: Key, W: Write>(
         &self,
         rt: &R,
@@ -50,7 +52,7 @@ impl KeyType {
     }
 }
 
-/// A key type that JSON holds.
+/// The key types that can be read from JSON.
 #[derive(Clone, Copy)]
 pub enum SpurType {
     Spur,
@@ -59,7 +61,7 @@ pub enum SpurType {
     LargeSpur,
 }
 
-/// The key type that a word stands for, or `None` where it stands for none.
+/// The key type of this name.
 pub fn parse_key_type(word: &str) -> Option<KeyType> {
     match word {
         "spur" => Some(KeyType::Spur),
@@ -72,7 +74,7 @@ pub fn parse_key_type(word: &str) -> Option<KeyType> {
     }
 }
 
-/// The key type, of those that JSON holds, that a word stands for, or `None` where it stands for none.
+/// The key type of this name, if keys of that type can be read from JSON.
 pub fn parse_spur_type(word: &str) -> Option<SpurType> {
     match word {
         "spur" => Some(SpurType::Spur),

@@ -3,7 +3,7 @@ ghost use Rattle.std.specs.Prelude.{◌<◌, IfSome};
 
 use std::alloc::{AllocError, Global};
 
-/// A call that every interner has, with its arguments.
+/// A call that each kind of interner has, with its arguments.
 #[derive(Drop)]
 pub enum Call {
     Intern(String),
@@ -18,7 +18,7 @@ pub enum Call {
     Extend(Vec<String>),
 }
 
-/// A command for an interner of one thread, with its arguments.
+/// A command for a `Rodeo`, with its arguments.
 #[derive(Drop)]
 pub enum ScriptCommand {
     Call(Call),
@@ -26,7 +26,7 @@ pub enum ScriptCommand {
     CloneFrom(Vec<String>),
 }
 
-/// The call that the words of a line spell, or `None` where they spell none.
+/// Parses the words of a line as a call. `None` if they are not a call.
 pub fn parse_call(alloc: Global, words: &[&str]) -> Result<Option<Call>, AllocError> {
     let call = match words {
         ["intern", text] => parse_text(alloc, text)?.map(Call::Intern),
@@ -44,7 +44,7 @@ pub fn parse_call(alloc: Global, words: &[&str]) -> Result<Option<Call>, AllocEr
     Ok(call)
 }
 
-/// The command that the words of a line spell, or `None` where they spell none.
+/// Parses the words of a line as a command. `None` if they are not a command.
 pub fn parse_command(alloc: Global, words: &[&str]) -> Result<Option<ScriptCommand>, AllocError> {
     let command = match words {
         ["clear"] => Some(ScriptCommand::Clear),
@@ -54,7 +54,7 @@ pub fn parse_command(alloc: Global, words: &[&str]) -> Result<Option<ScriptComma
     Ok(command)
 }
 
-/// A number of bytes, or `max` for the greatest.
+/// Parses a number of bytes; `max` is the greatest.
 pub fn parse_limit(word: &str) -> Option<usize> {
     if word == "max" {
         Some(usize::MAX)
@@ -63,7 +63,7 @@ pub fn parse_limit(word: &str) -> Option<usize> {
     }
 }
 
-/// A number in decimal digits.
+/// Parses a number in decimal digits.
 pub fn parse_number(word: &str) -> Option<usize> {
     if word.bytes().all(|byte| byte.is_ascii_digit()) {
         word.parse::<usize>().ok()
@@ -83,7 +83,7 @@ fn parse_texts(alloc: Global, words: &[&str]) -> Result<Option<Vec<String>>, All
     Ok(Some(texts))
 }
 
-/// A text in hexadecimal digits, two a byte; `-` is the empty text.
+/// Parses a text in hexadecimal digits, two for each byte; `-` is the empty text.
 pub fn parse_text(alloc: Global, word: &str) -> Result<Option<String>, AllocError> {
     let mut bytes = Vec::new(alloc);
     if word != "-" {

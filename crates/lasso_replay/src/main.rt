@@ -1,9 +1,11 @@
-//! Replays scripts of commands on interners, and reads interners and keys from JSON values: it has both from standard
-//! input, and writes one reply a line to standard output. The whole input is read and checked before the first reply: a
-//! bad line gives `line <k>: <reason>` on standard error, status 3 and no output.
+//! Replays scripts of commands on interners, and reads interners and keys from JSON values.
+//!
+//! Both come from standard input. Each reply is a line on standard output. The whole input is read and
+//! checked before the first reply: a bad line ends the program with `line <k>: <reason>` on standard error,
+//! status 3 and no output.
 #![tactic(auto)]
 
-mod faults;
+mod errors;
 mod json_lines;
 mod key_types;
 mod lines;
@@ -14,7 +16,7 @@ mod replay_shared;
 mod replies;
 mod scripts;
 
-use faults::Fault;
+use errors::InputError;
 use parts::parse_parts;
 use std::alloc::Global;
 use std::io;
@@ -29,7 +31,7 @@ fn main(rt: HostRuntime) -> io::Result<ExitCode> {
     let mut input = Vec::new(alloc);
     BufReader::new(alloc, rt.reader())?.read_to_end(&mut input)?;
     match parse_parts(alloc, input.as_slice())? {
-        Err(Fault { line, reason }) => {
+        Err(InputError { line, reason }) => {
             eprintln!(rt; "line {line}: {reason}")?;
             Ok(ExitCode::from(BAD_INPUT))
         }

@@ -1,6 +1,6 @@
-//! The parts of an input in their order: scripts, and lines with JSON values between them.
+//! The parts of an input, in order: scripts, and lines with JSON values.
 
-use crate::faults::{Fault, Reason};
+use crate::errors::{InputError, Reason};
 use crate::json_lines::{InternerLine, KeyLine, parse_interner_line, parse_key_line};
 use crate::scripts::{Script, parse_header};
 use std::alloc::{AllocError, Global};
@@ -17,7 +17,7 @@ pub enum Part {
 }
 
 impl Part {
-    /// Carries out what the part says, and writes its replies.
+    /// Replays the part, and writes its replies.
     pub fn replay<R: Wait, W: Write>(&self, rt: &R, alloc: Global, out: &mut W) -> io::Result<()> {
         match self {
             Part::Script(script) => script.replay(rt, alloc, out),
@@ -27,8 +27,11 @@ impl Part {
     }
 }
 
-/// The parts of an input, or its first bad line.
-pub fn parse_parts(alloc: Global, input: &[u8]) -> Result<Result<Vec<Part>, Fault>, AllocError> {
+/// Parses an input into its parts. The inner error is the first bad line.
+pub fn parse_parts(
+    alloc: Global,
+    input: &[u8],
+) -> Result<Result<Vec<Part>, InputError>, AllocError> {
     let text = match str::from_utf8(input) {
         Ok(text) => text,
         Err(error) => {
@@ -38,7 +41,7 @@ pub fn parse_parts(alloc: Global, input: &[u8]) -> Result<Result<Vec<Part>, Faul
                 .filter(|byte| **byte == b'\n')
                 .count()
                 .saturating_add(1);
-            return Ok(Err(Fault {
+            return Ok(Err(InputError {
                 line,
                 reason: Reason::NotUtf8,
             }));
@@ -49,7 +52,7 @@ pub fn parse_parts(alloc: Global, input: &[u8]) -> Result<Result<Vec<Part>, Faul
     for line in text.lines() {
         number = number.saturating_add(1);
         if let Some(reason) = add_line(alloc, &mut parts, line)? {
-            return Ok(Err(Fault {
+            return Ok(Err(InputError {
                 line: number,
                 reason,
             }));
@@ -58,7 +61,8 @@ pub fn parse_parts(alloc: Global, input: &[u8]) -> Result<Result<Vec<Part>, Faul
     Ok(Ok(parts))
 }
 
-// Adds a part, or a command to the script that is the last one, or answers why the line is bad.
+// Adds the line as a part, or as a command of the last part if that is a script. Returns why the line is bad,
+// if it is.
 fn add_line(
     alloc: Global,
     parts: &mut Vec<Part>,

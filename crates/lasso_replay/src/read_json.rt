@@ -1,8 +1,8 @@
-//! Reading interners and keys from JSON values, with a reply each.
+//! Reads interners and keys from JSON values, and writes a reply for each.
 
 use crate::json_lines::{Form, InternerLine, KeyLine};
 use crate::key_types::{Replayed, SpurType};
-use crate::replies::{write_fault, write_key, write_list, write_refusal};
+use crate::replies::{write_json_error, write_key, write_list, write_refusal};
 use lasso::{
     FixedState, JsonKey, Key, LargeSpur, MicroSpur, MiniSpur, Rodeo, RodeoReader, RodeoResolver,
     Spur, ThreadedRodeo,
@@ -14,7 +14,7 @@ use std::io::Write;
 use std::sync::Wait;
 
 impl InternerLine {
-    /// Reads the interner, and writes its texts in the order of their keys, or the fault.
+    /// Reads the interner, and writes its texts in the order of their keys, or the error.
     pub fn replay<R: Wait, W: Write>(&self, rt: &R, alloc: Global, out: &mut W) -> io::Result<()> {
         self.key_type.replay(self, rt, alloc, out)
     }
@@ -37,7 +37,7 @@ impl Replayed for InternerLine {
 }
 
 impl KeyLine {
-    /// Reads the key, and writes its number, or the fault.
+    /// Reads the key, and writes its number, or the error.
     pub fn replay<W: Write>(&self, out: &mut W) -> io::Result<()> {
         match self.key_type {
             SpurType::Spur => read_key::<Spur, W>(&self.value, out),
@@ -51,25 +51,25 @@ impl KeyLine {
 fn read_rodeo<K: Key, W: Write>(alloc: Global, value: &Value, out: &mut W) -> io::Result<()> {
     match Rodeo::<K, FixedState, Global>::deserialize(alloc, value) {
         Ok(rodeo) => write_list(out, rodeo.strings()),
-        Err(fault) => write_fault(out, fault),
+        Err(error) => write_json_error(out, error),
     }
 }
 
 fn read_reader<K: Key, W: Write>(alloc: Global, value: &Value, out: &mut W) -> io::Result<()> {
     match RodeoReader::<K, FixedState, Global>::deserialize(alloc, value) {
         Ok(reader) => write_list(out, reader.strings()),
-        Err(fault) => write_fault(out, fault),
+        Err(error) => write_json_error(out, error),
     }
 }
 
 fn read_resolver<K: Key, W: Write>(alloc: Global, value: &Value, out: &mut W) -> io::Result<()> {
     match RodeoResolver::<K, Global>::deserialize(alloc, value) {
         Ok(resolver) => write_list(out, resolver.strings()),
-        Err(fault) => write_fault(out, fault),
+        Err(error) => write_json_error(out, error),
     }
 }
 
-// The interner is frozen before its texts are written.
+// Turns the interner into a resolver, and writes the texts of that.
 fn read_threaded<R: Wait, K: Key, W: Write>(
     rt: &R,
     alloc: Global,
@@ -81,13 +81,13 @@ fn read_threaded<R: Wait, K: Key, W: Write>(
             Ok(resolver) => write_list(out, resolver.strings()),
             Err(error) => write_refusal(out, error.kind()),
         },
-        Err(fault) => write_fault(out, fault),
+        Err(error) => write_json_error(out, error),
     }
 }
 
 fn read_key<K: JsonKey, W: Write>(value: &Value, out: &mut W) -> io::Result<()> {
     match K::key_from_json(value) {
         Ok(key) => write_key(out, key),
-        Err(fault) => write_fault(out, fault),
+        Err(error) => write_json_error(out, error),
     }
 }

@@ -1,4 +1,4 @@
-//! Replaying a script on an interner of one thread.
+//! Replays a script on a `Rodeo`.
 
 use crate::lines::{Call, ScriptCommand};
 use crate::replies::{
@@ -11,7 +11,7 @@ use std::io::Write;
 
 type Interner<K> = Rodeo<K, FixedState, Global>;
 
-/// Carries one command out, and writes its reply.
+/// Runs one command, and writes its reply.
 pub fn replay_command<K: Key, W: Write>(
     alloc: Global,
     rodeo: &mut Interner<K>,
@@ -59,7 +59,7 @@ fn replay_call<K: Key, W: Write>(
     }
 }
 
-// Interns each text, up to the first refusal.
+// Interns the texts in order, up to the first that is refused.
 fn intern_all<K: Key>(rodeo: &mut Interner<K>, texts: &Vec<String>) -> LassoResult<()> {
     for text in texts {
         rodeo.try_get_or_intern(text.as_str())?;
@@ -67,8 +67,8 @@ fn intern_all<K: Key>(rodeo: &mut Interner<K>, texts: &Vec<String>) -> LassoResu
     Ok(())
 }
 
-// Interns the texts into a new interner, of which the script's is then made a copy. A refusal while the new
-// one is filled leaves the script's alone.
+// Interns the texts into a new interner, and makes the script's interner a clone of that. If one of the texts
+// is refused, the script's interner stays as it was.
 fn clone_from_texts<K: Key>(
     alloc: Global,
     rodeo: &mut Interner<K>,

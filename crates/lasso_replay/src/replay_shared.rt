@@ -1,4 +1,4 @@
-//! Replaying a script on an interner that threads share, by one thread.
+//! Replays a script on a `ThreadedRodeo`, by one thread.
 
 use crate::lines::Call;
 use crate::replies::{
@@ -41,7 +41,7 @@ pub fn replay_shared_call<R: Wait, K: Key, W: Write>(
     }
 }
 
-// Interns each text, up to the first refusal.
+// Interns the texts in order, up to the first that is refused.
 fn intern_all<R: Wait, K: Key>(
     rt: &R,
     interner: &Interner<K>,

@@ -1,4 +1,4 @@
-//! How replies are written, one a line.
+//! Writes replies, each as a line.
 
 use lasso::{JsonError, Key, LassoErrorKind, LassoResult, Strings};
 use std::io;
@@ -47,7 +47,7 @@ pub fn write_outcome<W: Write>(out: &mut W, outcome: LassoResult<()>) -> io::Res
     }
 }
 
-/// `refused`, and which refusal it was.
+/// `refused`, and the kind of the error.
 pub fn write_refusal<W: Write>(out: &mut W, kind: LassoErrorKind) -> io::Result<()> {
     let kind = match kind {
         LassoErrorKind::MemoryLimitReached => "MemoryLimitReached",
@@ -57,7 +57,7 @@ pub fn write_refusal<W: Write>(out: &mut W, kind: LassoErrorKind) -> io::Result<
     writeln!(out, "refused {kind}")
 }
 
-/// `text` and the text as `write_digits` has it; `text none` where there is none.
+/// `text` and the text in hexadecimal digits, or `text none`.
 pub fn write_text<W: Write>(out: &mut W, text: Option<&str>) -> io::Result<()> {
     let Some(text) = text else {
         return writeln!(out, "text none");
@@ -67,7 +67,7 @@ pub fn write_text<W: Write>(out: &mut W, text: Option<&str>) -> io::Result<()> {
     writeln!(out)
 }
 
-/// `list`, and each text behind a space, as `write_digits` has it.
+/// `list`, and each text in hexadecimal digits after a space.
 pub fn write_list<K: Key, W: Write>(out: &mut W, texts: Strings<'_, K>) -> io::Result<()> {
     write!(out, "list")?;
     for text in texts {
@@ -77,9 +77,10 @@ pub fn write_list<K: Key, W: Write>(out: &mut W, texts: Strings<'_, K>) -> io::R
     writeln!(out)
 }
 
-/// `fault` and what is wrong with a JSON value, with the item or member that it is about; want of memory is a refusal.
-pub fn write_fault<W: Write>(out: &mut W, fault: JsonError) -> io::Result<()> {
-    match fault {
+/// `fault`, the kind of the error, and the position of the item that it is about. Out of memory is written as
+/// a refusal.
+pub fn write_json_error<W: Write>(out: &mut W, error: JsonError) -> io::Result<()> {
+    match error {
         JsonError::NotAnArray => writeln!(out, "fault NotAnArray"),
         JsonError::NotText(at) => writeln!(out, "fault NotText {at}"),
         JsonError::Doubled(at) => writeln!(out, "fault Doubled {at}"),
@@ -92,7 +93,7 @@ pub fn write_fault<W: Write>(out: &mut W, fault: JsonError) -> io::Result<()> {
     }
 }
 
-// The text in hexadecimal digits, two a byte; `-` is the empty text.
+// Writes the text in hexadecimal digits, two for each byte; `-` is the empty text.
 fn write_digits<W: Write>(out: &mut W, text: &str) -> io::Result<()> {
     if text.is_empty() {
         return write!(out, "-");

@@ -1,6 +1,6 @@
-//! Scripts: a header, and then one command a line.
+//! Scripts: a header, and a command in each line after it.
 
-use crate::faults::Reason;
+use crate::errors::Reason;
 use crate::key_types::{KeyType, Replayed, parse_key_type};
 use crate::lines::{Call, ScriptCommand, parse_call, parse_command, parse_limit, parse_number};
 use crate::replay::replay_command;
@@ -11,14 +11,14 @@ use std::io;
 use std::io::Write;
 use std::sync::Wait;
 
-/// The commands of a script in order, for the interner of its kind.
+/// The commands of a script, in order, by its kind of interner.
 #[derive(Drop)]
 enum Commands {
     OneThread(Vec<ScriptCommand>),
     Shared(Vec<Call>),
 }
 
-/// A script: what its interner is made with, and its commands.
+/// A script: how its interner is made, and its commands.
 #[derive(Drop)]
 pub struct Script {
     name: String,
@@ -28,7 +28,7 @@ pub struct Script {
     commands: Commands,
 }
 
-/// What the words after `script` say, or why they are bad.
+/// Parses the words after `script`. The inner error says why they are bad.
 pub fn parse_header(alloc: Global, words: &[&str]) -> Result<Result<Script, Reason>, AllocError> {
     let [name, kind, key_type, strings, bytes, limit] = words else {
         return Ok(Err(Reason::BadHeader));
@@ -61,7 +61,7 @@ pub fn parse_header(alloc: Global, words: &[&str]) -> Result<Result<Script, Reas
 }
 
 impl Script {
-    /// Adds the command that the words of a line spell, or answers why they are bad.
+    /// Parses the words of a line as a command, and adds it. Returns why they are bad, if they are.
     pub fn add_command(
         &mut self,
         alloc: Global,
@@ -90,8 +90,10 @@ impl Script {
         })
     }
 
-    /// Makes the script's interner, carries its commands out, and writes their replies. Where memory is
-    /// wanting for the interner, that is the error.
+    /// Makes the script's interner, runs the commands, and writes their replies.
+    ///
+    /// # Errors
+    /// Out of memory for the interner, or the writer failed.
     pub fn replay<R: Wait, W: Write>(&self, rt: &R, alloc: Global, out: &mut W) -> io::Result<()> {
         self.key_type.replay(self, rt, alloc, out)
     }

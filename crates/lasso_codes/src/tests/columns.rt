@@ -1,4 +1,4 @@
-//! Columns, written.
+//! Columns that are written.
 use super::verbs::{assert_stops, assert_writes};
 use super::{PLAIN, runs};
 use crate::arguments::{Request, Settings, Verb};
@@ -87,9 +87,9 @@ fn codes_past_a_byte(rt: HostRuntime) -> Result<(), Fail> {
     assert_writes(&rt, runs(Verb::Encode, BINARY), &input, &output)
 }
 
-// The line that is refused or is not UTF-8 is told by its number among all lines, nulls too.
+// An error has the number of its line among all lines, nulls included.
 #[test]
-fn faults_are_counted_with_the_nulls(rt: HostRuntime) -> Result<(), Fail> {
+fn errors_count_nulls_too(rt: HostRuntime) -> Result<(), Fail> {
     let with_null = |settings| Request {
         null: Some(b"NA"),
         ..runs(Verb::Encode, settings)
@@ -114,7 +114,7 @@ fn faults_are_counted_with_the_nulls(rt: HostRuntime) -> Result<(), Fail> {
     assert_stops(&rt, with_null(limited), &input, b"", refused)
 }
 
-// 3000 lines of 700 texts with nulls among them: the same column, however many workers there are.
+// 3000 lines of 700 texts, with nulls. The column is the same for each number of workers.
 #[test]
 fn many_lines_with_nulls(rt: HostRuntime) -> Result<(), Fail> {
     let mut input = Vec::new(rt.alloc());

@@ -1,4 +1,4 @@
-//! Columns, read back, and columns that are damaged.
+//! Columns that are read back, and damaged columns.
 use super::verbs::{assert_stops, assert_writes};
 use super::{PLAIN, runs};
 use crate::arguments::{Request, Verb};
@@ -113,9 +113,9 @@ fn damaged_columns(rt: HostRuntime) -> Result<(), Fail> {
     Ok(())
 }
 
-// The lines before the fault are written: those of the columns before, and those of the entries before.
+// The lines before the error are written: those of the columns before it, and those of the entries before it.
 #[test]
-fn lines_before_a_fault(rt: HostRuntime) -> Result<(), Fail> {
+fn lines_before_an_error(rt: HostRuntime) -> Result<(), Fail> {
     let input = b"lasso-codes 1 text 1 1\na\n0\nlasso-codes 1 text 2 3\nb\nc\n1\n0\n2\n";
     let past = ("column 2: entry 3 is past the texts", 2);
     assert_stops(&rt, runs(Verb::Decode, PLAIN), input, b"a\nc\nb\n", past)?;

@@ -1,5 +1,5 @@
-//! A reader and a writer that give or take three bytes a call, and then fail.
-use super::{PLAIN, assert_fault, runs};
+//! A reader and a writer that move at most three bytes in each call, and then fail.
+use super::{PLAIN, assert_error, runs};
 use crate::arguments::Verb;
 use crate::program::run_request;
 use std::alloc::Global;
@@ -13,7 +13,7 @@ const COLUMN: &[u8] = b"lasso-codes 1 text 3 4\nb\na\nc\n0\n1\n0\n2\n";
 
 const BINARY_COLUMN: &[u8] = b"lasso-codes 1 binary 2 2\nb\na\n\x01\0\0\0\0\0\0\0";
 
-// Verbs, and what they write of an input.
+// Verbs, each with what it writes for an input.
 const VERBS: [(Verb, &[u8], &[u8]); 6] = [
     (Verb::Distinct, INPUT, b"b\na\nc\n"),
     (Verb::Counts, INPUT, b"2 b\n1 a\n1 c\n"),
@@ -27,7 +27,7 @@ const VERBS: [(Verb, &[u8], &[u8]); 6] = [
     ),
 ];
 
-// Gives at most three bytes a call, and fails at each call after its number of good ones.
+// Reads at most three bytes in each call, and fails once `calls` is 0.
 #[derive(Drop)]
 struct ShortRead<'a> {
     left: &'a [u8],
@@ -49,28 +49,28 @@ impl Read for ShortRead<'_> {
 
 // How a writer fails.
 #[derive(Clone, Copy, PartialEq, Eq)]
-enum Way {
-    TakesNothing,
+enum Failure {
+    WritesNothing,
     IsFull,
     IsGone,
 }
 
-// Takes at most three bytes a call, and fails at each call after its number of good ones.
+// Writes at most three bytes in each call, and fails once `calls` is 0.
 #[derive(Drop)]
 struct ShortWrite {
-    taken: Vec<u8>,
+    written: Vec<u8>,
     flushed: usize,
     calls: u64,
-    way: Way,
+    failure: Failure,
 }
 
 impl ShortWrite {
-    fn new(alloc: Global, calls: u64, way: Way) -> Self {
+    fn new(alloc: Global, calls: u64, failure: Failure) -> Self {
         ShortWrite {
-            taken: Vec::new(alloc),
+            written: Vec::new(alloc),
             flushed: 0,
             calls,
-            way,
+            failure,
         }
     }
 
@@ -87,18 +87,18 @@ impl ShortWrite {
 impl Write for ShortWrite {
     fn write(&mut self, buf: &[u8]) -> io::Result<usize> {
         let count = buf.len().min(3);
-        if self.fails() || self.taken.extend_from_slice(&buf[..count]).is_err() {
-            return match self.way {
-                Way::TakesNothing => Ok(0),
-                Way::IsFull => Err(Error::from(ErrorKind::StorageFull)),
-                Way::IsGone => Err(Error::from(ErrorKind::BrokenPipe)),
+        if self.fails() || self.written.extend_from_slice(&buf[..count]).is_err() {
+            return match self.failure {
+                Failure::WritesNothing => Ok(0),
+                Failure::IsFull => Err(Error::from(ErrorKind::StorageFull)),
+                Failure::IsGone => Err(Error::from(ErrorKind::BrokenPipe)),
             };
         }
         Ok(count)
     }
 
     fn flush(&mut self) -> io::Result<()> {
-        self.flushed = self.taken.len();
+        self.flushed = self.written.len();
         Ok(())
     }
 }
@@ -110,28 +110,28 @@ fn each_read_fails_in_turn(rt: HostRuntime) -> Result<(), Fail> {
         for calls in 0..100 {
             let source = ShortRead { left: input, calls };
             let mut reader = BufReader::with_capacity(rt.alloc(), 8, source)?;
-            let target = ShortWrite::new(rt.alloc(), 100, Way::IsFull);
+            let target = ShortWrite::new(rt.alloc(), 100, Failure::IsFull);
             let mut writer = BufWriter::with_capacity(rt.alloc(), 8, target)?;
             let request = runs(verb, PLAIN);
             let ended = run_request(&rt, &request, &mut reader, &mut writer);
             let (target, pending) = writer.into_parts();
             assert!(rt; pending.is_empty());
-            assert!(rt; target.flushed == target.taken.len());
-            assert!(rt; output.starts_with(&target.taken));
+            assert!(rt; target.flushed == target.written.len());
+            assert!(rt; output.starts_with(&target.written));
             if ended.is_ok() {
-                assert!(rt; target.taken.as_slice() == output);
+                assert!(rt; target.written.as_slice() == output);
                 whole = true;
                 break;
             }
-            assert_fault(&rt, ended, "read failed", 4)?;
+            assert_error(&rt, ended, "read failed", 4)?;
         }
         assert!(rt; whole);
     }
     Ok(())
 }
 
-// What `distinct` writes before each read of three bytes: the first line ends in the first one, the second line in the second, and
-// the third in the third.
+// What `distinct` has written before each read of three bytes. The first line ends in the first read, the
+// second line in the second, and the third line in the third.
 #[test]
 fn lines_are_written_before_the_next_read(rt: HostRuntime) -> Result<(), Fail> {
     let rows: [(u64, &[u8]); 4] = [(0, b""), (1, b"b\n"), (2, b"b\na\n"), (3, b"b\na\n")];
@@ -141,7 +141,7 @@ fn lines_are_written_before_the_next_read(rt: HostRuntime) -> Result<(), Fail> {
         let mut writer = BufWriter::new(rt.alloc(), Vec::new(rt.alloc()))?;
         let request = runs(Verb::Distinct, PLAIN);
         let ended = run_request(&rt, &request, &mut input, &mut writer);
-        assert_fault(&rt, ended, "read failed", 4)?;
+        assert_error(&rt, ended, "read failed", 4)?;
         assert!(rt; writer.get_ref().as_slice() == written);
     }
     Ok(())
@@ -149,28 +149,28 @@ fn lines_are_written_before_the_next_read(rt: HostRuntime) -> Result<(), Fail> {
 
 #[test]
 fn each_write_fails_in_turn(rt: HostRuntime) -> Result<(), Fail> {
-    let ways = [
-        (Way::TakesNothing, "write failed", 4),
-        (Way::IsFull, "write failed", 4),
-        (Way::IsGone, "the output's reader is gone", 0),
+    let failures = [
+        (Failure::WritesNothing, "write failed", 4),
+        (Failure::IsFull, "write failed", 4),
+        (Failure::IsGone, "the output's reader is gone", 0),
     ];
     for (verb, input, output) in VERBS {
-        for (way, words, status) in ways {
+        for (failure, words, status) in failures {
             let mut whole = false;
             for calls in 0..100 {
                 let mut reader = BufReader::new(rt.alloc(), input)?;
-                let target = ShortWrite::new(rt.alloc(), calls, way);
+                let target = ShortWrite::new(rt.alloc(), calls, failure);
                 let mut writer = BufWriter::with_capacity(rt.alloc(), 4, target)?;
                 let request = runs(verb, PLAIN);
                 let ended = run_request(&rt, &request, &mut reader, &mut writer);
                 let (target, _) = writer.into_parts();
-                assert!(rt; output.starts_with(&target.taken));
+                assert!(rt; output.starts_with(&target.written));
                 if ended.is_ok() {
-                    assert!(rt; target.taken.as_slice() == output);
+                    assert!(rt; target.written.as_slice() == output);
                     whole = true;
                     break;
                 }
-                assert_fault(&rt, ended, words, status)?;
+                assert_error(&rt, ended, words, status)?;
             }
             assert!(rt; whole);
         }
@@ -178,22 +178,22 @@ fn each_write_fails_in_turn(rt: HostRuntime) -> Result<(), Fail> {
     Ok(())
 }
 
-// A reader that is gone is told as such only where nothing else failed.
+// A reader that is gone is reported as such only if nothing else failed.
 #[test]
-fn a_fault_stays_one_where_the_reader_is_gone(rt: HostRuntime) -> Result<(), Fail> {
+fn an_error_stays_one_where_the_reader_is_gone(rt: HostRuntime) -> Result<(), Fail> {
     let rows: [(&[u8], &str, u8); 2] = [
         (b"b\na\n", "the output's reader is gone", 0),
         (b"b\n\xff\n", "write failed", 4),
     ];
     for (bytes, words, status) in rows {
         let mut input = BufReader::new(rt.alloc(), bytes)?;
-        let target = ShortWrite::new(rt.alloc(), 0, Way::IsGone);
+        let target = ShortWrite::new(rt.alloc(), 0, Failure::IsGone);
         let mut writer = BufWriter::new(rt.alloc(), target)?;
         let request = runs(Verb::Distinct, PLAIN);
         let ended = run_request(&rt, &request, &mut input, &mut writer);
         let (target, _) = writer.into_parts();
-        assert!(rt; target.taken.is_empty());
-        assert_fault(&rt, ended, words, status)?;
+        assert!(rt; target.written.is_empty());
+        assert_error(&rt, ended, words, status)?;
     }
     Ok(())
 }

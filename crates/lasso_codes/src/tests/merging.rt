@@ -1,4 +1,4 @@
-//! Columns, merged.
+//! Columns that are merged.
 use super::verbs::{assert_stops, assert_writes};
 use super::{PLAIN, runs};
 use crate::arguments::{Settings, Verb};
@@ -38,9 +38,9 @@ fn columns_as_a_binary_one(rt: HostRuntime) -> Result<(), Fail> {
     assert_writes(&rt, runs(Verb::Merge, settings), input, output)
 }
 
-// A damaged column after good ones: nothing is written.
+// A damaged column after good ones. Nothing is written.
 #[test]
-fn nothing_before_a_fault(rt: HostRuntime) -> Result<(), Fail> {
+fn nothing_before_an_error(rt: HostRuntime) -> Result<(), Fail> {
     let cases: [(&[u8], &str); 4] = [
         (
             b"lasso-codes 1 text 1 1\na\n0\nlasso-codes 1 text 1 2\na\n-\n1\n",
@@ -65,7 +65,7 @@ fn nothing_before_a_fault(rt: HostRuntime) -> Result<(), Fail> {
     Ok(())
 }
 
-// The first bucket has 4096 bytes: the text of the first column and the feeds do not count.
+// The first bucket has 4096 bytes. Line feeds do not count.
 #[test]
 fn texts_past_the_limit(rt: HostRuntime) -> Result<(), Fail> {
     let limit = Settings {

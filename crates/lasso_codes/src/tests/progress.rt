@@ -1,4 +1,4 @@
-//! The progress line: when it is shown, what is written, and that what is read is the same.
+//! The progress line: when it is shown, its text, and that it changes nothing that is read.
 use super::{PLAIN, runs, writer_of};
 use crate::arguments::{Command, Settings, Verb};
 use crate::program::run_request;
@@ -21,7 +21,7 @@ const VERBS: [Verb; 5] = [
     Verb::Merge,
 ];
 
-// Standard error alone is a terminal.
+// Only standard error is a terminal.
 const ERROR_ALONE: Terminals = Terminals {
     input: false,
     output: false,
@@ -79,37 +79,37 @@ fn texts_of_tallies(rt: HostRuntime) -> Result<(), Fail> {
     Ok(())
 }
 
-// A terminal and a clock, which goes on by a step at each look. After a number of looks it fails.
+// A terminal and a clock. The clock advances by `step` each time it is read, and fails once `clock_reads` is 0.
 #[derive(Drop)]
-struct Desk {
+struct FakeTerminal {
     alloc: Global,
     text: RefCell<String>,
     milliseconds: Cell<u64>,
     step: u64,
-    looks: Cell<u64>,
+    clock_reads: Cell<u64>,
     takes_text: bool,
 }
 
-impl Desk {
+impl FakeTerminal {
     fn new(alloc: Global, step: u64) -> Self {
-        Desk {
+        FakeTerminal {
             alloc,
             text: RefCell::new(String::new(alloc)),
             milliseconds: Cell::new(1_000_000),
             step,
-            looks: Cell::new(1000),
+            clock_reads: Cell::new(1000),
             takes_text: true,
         }
     }
 }
 
-impl Clock for Desk {
+impl Clock for FakeTerminal {
     fn monotonic(&self) -> io::Result<Duration> {
-        let looks = self.looks.get();
-        if looks == 0 {
+        let clock_reads = self.clock_reads.get();
+        if clock_reads == 0 {
             return Err(Error::from(ErrorKind::Unsupported));
         }
-        self.looks.set(looks - 1);
+        self.clock_reads.set(clock_reads - 1);
         let now = self.milliseconds.get();
         self.milliseconds.set(now.saturating_add(self.step));
         Ok(Duration::from_millis(now))
@@ -120,7 +120,7 @@ impl Clock for Desk {
     }
 }
 
-impl Eprint for Desk {
+impl Eprint for FakeTerminal {
     fn eprint<D: Display + Drop>(&self, value: D) -> io::Result<()> {
         let written = value.to_string(self.alloc)?;
         let Ok(mut text) = self.text.try_borrow_mut() else {
@@ -139,21 +139,22 @@ impl Eprint for Desk {
     }
 }
 
-// What is written while 2,500,000 bytes are read, a million a call and at last none. The bytes are those of the inner reader.
+// What is written while 2,500,000 bytes are read, at most a million in each call. The bytes are those of the
+// inner reader.
 fn assert_shows<R: AllocGlobal + Abort>(
     rt: &R,
-    desk: &Desk,
+    terminal: &FakeTerminal,
     is_shown: bool,
     text: &str,
 ) -> Result<(), Fail> {
     let bytes: Vec<u8> = vec![in rt.alloc(); b'x'; 2_500_000]?;
     let mut buf = vec![in rt.alloc(); 0; 1_000_000]?;
-    let mut watched = Watched::new(bytes.as_slice(), desk, is_shown);
+    let mut watched = Watched::new(bytes.as_slice(), terminal, is_shown);
     for count in [1_000_000, 1_000_000, 500_000, 0] {
         assert!(rt; watched.read(&mut buf)? == count);
     }
     watched.wipe();
-    let Ok(shown) = desk.text.try_borrow() else {
+    let Ok(shown) = terminal.text.try_borrow() else {
         return Err(Fail::from("the text is in use"));
     };
     assert!(rt; shown.as_str() == text);
@@ -172,35 +173,35 @@ fn written_once_a_second(rt: HostRuntime) -> Result<(), Fail> {
         (500, "\rlasso_codes: 2 MB read in 1 s\r\x1b[K"),
     ];
     for (step, text) in cases {
-        assert_shows(&rt, &Desk::new(rt.alloc(), step), true, text)?;
-        let unused = Desk::new(rt.alloc(), step);
+        assert_shows(&rt, &FakeTerminal::new(rt.alloc(), step), true, text)?;
+        let unused = FakeTerminal::new(rt.alloc(), step);
         assert_shows(&rt, &unused, false, "")?;
-        assert!(rt; unused.looks.get() == 1000);
+        assert!(rt; unused.clock_reads.get() == 1000);
     }
     Ok(())
 }
 
 #[test]
 fn failing_clocks_and_terminals(rt: HostRuntime) -> Result<(), Fail> {
-    let no_clock = Desk::new(rt.alloc(), 1500);
-    no_clock.looks.set(0);
+    let no_clock = FakeTerminal::new(rt.alloc(), 1500);
+    no_clock.clock_reads.set(0);
     assert_shows(&rt, &no_clock, true, "")?;
-    let stopped = Desk::new(rt.alloc(), 1500);
-    stopped.looks.set(2);
+    let stopped = FakeTerminal::new(rt.alloc(), 1500);
+    stopped.clock_reads.set(2);
     assert_shows(
         &rt,
         &stopped,
         true,
         "\rlasso_codes: 1 MB read in 1 s\r\x1b[K",
     )?;
-    let full = Desk {
+    let full = FakeTerminal {
         takes_text: false,
-        ..Desk::new(rt.alloc(), 600)
+        ..FakeTerminal::new(rt.alloc(), 600)
     };
     assert_shows(&rt, &full, true, "\rlasso_codes: 2 MB read in 1 s\r\x1b[K")
 }
 
-// Gives a byte, is interrupted, gives another, and fails.
+// Reads a byte, is interrupted, reads another byte, and fails.
 #[derive(Drop)]
 struct Broken {
     calls: u64,
@@ -219,8 +220,8 @@ impl Read for Broken {
 
 #[test]
 fn wiped_after_a_failed_read(rt: HostRuntime) -> Result<(), Fail> {
-    let desk = Desk::new(rt.alloc(), 1000);
-    let mut watched = Watched::new(Broken { calls: 0 }, &desk, true);
+    let terminal = FakeTerminal::new(rt.alloc(), 1000);
+    let mut watched = Watched::new(Broken { calls: 0 }, &terminal, true);
     let mut buf = [0; 8];
     assert!(rt; watched.read(&mut buf)? == 1);
     let interrupted = watched.read(&mut buf);
@@ -228,7 +229,7 @@ fn wiped_after_a_failed_read(rt: HostRuntime) -> Result<(), Fail> {
     assert!(rt; watched.read(&mut buf)? == 1);
     let failed = watched.read(&mut buf);
     assert!(rt; matches!(&failed, Err(error) if error.kind() == ErrorKind::TimedOut));
-    let Ok(shown) = desk.text.try_borrow() else {
+    let Ok(shown) = terminal.text.try_borrow() else {
         return Err(Fail::from("the text is in use"));
     };
     assert!(rt;
@@ -239,9 +240,9 @@ fn wiped_after_a_failed_read(rt: HostRuntime) -> Result<(), Fail> {
 
 #[test]
 fn verbs_read_as_ever(rt: HostRuntime) -> Result<(), Fail> {
-    let desk = Desk::new(rt.alloc(), 1000);
+    let terminal = FakeTerminal::new(rt.alloc(), 1000);
     let input: &[u8] = b"b\na\nb\n";
-    let watched = Watched::new(input, &desk, true);
+    let watched = Watched::new(input, &terminal, true);
     let mut reader = BufReader::with_capacity(rt.alloc(), 4, watched)?;
     let mut writer = writer_of(rt.alloc())?;
     let request = runs(Verb::Counts, PLAIN);

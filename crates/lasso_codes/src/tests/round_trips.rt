@@ -1,4 +1,4 @@
-//! Columns that are written and read back.
+//! Columns that are written and then read back.
 use super::{PLAIN, reader_of, runs, writer_of};
 use crate::arguments::{Request, Settings, Verb};
 use crate::program::run_request;
@@ -14,7 +14,7 @@ const INPUTS: [&[u8]; 5] = [
     b"-\n0\nlasso-codes 1 text 0 0\n\n-\nNA\n",
 ];
 
-// What the request writes of the input.
+// What the request writes for the input.
 fn written_of<R: AllocGlobal + Abort + Threads + Sync>(
     rt: &R,
     request: Request<'_>,
@@ -28,7 +28,7 @@ fn written_of<R: AllocGlobal + Abort + Threads + Sync>(
     Ok(written)
 }
 
-// The verb with codes as text or as bytes, and with this null.
+// The verb with codes as text or as bytes, and this null.
 fn asks_with<'a>(verb: Verb, binary: bool, null: Option<&'a [u8]>) -> Request<'a> {
     let settings = Settings { binary, ..PLAIN };
     Request {
@@ -52,7 +52,7 @@ fn decoding_gives_what_was_encoded(rt: HostRuntime) -> Result<(), Fail> {
     Ok(())
 }
 
-// Each column has the null of its own; decoded with another word, nulls have that word.
+// Each column has its own null. Decoded with another word, nulls are that word.
 #[test]
 fn merging_gives_the_lines_of_each(rt: HostRuntime) -> Result<(), Fail> {
     for binary in [false, true] {

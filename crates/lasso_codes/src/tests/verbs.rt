@@ -1,5 +1,5 @@
-//! What the verbs write.
-use super::{PLAIN, asks, assert_fault, by_workers, reader_of, runs, writer_of};
+//! What each verb writes.
+use super::{PLAIN, asks, assert_error, by_workers, reader_of, runs, writer_of};
 use crate::arguments::{Command, Request, Settings, Verb};
 use crate::help::{HELP, VERSION, verb_help};
 use crate::program::run_request;
@@ -7,7 +7,7 @@ use std::process::Abort;
 use std::test::Fail;
 use std::thread::Threads;
 
-// The request turns the input into the output, however many workers there are.
+// Checks that the request turns the input into the output, for each number of workers.
 pub fn assert_writes<R: AllocGlobal + Abort + Threads + Sync>(
     rt: &R,
     request: Request<'_>,
@@ -77,7 +77,8 @@ fn the_most_frequent(rt: HostRuntime) -> Result<(), Fail> {
     Ok(())
 }
 
-// Line n is that of the number of trailing zeros of n: of 1 to 20,000, half are odd, a quarter are twice an odd number, and so on.
+// The letter of line n is that of the number of trailing zeros of n. Of 1 to 20,000, half are odd, a quarter
+// are twice an odd number, and so on.
 #[test]
 fn many_lines(rt: HostRuntime) -> Result<(), Fail> {
     let mut input = Vec::new(rt.alloc());
@@ -139,7 +140,7 @@ fn help_texts_fit_a_screen(rt: HostRuntime) {
     }
 }
 
-// What a run over the input writes before it ends with the fault of these words, however many workers there are.
+// Checks what a run writes before it ends with this message and status, for each number of workers.
 pub fn assert_stops<R: AllocGlobal + Abort + Threads + Sync>(
     rt: &R,
     request: Request<'_>,
@@ -154,7 +155,7 @@ pub fn assert_stops<R: AllocGlobal + Abort + Threads + Sync>(
         let (written, left) = writer.into_parts();
         assert!(rt; left.is_empty());
         assert!(rt; written.as_slice() == output);
-        assert_fault(rt, ended, words, status)?;
+        assert_error(rt, ended, words, status)?;
     }
     Ok(())
 }

@@ -1,10 +1,10 @@
-//! Arguments, and the numbers among them.
+//! Arguments and numbers.
 use super::{PLAIN, runs};
 use crate::arguments::{Command, Request, Settings, Verb, command_of};
 use crate::numbers::parse_number;
 use std::test::Fail;
 
-// The words as the program has them.
+// The words as strings, as the program is given them.
 fn owned_words<R: AllocGlobal>(rt: &R, words: &[&str]) -> Result<Vec<String>, Fail> {
     let mut owned = Vec::new(rt.alloc());
     for word in words {
@@ -227,7 +227,7 @@ fn bad_words_are_named(rt: HostRuntime) -> Result<(), Fail> {
     for (words, told) in cases {
         match command_of(&owned_words(&rt, words)?) {
             Ok(_) => return Err(Fail::from("bad words ask for something")),
-            Err(fault) => assert!(rt; fault.to_string(rt.alloc())?.as_str() == told),
+            Err(error) => assert!(rt; error.to_string(rt.alloc())?.as_str() == told),
         }
     }
     Ok(())

@@ -30,8 +30,8 @@ returns-in_err-write_texts g c =
     let head = rw (distinct, lines) at c.in_ok-write_header.ensures in
     let front = flat_map with_feed texts in
     let back = flat_map (entry_bytes c.args.binary) entries in
-    let fault = c.in_err-write_texts.field-0.0 in
-    rw (p.1, p.2) (writes_front _ _ _ (header c.args.binary (length texts) (length entries)) (front ++ back) (Err fault) head (writes_front_fails _ _ front back fault c.in_err-write_texts.ensures))
+    let error = c.in_err-write_texts.field-0.0 in
+    rw (p.1, p.2) (writes_front _ _ _ (header c.args.binary (length texts) (length entries)) (front ++ back) (Err error) head (writes_front_fails _ _ front back error c.in_err-write_texts.ensures))
 
 pub returns : goal.returns
 returns g c =

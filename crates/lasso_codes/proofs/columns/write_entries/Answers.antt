@@ -14,10 +14,10 @@ returns-in_err-filled g c =
     let at = c.loop-number in
     let numbers = c.args.numbers.now in
     let held = take at.filled at.block in
-    let fault = c.in_err-filled.field-0.0 in
+    let error = c.in_err-filled.field-0.0 in
     let bytes : ℕ → List ℕ = λ n. entry_bytes c.args.binary (entry_at n) in
-    rw (p.1, p.2) (writes_then _ _ _ (λ part. part ++ held ≡ flat_map bytes (take at.number-index numbers)) (WritesAll held (Err fault)) (WritesAll (flat_map bytes numbers) (Err fault)) at.invariant.written c.in_err-filled.ensures.written (λ part more so_far written.
-    block_fails bytes numbers at.number-index part held so_far more fault written))
+    rw (p.1, p.2) (writes_then _ _ _ (λ part. part ++ held ≡ flat_map bytes (take at.number-index numbers)) (WritesAll held (Err error)) (WritesAll (flat_map bytes numbers) (Err error)) at.invariant.written c.in_err-filled.ensures.written (λ part more so_far written.
+    block_fails bytes numbers at.number-index part held so_far more error written))
 
 pub loop-number-preserved : goal.loop-number-preserved
 loop-number-preserved g c =

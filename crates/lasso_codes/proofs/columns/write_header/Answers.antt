@@ -15,8 +15,8 @@ returns-in_err-write_number_and g c =
     let p = err_from_is_err_and c.from_residual-in_err-write_number_and.result c.from_residual-in_err-write_number_and.ensures.1 in
     let distinct = decimal c.args.distinct ++ 32 ∷ [] in
     let lines = decimal c.args.lines ++ 10 ∷ [] in
-    let fault = c.in_err-write_number_and.field-0.0 in
-    rw (p.1, p.2) (writes_front _ _ _ (header_front c.args.binary) (distinct ++ lines) (Err fault) c.in_ok-write_front.ensures (writes_front_fails _ _ distinct lines fault c.in_err-write_number_and.ensures))
+    let error = c.in_err-write_number_and.field-0.0 in
+    rw (p.1, p.2) (writes_front _ _ _ (header_front c.args.binary) (distinct ++ lines) (Err error) c.in_ok-write_front.ensures (writes_front_fails _ _ distinct lines error c.in_err-write_number_and.ensures))
 
 pub returns : goal.returns
 returns g c =

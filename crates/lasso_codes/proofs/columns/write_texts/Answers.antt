@@ -14,10 +14,10 @@ returns-in_err-write_line g c =
     let texts = c.args.rodeo.now.texts in
     let i = c.loop-position.position in
     let text = c.text_at.result.now in
-    let fault = c.in_err-write_line.field-0.0 in
-    let line = subst (λ t. Writes (g.W.Write.contents c.loop-position.output) (g.W.Write.contents c.write_line.new.output) (WritesAll (t ++ 10 ∷ []) (Err fault))) c.as_bytes.ensures.value c.in_err-write_line.ensures in
-    rw (p.1, p.2) (writes_then _ _ _ (λ part. part ≡ flat_map with_feed (take i texts)) (WritesAll (with_feed text) (Err fault)) (WritesAll (flat_map with_feed texts) (Err fault)) c.loop-position.invariant line (λ part more is w.
-    flat_fails with_feed texts i text (take_more_at texts i text c.text_at.ensures) part more fault is w))
+    let error = c.in_err-write_line.field-0.0 in
+    let line = subst (λ t. Writes (g.W.Write.contents c.loop-position.output) (g.W.Write.contents c.write_line.new.output) (WritesAll (t ++ 10 ∷ []) (Err error))) c.as_bytes.ensures.value c.in_err-write_line.ensures in
+    rw (p.1, p.2) (writes_then _ _ _ (λ part. part ≡ flat_map with_feed (take i texts)) (WritesAll (with_feed text) (Err error)) (WritesAll (flat_map with_feed texts) (Err error)) c.loop-position.invariant line (λ part more is w.
+    flat_fails with_feed texts i text (take_more_at texts i text c.text_at.ensures) part more error is w))
 
 pub loop-position-preserved : goal.loop-position-preserved
 loop-position-preserved g c =

@@ -9,69 +9,69 @@ use Rattle.lasso_codes.proofs.CountedLines.{counting_push, counting_ends, counti
 use Rattle.lasso_codes.proofs.Stretches.{left_after}
 use Rattle.lasso_codes.proofs.counts.count_lines.Goals as goal
 
--- a line at hand is faulty
-pub returns-in_err-next-clause-fault : goal.returns-in_err-next-clause-fault
-returns-in_err-next-clause-fault g c =
+-- a buffered line is refused or not UTF-8
+pub returns-in_err-next-clause-error : goal.returns-in_err-next-clause-error
+returns-in_err-next-clause-error g c =
     let p = err_from_is_err_and c.from_residual.result c.from_residual.ensures.1 in
     let at = c.loop in
     rw (p.1, p.2) (λ bytes e limit made.
     let ahead = at.invariant.ahead bytes e in
-    let hand = c.at_hand.ensures.first ahead.0 ahead.1 in
+    let hand = c.buffered.ensures.first ahead.0 ahead.1 in
     let so_far = subst (λ bs. Counting bytes bs at.number c.args.rodeo.now at.rodeo at.counts.items) hand.1 ahead.2 in
-    c.in_err-next.ensures.fault bytes hand.0 limit (subst (λ (i : InternerView). Counting bytes (c.at_hand.result.now ++ hand.0) at.number i at.rodeo at.counts.items) made so_far))
+    c.in_err-next.ensures.error bytes hand.0 limit (subst (λ (i : InternerView). Counting bytes (c.buffered.result.now ++ hand.0) at.number i at.rodeo at.counts.items) made so_far))
 
-pub returns-in_err-next_line-clause-fault : goal.returns-in_err-next_line-clause-fault
-returns-in_err-next_line-clause-fault g c =
+pub returns-in_err-next_line-clause-error : goal.returns-in_err-next_line-clause-error
+returns-in_err-next_line-clause-error g c =
     let p = err_from_is_err_and c.from_residual-in_err-next_line.result c.from_residual-in_err-next_line.ensures.1 in
     let at = c.loop in
     rw (p.1, p.2) (λ bytes e limit made.
     let ahead = at.invariant.ahead bytes e in
-    let hand = c.at_hand.ensures.first ahead.0 ahead.1 in
-    let left = drop c.in_ok-next.used c.at_hand.result.now ++ hand.0 in
+    let hand = c.buffered.ensures.first ahead.0 ahead.1 in
+    let left = drop c.in_ok-next.used c.buffered.result.now ++ hand.0 in
     let so_far = subst (λ bs. Counting bytes bs at.number c.args.rodeo.now at.rodeo at.counts.items) hand.1 ahead.2 in
     let then = c.in_ok-next.ensures.counted bytes hand.0 c.args.rodeo.now so_far in
-    counting_read_fails bytes left c.in_ok-next.next c.args.rodeo.now c.count_stretch.new.rodeo c.count_stretch.new.counts.items then limit c.in_err-next_line.field-0.0 c.in_err-next_line.ensures.faults)
+    counting_read_fails bytes left c.in_ok-next.next c.args.rodeo.now c.count_stretch.new.rodeo c.count_stretch.new.counts.items then limit c.in_err-next_line.field-0.0 c.in_err-next_line.ensures.errors)
 
 pub returns-then-not-branch-clause-counted : goal.returns-then-not-branch-clause-counted
 returns-then-not-branch-clause-counted g c = λ bytes e.
     let at = c.loop in
     let ahead = at.invariant.ahead bytes e in
-    let hand = c.at_hand.ensures.first ahead.0 ahead.1 in
-    let shown = c.at_hand.result.now in
+    let hand = c.buffered.ensures.first ahead.0 ahead.1 in
+    let shown = c.buffered.result.now in
     let left = drop c.in_ok-next.used shown ++ hand.0 in
     let so_far = subst (λ bs. Counting bytes bs at.number c.args.rodeo.now at.rodeo at.counts.items) hand.1 ahead.2 in
     let then = c.in_ok-next.ensures.counted bytes hand.0 c.args.rodeo.now so_far in
-    let known = left_after _ _ _ shown hand.0 ahead.0 c.in_ok-next.used c.at_hand.ensures.value c.use_up.ensures ahead.1 hand.1 in
+    let known = left_after _ _ _ shown hand.0 ahead.0 c.in_ok-next.used c.buffered.ensures.value c.consume.ensures ahead.1 hand.1 in
     counting_ends bytes left c.in_ok-next.next c.args.rodeo.now c.count_stretch.new.rodeo c.count_stretch.new.counts.items then (no_line _ _ c.in_ok-next_line.field-0 _ c.in_ok-next_line.ensures.taken c.if-not-branch.true left known)
 
-pub returns-in-Err-clause-fault : goal.returns-in-Err-clause-fault
-returns-in-Err-clause-fault g c = λ bytes e limit made.
+pub returns-in-Err-clause-error : goal.returns-in-Err-clause-error
+returns-in-Err-clause-error g c = λ bytes e limit made.
     let at = c.loop in
     let ahead = at.invariant.ahead bytes e in
-    let hand = c.at_hand.ensures.first ahead.0 ahead.1 in
-    let shown = c.at_hand.result.now in
+    let hand = c.buffered.ensures.first ahead.0 ahead.1 in
+    let shown = c.buffered.result.now in
     let left = drop c.in_ok-next.used shown ++ hand.0 in
     let so_far = subst (λ bs. Counting bytes bs at.number c.args.rodeo.now at.rodeo at.counts.items) hand.1 ahead.2 in
     let then = c.in_ok-next.ensures.counted bytes hand.0 c.args.rodeo.now so_far in
-    let known = left_after _ _ _ shown hand.0 ahead.0 c.in_ok-next.used c.at_hand.ensures.value c.use_up.ensures ahead.1 hand.1 in
+    let known = left_after _ _ _ shown hand.0 ahead.0 c.in_ok-next.used c.buffered.ensures.value c.consume.ensures ahead.1 hand.1 in
     let cut = one_line _ _ c.in_ok-next_line.field-0 _ c.in_ok-next_line.ensures.taken c.if-not-branch.false left known in
-    let fault = subst (λ l. IsFaultOf c.count_stretch.new.rodeo l c.in_ok-next.next c.in-Err.error) c.deref.ensures.value c.in-Err.ensures.fault in
-    counting_line_fails bytes left c.in_ok-next.next c.args.rodeo.now c.count_stretch.new.rodeo c.count_stretch.new.counts.items then limit c.next_line.new.line.items cut.0 c.in-Err.error made cut.2 fault
+    let is = subst (λ l. IsFaultOf c.count_stretch.new.rodeo l c.in_ok-next.next c.in-Err.error) c.deref.ensures.value c.in-Err.ensures.error in
+    counting_line_fails bytes left c.in_ok-next.next c.args.rodeo.now c.count_stretch.new.rodeo c.count_stretch.new.counts.items then limit c.next_line.new.line.items cut.0 c.in-Err.error made cut.2 is
 
 pub loop-preserved : goal.loop-preserved
 loop-preserved g c =
     let at = c.loop in
     record {
-      beside = c.in_default.ensures.beside;
+      lengths = c.in_default.ensures.lengths;
       total = omega (arith, c.in_default.ensures.total, c.in_ok-next.ensures.total);
       ahead = λ bytes e.
           let ahead = at.invariant.ahead bytes e in
-          let hand = c.at_hand.ensures.first ahead.0 ahead.1 in
-          let shown = c.at_hand.result.now in
+          let hand = c.buffered.ensures.first ahead.0 ahead.1 in
+          let shown = c.buffered.result.now in
           let left = drop c.in_ok-next.used shown ++ hand.0 in
           let so_far = subst (λ bs. Counting bytes bs at.number c.args.rodeo.now at.rodeo at.counts.items) hand.1 ahead.2 in
           let then = c.in_ok-next.ensures.counted bytes hand.0 c.args.rodeo.now so_far in
-          let known = left_after _ _ _ shown hand.0 ahead.0 c.in_ok-next.used c.at_hand.ensures.value c.use_up.ensures ahead.1 hand.1 in
+          let known = left_after _ _ _ shown hand.0 ahead.0 c.in_ok-next.used c.buffered.ensures.value c.consume.ensures ahead.1 hand.1 in
           let cut = one_line _ _ c.in_ok-next_line.field-0 _ c.in_ok-next_line.ensures.taken c.if-not-branch.false left known in
           let line_is = subst (λ l. lines_of left ≡ l ∷ lines_of cut.0) (sym c.deref.ensures.value) cut.2 in
           let told = c.in_default.ensures in

@@ -16,15 +16,15 @@ count_line-requires-clause-text c = λ tested.
     let small : untested < length rest - c.in-Some.len = grind (arith, common_steps, nat_tests) in
     next_tested stretch rest at.used c.in-Some.len (rest_behind at.used stretch) c.in-Some.ensures untested at.invariant.text small
 
-pub returns-in-Err-clause-fault : goal.returns-in-Err-clause-fault
-returns-in-Err-clause-fault c = λ input later limit so_far.
+pub returns-in-Err-clause-error : goal.returns-in-Err-clause-error
+returns-in-Err-clause-error c = λ input later limit so_far.
     let at = c.loop-number in
     let stretch = c.args.stretch.now in
     let rest = take (length stretch - at.used) (drop at.used stretch) in
     let len = c.in-Some.len in
     let start = made_with 4096 limit in
     counting_line_fails input (drop at.used stretch ++ later) at.number start at.rodeo at.counts.items (at.invariant.counted input later start so_far) limit (take len rest) (drop (at.used + (len + 1)) stretch ++ later) c.in-Err.error refl
-    (next_cut stretch rest at.used len (rest_behind at.used stretch) c.in-Some.ensures later) c.in-Err.ensures.fault
+    (next_cut stretch rest at.used len (rest_behind at.used stretch) c.in-Some.ensures later) c.in-Err.ensures.error
 
 pub loop-number-preserved : goal.loop-number-preserved
 loop-number-preserved c =
@@ -36,7 +36,7 @@ loop-number-preserved c =
     let found = c.in-Some.ensures in
     let told = c.in_default-count_line.ensures in
     record {
-      beside = told.beside;
+      lengths = told.lengths;
       total = omega (arith, told.total, at.invariant.total);
       within = next_inside stretch rest at.used len same found at.invariant.within;
       text = others_tested stretch rest at.used len same found c.untested_len-untested.result at.invariant.text;

@@ -8,7 +8,7 @@ use Rattle.lasso_codes.proofs.counts.count_stretch.Given as goal
 -- the lines before this number were counted, and the bytes after them are left
 abbrev pub invariant-loop-number : goal.invariant-loop-number
 invariant-loop-number l = record {
-  beside : vec_len l.counts ≡ length l.rodeo.texts;
+  lengths : vec_len l.counts ≡ length l.rodeo.texts;
   total : sum l.counts.items + 1 ≡ l.number;
   within : l.used ≤ length l.fn.stretch;
   text : IsUtf8 (take (length (drop l.used l.fn.stretch) - l.untested) (drop l.used l.fn.stretch));

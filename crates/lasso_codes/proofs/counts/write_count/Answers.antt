@@ -9,9 +9,9 @@ returns-in_err-write_bytes g c =
     let p = err_from_is_err_and c.from_residual-in_err-write_bytes.result c.from_residual-in_err-write_bytes.ensures.1 in
     let digits = decimal c.args.ranked.now.0.0 in
     let back = c.args.ranked.now.1.now ++ 10 ∷ [] in
-    let fault = c.in_err-write_bytes.field-0.0 in
-    rw (p.1, p.2) (writes_then _ _ _ (λ part. part ≡ digits) (WritesAll (32 ∷ []) (Err fault)) (WritesAll (digits ++ (32 ∷ back)) (Err fault)) c.in_ok-write_number.ensures c.in_err-write_bytes.ensures (λ part more is w.
-    front_then part more digits (32 ∷ back) (Err fault) is (front_fails more (32 ∷ []) back fault w)))
+    let error = c.in_err-write_bytes.field-0.0 in
+    rw (p.1, p.2) (writes_then _ _ _ (λ part. part ≡ digits) (WritesAll (32 ∷ []) (Err error)) (WritesAll (digits ++ (32 ∷ back)) (Err error)) c.in_ok-write_number.ensures c.in_err-write_bytes.ensures (λ part more is w.
+    front_then part more digits (32 ∷ back) (Err error) is (front_fails more (32 ∷ []) back error w)))
 
 pub returns : goal.returns
 returns g c =

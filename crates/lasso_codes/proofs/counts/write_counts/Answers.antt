@@ -14,14 +14,14 @@ use Rattle.lasso_codes.proofs.counts.write_counts.Goals as goal
 pub returns-in_err-rodeo : goal.returns-in_err-rodeo
 returns-in_err-rodeo g c = λ bytes e.
     let p = err_from_is_err_and c.from_residual.result c.from_residual.ensures.1 in
-    let fault = c.in_err-rodeo.field-0.0 in
-    rw (p.1, p.2) (writes_none _ _ (none_written bytes c.args.settings.limit c.args.settings.top fault (unmade c.args.settings.limit (lines_of bytes) fault c.in_err-rodeo.ensures.refused)))
+    let error = c.in_err-rodeo.field-0.0 in
+    rw (p.1, p.2) (writes_none _ _ (none_written bytes c.args.settings.limit c.args.settings.top error (unmade c.args.settings.limit (lines_of bytes) error c.in_err-rodeo.ensures.refused)))
 
 pub returns-in_err-count_all : goal.returns-in_err-count_all
 returns-in_err-count_all g c = λ bytes e.
     let p = err_from_is_err_and c.from_residual-in_err-count_all.result c.from_residual-in_err-count_all.ensures.1 in
-    let fault = c.in_err-count_all.field-0.0 in
-    rw (p.1, p.2) (writes_none _ _ (none_written bytes c.args.settings.limit c.args.settings.top fault (c.in_err-count_all.ensures.fault bytes e c.args.settings.limit (c.in_ok-rodeo.ensures.made ∙ ap (λ n. made_with 4096 n) c.new.ensures))))
+    let error = c.in_err-count_all.field-0.0 in
+    rw (p.1, p.2) (writes_none _ _ (none_written bytes c.args.settings.limit c.args.settings.top error (c.in_err-count_all.ensures.error bytes e c.args.settings.limit (c.in_ok-rodeo.ensures.made ∙ ap (λ n. made_with 4096 n) c.new.ensures))))
 
 pub returns : goal.returns
 returns g c = λ bytes e.

@@ -13,6 +13,6 @@ returns-in_err-write_count g c =
     let p = err_from_is_err_and c.from_residual.result c.from_residual.ensures.1 in
     let ranked = c.args.ranked.now in
     let i = c.loop-one.one-index in
-    let fault = c.in_err-write_count.field-0.0 in
-    rw (p.1, p.2) (writes_then _ _ _ (λ part. part ≡ flat_map count_line (map pair_of (take i ranked))) _ (WritesAll (flat_map count_line (map pair_of ranked)) (Err fault)) c.loop-one.invariant c.in_err-write_count.ensures (λ part more is w.
-    lines_fail pair_of ranked i _ part more fault c.loop-one-test.true is w))
+    let error = c.in_err-write_count.field-0.0 in
+    rw (p.1, p.2) (writes_then _ _ _ (λ part. part ≡ flat_map count_line (map pair_of (take i ranked))) _ (WritesAll (flat_map count_line (map pair_of ranked)) (Err error)) c.loop-one.invariant c.in_err-write_count.ensures (λ part more is w.
+    lines_fail pair_of ranked i _ part more error c.loop-one-test.true is w))

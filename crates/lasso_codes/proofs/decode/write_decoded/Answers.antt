@@ -1,9 +1,9 @@
 use Rattle.std.proofs.Common.{◌≡◌, ◌+◌, Ok, Err}
 use Rattle.std.proofs.lemmas.Result.{err_from_is_err_and}
 use Rattle.lasso_codes.specs.Arguments.{word_of}
-use Rattle.lasso_codes.specs.Decode.{line_at, fed_lines, LinesFault, DecodeEnd}
+use Rattle.lasso_codes.specs.Decode.{line_at, fed_lines, DecodingError, DecodeEnd}
 use Rattle.lasso_codes.specs.Reading.{items_from}
-use Rattle.lasso_codes.specs.declared.fault.RunFault.TheVariants.{TooManyLines}
+use Rattle.lasso_codes.specs.declared.error.RunError.TheVariants.{TooManyLines}
 use Rattle.lasso_codes.proofs.Items.{header_taken, header_none, header_unread, column_read}
 use Rattle.lasso_codes.proofs.DecodedLines.{ColumnsAhead, columns_push, columns_end, columns_many, columns_header_fails, columns_unmade, columns_texts_fail, columns_lines_fail}
 use Rattle.lasso_codes.proofs.Written.{writes_as, writes_then}
@@ -15,9 +15,9 @@ returns-in_err-header g c = λ bytes e.
     let at = c.loop-column in
     let ahead = at.invariant bytes e in
     let null = word_of c.args.null in
-    let fault = c.in_err-header.field-0.0 in
-    rw (p.1, p.2) (writes_as _ _ (ColumnsAhead bytes null ahead.0 at.column) (λ part. DecodeEnd bytes c.args.limits null part (Err fault)) ahead.2 (λ part way.
-    columns_header_fails bytes c.args.limits null ahead.0 at.column part way fault (header_unread _ at.column fault ahead.0 c.in_err-header.ensures.fault ahead.1)))
+    let error = c.in_err-header.field-0.0 in
+    rw (p.1, p.2) (writes_as _ _ (ColumnsAhead bytes null ahead.0 at.column) (λ part. DecodeEnd bytes c.args.limits null part (Err error)) ahead.2 (λ part way.
+    columns_header_fails bytes c.args.limits null ahead.0 at.column part way error (header_unread _ at.column error ahead.0 c.in_err-header.ensures.error ahead.1)))
 
 pub returns-in_default : goal.returns-in_default
 returns-in_default g c = λ bytes e.
@@ -41,9 +41,9 @@ returns-in_err-rodeo g c = λ bytes e.
     let at = c.loop-column in
     let ahead = at.invariant bytes e in
     let null = word_of c.args.null in
-    let fault = c.in_err-rodeo.field-0.0 in
-    rw (p.1, p.2) (writes_as _ _ (ColumnsAhead bytes null ahead.0 at.column) (λ part. DecodeEnd bytes c.args.limits null part (Err fault)) ahead.2 (λ part way.
-    columns_unmade bytes c.args.limits null ahead.0 at.column part way fault c.in_err-rodeo.ensures.refused))
+    let error = c.in_err-rodeo.field-0.0 in
+    rw (p.1, p.2) (writes_as _ _ (ColumnsAhead bytes null ahead.0 at.column) (λ part. DecodeEnd bytes c.args.limits null part (Err error)) ahead.2 (λ part way.
+    columns_unmade bytes c.args.limits null ahead.0 at.column part way error c.in_err-rodeo.ensures.refused))
 
 pub returns-in_err-read_texts : goal.returns-in_err-read_texts
 returns-in_err-read_texts g c = λ bytes e.
@@ -53,9 +53,9 @@ returns-in_err-read_texts g c = λ bytes e.
     let null = word_of c.args.null in
     let header = c.in-Some.header in
     let head = header_taken _ _ c.in_ok-header.field-0 header c.in_ok-header.ensures.taken c.in-Some.is ahead.0 ahead.1 in
-    let fault = c.in_err-read_texts.field-0.0 in
-    rw (p.1, p.2) (writes_as _ _ (ColumnsAhead bytes null ahead.0 at.column) (λ part. DecodeEnd bytes c.args.limits null part (Err fault)) ahead.2 (λ part way.
-    columns_texts_fail bytes c.args.limits null ahead.0 at.column part way header head.0 head.2 fault (c.in_err-read_texts.ensures.fault head.0 head.1 c.args.limits c.in_ok-rodeo.ensures.made)))
+    let error = c.in_err-read_texts.field-0.0 in
+    rw (p.1, p.2) (writes_as _ _ (ColumnsAhead bytes null ahead.0 at.column) (λ part. DecodeEnd bytes c.args.limits null part (Err error)) ahead.2 (λ part way.
+    columns_texts_fail bytes c.args.limits null ahead.0 at.column part way header head.0 head.2 error (c.in_err-read_texts.ensures.error head.0 head.1 c.args.limits c.in_ok-rodeo.ensures.made)))
 
 pub returns-in_err-write_lines : goal.returns-in_err-write_lines
 returns-in_err-write_lines g c = λ bytes e.
@@ -68,9 +68,9 @@ returns-in_err-write_lines g c = λ bytes e.
     let list = c.read_texts.new.rodeo.texts in
     let texts = c.in_ok-read_texts.ensures.taken head.0 head.1 in
     let read = items_from (line_at null list) header.lines header.binary 1 texts.0 in
-    let fault = c.in_err-write_lines.field-0.0 in
-    rw (p.1, p.2) (writes_then _ _ _ (ColumnsAhead bytes null ahead.0 at.column) (λ more. LinesFault read at.column more fault) (λ part. DecodeEnd bytes c.args.limits null part (Err fault)) ahead.2 (c.in_err-write_lines.ensures texts.0 texts.1) (λ part more way told.
-    columns_lines_fail bytes c.args.limits null ahead.0 at.column part way read more fault (column_read (line_at null) ahead.0 head.0 header head.2 list texts.0 texts.2) told))
+    let error = c.in_err-write_lines.field-0.0 in
+    rw (p.1, p.2) (writes_then _ _ _ (ColumnsAhead bytes null ahead.0 at.column) (λ more. DecodingError read at.column more error) (λ part. DecodeEnd bytes c.args.limits null part (Err error)) ahead.2 (c.in_err-write_lines.ensures texts.0 texts.1) (λ part more way told.
+    columns_lines_fail bytes c.args.limits null ahead.0 at.column part way read more error (column_read (line_at null) ahead.0 head.0 header head.2 list texts.0 texts.2) told))
 
 pub loop-column-preserved : goal.loop-column-preserved
 loop-column-preserved g c = λ bytes e.

@@ -2,7 +2,7 @@ use Rattle.std.proofs.Common.{◌≡◌, ◌+◌, ◌-◌, ◌<◌, ◌++◌, Ok
 use Rattle.std.specs.Io.Buffered.{reader_remaining}
 use Rattle.std.proofs.lemmas.Result.{err_from_is_err_and}
 use Rattle.lasso_codes.specs.Arguments.{word_of}
-use Rattle.lasso_codes.specs.Decode.{line_at, WritesEntry, WritesLines, LinesFault}
+use Rattle.lasso_codes.specs.Decode.{line_at, WritesEntry, WritesLines, DecodingError}
 use Rattle.lasso_codes.specs.Stages.{LinesAhead}
 use Rattle.lasso_codes.specs.Reading.{items_from}
 use Rattle.lasso_codes.specs.Streams.{Writes}
@@ -21,11 +21,11 @@ returns-in_err-next g c = λ bytes e.
     let read = items_from make header.lines header.binary 1 bytes in
     let before = g.W.Write.contents c.args.output.now in
     let ahead = at.invariant.ahead bytes e in
-    let hand = c.at_hand-shown.ensures.first ahead.0 ahead.1 in
+    let hand = c.buffered-shown.ensures.first ahead.0 ahead.1 in
     let so_far = subst (λ bs. Writes before (g.W.Write.contents at.output) (LinesAhead (items_from make (header.lines - at.count) header.binary (at.count + 1) bs) read)) hand.1 ahead.2 in
-    rw (p.1, p.2) (c.in_err-next.ensures.fault read hand.0 before so_far)
+    rw (p.1, p.2) (c.in_err-next.ensures.error read hand.0 before so_far)
 
--- the last entry is at hand
+-- the last entry is in the buffer
 pub returns-then-next-header : goal.returns-then-next-header
 returns-then-next-header g c = λ bytes e.
     let at = c.loop-count in
@@ -34,17 +34,17 @@ returns-then-next-header g c = λ bytes e.
     let read = items_from make header.lines header.binary 1 bytes in
     let before = g.W.Write.contents c.args.output.now in
     let ahead = at.invariant.ahead bytes e in
-    let shown = c.at_hand-shown.result.now in
-    let hand = c.at_hand-shown.ensures.first ahead.0 ahead.1 in
+    let shown = c.buffered-shown.result.now in
+    let hand = c.buffered-shown.ensures.first ahead.0 ahead.1 in
     let so_far = subst (λ bs. Writes before (g.W.Write.contents at.output) (LinesAhead (items_from make (header.lines - at.count) header.binary (at.count + 1) bs) read)) hand.1 ahead.2 in
     let then = c.in_ok-next.ensures.written read hand.0 before so_far in
     let next = c.in_ok-next.next in
     let left = drop c.in_ok-next.used shown ++ hand.0 in
-    let known = left_after _ _ _ shown hand.0 ahead.0 c.in_ok-next.used c.at_hand-shown.ensures.value c.use_up.ensures ahead.1 hand.1 in
+    let known = left_after _ _ _ shown hand.0 ahead.0 c.in_ok-next.used c.buffered-shown.ensures.value c.consume.ensures ahead.1 hand.1 in
     let others = items_from make (header.lines - next) header.binary (next + 1) left in
     let none : header.lines - next ≡ 0 = omega (arith, c.if-next-header.true) in
-    writes_as _ _ (LinesAhead others read) (λ part. WritesLines read c.args.column (reader_remaining g.R.Read.remaining c.use_up.new.input) part (Ok tt)) then (λ part on.
-    lines_end others read part on c.args.column (reader_remaining g.R.Read.remaining c.use_up.new.input) left known (ahead_all make (header.lines - next) header.binary (next + 1) left read on.done none on.ahead))
+    writes_as _ _ (LinesAhead others read) (λ part. WritesLines read c.args.column (reader_remaining g.R.Read.remaining c.consume.new.input) part (Ok tt)) then (λ part on.
+    lines_end others read part on c.args.column (reader_remaining g.R.Read.remaining c.consume.new.input) left known (ahead_all make (header.lines - next) header.binary (next + 1) left read on.done none on.ahead))
 
 pub returns-in_err-entry : goal.returns-in_err-entry
 returns-in_err-entry g c = λ bytes e.
@@ -55,15 +55,15 @@ returns-in_err-entry g c = λ bytes e.
     let read = items_from make header.lines header.binary 1 bytes in
     let before = g.W.Write.contents c.args.output.now in
     let ahead = at.invariant.ahead bytes e in
-    let hand = c.at_hand-shown.ensures.first ahead.0 ahead.1 in
+    let hand = c.buffered-shown.ensures.first ahead.0 ahead.1 in
     let so_far = subst (λ bs. Writes before (g.W.Write.contents at.output) (LinesAhead (items_from make (header.lines - at.count) header.binary (at.count + 1) bs) read)) hand.1 ahead.2 in
     let then = c.in_ok-next.ensures.written read hand.0 before so_far in
     let next = c.in_ok-next.next in
-    let left = drop c.in_ok-next.used c.at_hand-shown.result.now ++ hand.0 in
+    let left = drop c.in_ok-next.used c.buffered-shown.result.now ++ hand.0 in
     let others = items_from make (header.lines - next) header.binary (next + 1) left in
-    let fault = c.in_err-entry.field-0.0 in
-    rw (p.1, p.2) (writes_as _ _ (LinesAhead others read) (λ part. LinesFault read c.args.column part fault) then (λ part on.
-    lines_read_fails others read part on c.args.column fault c.in_err-entry.ensures.faults))
+    let error = c.in_err-entry.field-0.0 in
+    rw (p.1, p.2) (writes_as _ _ (LinesAhead others read) (λ part. DecodingError read c.args.column part error) then (λ part on.
+    lines_read_fails others read part on c.args.column error c.in_err-entry.ensures.errors))
 
 pub returns-in_err-write_entry_line : goal.returns-in_err-write_entry_line
 returns-in_err-write_entry_line g c = λ bytes e.
@@ -76,21 +76,21 @@ returns-in_err-write_entry_line g c = λ bytes e.
     let read = items_from make header.lines header.binary 1 bytes in
     let before = g.W.Write.contents c.args.output.now in
     let ahead = at.invariant.ahead bytes e in
-    let shown = c.at_hand-shown.result.now in
-    let hand = c.at_hand-shown.ensures.first ahead.0 ahead.1 in
+    let shown = c.buffered-shown.result.now in
+    let hand = c.buffered-shown.ensures.first ahead.0 ahead.1 in
     let so_far = subst (λ bs. Writes before (g.W.Write.contents at.output) (LinesAhead (items_from make (header.lines - at.count) header.binary (at.count + 1) bs) read)) hand.1 ahead.2 in
     let then = c.in_ok-next.ensures.written read hand.0 before so_far in
     let next = c.in_ok-next.next in
     let left = drop c.in_ok-next.used shown ++ hand.0 in
-    let known = left_after _ _ _ shown hand.0 ahead.0 c.in_ok-next.used c.at_hand-shown.ensures.value c.use_up.ensures ahead.1 hand.1 in
+    let known = left_after _ _ _ shown hand.0 ahead.0 c.in_ok-next.used c.buffered-shown.ensures.value c.consume.ensures ahead.1 hand.1 in
     let others = items_from make (header.lines - next) header.binary (next + 1) left in
     let cut = c.in_ok-entry.ensures.taken left known in
     let entry = c.in_ok-entry.entry in
     let made = make entry (next + 1) in
     let small : next < header.lines = omega (arith, c.in_ok-next.ensures.more, c.if-next-header.false) in
-    let fault = c.in_err-write_entry_line.field-0.0 in
-    rw (p.1, p.2) (writes_then _ _ _ (LinesAhead others read) (WritesEntry made c.args.column (Err fault)) (λ part. LinesFault read c.args.column part fault) then c.in_err-write_entry_line.ensures (λ part more on written.
-    entry_fails null texts header.lines next header.binary left cut.0 entry read part small cut.2 on made c.args.column more fault refl written))
+    let error = c.in_err-write_entry_line.field-0.0 in
+    rw (p.1, p.2) (writes_then _ _ _ (LinesAhead others read) (WritesEntry made c.args.column (Err error)) (λ part. DecodingError read c.args.column part error) then c.in_err-write_entry_line.ensures (λ part more on written.
+    entry_fails null texts header.lines next header.binary left cut.0 entry read part small cut.2 on made c.args.column more error refl written))
 
 pub loop-count-preserved : goal.loop-count-preserved
 loop-count-preserved g c =
@@ -107,12 +107,12 @@ loop-count-preserved g c =
           let read = items_from make header.lines header.binary 1 bytes in
           let before = g.W.Write.contents c.args.output.now in
           let ahead = at.invariant.ahead bytes e in
-          let shown = c.at_hand-shown.result.now in
-          let hand = c.at_hand-shown.ensures.first ahead.0 ahead.1 in
+          let shown = c.buffered-shown.result.now in
+          let hand = c.buffered-shown.ensures.first ahead.0 ahead.1 in
           let so_far = subst (λ bs. Writes before (g.W.Write.contents at.output) (LinesAhead (items_from make (header.lines - at.count) header.binary (at.count + 1) bs) read)) hand.1 ahead.2 in
           let then = c.in_ok-next.ensures.written read hand.0 before so_far in
           let left = drop c.in_ok-next.used shown ++ hand.0 in
-          let known = left_after _ _ _ shown hand.0 ahead.0 c.in_ok-next.used c.at_hand-shown.ensures.value c.use_up.ensures ahead.1 hand.1 in
+          let known = left_after _ _ _ shown hand.0 ahead.0 c.in_ok-next.used c.buffered-shown.ensures.value c.consume.ensures ahead.1 hand.1 in
           let others = items_from make (header.lines - next) header.binary (next + 1) left in
           let cut = c.in_ok-entry.ensures.taken left known in
           let entry = c.in_ok-entry.entry in

@@ -7,7 +7,7 @@ use Rattle.lasso_codes.specs.Reading.{items_from}
 use Rattle.lasso_codes.specs.Streams.{Writes}
 use Rattle.lasso_codes.proofs.decode.write_lines.Given as goal
 
--- some lines are written, and the others are ahead
+-- some lines were written, and the others follow
 abbrev pub invariant-loop-count : goal.invariant-loop-count
 invariant-loop-count g l = record {
   within : l.count ≤ l.header.lines;

@@ -2,7 +2,7 @@ use Rattle.std.proofs.Common.{◌≡◌, ◌+◌, ◌-◌, ◌++◌, Ok, Err, le
 use Rattle.std.proofs.lemmas.Result.{err_from_is_err_and}
 use Rattle.lasso_columns.proofs.FirstLines.{rest_behind}
 use Rattle.lasso_codes.specs.Arguments.{word_of}
-use Rattle.lasso_codes.specs.Decode.{line_at, LinesFault, WritesEntry}
+use Rattle.lasso_codes.specs.Decode.{line_at, DecodingError, WritesEntry}
 use Rattle.lasso_codes.specs.Stages.{LinesAhead}
 use Rattle.lasso_codes.specs.Reading.{items_from}
 use Rattle.lasso_codes.specs.Streams.{Writes}
@@ -11,8 +11,8 @@ use Rattle.lasso_codes.proofs.Stretches.{next_entry_cut}
 use Rattle.lasso_codes.proofs.Written.{writes_then}
 use Rattle.lasso_codes.proofs.decode.write_stretch.Goals as goal
 
-pub returns-in_err-write_entry_line-clause-fault : goal.returns-in_err-write_entry_line-clause-fault
-returns-in_err-write_entry_line-clause-fault g c =
+pub returns-in_err-write_entry_line-clause-error : goal.returns-in_err-write_entry_line-clause-error
+returns-in_err-write_entry_line-clause-error g c =
     let p = err_from_is_err_and c.from_residual.result c.from_residual.ensures.1 in
     let at = c.loop-position in
     let stretch = c.args.stretch.now in
@@ -24,14 +24,14 @@ returns-in_err-write_entry_line-clause-fault g c =
     let entry = c.in-Some.entry in
     let len = c.in-Some.len in
     let made = line_at null texts entry (at.position + 1) in
-    let fault = c.in_err-write_entry_line.field-0.0 in
+    let error = c.in_err-write_entry_line.field-0.0 in
     rw (p.1, p.2) (λ read later before so_far.
     let left = drop at.used stretch ++ later in
-    let behind = drop (at.used + len) stretch ++ later in
+    let following = drop (at.used + len) stretch ++ later in
     let cut = next_entry_cut stretch rest at.used len (rest_behind at.used stretch) header.binary entry c.in-Some.ensures.cut later in
     let others = items_from (line_at null texts) (header.lines - at.position) header.binary (at.position + 1) left in
-    writes_then _ _ _ (LinesAhead others read) (WritesEntry made column (Err fault)) (λ part. LinesFault read column part fault) (at.invariant.written read later before so_far) c.in_err-write_entry_line.ensures (λ part more on written.
-    entry_fails null texts header.lines at.position header.binary left behind entry read part c.loop-position-test.true cut on made column more fault refl written))
+    writes_then _ _ _ (LinesAhead others read) (WritesEntry made column (Err error)) (λ part. DecodingError read column part error) (at.invariant.written read later before so_far) c.in_err-write_entry_line.ensures (λ part more on written.
+    entry_fails null texts header.lines at.position header.binary left following entry read part c.loop-position-test.true cut on made column more error refl written))
 
 pub loop-position-preserved : goal.loop-position-preserved
 loop-position-preserved g c =
@@ -51,12 +51,12 @@ loop-position-preserved g c =
       within = omega (arith, c.in-Some.ensures.within, at.invariant.within, long, length-drop at.used stretch);
       written = λ read later before so_far.
           let left = drop at.used stretch ++ later in
-          let behind = drop (at.used + len) stretch ++ later in
+          let following = drop (at.used + len) stretch ++ later in
           let cut = next_entry_cut stretch rest at.used len same header.binary entry c.in-Some.ensures.cut later in
           let others = items_from (line_at null texts) (header.lines - at.position) header.binary (at.position + 1) left in
-          let then = items_from (line_at null texts) (header.lines - (at.position + 1)) header.binary (at.position + 1 + 1) behind in
+          let then = items_from (line_at null texts) (header.lines - (at.position + 1)) header.binary (at.position + 1 + 1) following in
           writes_then _ _ _ (LinesAhead others read) (WritesEntry made column (Ok c.in_ok-write_entry_line.field-0)) (LinesAhead then read) (at.invariant.written read later before so_far) c.in_ok-write_entry_line.ensures (λ part more on written.
-          entry_done null texts header.lines at.position header.binary left behind entry read part c.loop-position-test.true cut on made column more refl written);
+          entry_done null texts header.lines at.position header.binary left following entry read part c.loop-position-test.true cut on made column more refl written);
     }
 
 pub returns-clause-written : goal.returns-clause-written

@@ -7,7 +7,7 @@ use Rattle.lasso_codes.specs.Reading.{ReadItems, items_from}
 use Rattle.lasso_codes.specs.Streams.{Writes}
 use Rattle.lasso_codes.proofs.decode.write_stretch.Given as goal
 
--- the lines of the entries before the position are written, and the others are ahead
+-- the lines of the entries before the position were written, and the others follow
 abbrev pub invariant-loop-position : goal.invariant-loop-position
 invariant-loop-position g l =
     let make = line_at (word_of l.fn.null) l.fn.rodeo.texts in

@@ -4,7 +4,7 @@ use Rattle.lasso_codes.specs.Stages.{OnTheWay}
 use Rattle.lasso_codes.specs.Streams.{Writes}
 use Rattle.lasso_codes.proofs.distinct.pass_stretch.Given as goal
 
--- the lines before this number were passed, and the bytes after them are left
+-- the lines before this number were interned and written if new, and the bytes after them are left
 abbrev pub invariant-loop-number : goal.invariant-loop-number
 invariant-loop-number g l = record {
   within : l.used ≤ length l.fn.stretch;

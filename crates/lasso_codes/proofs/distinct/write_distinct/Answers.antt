@@ -2,7 +2,7 @@ use Rattle.std.proofs.Common.{◌≡◌, ◌+◌, ◌∷◌, ◌++◌, drop, sym
 use Rattle.std.specs.Io.Buffered.{writer_contents}
 use Rattle.std.proofs.lemmas.Result.{err_from_is_err_and}
 use Rattle.lasso_columns.specs.Lines.{lines_of}
-use Rattle.lasso_codes.specs.Distinct.{DistinctEnd, PassesLine, PassFault}
+use Rattle.lasso_codes.specs.Distinct.{DistinctEnd, PassesLine, PassError}
 use Rattle.lasso_codes.specs.Stages.{OnTheWay}
 use Rattle.lasso_codes.specs.Streams.{Writes}
 use Rattle.lasso_codes.proofs.Feeds.{no_line, one_line}
@@ -16,7 +16,7 @@ returns-in_err-rodeo g c = λ bytes e.
     let p = err_from_is_err_and c.from_residual.result c.from_residual.ensures.1 in
     rw (p.1, p.2) (writes_none _ _ (end_unmade bytes c.args.limits c.in_err-rodeo.field-0.0 c.in_err-rodeo.ensures.refused))
 
--- a line at hand is faulty, or is not written
+-- a buffered line is refused or not UTF-8, or is not written
 pub returns-in_err-next : goal.returns-in_err-next
 returns-in_err-next g c = λ bytes e.
     let p = err_from_is_err_and c.from_residual-in_err-next.result c.from_residual-in_err-next.ensures.1 in
@@ -24,9 +24,9 @@ returns-in_err-next g c = λ bytes e.
     let limit = c.args.limits in
     let before = writer_contents g.W.Write.contents c.args.output.now in
     let ahead = at.invariant bytes e in
-    let hand = c.at_hand.ensures.first ahead.0 ahead.1 in
+    let hand = c.buffered.ensures.first ahead.0 ahead.1 in
     let so_far = subst (λ bs. Writes before (writer_contents g.W.Write.contents at.output) (OnTheWay bytes limit bs at.number at.rodeo)) hand.1 ahead.2 in
-    rw (p.1, p.2) (c.in_err-next.ensures.fault bytes hand.0 limit before so_far)
+    rw (p.1, p.2) (c.in_err-next.ensures.error bytes hand.0 limit before so_far)
 
 pub returns-in_err-flush : goal.returns-in_err-flush
 returns-in_err-flush g c = λ bytes e.
@@ -35,15 +35,15 @@ returns-in_err-flush g c = λ bytes e.
     let limit = c.args.limits in
     let before = writer_contents g.W.Write.contents c.args.output.now in
     let ahead = at.invariant bytes e in
-    let hand = c.at_hand.ensures.first ahead.0 ahead.1 in
-    let left = drop c.in_ok-next.used c.at_hand.result.now ++ hand.0 in
+    let hand = c.buffered.ensures.first ahead.0 ahead.1 in
+    let left = drop c.in_ok-next.used c.buffered.result.now ++ hand.0 in
     let so_far = subst (λ bs. Writes before (writer_contents g.W.Write.contents at.output) (OnTheWay bytes limit bs at.number at.rodeo)) hand.1 ahead.2 in
     let then = c.in_ok-next.ensures.passed bytes hand.0 limit before so_far in
     let number = c.in_ok-next.next in
     let now = c.pass_stretch.new.rodeo in
-    let fault = c.in_err-flush.field-0.0 in
-    rw (p.1, p.2) (writes_kept _ _ _ (OnTheWay bytes limit left number now) (λ part. DistinctEnd bytes limit part (Err fault)) then c.in_err-flush.ensures.kept (λ part way.
-    way_write_fails bytes limit left number now part way fault c.in_err-flush.ensures.faults))
+    let error = c.in_err-flush.field-0.0 in
+    rw (p.1, p.2) (writes_kept _ _ _ (OnTheWay bytes limit left number now) (λ part. DistinctEnd bytes limit part (Err error)) then c.in_err-flush.ensures.kept (λ part way.
+    way_write_fails bytes limit left number now part way error c.in_err-flush.ensures.errors))
 
 pub returns-in_err-next_line : goal.returns-in_err-next_line
 returns-in_err-next_line g c = λ bytes e.
@@ -52,15 +52,15 @@ returns-in_err-next_line g c = λ bytes e.
     let limit = c.args.limits in
     let before = writer_contents g.W.Write.contents c.args.output.now in
     let ahead = at.invariant bytes e in
-    let hand = c.at_hand.ensures.first ahead.0 ahead.1 in
-    let left = drop c.in_ok-next.used c.at_hand.result.now ++ hand.0 in
+    let hand = c.buffered.ensures.first ahead.0 ahead.1 in
+    let left = drop c.in_ok-next.used c.buffered.result.now ++ hand.0 in
     let so_far = subst (λ bs. Writes before (writer_contents g.W.Write.contents at.output) (OnTheWay bytes limit bs at.number at.rodeo)) hand.1 ahead.2 in
     let then = c.in_ok-next.ensures.passed bytes hand.0 limit before so_far in
     let number = c.in_ok-next.next in
     let now = c.pass_stretch.new.rodeo in
-    let fault = c.in_err-next_line.field-0.0 in
-    rw (p.1, p.2) (writes_kept _ _ _ (OnTheWay bytes limit left number now) (λ part. DistinctEnd bytes limit part (Err fault)) then c.in_ok-flush.ensures.kept (λ part way.
-    way_read_fails bytes limit left number now part way fault c.in_err-next_line.ensures.faults))
+    let error = c.in_err-next_line.field-0.0 in
+    rw (p.1, p.2) (writes_kept _ _ _ (OnTheWay bytes limit left number now) (λ part. DistinctEnd bytes limit part (Err error)) then c.in_ok-flush.ensures.kept (λ part way.
+    way_read_fails bytes limit left number now part way error c.in_err-next_line.ensures.errors))
 
 pub returns-then-not-branch : goal.returns-then-not-branch
 returns-then-not-branch g c = λ bytes e.
@@ -68,14 +68,14 @@ returns-then-not-branch g c = λ bytes e.
     let limit = c.args.limits in
     let before = writer_contents g.W.Write.contents c.args.output.now in
     let ahead = at.invariant bytes e in
-    let hand = c.at_hand.ensures.first ahead.0 ahead.1 in
-    let shown = c.at_hand.result.now in
+    let hand = c.buffered.ensures.first ahead.0 ahead.1 in
+    let shown = c.buffered.result.now in
     let left = drop c.in_ok-next.used shown ++ hand.0 in
     let so_far = subst (λ bs. Writes before (writer_contents g.W.Write.contents at.output) (OnTheWay bytes limit bs at.number at.rodeo)) hand.1 ahead.2 in
     let then = c.in_ok-next.ensures.passed bytes hand.0 limit before so_far in
     let number = c.in_ok-next.next in
     let now = c.pass_stretch.new.rodeo in
-    let known = left_after _ _ _ shown hand.0 ahead.0 c.in_ok-next.used c.at_hand.ensures.value c.use_up.ensures ahead.1 hand.1 in
+    let known = left_after _ _ _ shown hand.0 ahead.0 c.in_ok-next.used c.buffered.ensures.value c.consume.ensures ahead.1 hand.1 in
     let none = no_line _ _ c.in_ok-next_line.field-0 _ c.in_ok-next_line.ensures.taken c.if-not-branch.true left known in
     writes_kept _ _ _ (OnTheWay bytes limit left number now) _ then c.in_ok-flush.ensures.kept (λ part way.
     way_ends bytes limit left number now part way none)
@@ -87,21 +87,21 @@ returns-in_err-pass_line g c = λ bytes e.
     let limit = c.args.limits in
     let before = writer_contents g.W.Write.contents c.args.output.now in
     let ahead = at.invariant bytes e in
-    let hand = c.at_hand.ensures.first ahead.0 ahead.1 in
-    let shown = c.at_hand.result.now in
+    let hand = c.buffered.ensures.first ahead.0 ahead.1 in
+    let shown = c.buffered.result.now in
     let left = drop c.in_ok-next.used shown ++ hand.0 in
     let so_far = subst (λ bs. Writes before (writer_contents g.W.Write.contents at.output) (OnTheWay bytes limit bs at.number at.rodeo)) hand.1 ahead.2 in
     let then = c.in_ok-next.ensures.passed bytes hand.0 limit before so_far in
     let number = c.in_ok-next.next in
     let now = c.pass_stretch.new.rodeo in
-    let known = left_after _ _ _ shown hand.0 ahead.0 c.in_ok-next.used c.at_hand.ensures.value c.use_up.ensures ahead.1 hand.1 in
+    let known = left_after _ _ _ shown hand.0 ahead.0 c.in_ok-next.used c.buffered.ensures.value c.consume.ensures ahead.1 hand.1 in
     let cut = one_line _ _ c.in_ok-next_line.field-0 _ c.in_ok-next_line.ensures.taken c.if-not-branch.false left known in
     let line = c.deref.result.now in
     let line_is = subst (λ l. lines_of left ≡ l ∷ lines_of cut.0) (sym c.deref.ensures.value) cut.2 in
-    let fault = c.in_err-pass_line.field-0.0 in
+    let error = c.in_err-pass_line.field-0.0 in
     let flushed = writes_kept _ _ _ (OnTheWay bytes limit left number now) (OnTheWay bytes limit left number now) then c.in_ok-flush.ensures.kept (λ part on. on) in
-    rw (p.1, p.2) (writes_then _ _ _ (OnTheWay bytes limit left number now) (λ more. PassFault now line number more fault) (λ part. DistinctEnd bytes limit part (Err fault)) flushed c.in_err-pass_line.ensures (λ part more on fails.
-    way_pass_fails bytes limit left number now part on line more cut.0 fault line_is fails))
+    rw (p.1, p.2) (writes_then _ _ _ (OnTheWay bytes limit left number now) (λ more. PassError now line number more error) (λ part. DistinctEnd bytes limit part (Err error)) flushed c.in_err-pass_line.ensures (λ part more on fails.
+    way_pass_fails bytes limit left number now part on line more cut.0 error line_is fails))
 
 pub loop-preserved : goal.loop-preserved
 loop-preserved g c = λ bytes e.
@@ -109,15 +109,15 @@ loop-preserved g c = λ bytes e.
     let limit = c.args.limits in
     let before = writer_contents g.W.Write.contents c.args.output.now in
     let ahead = at.invariant bytes e in
-    let hand = c.at_hand.ensures.first ahead.0 ahead.1 in
-    let shown = c.at_hand.result.now in
+    let hand = c.buffered.ensures.first ahead.0 ahead.1 in
+    let shown = c.buffered.result.now in
     let left = drop c.in_ok-next.used shown ++ hand.0 in
     let so_far = subst (λ bs. Writes before (writer_contents g.W.Write.contents at.output) (OnTheWay bytes limit bs at.number at.rodeo)) hand.1 ahead.2 in
     let then = c.in_ok-next.ensures.passed bytes hand.0 limit before so_far in
     let number = c.in_ok-next.next in
     let now = c.pass_stretch.new.rodeo in
     let after = c.pass_line.new.rodeo in
-    let known = left_after _ _ _ shown hand.0 ahead.0 c.in_ok-next.used c.at_hand.ensures.value c.use_up.ensures ahead.1 hand.1 in
+    let known = left_after _ _ _ shown hand.0 ahead.0 c.in_ok-next.used c.buffered.ensures.value c.consume.ensures ahead.1 hand.1 in
     let cut = one_line _ _ c.in_ok-next_line.field-0 _ c.in_ok-next_line.ensures.taken c.if-not-branch.false left known in
     let line = c.deref.result.now in
     let line_is = subst (λ l. lines_of left ≡ l ∷ lines_of cut.0) (sym c.deref.ensures.value) cut.2 in

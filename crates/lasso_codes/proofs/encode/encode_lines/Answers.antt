@@ -10,70 +10,70 @@ use Rattle.lasso_codes.proofs.EncodedLines.{encoding_push, encoding_ends, encodi
 use Rattle.lasso_codes.proofs.Stretches.{left_after}
 use Rattle.lasso_codes.proofs.encode.encode_lines.Goals as goal
 
--- a line at hand is faulty
-pub returns-in_err-next-clause-fault : goal.returns-in_err-next-clause-fault
-returns-in_err-next-clause-fault g c =
+-- a buffered line is refused or not UTF-8
+pub returns-in_err-next-clause-error : goal.returns-in_err-next-clause-error
+returns-in_err-next-clause-error g c =
     let p = err_from_is_err_and c.from_residual.result c.from_residual.ensures.1 in
     let at = c.loop in
     let null = word_of c.args.null in
     rw (p.1, p.2) (λ bytes e limit made.
     let ahead = at.invariant bytes e in
-    let hand = c.at_hand.ensures.first ahead.0 ahead.1 in
+    let hand = c.buffered.ensures.first ahead.0 ahead.1 in
     let so_far = subst (λ bs. Encoding bytes bs at.number null c.args.rodeo.now at.rodeo at.numbers.items) hand.1 ahead.2 in
-    c.in_err-next.ensures.fault bytes hand.0 limit (subst (λ (i : InternerView). Encoding bytes (c.at_hand.result.now ++ hand.0) at.number null i at.rodeo at.numbers.items) made so_far))
+    c.in_err-next.ensures.error bytes hand.0 limit (subst (λ (i : InternerView). Encoding bytes (c.buffered.result.now ++ hand.0) at.number null i at.rodeo at.numbers.items) made so_far))
 
-pub returns-in_err-next_line-clause-fault : goal.returns-in_err-next_line-clause-fault
-returns-in_err-next_line-clause-fault g c =
+pub returns-in_err-next_line-clause-error : goal.returns-in_err-next_line-clause-error
+returns-in_err-next_line-clause-error g c =
     let p = err_from_is_err_and c.from_residual-in_err-next_line.result c.from_residual-in_err-next_line.ensures.1 in
     let at = c.loop in
     let null = word_of c.args.null in
     rw (p.1, p.2) (λ bytes e limit made.
     let ahead = at.invariant bytes e in
-    let hand = c.at_hand.ensures.first ahead.0 ahead.1 in
-    let left = drop c.in_ok-next.used c.at_hand.result.now ++ hand.0 in
+    let hand = c.buffered.ensures.first ahead.0 ahead.1 in
+    let left = drop c.in_ok-next.used c.buffered.result.now ++ hand.0 in
     let so_far = subst (λ bs. Encoding bytes bs at.number null c.args.rodeo.now at.rodeo at.numbers.items) hand.1 ahead.2 in
     let then = c.in_ok-next.ensures.numbered bytes hand.0 c.args.rodeo.now so_far in
-    encoding_read_fails bytes left c.in_ok-next.next null c.args.rodeo.now c.encode_stretch.new.rodeo c.encode_stretch.new.numbers.items then limit c.in_err-next_line.field-0.0 c.in_err-next_line.ensures.faults)
+    encoding_read_fails bytes left c.in_ok-next.next null c.args.rodeo.now c.encode_stretch.new.rodeo c.encode_stretch.new.numbers.items then limit c.in_err-next_line.field-0.0 c.in_err-next_line.ensures.errors)
 
 pub returns-then-not-branch-clause-numbered : goal.returns-then-not-branch-clause-numbered
 returns-then-not-branch-clause-numbered g c = λ bytes e.
     let at = c.loop in
     let null = word_of c.args.null in
     let ahead = at.invariant bytes e in
-    let hand = c.at_hand.ensures.first ahead.0 ahead.1 in
-    let shown = c.at_hand.result.now in
+    let hand = c.buffered.ensures.first ahead.0 ahead.1 in
+    let shown = c.buffered.result.now in
     let left = drop c.in_ok-next.used shown ++ hand.0 in
     let so_far = subst (λ bs. Encoding bytes bs at.number null c.args.rodeo.now at.rodeo at.numbers.items) hand.1 ahead.2 in
     let then = c.in_ok-next.ensures.numbered bytes hand.0 c.args.rodeo.now so_far in
-    let known = left_after _ _ _ shown hand.0 ahead.0 c.in_ok-next.used c.at_hand.ensures.value c.use_up.ensures ahead.1 hand.1 in
+    let known = left_after _ _ _ shown hand.0 ahead.0 c.in_ok-next.used c.buffered.ensures.value c.consume.ensures ahead.1 hand.1 in
     encoding_ends bytes left c.in_ok-next.next null c.args.rodeo.now c.encode_stretch.new.rodeo c.encode_stretch.new.numbers.items then c.requires.no_texts (no_line _ _ c.in_ok-next_line.field-0 _ c.in_ok-next_line.ensures.taken c.if-not-branch.true left known)
 
-pub returns-in-Err-clause-fault : goal.returns-in-Err-clause-fault
-returns-in-Err-clause-fault g c = λ bytes e limit made.
+pub returns-in-Err-clause-error : goal.returns-in-Err-clause-error
+returns-in-Err-clause-error g c = λ bytes e limit made.
     let at = c.loop in
     let null = word_of c.args.null in
     let ahead = at.invariant bytes e in
-    let hand = c.at_hand.ensures.first ahead.0 ahead.1 in
-    let shown = c.at_hand.result.now in
+    let hand = c.buffered.ensures.first ahead.0 ahead.1 in
+    let shown = c.buffered.result.now in
     let left = drop c.in_ok-next.used shown ++ hand.0 in
     let so_far = subst (λ bs. Encoding bytes bs at.number null c.args.rodeo.now at.rodeo at.numbers.items) hand.1 ahead.2 in
     let then = c.in_ok-next.ensures.numbered bytes hand.0 c.args.rodeo.now so_far in
-    let known = left_after _ _ _ shown hand.0 ahead.0 c.in_ok-next.used c.at_hand.ensures.value c.use_up.ensures ahead.1 hand.1 in
+    let known = left_after _ _ _ shown hand.0 ahead.0 c.in_ok-next.used c.buffered.ensures.value c.consume.ensures ahead.1 hand.1 in
     let cut = one_line _ _ c.in_ok-next_line.field-0 _ c.in_ok-next_line.ensures.taken c.if-not-branch.false left known in
-    let fault = subst (λ l. IsFaultOf c.encode_stretch.new.rodeo l c.in_ok-next.next c.in-Err.error) c.deref.ensures.value c.in-Err.ensures.fault in
-    encoding_line_fails bytes left c.in_ok-next.next null c.args.rodeo.now c.encode_stretch.new.rodeo c.encode_stretch.new.numbers.items then limit c.next_line.new.line.items cut.0 c.in-Err.error made cut.2 fault
+    let is = subst (λ l. IsFaultOf c.encode_stretch.new.rodeo l c.in_ok-next.next c.in-Err.error) c.deref.ensures.value c.in-Err.ensures.error in
+    encoding_line_fails bytes left c.in_ok-next.next null c.args.rodeo.now c.encode_stretch.new.rodeo c.encode_stretch.new.numbers.items then limit c.next_line.new.line.items cut.0 c.in-Err.error made cut.2 is
 
 pub loop-preserved : goal.loop-preserved
 loop-preserved g c = λ bytes e.
     let at = c.loop in
     let null = word_of c.args.null in
     let ahead = at.invariant bytes e in
-    let hand = c.at_hand.ensures.first ahead.0 ahead.1 in
-    let shown = c.at_hand.result.now in
+    let hand = c.buffered.ensures.first ahead.0 ahead.1 in
+    let shown = c.buffered.result.now in
     let left = drop c.in_ok-next.used shown ++ hand.0 in
     let so_far = subst (λ bs. Encoding bytes bs at.number null c.args.rodeo.now at.rodeo at.numbers.items) hand.1 ahead.2 in
     let then = c.in_ok-next.ensures.numbered bytes hand.0 c.args.rodeo.now so_far in
-    let known = left_after _ _ _ shown hand.0 ahead.0 c.in_ok-next.used c.at_hand.ensures.value c.use_up.ensures ahead.1 hand.1 in
+    let known = left_after _ _ _ shown hand.0 ahead.0 c.in_ok-next.used c.buffered.ensures.value c.consume.ensures ahead.1 hand.1 in
     let cut = one_line _ _ c.in_ok-next_line.field-0 _ c.in_ok-next_line.ensures.taken c.if-not-branch.false left known in
     let line_is = subst (λ l. lines_of left ≡ l ∷ lines_of cut.0) (sym c.deref.ensures.value) cut.2 in
     let told = c.in_default.ensures.numbered in

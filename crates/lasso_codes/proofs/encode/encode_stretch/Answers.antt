@@ -17,15 +17,15 @@ encode_line-requires c = λ tested.
     let small : untested < length rest - c.in-Some.len = grind (arith, common_steps, nat_tests) in
     next_tested stretch rest at.used c.in-Some.len (rest_behind at.used stretch) c.in-Some.ensures untested at.invariant.text small
 
-pub returns-in-Err-clause-fault : goal.returns-in-Err-clause-fault
-returns-in-Err-clause-fault c = λ input later limit so_far.
+pub returns-in-Err-clause-error : goal.returns-in-Err-clause-error
+returns-in-Err-clause-error c = λ input later limit so_far.
     let at = c.loop-number in
     let stretch = c.args.stretch.now in
     let rest = take (length stretch - at.used) (drop at.used stretch) in
     let len = c.in-Some.len in
     let start = made_with 4096 limit in
     encoding_line_fails input (drop at.used stretch ++ later) at.number (word_of c.args.null) start at.rodeo at.numbers.items (at.invariant.numbered input later start so_far) limit (take len rest) (drop (at.used + (len + 1)) stretch ++ later) c.in-Err.error refl
-    (next_cut stretch rest at.used len (rest_behind at.used stretch) c.in-Some.ensures later) c.in-Err.ensures.fault
+    (next_cut stretch rest at.used len (rest_behind at.used stretch) c.in-Some.ensures later) c.in-Err.ensures.error
 
 pub loop-number-preserved : goal.loop-number-preserved
 loop-number-preserved c =

@@ -10,9 +10,9 @@ use Rattle.lasso_columns.specs.Lines.{lines_of}
 use Rattle.lasso_columns.specs.declared.faults.LineError.TheVariants.{NotText, Refused}
 use Rattle.lasso_codes.specs.Arguments.{word_of}
 use Rattle.lasso_codes.specs.Columns.{texts_of}
-use Rattle.lasso_codes.specs.Encode.{EncodingFault}
+use Rattle.lasso_codes.specs.Encode.{EncodingError}
 use Rattle.lasso_codes.specs.Whole.{AreTextLines, spread}
-use Rattle.lasso_codes.specs.declared.fault.RunFault.TheVariants.{Line}
+use Rattle.lasso_codes.specs.declared.error.RunError.TheVariants.{Line}
 use Rattle.lasso_codes.proofs.WholeLines.{texts_encoded, whole_not_text, whole_numbered, whole_refused}
 use Rattle.lasso_codes.proofs.encode.encode_whole.Goals as goal
 
@@ -24,7 +24,7 @@ returns-in-Ok-clause-numbered g c = λ bytes e.
     let outcome = c.encode_in_parts-outcome in
     let items = c.in_ok-lines.lines.texts.items in
     let texts = map now items in
-    let whole = c.in_ok-lines.lines.is_whole in
+    let whole = c.in_ok-lines.lines.is_complete in
     let before = c.new-codes.result.items in
     let codes = outcome.new.codes.items in
     let numbers = c.number_texts.new.numbers.items in
@@ -41,15 +41,15 @@ returns-in-Ok-clause-numbered g c = λ bytes e.
     let many : length codes ≡ length (texts_of null texts) = omega (arith, c.in-Ok.ensures.whole, outcome.new.codes.ok.0, c.new-codes.ensures.len, ap (λ (ts : List Text). length ts) kept, length-map c.deref-3.result.now now) in
     whole_numbered old outcome.new.rodeo null (lines_of bytes) texts whole codes numbers are encoded is many c.requires.no_texts c.if-lines.true
 
-pub returns-in-Ok-2-clause-fault : goal.returns-in-Ok-2-clause-fault
-returns-in-Ok-2-clause-fault g c = λ bytes e limit made.
+pub returns-in-Ok-2-clause-error : goal.returns-in-Ok-2-clause-error
+returns-in-Ok-2-clause-error g c = λ bytes e limit made.
     let now = λ (t : Bor Text). t.now in
     let null = word_of c.args.null in
     let old = c.args.rodeo.now in
     let outcome = c.encode_in_parts-outcome in
     let items = c.in_ok-lines.lines.texts.items in
     let texts = map now items in
-    let whole = c.in_ok-lines.lines.is_whole in
+    let whole = c.in_ok-lines.lines.is_complete in
     let before = c.new-codes.result.items in
     let codes = outcome.new.codes.items in
     let numbers = c.number_texts.new.numbers.items in
@@ -65,17 +65,17 @@ returns-in-Ok-2-clause-fault g c = λ bytes e limit made.
     ∙ ap (λ (ts : List (Bor Text)). spread null (map now ts) c.deref-5.result.now) c.deref-4.ensures.value ∙ ap (λ (cs : List ℕ). spread null texts cs) c.deref-5.ensures.value in
     let many : length codes ≡ length (texts_of null texts) = omega (arith, c.in-Ok.ensures.whole, outcome.new.codes.ok.0, c.new-codes.ensures.len, ap (λ (ts : List Text). length ts) kept, length-map c.deref-3.result.now now) in
     let long : length numbers ≡ c.len-next.result = omega (arith, c.len-next.ensures, c.number_texts.new.numbers.ok.0) in
-    subst (λ n. EncodingFault limit null (lines_of bytes) (Line (NotText (n + 1)))) long (whole_not_text old outcome.new.rodeo null (lines_of bytes) texts whole codes numbers are encoded is many limit made c.if-lines.false)
+    subst (λ n. EncodingError limit null (lines_of bytes) (Line (NotText (n + 1)))) long (whole_not_text old outcome.new.rodeo null (lines_of bytes) texts whole codes numbers are encoded is many limit made c.if-lines.false)
 
-pub returns-clause-fault : goal.returns-clause-fault
-returns-clause-fault g c = λ bytes e limit made.
+pub returns-clause-error : goal.returns-clause-error
+returns-clause-error g c = λ bytes e limit made.
     let now = λ (t : Bor Text). t.now in
     let null = word_of c.args.null in
     let old = c.args.rodeo.now in
     let outcome = c.encode_in_parts-outcome in
     let items = c.in_ok-lines.lines.texts.items in
     let texts = map now items in
-    let whole = c.in_ok-lines.lines.is_whole in
+    let whole = c.in_ok-lines.lines.is_complete in
     let before = c.new-codes.result.items in
     let codes = outcome.new.codes.items in
     let numbers = c.number_texts.new.numbers.items in
@@ -94,4 +94,4 @@ returns-clause-fault g c = λ bytes e limit made.
     let same : length codes - length before ≡ length codes = omega (arith, ap (λ (cs : List ℕ). length cs) c.new-codes.ensures.items) in
     let refused = subst (λ n. IsSomeAnd (slice_get (texts_of null texts) n) (λ text. IsRefused outcome.new.rodeo text error)) same
     (subst (λ (ts : List Text). IsSomeAnd (slice_get ts (length codes - length before)) (λ text. IsRefused outcome.new.rodeo text error)) kept c.in-Err.ensures.refused) in
-    subst (λ n. EncodingFault limit null (lines_of bytes) (Line (Refused (n + 1) error))) long (whole_refused old outcome.new.rodeo null (lines_of bytes) texts whole codes numbers are encoded is limit error made refused)
+    subst (λ n. EncodingError limit null (lines_of bytes) (Line (Refused (n + 1) error))) long (whole_refused old outcome.new.rodeo null (lines_of bytes) texts whole codes numbers are encoded is limit error made refused)

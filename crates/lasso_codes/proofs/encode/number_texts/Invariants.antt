@@ -3,7 +3,7 @@ use Rattle.lasso_codes.specs.Arguments.{word_of}
 use Rattle.lasso_codes.specs.Whole.{spread}
 use Rattle.lasso_codes.proofs.encode.number_texts.Given as goal
 
--- the lines before the index have their numbers, for which so many codes were used
+-- the lines before the index have their numbers, which took the first `used` codes
 abbrev pub invariant-loop-line : goal.invariant-loop-line
 invariant-loop-line l = record {
   numbers : l.fn.numbers.items ++ spread (word_of l.fn.null) (map (λ t. t.now) l.lines) l.codes ≡ l.numbers.items ++ spread (word_of l.fn.null) (drop l.line-index (map (λ t. t.now) l.lines)) (drop l.used l.codes);

@@ -12,15 +12,15 @@ pub returns-in_err-rodeo : goal.returns-in_err-rodeo
 returns-in_err-rodeo g c = λ bytes e.
     let p = err_from_is_err_and c.from_residual.result c.from_residual.ensures.1 in
     let null = word_of c.args.null in
-    let fault = c.in_err-rodeo.field-0.0 in
-    rw (p.1, p.2) (writes_none _ _ (none_written bytes c.args.settings.limit null c.args.settings.binary fault (unmade c.args.settings.limit null (lines_of bytes) fault c.in_err-rodeo.ensures.refused)))
+    let error = c.in_err-rodeo.field-0.0 in
+    rw (p.1, p.2) (writes_none _ _ (none_written bytes c.args.settings.limit null c.args.settings.binary error (unmade c.args.settings.limit null (lines_of bytes) error c.in_err-rodeo.ensures.refused)))
 
 pub returns-in_err-number_lines : goal.returns-in_err-number_lines
 returns-in_err-number_lines g c = λ bytes e.
     let p = err_from_is_err_and c.from_residual-in_err-number_lines.result c.from_residual-in_err-number_lines.ensures.1 in
     let null = word_of c.args.null in
-    let fault = c.in_err-number_lines.field-0.0 in
-    rw (p.1, p.2) (writes_none _ _ (none_written bytes c.args.settings.limit null c.args.settings.binary fault (c.in_err-number_lines.ensures.fault bytes e c.args.settings.limit (c.in_ok-rodeo.ensures.made ∙ ap (λ n. made_with 4096 n) c.new.ensures))))
+    let error = c.in_err-number_lines.field-0.0 in
+    rw (p.1, p.2) (writes_none _ _ (none_written bytes c.args.settings.limit null c.args.settings.binary error (c.in_err-number_lines.ensures.error bytes e c.args.settings.limit (c.in_ok-rodeo.ensures.made ∙ ap (λ n. made_with 4096 n) c.new.ensures))))
 
 pub returns : goal.returns
 returns g c = λ bytes e.

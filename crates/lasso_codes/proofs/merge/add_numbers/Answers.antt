@@ -19,11 +19,11 @@ returns-in_err-next g c =
     let read = items_from make header.lines header.binary 1 bytes in
     let before = c.args.numbers.now.items in
     let ahead = at.invariant.ahead list texts are few bytes e in
-    let hand = c.at_hand.ensures.first ahead.0 ahead.1 in
+    let hand = c.buffered.ensures.first ahead.0 ahead.1 in
     let so_far = subst (λ bs. EntriesAhead (items_from make (header.lines - at.count) header.binary (at.count + 1) bs) read before at.numbers.items) hand.1 ahead.2 in
-    c.in_err-next.ensures.fault list texts are few read hand.0 before so_far)
+    c.in_err-next.ensures.error list texts are few read hand.0 before so_far)
 
--- the last entry is at hand
+-- the last entry is in the buffer
 pub returns-then-next-header : goal.returns-then-next-header
 returns-then-next-header g c = λ list texts are few bytes e.
     let at = c.loop-count in
@@ -32,16 +32,16 @@ returns-then-next-header g c = λ list texts are few bytes e.
     let read = items_from make header.lines header.binary 1 bytes in
     let before = c.args.numbers.now.items in
     let ahead = at.invariant.ahead list texts are few bytes e in
-    let shown = c.at_hand.result.now in
-    let hand = c.at_hand.ensures.first ahead.0 ahead.1 in
+    let shown = c.buffered.result.now in
+    let hand = c.buffered.ensures.first ahead.0 ahead.1 in
     let so_far = subst (λ bs. EntriesAhead (items_from make (header.lines - at.count) header.binary (at.count + 1) bs) read before at.numbers.items) hand.1 ahead.2 in
     let then = c.in_ok-next.ensures.added list texts are few read hand.0 before so_far in
     let next = c.in_ok-next.next in
     let left = drop c.in_ok-next.used shown ++ hand.0 in
-    let known = left_after _ _ _ shown hand.0 ahead.0 c.in_ok-next.used c.at_hand.ensures.value c.use_up.ensures ahead.1 hand.1 in
+    let known = left_after _ _ _ shown hand.0 ahead.0 c.in_ok-next.used c.buffered.ensures.value c.consume.ensures ahead.1 hand.1 in
     let others = items_from make (header.lines - next) header.binary (next + 1) left in
     let none : header.lines - next ≡ 0 = omega (arith, c.if-next-header.true) in
-    entries_end others read before c.add_stretch.new.numbers.items then c.args.column (reader_remaining g.R.Read.remaining c.use_up.new.input) left known (ahead_all make (header.lines - next) header.binary (next + 1) left read then.done none then.ahead)
+    entries_end others read before c.add_stretch.new.numbers.items then c.args.column (reader_remaining g.R.Read.remaining c.consume.new.input) left known (ahead_all make (header.lines - next) header.binary (next + 1) left read then.done none then.ahead)
 
 pub returns-in_err-add_number : goal.returns-in_err-add_number
 returns-in_err-add_number g c =
@@ -53,13 +53,13 @@ returns-in_err-add_number g c =
     let read = items_from make header.lines header.binary 1 bytes in
     let before = c.args.numbers.now.items in
     let ahead = at.invariant.ahead list texts are few bytes e in
-    let shown = c.at_hand.result.now in
-    let hand = c.at_hand.ensures.first ahead.0 ahead.1 in
+    let shown = c.buffered.result.now in
+    let hand = c.buffered.ensures.first ahead.0 ahead.1 in
     let so_far = subst (λ bs. EntriesAhead (items_from make (header.lines - at.count) header.binary (at.count + 1) bs) read before at.numbers.items) hand.1 ahead.2 in
     let then = c.in_ok-next.ensures.added list texts are few read hand.0 before so_far in
     let next = c.in_ok-next.next in
     let left = drop c.in_ok-next.used shown ++ hand.0 in
-    let known = left_after _ _ _ shown hand.0 ahead.0 c.in_ok-next.used c.at_hand.ensures.value c.use_up.ensures ahead.1 hand.1 in
+    let known = left_after _ _ _ shown hand.0 ahead.0 c.in_ok-next.used c.buffered.ensures.value c.consume.ensures ahead.1 hand.1 in
     let small : next < header.lines = omega (arith, c.in_ok-next.ensures.more, c.if-next-header.false) in
     let cut = c.in_ok-entry.ensures.taken left known in
     let entry = c.in_ok-entry.entry in
@@ -78,12 +78,12 @@ loop-count-preserved g c =
           let read = items_from make header.lines header.binary 1 bytes in
           let before = c.args.numbers.now.items in
           let ahead = at.invariant.ahead list texts are few bytes e in
-          let shown = c.at_hand.result.now in
-          let hand = c.at_hand.ensures.first ahead.0 ahead.1 in
+          let shown = c.buffered.result.now in
+          let hand = c.buffered.ensures.first ahead.0 ahead.1 in
           let so_far = subst (λ bs. EntriesAhead (items_from make (header.lines - at.count) header.binary (at.count + 1) bs) read before at.numbers.items) hand.1 ahead.2 in
           let then = c.in_ok-next.ensures.added list texts are few read hand.0 before so_far in
           let left = drop c.in_ok-next.used shown ++ hand.0 in
-          let known = left_after _ _ _ shown hand.0 ahead.0 c.in_ok-next.used c.at_hand.ensures.value c.use_up.ensures ahead.1 hand.1 in
+          let known = left_after _ _ _ shown hand.0 ahead.0 c.in_ok-next.used c.buffered.ensures.value c.consume.ensures ahead.1 hand.1 in
           let cut = c.in_ok-entry.ensures.taken left known in
           let entry = c.in_ok-entry.entry in
           (cut.0, cut.1, number_added list texts header.lines next header.binary left cut.0 entry read before c.add_stretch.new.numbers.items small cut.2 then (make entry (next + 1)) c.args.column c.add_number.new.numbers.items refl (c.in_ok-add_number.ensures list texts are few));

@@ -7,7 +7,7 @@ use Rattle.lasso_codes.specs.Stages.{EntriesAhead}
 use Rattle.lasso_codes.specs.Reading.{items_from}
 use Rattle.lasso_codes.proofs.merge.add_numbers.Given as goal
 
--- some entries were added, and the others are ahead
+-- some entries were added, and the others follow
 abbrev pub invariant-loop-count : goal.invariant-loop-count
 invariant-loop-count g l = record {
   within : l.count ≤ l.header.lines;

@@ -8,8 +8,8 @@ use Rattle.lasso_codes.proofs.MergedColumns.{number_added, number_fails}
 use Rattle.lasso_codes.proofs.Stretches.{next_entry_cut}
 use Rattle.lasso_codes.proofs.merge.add_stretch.Goals as goal
 
-pub returns-in_err-add_number-clause-fault : goal.returns-in_err-add_number-clause-fault
-returns-in_err-add_number-clause-fault c =
+pub returns-in_err-add_number-clause-error : goal.returns-in_err-add_number-clause-error
+returns-in_err-add_number-clause-error c =
     let p = err_from_is_err_and c.from_residual.result c.from_residual.ensures.1 in
     let at = c.loop-position in
     let stretch = c.args.stretch.now in
@@ -19,9 +19,9 @@ returns-in_err-add_number-clause-fault c =
     let len = c.in-Some.len in
     rw (p.1, p.2) (λ list texts are few read later before so_far.
     let left = drop at.used stretch ++ later in
-    let behind = drop (at.used + len) stretch ++ later in
+    let following = drop (at.used + len) stretch ++ later in
     let cut = next_entry_cut stretch rest at.used len (rest_behind at.used stretch) header.binary entry c.in-Some.ensures.cut later in
-    number_fails list texts header.lines at.position header.binary left behind entry read before at.numbers.items c.loop-position-test.true cut (at.invariant.added list texts are few read later before so_far)
+    number_fails list texts header.lines at.position header.binary left following entry read before at.numbers.items c.loop-position-test.true cut (at.invariant.added list texts are few read later before so_far)
     (recoded list texts entry (at.position + 1)) c.args.column c.add_number.new.numbers.items c.in_err-add_number.field-0.0 refl (c.in_err-add_number.ensures list texts are few))
 
 pub loop-position-preserved : goal.loop-position-preserved
@@ -38,9 +38,9 @@ loop-position-preserved c =
       within = omega (arith, c.in-Some.ensures.within, at.invariant.within, long, length-drop at.used stretch);
       added = λ list texts are few read later before so_far.
           let left = drop at.used stretch ++ later in
-          let behind = drop (at.used + len) stretch ++ later in
+          let following = drop (at.used + len) stretch ++ later in
           let cut = next_entry_cut stretch rest at.used len same header.binary entry c.in-Some.ensures.cut later in
-          number_added list texts header.lines at.position header.binary left behind entry read before at.numbers.items c.loop-position-test.true cut (at.invariant.added list texts are few read later before so_far)
+          number_added list texts header.lines at.position header.binary left following entry read before at.numbers.items c.loop-position-test.true cut (at.invariant.added list texts are few read later before so_far)
           (recoded list texts entry (at.position + 1)) c.args.column c.add_number.new.numbers.items refl (c.in_ok-add_number.ensures list texts are few);
     }
 

@@ -6,7 +6,7 @@ use Rattle.lasso_codes.specs.Stages.{EntriesAhead}
 use Rattle.lasso_codes.specs.Reading.{ReadItems, items_from}
 use Rattle.lasso_codes.proofs.merge.add_stretch.Given as goal
 
--- the numbers of the entries before the position were added, and the others are ahead
+-- the numbers of the entries before the position were added, and the others follow
 abbrev pub invariant-loop-position : goal.invariant-loop-position
 invariant-loop-position l = record {
   within : l.used ≤ length l.fn.stretch;

@@ -10,14 +10,14 @@ use Rattle.lasso_codes.proofs.Items.{header_taken, header_none, header_unread}
 use Rattle.lasso_codes.proofs.MergedColumns.{merging_ends, merging_header_fails, merging_unmade, merging_texts_fail, merging_refused, merged_few, merging_push, merging_entries_fail}
 use Rattle.lasso_codes.proofs.merge.merge_columns.Goals as goal
 
-pub returns-in_err-header-clause-fault : goal.returns-in_err-header-clause-fault
-returns-in_err-header-clause-fault g c =
+pub returns-in_err-header-clause-error : goal.returns-in_err-header-clause-error
+returns-in_err-header-clause-error g c =
     let p = err_from_is_err_and c.from_residual.result c.from_residual.ensures.1 in
     let at = c.loop-column in
-    let fault = c.in_err-header.field-0.0 in
+    let error = c.in_err-header.field-0.0 in
     rw (p.1, p.2) (λ bytes e.
     let ahead = at.invariant bytes e in
-    merging_header_fails bytes ahead.0 c.args.limits at.column at.rodeo at.numbers.items ahead.2 fault (header_unread _ at.column fault ahead.0 c.in_err-header.ensures.fault ahead.1))
+    merging_header_fails bytes ahead.0 c.args.limits at.column at.rodeo at.numbers.items ahead.2 error (header_unread _ at.column error ahead.0 c.in_err-header.ensures.error ahead.1))
 
 pub returns-in_default-clause-merged : goal.returns-in_default-clause-merged
 returns-in_default-clause-merged g c = λ bytes e.
@@ -25,28 +25,28 @@ returns-in_default-clause-merged g c = λ bytes e.
     let ahead = at.invariant bytes e in
     merging_ends bytes ahead.0 c.args.limits at.column at.rodeo at.numbers.items ahead.2 (header_none _ _ c.in_ok-header.field-0 c.in_ok-header.ensures.taken c.in_default.is ahead.0 ahead.1)
 
-pub returns-in_err-texts-clause-fault : goal.returns-in_err-texts-clause-fault
-returns-in_err-texts-clause-fault g c =
+pub returns-in_err-texts-clause-error : goal.returns-in_err-texts-clause-error
+returns-in_err-texts-clause-error g c =
     let p = err_from_is_err_and c.from_residual-in_err-texts.result c.from_residual-in_err-texts.ensures.1 in
     let at = c.loop-column in
-    let fault = c.in_err-texts.field-0.0 in
+    let error = c.in_err-texts.field-0.0 in
     rw (p.1, p.2) (λ bytes e.
     let ahead = at.invariant bytes e in
-    merging_unmade bytes ahead.0 c.args.limits at.column at.rodeo at.numbers.items ahead.2 fault c.in_err-texts.ensures.refused)
+    merging_unmade bytes ahead.0 c.args.limits at.column at.rodeo at.numbers.items ahead.2 error c.in_err-texts.ensures.refused)
 
-pub returns-in_err-read_texts-clause-fault : goal.returns-in_err-read_texts-clause-fault
-returns-in_err-read_texts-clause-fault g c =
+pub returns-in_err-read_texts-clause-error : goal.returns-in_err-read_texts-clause-error
+returns-in_err-read_texts-clause-error g c =
     let p = err_from_is_err_and c.from_residual-in_err-read_texts.result c.from_residual-in_err-read_texts.ensures.1 in
     let at = c.loop-column in
     let header = c.in-Some.header in
-    let fault = c.in_err-read_texts.field-0.0 in
+    let error = c.in_err-read_texts.field-0.0 in
     rw (p.1, p.2) (λ bytes e.
     let ahead = at.invariant bytes e in
     let head = header_taken _ _ c.in_ok-header.field-0 header c.in_ok-header.ensures.taken c.in-Some.is ahead.0 ahead.1 in
-    merging_texts_fail bytes ahead.0 c.args.limits at.column at.rodeo at.numbers.items ahead.2 header head.0 head.2 fault (c.in_err-read_texts.ensures.fault head.0 head.1 c.args.limits c.in_ok-texts.ensures.made))
+    merging_texts_fail bytes ahead.0 c.args.limits at.column at.rodeo at.numbers.items ahead.2 header head.0 head.2 error (c.in_err-read_texts.ensures.error head.0 head.1 c.args.limits c.in_ok-texts.ensures.made))
 
-pub returns-in-Err-clause-fault : goal.returns-in-Err-clause-fault
-returns-in-Err-clause-fault g c = λ bytes e.
+pub returns-in-Err-clause-error : goal.returns-in-Err-clause-error
+returns-in-Err-clause-error g c = λ bytes e.
     let at = c.loop-column in
     let ahead = at.invariant bytes e in
     let header = c.in-Some.header in
@@ -58,8 +58,8 @@ returns-in-Err-clause-fault g c = λ bytes e.
     let refused = subst (λ (ts : List Text). (n : ℕ) × extend spur_at at.rodeo (take n ts) accepted after × IsSomeAnd (slice_get ts n) (λ text. IsRefused after text error)) c.into_reader.ensures c.in-Err.ensures.refused in
     merging_refused bytes ahead.0 c.args.limits at.column at.rodeo at.numbers.items ahead.2 header head.0 head.2 list texts.0 texts.2 error refused.0 after refused.1 refused.2
 
-pub returns-in_err-add_numbers-in-Ok-clause-fault : goal.returns-in_err-add_numbers-in-Ok-clause-fault
-returns-in_err-add_numbers-in-Ok-clause-fault g c =
+pub returns-in_err-add_numbers-in-Ok-clause-error : goal.returns-in_err-add_numbers-in-Ok-clause-error
+returns-in_err-add_numbers-in-Ok-clause-error g c =
     let p = err_from_is_err_and c.from_residual-in_err-add_numbers-in-Ok.result c.from_residual-in_err-add_numbers-in-Ok.ensures.1 in
     let at = c.loop-column in
     let header = c.in-Some.header in
@@ -67,13 +67,13 @@ returns-in_err-add_numbers-in-Ok-clause-fault g c =
     let after = c.merge.new.into in
     let merged = subst (λ (ts : List Text). extend spur_at at.rodeo ts accepted after) c.into_reader.ensures c.in-Ok.ensures.list in
     let codes = subst (λ ns. AreCodes after.texts list ns) (sym c.deref.ensures.value) (subst (λ (ts : List Text). AreCodes after.texts ts c.in-Ok.table.items) c.into_reader.ensures c.in-Ok.ensures.codes) in
-    let fault = c.in_err-add_numbers-in-Ok.field-0.0 in
+    let error = c.in_err-add_numbers-in-Ok.field-0.0 in
     rw (p.1, p.2) (λ bytes e.
     let ahead = at.invariant bytes e in
     let head = header_taken _ _ c.in_ok-header.field-0 header c.in_ok-header.ensures.taken c.in-Some.is ahead.0 ahead.1 in
     let texts = c.in_ok-read_texts.ensures.taken head.0 head.1 in
     let few = merged_few bytes ahead.0 c.args.limits at.column at.rodeo at.numbers.items ahead.2 header head.0 head.2 list texts.0 texts.2 after merged in
-    merging_entries_fail bytes ahead.0 c.args.limits at.column at.rodeo at.numbers.items ahead.2 header head.0 head.2 list texts.0 texts.2 after merged fault (c.in_err-add_numbers-in-Ok.ensures after.texts list codes few texts.0 texts.1))
+    merging_entries_fail bytes ahead.0 c.args.limits at.column at.rodeo at.numbers.items ahead.2 header head.0 head.2 list texts.0 texts.2 after merged error (c.in_err-add_numbers-in-Ok.ensures after.texts list codes few texts.0 texts.1))
 
 pub loop-column-preserved : goal.loop-column-preserved
 loop-column-preserved g c = λ bytes e.

@@ -8,14 +8,14 @@ use Rattle.lasso_codes.proofs.merge.write_merged.Goals as goal
 pub returns-in_err-rodeo : goal.returns-in_err-rodeo
 returns-in_err-rodeo g c = λ bytes e.
     let p = err_from_is_err_and c.from_residual.result c.from_residual.ensures.1 in
-    let fault = c.in_err-rodeo.field-0.0 in
-    rw (p.1, p.2) (writes_none _ _ (none_merged bytes c.args.limits c.args.binary fault (unmade bytes c.args.limits fault c.in_err-rodeo.ensures.refused)))
+    let error = c.in_err-rodeo.field-0.0 in
+    rw (p.1, p.2) (writes_none _ _ (none_merged bytes c.args.limits c.args.binary error (unmade bytes c.args.limits error c.in_err-rodeo.ensures.refused)))
 
 pub returns-in_err-merge_columns : goal.returns-in_err-merge_columns
 returns-in_err-merge_columns g c = λ bytes e.
     let p = err_from_is_err_and c.from_residual-in_err-merge_columns.result c.from_residual-in_err-merge_columns.ensures.1 in
-    let fault = c.in_err-merge_columns.field-0.0 in
-    rw (p.1, p.2) (writes_none _ _ (none_merged bytes c.args.limits c.args.binary fault (c.in_err-merge_columns.ensures.fault bytes e)))
+    let error = c.in_err-merge_columns.field-0.0 in
+    rw (p.1, p.2) (writes_none _ _ (none_merged bytes c.args.limits c.args.binary error (c.in_err-merge_columns.ensures.error bytes e)))
 
 pub returns : goal.returns
 returns g c = λ bytes e.

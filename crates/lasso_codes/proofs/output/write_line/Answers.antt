@@ -8,8 +8,8 @@ pub returns-in_err-write_bytes : goal.returns-in_err-write_bytes
 returns-in_err-write_bytes g c =
     let p = err_from_is_err_and c.from_residual.result c.from_residual.ensures.1 in
     let line = c.args.line.now in
-    let fault = c.in_err-write_bytes.field-0.0 in
-    rw (p.1, p.2) (writes_as _ _ (WritesAll line (Err fault)) (WritesAll (line ++ 10 ∷ []) (Err fault)) c.in_err-write_bytes.ensures (λ part w. front_fails part line (10 ∷ []) fault w))
+    let error = c.in_err-write_bytes.field-0.0 in
+    rw (p.1, p.2) (writes_as _ _ (WritesAll line (Err error)) (WritesAll (line ++ 10 ∷ []) (Err error)) c.in_err-write_bytes.ensures (λ part w. front_fails part line (10 ∷ []) error w))
 
 pub returns : goal.returns
 returns g c =

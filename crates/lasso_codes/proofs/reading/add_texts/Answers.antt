@@ -17,13 +17,13 @@ add_text-requires c = λ tested.
     let small : untested < length rest - c.in-Some.len = grind (arith, common_steps, nat_tests) in
     next_tested stretch rest at.used c.in-Some.len (rest_behind at.used stretch) c.in-Some.ensures untested at.invariant.text small
 
-pub returns-in-Err-clause-fault : goal.returns-in-Err-clause-fault
-returns-in-Err-clause-fault c = λ bytes later limit so_far list.
+pub returns-in-Err-clause-error : goal.returns-in-Err-clause-error
+returns-in-Err-clause-error c = λ bytes later limit so_far list.
     let at = c.loop-position in
     let stretch = c.args.stretch.now in
     let rest = take (length stretch - at.used) (drop at.used stretch) in
     let len = c.in-Some.len in
-    reading_fails bytes (drop at.used stretch ++ later) at.position c.args.distinct at.rodeo c.loop-position-test.true (at.invariant.added bytes later so_far) limit c.args.column (take len rest) (drop (at.used + (len + 1)) stretch ++ later) c.in-Err.fault
+    reading_fails bytes (drop at.used stretch ++ later) at.position c.args.distinct at.rodeo c.loop-position-test.true (at.invariant.added bytes later so_far) limit c.args.column (take len rest) (drop (at.used + (len + 1)) stretch ++ later) c.in-Err.error
     (at.invariant.list (made_with 4096 limit) list) (next_cut_line stretch rest at.used len (rest_behind at.used stretch) c.in-Some.ensures later) c.in-Err.ensures
 
 pub loop-position-preserved : goal.loop-position-preserved

@@ -5,70 +5,70 @@ use Rattle.lasso_single.specs.Interner.{InternerView}
 use Rattle.lasso_single.proofs.Filled.{accepted}
 use Rattle.lasso_columns.specs.Encoding.{spur_at}
 use Rattle.lasso_codes.specs.Stages.{Reading}
-use Rattle.lasso_codes.specs.Reading.{AddFault, AddsText, texts_from}
+use Rattle.lasso_codes.specs.Reading.{AddError, AddsText, texts_from}
 use Rattle.lasso_codes.specs.declared.input.Cut.TheVariants.{Whole}
 use Rattle.lasso_codes.proofs.Feeds.{cut_as, no_cut}
 use Rattle.lasso_codes.proofs.ReadTexts.{reading_push, reading_misses, reading_fails, adds_more}
 use Rattle.lasso_codes.proofs.Stretches.{left_after}
 use Rattle.lasso_codes.proofs.reading.read_texts.Goals as goal
 
--- a text at hand is faulty
-pub returns-in_err-next-clause-fault : goal.returns-in_err-next-clause-fault
-returns-in_err-next-clause-fault g c =
+-- a buffered text is bad
+pub returns-in_err-next-clause-error : goal.returns-in_err-next-clause-error
+returns-in_err-next-clause-error g c =
     let p = err_from_is_err_and c.from_residual.result c.from_residual.ensures.1 in
     let at = c.loop-count in
     rw (p.1, p.2) (λ bytes e limit made.
     let ahead = at.invariant.ahead bytes e in
-    let hand = c.at_hand.ensures.first ahead.0 ahead.1 in
+    let hand = c.buffered.ensures.first ahead.0 ahead.1 in
     let so_far = subst (λ bs. Reading bytes bs at.count at.rodeo) hand.1 ahead.2 in
     let list = subst (λ (i : InternerView). extend spur_at i at.rodeo.texts accepted at.rodeo) made at.invariant.list in
-    c.in_err-next.ensures.fault bytes hand.0 limit so_far list)
+    c.in_err-next.ensures.error bytes hand.0 limit so_far list)
 
--- the last text is at hand
+-- the last text is in the buffer
 pub returns-then-next-distinct-clause-taken : goal.returns-then-next-distinct-clause-taken
 returns-then-next-distinct-clause-taken g c = λ bytes e.
     let at = c.loop-count in
     let ahead = at.invariant.ahead bytes e in
-    let shown = c.at_hand.result.now in
-    let hand = c.at_hand.ensures.first ahead.0 ahead.1 in
+    let shown = c.buffered.result.now in
+    let hand = c.buffered.ensures.first ahead.0 ahead.1 in
     let so_far = subst (λ bs. Reading bytes bs at.count at.rodeo) hand.1 ahead.2 in
     let then = c.in_ok-next.ensures.added bytes hand.0 so_far in
     let left = drop c.in_ok-next.used shown ++ hand.0 in
-    let known = left_after _ _ _ shown hand.0 ahead.0 c.in_ok-next.used c.at_hand.ensures.value c.use_up.ensures ahead.1 hand.1 in
+    let known = left_after _ _ _ shown hand.0 ahead.0 c.in_ok-next.used c.buffered.ensures.value c.consume.ensures ahead.1 hand.1 in
     (left, known, subst (λ n. texts_from n [] bytes ≡ Ok (c.add_texts.new.rodeo.texts, left)) c.if-next-distinct.true then.read)
 
-pub returns-in-Err-clause-fault : goal.returns-in-Err-clause-fault
-returns-in-Err-clause-fault g c = λ bytes e limit made.
+pub returns-in-Err-clause-error : goal.returns-in-Err-clause-error
+returns-in-Err-clause-error g c = λ bytes e limit made.
     let at = c.loop-count in
     let next = c.in_ok-next.next in
     let ahead = at.invariant.ahead bytes e in
-    let shown = c.at_hand.result.now in
-    let hand = c.at_hand.ensures.first ahead.0 ahead.1 in
+    let shown = c.buffered.result.now in
+    let hand = c.buffered.ensures.first ahead.0 ahead.1 in
     let so_far = subst (λ bs. Reading bytes bs at.count at.rodeo) hand.1 ahead.2 in
     let then = c.in_ok-next.ensures.added bytes hand.0 so_far in
     let left = drop c.in_ok-next.used shown ++ hand.0 in
-    let known = left_after _ _ _ shown hand.0 ahead.0 c.in_ok-next.used c.at_hand.ensures.value c.use_up.ensures ahead.1 hand.1 in
+    let known = left_after _ _ _ shown hand.0 ahead.0 c.in_ok-next.used c.buffered.ensures.value c.consume.ensures ahead.1 hand.1 in
     let small : next < c.args.distinct = omega (arith, c.in_ok-next.ensures.more, c.if-next-distinct.false) in
     let now = c.add_texts.new.rodeo in
     let line = c.next_whole_line.new.line.items in
     let cut = cut_as _ _ c.in_ok-next_whole_line.field-0 Whole line c.in_ok-next_whole_line.ensures.taken c.in-Whole.is left known in
     let list = subst (λ (i : InternerView). extend spur_at i now.texts accepted now) made (c.in_ok-next.ensures.list c.args.rodeo.now at.invariant.list) in
-    let fault = subst (λ l. AddFault now l (next + 1) c.in-Err.fault) c.deref.ensures.value c.in-Err.ensures in
-    reading_fails bytes left next c.args.distinct now small then limit c.args.column line cut.0 c.in-Err.fault list cut.2 fault
+    let error = subst (λ l. AddError now l (next + 1) c.in-Err.error) c.deref.ensures.value c.in-Err.ensures in
+    reading_fails bytes left next c.args.distinct now small then limit c.args.column line cut.0 c.in-Err.error list cut.2 error
 
 pub returns-in-Part : goal.returns-in-Part
 returns-in-Part g c = record {
   taken = tt;
-  fault = λ bytes e limit made.
+  error = λ bytes e limit made.
       let at = c.loop-count in
       let next = c.in_ok-next.next in
       let ahead = at.invariant.ahead bytes e in
-      let shown = c.at_hand.result.now in
-      let hand = c.at_hand.ensures.first ahead.0 ahead.1 in
+      let shown = c.buffered.result.now in
+      let hand = c.buffered.ensures.first ahead.0 ahead.1 in
       let so_far = subst (λ bs. Reading bytes bs at.count at.rodeo) hand.1 ahead.2 in
       let then = c.in_ok-next.ensures.added bytes hand.0 so_far in
       let left = drop c.in_ok-next.used shown ++ hand.0 in
-      let known = left_after _ _ _ shown hand.0 ahead.0 c.in_ok-next.used c.at_hand.ensures.value c.use_up.ensures ahead.1 hand.1 in
+      let known = left_after _ _ _ shown hand.0 ahead.0 c.in_ok-next.used c.buffered.ensures.value c.consume.ensures ahead.1 hand.1 in
       let small : next < c.args.distinct = omega (arith, c.in_ok-next.ensures.more, c.if-next-distinct.false) in
       let none = no_cut _ _ c.in_ok-next_whole_line.field-0 c.next_whole_line.new.line.items c.in_ok-next_whole_line.ensures.taken c.in-Part.is left known in
       reading_misses bytes left next c.args.distinct c.add_texts.new.rodeo small then limit c.args.column none.1;
@@ -87,12 +87,12 @@ loop-count-preserved g c =
       within = omega (arith, small);
       ahead = λ bytes e.
           let ahead = at.invariant.ahead bytes e in
-          let shown = c.at_hand.result.now in
-          let hand = c.at_hand.ensures.first ahead.0 ahead.1 in
+          let shown = c.buffered.result.now in
+          let hand = c.buffered.ensures.first ahead.0 ahead.1 in
           let so_far = subst (λ bs. Reading bytes bs at.count at.rodeo) hand.1 ahead.2 in
           let then = c.in_ok-next.ensures.added bytes hand.0 so_far in
           let left = drop c.in_ok-next.used shown ++ hand.0 in
-          let known = left_after _ _ _ shown hand.0 ahead.0 c.in_ok-next.used c.at_hand.ensures.value c.use_up.ensures ahead.1 hand.1 in
+          let known = left_after _ _ _ shown hand.0 ahead.0 c.in_ok-next.used c.buffered.ensures.value c.consume.ensures ahead.1 hand.1 in
           let cut = cut_as _ _ c.in_ok-next_whole_line.field-0 Whole line c.in_ok-next_whole_line.ensures.taken c.in-Whole.is left known in
           (cut.0, cut.1, reading_push bytes left next c.args.distinct now small then line cut.0 after cut.2 adds);
       list = adds_more c.args.rodeo.now now after line (c.in_ok-next.ensures.list c.args.rodeo.now at.invariant.list) adds;

@@ -6,7 +6,7 @@ use Rattle.lasso_columns.specs.Encoding.{spur_at}
 use Rattle.lasso_codes.specs.Stages.{Reading}
 use Rattle.lasso_codes.proofs.reading.read_texts.Given as goal
 
--- so many texts were read and interned
+-- `count` texts were read and interned
 abbrev pub invariant-loop-count : goal.invariant-loop-count
 invariant-loop-count g l = record {
   within : l.count ≤ l.distinct;

@@ -14,4 +14,4 @@ loop-line-preserved c =
     let same = c.in-Ok.ensures.cases.0 in
     let good = subst IsUtf8 (sym same) c.in-Ok.ensures.cases.1 in
     let grown = pushed c.push.result c.push.new.self.items _ _ c.push.ensures.items (sym c.is_err.ensures.value ∙ c.if-is_err.false) in
-    first_push c.args.bytes.now c.loop-line.rest.now c.in-Some.behind.now (map now texts) (map now c.push.new.self.items) line text.now c.loop-line.invariant c.in-Some.ensures.lines same good (ap (map now) grown ∙ map_push now texts text)
+    first_push c.args.bytes.now c.loop-line.rest.now c.in-Some.after.now (map now texts) (map now c.push.new.self.items) line text.now c.loop-line.invariant c.in-Some.ensures.lines same good (ap (map now) grown ∙ map_push now texts text)

@@ -5,7 +5,7 @@ use Rattle.lasso_columns.specs.Encoding.{spur_at}
 use Rattle.lasso_counts.specs.Adding.{AddsCounts}
 use Rattle.lasso_counts.proofs.parts.count_found.Given as goal
 
--- the texts before the position are there, and were counted
+-- the texts before the position are present, and were counted
 abbrev pub invariant-loop-position : goal.invariant-loop-position
 invariant-loop-position g l = record {
   found : All (λ text. IsSome (key_of spur_at l.rodeo.texts text)) (take l.position (map (λ t. t.now) l.texts));

@@ -2,7 +2,7 @@ use Rattle.std.proofs.Common.{◌≡◌, ◌++◌, ◌≤◌, ◌-◌, vec_len, 
 use Rattle.std.specs.Prelude.{replicate}
 use Rattle.lasso_counts.proofs.parts.pad.Given as goal
 
--- so many zeros were appended
+-- a zero was appended for each position so far
 abbrev pub invariant-loop : goal.invariant-loop
 invariant-loop l = record {
   items : l.counts.items ≡ l.fn.counts.items ++ replicate (l.counter - vec_len l.fn.counts) 0;

@@ -16,7 +16,7 @@ pad-requires g c =
     let list = c.in-Some.part.list in
     let grown = merged_grown old now list c.merge-merged.result (λ error n. IsSomeAnd (slice_get list n) (λ text. IsRefused now text error)) c.merge-merged.ensures.list c.merge-merged.ensures.refused in
     let long : length now.texts ≡ length old.texts + length grown.0 = ap (λ (ts : List Text). length ts) grown.1 ∙ length-append old.texts grown.0 in
-    record { room = omega (arith, long, grown.2, c.len-2.ensures.value, c.len.ensures.value, c.in-Ok.ensures.ok, c.in-Ok.ensures.len, c.requires.beside) }
+    record { room = omega (arith, long, grown.2, c.len-2.ensures.value, c.len.ensures.value, c.in-Ok.ensures.ok, c.in-Ok.ensures.len, c.requires.lengths) }
 
 pub add_counts-requires-clause-inside : goal.add_counts-requires-clause-inside
 add_counts-requires-clause-inside g c =
@@ -24,25 +24,25 @@ add_counts-requires-clause-inside g c =
     let now = c.merge-merged.new.into in
     let list = c.in-Some.part.list in
     let counts = c.args.counts.now in
-    let beside = sym counts.ok.0 ∙ c.requires.beside in
+    let lengths = sym counts.ok.0 ∙ c.requires.lengths in
     let grown = merged_grown old now list c.merge-merged.result (λ error n. IsSomeAnd (slice_get list n) (λ text. IsRefused now text error)) c.merge-merged.ensures.list c.merge-merged.ensures.refused in
     let many : c.len-2.result - vec_len c.reserve.new.self ≡ length now.texts - length counts.items = omega (arith, c.len-2.ensures.value, c.in-Ok.ensures.len, counts.ok.0) in
-    let pads = put_padded old now list counts.items c.reserve.new.self.items c.pad.new.counts.items (c.len-2.result - vec_len c.reserve.new.self) beside grown c.in-Ok.ensures.items many c.pad.ensures in
-    let long = c.pad.new.counts.ok.0 ∙ pads.beside in
+    let pads = put_padded old now list counts.items c.reserve.new.self.items c.pad.new.counts.items (c.len-2.result - vec_len c.reserve.new.self) lengths grown c.in-Ok.ensures.items many c.pad.ensures in
+    let long = c.pad.new.counts.ok.0 ∙ pads.lengths in
     let places = places_inside now.texts list c.in-Ok-merged.places.items c.in-Ok-merged.ensures.codes in
     subst (λ (ps : List ℕ). (k d : ℕ) → k < length ps → get_or ps k d < vec_len c.pad.new.counts) (sym c.deref.ensures.value) (λ k d small. let below = places k d small in omega (arith, below, long))
 
-pub count_rest-requires-clause-beside : goal.count_rest-requires-clause-beside
-count_rest-requires-clause-beside g c =
+pub count_rest-requires-clause-lengths : goal.count_rest-requires-clause-lengths
+count_rest-requires-clause-lengths g c =
     let old = c.args.rodeo.now in
     let now = c.merge-merged.new.into in
     let list = c.in-Some.part.list in
     let counts = c.args.counts.now in
-    let beside = sym counts.ok.0 ∙ c.requires.beside in
+    let lengths = sym counts.ok.0 ∙ c.requires.lengths in
     let grown = merged_grown old now list c.merge-merged.result (λ error n. IsSomeAnd (slice_get list n) (λ text. IsRefused now text error)) c.merge-merged.ensures.list c.merge-merged.ensures.refused in
     let many : c.len-2.result - vec_len c.reserve.new.self ≡ length now.texts - length counts.items = omega (arith, c.len-2.ensures.value, c.in-Ok.ensures.len, counts.ok.0) in
-    let pads = put_padded old now list counts.items c.reserve.new.self.items c.pad.new.counts.items (c.len-2.result - vec_len c.reserve.new.self) beside grown c.in-Ok.ensures.items many c.pad.ensures in
-    c.pad.new.counts.ok.0 ∙ pads.beside
+    let pads = put_padded old now list counts.items c.reserve.new.self.items c.pad.new.counts.items (c.len-2.result - vec_len c.reserve.new.self) lengths grown c.in-Ok.ensures.items many c.pad.ensures in
+    c.pad.new.counts.ok.0 ∙ pads.lengths
 
 pub returns-in-Ok-merged-clause-list : goal.returns-in-Ok-merged-clause-list
 returns-in-Ok-merged-clause-list g c =
@@ -62,13 +62,13 @@ returns-in-Ok-merged-clause-counts g c =
     let padded = c.pad.new.counts.items in
     let new = c.add_counts.new.counts.items in
     let counted = subst (λ r. IfSome r (λ counted. AreCounts all counted.list counted.counts.items)) c.in-Some.is c.requires.counted in
-    let beside = sym counts.ok.0 ∙ c.requires.beside in
+    let lengths = sym counts.ok.0 ∙ c.requires.lengths in
     let grown = merged_grown old now list c.merge-merged.result (λ error n. IsSomeAnd (slice_get list n) (λ text. IsRefused now text error)) c.merge-merged.ensures.list c.merge-merged.ensures.refused in
     let many : c.len-2.result - vec_len c.reserve.new.self ≡ length now.texts - length counts.items = omega (arith, c.len-2.ensures.value, c.in-Ok.ensures.len, counts.ok.0) in
-    let pads = put_padded old now list counts.items c.reserve.new.self.items padded (c.len-2.result - vec_len c.reserve.new.self) beside grown c.in-Ok.ensures.items many c.pad.ensures in
+    let pads = put_padded old now list counts.items c.reserve.new.self.items padded (c.len-2.result - vec_len c.reserve.new.self) lengths grown c.in-Ok.ensures.items many c.pad.ensures in
     let codes = subst (λ ps. AreCodes now.texts list ps) (sym c.deref.ensures.value) c.in-Ok-merged.ensures.codes in
-    let adds = subst (λ cs. AddsAmounts now.texts list cs padded new) c.deref-in-Ok-merged.ensures.value (c.add_counts.ensures now.texts list pads.beside c.len.ensures.distinct codes) in
-    adds_join [] all old.texts now.texts now.texts counts.items padded new pads (adds_part all list now.texts part.counts.items padded new pads.beside counted adds)
+    let adds = subst (λ cs. AddsAmounts now.texts list cs padded new) c.deref-in-Ok-merged.ensures.value (c.add_counts.ensures now.texts list pads.lengths c.len.ensures.distinct codes) in
+    adds_join [] all old.texts now.texts now.texts counts.items padded new pads (adds_part all list now.texts part.counts.items padded new pads.lengths counted adds)
 
 pub returns-in-Err-clause-counts : goal.returns-in-Err-clause-counts
 returns-in-Err-clause-counts g c =
@@ -79,8 +79,8 @@ returns-in-Err-clause-counts g c =
     let counts = c.args.counts.now in
     let padded = c.pad.new.counts.items in
     let new = c.count_rest.new in
-    let beside = sym counts.ok.0 ∙ c.requires.beside in
+    let lengths = sym counts.ok.0 ∙ c.requires.lengths in
     let grown = merged_grown old now list c.merge-merged.result (λ error n. IsSomeAnd (slice_get list n) (λ text. IsRefused now text error)) c.merge-merged.ensures.list c.merge-merged.ensures.refused in
     let many : c.len-2.result - vec_len c.reserve.new.self ≡ length now.texts - length counts.items = omega (arith, c.len-2.ensures.value, c.in-Ok.ensures.len, counts.ok.0) in
-    let pads = put_padded old now list counts.items c.reserve.new.self.items padded (c.len-2.result - vec_len c.reserve.new.self) beside grown c.in-Ok.ensures.items many c.pad.ensures in
+    let pads = put_padded old now list counts.items c.reserve.new.self.items padded (c.len-2.result - vec_len c.reserve.new.self) lengths grown c.in-Ok.ensures.items many c.pad.ensures in
     adds_join [] (counted_of c.count_rest.result all) old.texts now.texts new.rodeo.texts counts.items padded new.counts.items pads c.count_rest.ensures.counts

@@ -1,5 +1,5 @@
--- The pass has seen what both threads had, and a name keeps its key in whatever is seen later. So both names have their keys in what the pass
--- has seen in the end, where keys are equal exactly where their texts are.
+-- The pass has seen what both threads had, and a name keeps its key in whatever is seen later. So both names
+-- have their keys in what the pass has seen in the end, where keys are equal exactly where their texts are.
 use Rattle.std.proofs.Common.{ℕ, List, Option, IfOk, subst, inl}
 use mathlib.Core.List.{IsPrefix}
 use Rattle.lasso.specs.Texts.{Text}

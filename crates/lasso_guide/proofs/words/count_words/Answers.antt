@@ -1,5 +1,5 @@
--- The pass has seen what the threads had, so the keys stand for the words in its list. The count of the texts reaches each of them, and the
--- list only grows with that call.
+-- The pass has seen what the threads had, so the keys stand for the words in its list. The count of the texts
+-- reaches each of them, and the list only grows with that call.
 use Rattle.std.proofs.Common.{ℕ, ◌<◌, List, Bor, IfOk, map, length, get_or, sym, subst, arith}
 use Rattle.lasso.specs.Replies.{Len, Number}
 use Rattle.lasso.specs.Views.{list_of, seen}

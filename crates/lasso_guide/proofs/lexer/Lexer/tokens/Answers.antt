@@ -1,4 +1,5 @@
--- The token of a piece, and what the text after the piece is cut into, are what the text from the piece on is cut into.
+-- The token of a piece, and what the text after the piece is cut into, are what the text from the piece on is
+-- cut into.
 use Rattle.std.proofs.Common.{◌≡◌, List, [], ◌∷◌, ◌++◌, length, get_or, Option, sym, ap, subst, ◌∙◌, append_assoc, arith, rules}
 use Rattle.std.specs.Prelude.{MatchOption}
 use Rattle.std.proofs.lemmas.Bool.Decides.{nat_tests}

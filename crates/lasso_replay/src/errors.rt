@@ -1,4 +1,4 @@
-//! What is wrong with an input.
+//! Errors of an input: a bad line, and why it is bad.
 
 use std::fmt;
 
@@ -37,9 +37,11 @@ impl fmt::Display for Reason {
     }
 }
 
-/// A bad line, counted from 1.
+/// A bad line of the input.
 #[derive(Debug, Drop)]
-pub struct Fault {
+pub struct InputError {
+    /// The number of the line, from 1.
     pub line: usize,
+    /// Why it is bad.
     pub reason: Reason,
 }

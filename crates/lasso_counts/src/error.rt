@@ -1,11 +1,11 @@
-//! Why counting ends before the last text.
+//! The error of counting texts.
 ghost use Rattle.std.specs.Prelude.{◌≡◌, ◌+◌, ◌^◌, ◌<◌, Some};
 ghost use Rattle.lasso_counts.specs.Adding.{count_error_text};
 
 use lasso::LassoError;
 use std::fmt;
 
-/// A text that was refused among others that were counted.
+/// A text was refused.
 #[derive(Debug, Drop, PartialEq, Eq)]
 pub struct CountError {
     /// Its position among the texts, from 0. The texts before it are counted.
@@ -15,7 +15,7 @@ pub struct CountError {
 }
 
 impl CountError {
-    // The same fault, `count` texts later.
+    // The same error, `count` texts later.
     pub(crate) fn after(self, count: usize) -> CountError
         requires { count + self.position < 2 ^ 64 }
         ensures position { result.position ≡ count + self.position }

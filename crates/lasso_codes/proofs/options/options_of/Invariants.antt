@@ -1,7 +1,7 @@
 use Rattle.std.proofs.Common.{◌≡◌, drop, map, None}
 use Rattle.std.specs.Prelude.{string_bytes}
 use Rattle.lasso_codes.specs.Arguments.{options_of, unset, wanted_of, word_of}
-use Rattle.lasso_codes.proofs.arguments.options_of.Given as goal
+use Rattle.lasso_codes.proofs.options.options_of.Given as goal
 
 -- the words before the index were read
 abbrev pub invariant-loop-word : goal.invariant-loop-word

@@ -1,7 +1,7 @@
 use Rattle.std.proofs.Common.{ℕ, ◌≡◌, ◌==◌, List, ◌++◌, sym, subst}
 use Rattle.std.specs.Io.Buffered.{reader_buffer, reader_capacity, reader_inner}
 use Rattle.lasso_codes.proofs.Stretches.{held_first}
-use Rattle.lasso_codes.proofs.input.at_hand.Goals as goal
+use Rattle.lasso_codes.proofs.input.buffered.Goals as goal
 
 pub returns-clause-first : goal.returns-clause-first
 returns-clause-first g c = λ bytes e.

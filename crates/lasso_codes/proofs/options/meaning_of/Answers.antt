@@ -2,7 +2,7 @@ use Rattle.std.proofs.Common.{◌≡◌, ◌∙◌, ap, sym, subst, take, Some, 
 use Rattle.memchr.specs.Find.{IsFirstByte, is_byte}
 use Rattle.lasso_codes.specs.Arguments.{has, setting_of, wants}
 use Rattle.lasso_codes.proofs.Words.{meaning_is}
-use Rattle.lasso_codes.proofs.arguments.meaning_of.Goals as goal
+use Rattle.lasso_codes.proofs.options.meaning_of.Goals as goal
 
 pub returns-in-None-setting_of-clause-value : goal.returns-in-None-setting_of-clause-value
 returns-in-None-setting_of-clause-value c =
