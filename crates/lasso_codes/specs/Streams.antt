@@ -1,7 +1,7 @@
 -- What a call does to the bytes that a reader has left, and to those that a writer has, where they are known.
 use Rattle.std.specs.Prelude.{ℕ, ◌≡◌, ◌<◌, Bool, true, false, List, [], ◌∷◌, ◌++◌, length, Option, Some, None, Result, MatchResult, option_map, if◌then◌else◌}
 use Rattle.std.specs.Io.KnownBytes.{Appends}
-use Rattle.lasso_columns.specs.Lines.{lines_of, is_line_feed}
+use Rattle.lasso_cut.specs.Lines.{lines_of, is_line_feed}
 use Rattle.lasso_codes.specs.Fault.{IsWriteFault}
 use Rattle.lasso_codes.specs.declared.input.Cut.{Cut}
 use Rattle.lasso_codes.specs.declared.input.Cut.TheVariants.{Whole, Part, End}

@@ -1,7 +1,7 @@
 //! The lines and bytes of a reader, one after another.
 ghost use Rattle.std.specs.Prelude.{◌≡◌, ◌≤◌, ℕ, List, [], ◌∷◌, ◌++◌, Some, IfOk, IfErr, drop, length};
 ghost use Rattle.std.specs.Io.Buffered.{reader_buffer, reader_remaining};
-ghost use Rattle.lasso_columns.specs.Lines.{NoFeed};
+ghost use Rattle.lasso_cut.specs.Lines.{NoFeed};
 ghost use Rattle.lasso_codes.specs.Streams.{CutsLine, TakesByte, TakesLine};
 ghost use Rattle.lasso_codes.specs.Fault.{IsReadFault};
 
