@@ -15,6 +15,7 @@ use crate::error::{CallError, LassoReport, Sizes, status_of};
 use crate::layout::{check_layout, first_start, put_text, text_between};
 use crate::nulls::{check_null, fit, is_present};
 use crate::offsets::Offset;
+use lasso_encode::intern_code;
 use lasso_parts::keys::Key;
 use lasso_parts::util::LassoErrorKind;
 
@@ -153,8 +154,8 @@ fn code_at<O: Offset>(
 pub(crate) fn code_in(dictionary: &mut Dictionary, text: &str, at: usize) -> Result<u32, CallError>
     ensures { InternsCode at dictionary.old text.now result dictionary.new }
 {
-    match dictionary.try_get_or_intern(text) {
-        Ok(key) => Ok(key.into_inner() - 1),
+    match intern_code(dictionary, text) {
+        Ok(code) => Ok(code),
         Err(error) => match error.kind() {
             LassoErrorKind::MemoryLimitReached => Err(CallError::LimitReached(at)),
             LassoErrorKind::KeySpaceExhaustion => Err(CallError::NoCodeLeft(at)),
@@ -212,7 +213,7 @@ fn code_or(dictionary: &Dictionary, text: &str, absent: u32) -> u32
     ensures { result ≡ unwrap_or (position_of dictionary.now.texts text.now) absent }
 {
     match dictionary.get(text) {
-        Some(key) => key.into_inner() - 1,
+        Some(key) => key.into_position(),
         None => absent,
     }
 }

@@ -136,7 +136,7 @@ pub extern "C" fn lasso_get(alloc: Global, lasso: &mut Lasso, text: &[u8], code:
     lasso.put(alloc, interner);
     match found {
         Some(key) => {
-            *code = key.into_inner() - 1;
+            *code = key.into_position();
             0
         }
         None => 13,

@@ -17,10 +17,10 @@ use Rattle.lasso_parts.specs.declared.util.LassoErrorKind.TheVariants.{FailedAll
 use Rattle.lasso_single.specs.Filling.{extend}
 use Rattle.lasso_single.specs.Interner.{InternerView, made_with}
 use Rattle.lasso_single.proofs.Filled.{accepted}
-use Rattle.lasso_columns.proofs.Coded.{map_some_length}
+use Rattle.lasso_encode.proofs.Coded.{map_some_length}
 use Rattle.lasso_columns.proofs.PartLists.{list_extended}
-use Rattle.lasso_columns.specs.Codes.{AreCodes}
-use Rattle.lasso_columns.specs.Encoding.{spur_at, IsRefused}
+use Rattle.lasso_encode.specs.Codes.{AreCodes}
+use Rattle.lasso_encode.specs.Encoding.{spur_at, IsRefused}
 use Rattle.lasso_columns.specs.declared.faults.LineError.TheVariants.{Refused}
 use Rattle.lasso_codes.specs.Columns.{entry_at, column_of}
 use Rattle.lasso_codes.specs.Errors.{IsReadError, IsWriteEnd}

@@ -9,7 +9,7 @@ use Rattle.std.proofs.Math.Seq.{take-append_seam}
 use Rattle.std.proofs.lemmas.List.{append-nil, length_push}
 use Rattle.std.proofs.lemmas.List.Elements.{All-nil, All-push}
 use Rattle.lasso_parts.specs.Texts.{Text}
-use Rattle.lasso_columns.specs.Lines.{lines_of}
+use Rattle.lasso_cut.specs.Lines.{lines_of}
 use Rattle.lasso_codes.specs.Stages.{Taken}
 
 pub taken_none : (input : List ℕ) → Taken input input 1 []

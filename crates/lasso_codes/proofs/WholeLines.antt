@@ -16,12 +16,12 @@ use Rattle.lasso_parts.specs.declared.util.LassoError.{LassoError}
 use Rattle.lasso_single.specs.Filling.{extend}
 use Rattle.lasso_single.specs.Interner.{InternerView, made_with}
 use Rattle.lasso_single.proofs.Filled.{accepted}
-use Rattle.lasso_columns.proofs.Encoded.{texts_more}
+use Rattle.lasso_encode.proofs.Encoded.{texts_more}
 use Rattle.lasso_columns.proofs.PartLists.{found_interned, list_extended}
-use Rattle.lasso_columns.specs.Codes.{AreCodes, AddsCodes}
-use Rattle.lasso_columns.specs.Encoding.{spur_at, encoded_texts, IsRefused}
+use Rattle.lasso_encode.specs.Codes.{AreCodes, AddsCodes}
+use Rattle.lasso_encode.specs.Encoding.{spur_at, encoded_texts, IsRefused}
 use Rattle.lasso_columns.specs.Faults.{IsFaultOf}
-use Rattle.lasso_columns.specs.Lines.{lines_of}
+use Rattle.lasso_cut.specs.Lines.{lines_of}
 use Rattle.lasso_columns.specs.Parts.{new_texts}
 use Rattle.lasso_columns.specs.declared.faults.LineError.TheVariants.{Refused, NotText}
 use Rattle.lasso_counts.proofs.Rest.{first, found_extended, take_front}

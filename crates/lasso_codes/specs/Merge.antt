@@ -5,7 +5,7 @@ use Rattle.lasso_parts.specs.declared.util.LassoError.{LassoError}
 use Rattle.lasso_parts.specs.declared.util.LassoErrorKind.TheVariants.{FailedAllocation}
 use Rattle.lasso_single.specs.Filling.{extend}
 use Rattle.lasso_single.specs.Interner.{InternerView, made_with}
-use Rattle.lasso_columns.specs.Encoding.{spur_at, IsRefused}
+use Rattle.lasso_encode.specs.Encoding.{spur_at, IsRefused}
 use Rattle.lasso_columns.specs.Parts.{new_texts}
 use Rattle.lasso_columns.specs.declared.faults.LineError.TheVariants.{Refused}
 use Rattle.lasso_codes.specs.Columns.{column_of, entry_at}

@@ -7,7 +7,7 @@ use Rattle.lasso_parts.specs.declared.util.LassoError.{LassoError}
 use Rattle.lasso_single.specs.Filling.{extend}
 use Rattle.lasso_single.specs.Intern.{InternsIn}
 use Rattle.lasso_single.specs.Interner.{InternerView, made_with}
-use Rattle.lasso_columns.specs.Encoding.{spur_at, IsRefused}
+use Rattle.lasso_encode.specs.Encoding.{spur_at, IsRefused}
 use Rattle.lasso_codes.specs.Arguments.{digits_value}
 use Rattle.lasso_codes.specs.Columns.{header_front}
 use Rattle.lasso_codes.specs.Errors.{IsReadError}

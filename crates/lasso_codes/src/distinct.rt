@@ -14,7 +14,7 @@ use crate::input::{buffered, consume, next_line};
 use crate::lines::{intern_line, untested_len};
 use crate::output::{end_flushed, flush, write_line};
 use lasso::{Capacity, MemoryLimits, Rodeo, SpurRodeo};
-use lasso_columns::lines::find_newline;
+use lasso_cut::find_newline;
 use std::alloc::Global;
 use std::io::{BufReader, BufWriter, Read, Write};
 

@@ -2,9 +2,9 @@
 ghost use Rattle.std.specs.Prelude.{◌≡◌, ◌<◌, ◌≤◌, ◌-◌, ◌^◌, ◌++◌, ◌∷◌, [], ℕ, List, Some, OnOk, IfOk, IfErr, MatchResult, All, IsTrue, IsUtf8, drop, length, map};
 ghost use Rattle.std.specs.Io.Buffered.{reader_remaining, writer_contents, writer_buffer};
 ghost use Rattle.lasso_single.specs.Interner.{InternerView, made_with};
-ghost use Rattle.lasso_columns.specs.Encoding.{IsRefused};
+ghost use Rattle.lasso_encode.specs.Encoding.{IsRefused};
 ghost use Rattle.lasso_columns.specs.Faults.{IsFaultOf};
-ghost use Rattle.lasso_columns.specs.Lines.{lines_of};
+ghost use Rattle.lasso_cut.specs.Lines.{lines_of};
 ghost use Rattle.lasso_columns.specs.declared.faults.LineError.TheVariants.{Refused};
 ghost use Rattle.lasso_parts.specs.declared.util.LassoErrorKind.TheVariants.{FailedAllocation};
 ghost use Rattle.lasso_codes.specs.Arguments.{word_of};
@@ -24,8 +24,9 @@ use crate::lines::{line_text, untested_len};
 use crate::output::end_flushed;
 use crate::whole::{read_whole, text_lines};
 use lasso::{LassoError, LassoErrorKind, LassoResult, MemoryLimits, SpurRodeo};
-use lasso_columns::lines::find_newline;
 use lasso_columns::{LineError, encode_in_parts};
+use lasso_cut::find_newline;
+use lasso_encode::intern_code;
 use std::alloc::Global;
 use std::io::{BufReader, BufWriter, Read, Write};
 use std::thread::Threads;
@@ -298,8 +299,7 @@ fn number_of(rodeo: &mut SpurRodeo, null: Option<&[u8]>, text: &str) -> LassoRes
     if is_null(null, text.as_bytes()) {
         return Ok(NULL);
     }
-    let key = rodeo.try_get_or_intern(text)?;
-    Ok(key.into_inner() - 1)
+    intern_code(rodeo, text)
 }
 
 // Whether the line is a null.

@@ -12,7 +12,7 @@ use crate::input::{Cut, next_byte, next_whole_line};
 use crate::numbers::parse_digits;
 use lasso::SpurRodeo;
 use lasso::index::Texts;
-use lasso_columns::lines::find_newline;
+use lasso_cut::find_newline;
 use std::io::{BufReader, Read};
 
 /// An entry of a column, as it is read.

@@ -1,7 +1,7 @@
 //! Reads lines and bytes from a buffered reader.
 ghost use Rattle.std.specs.Prelude.{◌≡◌, ◌≤◌, ℕ, List, [], ◌∷◌, ◌++◌, Some, IfOk, IfErr, drop, length};
 ghost use Rattle.std.specs.Io.Buffered.{reader_buffer, reader_remaining};
-ghost use Rattle.lasso_columns.specs.Lines.{NoFeed};
+ghost use Rattle.lasso_cut.specs.Lines.{NoFeed};
 ghost use Rattle.lasso_codes.specs.Streams.{CutsLine, TakesByte, TakesLine};
 ghost use Rattle.lasso_codes.specs.Errors.{IsReadError};
 

@@ -2,7 +2,7 @@
 ghost use Rattle.std.specs.Prelude.{◌≡◌, ◌-◌, ℕ, Ok, MatchResult, IsTrue, IsUtf8, is_none, length, take};
 ghost use Rattle.lasso_parts.specs.Texts.{position_of};
 ghost use Rattle.lasso_single.specs.Intern.{InternsIn};
-ghost use Rattle.lasso_columns.specs.Encoding.{spur_at};
+ghost use Rattle.lasso_encode.specs.Encoding.{spur_at};
 ghost use Rattle.lasso_columns.specs.Faults.{IsFaultOf};
 
 use lasso::{Rodeo, Spur};

@@ -3,7 +3,7 @@ ghost use Rattle.std.specs.Prelude.{◌≡◌, ◌≤◌, ◌-◌, ◌++◌, ◌
 ghost use Rattle.std.specs.Io.Buffered.{reader_remaining};
 ghost use Rattle.lasso_single.specs.Filling.{extend};
 ghost use Rattle.lasso_single.specs.Interner.{InternerView, made_with};
-ghost use Rattle.lasso_columns.specs.Encoding.{spur_at};
+ghost use Rattle.lasso_encode.specs.Encoding.{spur_at};
 ghost use Rattle.lasso_codes.specs.Arguments.{word_of};
 ghost use Rattle.lasso_codes.specs.Stages.{Reading};
 ghost use Rattle.lasso_codes.specs.Reading.{after_front, header_in, header_of, header_with, AddError, AddsText, HeaderError, TakesHeader, TakesTexts, TextsError};
@@ -15,7 +15,7 @@ use crate::lines::{intern_line, untested_len};
 use crate::numbers::parse_digits;
 use lasso::SpurRodeo;
 use lasso_columns::LineError;
-use lasso_columns::lines::find_newline;
+use lasso_cut::find_newline;
 use memchr::memchr;
 use std::io::{BufReader, Read};
 

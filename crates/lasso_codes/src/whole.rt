@@ -1,14 +1,14 @@
 //! Reads a whole input, and cuts it into lines of text.
 ghost use Rattle.std.specs.Prelude.{◌≡◌, ℕ, List, Some, IfOk, IfErr, map};
 ghost use Rattle.std.specs.Io.Buffered.{reader_remaining};
-ghost use Rattle.lasso_columns.specs.Lines.{lines_of};
+ghost use Rattle.lasso_cut.specs.Lines.{lines_of};
 ghost use Rattle.lasso_columns.specs.declared.faults.LineError.TheVariants.{Refused};
 ghost use Rattle.lasso_parts.specs.declared.util.LassoErrorKind.TheVariants.{FailedAllocation};
 ghost use Rattle.lasso_codes.specs.Errors.{IsReadError};
 ghost use Rattle.lasso_codes.specs.Whole.{AreTextLines};
 
 use crate::error::RunError;
-use lasso_columns::lines::first_line;
+use lasso_cut::first_line;
 use std::alloc::Global;
 use std::io::{BufReader, ErrorKind, Read};
 use std::str::from_utf8;

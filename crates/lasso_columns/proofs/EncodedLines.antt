@@ -10,10 +10,10 @@ use Rattle.std.proofs.lemmas.List.Elements.{All-push}
 use Rattle.lasso_parts.specs.Texts.{Text, position_of}
 use Rattle.lasso_single.specs.Intern.{InternsIn}
 use Rattle.lasso_single.specs.Interner.{InternerView}
-use Rattle.lasso_columns.proofs.Encoded.{Encoded, encoded_none, encoded_push, encoded_still, encoded_are, encoded_length, next_at}
-use Rattle.lasso_columns.specs.Encoding.{spur_at, encoded_texts}
+use Rattle.lasso_encode.proofs.Encoded.{Encoded, encoded_none, encoded_push, encoded_still, encoded_are, encoded_length, next_at}
+use Rattle.lasso_encode.specs.Encoding.{spur_at, encoded_texts}
 use Rattle.lasso_columns.specs.Faults.{IsFaultOf, IsNextFault}
-use Rattle.lasso_columns.specs.Lines.{lines_of}
+use Rattle.lasso_cut.specs.Lines.{lines_of}
 use Rattle.lasso_columns.specs.declared.faults.LineError.{LineError}
 
 -- so many lines were cut off the bytes and encoded, and the rest is left

@@ -1,7 +1,3 @@
-pub mod Feeds
-pub mod FirstLines
-pub mod Coded
-pub mod Encoded
 pub mod EncodedLines
 pub mod Shared
 pub mod PartLists
@@ -9,3 +5,7 @@ pub mod Rewritten
 pub mod LayoutLaws
 pub mod Written
 pub mod Readings
+-- the lemmas about codes and about lines
+pub use Rattle.lasso_encode.proofs.Coded
+pub use Rattle.lasso_encode.proofs.Encoded
+pub use Rattle.lasso_cut.proofs.FirstLines

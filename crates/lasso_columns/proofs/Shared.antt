@@ -21,19 +21,11 @@ use Rattle.lasso_log.proofs.Histories.{history_append}
 use Rattle.lasso_log.proofs.Legal.{totals_append, list_grows}
 use Rattle.lasso_log.proofs.Lengths.{texts_past}
 use Rattle.lasso_shared.proofs.CallerLaws.{tells_keys}
-use Rattle.lasso_columns.proofs.Coded.{codes_longer, map_some_push, map_some_both}
-use Rattle.lasso_columns.proofs.Encoded.{position_of_key}
-use Rattle.lasso_columns.specs.Codes.{AreCodes}
-use Rattle.lasso_columns.specs.Encoding.{spur_at}
+use Rattle.lasso_encode.proofs.Coded.{codes_past, map_some_push, map_some_both}
+use Rattle.lasso_encode.proofs.Encoded.{found_at}
+use Rattle.lasso_encode.specs.Codes.{AreCodes}
+use Rattle.lasso_encode.specs.Encoding.{spur_at}
 use Rattle.lasso_columns.specs.Sharing.{IsRefusalIn}
-
-found_at : (o : Option ℕ) (key : ℕ) → option_and_then spur_at o ≡ Some key → o ≡ Some (key - 1)
-found_at None key has = cc
-found_at (Some n) key has = ap Some (position_of_key n key has)
-
--- codes are those of any list that theirs begins
-pub codes_past : (list later texts : List Text) (codes : List ℕ) → IsPrefix list later → AreCodes list texts codes → AreCodes later texts codes
-codes_past list later texts codes more are = subst (λ (ts : List Text). AreCodes ts texts codes) more.1 (codes_longer list more.0 texts codes are)
 
 grown : (o : Totals) (before past after : History) → before ++ past ≡ after → IsPrefix (totals o before).texts (totals o after).texts
 grown o before past after is =

@@ -4,7 +4,7 @@ use Rattle.std.specs.Str.{IsUtf8}
 use Rattle.lasso_parts.specs.Errors.{error_text, kind_text}
 use Rattle.lasso_parts.specs.Texts.{Text}
 use Rattle.lasso_single.specs.Interner.{InternerView}
-use Rattle.lasso_columns.specs.Encoding.{IsRefused, MayLackMemory}
+use Rattle.lasso_encode.specs.Encoding.{IsRefused, MayLackMemory}
 use Rattle.lasso_columns.specs.declared.faults.LineError.{LineError}
 use Rattle.lasso_columns.specs.declared.faults.LineError.TheVariants.{Refused, NotText}
 use Rattle.lasso_columns.specs.declared.faults.DecodeError.{DecodeError}

@@ -1,8 +1,10 @@
-pub mod Lines
-pub mod Codes
-pub mod Encoding
+pub mod Merging
 pub mod Faults
 pub mod Sharing
 pub mod Parts
 pub mod Layout
 pub mod Dictionaries
+-- the definitions of codes and of lines, so that a caller's crate names `lasso_columns` alone
+pub use Rattle.lasso_encode.specs.Codes
+pub use Rattle.lasso_encode.specs.Encoding
+pub use Rattle.lasso_cut.specs.Lines

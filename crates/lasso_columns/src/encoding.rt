@@ -1,52 +1,20 @@
-//! Texts to codes.
-ghost use Rattle.std.specs.Prelude.{◌≡◌, ℕ, ◌+◌, ◌<◌, ◌≤◌, ◌^◌, ◌∷◌, ◌++◌, [], Some, Ok, OnOk, IfErr, MatchResult, All, IsUtf8, length, map, vec_len, vec_capacity};
+//! Lines to codes.
+ghost use Rattle.std.specs.Prelude.{◌≡◌, ℕ, ◌+◌, ◌∷◌, ◌++◌, [], Some, Ok, OnOk, IfErr, MatchResult, All, IsUtf8, length, vec_len};
 ghost use Rattle.lasso_parts.specs.Texts.{position_of};
 ghost use Rattle.lasso_single.specs.Filling.{extend};
 ghost use Rattle.lasso_single.specs.Intern.{InternsIn};
-ghost use Rattle.lasso_columns.specs.Codes.{AddsCodes};
-ghost use Rattle.lasso_columns.specs.Encoding.{spur_at, encoded_texts, IsRefused, IsNextRefused, MayLackMemory, MayLackMemoryNext};
+ghost use Rattle.lasso_encode.specs.Codes.{AddsCodes};
+ghost use Rattle.lasso_encode.specs.Encoding.{spur_at, encoded_texts};
 ghost use Rattle.lasso_columns.specs.Faults.{IsFaultOf, IsNextFault, LineMayLackMemory, NextLineMayLackMemory};
-ghost use Rattle.lasso_columns.specs.Lines.{lines_of};
+ghost use Rattle.lasso_cut.specs.Lines.{lines_of};
 
 use crate::faults::LineError;
-use crate::lines::first_line;
-use lasso::{LassoResult, Rodeo, Spur};
+use lasso::{Rodeo, Spur};
+use lasso_cut::first_line;
+use lasso_encode::encode_text;
 use std::alloc::Allocator;
 use std::hash::BuildHasher;
 use std::str::from_utf8;
-
-/// Interns the texts in order, and puts their codes behind those that are there: the positions that they then have
-/// in the interner's list, and keep.
-///
-/// The first text that is refused ends it. The limit and the keys refuse a text as `Rodeo::try_get_or_intern` says. Out of memory
-/// (`FailedAllocation`) comes only where `codes` is full and can't grow, or for an absent text that neither the keys nor the limit
-/// refuse. So a present text is refused only where `codes` is full. The texts before the refused one are interned and have their
-/// codes, and no text after it is taken; so the number of codes tells which text it is.
-///
-/// ```rust
-/// let mut rodeo: SpurRodeo = Rodeo::default(rt.alloc())?;
-/// let mut codes = Vec::new(rt.alloc());
-/// encode(&mut rodeo, &["red", "green", "red"], &mut codes)?;
-/// assert!(rt; codes.as_slice() == [0, 1, 0].as_slice());
-/// ```
-pub fn encode<S: BuildHasher, A: Allocator + Clone>(
-    rodeo: &mut Rodeo<Spur, S, A>,
-    texts: &[&str],
-    codes: &mut Vec<u32>,
-) -> LassoResult<()>
-    ensures list { extend spur_at rodeo.old (encoded_texts codes.old.items codes.new.items (map (λ t. t.now) texts.now)) (Ok tt) rodeo.new }
-    ensures codes { AddsCodes rodeo.new.texts (encoded_texts codes.old.items codes.new.items (map (λ t. t.now) texts.now)) codes.old.items codes.new.items }
-    ensures whole { OnOk result (vec_len codes.new ≡ vec_len codes.old + length texts.now) }
-    ensures refused { IfErr result (IsNextRefused rodeo.new codes.old.items codes.new.items (map (λ t. t.now) texts.now)) }
-    ensures memory { IfErr result (MayLackMemoryNext rodeo.new codes.old.items codes.new (map (λ t. t.now) texts.now)) }
-{
-    // Where there is no memory for the codes of all texts, each asks for its own.
-    let _ = codes.reserve(texts.len());
-    for text in texts {
-        encode_text(rodeo, text, codes)?;
-    }
-    Ok(())
-}
 
 /// Encodes the lines of the bytes, as `encode` does with texts. Each line feed ends a line and is no part of it, and bytes
 /// behind the last one are a line too.
@@ -102,24 +70,4 @@ fn encode_line<S: BuildHasher, A: Allocator + Clone>(
         Ok(()) => Ok(()),
         Err(error) => Err(LineError::Refused(number, error)),
     }
-}
-
-// Interns the text and puts its code behind the others. There is room for the code before the text is interned,
-// and the codes lose no room.
-pub(crate) fn encode_text<S: BuildHasher, A: Allocator + Clone>(
-    rodeo: &mut Rodeo<Spur, S, A>,
-    text: &str,
-    codes: &mut Vec<u32>,
-) -> LassoResult<()>
-    ensures { MatchResult result
-        (λ _. ((key : ℕ) × InternsIn {K = ℕ} spur_at rodeo.old text.now (Ok key) rodeo.new)
-        × ((code : ℕ) × (position_of rodeo.new.texts text.now ≡ Some code) × (codes.new.items ≡ codes.old.items ++ code ∷ []))
-        × (vec_capacity codes.old ≤ vec_capacity codes.new))
-        (λ error. (rodeo.new ≡ rodeo.old) × (codes.new.items ≡ codes.old.items) × IsRefused rodeo.old text.now error
-        × MayLackMemory rodeo.old codes.new text.now error × (vec_capacity codes.old ≤ vec_capacity codes.new)) }
-{
-    codes.reserve(1)?;
-    let key = rodeo.try_get_or_intern(text)?;
-    codes.push(key.into_inner() - 1)?;
-    Ok(())
 }

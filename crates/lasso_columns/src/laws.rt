@@ -1,5 +1,5 @@
 //! The laws of codes. Each is the contract of a function that does nothing.
-ghost use Rattle.lasso_columns.specs.Codes.{DecodingGivesTexts, CodesTellTexts, RewritingKeepsTexts};
+ghost use Rattle.lasso_encode.specs.Codes.{DecodingGivesTexts, CodesTellTexts, RewritingKeepsTexts};
 ghost use Rattle.lasso_columns.specs.Dictionaries.{LayoutsByHand, ReadingUndoesWriting};
 
 /// Decoding what was encoded gives the texts, from the list that encoding left and from any that it begins.

@@ -9,7 +9,6 @@ mod encoding;
 mod faults;
 pub mod laws;
 mod layout;
-pub mod lines;
 mod merging;
 mod parts;
 mod reading;
@@ -17,8 +16,9 @@ mod sharing;
 mod writing;
 
 pub use decoding::decode;
-pub use encoding::{encode, encode_lines};
+pub use encoding::encode_lines;
 pub use faults::{DecodeError, LineError, ReadError, WriteError};
+pub use lasso_encode::encode;
 pub use layout::{Layout, Offset};
 pub use merging::merge;
 pub use parts::encode_in_parts;

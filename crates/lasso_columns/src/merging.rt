@@ -1,12 +1,13 @@
 //! The codes of one interner in another.
 ghost use Rattle.std.specs.Prelude.{◌≡◌, ℕ, ◌≤◌, [], Ok, OnOk, IfOk, IfErr, IsSomeAnd, slice_get, take, length, vec_capacity};
 ghost use Rattle.lasso_single.specs.Filling.{extend};
-ghost use Rattle.lasso_columns.specs.Codes.{AreCodes, StandFor};
-ghost use Rattle.lasso_columns.specs.Encoding.{spur_at, IsRefused, MayLackMemoryWithRoom, MayLackMemoryMerging};
+ghost use Rattle.lasso_encode.specs.Codes.{AreCodes, StandFor};
+ghost use Rattle.lasso_encode.specs.Encoding.{spur_at, IsRefused};
+ghost use Rattle.lasso_columns.specs.Merging.{MayLackMemoryWithRoom, MayLackMemoryMerging};
 
-use crate::encoding::encode_text;
 use lasso::index::Texts;
 use lasso::{LassoResult, Rodeo, RodeoReader, Spur};
+use lasso_encode::encode_text;
 use std::alloc::{Allocator, Global};
 use std::hash::BuildHasher;
 

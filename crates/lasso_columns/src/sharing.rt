@@ -3,8 +3,8 @@ ghost use Rattle.std.specs.Prelude.{◌≡◌, [], OnOk, OnErr, IfOk, IfErr, map
 ghost use Rattle.lasso_log.specs.History.{History, IsLegal};
 ghost use Rattle.lasso_log.specs.Notes.{Since};
 ghost use Rattle.lasso_log.specs.Views.{PassView, InternerId, IsSamePass, list_of, seen};
-ghost use Rattle.lasso_columns.specs.Codes.{AreCodes, AddsCodes};
-ghost use Rattle.lasso_columns.specs.Encoding.{spur_at};
+ghost use Rattle.lasso_encode.specs.Codes.{AreCodes, AddsCodes};
+ghost use Rattle.lasso_encode.specs.Encoding.{spur_at};
 ghost use Rattle.lasso_columns.specs.Sharing.{AddsSharedCodes, IsPartOf, IsRefusalIn};
 
 use lasso::log::{Pass, Snapshot};
@@ -130,7 +130,7 @@ fn encode_by<R: AllocGlobal + Wait, S: BuildHasher + Drop>(
     codes.reserve(texts.len())?;
     for text in texts {
         let key = rodeo.try_get_or_intern_as(rt, pass, text)?;
-        codes.push(key.into_inner() - 1)?;
+        codes.push(key.into_position())?;
     }
     Ok(codes)
 }

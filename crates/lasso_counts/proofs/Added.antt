@@ -17,11 +17,11 @@ use Rattle.lasso_single.specs.Filling.{extend}
 use Rattle.lasso_single.specs.Interner.{InternerView}
 use Rattle.lasso_single.proofs.Filled.{accepted}
 use Rattle.lasso.specs.Interning.{with_last}
-use Rattle.lasso_columns.proofs.Coded.{position_stays, map_some_at, map_some_length}
-use Rattle.lasso_columns.proofs.Encoded.{position_of_key}
+use Rattle.lasso_encode.proofs.Coded.{position_stays, map_some_at, map_some_length}
+use Rattle.lasso_encode.proofs.Encoded.{position_of_key}
 use Rattle.lasso_columns.proofs.PartLists.{list_extended}
-use Rattle.lasso_columns.specs.Codes.{AreCodes}
-use Rattle.lasso_columns.specs.Encoding.{spur_at}
+use Rattle.lasso_encode.specs.Codes.{AreCodes}
+use Rattle.lasso_encode.specs.Encoding.{spur_at}
 use Rattle.lasso_columns.specs.Parts.{new_texts}
 use Rattle.lasso_counts.specs.declared.error.CountError.{CountError}
 use Rattle.lasso_counts.specs.Counts.{AreCounts, count_of, count_at, counted}

@@ -20,9 +20,9 @@ use Rattle.lasso_single.specs.Intern.{InternsIn, interned_position}
 use Rattle.lasso_single.specs.Interner.{InternerView}
 use Rattle.lasso.specs.Interning.{with_last}
 use Rattle.lasso.proofs.Calling.{list_interned}
-use Rattle.lasso_columns.proofs.Coded.{position_stays}
-use Rattle.lasso_columns.proofs.Encoded.{position_of_key}
-use Rattle.lasso_columns.specs.Encoding.{spur_at}
+use Rattle.lasso_encode.proofs.Coded.{position_stays}
+use Rattle.lasso_encode.proofs.Encoded.{position_of_key}
+use Rattle.lasso_encode.specs.Encoding.{spur_at}
 use Rattle.lasso_columns.specs.Parts.{new_texts}
 use Rattle.lasso_counts.specs.Counts.{AreCounts, count_at, counted, added}
 

@@ -19,7 +19,7 @@ use Rattle.lasso_single.specs.Intern.{InternsIn}
 use Rattle.lasso_single.specs.Interner.{InternerView}
 use Rattle.lasso_single.proofs.Filled.{accepted}
 use Rattle.lasso_columns.proofs.PartLists.{Found, interns_found, found_stays, found_interned, extend_all, list_extended}
-use Rattle.lasso_columns.specs.Encoding.{spur_at}
+use Rattle.lasso_encode.specs.Encoding.{spur_at}
 use Rattle.lasso_columns.specs.Parts.{new_texts}
 
 first_of : (mid new : InternerView) (texts : List Text) (one : Result ℕ LassoError) → MatchResult one (λ _. extend spur_at mid texts accepted new) (λ error. (accepted ≡ Err error) × (new ≡ mid)) → (k : ℕ) × (one ≡ Ok k) × extend spur_at mid texts accepted new

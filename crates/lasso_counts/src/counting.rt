@@ -2,7 +2,7 @@
 ghost use Rattle.std.specs.Prelude.{◌≡◌, ◌+◌, ◌-◌, ◌^◌, ◌<◌, ◌++◌, ◌∷◌, [], ℕ, List, Ok, OnOk, OnErr, IfErr, IsSomeAnd, length, map, slice_get, sum, vec_len, vec_capacity};
 ghost use Rattle.lasso_parts.specs.Texts.{Text, position_of};
 ghost use Rattle.lasso_single.specs.Intern.{InternsIn};
-ghost use Rattle.lasso_columns.specs.Encoding.{spur_at, IsRefused};
+ghost use Rattle.lasso_encode.specs.Encoding.{spur_at, IsRefused};
 ghost use Rattle.lasso_single.specs.Filling.{extend};
 ghost use Rattle.lasso_counts.specs.Counts.{AreCounts, counted, added};
 ghost use Rattle.lasso_counts.specs.Adding.{AddsCounts, counted_of};

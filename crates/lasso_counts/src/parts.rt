@@ -3,8 +3,8 @@ ghost use Rattle.std.specs.Prelude.{◌≡◌, ℕ, List, [], ◌+◌, ◌-◌, 
 ghost use Rattle.lasso_parts.specs.Texts.{IsDistinct, Text, key_of, position_of};
 ghost use Rattle.lasso_single.specs.Filling.{extend};
 ghost use Rattle.lasso_single.specs.Interner.{InternerView};
-ghost use Rattle.lasso_columns.specs.Codes.{AreCodes};
-ghost use Rattle.lasso_columns.specs.Encoding.{spur_at, IsRefused};
+ghost use Rattle.lasso_encode.specs.Codes.{AreCodes};
+ghost use Rattle.lasso_encode.specs.Encoding.{spur_at, IsRefused};
 ghost use Rattle.lasso_columns.specs.Parts.{new_texts};
 ghost use Rattle.lasso_counts.specs.Counts.{AreCounts};
 ghost use Rattle.lasso_counts.specs.Adding.{AddsAmounts, AddsCounts, counted_of};

@@ -12,6 +12,7 @@ pub mod Chosen
 pub mod Parts
 pub mod ShareLines
 pub mod Listed
+pub mod SharedCalls
 pub mod Named
 pub mod Told
 pub mod InOrder

@@ -9,13 +9,13 @@ use mathlib.Core.List.{IsPrefix}
 use Rattle.lasso_parts.specs.Texts.{Text}
 use Rattle.lasso_log.specs.History.{Totals}
 use Rattle.lasso_log.specs.Notes.{NoteView, history}
-use Rattle.lasso_columns.proofs.Shared.{refused_more}
+use Rattle.lasso_lines.proofs.SharedCalls.{refused_later}
 use Rattle.lasso_lines.specs.Shares.{line_at, IsLower, IsRefusedBy, IsRefusedIn, Refusal}
 
 -- the reason is one in any history that this one begins
 refused_past : (o : Totals) (known after : List NoteView) (lines : List Text) (refusal : Refusal) → IsPrefix known after → IsRefusedIn o (history known) lines refusal → IsRefusedIn o (history after) lines refusal
 refused_past o known after lines refusal knows why =
-    let line = line_at lines why.0 ∷ [] in (why.0, why.1, why.2, refused_more o known after line line refusal.1 knows (λ text there. there) why.3)
+    (why.0, why.1, why.2, refused_later o known after (line_at lines why.0 ∷ []) refusal.1 knows why.3)
 
 -- a line of a worker is a line
 refused_by : (o : Totals) (known after : List NoteView) (lines : List Text) (worker workers : ℕ) (refusal : Refusal) → IsPrefix known after → IsRefusedBy o (history known) lines worker workers refusal → IsRefusedIn o (history after) lines refusal

@@ -1,13 +1,14 @@
 -- The lines of each worker, and the positions of their texts.
-use Rattle.std.specs.Prelude.{ℕ, zero, suc, ◌≡◌, ◌⊎◌, ◌+◌, ◌*◌, ◌<◌, ◌≤◌, ◌++◌, ◌∷◌, List, [], length, slice_index_or, Contains, Option, Some, None, Result, MatchResult, Vec}
+use Rattle.std.specs.Prelude.{ℕ, zero, suc, ◌≡◌, ◌⊎◌, ◌+◌, ◌*◌, ◌<◌, ◌≤◌, ◌++◌, ◌∷◌, List, [], length, slice_index_or, Contains, Option, Some, None, Result, Err, MatchResult, Vec}
 use Rattle.lasso_parts.specs.Texts.{Text}
 use Rattle.lasso_parts.specs.declared.util.LassoErrorKind.{LassoErrorKind}
 use Rattle.lasso_parts.specs.declared.util.LassoErrorKind.TheVariants.{FailedAllocation}
 use Rattle.lasso_log.specs.History.{History, Totals, totals}
 use Rattle.lasso_log.specs.Notes.{history}
+use Rattle.lasso_log.specs.Replies.{Copied, Intern, Interned, MayReply}
 use Rattle.lasso_log.specs.Views.{InternerId, SnapshotView, list_of}
-use Rattle.lasso_columns.specs.Codes.{AreCodes}
-use Rattle.lasso_columns.specs.Sharing.{IsRefusalIn}
+use Rattle.lasso_encode.specs.Codes.{AreCodes}
+use Rattle.lasso_encode.specs.Encoding.{spur_at}
 use Rattle.lasso_lines.specs.Ordered.{AreSameTexts}
 use Rattle.lasso_lines.specs.declared.fault.RunFault.{RunFault}
 use Rattle.lasso_lines.specs.declared.fault.RunFault.TheVariants.{Refused}
@@ -33,6 +34,12 @@ HasCodes list lines worker workers codes = (count : ℕ) × IsShare lines worker
 -- a refused line: its number, counted from 1, and the reason
 abbrev pub Refusal : Type 0
 Refusal = ℕ × LassoErrorKind
+
+-- out of memory; or somewhere in this history interning one of the texts may be refused with this error
+abbrev pub IsRefusalIn : Totals → History → List Text → LassoErrorKind → Type 0
+IsRefusalIn opening past texts error =
+    (error ≡ FailedAllocation)
+    ⊎ ((text : Text) × (front back : History) × Contains texts text × (front ++ back ≡ past) × MayReply spur_at (totals opening front) (Intern Copied text) (Interned (Err error)))
 
 -- one of the worker's lines was refused: the number is that line's, and the reason is out of memory, or one with which interning
 -- this line may be refused somewhere in the history; the worker's lines before it are in the list that the history leads to

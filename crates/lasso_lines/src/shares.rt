@@ -2,12 +2,11 @@
 ghost use Rattle.std.specs.Prelude.{◌≡◌, ◌<◌, ◌≤◌, ◌+◌, ◌++◌, ◌∷◌, List, [], OnOk, IfOk, IfErr, IfSome, IsSomeAnd, MatchResult, None, length, map, vec_len};
 ghost use mathlib.Core.List.{IsPrefix};
 ghost use Rattle.lasso_parts.specs.Texts.{Text};
-ghost use Rattle.lasso_columns.specs.Codes.{AreCodes};
-ghost use Rattle.lasso_columns.specs.Encoding.{spur_at};
-ghost use Rattle.lasso_columns.specs.Sharing.{IsRefusalIn};
+ghost use Rattle.lasso_encode.specs.Codes.{AreCodes};
+ghost use Rattle.lasso_encode.specs.Encoding.{spur_at};
 ghost use Rattle.lasso_log.specs.History.{IsLegal};
 ghost use Rattle.lasso_log.specs.Views.{PassView, InternerId, IsSamePass, list_of, seen};
-ghost use Rattle.lasso_lines.specs.Shares.{AreCodesOf, HasCodes, IsLower, IsRefusalOf, IsRefusedBy, IsShareOf};
+ghost use Rattle.lasso_lines.specs.Shares.{AreCodesOf, HasCodes, IsLower, IsRefusalIn, IsRefusalOf, IsRefusedBy, IsShareOf};
 ghost use Rattle.lasso_lines.specs.declared.fault.RunFault.TheVariants.{Refused};
 ghost use Rattle.lasso_parts.specs.declared.util.LassoErrorKind.TheVariants.{FailedAllocation};
 
@@ -172,7 +171,7 @@ fn intern_line<R: Wait>(
         Ok(key) => key,
         Err(error) => return Err((number, error)),
     };
-    match codes.push(key.into_inner() - 1) {
+    match codes.push(key.into_position()) {
         Ok(()) => Ok(()),
         Err(_) => Err((number, LassoError::new(LassoErrorKind::FailedAllocation))),
     }

@@ -3,7 +3,7 @@ ghost use Rattle.std.specs.Prelude.{◌≡◌, ℕ, ◌+◌, ◌-◌, ◌<◌, �
 ghost use Rattle.lasso_lines.specs.Stream.{Grows, OnlyGrows, written};
 ghost use Rattle.lasso_lines.specs.Report.{holding, first_bytes};
 ghost use Rattle.lasso_lines.specs.Answer.{AnswersLine, IsAnswerFault, failed_writes};
-ghost use Rattle.lasso_columns.specs.Lines.{NoFeed};
+ghost use Rattle.lasso_cut.specs.Lines.{NoFeed};
 ghost use Rattle.lasso_lines.specs.Stretch.{LeadsTo, FailsWith};
 ghost use Rattle.lasso_lines.specs.declared.fault.RunFault.TheVariants.{Refused};
 ghost use Rattle.lasso_parts.specs.declared.util.LassoErrorKind.TheVariants.{FailedAllocation};
@@ -11,7 +11,7 @@ ghost use Rattle.lasso_parts.specs.declared.util.LassoErrorKind.TheVariants.{Fai
 use crate::answers::{LineRodeo, answer_line};
 use crate::fault::RunFault;
 use crate::stream::ByteWriter;
-use lasso_columns::lines::{after_newline, find_newline};
+use lasso_cut::{after_newline, find_newline};
 use std::str::from_utf8;
 use std::sync::Wait;
 

@@ -4,9 +4,9 @@ use Rattle.std.proofs.lemmas.List.{length-map}
 use Rattle.lasso_parts.specs.Texts.{Text}
 use Rattle.lasso_single.specs.Filling.{extend}
 use Rattle.lasso_single.proofs.Filled.{accepted}
-use Rattle.lasso_columns.specs.Codes.{AddsCodes}
-use Rattle.lasso_columns.specs.Encoding.{spur_at, encoded_texts, IsRefused}
-use Rattle.lasso_columns.specs.Lines.{lines_of}
+use Rattle.lasso_encode.specs.Codes.{AddsCodes}
+use Rattle.lasso_encode.specs.Encoding.{spur_at, encoded_texts, IsRefused}
+use Rattle.lasso_cut.specs.Lines.{lines_of}
 use Rattle.lasso_columns.specs.declared.faults.LineError.TheVariants.{NotText, Refused}
 use Rattle.lasso_codes.specs.Arguments.{word_of}
 use Rattle.lasso_codes.specs.Columns.{texts_of}

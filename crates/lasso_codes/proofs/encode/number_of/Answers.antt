@@ -1,18 +1,22 @@
-use Rattle.std.proofs.Common.{◌≡◌, ◌-◌, ◌<◌, ◌∙◌, false, Some, ap, sym, subst, arith}
-use Rattle.lasso_columns.proofs.Encoded.{interned_at}
+use Rattle.std.proofs.Common.{ℕ, ◌≡◌, ◌+◌, ◌<◌, ◌∙◌, false, List, Option, Some, Result, Ok, Err, MatchResult, IfOk, inl, inr, ⊎_elim, ap, sym, subst}
+use Rattle.lasso_parts.specs.Texts.{Text, position_of}
+use Rattle.lasso_parts.specs.declared.util.LassoError.{LassoError}
+use Rattle.lasso_single.specs.Interner.{InternerView}
+use Rattle.lasso_encode.specs.Encoding.{InternsCode, IsRefused}
 use Rattle.lasso_codes.specs.Arguments.{word_of}
 use Rattle.lasso_codes.specs.Columns.{is_null}
-use Rattle.lasso_codes.specs.Encode.{IsNumberedAs}
+use Rattle.lasso_codes.specs.Encode.{IsNumbered, IsNumberedAs}
 use Rattle.lasso_codes.proofs.encode.number_of.Goals as goal
+
+-- a text that is no null was interned, or refused
+numbered : (null : Option (List ℕ)) (old new : InternerView) (text : Text) (reply : Result ℕ LassoError) → is_null null text ≡ false → InternsCode old text reply new → IfOk reply (λ code. position_of new.texts text ≡ Some code) → IfOk reply (λ code. code < 4294967295) → MatchResult reply (IsNumbered null old text new) (IsRefused old text)
+numbered null old new text (Ok code) other interns here small = subst (λ b. IsNumberedAs b old text new code) (sym other) ((code + 1, interns), here, small)
+numbered null old new text (Err error) other interns here small = ⊎_elim (λ refused. inl refused) (λ lacking. inr lacking.0) interns.0.2
 
 pub returns : goal.returns
 returns c =
     let text = c.args.text.now in
     let null = word_of c.args.null in
-    let now = c.try_get_or_intern.new.self in
-    let interns = c.in_ok-key.ensures in
-    let number = c.into_inner.result - 1 in
     let other : is_null null text ≡ false = ap (is_null null) (sym c.as_bytes.ensures.value) ∙ sym c.is_null.ensures ∙ c.if-is_null.false in
-    let here = interned_at c.args.rodeo.now now text c.in_ok-key.key interns ∙ ap (λ k. Some (k - 1)) (sym c.into_inner.ensures.kept) in
-    let small : number < 4294967295 = omega arith in
-    subst (λ b. IsNumberedAs b c.args.rodeo.now text now number) (sym other) ((c.in_ok-key.key, interns), here, small)
+    let told = c.intern_code.ensures in
+    numbered null c.args.rodeo.now c.intern_code.new.rodeo text c.intern_code.result other told.interns told.code told.range

@@ -1,7 +1,7 @@
 use Rattle.std.proofs.Common.{ℕ, ◌≡◌, ◌+◌, ◌-◌, ◌^◌, ◌<◌, ◌≤◌, List, length, Some}
 use Rattle.std.specs.Io.Buffered.{reader_remaining}
 use Rattle.lasso_parts.specs.Texts.{Text}
-use Rattle.lasso_columns.specs.Codes.{AreCodes}
+use Rattle.lasso_encode.specs.Codes.{AreCodes}
 use Rattle.lasso_codes.specs.Merge.{recoded}
 use Rattle.lasso_codes.specs.Stages.{EntriesAhead}
 use Rattle.lasso_codes.specs.Reading.{items_from}

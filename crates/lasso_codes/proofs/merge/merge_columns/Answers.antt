@@ -4,8 +4,8 @@ use Rattle.std.proofs.lemmas.Result.{err_from_is_err_and}
 use Rattle.lasso_parts.specs.Texts.{Text}
 use Rattle.lasso_single.specs.Filling.{extend}
 use Rattle.lasso_single.proofs.Filled.{accepted}
-use Rattle.lasso_columns.specs.Codes.{AreCodes}
-use Rattle.lasso_columns.specs.Encoding.{spur_at, IsRefused}
+use Rattle.lasso_encode.specs.Codes.{AreCodes}
+use Rattle.lasso_encode.specs.Encoding.{spur_at, IsRefused}
 use Rattle.lasso_codes.proofs.Items.{header_taken, header_none, header_unread}
 use Rattle.lasso_codes.proofs.MergedColumns.{merging_ends, merging_header_fails, merging_unmade, merging_texts_fail, merging_refused, merged_few, merging_push, merging_entries_fail}
 use Rattle.lasso_codes.proofs.merge.merge_columns.Goals as goal

@@ -3,7 +3,7 @@ use Rattle.std.specs.Str.{IsUtf8}
 use Rattle.lasso_single.specs.Filling.{extend}
 use Rattle.lasso_single.specs.Interner.{InternerView}
 use Rattle.lasso_single.proofs.Filled.{accepted}
-use Rattle.lasso_columns.specs.Encoding.{spur_at}
+use Rattle.lasso_encode.specs.Encoding.{spur_at}
 use Rattle.lasso_codes.specs.Stages.{Reading}
 use Rattle.lasso_codes.proofs.reading.add_texts.Given as goal
 

@@ -2,7 +2,7 @@ use Rattle.std.proofs.Common.{ℕ, ◌≡◌, ◌-◌, ◌≤◌, List, Some}
 use Rattle.std.specs.Io.Buffered.{reader_remaining}
 use Rattle.lasso_single.specs.Filling.{extend}
 use Rattle.lasso_single.proofs.Filled.{accepted}
-use Rattle.lasso_columns.specs.Encoding.{spur_at}
+use Rattle.lasso_encode.specs.Encoding.{spur_at}
 use Rattle.lasso_codes.specs.Stages.{Reading}
 use Rattle.lasso_codes.proofs.reading.read_texts.Given as goal
 

@@ -2,8 +2,8 @@ use Rattle.std.proofs.Common.{ℕ, ◌+◌, ◌-◌, ◌∷◌, ◌++◌, [], Li
 use Rattle.std.proofs.lemmas.Result.{err_from_is_err_and}
 use Rattle.lasso_parts.specs.Texts.{Text}
 use Rattle.lasso_log.specs.Views.{list_of, seen}
-use Rattle.lasso_columns.specs.Codes.{AreCodes}
-use Rattle.lasso_columns.proofs.Encoded.{texts_more, texts_contain}
+use Rattle.lasso_encode.specs.Codes.{AreCodes}
+use Rattle.lasso_encode.proofs.Encoded.{texts_more, texts_contain}
 use Rattle.lasso_columns.proofs.Shared.{shared_push, shared_refused}
 use Rattle.lasso_columns.proofs.sharing.encode_by.Goals as goal
 
@@ -12,7 +12,7 @@ loop-text-preserved g c =
     let told = c.in_ok-key.ensures in
     let list = list_of c.args.rodeo.now c.try_get_or_intern_as.new.pass.notes in
     let more = shared_push c.args.rodeo.now.opening (seen c.loop-text.pass) (seen c.try_get_or_intern_as.new.pass) c.loop-text.pass.number _ _ c.loop-text.codes.items c.in_ok-key.key c.loop-text.invariant.codes told.call in
-    let put = c.in_ok-push.ensures.items ∙ ap (λ k. c.loop-text.codes.items ++ (k - 1) ∷ []) c.into_inner.ensures.kept in
+    let put = c.in_ok-push.ensures.items ∙ ap (λ code. c.loop-text.codes.items ++ code ∷ []) c.into_position.ensures.position in
     record {
       of = told.same.1 ∙ c.loop-text.invariant.of;
       codes =

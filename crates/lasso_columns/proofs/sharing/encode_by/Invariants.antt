@@ -1,6 +1,6 @@
 use Rattle.std.proofs.Common.{◌≡◌, map, take}
 use Rattle.lasso_log.specs.Views.{list_of}
-use Rattle.lasso_columns.specs.Codes.{AreCodes}
+use Rattle.lasso_encode.specs.Codes.{AreCodes}
 use Rattle.lasso_columns.proofs.sharing.encode_by.Given as goal
 
 -- the texts before the index have their codes in what the pass has seen

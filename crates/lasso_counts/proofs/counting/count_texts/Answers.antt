@@ -3,8 +3,8 @@ use Rattle.lasso_parts.specs.Texts.{Text}
 use Rattle.lasso_single.specs.Filling.{extend}
 use Rattle.lasso_single.proofs.Filled.{accepted, extend_push}
 use Rattle.lasso.proofs.Calling.{list_interned}
-use Rattle.lasso_columns.proofs.Encoded.{texts_more}
-use Rattle.lasso_columns.specs.Encoding.{spur_at}
+use Rattle.lasso_encode.proofs.Encoded.{texts_more}
+use Rattle.lasso_encode.specs.Encoding.{spur_at}
 use Rattle.lasso_counts.specs.Adding.{AddsCounts}
 use Rattle.lasso_counts.proofs.Added.{adds_push}
 use Rattle.lasso_counts.proofs.counting.count_texts.Goals as goal

@@ -1,6 +1,6 @@
 use Rattle.std.proofs.Common.{Ok, map, take}
 use Rattle.lasso_single.specs.Filling.{extend}
-use Rattle.lasso_columns.specs.Encoding.{spur_at}
+use Rattle.lasso_encode.specs.Encoding.{spur_at}
 use Rattle.lasso_counts.specs.Adding.{AddsCounts}
 use Rattle.lasso_counts.proofs.counting.count_texts.Given as goal
 

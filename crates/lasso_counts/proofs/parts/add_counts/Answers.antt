@@ -1,7 +1,7 @@
 use Rattle.std.proofs.Common.{◌≡◌, ◌+◌, ◌<◌, ◌∙◌, ◌^◌, [], length, get_or, set, ap, refl, sym, arith}
 use Rattle.std.proofs.lemmas.List.{length-set}
 use Rattle.lasso_parts.specs.Texts.{position_of}
-use Rattle.lasso_columns.proofs.Coded.{map_some_length}
+use Rattle.lasso_encode.proofs.Coded.{map_some_length}
 use Rattle.lasso_counts.proofs.Added.{amounts_more, amounts_all, at_index, total_more, total_fits, value_at}
 use Rattle.lasso_counts.proofs.parts.add_counts.Goals as goal
 

@@ -1,6 +1,6 @@
 use Rattle.std.proofs.Common.{◌≡◌, ◌+◌, List, length, take, sum}
 use Rattle.lasso_parts.specs.Texts.{Text, IsDistinct}
-use Rattle.lasso_columns.specs.Codes.{AreCodes}
+use Rattle.lasso_encode.specs.Codes.{AreCodes}
 use Rattle.lasso_counts.specs.Adding.{AddsAmounts}
 use Rattle.lasso_counts.proofs.parts.add_counts.Given as goal
 

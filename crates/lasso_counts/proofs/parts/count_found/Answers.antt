@@ -4,8 +4,8 @@ use Rattle.std.proofs.lemmas.List.{length-map}
 use Rattle.std.proofs.lemmas.List.Elements.{All-push}
 use Rattle.std.proofs.lemmas.Option.{slice_get_past}
 use Rattle.lasso_parts.specs.Texts.{Text, key_of, position_of}
-use Rattle.lasso_columns.proofs.Encoded.{texts_more}
-use Rattle.lasso_columns.specs.Encoding.{spur_at}
+use Rattle.lasso_encode.proofs.Encoded.{texts_more}
+use Rattle.lasso_encode.specs.Encoding.{spur_at}
 use Rattle.lasso_counts.specs.Adding.{AddsCounts}
 use Rattle.lasso_counts.proofs.Added.{adds_found, none_is, text_here}
 use Rattle.lasso_counts.proofs.parts.count_found.Goals as goal

@@ -6,7 +6,7 @@ use Rattle.lasso_parts.specs.Texts.{Text}
 use Rattle.lasso_single.specs.Filling.{extend}
 use Rattle.lasso_single.proofs.Filled.{accepted}
 use Rattle.lasso_columns.proofs.Shared.{parts_reach}
-use Rattle.lasso_columns.specs.Encoding.{spur_at, IsRefused}
+use Rattle.lasso_encode.specs.Encoding.{spur_at, IsRefused}
 use Rattle.lasso_counts.specs.Adding.{AddsCounts}
 use Rattle.lasso_counts.proofs.Added.{adds_join}
 use Rattle.lasso_counts.proofs.Rest.{extend_both, part_here, first_here, within, next_here}

@@ -1,6 +1,6 @@
 use Rattle.std.proofs.Common.{◌≡◌, ◌*◌, Ok, length, map, min, take}
 use Rattle.lasso_single.specs.Filling.{extend}
-use Rattle.lasso_columns.specs.Encoding.{spur_at}
+use Rattle.lasso_encode.specs.Encoding.{spur_at}
 use Rattle.lasso_counts.specs.Adding.{AddsCounts}
 use Rattle.lasso_counts.proofs.parts.count_in_parts.Given as goal
 

@@ -1,8 +1,8 @@
 use Rattle.std.proofs.Common.{ℕ, ◌≡◌, ◌+◌, ◌-◌, ◌<◌, ◌≤◌, List, [], Bor, IfSome, map, length, get_or, sym, ap, subst, arith, ◌∙◌, length-append, vec_len}
 use Rattle.std.specs.Prelude.{IsSomeAnd, slice_get}
 use Rattle.lasso_parts.specs.Texts.{Text}
-use Rattle.lasso_columns.specs.Codes.{AreCodes}
-use Rattle.lasso_columns.specs.Encoding.{IsRefused}
+use Rattle.lasso_encode.specs.Codes.{AreCodes}
+use Rattle.lasso_encode.specs.Encoding.{IsRefused}
 use Rattle.lasso_counts.specs.Adding.{AddsAmounts, counted_of}
 use Rattle.lasso_counts.specs.Counts.{AreCounts}
 use Rattle.lasso_counts.proofs.Added.{adds_join, adds_part, places_inside, put_padded}

@@ -1,11 +1,16 @@
 //! The lines of bytes, one after another.
 ghost use Rattle.std.specs.Prelude.{◌≡◌, ◌+◌, ◌<◌, ◌∷◌, [], MatchOption, IfSome, drop, length};
 ghost use Rattle.memchr.specs.Find.{IsFirstByte, is_byte};
-ghost use Rattle.lasso_columns.specs.Lines.{IsFirstLine, lines_of};
+ghost use Rattle.lasso_cut.specs.Lines.{IsFirstLine, lines_of};
 
 use memchr::memchr_iter;
 
-/// Where the first line feed stands. It is mostly near, and this is the search that looks there first.
+/// The position of the first line feed, or `None` without one. It is mostly near, and this search looks there first.
+///
+/// ```rust
+/// assert!(rt; find_newline(b"to be\nor not\n") == Some(5));
+/// assert!(rt; find_newline(b"to be") == None);
+/// ```
 #[inline]
 pub fn find_newline(bytes: &[u8]) -> Option<usize>
     ensures { IsFirstByte (is_byte 10) bytes.now result }
@@ -13,7 +18,11 @@ pub fn find_newline(bytes: &[u8]) -> Option<usize>
     memchr_iter(b'\n', bytes).next()
 }
 
-/// The bytes behind the one at this position.
+/// The bytes after the one at this position.
+///
+/// ```rust
+/// assert!(rt; after_newline(b"to be\nor not\n", 5) == b"or not\n");
+/// ```
 #[inline]
 pub fn after_newline(bytes: &[u8], at: usize) -> &[u8]
     requires { at < length bytes.now }
@@ -23,8 +32,14 @@ pub fn after_newline(bytes: &[u8], at: usize) -> &[u8]
     &bytes[at + 1..]
 }
 
-/// The first line, without the line feed that ends it, and the bytes behind it; or `None` where there are no
+/// The first line, without the line feed that ends it, and the bytes after it; or `None` where there are no
 /// bytes. Bytes without a line feed are a line.
+///
+/// ```rust
+/// let (line, rest) = first_line(b"to be\nor not\n").ok_or("no line")?;
+/// assert!(rt; line == b"to be");
+/// assert!(rt; rest == b"or not\n");
+/// ```
 #[inline]
 pub fn first_line(bytes: &[u8]) -> Option<(&[u8], &[u8])>
     ensures lines { MatchOption result (bytes.now ≡ []) (λ cut. lines_of bytes.now ≡ cut.0.now ∷ lines_of cut.1.now) }

@@ -3,32 +3,39 @@
 -- A text that was interned has its key's position in the list that is left. The texts from before keep theirs, so their codes stay, and
 -- one code more goes behind them. As many codes were added as texts were encoded: so their number tells which these are.
 use denote.Ref.{Bor}
-use Rattle.std.proofs.Common.{ℕ, suc, map, drop, get_or, ◌≡◌, ◌+◌, ◌-◌, ◌<◌, List, [], ◌∷◌, ◌++◌, length, take, Some, Ok, IsSomeAnd, is_some, refl, sym, ap, subst, ◌∙◌, arith, length-append}
-use Rattle.std.specs.Prelude.{Contains, slice_get}
+use Rattle.std.proofs.Common.{ℕ, suc, map, drop, get_or, ◌≡◌, ◌+◌, ◌-◌, ◌<◌, List, [], ◌∷◌, ◌++◌, length, take, Option, None, Some, Ok, IsSomeAnd, is_some, refl, sym, ap, subst, ◌∙◌, arith, lit≤, length-append}
+use Rattle.std.specs.Prelude.{Contains, option_and_then, slice_get}
 use Rattle.std.proofs.lemmas.Option.{cond_some}
 use Rattle.std.proofs.Math.Seq.{drop-cons, take-append_seam}
 use Rattle.std.proofs.lemmas.List.{append-nil, take_more, take-append-drop, get_or-map, length-map}
 use Rattle.std.proofs.lemmas.List.Elements.{Contains-get_or}
+use Rattle.lasso_parts.specs.Kept.{IsKeptNumber, kept_made}
 use Rattle.lasso_parts.specs.Texts.{Text, position_of}
 use Rattle.lasso_single.specs.Filling.{extend}
-use Rattle.lasso_single.specs.Intern.{InternsIn, interned_position}
+use Rattle.lasso_single.specs.Intern.{InternsIn}
 use Rattle.lasso_single.specs.Interner.{InternerView}
 use Rattle.lasso_single.proofs.Filled.{accepted, extend_push}
-use Rattle.lasso.proofs.Calling.{list_interned}
-use Rattle.lasso.proofs.Interned.{position_with_last}
-use Rattle.lasso_columns.proofs.Coded.{codes_stay, adds_push, adds_length}
-use Rattle.lasso_columns.specs.Codes.{AddsCodes}
-use Rattle.lasso_columns.specs.Encoding.{spur_at, encoded_texts}
+use Rattle.lasso_single.proofs.KeyLists.{list_left, key_left}
+use Rattle.lasso_encode.proofs.Coded.{codes_stay, adds_push, adds_length}
+use Rattle.lasso_encode.specs.Codes.{AddsCodes}
+use Rattle.lasso_encode.specs.Encoding.{spur_at, encoded_texts}
 
 -- the position of a key
 pub position_of_key : (position k : ℕ) → spur_at position ≡ Some k → position ≡ k - 1
 position_of_key position k e = let sum = (cond_some _ _ _ e).1 in omega arith
 
+-- a key is from 1 to the greatest number of 32 bits
+pub key_kept : (position k : ℕ) → spur_at position ≡ Some k → IsKeptNumber 4294967295 k
+key_kept position k e = (kept_made 4294967295 (lit≤ tt) position k e).1
+
+-- where the text of a key is found
+pub found_at : (o : Option ℕ) (key : ℕ) → option_and_then spur_at o ≡ Some key → o ≡ Some (key - 1)
+found_at None key has = cc
+found_at (Some n) key has = ap Some (position_of_key n key has)
+
 -- where an interned text is found
 pub interned_at : (old new : InternerView) (text : Text) (key : ℕ) → InternsIn spur_at old text (Ok key) new → position_of new.texts text ≡ Some (key - 1)
-interned_at old new text key h =
-    let here = position_with_last old.texts text (position_of old.texts text) refl in
-    rw (list_interned spur_at old new text key h) here ∙ ap (λ n. Some n) (position_of_key (interned_position old.texts text) key h.0.1)
+interned_at old new text key h = found_at (position_of new.texts text) key (key_left spur_at old new text key h)
 
 -- these texts were interned in order, and their codes were put behind those from before
 pub record Encoded (old : InternerView) (texts : List Text) (before : List ℕ) (new : InternerView) (after : List ℕ) : Type 0 where
@@ -43,7 +50,7 @@ pub encoded_push : (old mid new : InternerView) (texts : List Text) (text : Text
 encoded_push old mid new texts text key code before codes after so_far interns here is = record {
   list = extend_push spur_at old mid new texts text (Ok key) accepted so_far.list interns refl;
   codes =
-      let kept : AddsCodes new.texts texts before codes = (so_far.codes.0, so_far.codes.1, rw (list_interned spur_at mid new text key interns) (codes_stay mid.texts text (is_some (position_of mid.texts text)) texts so_far.codes.0 so_far.codes.2)) in
+      let kept : AddsCodes new.texts texts before codes = (so_far.codes.0, so_far.codes.1, rw (list_left spur_at mid new text key interns) (codes_stay mid.texts text (is_some (position_of mid.texts text)) texts so_far.codes.0 so_far.codes.2)) in
       adds_push new.texts texts text code before codes after kept here is;
 }
 

@@ -1,17 +1,23 @@
--- What encoding texts answers and leaves.
-use Rattle.std.specs.Prelude.{ℕ, ◌≡◌, ◌-◌, ◌≤◌, ◌⊎◌, List, length, take, Option, None, Ok, Err, IsOk, IsSomeAnd, Vec, slice_get, vec_capacity, vec_len}
+-- What encoding texts returns and leaves.
+use Rattle.std.specs.Prelude.{ℕ, ◌≡◌, ◌+◌, ◌-◌, ◌≤◌, ◌⊎◌, List, length, take, Option, None, Result, Ok, Err, MatchResult, IsOk, IsSomeAnd, Vec, slice_get, vec_capacity, vec_len}
 use Rattle.lasso_parts.specs.Kept.{kept_at}
 use Rattle.lasso_parts.specs.Held.{Held}
 use Rattle.lasso_parts.specs.Texts.{Text, position_of}
 use Rattle.lasso_parts.specs.declared.util.LassoError.{LassoError}
 use Rattle.lasso_parts.specs.declared.util.LassoErrorKind.TheVariants.{FailedAllocation}
-use Rattle.lasso_single.specs.Filling.{extend}
-use Rattle.lasso_single.specs.Intern.{interned}
+use Rattle.lasso_single.specs.Intern.{InternsIn, interned}
 use Rattle.lasso_single.specs.Interner.{InternerView}
 
 -- the key of a position, which is the position plus one
 abbrev pub spur_at : ℕ → Option ℕ
 spur_at = kept_at 4294967295
+
+-- interning the text returns its code, whose key is one more, or refuses it
+abbrev pub InternsCode : InternerView → Text → Result ℕ LassoError → InternerView → Type 0
+InternsCode old text reply new =
+    MatchResult reply
+    (λ code. InternsIn {K = ℕ} spur_at old text (Ok (code + 1)) new)
+    (λ error. InternsIn {K = ℕ} spur_at old text (Err error) new)
 
 -- those of the texts that were encoded: the first ones, as many as codes were added
 abbrev pub encoded_texts : List ℕ → List ℕ → List Text → List Text
@@ -43,15 +49,3 @@ MayLackMemory now codes text error = error ≡ FailedAllocation → (vec_capacit
 abbrev pub MayLackMemoryNext : {A : Type 0} → InternerView → List ℕ → Vec ℕ A → List Text → LassoError → Type 0
 MayLackMemoryNext now before codes texts error =
     IsSomeAnd (slice_get texts (length codes.items - length before)) (λ text. MayLackMemory now codes text error)
-
--- When memory may be wanting for a list's next text where its code has room: the text is absent and admitted.
-abbrev pub MayLackMemoryWithRoom : InternerView → List ℕ → List Text → LassoError → Type 0
-MayLackMemoryWithRoom now codes list error =
-    IsSomeAnd (slice_get list (length codes)) (λ text. error ≡ FailedAllocation → IsAdmitted now text)
-
--- When memory may be wanting while a list is interned in another: before its first text, or at an absent and admitted
--- text, when all texts before it were interned
-abbrev pub MayLackMemoryMerging : InternerView → InternerView → List Text → LassoError → Type 0
-MayLackMemoryMerging old now list error =
-    error ≡ FailedAllocation
-    → (now ≡ old) ⊎ ((n : ℕ) × extend spur_at old (take n list) (Ok tt) now × IsSomeAnd (slice_get list n) (λ text. IsAdmitted now text))

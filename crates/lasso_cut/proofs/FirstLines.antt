@@ -7,7 +7,7 @@ use Rattle.std.specs.List.{onto_first, slice_index}
 use Rattle.std.proofs.lemmas.Bool.{false_from_ne_true}
 use Rattle.std.proofs.lemmas.Bool.Decides.{nat_tests}
 use Rattle.memchr.specs.Find.{IsFirstByte, is_byte}
-use Rattle.lasso_columns.specs.Lines.{is_line_feed, lines_of, IsFirstLine, NoFeed}
+use Rattle.lasso_cut.specs.Lines.{is_line_feed, lines_of, IsFirstLine, NoFeed}
 
 pub no_feed_both : (front back : List ℕ) → NoFeed front → NoFeed back → NoFeed (front ++ back)
 no_feed_both [] back none none' = none'

@@ -1,6 +1,6 @@
 use Rattle.std.proofs.Common.{map, take}
-use Rattle.lasso_columns.proofs.Encoded.{Encoded}
-use Rattle.lasso_columns.proofs.encoding.encode.Given as goal
+use Rattle.lasso_encode.proofs.Encoded.{Encoded}
+use Rattle.lasso_encode.proofs.encoding.encode.Given as goal
 
 -- the texts before the index were encoded
 abbrev pub invariant-loop-text : goal.invariant-loop-text

@@ -2,10 +2,10 @@ use Rattle.std.proofs.Common.{List, map, take, sym, subst}
 use Rattle.std.proofs.lemmas.List.{take-append-drop}
 use Rattle.std.proofs.lemmas.Result.{err_from_is_err_and}
 use Rattle.lasso_parts.specs.Texts.{Text}
-use Rattle.lasso_columns.specs.Encoding.{IsRefused, MayLackMemory}
-use Rattle.lasso_columns.proofs.Encoded.{Encoded, encoded_push, encoded_still, told_list, told_codes, next_at, texts_more, texts_split}
-use Rattle.lasso_columns.proofs.encoding.encode.Given.{Over}
-use Rattle.lasso_columns.proofs.encoding.encode.Goals as goal
+use Rattle.lasso_encode.specs.Encoding.{IsRefused, MayLackMemory}
+use Rattle.lasso_encode.proofs.Encoded.{Encoded, encoded_push, encoded_still, told_list, told_codes, next_at, texts_more, texts_split}
+use Rattle.lasso_encode.proofs.encoding.encode.Given.{Over}
+use Rattle.lasso_encode.proofs.encoding.encode.Goals as goal
 
 -- a text was refused
 stopped : (g : Over) (c : goal.After-from_residual g) → Encoded c.args.rodeo.now (take c.loop-text.text-index (map (λ t. t.now) c.args.texts.now)) c.args.codes.now.items c.encode_text.new.rodeo c.encode_text.new.codes.items

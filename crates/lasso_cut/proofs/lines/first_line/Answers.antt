@@ -1,7 +1,7 @@
 use Rattle.std.proofs.Common.{◌<◌, length, refl, arith}
 use Rattle.std.proofs.lemmas.Grind.{common_steps}
-use Rattle.lasso_columns.proofs.FirstLines.{lines_first, lines_last, first_line_is, last_line_is}
-use Rattle.lasso_columns.proofs.lines.first_line.Goals as goal
+use Rattle.lasso_cut.proofs.FirstLines.{lines_first, lines_last, first_line_is, last_line_is}
+use Rattle.lasso_cut.proofs.lines.first_line.Goals as goal
 
 pub returns-in-Some-clause-lines : goal.returns-in-Some-clause-lines
 returns-in-Some-clause-lines c = lines_first c.args.bytes.now _ c.after_newline.result.now c.in-Some.at c.in-Some.ensures refl c.after_newline.ensures.value

@@ -8,11 +8,12 @@ use Rattle.std.proofs.lemmas.Bool.Decides.{nat_tests}
 use Rattle.std.proofs.lemmas.List.{append-nil, map_push, length-map, length_push, length-append}
 use Rattle.std.proofs.lemmas.List.Folds.{position_or_len_push}
 use Rattle.std.proofs.lemmas.Option.{slice_get_within}
+use mathlib.Core.List.{IsPrefix}
 use Rattle.lasso_parts.proofs.IndexLaws.{slice_get-append_left}
 use Rattle.lasso_parts.proofs.TextLemmas.{position_here}
 use Rattle.lasso_parts.specs.Texts.{Text, position_of}
 use Rattle.std.specs.Str.{bytes_eq}
-use Rattle.lasso_columns.specs.Codes.{AreCodes, AddsCodes, StandFor, DecodingGivesTexts, CodesTellTexts, RewritingKeepsTexts}
+use Rattle.lasso_encode.specs.Codes.{AreCodes, AddsCodes, StandFor, DecodingGivesTexts, CodesTellTexts, RewritingKeepsTexts}
 
 -- a text that is found stays where it is found
 pub position_stays : (list : List Text) (last text : Text) (n : ℕ) → position_of list text ≡ Some n → position_of (list ++ last ∷ []) text ≡ Some n
@@ -65,6 +66,10 @@ pub codes_longer : (list more texts : List Text) (codes : List ℕ) → AreCodes
 codes_longer list [] texts codes are = subst (λ (ts : List Text). AreCodes ts texts codes) (sym (append-nil list)) are
 codes_longer list (last ∷ more) texts codes are =
     subst (λ (ts : List Text). AreCodes ts texts codes) (append_assoc list (last ∷ []) more) (codes_longer (list ++ last ∷ []) more texts codes (codes_stay list last false texts codes are))
+
+-- and codes are those of any list that theirs begins
+pub codes_past : (list later texts : List Text) (codes : List ℕ) → IsPrefix list later → AreCodes list texts codes → AreCodes later texts codes
+codes_past list later texts codes more are = subst (λ (ts : List Text). AreCodes ts texts codes) more.1 (codes_longer list more.0 texts codes are)
 
 -- one code more
 pub adds_push : (list texts : List Text) (text : Text) (code : ℕ) (before codes after : List ℕ) → AddsCodes list texts before codes → position_of list text ≡ Some code → after ≡ codes ++ code ∷ [] → AddsCodes list (texts ++ text ∷ []) before after

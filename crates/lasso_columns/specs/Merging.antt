@@ -1,0 +1,20 @@
+-- What interning the texts of one list in another returns and leaves.
+use Rattle.std.specs.Prelude.{ℕ, ◌≡◌, ◌⊎◌, List, length, take, Ok, IsSomeAnd, slice_get}
+use Rattle.lasso_parts.specs.Texts.{Text}
+use Rattle.lasso_parts.specs.declared.util.LassoError.{LassoError}
+use Rattle.lasso_parts.specs.declared.util.LassoErrorKind.TheVariants.{FailedAllocation}
+use Rattle.lasso_single.specs.Filling.{extend}
+use Rattle.lasso_single.specs.Interner.{InternerView}
+use Rattle.lasso_encode.specs.Encoding.{spur_at, IsAdmitted}
+
+-- When memory may be wanting for a list's next text where its code has room: the text is absent and admitted.
+abbrev pub MayLackMemoryWithRoom : InternerView → List ℕ → List Text → LassoError → Type 0
+MayLackMemoryWithRoom now codes list error =
+    IsSomeAnd (slice_get list (length codes)) (λ text. error ≡ FailedAllocation → IsAdmitted now text)
+
+-- When memory may be wanting while a list is interned in another: before its first text, or at an absent and admitted
+-- text, when all texts before it were interned
+abbrev pub MayLackMemoryMerging : InternerView → InternerView → List Text → LassoError → Type 0
+MayLackMemoryMerging old now list error =
+    error ≡ FailedAllocation
+    → (now ≡ old) ⊎ ((n : ℕ) × extend spur_at old (take n list) (Ok tt) now × IsSomeAnd (slice_get list n) (λ text. IsAdmitted now text))
