@@ -1,5 +1,5 @@
-//! Line feeds in bytes, and the lines that they end. Each line feed ends a line and is no part of it, and bytes after the last one
-//! are a line too.
+//! Line feeds in bytes, and the lines that they end. Each line feed ends a line and is no part of it, and bytes
+//! after the last one are a line too.
 #![tactic(auto)]
 
 mod lines;

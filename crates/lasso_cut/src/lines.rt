@@ -5,7 +5,8 @@ ghost use Rattle.lasso_cut.specs.Lines.{IsFirstLine, lines_of};
 
 use memchr::memchr_iter;
 
-/// The position of the first line feed, or `None` without one. It is mostly near, and this search looks there first.
+/// The position of the first line feed, or `None` without one. It is mostly near, and this search looks there
+/// first.
 ///
 /// ```rust
 /// assert!(rt; find_newline(b"to be\nor not\n") == Some(5));

@@ -12,13 +12,14 @@ use lasso_single::rodeo::Rodeo;
 use std::alloc::Allocator;
 use std::hash::BuildHasher;
 
-/// Interns the texts in order, and puts their codes behind those that are there: the positions that they then have
-/// in the interner's list, and keep.
+/// Interns the texts in order, and appends their codes: the positions that they then have in the interner's
+/// list, and keep.
 ///
-/// The first text that is refused ends it. The limit and the keys refuse a text as `Rodeo::try_get_or_intern` says. Out of memory
-/// (`FailedAllocation`) comes only where `codes` is full and can't grow, or for an absent text that neither the keys nor the limit
-/// refuse. So a present text is refused only where `codes` is full. The texts before the refused one are interned and have their
-/// codes, and no text after it is taken; so the number of codes tells which text it is.
+/// The first text that is refused ends it. The limit and the keys refuse a text as `Rodeo::try_get_or_intern`
+/// says. Out of memory (`FailedAllocation`) comes only where `codes` is full and can't grow, or for an absent
+/// text that neither the keys nor the limit refuse. So a present text is refused only where `codes` is full.
+/// The texts before the refused one are interned and have their codes, and no text after it is taken; so the
+/// number of codes tells which text it is.
 ///
 /// ```rust
 /// let mut rodeo: SpurRodeo = Rodeo::default(rt.alloc())?;
@@ -47,8 +48,8 @@ pub fn encode<S: BuildHasher, A: Allocator + Clone>(
 
 /// Interns the text, and appends its code.
 ///
-/// A refusal is as `encode` says of its first refused text, and leaves the interner and the codes as they were. There is room for the
-/// code before the text is interned, and the codes lose no room.
+/// A refusal is as `encode` says of its first refused text, and leaves the interner and the codes as they were.
+/// There is room for the code before the text is interned, and the codes lose no room.
 ///
 /// ```rust
 /// let mut rodeo: SpurRodeo = Rodeo::default(rt.alloc())?;
@@ -75,7 +76,8 @@ pub fn encode_text<S: BuildHasher, A: Allocator + Clone>(
     Ok(())
 }
 
-/// Interns the text, and returns its code: its position in the interner's list, which it keeps. 4294967295 is never a code.
+/// Interns the text, and returns its code: its position in the interner's list, which it keeps. 4294967295 is
+/// never a code.
 ///
 /// A text is refused as `Rodeo::try_get_or_intern` says, and nothing changes then.
 ///

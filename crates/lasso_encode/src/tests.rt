@@ -1,4 +1,5 @@
-//! Codes of texts that were worked by hand, what a refusal leaves, and the examples in the documents of the calls.
+//! Codes of texts that were worked by hand, what a refusal leaves, and the examples in the documents of the
+//! calls.
 use crate::{encode, encode_text, intern_code};
 use lasso_parts::keys::Spur;
 use lasso_parts::util::{Capacity, FixedState, LassoErrorKind, LassoResult, MemoryLimits};

@@ -1,7 +1,8 @@
 -- Calls of a pass that interns lines: the code that one gives, and why one is refused.
 --
--- A key that a pass was given is the text's key in the list that it has then seen, so its code is the text's position there. That
--- list only grows, so the codes from before stay. What explains a refusal in a history explains it in any that this one begins.
+-- A key that a pass was given is the text's key in the list that it has then seen, so its code is the text's
+-- position there. That list only grows, so the codes from before stay. What explains a refusal in a history
+-- explains it in any that this one begins.
 use Rattle.std.proofs.Common.{ℕ, Err, inl, inr, append_assoc, ◌≡◌, ◌-◌, List, [], ◌∷◌, ◌++◌, Some, Ok, sym, ap, ◌∙◌}
 use Rattle.std.specs.Prelude.{Contains}
 use mathlib.Core.List.{IsPrefix}
