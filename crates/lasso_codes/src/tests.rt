@@ -78,8 +78,8 @@ fn assert_error<R: AllocGlobal + Abort>(
     let Err(error) = ended else {
         return Err(Fail::from("there is no error"));
     };
-    let told = error.to_string(rt.alloc())?;
-    assert!(rt; told.as_str() == words);
+    let message = error.to_string(rt.alloc())?;
+    assert!(rt; message.as_str() == words);
     assert!(rt; error.status() == status);
     Ok(())
 }

@@ -77,7 +77,7 @@ fn parts_count_as_one(rt: HostRuntime) -> Result<(), Fail> {
 // The limit allows one bucket, which the first texts fill. The next text is refused, and those before it are
 // counted, also if it is in a later part or occurs again later.
 #[test]
-fn the_refused_text_is_told(rt: HostRuntime) -> Result<(), Fail> {
+fn the_refused_text_is_named(rt: HostRuntime) -> Result<(), Fail> {
     let long = "a long text that takes some bytes";
     let rows: [(&[&str], usize, u64); 3] = [
         (&[long, "b", "b", "b", "b", "b", "b", "b"], 0, 0),

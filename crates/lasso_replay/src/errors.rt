@@ -5,16 +5,27 @@ use std::fmt;
 /// Why a line is bad.
 #[derive(Clone, Copy, Debug, Drop)]
 pub enum Reason {
+    /// It is not UTF-8.
     NotUtf8,
+    /// It is a command, and no script came before it.
     NoScript,
+    /// It is a bad header of a script.
     BadHeader,
+    /// A header with an unknown kind of interner.
     UnknownKind,
+    /// An unknown key type.
     UnknownKeyType,
+    /// A header with a capacity of 0 bytes.
     NoBytes,
+    /// It is not a command of the script's kind of interner.
     BadCommand,
+    /// It is a bad line with a JSON value.
     BadJsonLine,
+    /// An unknown form of interner.
     UnknownForm,
+    /// The value is not UTF-8 in hexadecimal digits.
     NotHexadecimal,
+    /// The value is not JSON.
     NotJson,
 }
 

@@ -9,24 +9,33 @@ use std::alloc::{AllocError, Global};
 /// The forms of interners that are read from JSON.
 #[derive(Clone, Copy)]
 pub enum Form {
+    /// A `Rodeo`.
     Rodeo,
+    /// A `RodeoReader`.
     Reader,
+    /// A `RodeoResolver`.
     Resolver,
+    /// A `ThreadedRodeo`.
     Threaded,
 }
 
 /// A JSON value to read as an interner of this form and key type.
 #[derive(Drop)]
 pub struct InternerLine {
+    /// The form of the interner.
     pub form: Form,
+    /// The type of its keys.
     pub key_type: KeyType,
+    /// The JSON value.
     pub value: Value,
 }
 
 /// A JSON value to read as a key of this type.
 #[derive(Drop)]
 pub struct KeyLine {
+    /// The type of the key.
     pub key_type: SpurType,
+    /// The JSON value.
     pub value: Value,
 }
 

@@ -6,23 +6,36 @@ use std::alloc::{AllocError, Global};
 /// A call that each kind of interner has, with its arguments.
 #[derive(Drop)]
 pub enum Call {
+    /// `try_get_or_intern` of a text.
     Intern(String),
+    /// `get` of a text.
     Get(String),
+    /// `contains` of a text.
     Contains(String),
+    /// `contains_key` of the key with this number.
     Has(usize),
+    /// `try_resolve` of the key with this number.
     Resolve(usize),
+    /// `len`.
     Len,
+    /// `current_memory_usage`.
     Usage,
+    /// `max_memory_usage`.
     Max,
+    /// `set_memory_limits` to a number of bytes.
     Limit(usize),
+    /// `try_get_or_intern` of each of the texts.
     Extend(Vec<String>),
 }
 
 /// A command for a `Rodeo`, with its arguments.
 #[derive(Drop)]
 pub enum ScriptCommand {
+    /// A call.
     Call(Call),
+    /// `clear`.
     Clear,
+    /// `clone_from` an interner with these texts.
     CloneFrom(Vec<String>),
 }
 

@@ -11,8 +11,11 @@ use std::sync::Wait;
 /// A script, or a line with a JSON value.
 #[derive(Drop)]
 pub enum Part {
+    /// A script.
     Script(Script),
+    /// A line with an interner.
     Interner(InternerLine),
+    /// A line with a key.
     Key(KeyLine),
 }
 

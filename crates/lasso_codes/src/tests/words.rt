@@ -224,10 +224,10 @@ fn bad_words_are_named(rt: HostRuntime) -> Result<(), Fail> {
             "--workers=-1: not a number below 2^64",
         ),
     ];
-    for (words, told) in cases {
+    for (words, message) in cases {
         match command_of(&owned_words(&rt, words)?) {
             Ok(_) => return Err(Fail::from("bad words ask for something")),
-            Err(error) => assert!(rt; error.to_string(rt.alloc())?.as_str() == told),
+            Err(error) => assert!(rt; error.to_string(rt.alloc())?.as_str() == message),
         }
     }
     Ok(())
