@@ -70,8 +70,9 @@ fn encode_by_one<R: AllocGlobal + Abort>(rt: &R, column: &Column) -> Result<(), 
     codes.clear();
     encode(&mut rodeo, &texts, &mut codes)?;
     assert!(rt; codes == column.codes && rodeo.len() == column.distinct.wrapping_add(1));
+    let reader = rodeo.into_reader();
     let mut decoded = Vec::new(rt.alloc());
-    decode(&rodeo.into_reader(), &codes, &mut decoded)?;
+    decode(&reader, &codes, &mut decoded)?;
     assert!(rt; decoded == texts);
     Ok(())
 }

@@ -9,6 +9,7 @@ use crate::calls::{
 use lasso_parts::keys::{Key, LargeSpur, MicroSpur, MiniSpur, Spur};
 use lasso_parts::util::{FixedState, LassoErrorKind, LassoResult};
 use lasso_shared::threaded::ThreadedRodeo;
+use lasso_single::rodeo::Rodeo;
 use lasso_testing::hashers::SameState;
 use std::alloc::Global;
 use std::hash::BuildHasher;
@@ -147,6 +148,27 @@ fn keeps_limits<K: Key, S: BuildHasher + Drop, R: Wait>(
     plainly && by_pass && has_sums(rt, shared, 777, used)
 }
 
+// How many of three comparisons say that the interner has this text alone: with an interner for one thread,
+// its reader and its resolver.
+fn equal_forms<K: Key, S: BuildHasher + Default + Drop, R: AllocGlobal + Wait>(
+    rt: &R,
+    shared: &ThreadedRodeo<K, S>,
+    text: &str,
+) -> LassoResult<usize> {
+    let rodeo: Rodeo<K, S, Global> = Rodeo::from_iter(rt.alloc(), [text])?;
+    let first = shared.eq_rodeo(rt, &rodeo);
+    let reader = rodeo.into_reader();
+    let second = shared.eq_reader(rt, &reader);
+    let third = shared.eq_resolver(rt, &reader.into_resolver());
+    let mut count: usize = 0;
+    for same in [first, second, third] {
+        if same {
+            count = count.saturating_add(1);
+        }
+    }
+    Ok(count)
+}
+
 // An interner with 300 bytes in its first bucket and 777 as its limit.
 fn roomy<K: Key, S: BuildHasher + Default + Drop>(
     alloc: Global,
@@ -172,6 +194,7 @@ fn is_taken<K: Key, S: BuildHasher + Default + Drop, R: AllocGlobal + Wait>(
     all &= has_just(rt, &shared, text, absent)? && has_sums(rt, &shared, 777, 300);
     all &= keeps_limits(rt, &shared, 300) && allocated(rt, &shared) > 300;
     all &= shared.eq_threaded(rt, &shared) && are_walked(&shared, &[text]);
+    all &= equal_forms(rt, &shared, text)? == 3 && equal_forms(rt, &shared, absent)? == 0;
     all &= are_written(rt.alloc(), &shared, &[text])? && has_sums(rt, &shared, 777, 300);
     let (other, third): (ThreadedRodeo<K, S>, ThreadedRodeo<K, S>) = (
         roomy(rt.alloc())?,
