@@ -66,10 +66,12 @@ fn object_of(alloc: Global, texts: &[&str]) -> Result<String, AllocError> {
 // The array of the texts.
 fn array_of(alloc: Global, texts: &[&str]) -> Result<String, AllocError> {
     let mut json = String::new(alloc);
-    let mut before = "[";
+    json.push_str("[")?;
+    let mut number: usize = 0;
     for text in texts.iter() {
-        json.push_str(format!(in alloc; "{before}\"{text}\"")?.as_str())?;
-        before = ",";
+        let comma = if number == 0 { "" } else { "," };
+        json.push_str(format!(in alloc; "{comma}\"{text}\"")?.as_str())?;
+        number = number.saturating_add(1);
     }
     json.push_str("]")?;
     Ok(json)
