@@ -11,7 +11,7 @@ use std::test::Fail;
 use std::thread::Threads;
 
 // An interner of these texts.
-pub(super) fn interner(rt: &HostRuntime, texts: &[&str]) -> Result<SpurRodeo, Fail> {
+pub(super) fn interner<R: AllocGlobal>(rt: &R, texts: &[&str]) -> Result<SpurRodeo, Fail> {
     let mut rodeo: SpurRodeo = Rodeo::new(rt.alloc())?;
     for text in texts {
         rodeo.try_get_or_intern(text)?;
@@ -19,7 +19,7 @@ pub(super) fn interner(rt: &HostRuntime, texts: &[&str]) -> Result<SpurRodeo, Fa
     Ok(rodeo)
 }
 
-pub(super) fn shared_interner(rt: &HostRuntime) -> Result<SpurThreadedRodeo, Fail> {
+pub(super) fn shared_interner<R: AllocGlobal>(rt: &R) -> Result<SpurThreadedRodeo, Fail> {
     Ok(ThreadedRodeo::default(rt.alloc())?)
 }
 
@@ -57,8 +57,8 @@ pub(super) fn decode<'r>(
     lasso_columns::decode(reader, codes, out)
 }
 
-pub(super) fn merge(
-    rt: &HostRuntime,
+pub(super) fn merge<R: AllocGlobal>(
+    rt: &R,
     into: &mut SpurRodeo,
     from: &SpurRodeoReader,
 ) -> LassoResult<Vec<u32>> {

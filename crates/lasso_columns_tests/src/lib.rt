@@ -16,6 +16,8 @@ pub mod limited;
 #[cfg(test)]
 mod long_columns;
 #[cfg(test)]
+mod long_shared;
+#[cfg(test)]
 mod narrow;
 #[cfg(test)]
 mod numbered;
@@ -25,3 +27,5 @@ mod parts;
 mod shared;
 #[cfg(test)]
 mod shared_columns;
+#[cfg(test)]
+mod uniform;

@@ -38,13 +38,13 @@ const WORKERS: [usize; 4] = [1, 4, 8, 9];
 
 // Which of the two calls encodes.
 #[derive(Clone, Copy)]
-enum Call {
+pub(super) enum Call {
     Plain,
     ByPass,
 }
 
 impl Call {
-    fn encode<R: AllocGlobal + Threads + Wait + Sync>(
+    pub(super) fn encode<R: AllocGlobal + Threads + Wait + Sync>(
         self,
         rt: &R,
         rodeo: &SpurThreadedRodeo,

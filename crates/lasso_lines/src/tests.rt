@@ -1,5 +1,6 @@
 //! Runs over small inputs, and the program's words. Readers and writers that fail, odd inputs, those of someone who
 //! waits for answers, and runs with workers stand in files of their own.
+mod distinct_lines;
 mod failing;
 mod limits;
 mod many_lines;

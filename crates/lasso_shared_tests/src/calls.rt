@@ -43,6 +43,24 @@ pub fn with_bytes<K: Key>(alloc: Global, bytes: usize) -> Result<ThreadedRodeo<K
     Ok(ThreadedRodeo::with_capacity(alloc, Capacity::for_bytes(bytes))?)
 }
 
+/// An interner with so many bytes in its first bucket, under this limit, whose indexes ask such a hasher.
+pub fn limited_hashed<K: Key, S: BuildHasher + Default + Drop>(
+    alloc: Global,
+    bytes: usize,
+    limit: usize,
+) -> Result<ThreadedRodeo<K, S>, Fail>
+    requires { 0 < bytes }
+{
+    let (room, limits) = (Capacity::for_bytes(bytes), MemoryLimits::new(limit));
+    let made = ThreadedRodeo::with_capacity_memory_limits_and_hasher(
+        alloc,
+        room,
+        limits,
+        S::default(),
+    );
+    Ok(made?)
+}
+
 /// An interner of default capacity and limit whose indexes ask such a hasher.
 pub fn hashed<K: Key, S: BuildHasher + Default + Drop>(
     alloc: Global,
@@ -303,4 +321,42 @@ pub fn text_seen_by<'a, K: Key, S: BuildHasher + Drop>(
     ensures { pass.new.of ≡ pass.old.of }
 {
     Ok(shared.try_resolve_as(pass, key(number)?))
+}
+
+/// Whether the key with this number stands for a text by the pass.
+pub fn is_key_as<K: Key, S: BuildHasher + Drop>(
+    shared: &ThreadedRodeo<K, S>,
+    pass: &mut Pass<K>,
+    number: usize,
+) -> Result<bool, Fail>
+    requires { pass.old.of ≡ shared.now }
+    ensures { pass.new.of ≡ pass.old.of }
+{
+    Ok(shared.contains_key_as(pass, key(number)?))
+}
+
+/// The limit and the usage by the pass.
+pub fn sums_as<K: Key, S: BuildHasher + Drop, R: Wait>(
+    rt: &R,
+    shared: &ThreadedRodeo<K, S>,
+    pass: &mut Pass<K>,
+) -> (usize, usize)
+    requires { pass.old.of ≡ shared.now }
+    ensures { pass.new.of ≡ pass.old.of }
+{
+    let limit = shared.max_memory_usage_as(rt, pass);
+    (limit, shared.current_memory_usage_as(rt, pass))
+}
+
+/// Sets how many bytes all buckets may take by the pass.
+pub fn set_limit_as<K: Key, S: BuildHasher + Drop, R: Wait>(
+    rt: &R,
+    shared: &ThreadedRodeo<K, S>,
+    pass: &mut Pass<K>,
+    bytes: usize,
+)
+    requires { pass.old.of ≡ shared.now }
+    ensures { pass.new.of ≡ pass.old.of }
+{
+    shared.set_memory_limits_as(rt, pass, MemoryLimits::new(bytes));
 }

@@ -9,7 +9,7 @@ use std::test::Fail;
 use std::thread::Threads;
 
 // What the words do with the input: what they write, and how they end.
-fn run_by<R: AllocGlobal + Threads + Wait + Sync>(
+pub(super) fn run_by<R: AllocGlobal + Threads + Wait + Sync>(
     rt: &R,
     words: &[&str],
     input: &[u8],

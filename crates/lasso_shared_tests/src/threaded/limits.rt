@@ -3,7 +3,7 @@ ghost use Rattle.std.specs.Prelude.{◌≡◌};
 
 use crate::calls::{
     Shared, answered, copied, kept, kept_as, kept_so, len, limit, limited, made, pass_of,
-    set_limit, stands_for, usage,
+    set_limit, set_limit_as, stands_for, sums_as, usage,
 };
 use crate::texts::{LENGTHS, lasting, lettered};
 use lasso_log::log::Pass;
@@ -14,14 +14,6 @@ use std::sync::Wait;
 use std::test::*;
 use std::thread::{Threads, join};
 
-// Sets the limit by the pass.
-fn set_limit_as<R: Wait>(rt: &R, shared: &Shared, pass: &mut Pass<Spur>, bytes: usize)
-    requires { pass.old.of ≡ shared.now }
-    ensures { pass.new.of ≡ pass.old.of }
-{
-    shared.set_memory_limits_as(rt, pass, MemoryLimits::new(bytes));
-}
-
 // Lifts the limit by the pass.
 fn lift_limit_as<R: Wait>(rt: &R, shared: &Shared, pass: &mut Pass<Spur>)
     requires { pass.old.of ≡ shared.now }
@@ -30,24 +22,15 @@ fn lift_limit_as<R: Wait>(rt: &R, shared: &Shared, pass: &mut Pass<Spur>)
     shared.set_memory_limits_as(rt, pass, MemoryLimits::default());
 }
 
-// The limit and the usage by the pass.
-fn limit_as<R: Wait>(rt: &R, shared: &Shared, pass: &mut Pass<Spur>) -> (usize, usize)
-    requires { pass.old.of ≡ shared.now }
-    ensures { pass.new.of ≡ pass.old.of }
-{
-    let limit = shared.max_memory_usage_as(rt, pass);
-    (limit, shared.current_memory_usage_as(rt, pass))
-}
-
 #[test]
 fn a_limit_is_what_was_set_last(rt: HostRuntime) -> Result<(), Fail> {
     let shared: Shared = limited(rt.alloc(), 4, 12)?;
     let mut pass = pass_of(&shared);
     let mut other = pass_of(&shared);
     set_limit_as(&rt, &shared, &mut pass, 14);
-    assert!(rt; limit_as(&rt, &shared, &mut other) == (14, 4));
+    assert!(rt; sums_as(&rt, &shared, &mut other) == (14, 4));
     set_limit(&rt, &shared, 0);
-    assert!(rt; limit_as(&rt, &shared, &mut pass) == (0, 4));
+    assert!(rt; sums_as(&rt, &shared, &mut pass) == (0, 4));
     // no limit refuses a static text
     let key = kept_as(&rt, &shared, &mut pass, "0123456789")?;
     lift_limit_as(&rt, &shared, &mut other);
@@ -64,7 +47,7 @@ fn is_limit<R: Wait>(rt: &R, shared: &Shared, pass: &mut Pass<Spur>, bytes: usiz
     requires { pass.old.of ≡ shared.now }
     ensures { pass.new.of ≡ pass.old.of }
 {
-    limit_as(rt, shared, pass).0 == bytes && limit(rt, shared) == bytes
+    sums_as(rt, shared, pass).0 == bytes && limit(rt, shared) == bytes
 }
 
 // Sets one limit and another in turn, without a pass and by the pass. Returns whether each reading gives what was set last.
@@ -159,7 +142,7 @@ fn leave_all_bytes<R: AllocGlobal + Wait>(rt: &R, length: usize) -> Result<bool,
     let first = answered(copied(rt, &shared, lettered(alloc, "d", length)?.as_str())) == Ok(3);
     let second = answered(copied(rt, &shared, lettered(alloc, "e", length)?.as_str())) == Ok(4);
     let full = answered(copied(rt, &shared, "z")) == Err(LassoErrorKind::MemoryLimitReached);
-    Ok(new && first && second && full && limit_as(rt, &shared, &mut pass) == (bytes, bytes))
+    Ok(new && first && second && full && sums_as(rt, &shared, &mut pass) == (bytes, bytes))
 }
 
 #[test]
@@ -182,10 +165,10 @@ fn leave_the_limit<R: AllocGlobal + Wait>(rt: &R, length: usize) -> Result<bool,
     kept(rt, &shared, lasting(alloc, "b", length)?)?;
     let second = is_limit(rt, &shared, &mut pass, bytes);
     kept_so(rt, &shared, lasting(alloc, "c", length)?)?;
-    let third = limit_as(rt, &shared, &mut pass) == (bytes, 1);
+    let third = sums_as(rt, &shared, &mut pass) == (bytes, 1);
     let copy = answered(copied(rt, &shared, lettered(alloc, "d", length)?.as_str())) == Ok(3);
     let taken = if length == 1 { 1 } else { bytes };
-    Ok(first && second && third && copy && limit_as(rt, &shared, &mut pass) == (bytes, taken))
+    Ok(first && second && third && copy && sums_as(rt, &shared, &mut pass) == (bytes, taken))
 }
 
 #[test]
@@ -203,7 +186,7 @@ fn set_often<R: Wait>(rt: &R, shared: &Shared, last: usize) -> usize {
         set_limit_as(rt, shared, &mut pass, limit);
     }
     set_limit_as(rt, shared, &mut pass, last);
-    limit_as(rt, shared, &mut pass).0
+    sums_as(rt, shared, &mut pass).0
 }
 
 #[test]

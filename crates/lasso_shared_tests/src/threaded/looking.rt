@@ -2,8 +2,8 @@
 ghost use Rattle.std.specs.Prelude.{◌≡◌};
 
 use crate::calls::{
-    Shared, contains, found, found_as, is_key, kept, kept_so, key, len, made, pass_of, resolved,
-    seen_by, text_at, text_seen_by,
+    Shared, contains, found, found_as, is_key, is_key_as, kept, kept_so, key, len, made, pass_of,
+    resolved, seen_by, text_at, text_seen_by,
 };
 use lasso_log::log::Pass;
 use lasso_parts::keys::Spur;
@@ -36,14 +36,6 @@ fn plain_readings_of_two_texts(rt: HostRuntime) -> Result<(), Fail> {
     assert!(rt; !is_key(&shared, 2)?);
     assert!(rt; text_at(&shared, 2)? == None);
     Ok(())
-}
-
-// Whether the key with this number stands for a text by the pass.
-fn is_key_as(shared: &Shared, pass: &mut Pass<Spur>, number: usize) -> Result<bool, Fail>
-    requires { pass.old.of ≡ shared.now }
-    ensures { pass.new.of ≡ pass.old.of }
-{
-    Ok(shared.contains_key_as(pass, key(number)?))
 }
 
 #[test]

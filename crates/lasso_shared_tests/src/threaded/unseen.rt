@@ -4,7 +4,8 @@ ghost use Rattle.std.specs.Prelude.{◌≡◌};
 
 use crate::calls::{
     Shared, allocated, answered, contains, copied, copied_as, copied_so, found, found_as, len,
-    limit, limited, number, pass_of, seen_by, set_limit, stands_for, text_at, text_seen_by, usage,
+    limit, limited, number, pass_of, seen_by, set_limit, stands_for, sums_as, text_at,
+    text_seen_by, usage,
 };
 use crate::texts::{LENGTHS, lettered};
 use lasso_log::log::Pass;
@@ -34,15 +35,6 @@ fn reads_plainly<R: Wait>(rt: &R, shared: &Shared, count: usize) -> Result<bool,
     let last = TEXTS[count - 1];
     let present = contains(rt, shared, last) && found(rt, shared, last) == Some(count - 1);
     Ok(absent && sums && past && present && text_at(shared, count - 1)? == Some(last))
-}
-
-// The limit and the usage by the pass.
-fn sums_as<R: Wait>(rt: &R, shared: &Shared, pass: &mut Pass<Spur>) -> (usize, usize)
-    requires { pass.old.of ≡ shared.now }
-    ensures { pass.new.of ≡ pass.old.of }
-{
-    let limit = shared.max_memory_usage_as(rt, pass);
-    (limit, shared.current_memory_usage_as(rt, pass))
 }
 
 // Reads in each way by the pass, likewise.
