@@ -59,7 +59,8 @@ impl Refused {
         self.note(rt, call);
     }
 
-    /// The end of a test all of whose checks hold: an error that names the call that ran out of memory, if one did.
+    /// The end of a test all of whose checks hold: an error that names the call that ran out of memory, if one
+    /// did.
     pub fn end(self) -> Result<(), Fail> {
         match self.call {
             Some(call) => Err(Fail::new(format_args!("out of memory at {call}"))),
