@@ -76,10 +76,12 @@ $(LIBRARY): $(SOURCES) | toolchain
 test: toolchain docs
 	rt ci
 
-#: make docs                         checks the documents: links, names of files and clauses, lengths of lines
+#: make docs                         checks the documents: links, names of files and clauses, lengths of lines;
+#:                                   and that each wrong body can be applied to the code as it is
 docs:
 	docs/check --try
 	docs/check
+	wrong-bodies/run --dry
 
 #: make clean                        removes what was proved and built in this folder; what make test keeps stays
 clean:

@@ -1,35 +1,35 @@
-//! Scripts over an interner that threads share: texts that are interned, freezing, and texts of an iterator.
+//! An interner that threads share: texts that are interned, freezing, and items of an iterator.
 
 ghost use Rattle.std.specs.Prelude.{◌<◌};
 
-use crate::refusals::{Call, Fault, Refused, twice};
-use crate::stories::{Interner, State, Step, Story, Way, shows};
+use crate::retried::{Refused, retried};
+use crate::scenarios::{Interner, Reply, Scenario, State, Step, Way, shows};
 use lasso::{FixedState, Key, LassoErrorKind, RodeoReader, RodeoResolver, Spur, ThreadedRodeo};
 use lasso_testing::keys::WithoutTwo;
 use std::alloc::Global;
+use std::process::Abort;
 use std::sync::Wait;
+use std::test::Fail;
 
-const KEYS: Result<usize, LassoErrorKind> = Err(LassoErrorKind::KeySpaceExhaustion);
+const KEYS: Reply = Err(LassoErrorKind::KeySpaceExhaustion);
 
-const LIMIT: Result<usize, LassoErrorKind> = Err(LassoErrorKind::MemoryLimitReached);
+const LIMIT: Reply = Err(LassoErrorKind::MemoryLimitReached);
+
+const GREETED: State = State {
+    texts: 1,
+    usage: 4096,
+};
 
 const GREETING: [Step; 2] = [
-    (
-        "Hello, world!",
-        Ok(0),
-        State {
-            texts: 1,
-            usage: 4096,
-        },
-    ),
-    (
-        "Hello, world!",
-        Ok(0),
-        State {
-            texts: 1,
-            usage: 4096,
-        },
-    ),
+    ("Hello, world!", Ok(0), GREETED),
+    ("Hello, world!", Ok(0), GREETED),
+];
+
+// Static texts take no bytes.
+const STATIC: [Step; 3] = [
+    ("abc", Ok(0), State { texts: 1, usage: 4 }),
+    ("defghijk", Ok(1), State { texts: 2, usage: 4 }),
+    ("abc", Ok(0), State { texts: 2, usage: 4 }),
 ];
 
 // The second text takes a bucket of eight bytes, and the third what is left of the first one.
@@ -53,13 +53,6 @@ const BUCKETS: [Step; 3] = [
     ),
 ];
 
-// Static texts take no bytes.
-const STATIC: [Step; 3] = [
-    ("abc", Ok(0), State { texts: 1, usage: 4 }),
-    ("defghijk", Ok(1), State { texts: 2, usage: 4 }),
-    ("abc", Ok(0), State { texts: 2, usage: 4 }),
-];
-
 // A text that has no key takes its bytes, until none are left.
 const GAP: [Step; 6] = [
     ("p", Ok(0), State { texts: 1, usage: 4 }),
@@ -72,77 +65,94 @@ const GAP: [Step; 6] = [
 
 const STRINGS: [&str; 4] = ["one string", "two string", "red string", "blue string"];
 
-/// Texts that are copied, and static ones.
-pub fn texts<R: AllocGlobal + Wait>(rt: &R, refused: &mut Refused) -> Result<(), Fault> {
-    let greeting = Story {
+const FOUR_STRINGS: State = State {
+    texts: 4,
+    usage: 4096,
+};
+
+#[test]
+fn a_copied_text_is_interned_twice(rt: HostRuntime) -> Result<(), Fail> {
+    let mut refused = Refused::none();
+    let scenario = Scenario {
         bytes: 4096,
         limit: usize::MAX,
         way: Way::Copied,
         list: &["Hello, world!"],
         steps: &GREETING,
     };
-    greeting.tell::<R, Spur>(rt, refused)?;
-    let lasting = Story {
+    scenario.build::<_, Spur>(&rt, &mut refused)?;
+    refused.end()
+}
+
+#[test]
+fn static_texts_take_no_bytes(rt: HostRuntime) -> Result<(), Fail> {
+    let mut refused = Refused::none();
+    let scenario = Scenario {
         bytes: 4,
         limit: 4,
         way: Way::Static,
         list: &["abc", "defghijk"],
         steps: &STATIC,
     };
-    lasting.tell::<R, Spur>(rt, refused)?;
-    Ok(())
+    scenario.build::<_, Spur>(&rt, &mut refused)?;
+    refused.end()
 }
 
-/// Texts in two buckets, in an interner that is frozen.
-pub fn buckets<R: AllocGlobal + Wait>(rt: &R, refused: &mut Refused) -> Result<(), Fault> {
-    let buckets = Story {
+#[test]
+fn texts_in_two_buckets_are_frozen(rt: HostRuntime) -> Result<(), Fail> {
+    let mut refused = Refused::none();
+    let scenario = Scenario {
         bytes: 4,
         limit: usize::MAX,
         way: Way::Copied,
         list: &["abc", "defghijk", "x"],
         steps: &BUCKETS,
     };
-    freeze::<R, Spur>(rt, refused, buckets, 3)
+    freeze::<_, Spur>(&rt, &mut refused, scenario, 3)?;
+    refused.end()
 }
 
-/// A key type that lacks number 2, in an interner that is frozen.
-pub fn gap<R: AllocGlobal + Wait>(rt: &R, refused: &mut Refused) -> Result<(), Fault> {
-    let gap = Story {
+#[test]
+fn texts_before_a_missing_key_are_frozen(rt: HostRuntime) -> Result<(), Fail> {
+    let mut refused = Refused::none();
+    let scenario = Scenario {
         bytes: 4,
         limit: 4,
         way: Way::Copied,
         list: &["p", "q", "r"],
         steps: &GAP,
     };
-    freeze::<R, WithoutTwo>(rt, refused, gap, 2)
+    freeze::<_, WithoutTwo>(&rt, &mut refused, scenario, 2)?;
+    refused.end()
 }
 
-// Freezes an interner of the story, which has so many texts then, to each form, and looks at the texts there. Where memory is wanting the
-// interner is gone, and another one of the story is frozen.
-fn freeze<R: AllocGlobal + Wait, K: Key>(
+// Freezes an interner of the scenario, which has this many texts then, to each form, and looks at the texts
+// there. A call that runs out of memory takes the interner with it, so another one is frozen.
+fn freeze<R: AllocGlobal + Wait + Abort, K: Key>(
     rt: &R,
     refused: &mut Refused,
-    story: Story<'_>,
+    scenario: Scenario<'_>,
     texts: usize,
-) -> Result<(), Fault>
-    requires { 0 < story.bytes }
+) -> Result<(), Fail>
+    requires { 0 < scenario.bytes }
 {
-    let call = Call::of("into_reader");
-    let reader = twice!(
+    let reader = retried!(
+        rt,
         refused,
-        call,
-        story.tell::<R, K>(rt, refused)?.into_reader(rt),
+        "into_reader",
+        scenario.build::<R, K>(rt, refused)?.into_reader(rt),
         true
     );
-    call.expect(reader_shows(&reader, story.list, texts), "the reader")?;
-    let call = Call::of("into_resolver");
-    let resolver = twice!(
+    assert!(rt; reader_shows(&reader, scenario.list, texts));
+    let resolver = retried!(
+        rt,
         refused,
-        call,
-        story.tell::<R, K>(rt, refused)?.into_resolver(rt),
+        "into_resolver",
+        scenario.build::<R, K>(rt, refused)?.into_resolver(rt),
         true
     );
-    call.expect(resolver_shows(&resolver, story.list, texts), "the resolver")
+    assert!(rt; resolver_shows(&resolver, scenario.list, texts));
+    Ok(())
 }
 
 // Whether the reader has just the first texts of the list, each under the key of its position.
@@ -153,11 +163,11 @@ fn reader_shows<K: Key>(
 ) -> bool {
     let mut position = 0usize;
     for text in list {
-        let is_there = match reader.get(*text) {
+        let is_present = match reader.get(*text) {
             Some(key) => key.into_usize() == position && reader.try_resolve(key) == Some(*text),
             None => false,
         };
-        if is_there != (position < texts) {
+        if is_present != (position < texts) {
             return false;
         }
         position = position.saturating_add(1);
@@ -183,35 +193,41 @@ fn resolver_shows<K: Key>(
     resolver.len() == texts
 }
 
-/// Texts of an iterator: an interner that is made of them, and one that is filled with them. A refusal leaves no interner of the first, and
-/// of the second the texts before the refused one.
-pub fn filled<R: AllocGlobal + Wait>(rt: &R, refused: &mut Refused) -> Result<(), Fault> {
-    let whole = State {
-        texts: 4,
-        usage: 4096,
-    };
-    let call = Call::of("from_iter");
-    let made: Interner<Spur> = twice!(
+// A refusal leaves no interner.
+#[test]
+fn an_interner_of_an_iterator(rt: HostRuntime) -> Result<(), Fail> {
+    let mut refused = Refused::none();
+    let made: Interner<Spur> = retried!(
+        &rt,
         refused,
-        call,
-        ThreadedRodeo::from_iter(rt.alloc(), rt, STRINGS),
+        "from_iter",
+        ThreadedRodeo::from_iter(rt.alloc(), &rt, STRINGS),
         true
     );
-    call.expect(shows(rt, &made, &STRINGS, whole), "the texts")?;
-    let filled: Interner<Spur> = twice!(
+    assert!(rt; shows(&rt, &made, &STRINGS, FOUR_STRINGS));
+    refused.end()
+}
+
+// A refusal leaves the texts before the refused one.
+#[test]
+fn an_interner_filled_by_an_iterator(rt: HostRuntime) -> Result<(), Fail> {
+    let mut refused = Refused::none();
+    let filled: Interner<Spur> = retried!(
+        &rt,
         refused,
-        Call::of("new"),
+        "new",
         ThreadedRodeo::new(rt.alloc()),
         true
     );
-    let call = Call::of("extend");
-    twice!(
+    retried!(
+        &rt,
         refused,
-        call,
-        filled.extend(rt, STRINGS),
-        has_first_strings(rt, &filled)
+        "extend",
+        filled.extend(&rt, STRINGS),
+        has_first_strings(&rt, &filled)
     );
-    call.expect(shows(rt, &filled, &STRINGS, whole), "the texts")
+    assert!(rt; shows(&rt, &filled, &STRINGS, FOUR_STRINGS));
+    refused.end()
 }
 
 // Whether the interner has the first of the texts, and lacks the last.

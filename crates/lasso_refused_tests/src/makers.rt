@@ -1,10 +1,10 @@
-//! A script that makes an interner that threads share in each way.
+//! Each maker of an interner that threads share.
 
-use crate::refusals::{Call, Fault, Refused, twice};
-use crate::stories::{Interner, State, Story, Way};
+use crate::retried::{Refused, retried};
+use crate::scenarios::{Interner, Scenario, State, Way};
 use lasso::{Capacity, FixedState, LassoResult, MemoryLimits, Spur, ThreadedRodeo};
 use std::alloc::Global;
-use std::sync::Wait;
+use std::test::Fail;
 
 // The makers, by what they are given.
 #[derive(Clone, Copy)]
@@ -35,12 +35,13 @@ const MAKERS: [(Maker, &str, usize); 8] = [
     (Maker::All, "with_capacity_memory_limits_and_hasher", 4),
 ];
 
-/// An interner by each maker, in which a text is then interned.
-pub fn makers<R: AllocGlobal + Wait>(rt: &R, refused: &mut Refused) -> Result<(), Fault> {
+#[test]
+fn a_text_is_interned_after_each_maker(rt: HostRuntime) -> Result<(), Fail> {
+    let mut refused = Refused::none();
     for (maker, name, usage) in MAKERS {
-        let interner = twice!(refused, Call::of(name), make(rt.alloc(), maker), true);
+        let interner = retried!(&rt, refused, name, make(rt.alloc(), maker), true);
         let after = State { texts: 1, usage };
-        let story = Story {
+        let scenario = Scenario {
             bytes: usage,
             limit: usize::MAX,
             way: Way::Copied,
@@ -48,16 +49,18 @@ pub fn makers<R: AllocGlobal + Wait>(rt: &R, refused: &mut Refused) -> Result<()
             steps: &[("a", Ok(0), after)],
         };
         let start = State { texts: 0, usage };
-        story.intern_steps(rt, refused, &interner, start)?;
+        scenario.intern_steps(&rt, &mut refused, &interner, start);
     }
-    words(rt, refused)
+    refused.end()
 }
 
-// An interner that opens with two words, which take nothing of its bucket.
-fn words<R: AllocGlobal + Wait>(rt: &R, refused: &mut Refused) -> Result<(), Fault> {
-    let interner: Interner<Spur> = twice!(
+#[test]
+fn two_words_take_no_bytes(rt: HostRuntime) -> Result<(), Fail> {
+    let mut refused = Refused::none();
+    let interner: Interner<Spur> = retried!(
+        &rt,
         refused,
-        Call::of("from_static"),
+        "from_static",
         ThreadedRodeo::from_static(rt.alloc(), &["if", "else"]),
         true
     );
@@ -69,14 +72,15 @@ fn words<R: AllocGlobal + Wait>(rt: &R, refused: &mut Refused) -> Result<(), Fau
         texts: 3,
         usage: 4096,
     };
-    let story = Story {
+    let scenario = Scenario {
         bytes: 4096,
         limit: usize::MAX,
         way: Way::Copied,
         list: &["if", "else", "a"],
         steps: &[("else", Ok(1), two), ("a", Ok(2), three)],
     };
-    story.intern_steps(rt, refused, &interner, two)
+    scenario.intern_steps(&rt, &mut refused, &interner, two);
+    refused.end()
 }
 
 fn make(alloc: Global, maker: Maker) -> LassoResult<Interner<Spur>> {

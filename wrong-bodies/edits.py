@@ -1,0 +1,177 @@
+"""The edits of wrong bodies, as `run` reads them, and whether each can be applied to the code as it is."""
+import glob
+import os
+import re
+from dataclasses import dataclass, field, replace
+
+HERE = os.path.dirname(os.path.dirname(os.path.abspath(__file__)))
+BY_SOME_HISTORY = re.compile(r"\bIsPlain(?:Call|Filling)\b")
+FUNCTION = re.compile(r"\bfn (\w+)")
+PAGE_FILE = re.compile(r"`(src/[\w/]+\.rt)`")
+EXAMPLES = "lasso_shared"
+KINDS = ("must-fail", "wrong-bodies")
+
+
+class Unfit(Exception):
+    """An edit that cannot be applied, or a tree that cannot be checked."""
+
+
+@dataclass
+class Edit:
+    """A wrong body: what it changes in which file, the path of its function, as rt says it, where it is of one, and what else refutes it."""
+
+    crate: str
+    name: str
+    file: str
+    function: str
+    changes: list
+    tests: list = field(default_factory=list)
+    examples: list = field(default_factory=list)
+
+
+def read_edit(path, crate):
+    """The edit that stands in the file."""
+    lines = {"file": [], "function": [], "test": [], "example": [], "old": [], "new": []}
+    name = os.path.basename(path)
+    with open(path, encoding="utf-8") as source:
+        for line in source.read().split("\n"):
+            word, _, rest = line.partition(":")
+            if word in lines:
+                lines[word].append(rest[1:])
+            elif line:
+                raise Unfit(f"{crate}/{name}: this is no line of an edit: {line}")
+    if len(lines["file"]) != 1 or len(lines["function"]) > 1 or not lines["old"] or len(lines["old"]) != len(lines["new"]):
+        raise Unfit(f"{crate}/{name} is not an edit")
+    function = f"{crate}::{lines['function'][0]}" if lines["function"] else ""
+    tests, examples = ([tuple(words.split(" ")) for words in lines[kind]] for kind in ("test", "example"))
+    if any(len(words) != 2 for words in tests + examples):
+        raise Unfit(f"{crate}/{name}: a test and an example have two words each")
+    return Edit(crate, name, lines["file"][0], function, list(zip(lines["old"], lines["new"])), tests, examples)
+
+
+def edits_in(crate, folder):
+    """The files of edits in this folder of the crate."""
+    return sorted(glob.glob(f"{HERE}/crates/{crate}/{folder}/*.edit"))
+
+
+def edits_of_page(path, crate):
+    """The edits that stand in a page, each after the file that it is of."""
+    name = os.path.basename(path)
+    file, old = "", ""
+    with open(path, encoding="utf-8") as source:
+        for line in source.read().split("\n"):
+            if line.startswith("    old: "):
+                old = line[len("    old: ") :]
+            elif line.startswith("    new: "):
+                yield Edit(crate, name, file, "", [(old, line[len("    new: ") :])])
+            else:
+                file = ([file] + PAGE_FILE.findall(line))[-1]
+
+
+def places(edit, text):
+    """Where in the file's text the edit puts what: (start, end, new text) of each change."""
+    found = []
+    for old, new in edit.changes:
+        if text.count(old) != 1:
+            raise Unfit(f"{edit.crate}/{edit.name}: in {edit.file} this stands {text.count(old)} times: {old}")
+        start = text.index(old)
+        found.append((start, start + len(old), new))
+    return found
+
+
+def contract_before(edit, text):
+    """What stands from the head of the function that the edit is of up to its first change."""
+    end = places(edit, text)[0][0] + len(edit.changes[0][0])
+    return text[max(text.rfind("fn ", 0, end), 0) : end]
+
+
+def test_grounds(edit):
+    """Refuses an edit of a clause that some history explains where it names neither an example nor a test; and an example that is not there."""
+    with open(os.path.join(HERE, "crates", edit.crate, edit.file), encoding="utf-8") as source:
+        contract = contract_before(edit, source.read()) if edit.file.startswith("src/") else ""
+    if BY_SOME_HISTORY.search(contract) and not edit.examples and not edit.tests:
+        raise Unfit(f"{edit.crate}/{edit.name}: some history may explain this reply too: name an example that refutes it, or a test")
+    for file, name in edit.examples:
+        with open(os.path.join(HERE, "crates", EXAMPLES, "specs", f"{file}.antt"), encoding="utf-8") as source:
+            if not re.search(rf"^  pub {re.escape(name)} :", source.read(), re.MULTILINE):
+                raise Unfit(f"{edit.crate}/{edit.name}: there is no example {file}.{name}")
+
+
+def test_fit(edit, in_turn):
+    """Refuses an edit that cannot be applied. Where `in_turn` is set, each change may be of what those before it made."""
+    with open(os.path.join(HERE, "crates", edit.crate, edit.file), encoding="utf-8") as source:
+        text = source.read()
+    if not in_turn:
+        places(edit, text)
+        return
+    for old, new in edit.changes:
+        places(replace(edit, changes=[(old, new)]), text)
+        text = text.replace(old, new)
+
+
+def test_names(edit):
+    """Refuses an edit of another function than it names, and one that names a test which does not exist."""
+    name = edit.function.rsplit("::", 1)[-1]
+    if name and edit.file.startswith("src/"):
+        with open(os.path.join(HERE, "crates", edit.crate, edit.file), encoding="utf-8") as source:
+            text = source.read()
+        (_, end, new), *_ = places(edit, text)
+        if name not in FUNCTION.findall(text[:end])[-1:] + FUNCTION.findall(new):
+            raise Unfit(f"{edit.crate}/{edit.name}: in {edit.file} its first change is not one of {name}")
+    for crate, test in edit.tests:
+        *modules, name = test.split("::")
+        named = [path for path in glob.glob(f"{HERE}/crates/{crate}/src/**/*.rt", recursive=True) if has_function(path, name)]
+        if not any(module in path for path in named for module in modules[:1] or [""]):
+            raise Unfit(f"{edit.crate}/{edit.name}: {crate} has no test {test}")
+
+
+def has_function(path, name):
+    """Whether the file has a function of this name."""
+    with open(path, encoding="utf-8") as source:
+        return re.search(rf"\bfn {name}\b", source.read()) is not None
+
+
+def crates_with(folder):
+    """The crates that have such a folder."""
+    return sorted(path.split("/")[-3] for path in glob.glob(f"{HERE}/crates/*/{folder}/"))
+
+
+def every_edit():
+    """Each edit of each crate as its kind and itself, or the fault of one that cannot be read."""
+    for kind in KINDS:
+        for crate in crates_with(kind):
+            for path in edits_in(crate, kind):
+                try:
+                    yield kind, read_edit(path, crate)
+                except Unfit as fault:
+                    yield kind, fault
+            for path in sorted(glob.glob(f"{HERE}/crates/{crate}/{kind}/*.md")):
+                yield from (("pages", edit) for edit in edits_of_page(path, crate))
+
+
+def fault_of(kind, edit):
+    """Why the edit cannot be applied, or None."""
+    try:
+        if isinstance(edit, Unfit):
+            raise edit
+        test_fit(edit, kind == "must-fail")
+        if kind == "wrong-bodies":
+            test_names(edit)
+            test_grounds(edit)
+    except (Unfit, OSError) as fault:
+        return fault
+    return None
+
+
+def look():
+    """Prints each edit that cannot be applied, and how many there are of each kind."""
+    counts = dict.fromkeys((*KINDS, "pages"), 0)
+    unfit = 0
+    for kind, edit in every_edit():
+        counts[kind] += 1
+        fault = fault_of(kind, edit)
+        if fault:
+            unfit += 1
+            print(fault)
+    print("wrong bodies: " + ", ".join(f"{count} in {kind}" for kind, count in counts.items()) + f"; {unfit} cannot be applied")
+    return 1 if unfit or not all(counts.values()) else 0
