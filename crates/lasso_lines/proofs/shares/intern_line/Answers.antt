@@ -1,4 +1,4 @@
-use Rattle.std.proofs.Common.{ℕ, ◌-◌, ◌∷◌, ◌++◌, ◌∙◌, [], List, ap, sym, subst}
+use Rattle.std.proofs.Common.{ℕ, ◌∷◌, ◌++◌, ◌∙◌, [], List, ap, sym, subst}
 use Rattle.std.proofs.lemmas.List.Elements.{Contains-push}
 use Rattle.lasso_log.specs.Views.{list_of, seen}
 use Rattle.lasso_encode.specs.Codes.{AreCodes}
