@@ -25,7 +25,7 @@ fn of_four_bytes(rt: &HostRuntime) -> Result<SpurRodeo, Fail> {
     Ok(rodeo)
 }
 
-fn kind_of<T: Drop>(outcome: LassoResult<T>) -> Option<LassoErrorKind> {
+fn refusal(outcome: LassoResult<u32>) -> Option<LassoErrorKind> {
     match outcome {
         Ok(_) => None,
         Err(error) => Some(error.kind()),
@@ -78,7 +78,7 @@ fn texts_are_encoded(rt: HostRuntime) -> Result<(), Fail> {
 fn a_refused_text_has_no_code(rt: HostRuntime) -> Result<(), Fail> {
     let mut rodeo = of_four_bytes(&rt)?;
     assert!(rt; interned(&mut rodeo, "red")? == 0);
-    assert!(rt; kind_of(interned(&mut rodeo, "green")) == Some(LassoErrorKind::MemoryLimitReached));
+    assert!(rt; refusal(interned(&mut rodeo, "green")) == Some(LassoErrorKind::MemoryLimitReached));
     assert!(rt; rodeo.len() == 1);
     assert!(rt; interned(&mut rodeo, "red")? == 0);
     assert!(rt; interned(&mut rodeo, "x")? == 1);
@@ -90,8 +90,10 @@ fn a_refusal_leaves_the_codes(rt: HostRuntime) -> Result<(), Fail> {
     let mut rodeo = of_four_bytes(&rt)?;
     let mut codes = Vec::new(rt.alloc());
     encoded(&mut rodeo, "red", &mut codes)?;
-    let refused = encoded(&mut rodeo, "green", &mut codes);
-    assert!(rt; kind_of(refused) == Some(LassoErrorKind::MemoryLimitReached));
+    let Err(error) = encoded(&mut rodeo, "green", &mut codes) else {
+        return Err(Fail::from("it was not refused"));
+    };
+    assert!(rt; error.kind() == LassoErrorKind::MemoryLimitReached);
     assert!(rt; codes.as_slice() == [0].as_slice());
     assert!(rt; rodeo.len() == 1);
     Ok(())
