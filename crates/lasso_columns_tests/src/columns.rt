@@ -120,6 +120,21 @@ fn two_dictionaries_are_merged(rt: HostRuntime) -> Result<(), Fail> {
     Ok(())
 }
 
+// The dictionary that takes the texts is unchanged until one is refused.
+#[test]
+fn a_first_new_text_is_refused_by_the_limit(rt: HostRuntime) -> Result<(), Fail> {
+    let mut into = limited(rt.alloc())?;
+    let first = interner(&rt, &["first", "other"])?.into_reader();
+    let merged = merge(&rt, &mut into, &first)?;
+    assert!(rt; merged.as_slice() == [0, 1].as_slice());
+    let from = interner(&rt, &["third"])?.into_reader();
+    limit_refuses(merge(&rt, &mut into, &from).err())?;
+    let from = interner(&rt, &["first", "third"])?.into_reader();
+    limit_refuses(merge(&rt, &mut into, &from).err())?;
+    assert!(rt; into.len() == 2);
+    Ok(())
+}
+
 #[test]
 fn long_columns_are_encoded(rt: HostRuntime) -> Result<(), Fail> {
     let mut rodeo = interner(&rt, &[])?;

@@ -53,6 +53,30 @@ fn twenty_texts_are_all_that_is_interned(rt: HostRuntime) -> Result<(), Fail> {
     Ok(())
 }
 
+// An empty text, texts that are not ASCII, and one of 5000 bytes, under a limit with room for them.
+#[test]
+fn odd_texts_have_codes_of_their_own(rt: HostRuntime) -> Result<(), Fail> {
+    let long = vec![in rt.alloc(); b'x'; 5000]?;
+    let long = std::str::from_utf8(&long).ok().ok_or("no text")?;
+    let texts = ["", "é", "", long, "é", "😀"];
+    for workers in [1, 4] {
+        for by_pass in [false, true] {
+            let limits = MemoryLimits::new(20_000);
+            let rodeo: SpurThreadedRodeo = ThreadedRodeo::with_memory_limits(rt.alloc(), limits)?;
+            let mut codes = Vec::new(rt.alloc());
+            if by_pass {
+                encode_shared_as(&rt, &rodeo, &texts, &mut codes, workers)?;
+            } else {
+                encode_shared(&rt, &rodeo, &texts, &mut codes, workers)?;
+            }
+            stand_for(&rt, &rodeo, &codes, &texts)?;
+            assert!(rt; rodeo.len() == 4);
+            assert!(rt; rodeo.max_memory_usage(&rt) == 20_000);
+        }
+    }
+    Ok(())
+}
+
 #[test]
 fn codes_go_behind_those_from_before(rt: HostRuntime) -> Result<(), Fail> {
     let rodeo = shared_interner(&rt)?;

@@ -16,6 +16,7 @@ use crate::fault::RunFault;
 use crate::memory::{MemoryReader, MemoryWriter, report_of};
 use crate::program::run_words;
 use crate::standard::{StandardReader, StandardWriter};
+use failing::ShortReader;
 use lasso::MemoryLimits;
 use std::process::Abort;
 use std::test::Fail;
@@ -79,6 +80,75 @@ fn not_text(rt: HostRuntime) -> Result<(), Fail> {
     let (text, result) = report_of(&rt, b"\x61\x0a\xff\x0a", no_limit());
     assert!(rt; text.as_slice() == b"0 a\n".as_slice());
     assert_fault(&rt, result, "line 2: not UTF-8", 2)
+}
+
+// The texts of lines that are refused, and where.
+const PAST_LIMIT: [&str; 2] = [
+    "line 1: Lasso encountered an error: The configured memory limit was reached",
+    "line 2: Lasso encountered an error: The configured memory limit was reached",
+];
+
+#[test]
+fn a_line_with_more_after_it_is_past_the_limit(rt: HostRuntime) -> Result<(), Fail> {
+    let line = vec![in rt.alloc(); b'a'; 4096]?;
+    let mut input = line.clone()?;
+    input.extend_from_slice(b"\nbcdef\nx")?;
+    let mut output = b"0 ".to_vec(rt.alloc())?;
+    output.extend_from_slice(&line)?;
+    output.push(b'\n')?;
+    let (text, result) = report_of(&rt, &input, MemoryLimits::new(4100));
+    assert!(rt; text.as_slice() == output.as_slice());
+    assert_fault(&rt, result, PAST_LIMIT[1], 1)
+}
+
+#[test]
+fn the_first_line_is_past_the_limit(rt: HostRuntime) -> Result<(), Fail> {
+    for rest in [b"".as_slice(), b"\n".as_slice(), b"\nx\n".as_slice()] {
+        let mut input = vec![in rt.alloc(); b'a'; 4097]?;
+        input.extend_from_slice(rest)?;
+        let (text, result) = report_of(&rt, &input, MemoryLimits::new(4096));
+        assert!(rt; text.is_empty());
+        assert_fault(&rt, result, PAST_LIMIT[0], 1)?;
+    }
+    Ok(())
+}
+
+// Inputs with a line that is not UTF-8, what is written before it, and what is said of it.
+const NOT_TEXT: [(&[u8], &[u8], &str); 5] = [
+    (b"\xff", b"", "line 1: not UTF-8"),
+    (b"\xff\n", b"", "line 1: not UTF-8"),
+    (b"a\n\xff", b"0 a\n", "line 2: not UTF-8"),
+    (b"a\nb\n\xff\n", b"0 a\n1 b\n", "line 3: not UTF-8"),
+    (b"a\nb\na\n\xff", b"0 a\n1 b\n0 a\n", "line 4: not UTF-8"),
+];
+
+#[test]
+fn each_line_may_be_no_text(rt: HostRuntime) -> Result<(), Fail> {
+    for (input, output, words) in NOT_TEXT {
+        let (text, result) = report_of(&rt, input, no_limit());
+        assert!(rt; text.as_slice() == output);
+        assert_fault(&rt, result, words, 2)?;
+    }
+    Ok(())
+}
+
+#[test]
+fn a_faulty_line_comes_byte_by_byte(rt: HostRuntime) -> Result<(), Fail> {
+    for (input, output, words) in NOT_TEXT {
+        let mut reader = ShortReader::one_by_one(input);
+        let mut writer = MemoryWriter::new(rt.alloc());
+        let ended = run(&rt, &mut reader, &mut writer, no_limit());
+        assert_fault(&rt, ended, words, 2)?;
+        assert!(rt; writer.into_bytes().as_slice() == output);
+    }
+    let mut input = vec![in rt.alloc(); b'a'; 4097]?;
+    input.extend_from_slice(b"\nx\n")?;
+    let mut reader = ShortReader::one_by_one(&input);
+    let mut writer = MemoryWriter::new(rt.alloc());
+    let ended = run(&rt, &mut reader, &mut writer, MemoryLimits::new(4096));
+    assert_fault(&rt, ended, PAST_LIMIT[0], 1)?;
+    assert!(rt; writer.into_bytes().is_empty());
+    Ok(())
 }
 
 // What the words give, as the limit and the number of workers.

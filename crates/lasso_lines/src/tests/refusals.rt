@@ -3,6 +3,7 @@
 use super::assert_fault;
 use super::many_lines::push_line;
 use super::workers::{run_over, with_line_of};
+use crate::fault::RunFault;
 use lasso::MemoryLimits;
 use std::test::Fail;
 
@@ -60,6 +61,24 @@ fn one_worker_tells_the_first_line_past_the_limit(rt: HostRuntime) -> Result<(),
     let wanted = "line 410: Lasso encountered an error: The configured memory limit was reached";
     assert_fault(&rt, ended, wanted, 1)?;
     assert!(rt; output.is_empty());
+    Ok(())
+}
+
+// Of 600 such lines some are refused, whichever worker interns first.
+#[test]
+fn more_workers_meet_the_limit_too(rt: HostRuntime) -> Result<(), Fail> {
+    let mut input = Vec::new(rt.alloc());
+    for number in 0..600usize {
+        push_line(&mut input, number)?;
+    }
+    for workers in [2usize, 4, 64] {
+        let (output, ended) = run_over(&rt, &input, MemoryLimits::new(LIMIT), workers);
+        assert!(rt; output.is_empty());
+        let Err(RunFault::Refused(_, error)) = ended else {
+            return Err(Fail::from("no line was refused"));
+        };
+        assert!(rt; error.kind().is_memory_limit());
+    }
     Ok(())
 }
 

@@ -87,6 +87,28 @@ fn four_forms_of_one_list(rt: HostRuntime) -> Result<(), Fail> {
     Ok(())
 }
 
+#[test]
+fn an_empty_list_is_equal_to_an_empty_one_alone(rt: HostRuntime) -> Result<(), Fail> {
+    let empty = made(rt.alloc())?;
+    let other = compared(&rt, rt.alloc(), &empty, ["a", "b", "c"])?;
+    assert!(rt; other == (false, false, false, false));
+    let single = single_of_all(rt.alloc(), &[])?;
+    assert!(rt; is_equal_to_forms(&rt, &empty, &single)? == (true, true, true));
+    assert!(rt; is_equal(&rt, &empty, &empty));
+    Ok(())
+}
+
+#[test]
+fn a_longer_list_is_not_equal(rt: HostRuntime) -> Result<(), Fail> {
+    let shared = shared_of(&rt, rt.alloc(), ["a", "b", "c"])?;
+    extend(&rt, &shared, ["c", "d"])?;
+    let shorter = compared(&rt, rt.alloc(), &shared, ["a", "b", "c"])?;
+    assert!(rt; shorter == (false, false, false, false));
+    let empty = single_of_all(rt.alloc(), &[])?;
+    assert!(rt; is_equal_to_forms(&rt, &shared, &empty)? == (false, false, false));
+    Ok(())
+}
+
 // Whether the interner is equal to the reader of the other, and to that reader's resolver.
 fn is_equal_to_frozen<R: Wait>(
     rt: &R,

@@ -1,10 +1,12 @@
 //! An interner that threads share and that opens with words.
 use crate::calls::{Shared, found, len, limit, resolved, usage};
-use lasso_parts::keys::Key;
+use lasso_parts::keys::{Key, Spur};
 use lasso_parts::util::{FixedState, LassoErrorKind, LassoResult};
 use lasso_shared::threaded::ThreadedRodeo;
+use lasso_single::rodeo::Rodeo;
 use lasso_testing::keys::BelowTwo;
 use std::alloc::Global;
+use std::sync::Wait;
 use std::test::*;
 
 const KEYWORDS: [&str; 3] = ["if", "else", "a word of more bytes than an entry has"];
@@ -26,6 +28,67 @@ fn words_have_the_lowest_keys(rt: HostRuntime) -> Result<(), Fail> {
     assert!(rt; limit(&rt, &shared) == usize::MAX);
     let name = shared.try_get_or_intern(&rt, "width")?;
     assert!(rt; name.into_usize() == KEYWORDS.len());
+    Ok(())
+}
+
+// The keywords and a later text, in the order of their keys.
+const TEXTS: [&str; 4] = [
+    "if",
+    "else",
+    "a word of more bytes than an entry has",
+    "width",
+];
+
+// An interner that opens with the keywords and has the later text.
+fn grown<R: Wait>(rt: &R, alloc: Global) -> LassoResult<Shared> {
+    let shared = opened(alloc)?;
+    shared.try_get_or_intern(rt, TEXTS[3])?;
+    Ok(shared)
+}
+
+// Whether the interner is equal to one for one thread of these texts, to its reader and to its resolver.
+fn is_equal_to_all<R: Wait>(
+    rt: &R,
+    alloc: Global,
+    shared: &Shared,
+    texts: &[&str],
+) -> LassoResult<(bool, bool, bool)> {
+    let single: Rodeo<Spur, FixedState, Global> = Rodeo::from_iter(alloc, texts.iter().copied())?;
+    let same = shared.eq_rodeo(rt, &single);
+    let reader = single.into_reader();
+    let same_reader = shared.eq_reader(rt, &reader);
+    Ok((
+        same,
+        same_reader,
+        shared.eq_resolver(rt, &reader.into_resolver()),
+    ))
+}
+
+#[test]
+fn a_later_text_is_compared_with_the_words(rt: HostRuntime) -> Result<(), Fail> {
+    let shared = grown(&rt, rt.alloc())?;
+    let all = is_equal_to_all(&rt, rt.alloc(), &shared, &TEXTS)?;
+    assert!(rt; all == (true, true, true));
+    let words = is_equal_to_all(&rt, rt.alloc(), &shared, &KEYWORDS)?;
+    assert!(rt; words == (false, false, false));
+    Ok(())
+}
+
+#[test]
+fn a_later_text_is_frozen_with_the_words(rt: HostRuntime) -> Result<(), Fail> {
+    let reader = grown(&rt, rt.alloc())?.into_reader(&rt)?;
+    assert!(rt; reader.len() == TEXTS.len());
+    for (position, text) in TEXTS.into_iter().enumerate() {
+        let key = Spur::try_from_usize(position).ok_or("no key")?;
+        assert!(rt; reader.get(text) == Some(key), "{text}");
+        assert!(rt; reader.try_resolve(key) == Some(text), "{text}");
+    }
+    let resolver = grown(&rt, rt.alloc())?.into_resolver(&rt)?;
+    assert!(rt; resolver.len() == TEXTS.len());
+    for (position, text) in TEXTS.into_iter().enumerate() {
+        let key = Spur::try_from_usize(position).ok_or("no key")?;
+        assert!(rt; resolver.try_resolve(key) == Some(text), "{text}");
+    }
     Ok(())
 }
 
