@@ -17,7 +17,7 @@ pub struct RefillTimings {
 }
 
 /// Fills an interner with the texts `rounds` times, at least twice, with a clear before each time, and a new
-/// one each time too. It fails if the clock does, when out of memory, if a key is wrong, and if the kept
+/// interner as many times. It fails if the clock does, when out of memory, if a key is wrong, and if the kept
 /// interner takes other memory after a later round than after the second.
 pub fn best_refill_timings<R: AllocGlobal + Clock>(
     rt: &R,

@@ -1,8 +1,8 @@
 -- Codes of texts in a list that grows.
 --
 -- A text that is found at a position is found there still when another goes last. So codes stay those of
--- their texts, and one text's code more goes after them. And where a text is found, there it is: codes stand
--- for their texts.
+-- their texts, and the code of one more text goes after them. And where a text is found, there it is: codes
+-- stand for their texts.
 use Rattle.std.proofs.Common.{ℕ, zero, suc, ◌≡◌, ◌+◌, List, [], ◌∷◌, ◌++◌, map, length, Bool, true, false, cond, Option, Some, refl, sym, ap, subst, ◌∙◌, arith, append_assoc}
 use Rattle.std.specs.Prelude.{slice_get}
 use Rattle.std.proofs.lemmas.Bool.Decides.{nat_tests}

@@ -1,7 +1,7 @@
 -- Texts that were encoded, one after another.
 --
 -- A text that was interned has its key's position in the list that is left. The texts from before keep
--- theirs, so their codes stay, and one code more goes after them. As many codes were added as texts were
+-- theirs, so their codes stay, and one more code goes after them. As many codes were added as texts were
 -- encoded: so their number says which these are.
 use denote.Ref.{Bor}
 use Rattle.std.proofs.Common.{ℕ, suc, map, drop, get_or, ◌≡◌, ◌+◌, ◌-◌, ◌<◌, List, [], ◌∷◌, ◌++◌, length, take, Option, None, Some, Ok, IsSomeAnd, is_some, refl, sym, ap, subst, ◌∙◌, arith, lit≤, length-append}

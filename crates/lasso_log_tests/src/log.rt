@@ -66,8 +66,8 @@ fn append_all<R: Wait>(
     appended
 }
 
-// Keeps three slots, gives one back, and appends both texts in the others. Tells how many slots were kept at most, and how
-// many texts were appended.
+// Keeps three slots, gives one back, and appends both texts in the others. Returns how many slots were kept
+// at most, and how many texts were appended.
 fn append_ahead<R: Wait>(
     rt: &R,
     alloc: Global,
