@@ -67,8 +67,8 @@ impl Calls for Plain {
     }
 }
 
-/// Interns each line of the reader as it comes, in a new interner, and tells how many texts there are then. It fails where a
-/// read does, and where a text is refused.
+/// Interns each line of the reader as it comes, in a new interner, and returns how many texts there are then.
+/// It fails if a read does, and if a text is refused.
 pub fn fill<R: AllocGlobal + Wait, B: BufRead + Drop>(rt: &R, reader: B) -> Result<usize> {
     let rodeo = ThreadedRodeo::default(rt.alloc())?;
     let mut pass = rodeo.pass();

@@ -42,8 +42,8 @@ pub struct ColumnTimings {
     pub private_together: u64,
 }
 
-/// What each call took in one round over the lines of the bytes. It fails where the clock does, for want of memory, where a line is no
-/// text or there is none, and where an answer was wrong.
+/// What each call took in one round over the lines of the bytes. It fails if the clock does, when out of
+/// memory, if a line is no text or there is none, and if an answer was wrong.
 pub fn time_columns<R: AllocGlobal + Clock + Threads + Wait + Sync>(
     rt: &R,
     bytes: &[u8],
@@ -147,7 +147,7 @@ fn time_merging<R: AllocGlobal + Clock>(
     Ok(tenths_a_call(elapsed, merged.len()))
 }
 
-// Encodes the lines by so many threads.
+// Encodes the lines with `threads` threads.
 fn time_shared<R: AllocGlobal + Clock + Threads + Wait + Sync>(
     rt: &R,
     lines: &[&str],

@@ -27,8 +27,8 @@ pub struct CopyTimings {
     pub pass: u64,
 }
 
-/// The least that each call took in several rounds, each with a new bucket. It fails where the clock does, for want of memory, and
-/// where a text was not copied.
+/// The least that each call took in several rounds, each with a new bucket. It fails if the clock does, when
+/// out of memory, and if a text was not copied.
 pub fn best_copy_timings<R: AllocGlobal + Clock + Wait>(rt: &R) -> Result<CopyTimings> {
     let mut best = CopyTimings {
         copy: u64::MAX,
@@ -56,7 +56,8 @@ pub fn best_copy_timings<R: AllocGlobal + Clock + Wait>(rt: &R) -> Result<CopyTi
     Ok(best)
 }
 
-/// Copies the text as often as the bucket has room for it, and at most `COPIES` times, and tells how often it was copied.
+/// Copies the text while the bucket has room for it, at most `COPIES` times, and returns the number of
+/// copies.
 pub fn copy_texts<R: Wait>(rt: &R, log: &Log<Spur>, bucket: &SharedBucket<Spur>) -> u32
     requires { bucket.now.of ≡ log.now }
 {

@@ -11,7 +11,7 @@ use std::alloc::{AllocError, Global};
 use std::rt::Clock;
 use std::time::Instant;
 
-/// Texts that do not change any more, and that are read by keys which stand for one of them.
+/// Texts that no longer change, read by keys that each stand for one of them.
 pub trait FrozenTexts: Drop {
     // the texts in the order of their keys
     ghost texts: { Self → List (List ℕ) };
@@ -62,7 +62,7 @@ pub struct FrozenSample {
 }
 
 impl FrozenSample {
-    /// So many texts, and as many positions. It is refused for want of memory alone.
+    /// `count` texts, and `count` positions. The only error is out of memory.
     pub fn new(alloc: Global, count: u32) -> Result<Self, AllocError>
         requires { 0 < count }
     {
@@ -110,8 +110,8 @@ impl FrozenTimings {
     }
 }
 
-/// The least that each operation took in several rounds. It fails where the clock does, for want of
-/// memory, and where a text was wrong.
+/// The least that each operation took in several rounds. It fails if the clock does, when out of memory, and
+/// if a text was wrong.
 pub fn best_frozen_timings<R: AllocGlobal + Clock>(
     rt: &R,
     sample: &FrozenSample,
@@ -123,7 +123,8 @@ pub fn best_frozen_timings<R: AllocGlobal + Clock>(
     Ok(best)
 }
 
-/// Times each freezing once, and resolving in several passes, of which the least counts. It fails as `best_frozen_timings` does.
+/// Times each freezing once, and resolving in several passes; the least time counts. It fails as
+/// `best_frozen_timings` does.
 pub fn frozen_round<R: AllocGlobal + Clock>(
     rt: &R,
     sample: &FrozenSample,
@@ -184,7 +185,7 @@ pub fn keys_at<T: FrozenTexts>(
     Ok(keys)
 }
 
-/// Resolves the keys, which all stand for texts, and answers the sum of their texts' last bytes.
+/// Resolves the keys, which all stand for texts, and returns the sum of their texts' last bytes.
 pub fn resolve_all<T: FrozenTexts>(texts: &T, keys: &[Spur]) -> usize
     requires { All (λ key. ⟦<Spur as Key>⟧.number key < length (T.texts texts.now)) keys.now }
 {

@@ -14,7 +14,7 @@ use std::time::Instant;
 /// How long a call of a filled interner takes each thread with each number of threads, in tenths of a nanosecond.
 #[derive(Clone, Copy, Debug)]
 pub struct FilledTimings {
-    /// To intern a text that is there: each thread interns all lines.
+    /// To intern a present text: each thread interns all lines.
     pub present: [u64; 3],
     /// To resolve a key: each thread resolves the keys of all lines.
     pub resolve: [u64; 3],
@@ -30,8 +30,8 @@ pub struct FillingTimings {
     pub intern: [u64; 3],
 }
 
-/// What each call of an interner that has all lines took in one round. It fails where the clock does, for want of memory, and
-/// where an answer was wrong.
+/// What each call of an interner that has all lines took in one round. It fails if the clock does, when out
+/// of memory, and if an answer was wrong.
 pub fn time_filled<C: Calls, R: AllocGlobal + Clock + Threads + Wait + Sync>(
     rt: &R,
     lines: &Lines,
@@ -82,7 +82,7 @@ fn keys_of<R: AllocGlobal + Wait>(
     Ok(keys)
 }
 
-// Has so many threads intern all lines at once, which are there.
+// Has `threads` threads intern all lines at once, which are present.
 fn time_present<C: Calls, R: AllocGlobal + Clock + Threads + Wait + Sync>(
     rt: &R,
     rodeo: &SpurThreadedRodeo,
@@ -104,7 +104,7 @@ fn time_present<C: Calls, R: AllocGlobal + Clock + Threads + Wait + Sync>(
     Ok(tenths_a_call(elapsed, lines.again.len()))
 }
 
-// Has so many threads resolve all keys at once, which are those of the lines.
+// Has `threads` threads resolve all keys of the lines at once.
 fn time_resolve<C: Calls, R: AllocGlobal + Clock + Threads + Sync>(
     rt: &R,
     rodeo: &SpurThreadedRodeo,
@@ -122,7 +122,7 @@ fn time_resolve<C: Calls, R: AllocGlobal + Clock + Threads + Sync>(
     Ok(tenths_a_call(elapsed, keys.len()))
 }
 
-// Has so many threads intern the distinct lines, each a part of them, in a new interner.
+// Has `threads` threads intern the distinct lines, each a part of them, in a new interner.
 fn time_new<R: AllocGlobal + Clock + Threads + Wait + Sync>(
     rt: &R,
     lines: &Lines,
@@ -137,7 +137,7 @@ fn time_new<R: AllocGlobal + Clock + Threads + Wait + Sync>(
     Ok(tenths)
 }
 
-// Has so many threads intern the lines, each a part of them, in a new interner.
+// Has `threads` threads intern the lines, each a part of them, in a new interner.
 fn time_intern<R: AllocGlobal + Clock + Threads + Wait + Sync>(
     rt: &R,
     lines: &Lines,
@@ -149,7 +149,8 @@ fn time_intern<R: AllocGlobal + Clock + Threads + Wait + Sync>(
     Ok(tenths)
 }
 
-// Has so many threads intern the texts, each a part of them. The sum of their positions, and what a call takes each thread.
+// Has `threads` threads intern the texts, each a part of them. Returns the sum of their positions, and what a
+// call takes each thread.
 fn time_parts<R: AllocGlobal + Clock + Threads + Wait + Sync>(
     rt: &R,
     rodeo: &SpurThreadedRodeo,

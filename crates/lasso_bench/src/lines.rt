@@ -21,8 +21,8 @@ pub struct Lines {
 }
 
 impl Lines {
-    /// The lines that the reader gives until it ends. It fails where a read does, for want of memory, where there is no
-    /// line, and where there are more than a `u32` can count.
+    /// The lines that the reader gives until it ends. It fails if a read does, when out of memory, if there
+    /// is no line, and if there are more than a `u32` can count.
     pub fn read<B: BufRead + Drop>(alloc: Global, reader: B) -> Result<Lines> {
         let mut texts = Vec::new(alloc);
         for line in reader.lines(alloc) {
@@ -45,7 +45,7 @@ impl Lines {
     }
 }
 
-// Copies of these texts, of which there are so many, in another order.
+// Copies of these `count` texts in another order.
 fn in_other_order(alloc: Global, texts: &[String], count: u32) -> Result<Vec<String>, AllocError> {
     let mut again = Vec::new(alloc);
     for position in 0..count {

@@ -150,7 +150,7 @@ fn print_collisions<R: AllocGlobal + Clock + Print>(rt: &R) -> Result<()> {
     Ok(())
 }
 
-// Times frozen interners of so many texts, and prints a line for each operation.
+// Times frozen interners of `count` texts, and prints a line for each operation.
 fn print_frozen<R: AllocGlobal + Clock + Print>(rt: &R, count: u32) -> Result<()>
     requires { 0 < count }
 {

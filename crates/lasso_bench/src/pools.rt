@@ -23,11 +23,10 @@ pub trait KeyedTexts: Drop {
 
 /// A pool of distinct texts, each with a key.
 pub trait TextPool: KeyedTexts {
-    /// A pool without texts. It is refused for want of memory alone.
+    /// A pool without texts. The only error is out of memory.
     fn new(alloc: Global) -> Result<Self, AllocError>;
 
-    /// The key of the text, which joins the pool if it is not there. It is refused for want of memory or
-    /// of keys.
+    /// The key of the text, which joins the pool if it is absent. It fails when memory or keys run out.
     fn intern(&mut self, text: &str) -> Result<Self::Key, AllocError>;
 
     /// The key of the text, or `None` where it is not there.

@@ -4,8 +4,8 @@ ghost use Rattle.std.specs.Prelude.{◌≡◌, ◌<◌, All, IfOk, vec_len};
 use lasso_testing::draws::Draws;
 use std::alloc::{AllocError, Global};
 
-/// `draws` draws of a position below `count`. Each is drawn by itself, so that a position may come more
-/// than once or not at all. They are the same in each run. Its only error is out of memory.
+/// `draws` draws of a position below `count`. Each is drawn on its own, so that a position may come more than
+/// once or not at all. They are the same in each run. Its only error is out of memory.
 pub fn random_positions(alloc: Global, count: u32, draws: u32) -> Result<Vec<u32>, AllocError>
     requires { 0 < count }
     ensures as_many { IfOk result (λ positions. vec_len positions ≡ draws) }

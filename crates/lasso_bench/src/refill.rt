@@ -16,9 +16,9 @@ pub struct RefillTimings {
     pub anew: u64,
 }
 
-/// Fills an interner with the texts so many times, at least twice, with a clear before each time, and as often a new
-/// one. It fails where the clock does, for want of memory, where a key is wrong, and where the kept interner takes
-/// other memory after a later round than after the second.
+/// Fills an interner with the texts `rounds` times, at least twice, with a clear before each time, and a new
+/// interner as many times. It fails if the clock does, when out of memory, if a key is wrong, and if the kept
+/// interner takes other memory after a later round than after the second.
 pub fn best_refill_timings<R: AllocGlobal + Clock>(
     rt: &R,
     texts: &[String],

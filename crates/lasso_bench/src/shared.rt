@@ -29,7 +29,7 @@ pub struct Shelf {
 }
 
 impl Shelf {
-    /// So many texts, `text 0`, `text 1` and so on. They are never freed. It is refused for want of memory.
+    /// `count` texts: `text 0`, `text 1` and so on. They are never freed. It fails when out of memory.
     pub fn new<R: AllocGlobal + Wait>(rt: &R, count: u32) -> Result<Shelf> {
         let opened = Opened {
             size: 4096,
@@ -43,7 +43,7 @@ impl Shelf {
     }
 }
 
-// Puts so many texts into both.
+// Puts `count` texts into both.
 fn fill<R: AllocGlobal + Wait>(rt: &R, shelf: &Shelf, spine: Spine<Spur>, count: u32) -> Result<()>
     requires { (spine.of ≡ shelf.now.log) × (list_of spine.of spine.notes ≡ []) }
 {

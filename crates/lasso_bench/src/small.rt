@@ -1,5 +1,5 @@
-//! Everything that is timed, once over a few texts: what the calls answer is printed, so that a stored run can be compared with it. Each
-//! timing fails by itself where an answer is wrong.
+//! Everything that is timed, once over a few texts: what the calls answer is printed, so that a stored run
+//! can be compared with it. Each timing fails on its own if an answer is wrong.
 use crate::calls::{Calls, Plain, WithPass, fill};
 use crate::collide::time_collisions;
 use crate::columns::time_columns;

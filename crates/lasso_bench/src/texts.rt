@@ -17,8 +17,8 @@ pub struct Sample {
 }
 
 impl Sample {
-    /// So many texts, and as many others. Each list is made by itself, so that a walk over it meets its texts side by side. It is refused for
-    /// want of memory alone.
+    /// `count` texts, and as many others. Each list is made on its own, so that a walk over it meets its
+    /// texts side by side. The only error is out of memory.
     pub fn new(alloc: Global, count: u32) -> Result<Self, AllocError> {
         let mut texts = Vec::new(alloc);
         for number in 0..count {

@@ -31,7 +31,7 @@ pub struct Walk {
 }
 
 impl Walk {
-    /// So many positions of so many texts. It is refused for want of memory alone.
+    /// `calls` positions of `count` texts. The only error is out of memory.
     pub fn new(alloc: Global, count: u32, calls: u32) -> Result<Walk, AllocError>
         requires { 0 < count }
     {
@@ -64,8 +64,8 @@ pub struct SharedTimings {
     pub count: [u64; 3],
 }
 
-/// The least that each call took in several rounds. It fails where the clock does, for want of memory, and
-/// where an answer was wrong.
+/// The least that each call took in several rounds. It fails if the clock does, when out of memory, and if an
+/// answer was wrong.
 pub fn best_shared_timings<T: SharedTexts, R: AllocGlobal + Clock + Threads + Sync>(
     rt: &R,
     texts: &T,
@@ -84,7 +84,7 @@ pub fn best_shared_timings<T: SharedTexts, R: AllocGlobal + Clock + Threads + Sy
     Ok(best)
 }
 
-// Has so many threads read all texts of the walk at once.
+// Has `threads` threads read all texts of the walk at once.
 fn time_reads<T: SharedTexts, R: AllocGlobal + Clock + Threads + Sync>(
     rt: &R,
     texts: &T,
@@ -106,7 +106,7 @@ fn time_reads<T: SharedTexts, R: AllocGlobal + Clock + Threads + Sync>(
     Ok(tenths_a_call(elapsed, walk.positions.len()))
 }
 
-// Has so many threads ask for the number of texts at once, as often as the walk has positions.
+// Has `threads` threads ask for the number of texts at once, once for each position of the walk.
 fn time_counts<T: SharedTexts, R: AllocGlobal + Clock + Threads + Sync>(
     rt: &R,
     texts: &T,

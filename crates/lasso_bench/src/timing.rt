@@ -17,7 +17,7 @@ pub const ROUNDS: u32 = 8;
 pub struct Timings {
     /// To intern a text that is not there.
     pub intern_new: u64,
-    /// To intern a text that is there.
+    /// To intern a present text.
     pub intern_present: u64,
     /// To ask for a text that is not there.
     pub get_missing: u64,
@@ -42,8 +42,8 @@ impl Timings {
     }
 }
 
-/// The least that each operation took in several rounds. It fails where the clock does, for want of
-/// memory, and where the answers were wrong.
+/// The least that each operation took in several rounds. It fails if the clock does, when out of memory, and
+/// if the answers were wrong.
 pub fn best_timings<P: TextPool, R: AllocGlobal + Clock>(
     rt: &R,
     sample: &Sample,
@@ -92,7 +92,7 @@ pub fn round<P: TextPool, R: AllocGlobal + Clock>(rt: &R, sample: &Sample) -> Re
     })
 }
 
-/// The time of a call, in tenths of a nanosecond, where so many took this long; 0 where there was none.
+/// The time of a call, in tenths of a nanosecond, if `calls` calls took `elapsed`; 0 if there were none.
 pub fn tenths_a_call(elapsed: Duration, calls: usize) -> u64
     ensures { 0 < calls → result ≡ min ((as_nanos elapsed * 10) / calls) (2 ^ 64 - 1) }
 {
@@ -163,7 +163,7 @@ pub fn last_byte(text: &str) -> usize {
     text.as_bytes().last().map_or(0, |byte| usize::from(*byte))
 }
 
-/// The sum of the positions of so many texts.
+/// The sum of the positions of `count` texts.
 pub fn sum_of_positions(count: usize) -> usize {
     let mut sum = 0usize;
     for position in 0..count {

@@ -19,8 +19,8 @@ pub struct WalkTimings {
     pub into_reader: u64,
 }
 
-/// The least that each took in several rounds over the distinct lines, each with a new interner. It fails where the clock does, for
-/// want of memory, and where an answer was wrong.
+/// The least that each took in several rounds over the distinct lines, each with a new interner. It fails if
+/// the clock does, when out of memory, and if an answer was wrong.
 pub fn best_walk_timings<R: AllocGlobal + Clock + Wait>(
     rt: &R,
     lines: &Lines,

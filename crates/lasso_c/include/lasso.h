@@ -4,11 +4,11 @@
  * lasso_encode and lasso_decode turn one column of texts into codes and back. lasso_new makes an interner that is held from call
  * to call: it is fed text by text or batch by batch, asked, saved by lasso_dictionary, and let go by lasso_free.
  *
- * Texts cross as Arrow lays out arrays of strings: one buffer of bytes, UTF-8 and with no end marks, beside a buffer of
- * offsets, counted in bytes from the buffer's first. Text k is what lies from offset k up to offset k + 1, so n texts have
- * n + 1 offsets. The first offset may lie above 0, as in an array that was cut. No offset at all stands for no text. An
- * offset is at least the one before it, at most the number of bytes, and never negative. Offsets have 32 bits, and 64 where a
- * call's name ends with _large.
+ * Texts cross as Arrow lays out arrays of strings: one buffer of bytes, UTF-8 and with no end marks, and a
+ * buffer of offsets, counted in bytes from the buffer's first. Text k is what lies from offset k up to offset
+ * k + 1, so n texts have n + 1 offsets. The first offset may lie above 0, as in an array that was cut. No
+ * offsets at all mean no texts. An offset is at least the one before it, at most the number of bytes, and
+ * never negative. Offsets have 32 bits, and 64 where a call's name ends with _large.
  *
  * For every call:
  * - Each length counts elements, not bytes: bytes of a uint8_t array, numbers of an int32_t, int64_t or uint32_t array.
@@ -75,7 +75,7 @@ enum lasso_status {
 };
 
 /*
- * What a call tells beside its status. It writes all three, whatever the status.
+ * What a call reports besides its status. It writes all three, whatever the status.
  *
  * LASSO_DONE:              texts and bytes are the sizes of the layout that was written, which has texts + 1 offsets; at is 0.
  * LASSO_CODES_TOO_SHORT to
@@ -87,7 +87,7 @@ enum lasso_status {
  * LASSO_NO_MEMORY,
  * LASSO_NO_INTERNER:       all three are 0.
  *
- * The calls whose names begin with lasso_intern_batch tell something else, which is said there.
+ * The calls whose names begin with lasso_intern_batch report something else, which is said there.
  */
 struct lasso_report {
     size_t texts;
@@ -96,14 +96,15 @@ struct lasso_report {
 };
 
 /*
- * Encodes texts: writes a code for each, and a dictionary, which is the layout of the distinct texts in the order in which
- * they first stand. A code is the position of its text in the dictionary, from 0. Equal texts have equal codes.
+ * Encodes texts: writes a code for each, and a dictionary, which is the layout of the distinct texts in order
+ * of first occurrence. A code is the position of its text in the dictionary, from 0. Equal texts have equal
+ * codes.
  *
  * bytes               the caller's, read: the texts' bytes. bytes_length counts bytes.
  * offsets             the caller's, read: positions in bytes, counted in bytes. offsets_length counts offsets, one more than texts.
  * codes               the caller's, written: a code for each text, in their order. codes_length counts codes, one for each text.
  * dictionary_bytes    the caller's, written: the distinct texts' bytes. dictionary_bytes_length counts bytes, as many as those.
- * dictionary_offsets  the caller's, written: positions in dictionary_bytes, counted in bytes, of which the first is 0.
+ * dictionary_offsets  the caller's, written: positions in dictionary_bytes, counted in bytes; the first is 0.
  *                     dictionary_offsets_length counts offsets, one more than distinct texts.
  * report              the caller's, written: one struct.
  *
@@ -129,8 +130,9 @@ uint32_t lasso_encode(const uint8_t *bytes, size_t bytes_length,
  * Encodes a column with nulls: the same as lasso_encode, where a null has the code null, and the dictionary has no text for it.
  * With LASSO_NULL as null no text has its code; with another number a text may have it too.
  *
- * present             the caller's, read: the bitmap. present_length counts bytes, at least one for every eight rows, of which the
- *                     last may have fewer; with 0 each row is present. Bits past the last row may be any.
+ * present             the caller's, read: the bitmap. present_length counts bytes, at least one for every
+ *                     eight rows; the last byte may have fewer. With 0 each row is present. Bits past the
+ *                     last row may be any.
  *
  * The bytes between the offsets of a null may be any; its offsets are checked as all others.
  *
@@ -150,16 +152,18 @@ uint32_t lasso_encode_nulls(const uint8_t *bytes, size_t bytes_length,
  * gives the texts that it was given.
  *
  * dictionary_bytes    the caller's, read: the dictionary's bytes. dictionary_bytes_length counts bytes.
- * dictionary_offsets  the caller's, read: positions in dictionary_bytes, counted in bytes. dictionary_offsets_length counts
- *                     offsets, one more than the dictionary's texts, of which some may be equal.
+ * dictionary_offsets  the caller's, read: positions in dictionary_bytes, counted in bytes.
+ *                     dictionary_offsets_length counts offsets, one more than the dictionary's texts; some
+ *                     texts may be equal.
  * codes               the caller's, read: positions in the dictionary, from 0. codes_length counts codes.
  * bytes               the caller's, written: the named texts' bytes. bytes_length counts bytes, as many as those.
- * offsets             the caller's, written: positions in bytes, counted in bytes, of which the first is 0. offsets_length counts
- *                     offsets, one more than codes.
+ * offsets             the caller's, written: positions in bytes, counted in bytes; the first is 0.
+ *                     offsets_length counts offsets, one more than codes.
  * report              the caller's, written: one struct.
  *
- * Lengths of what is written may be greater. A call with bytes_length 0 and an offset for each code and one more tells how many
- * bytes it needs: LASSO_BYTES_TOO_SHORT and report->bytes, or LASSO_DONE where that is none.
+ * Lengths of what is written may be greater. A call with bytes_length 0 and an offset for each code and one
+ * more reports how many bytes it needs: LASSO_BYTES_TOO_SHORT and report->bytes, or LASSO_DONE where that is
+ * none.
  *
  * The whole dictionary is checked at each call, also where the codes name a few of its texts: decode many codes by one call.
  *
@@ -179,8 +183,9 @@ uint32_t lasso_decode(const uint8_t *dictionary_bytes, size_t dictionary_bytes_l
  * too. The bytes that a null had are gone.
  *
  * null                the code of nulls. It is never looked up in the dictionary.
- * present             the caller's, written: the bitmap. present_length counts bytes, one for every eight codes, of which the last
- *                     may have fewer; it may be greater. The bits of the last byte past the last row are 0.
+ * present             the caller's, written: the bitmap. present_length counts bytes, one for every eight
+ *                     codes; the last byte may have fewer. present_length may be greater. The bits of the
+ *                     last byte past the last row are 0.
  *
  * Status: LASSO_BITMAP_TOO_SHORT where a code has no bit, else as in lasso_decode.
  */
@@ -298,11 +303,12 @@ uint32_t lasso_resolve(struct lasso *lasso, uint32_t code, uint8_t *text, size_t
  * from the number of texts that a reader has, what the reader lacks. From a code that has no text on it is the layout of no text.
  *
  * bytes               the caller's, written: the texts' bytes. bytes_length counts bytes.
- * offsets             the caller's, written: positions in bytes, of which the first is 0. offsets_length counts offsets, one
- *                     more than texts.
+ * offsets             the caller's, written: positions in bytes; the first is 0. offsets_length counts
+ *                     offsets, one more than texts.
  *
- * Lengths may be greater. A call without room tells the sizes, as LASSO_.._TOO_SHORT does. To save an interner write its dictionary;
- * to load it, pass the dictionary to lasso_intern_batch of a new interner: each text gets its code again.
+ * Lengths may be greater. A call without room reports the sizes, as LASSO_.._TOO_SHORT does. To save an
+ * interner write its dictionary; to load it, pass the dictionary to lasso_intern_batch of a new interner:
+ * each text gets its code again.
  *
  * Status: LASSO_NO_INTERNER; LASSO_TOO_MANY_BYTES where the texts have more than 2^31 - 1 bytes, and report->at is 0;
  * LASSO_OFFSETS_TOO_SHORT; LASSO_BYTES_TOO_SHORT; else LASSO_DONE.

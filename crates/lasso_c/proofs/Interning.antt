@@ -1,6 +1,6 @@
 -- Interning the texts of a layout one after another.
 --
--- A text that stands in the dictionary keeps its position whatever is put last. So its code is its position in the
+-- A text in the dictionary keeps its position whatever is appended. So its code is its position in the
 -- dictionary of all the texts as soon as it is interned, and what is left of the layout says the rest.
 use Rattle.std.proofs.Common.{ℕ, ◌≡◌, ◌+◌, ◌-◌, ◌≤◌, Bool, true, false, not, List, [], ◌∷◌, ◌++◌, length, is_some, if◌then◌else◌, Option, Some, None, refl, ap, ◌∙◌, arith, length-append}
 use Rattle.std.specs.List.{concat}

@@ -133,7 +133,8 @@ module _ (greatest : ℕ) where
       let wrong = wrong_from bits bytes 0 from offsets at at refusal (omega arith) known.1 (omega arith) (sym (fault_at bits bytes from offsets at) ∙ is) in
       ap (λ o. option_or o (rows_fault greatest bits bytes 0 from offsets)) known.0 ∙ wrong
 
-  -- a refusal of a layout tells the number of the text, and that of a first offset is of the first
+  -- a refusal of a layout reports the number of the text, and a refusal of a first offset that of the first
+  -- text
   pub told_at : (bytes : List ℕ) (at from to : ℕ) (refusal : CallError) → text_fault greatest bytes at from to ≡ Some refusal → (outcome_report (Err refusal)).at ≡ at
   told_at bytes at from to refusal is = grind (arith, nat_tests)
 

@@ -1,7 +1,7 @@
 -- Layouts: what a good text is, and where the texts of a good layout lie.
 --
--- The faults are asked for from the first offset on, and the texts are cut off in the same order. So what is known of a
--- text behind the first ones is found by stepping over these.
+-- The faults are asked for from the first offset on, and the texts are cut off in the same order. So what is
+-- known of a text after the first ones is found by stepping over these.
 use Rattle.std.proofs.Common.{ℕ, zero, suc, ◌≡◌, ◌+◌, ◌<◌, ◌≤◌, true, false, List, [], ◌∷◌, length, drop, get_or, slice_get, Option, Some, None, refl, ap, ◌∙◌, ◌-◌, add-one, arith}
 use Rattle.std.specs.List.{slice_range}
 use Rattle.std.specs.Option.{option_or}

@@ -30,7 +30,7 @@ both_known : {X Y E : Type 0} (one : Result X E) (next : X → Result Y E) (last
 both_known (Ok mid) next last is = (mid, refl, is)
 both_known {X} {Y} {E} (Err error) next last is = let no : ◌≡◌ {A = Result Y E} (Err error) (Ok last) = is in absurd cc
 
--- each code names a text, and the sizes are those of all of them behind those before
+-- each code names a text, and `whole` is `sizes` with the sizes of all of these texts added
 pub record Measured (null : Option ℕ) (dictionary : List Text) (sizes : Sizes) (codes : List ℕ) (whole : Sizes) : Type 0 where
   pub named : (k : ℕ) → k < length codes → (text : Text) × (text_of_code null dictionary (get_or codes k 0) ≡ Some text)
   pub texts : whole.texts ≡ sizes.texts + length codes

@@ -1,8 +1,8 @@
 -- Decoding undoes encoding.
 --
--- Texts that lie one behind the other in a buffer are cut out of it again at their offsets, whatever lies in front of the
--- first: so a text is moved from the back to the front, one after another. Each text of a layout stands in its dictionary,
--- at the position that its code tells, and the dictionary has no more bytes than the layout.
+-- Texts that lie one after another in a buffer are cut out of it again at their offsets, whatever lies before
+-- the first: so a text is moved from the back to the front, one after another. Each text of a layout is in
+-- its dictionary, at the position that its code gives, and the dictionary has no more bytes than the layout.
 use Rattle.std.proofs.Common.{ℕ, ◌≡◌, ◌+◌, ◌-◌, ◌<◌, ◌≤◌, Bool, true, false, List, [], ◌∷◌, ◌++◌, length, take, drop, slice_get, is_some, if◌then◌else◌, Option, Some, None, Ok, refl, ap, sym, subst, ◌∙◌, lit≤, zero-add, arith, length-append, append_assoc}
 use Rattle.std.specs.List.{slice_range, concat}
 use Rattle.std.specs.Option.{option_or, unwrap_or}
@@ -85,7 +85,7 @@ utf8_from bytes k from (to ∷ offsets) good =
     let both = or_none (text_fault greatest_offset bytes k from to) (texts_fault greatest_offset bytes (k + 1) to offsets) good in
     ((text_known greatest_offset bytes k from to both.0).2, utf8_from bytes (k + 1) to offsets both.1)
 
--- they have no more bytes than lie behind their first offset
+-- they have no more bytes than lie after their first offset
 bytes_from : (bytes : List ℕ) (k from : ℕ) (offsets : List ℕ) → from ≤ reach greatest_offset bytes → texts_fault greatest_offset bytes k from offsets ≡ None → from + length (concat (texts_from bytes from offsets)) ≤ reach greatest_offset bytes
 bytes_from bytes k from [] within good = omega arith
 bytes_from bytes k from (to ∷ offsets) within good =
@@ -117,7 +117,7 @@ new_stands : (found : Option ℕ) (texts : List Text) (text : Text) → position
 new_stands None texts text none = (length texts, position_last texts text none)
 new_stands (Some n) texts text at = (n, at)
 
--- each text that is interned stands in the dictionary
+-- each text that is interned is in the dictionary
 pub all_stand : (texts more : List Text) → Each (HasCode (with_all_new texts more)) more
 all_stand texts [] = tt
 all_stand texts (text ∷ more) =

@@ -1,7 +1,8 @@
 -- The machine values of a block and of a slot, and what makes up their ownership.
 --
--- A block is a pointer, and a slot a pointer beside the heap's handle, which has one machine value. So the pointer tells the value of
--- both. They own their fields, which is nothing but the fields' values, and the memory that their types' models name.
+-- A block is a pointer, and a slot a pointer beside the heap's handle, which has one machine value. So the
+-- pointer determines the value of both. They own their fields, which is nothing but the fields' values, and
+-- the memory that their types' models name.
 use Rattle.std.proofs.Common.{◌≡◌, List, [], ◌∷◌, refl, subst}
 use lib.Dec.{T, lit<}
 use seplogic.Ra.Ura.{Ura}

@@ -1,4 +1,4 @@
--- Texts that are written one behind the other into two buffers, and where each of them begins.
+-- Texts that are written one after another into two buffers, and where each of them begins.
 --
 -- What is still to be written over a buffer as it is gives what was to be written over it at first: so each text that is
 -- written is taken off the front of those that are left, and nothing is said of what was written before.
@@ -14,7 +14,7 @@ use Rattle.lasso_c.specs.Layout.{offsets_from, over, over_from}
 over_is : (start n : ℕ) (part buffer : List ℕ) → n ≡ length part → over_from start part buffer ≡ paste buffer start part n
 over_is start n part buffer same = sym (paste_all buffer start part n same ∙ ap (λ m. take start buffer ++ (part ++ drop (start + m) buffer)) same)
 
--- two parts that are written one behind the other are one part
+-- two parts that are written one after the other are one part
 pub over_both : (start : ℕ) (part rest buffer : List ℕ) → start ≤ length buffer → over_from (start + length part) rest (over_from start part buffer) ≡ over_from start (part ++ rest) buffer
 over_both start part rest buffer small =
     let n = length part in
@@ -101,7 +101,7 @@ module _ (greatest : ℕ) (offsets bytes : List ℕ) (texts : List Text) (at sta
   pub written_at : (text : Text) → slice_get texts at ≡ Some text → Writes greatest offsets bytes (drop at texts) at start offsets' bytes' → Writes greatest offsets bytes (drop (at + 1) texts) (at + 1) (start + length text) (set offsets' at start) (over_from start text bytes')
   written_at text is w = one_written greatest offsets bytes at start offsets' bytes' text (drop (at + 1) texts) (left_is text is w)
 
-  -- the same, where the buffers and the position behind the text are known by equations
+  -- the same, where the buffers and the position after the text are known by equations
   pub written_next : (text part : Text) (end : ℕ) (offsets'' bytes'' : List ℕ) → slice_get texts at ≡ Some text → part ≡ text → Writes greatest offsets bytes (drop at texts) at start offsets' bytes' → end ≡ start + length part → offsets'' ≡ set offsets' at start → bytes'' ≡ over_from start part bytes' → Writes greatest offsets bytes (drop (at + 1) texts) (at + 1) end offsets'' bytes''
   written_next text part end offsets'' bytes'' is same w ends sets puts = rw (ends, sets, puts, same) (written_at text is w)
 

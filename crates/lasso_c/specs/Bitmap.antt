@@ -7,7 +7,7 @@ abbrev pub present_at : List ℕ → ℕ → Bool
 present_at [] at = true
 present_at (byte ∷ more) at = nat_eq (slice_index (byte ∷ more) (at / 8) / 2 ^ (at % 8) % 2) 1
 
--- whether a bitmap has a bit for each of so many rows, or is none
+-- whether a bitmap has a bit for each of a number of rows, or is none
 abbrev pub bits_fit : List ℕ → ℕ → Bool
 bits_fit [] rows = true
 bits_fit (byte ∷ more) rows = nat_le rows (8 * length (byte ∷ more))
@@ -17,7 +17,7 @@ abbrev pub byte_of : List Bool → ℕ
 byte_of [] = 0
 byte_of (bit ∷ bits) = (if bit then 1 else 0) + 2 * byte_of bits
 
--- so many bytes of these bits, eight in each
+-- a number of bytes of these bits, eight in each
 abbrev pub bytes_of : ℕ → List Bool → List ℕ
 bytes_of zero bits = []
 bytes_of (suc count) bits = byte_of (take 8 bits) ∷ bytes_of count (drop 8 bits)

@@ -36,7 +36,7 @@ abbrev pub measured : Option ℕ → List Text → Sizes → List ℕ → Result
 measured null dictionary sizes [] = Ok sizes
 measured null dictionary sizes (code ∷ codes) = unless_refused (with_next sizes (text_of_code null dictionary code)) (λ more. measured null dictionary more codes)
 
--- sizes that fit into so many offsets and bytes, or which of them is too short
+-- sizes that fit into these numbers of offsets and bytes, or which of them is too short
 abbrev pub fitting : Sizes → ℕ → ℕ → Result Sizes CallError
 fitting sizes offsets bytes =
     if nat_lt sizes.texts offsets then (if nat_lt bytes sizes.bytes then Err (BytesTooShort sizes) else Ok sizes)
@@ -50,8 +50,8 @@ abbrev pub unless_faulty : Option CallError → Result Sizes CallError → Resul
 unless_faulty None result = result
 unless_faulty (Some refusal) result = Err refusal
 
--- how decoding the codes, of which one may be that of nulls, by the dictionary of that layout ends, where there is room for so many
--- offsets and bytes
+-- how decoding the codes, one of which may be that of nulls, by the dictionary of that layout ends, with room
+-- for these numbers of offsets and bytes
 abbrev pub rows_decoding_outcome : Option ℕ → List ℕ → List ℕ → List ℕ → ℕ → ℕ → Result Sizes CallError
 rows_decoding_outcome null dictionary_bytes dictionary_offsets codes offsets bytes =
     unless_faulty (layout_fault greatest_offset dictionary_bytes dictionary_offsets)
@@ -61,7 +61,7 @@ rows_decoding_outcome null dictionary_bytes dictionary_offsets codes offsets byt
 abbrev pub decoding_outcome : List ℕ → List ℕ → List ℕ → ℕ → ℕ → Result Sizes CallError
 decoding_outcome dictionary_bytes dictionary_offsets codes offsets bytes = rows_decoding_outcome None dictionary_bytes dictionary_offsets codes offsets bytes
 
--- the same of a column with nulls, where there is also room for a bitmap of so many bytes
+-- the same of a column with nulls, where there is also room for a bitmap of this number of bytes
 abbrev pub nulls_decoding_outcome : ℕ → List ℕ → List ℕ → List ℕ → ℕ → ℕ → ℕ → Result Sizes CallError
 nulls_decoding_outcome null dictionary_bytes dictionary_offsets codes offsets bytes present =
     if nat_le (length codes) (8 * present) then rows_decoding_outcome (Some null) dictionary_bytes dictionary_offsets codes offsets bytes

@@ -18,7 +18,7 @@ abbrev pub with_all_new : List Text → List Text → List Text
 with_all_new texts [] = texts
 with_all_new texts (text ∷ more) = with_all_new (with_new texts text) more
 
--- each distinct one of these texts once, in the order in which they first stand there
+-- each distinct one of these texts once, in order of first occurrence
 abbrev pub dictionary_of : List Text → List Text
 dictionary_of texts = with_all_new [] texts
 
@@ -41,14 +41,15 @@ row_codes null dictionary rows = map (λ row. row_code null dictionary row) rows
 abbrev pub sizes_of : List Text → Sizes
 sizes_of texts = record { texts = length texts; bytes = length (concat texts) }
 
--- how encoding so many rows ends, of which these are the texts, where nothing is wrong with them and memory is found, and where there is room
--- for so many codes, offsets and bytes
+-- how encoding this number of rows, whose texts these are, ends where nothing is wrong with them and memory
+-- is found, with room for these numbers of codes, offsets and bytes
 abbrev pub rows_outcome : ℕ → List Text → ℕ → ℕ → ℕ → Result Sizes CallError
 rows_outcome rows texts codes dictionary_offsets dictionary_bytes =
     let sizes = sizes_of (dictionary_of texts) in
     if nat_lt codes rows then Err (CodesTooShort sizes) else fitting sizes dictionary_offsets dictionary_bytes
 
--- how encoding the texts of that layout ends where memory is found, and where there is room for so many codes, offsets and bytes
+-- how encoding the texts of that layout ends where memory is found, with room for these numbers of codes,
+-- offsets and bytes
 abbrev pub encoding_outcome : List ℕ → List ℕ → ℕ → ℕ → ℕ → Result Sizes CallError
 encoding_outcome bytes offsets codes dictionary_offsets dictionary_bytes =
     let texts = layout_texts bytes offsets in

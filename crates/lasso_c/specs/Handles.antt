@@ -26,7 +26,7 @@ abbrev pub first_in : Option Interner → Option ℕ
 first_in None = None
 first_in (Some interner) = Some interner.rodeo.first
 
--- how writing these texts ends, where there is room for so many offsets, of that greatest one, and bytes
+-- how writing these texts ends, with that greatest offset, and room for these numbers of offsets and bytes
 abbrev pub part_outcome : ℕ → List Text → ℕ → ℕ → Result Sizes CallError
 part_outcome greatest texts offsets bytes =
     if nat_lt greatest (length (concat texts)) then Err (TooManyBytes 0)
@@ -37,11 +37,11 @@ abbrev pub dictionary_outcome : ℕ → Option Interner → ℕ → ℕ → ℕ 
 dictionary_outcome greatest None from offsets bytes = Err NoInterner
 dictionary_outcome greatest (Some interner) from offsets bytes = part_outcome greatest (drop from interner.rodeo.texts) offsets bytes
 
--- so many codes
+-- this number of codes, and no bytes
 abbrev pub codes_alone : ℕ → Sizes
 codes_alone codes = record { texts = codes; bytes = 0 }
 
--- how looking up the texts of that layout ends, where there is room for so many codes
+-- how looking up the texts of that layout ends, with room for this number of codes
 abbrev pub part_lookup_outcome : ℕ → List ℕ → List ℕ → ℕ → Result Sizes CallError
 part_lookup_outcome greatest bytes offsets room =
     let needed = codes_alone (length (layout_texts bytes offsets)) in

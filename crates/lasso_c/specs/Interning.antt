@@ -21,7 +21,7 @@ use Rattle.lasso_c.specs.declared.slot.Interner.{Interner}
 abbrev pub key_of_code : ℕ → Option ℕ
 key_of_code = kept_at 4294967295
 
--- what C is told of an interner that refuses the text of this number in a batch
+-- the error that C gets when an interner refuses the text of this number in a batch
 abbrev pub refusal_at : ℕ → LassoError → CallError
 refusal_at at MemoryLimitReached = LimitReached at
 refusal_at at KeySpaceExhaustion = NoCodeLeft at
@@ -59,7 +59,7 @@ EndsAfter greatest bits bytes offsets done interner (Err refusal) =
     ((column_fault greatest bits bytes offsets ≡ Some refusal) × ((outcome_report (Err refusal)).at ≡ done))
     ⊎ ((column_fault greatest bits bytes (take (done + 2) offsets) ≡ None) × ((text : Text) × (slice_get (column_rows bits bytes offsets) done ≡ Some (Some text)) × InternsCode done interner text (Err refusal) interner))
 
--- why a batch of that first offset and so many rows is refused before its first row, or nothing
+-- why a batch of that first offset and this number of rows is refused before its first row, or nothing
 abbrev pub batch_start_fault : ℕ → List ℕ → List ℕ → ℕ → ℕ → ℕ → Option CallError
 batch_start_fault greatest bits bytes first rows room =
     if nat_lt room rows then Some (CodesTooShort nothing)
@@ -77,13 +77,13 @@ InternsRoomed greatest true fits bits bytes offsets done old outcome new = (done
 InternsRoomed greatest false false bits bytes offsets done old outcome new = (done ≡ 0) × (outcome ≡ Err (BitmapTooShort (8 * length bits))) × (new ≡ old)
 InternsRoomed greatest false true bits bytes offsets done old outcome new = InternsColumn greatest bits bytes offsets done old outcome new
 
--- a batch is interned where there is room for so many codes
+-- a batch is interned with room for this number of codes
 abbrev pub InternsPart : ℕ → ℕ → List ℕ → List ℕ → List ℕ → ℕ → InternerView → Result (Unit {0}) CallError → InternerView → Type 0
 InternsPart greatest room bits bytes offsets done old outcome new =
     let rows = length (layout_texts bytes offsets) in
     InternsRoomed greatest (nat_lt room rows) (bits_fit bits rows) bits bytes offsets done old outcome new
 
--- what a batch tells: how many of its rows were done, and the number of the refused one
+-- what a batch reports: how many of its rows were done, and the number of the refused one
 abbrev pub batch_report : ℕ → Result (Unit {0}) CallError → LassoReport
 batch_report done (Ok _) = record { texts = done; bytes = 0; at = 0 }
 batch_report done (Err _) = record { texts = done; bytes = 0; at = done }

@@ -39,7 +39,7 @@ LoadingUndoesSaving = (texts : List Text) → IsDistinct texts → LoadsBack tex
 pub record RowsComeBack (null : ℕ) (rows : List (Option Text)) (dictionary : List Text) (codes : List ℕ) : Type 0 where
   -- the codes name the texts, and an empty one for each null
   pub named : rows_named (Some null) dictionary codes ≡ map (λ (row : Option Text). unwrap_or row []) rows
-  -- the bitmap that is written tells which rows are texts
+  -- the bitmap that is written says which rows are texts
   pub present : (at : ℕ) → at < length rows → present_at (bitmap_of (code_bits null codes)) at ≡ is_some (slice_index_or rows at None)
 
 -- decoding what encoding writes of rows gives the rows, where the code of nulls is none of the dictionary's

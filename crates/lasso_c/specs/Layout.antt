@@ -20,12 +20,12 @@ greatest_large_offset = 9223372036854775807
 abbrev pub reach : ℕ → List ℕ → ℕ
 reach greatest bytes = min (length bytes) greatest
 
--- the texts between an offset and those behind it
+-- the texts between an offset and those after it
 abbrev pub texts_from : List ℕ → ℕ → List ℕ → List Text
 texts_from bytes from [] = []
 texts_from bytes from (to ∷ offsets) = slice_range bytes from to ∷ texts_from bytes to offsets
 
--- the texts of a buffer with these offsets; no offset at all stands for no text
+-- the texts of a buffer with these offsets; no offsets at all mean no texts
 abbrev pub layout_texts : List ℕ → List ℕ → List Text
 layout_texts bytes [] = []
 layout_texts bytes (from ∷ offsets) = texts_from bytes from offsets
@@ -79,7 +79,7 @@ rows_from bits at (text ∷ texts) = (if present_at bits at then Some text else 
 abbrev pub column_rows : List ℕ → List ℕ → List ℕ → List (Option Text)
 column_rows bits bytes offsets = rows_from bits 0 (layout_texts bytes offsets)
 
--- a row before some texts, of which a null is none
+-- a row before some texts; a null is no text
 abbrev pub with_row : Option Text → List Text → List Text
 with_row None texts = texts
 with_row (Some text) texts = text ∷ texts
@@ -89,7 +89,7 @@ abbrev pub present_texts : List (Option Text) → List Text
 present_texts [] = []
 present_texts (row ∷ rows) = with_row row (present_texts rows)
 
--- the offsets of texts that lie one behind the other from an offset on
+-- the offsets of texts that lie one after another from an offset on
 abbrev pub offsets_from : ℕ → List Text → List ℕ
 offsets_from at [] = at ∷ []
 offsets_from at (text ∷ texts) = at ∷ offsets_from (at + length text) texts

@@ -72,7 +72,7 @@ impl From<LassoError> for CallError {
     }
 }
 
-/// What a call tells beside its status.
+/// What a call reports besides its status.
 #[repr(C)]
 #[derive(Clone, Copy)]
 pub struct LassoReport {

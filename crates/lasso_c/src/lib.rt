@@ -1,7 +1,7 @@
 //! Interning for C, and for the languages that call C. `include/lasso.h` says what a caller owes and gets.
 //!
-//! Texts cross in the layout of Arrow's arrays of strings: one buffer of bytes, beside a buffer of offsets, of which there
-//! is one more than there are texts. No call keeps a pointer, and each writes into its caller's memory alone.
+//! Texts cross in the layout of Arrow's arrays of strings: one buffer of bytes, and a buffer of offsets, one
+//! more than there are texts. No call keeps a pointer, and each writes into its caller's memory alone.
 #![tactic(auto)]
 
 ghost use Rattle.std.specs.Prelude.{◌≡◌, ◌⊎◌, Err, Some, length, take};
@@ -38,9 +38,9 @@ mod widths;
 use error::LassoReport;
 use std::alloc::Global;
 
-/// Writes a code for each text of a layout, and a dictionary in the same layout: each distinct text once, in the order in
-/// which they first stand there. A code is the position of its text in the dictionary. It returns a status, and where that
-/// is not 0 it writes nothing but the report.
+/// Writes a code for each text of a layout, and a dictionary in the same layout: each distinct text once, in
+/// order of first occurrence. A code is the position of its text in the dictionary. It returns a status, and
+/// if that is not 0 it writes nothing but the report.
 #[unsafe(no_mangle)]
 pub extern "C" fn lasso_encode(
     alloc: Global,

@@ -76,7 +76,7 @@ fn gives_nulls_the_code_that_the_caller_names(rt: HostRuntime) -> Result<(), Fai
 fn asks_for_a_bit_of_each_row(rt: HostRuntime) -> Result<(), Fail> {
     let (mut codes, mut report) = ([9; 9], UNSET);
     let (mut bytes, mut starts) = ([9; 1], [9; 2]);
-    // Nine empty rows, of which the last is a null where it has a bit.
+    // Nine empty rows; the last is a null if it has a bit.
     for (present, want, last) in [
         ([0xff].as_slice(), (14, (0, 0, 8)), 9),
         (&[0xff, 0], (0, (1, 0, 0)), 7),

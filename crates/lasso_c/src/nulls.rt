@@ -53,7 +53,7 @@ pub(crate) fn put_bits(codes: &[u32], null: u32, bits: &mut [u8])
     }
 }
 
-// The byte of at most eight codes, the first of which has the least bit.
+// The byte of at most eight codes; the first code has the lowest bit.
 fn byte_of(codes: &[u32], null: u32) -> u8
     requires { length codes.now ≤ 8 }
     ensures { result ≡ byte_of (code_bits null codes.now) }

@@ -99,7 +99,8 @@ fn encodes_a_part_of_an_array_and_no_text_at_all(rt: HostRuntime) -> Result<(), 
     Ok(())
 }
 
-// Encoding is refused with this status and report, where so many codes, offsets and bytes have room, and writes none of them.
+// Encoding is refused with this status and report, where `rooms` is the room for codes, offsets and bytes,
+// and writes none of them.
 fn refuse_to_encode<R: Abort + AllocGlobal>(
     rt: &R,
     bytes_given: &[u8],
@@ -158,7 +159,8 @@ fn decodes_the_texts_that_codes_name(rt: HostRuntime) {
     assert!(rt; offsets == [0, 4, 4, 7, 10]);
 }
 
-// Decoding is refused with this status and report, where so many offsets and bytes have room, and writes none of them.
+// Decoding is refused with this status and report, where `rooms` is the room for offsets and bytes, and
+// writes none of them.
 fn refuse_to_decode<R: Abort>(
     rt: &R,
     dictionary_bytes: &[u8],

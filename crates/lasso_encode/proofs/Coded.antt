@@ -1,7 +1,8 @@
 -- Codes of texts in a list that grows.
 --
--- A text that is found at a position is found there still when another goes last. So codes stay those of their texts,
--- and one text's code more goes behind them. And where a text is found there it stands: codes stand for their texts.
+-- A text that is found at a position is found there still when another goes last. So codes stay those of
+-- their texts, and the code of one more text goes after them. And where a text is found, there it is: codes
+-- stand for their texts.
 use Rattle.std.proofs.Common.{ℕ, zero, suc, ◌≡◌, ◌+◌, List, [], ◌∷◌, ◌++◌, map, length, Bool, true, false, cond, Option, Some, refl, sym, ap, subst, ◌∙◌, arith, append_assoc}
 use Rattle.std.specs.Prelude.{slice_get}
 use Rattle.std.proofs.lemmas.Bool.Decides.{nat_tests}
@@ -85,7 +86,7 @@ adds_length list texts before after added =
 pub codes_stand : (list texts : List Text) (codes : List ℕ) → AreCodes list texts codes → StandFor list codes texts
 codes_stand list texts codes are = map_some_back (position_of list) (slice_get list) (λ t n e. position_here list t n e) texts codes are
 
--- and still do when texts go behind the list
+-- and still do when texts are appended to the list
 pub stand_longer : (list more texts : List Text) (codes : List ℕ) → StandFor list codes texts → StandFor (list ++ more) codes texts
 stand_longer list more texts codes stand =
     map_some_more (slice_get list) (slice_get (list ++ more)) (λ n t e. slice_get-append_left list more n (slice_get_within list n t e) ∙ e) codes texts stand

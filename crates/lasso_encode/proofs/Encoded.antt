@@ -1,7 +1,8 @@
 -- Texts that were encoded, one after another.
 --
--- A text that was interned has its key's position in the list that is left. The texts from before keep theirs, so their codes stay, and
--- one code more goes behind them. As many codes were added as texts were encoded: so their number tells which these are.
+-- A text that was interned has its key's position in the list that is left. The texts from before keep
+-- theirs, so their codes stay, and one more code goes after them. As many codes were added as texts were
+-- encoded: so their number says which these are.
 use denote.Ref.{Bor}
 use Rattle.std.proofs.Common.{ℕ, suc, map, drop, get_or, ◌≡◌, ◌+◌, ◌-◌, ◌<◌, List, [], ◌∷◌, ◌++◌, length, take, Option, None, Some, Ok, IsSomeAnd, is_some, refl, sym, ap, subst, ◌∙◌, arith, lit≤, length-append}
 use Rattle.std.specs.Prelude.{Contains, option_and_then, slice_get}
@@ -37,7 +38,7 @@ found_at (Some n) key has = ap Some (position_of_key n key has)
 pub interned_at : (old new : InternerView) (text : Text) (key : ℕ) → InternsIn spur_at old text (Ok key) new → position_of new.texts text ≡ Some (key - 1)
 interned_at old new text key h = found_at (position_of new.texts text) key (key_left spur_at old new text key h)
 
--- these texts were interned in order, and their codes were put behind those from before
+-- these texts were interned in order, and their codes were appended to those from before
 pub record Encoded (old : InternerView) (texts : List Text) (before : List ℕ) (new : InternerView) (after : List ℕ) : Type 0 where
   pub list : extend spur_at old texts accepted new
   pub codes : AddsCodes new.texts texts before after
@@ -54,11 +55,11 @@ encoded_push old mid new texts text key code before codes after so_far interns h
       adds_push new.texts texts text code before codes after kept here is;
 }
 
--- how many texts were encoded is told by the codes
+-- the codes say how many texts were encoded
 pub encoded_length : (old new : InternerView) (texts : List Text) (before after : List ℕ) → Encoded old texts before new after → length after ≡ length before + length texts
 encoded_length old new texts before after so_far = adds_length new.texts texts before after so_far.codes
 
--- ---- what the codes tell of a list of texts, some of which were encoded
+-- ---- what the codes say of a list of texts, some of which were encoded
 
 module _ (all done rest : List Text) (split : all ≡ done ++ rest) (old new : InternerView) (before after : List ℕ) (so_far : Encoded old done before new after) where
   pub encoded_are : encoded_texts before after all ≡ done
@@ -79,7 +80,7 @@ at_seam : (done : List Text) (text : Text) (rest : List Text) → slice_get (don
 at_seam [] text rest = refl
 at_seam (t ∷ done) text rest = at_seam done text rest
 
--- the text behind those that were encoded
+-- the text after those that were encoded
 pub next_at : (all done : List Text) (text : Text) (rest : List Text) → all ≡ done ++ text ∷ rest → (old new : InternerView) (before after : List ℕ) → Encoded old done before new after → (P : Text → Type 0) → P text → IsSomeAnd (slice_get all (length after - length before)) P
 next_at all done text rest split old new before after so_far P holds =
     let long : length after - length before ≡ length done = omega (arith, encoded_length old new done before after so_far) in

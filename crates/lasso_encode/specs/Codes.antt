@@ -7,7 +7,7 @@ use Rattle.lasso_parts.specs.Texts.{Text, position_of}
 abbrev pub AreCodes : List Text → List Text → List ℕ → Type 0
 AreCodes list texts codes = map (position_of list) texts ≡ map Some codes
 
--- the codes of the texts were put behind those that were there
+-- the codes of the texts were appended to those that were there
 abbrev pub AddsCodes : List Text → List Text → List ℕ → List ℕ → Type 0
 AddsCodes list texts before after = (codes : List ℕ) × (after ≡ before ++ codes) × AreCodes list texts codes
 
@@ -15,12 +15,12 @@ AddsCodes list texts before after = (codes : List ℕ) × (after ≡ before ++ c
 abbrev pub StandFor : List Text → List ℕ → List Text → Type 0
 StandFor list codes texts = map (slice_get list) codes ≡ map Some texts
 
--- texts were put behind those that were there, and the codes stand for them
+-- texts were appended to those that were there, and the codes stand for them
 abbrev pub AddsTexts : List Text → List ℕ → List (Bor Text) → List (Bor Text) → Type 0
 AddsTexts list codes before after =
     (lent : List (Bor Text)) × (after ≡ before ++ lent) × StandFor list codes (map (λ text. text.now) lent)
 
--- decoding what was encoded gives the texts, also where more texts went behind the list since
+-- decoding what was encoded gives the texts, also where more texts were appended to the list since
 abbrev pub DecodingGivesTexts : Type 0
 DecodingGivesTexts =
     (list more texts decoded : List Text) (codes : List ℕ)

@@ -29,7 +29,7 @@ IsRefused now text error =
     let held : Held = record { texts = now.texts; account = now.account } in
     (interned spur_at now.first held text ≡ Err error) ⊎ (error ≡ FailedAllocation)
 
--- the text behind those that were encoded was refused
+-- the text after those that were encoded was refused
 abbrev pub IsNextRefused : InternerView → List ℕ → List ℕ → List Text → LassoError → Type 0
 IsNextRefused now before after texts error =
     IsSomeAnd (slice_get texts (length after - length before)) (λ text. IsRefused now text error)
@@ -39,13 +39,13 @@ abbrev pub IsAdmitted : InternerView → Text → Type 0
 IsAdmitted now text =
     (position_of now.texts text ≡ None) × IsOk (interned spur_at now.first (record { texts = now.texts; account = now.account }) text)
 
--- When memory may be wanting, once these codes are there: they have no room for one more, or the text is absent and
--- admitted. So a limit or the want of a key is told as such where there is room for a code, and a present text is not
--- refused there.
+-- When memory may be lacking, once these codes are there: they have no room for one more, or the text is
+-- absent and admitted. So a limit or a lack of keys is reported as such where there is room for a code, and a
+-- present text is not refused there.
 abbrev pub MayLackMemory : {A : Type 0} → InternerView → Vec ℕ A → Text → LassoError → Type 0
 MayLackMemory now codes text error = error ≡ FailedAllocation → (vec_capacity codes ≤ vec_len codes) ⊎ IsAdmitted now text
 
--- the same of the text behind those that were encoded
+-- the same of the text after those that were encoded
 abbrev pub MayLackMemoryNext : {A : Type 0} → InternerView → List ℕ → Vec ℕ A → List Text → LassoError → Type 0
 MayLackMemoryNext now before codes texts error =
     IsSomeAnd (slice_get texts (length codes.items - length before)) (λ text. MayLackMemory now codes text error)

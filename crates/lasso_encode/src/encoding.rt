@@ -19,7 +19,7 @@ use std::hash::BuildHasher;
 /// says. Out of memory (`FailedAllocation`) comes only where `codes` is full and can't grow, or for an absent
 /// text that neither the keys nor the limit refuse. So a present text is refused only where `codes` is full.
 /// The texts before the refused one are interned and have their codes, and no text after it is taken; so the
-/// number of codes tells which text it is.
+/// number of codes says which text it is.
 ///
 /// ```rust
 /// let mut rodeo: SpurRodeo = Rodeo::default(rt.alloc())?;

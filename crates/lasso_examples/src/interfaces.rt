@@ -15,7 +15,7 @@ use std::process::Abort;
 use std::sync::Wait;
 use std::test::Fail;
 
-// Each intern call by itself, so that a row of them is a row of small proofs.
+// Each intern call on its own, so that a row of them is a row of small proofs.
 fn tries<K: Key, R: Abort + Wait, I: Interner<K>>(
     rt: &R,
     interner: &mut I,
@@ -52,8 +52,8 @@ fn gets_static<K: Key, R: Abort + Wait, I: Interner<K>>(
     is_answer(rt, interner.get_or_intern_static(rt, text), wanted);
 }
 
-/// `Hello, world!` by each of the four intern calls, and then all that a reader tells of it. There must be
-/// no text before.
+/// `Hello, world!` by each of the four intern calls, and then all that a reader says of it. There must be no
+/// text before.
 pub fn one_text<K: Key, R: Abort + Wait, I: Interner<K>>(rt: &R, interner: &mut I) {
     has_no_text(rt, interner);
     tries(rt, interner, "Hello, world!", Ok(0));
@@ -103,7 +103,7 @@ pub fn resolves_one_text<K: Key, R: Abort, T: Resolver<K>>(rt: &R, resolver: &T)
     stands_for(rt, resolver, second, None);
 }
 
-// The key stands for this text, or for none, by each call that tells it.
+// The key stands for this text, or for none, by each call that says so.
 fn stands_for<K: Key, R: Abort, T: Resolver<K>>(
     rt: &R,
     resolver: &T,

@@ -1,5 +1,6 @@
-//! Examples of the use of `lasso`, as a crate beside it has them: those of the front page, and those in the documents of the calls, where
-//! each stands in a test as it is there; a key type and callers of one's own; and tests of the interfaces.
+//! Examples of the use of `lasso`, as a crate beside it has them: those of the front page, and those in the
+//! documents of the calls, each copied as it is into a test; a key type and callers of one's own; and tests
+//! of the interfaces.
 #![tactic(auto)]
 
 #[cfg(test)]

@@ -1,4 +1,5 @@
-//! The examples in the documents of what interns texts and looks them up, by itself and in a run of commands, in tests.
+//! The examples in the documents of what interns texts and looks them up, alone and in a run of commands, in
+//! tests.
 use lasso::{Capacity, Command, Key, MemoryLimits, Reply, Rodeo, Spur, SpurRodeo, run_commands};
 use std::test::Fail;
 

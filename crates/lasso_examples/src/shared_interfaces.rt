@@ -1,5 +1,6 @@
-//! Each call of the interfaces at an interner that threads share, by itself, lent and in a box. It has no list of its own, so the clauses
-//! of the interfaces leave it alone: that they answer as its own calls do, and refuse and copy no more than these, is tested here.
+//! Each call of the interfaces at an interner that threads share: on its own, lent and in a box. It has no
+//! list of its own, so the clauses of the interfaces leave it alone: that they answer as its own calls do,
+//! and refuse and copy no more than these, is tested here.
 use crate::interfaces::{
     freezes, has_one_text, one_text, resolves_one_text, static_texts_take_no_bytes,
     static_texts_under_no_limit,

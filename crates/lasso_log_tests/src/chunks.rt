@@ -28,7 +28,7 @@ fn positions_lie_in_chunks_that_double(rt: HostRuntime) {
     }
 }
 
-// Makes the chunk of a position, and tells whether there is one then.
+// Makes the chunk of a position, and returns whether there is one then.
 fn makes(alloc: Global, chunks: &Chunks<&'static str>, position: u64) -> Result<bool, AllocError> {
     Ok(chunks.make_chunk(alloc, position)?.is_some())
 }

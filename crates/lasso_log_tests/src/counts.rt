@@ -1,4 +1,4 @@
-//! A number behind a lock whose tag it never passes, for tests.
+//! A number guarded by a lock whose tag it never passes, for tests.
 
 ghost use Rattle.std.specs.Prelude.{◌≡◌, ◌≤◌};
 

@@ -31,7 +31,7 @@ fn two_threads_take_turns(rt: HostRuntime) {
     assert!(rt; count_in(&rt, &lock) == 4000);
 }
 
-// Two numbers, of which the second is the first with the lock's tag added.
+// Two numbers; the second is the first with the lock's tag added.
 #[derive(Drop)]
 struct Pair {
     first: u64,

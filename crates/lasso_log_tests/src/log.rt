@@ -41,7 +41,7 @@ fn appends<R: Wait>(
     true
 }
 
-// Keeps a slot for each of these texts in turn and appends it, and tells how many it appended.
+// Keeps a slot for each of these texts in turn and appends it, and returns how many it appended.
 fn append_all<R: Wait>(
     rt: &R,
     alloc: Global,
@@ -66,8 +66,8 @@ fn append_all<R: Wait>(
     appended
 }
 
-// Keeps three slots, gives one back, and appends both texts in the others. Tells how many slots were kept at most, and how
-// many texts were appended.
+// Keeps three slots, gives one back, and appends both texts in the others. Returns how many slots were kept
+// at most, and how many texts were appended.
 fn append_ahead<R: Wait>(
     rt: &R,
     alloc: Global,
@@ -122,7 +122,7 @@ fn read_at<'a>(log: &'a Log<Spur>, pass: &mut Pass<Spur>, position: u64) -> Opti
     log.read(position, pass)
 }
 
-// The length of the list, as the spine and as the log tells it.
+// The length of the list, by the spine and by the log.
 fn lengths(log: &Log<Spur>, spine: &Spine<Spur>, pass: &mut Pass<Spur>) -> (u64, u64)
     requires { pass.old.of ≡ log.now }
     ensures { pass.new.of ≡ log.now }
@@ -130,7 +130,7 @@ fn lengths(log: &Log<Spur>, spine: &Spine<Spur>, pass: &mut Pass<Spur>) -> (u64,
     (spine.len(), log.len(pass))
 }
 
-// The list's length as the spine tells it, and how many slots are kept.
+// The list's length by the spine, and how many slots are kept.
 fn len_and_kept(spine: &Spine<Spur>) -> (u64, u64) {
     (spine.len(), spine.kept())
 }

@@ -8,7 +8,7 @@ use lasso_testing::draws::Draws;
 use std::alloc::AllocError;
 use std::sync::Wait;
 
-// A limit that is set a little above a usage is less than so many bytes above it.
+// A limit that is set a little above a usage is less than this number of bytes above it.
 const LITTLE: usize = 64;
 
 /// A call, and what it answered. A text goes by its number among the texts, a key by its position.
@@ -52,7 +52,7 @@ pub enum Answer {
     Allowed {
         bytes: usize,
     },
-    /// A walk over so many texts, with the sum of them.
+    /// A walk over this number of texts, with their sum.
     Walked {
         texts: usize,
         sum: u64,
@@ -91,10 +91,10 @@ pub fn sum_with(sum: u64, text: &str) -> u64 {
     sum
 }
 
-/// So many random calls with the pass, and what each answered. It is refused for want of memory alone.
+/// Makes `calls` random calls with the pass, and returns what each answered. The only error is out of memory.
 ///
-/// Behind a refusal for the limit come the usage and the limit, read at once. Behind a usage comes, every other time, a limit a little above it,
-/// where the thread sets limits: so texts often just pass it, or just do not.
+/// After a refusal for the limit come the usage and the limit, read at once. After a usage comes, every other
+/// time, a limit a little above it, if the thread sets limits: so texts often just pass it, or just do not.
 pub fn answers<K: Key, R: AllocGlobal + Wait>(
     rt: &R,
     rodeo: &ThreadedRodeo<K, FixedState>,

@@ -25,7 +25,7 @@ impl Bound {
         }
     }
 
-    /// The least of both, each number by itself.
+    /// The least of both, number by number.
     pub fn min(self, other: Bound) -> Self {
         Bound {
             texts: self.texts.min(other.texts),
@@ -35,8 +35,8 @@ impl Bound {
     }
 }
 
-/// The limits that the setter set in turn, in bytes, behind that of the beginning. A pass counts those of the setter alone: that is its own
-/// thread, or else the one thread that sets limits.
+/// The limits that the setter set in turn, in bytes, after that of the beginning. A pass counts those of the
+/// setter alone: that is its own thread, or else the one thread that sets limits.
 #[derive(Drop)]
 pub struct Setter {
     /// The number of the thread.
@@ -47,8 +47,8 @@ pub struct Setter {
 }
 
 impl Setter {
-    /// The thread of this number and with these answers, in a round that began with this limit, in bytes. It is refused for want of
-    /// memory alone.
+    /// The thread of this number and with these answers, in a round that began with this limit, in bytes. The
+    /// only error is out of memory.
     pub fn new(
         alloc: Global,
         thread: usize,
@@ -75,8 +75,8 @@ impl Setter {
         self.limits.len().saturating_sub(1)
     }
 
-    // How many limits were set at least, where so many were at least before and a limit of so many bytes was read. The limit does not tell
-    // where others set limits too.
+    // How many limits were set at least, given that `least` were set at least before and that a limit of
+    // `read` bytes was read. The limit says nothing if others set limits too.
     fn least(&self, least: usize, read: usize) -> usize {
         if self.alone {
             for (number, bytes) in self.limits.iter().enumerate() {
@@ -152,7 +152,7 @@ fn most_before(frozen: &Frozen, setter: &Setter, answer: &Answer, most: Bound) -
     before
 }
 
-/// What each of the answers is about at most, that of the last one first. It is refused for want of memory alone.
+/// What each of the answers is about at most, that of the last one first. The only error is out of memory.
 pub fn most_bounds(
     alloc: Global,
     frozen: &Frozen,

@@ -56,8 +56,8 @@ fn answers_of(found: &[Vec<Answer>], thread: usize) -> &[Answer] {
     }
 }
 
-/// Fails with a message where an answer of a thread is not explained by the list, as one after those of the same pass before it and before
-/// those behind it.
+/// Fails with a message if the list does not explain an answer of a thread as one that comes after the
+/// earlier answers of the same pass and before the later ones.
 pub fn check<K: Key>(alloc: Global, round: &Round<'_>, found: &[Vec<Answer>]) -> Result<()> {
     let mut reigns = Vec::new(alloc);
     reigns.push(Reign::first(round.limit, round.first()))?;
@@ -190,9 +190,10 @@ fn is_late(frozen: &Frozen, answer: &Answer, least: Bound) -> bool {
     }
 }
 
-// Whether a refusal has its reason. The usage only grows: so one for the limit has none where the least usage that was read behind it, with
-// the text's bytes, is within each limit that can have been in force. Keys are asked for at the list's end: so one for want of a key has
-// none where the longest list that it may be about has a next key.
+// Whether a refusal has its reason. The usage only grows: so a refusal for the limit has none if the least
+// usage read after it, with the text's bytes, is within each limit that can have been in force. Keys are
+// asked for at the list's end: so a refusal for lack of keys has none if the longest list that it may be
+// about has a next key.
 fn is_refused_rightly<K: Key>(
     texts: &Texts,
     reigns: &[Reign],

@@ -11,12 +11,12 @@ pub struct Frozen {
     numbers: Vec<usize>,
     // the position of each text by its number, and where it has none the greatest number
     positions: Vec<usize>,
-    // the sum of so many texts from the front
+    // `sums[count]` is the sum of the first `count` texts
     sums: Vec<u64>,
 }
 
 impl Frozen {
-    /// A list without texts. It is refused for want of memory alone.
+    /// A list without texts. The only error is out of memory.
     pub fn new(alloc: Global, texts: &Texts) -> Result<Self, AllocError> {
         let mut positions = Vec::new(alloc);
         for _ in 0..texts.count() {
@@ -31,7 +31,8 @@ impl Frozen {
         })
     }
 
-    /// Puts a text at the end. It fails where the text is none of the texts, where it was there, and for want of memory.
+    /// Puts a text at the end. It fails if the text is none of `texts`, if it was there already, and when out
+    /// of memory.
     pub fn push(&mut self, texts: &Texts, text: &str) -> Result<()> {
         let position = self.numbers.len();
         let Some(number) = texts.number_of(text) else {
@@ -62,7 +63,7 @@ impl Frozen {
         self.numbers.get(position).copied()
     }
 
-    /// The sum of so many texts from the front, where there are so many.
+    /// The sum of the first `count` texts, or `None` if there are fewer.
     pub fn sum(&self, count: usize) -> Option<u64> {
         self.sums.get(count).copied()
     }

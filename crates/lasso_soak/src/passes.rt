@@ -23,7 +23,7 @@ pub struct Work<'a> {
     pub calls: u32,
 }
 
-/// The answers of a thread, or none for want of memory.
+/// The answers of a thread, or none when out of memory.
 pub type Found = Result<Vec<Answer>, AllocError>;
 
 // What a thread found, and what its pass has seen of the interner.
@@ -58,8 +58,9 @@ fn by_one<K: Key, R: AllocGlobal + Wait>(
     }
 }
 
-/// Has the threads make random calls of the interner at once, and gives the answers of each. Where a thread can't be started, the caller
-/// makes its calls. The pass has then seen what those of all threads had. It is refused for want of memory alone.
+/// Has the threads make random calls of the interner at once, and gives the answers of each. Where a thread
+/// can't be started, the caller makes its calls. The pass has then seen what those of all threads had. The
+/// only error is out of memory.
 pub fn by_all<K: Key + Send + Sync, R: AllocGlobal + Threads + Wait + Sync>(
     rt: &R,
     rodeo: &ThreadedRodeo<K, FixedState>,

@@ -56,8 +56,8 @@ impl Reign {
     }
 }
 
-/// Adds the limits that a thread set, which is the setter that it counts. Its answers are about at least `first`, and at most about those
-/// of `mosts`, that of the last one first. It is refused for want of memory alone.
+/// Adds the limits that a thread set, which is the setter that it counts. Its answers are about at least
+/// `first`, and at most about those of `mosts`, that of the last one first. The only error is out of memory.
 pub fn note_reigns(
     reigns: &mut Vec<Reign>,
     setter: &Setter,
@@ -83,7 +83,8 @@ pub fn note_reigns(
     Ok(())
 }
 
-/// The same limits, each until the first of those that were surely set after it. It is refused for want of memory alone.
+/// The same limits, each until the first of those that were surely set after it. The only error is out of
+/// memory.
 pub fn ended(alloc: Global, reigns: &[Reign]) -> Result<Vec<Reign>, AllocError> {
     let mut all = Vec::new(alloc);
     for reign in reigns {

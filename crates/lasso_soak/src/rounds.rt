@@ -21,8 +21,8 @@ const FIRST: usize = 16;
 // The least limit.
 const LEAST: usize = 1000;
 
-/// Makes rounds of so many calls a thread, each with another seed from 0 on, until so many seconds are over, and gives how many rounds it
-/// were. It fails where a round does, and where the clock does.
+/// Makes rounds of `calls` calls a thread, each with another seed from 0 on, until `seconds` seconds are
+/// over, and returns the number of rounds. It fails if a round or the clock does.
 pub fn rounds_in<R: AllocGlobal + Clock + Print + Threads + Wait + Sync>(
     rt: &R,
     seconds: u64,
@@ -40,9 +40,10 @@ pub fn rounds_in<R: AllocGlobal + Clock + Print + Threads + Wait + Sync>(
     Ok(u64::MAX)
 }
 
-/// A round: four threads make so many random calls each, and each answer is checked. Rounds of even seeds have keys enough; of the odd ones
-/// keys run out. In every third round one thread alone sets limits. How many texts there are in the end. It fails with a message where an
-/// answer is wrong, and for want of memory.
+/// A round: four threads make `calls` random calls each, and each answer is checked. Rounds of even seeds
+/// have enough keys; in those of odd seeds keys run out. In every third round one thread alone sets limits.
+/// Returns how many texts there are in the end. It fails with a message if an answer is wrong, and when out
+/// of memory.
 pub fn calls_in_round<R: AllocGlobal + Threads + Wait + Sync>(
     rt: &R,
     seed: u64,
@@ -118,7 +119,7 @@ fn freeze<K: Key, R: AllocGlobal + Wait>(
     Ok(frozen)
 }
 
-// The answers of each thread, and behind them those of the pass that has seen what all had.
+// The answers of each thread, and after them those of the pass that has seen what all had.
 fn with_last(alloc: Global, found: Vec<Found>, last: [Answer; 3]) -> Result<Vec<Vec<Answer>>> {
     let mut all = Vec::new(alloc);
     for answers in found {

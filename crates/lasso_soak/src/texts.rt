@@ -18,7 +18,7 @@ pub struct Texts {
 }
 
 impl Texts {
-    /// So many texts. It is refused for want of memory alone.
+    /// `count` texts. The only error is out of memory.
     pub fn new(alloc: Global, count: usize) -> Result<Self, AllocError> {
         let mut texts = Vec::new(alloc);
         for number in 0..count {

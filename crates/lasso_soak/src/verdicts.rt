@@ -60,7 +60,7 @@ const fn allowed(bytes: usize) -> Answer {
     Answer::Allowed { bytes }
 }
 
-// A text was refused, of which a copy was to be kept.
+// A text that was to be copied was refused.
 const fn refused(text: usize, kind: LassoErrorKind) -> Answer {
     Answer::Refused {
         text,
@@ -127,7 +127,7 @@ fn print_texts<R: AllocGlobal + Print>(rt: &R) -> Result<()> {
     print_explained(rt, "more than there are in the end", &[counted(4)])
 }
 
-// Prints of two texts, and what was there before that shows so many or more.
+// Prints of two texts, after an answer that shows two or more.
 fn print_fewer<R: AllocGlobal + Print>(rt: &R) -> Result<()> {
     let two = counted(2);
     let walk = walked(&["5", "", "1"]);
@@ -139,7 +139,7 @@ fn print_fewer<R: AllocGlobal + Print>(rt: &R) -> Result<()> {
     print_explained(rt, "two behind a resolved key", &[LAST_IS_RESOLVED, two])
 }
 
-// Prints of answers that show fewer than three texts, behind two or three.
+// Prints of answers that show fewer than three texts, after two or three.
 fn print_more<R: AllocGlobal + Print>(rt: &R) -> Result<()> {
     let [two, three] = [2, 3].map(|texts| counted(texts));
     print_explained(rt, "a text that is not there yet", &[two, LAST_IS_MISSING])?;
@@ -280,7 +280,7 @@ fn print_explained<R: AllocGlobal + Print>(rt: &R, name: &str, answers: &[Answer
     print_verdict(rt, name, None, &[answers])
 }
 
-// The answers, and behind them how many texts and how great a usage there are in the end.
+// The answers, and after them the number of texts and the usage in the end.
 fn with_ends<R: AllocGlobal>(rt: &R, answers: &[Answer]) -> Result<Vec<Answer>> {
     let mut all = Vec::new(rt.alloc());
     all.extend_from_slice(answers)?;
@@ -289,7 +289,7 @@ fn with_ends<R: AllocGlobal>(rt: &R, answers: &[Answer]) -> Result<Vec<Answer>> 
     Ok(all)
 }
 
-// Prints whether the answers of threads are explained, one of which may set limits alone.
+// Prints whether the answers of threads are explained. One thread may be the only one that sets limits.
 fn print_verdict<R: AllocGlobal + Print>(
     rt: &R,
     name: &str,

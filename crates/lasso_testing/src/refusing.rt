@@ -24,7 +24,7 @@ fn refuses(requests: &Requests) -> bool {
     number == requests.refused
 }
 
-// Notes that a request was met, by so many bytes.
+// Notes that a request was met, by `size` bytes.
 fn gives_out(requests: &Requests, size: usize) {
     requests.met.set(requests.met.get().saturating_add(1));
     requests
@@ -32,14 +32,14 @@ fn gives_out(requests: &Requests, size: usize) {
         .set(requests.bytes_out.get().wrapping_add(size));
 }
 
-// Notes that so many bytes came back.
+// Notes that `size` bytes came back.
 fn takes_back(requests: &Requests, size: usize) {
     requests
         .bytes_out
         .set(requests.bytes_out.get().wrapping_sub(size));
 }
 
-/// Memory of another allocator, of which one request is refused. A request that the other allocator refuses is
+/// Memory of another allocator; one request for it is refused. A request that the other allocator refuses is
 /// refused too. A `&` to it is an allocator too, that of the interners under test.
 pub struct Refusing<B: Allocator> {
     inner: B,

@@ -1,5 +1,5 @@
-//! A table of symbols: each name that is declared has one symbol, which stands for it for as long as the
-//! table is there.
+//! A table of symbols: each name that is declared has one symbol, which stands for it as long as the table
+//! exists.
 ghost use Rattle.std.specs.Prelude.{◌≡◌, ℕ, ◌<◌, ◌↔◌, length, Some, IfOk, IfErr, IsTrue, slice_get};
 ghost use Rattle.lasso.specs.Texts.{Text};
 
@@ -14,7 +14,7 @@ pub struct SymbolTable<K: Key> {
 }
 
 impl<K: Key> SymbolTable<K> {
-    /// A table with no name. It is refused for want of memory alone.
+    /// A table with no name. The only error is out of memory.
     pub fn new(alloc: Global) -> LassoResult<Self>
         ensures { IfOk result (λ table. length table.names.texts ≡ 0) }
     {

@@ -48,7 +48,7 @@ fn texts_collide_under_the_fixed_seed_alone(rt: HostRuntime) -> Result<(), Fail>
     Ok(())
 }
 
-// Interns the texts, and tells whether each got the next position.
+// Interns the texts, and returns whether each got the next position.
 fn interns(rodeo: &mut Rodeo<Spur, RandomState, Global>, texts: &[String]) -> bool {
     let mut all = true;
     for position in 0..texts.len() {

@@ -46,7 +46,7 @@ fn add_copied<R: Wait>(
 
 #[test]
 fn copied_texts_are_put_last_and_read_back(rt: HostRuntime) -> Result<(), Fail> {
-    // a bucket of 8 bytes, of which 2 are taken
+    // a bucket of 8 bytes, 2 of them taken
     let NewLog {
         log,
         mut spine,

@@ -14,7 +14,7 @@ use lasso_parts::util::{LassoError, LassoErrorKind, LassoResult};
 use std::alloc::Global;
 use std::test::*;
 
-// Two texts for a log to open with, one of which is empty. The other is copied into a bucket of 8 bytes.
+// Two texts for a log to open with, one of them empty. The other is copied into a bucket of 8 bytes.
 fn two_texts(alloc: Global) -> LassoResult<OpeningTexts>
     ensures texts { IfOk result (λ t. t.texts ≡ codes "bc" ∷ [] ∷ []) }
     ensures bucket { IfOk result (λ t. t.bucket.size ≡ 8) }

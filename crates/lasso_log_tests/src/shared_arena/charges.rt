@@ -79,7 +79,8 @@ fn a_charge_that_the_limit_refuses_leaves_no_event(rt: HostRuntime) -> Result<()
     Ok(())
 }
 
-// Copies the text, and once more where it was refused. Tells whether a refusal was for want of memory, and left usage and list as they were.
+// Copies the text, and once more if it was refused. Returns whether a refusal was out of memory, and left
+// usage and list as they were.
 fn stores_again<R: Wait>(
     rt: &R,
     alloc: Global,

@@ -27,7 +27,7 @@ const LETTERS: [&str; 4] = [
     "dddddddddddddddddddddddddddddddddddddddd",
 ];
 
-// Copies so many of the letters, or one where there is no room for them.
+// Copies `count` of the letters, or one if there is no room for them.
 fn copies_some<R: Wait>(
     rt: &R,
     log: &Log<Spur>,

@@ -13,7 +13,7 @@ use std::sync::Wait;
 use std::test::*;
 use std::thread::join;
 
-// Copies the text into a bucket that the spine knows, and tells whether one had room for it.
+// Copies the text into a bucket that the spine knows, and returns whether one had room for it.
 fn fits<R: Wait>(
     rt: &R,
     log: &Log<Spur>,
@@ -200,7 +200,7 @@ fn stores_twenty<R: Wait>(
     Ok(())
 }
 
-// Copies a text of three bytes wherever there is room, and tells how many bytes it copied.
+// Copies a text of three bytes wherever there is room, and returns how many bytes it copied.
 fn walks_twenty<R: Wait>(rt: &R, log: &Log<Spur>, list: &BucketList<Spur>) -> u64
     requires { list.now ≡ names_with_book log.now }
 {

@@ -10,7 +10,7 @@ use lasso_parts::util::{LassoError, LassoErrorKind, LassoResult};
 use std::alloc::Global;
 use std::sync::Wait;
 
-// A log that opens with an empty bucket of so many bytes, under this limit.
+// A log that opens with an empty bucket of `bytes` bytes, under this limit.
 pub(super) fn begins(alloc: Global, bytes: usize, limit: u64) -> LassoResult<NewLog<Spur>>
     requires { bytes ≢ 0 }
     ensures spine { IfOk result (λ n. n.spine.of ≡ n.log) }
@@ -34,8 +34,8 @@ pub(super) fn opens(
     Ok((log, spine, list))
 }
 
-// Copies the text into a bucket that has room for it, or else into a new one. A new one that is not in the list then is told as
-// out of memory: a later walk with the spine would wait for it for ever.
+// Copies the text into a bucket that has room for it, or else into a new one. A new one that is not in the
+// list then is reported as out of memory: a later walk with the spine would wait for it for ever.
 pub(super) fn stores<R: Wait>(
     rt: &R,
     alloc: Global,
