@@ -17,7 +17,7 @@ struct Shape {
     filling: Vec<u8>,
 }
 
-fn shape<R: AllocGlobal>(rt: &R, lines: usize, filling: usize) -> Result<Shape, Fail> {
+fn shape_of<R: AllocGlobal>(rt: &R, lines: usize, filling: usize) -> Result<Shape, Fail> {
     let filling = vec![in rt.alloc(); b'-'; filling]?;
     Ok(Shape { lines, filling })
 }
@@ -71,7 +71,7 @@ fn write_in_order<R: AllocGlobal + Threads + Wait + Sync + Abort>(
 // than a text's 14 bytes.
 #[test]
 fn thirty_thousand_distinct_lines(rt: HostRuntime) -> Result<(), Fail> {
-    let shape = shape(&rt, 30_000, 0)?;
+    let shape = shape_of(&rt, 30_000, 0)?;
     let (input, output) = (mixed_lines(&rt, &shape)?, ordered_lines(&rt, &shape)?);
     assert!(rt; input.len() == 405_000 && output.len() == 405_000);
     let orders: [&[&str]; 4] = [
@@ -87,7 +87,7 @@ fn thirty_thousand_distinct_lines(rt: HostRuntime) -> Result<(), Fail> {
 // leaves less than a text's 4214 bytes.
 #[test]
 fn more_than_four_megabytes_of_distinct_lines(rt: HostRuntime) -> Result<(), Fail> {
-    let shape = shape(&rt, 1000, 4200)?;
+    let shape = shape_of(&rt, 1000, 4200)?;
     let (input, output) = (mixed_lines(&rt, &shape)?, ordered_lines(&rt, &shape)?);
     assert!(rt; input.len() == 4_213_500 && output.len() == 4_213_500);
     let orders: [&[&str]; 2] = [
