@@ -6,7 +6,7 @@ use crate::long_columns::slices;
 use crate::numbered::printed;
 use crate::shared::stand_for;
 use crate::shared_columns::Call;
-use lasso::{Key, MemoryLimits, Spur};
+use lasso::{Key, MemoryLimits, Spur, SpurRodeo};
 use std::alloc::Global;
 use std::process::Abort;
 use std::sync::Wait;
@@ -30,7 +30,7 @@ struct Column {
     distinct: usize,
 }
 
-// The column of one text, so many times.
+// The column of one text, `count` times.
 fn all_alike(alloc: Global, count: u32) -> Result<Column, Fail> {
     let numbers = vec![in alloc; 17u32; count as usize]?;
     Ok(Column {
@@ -40,7 +40,7 @@ fn all_alike(alloc: Global, count: u32) -> Result<Column, Fail> {
     })
 }
 
-// The column of so many different texts. 7919 and 10,000 have no common factor.
+// The column of `count` different texts. 7919 and 10,000 have no common factor.
 fn all_different(alloc: Global, count: u32) -> Result<Column, Fail> {
     let (mut numbers, mut codes) = (Vec::new(alloc), Vec::new(alloc));
     for place in 0..count {
@@ -54,27 +54,46 @@ fn all_different(alloc: Global, count: u32) -> Result<Column, Fail> {
     })
 }
 
-// One thread encodes the column, as texts and as lines, and decodes it.
-fn encode_by_one<R: AllocGlobal + Abort>(rt: &R, column: &Column) -> Result<(), Fail> {
-    let texts = slices(rt.alloc(), &column.texts)?;
-    let mut lines = Vec::new(rt.alloc());
-    for text in texts.iter() {
+// The column's texts as lines.
+fn lines_of(alloc: Global, column: &Column) -> Result<Vec<u8>, Fail> {
+    let mut lines = Vec::new(alloc);
+    for text in column.texts.iter() {
         lines.extend_from_slice(text.as_bytes())?;
         lines.push(b'\n')?;
     }
+    Ok(lines)
+}
+
+// The codes stand for the column's texts in the interner.
+fn decode_all<R: AllocGlobal + Abort>(
+    rt: &R,
+    rodeo: SpurRodeo,
+    codes: &[u32],
+    column: &Column,
+) -> Result<(), Fail> {
+    let reader = rodeo.into_reader();
+    let mut decoded = Vec::new(rt.alloc());
+    decode(&reader, codes, &mut decoded)?;
+    assert!(rt; decoded.len() == column.texts.len());
+    for (text, wanted) in decoded.iter().zip(column.texts.iter()) {
+        assert!(rt; *text == wanted.as_str());
+    }
+    Ok(())
+}
+
+// One thread encodes the column, as texts and as lines, and decodes it.
+fn encode_by_one<R: AllocGlobal + Abort>(rt: &R, column: &Column) -> Result<(), Fail> {
+    let lines = lines_of(rt.alloc(), column)?;
     let mut rodeo = interner(rt, &[OTHER])?;
     let mut codes = Vec::new(rt.alloc());
     encode_lines(&mut rodeo, &lines, &mut codes)?;
     assert!(rt; codes == column.codes && rodeo.len() == column.distinct.wrapping_add(1));
+    let texts = slices(rt.alloc(), &column.texts)?;
     let mut rodeo = interner(rt, &[OTHER])?;
     codes.clear();
     encode(&mut rodeo, &texts, &mut codes)?;
     assert!(rt; codes == column.codes && rodeo.len() == column.distinct.wrapping_add(1));
-    let reader = rodeo.into_reader();
-    let mut decoded = Vec::new(rt.alloc());
-    decode(&reader, &codes, &mut decoded)?;
-    assert!(rt; decoded == texts);
-    Ok(())
+    decode_all(rt, rodeo, &codes, column)
 }
 
 // Merges the interner of the column's texts into one of the other text.
