@@ -208,19 +208,20 @@ fn pair<K: Key, S: BuildHasher + Default + Drop, R: AllocGlobal + Wait>(
 }
 
 // Whether walks, JSON and frozen forms show just the two texts, which are in the order of their bytes, and
-// leave limit and usage.
-fn are_shown<K: Key, S: BuildHasher + Default + Drop, R: AllocGlobal + Wait>(
+// leave limit and usage. The second text is interned as a static one, which is its copy.
+fn are_shown<'a, K: Key, S: BuildHasher + Default + Drop, R: AllocGlobal + Wait>(
     rt: &R,
-    first: &str,
-    second: &'static str,
+    first: &'a str,
+    second: &'a str,
+    copy: &'static str,
 ) -> Result<bool, Fail> {
     let texts = [first, second];
-    let shared: ThreadedRodeo<K, S> = pair(rt, first, second)?;
+    let shared: ThreadedRodeo<K, S> = pair(rt, first, copy)?;
     let mut all = has_just(rt, &shared, &texts)? && are_walked(&shared, &texts);
     all &= are_written(rt.alloc(), &shared, &texts)?;
     all &= usage(rt, &shared) == first.len() && limit(rt, &shared) == first.len();
     all &= are_read::<K, S, R>(rt, &texts)?;
-    let interners = (shared, pair(rt, first, second)?, pair(rt, first, second)?);
+    let interners = (shared, pair(rt, first, copy)?, pair(rt, first, copy)?);
     Ok(all && are_frozen(rt, interners, &texts)?)
 }
 
@@ -229,17 +230,25 @@ fn are_shown<K: Key, S: BuildHasher + Default + Drop, R: AllocGlobal + Wait>(
 fn texts_of_each_length_are_shown(rt: HostRuntime) -> Result<(), Fail> {
     for length in LENGTHS {
         let first = lettered(rt.alloc(), "a", length)?;
-        let (first, second) = (first.as_str(), lasting(rt.alloc(), "b", length)?);
-        assert!(rt;
-            are_shown::<Spur, FixedState, HostRuntime>(&rt, first, second)?,
-            "{length}"
-        );
+        let second = lettered(rt.alloc(), "b", length)?;
+        let copy = lasting(rt.alloc(), "b", length)?;
+        let ascii = are_shown::<Spur, FixedState, HostRuntime>(
+            &rt,
+            first.as_str(),
+            second.as_str(),
+            copy,
+        )?;
+        assert!(rt; ascii, "{length}");
         let first = lettered(rt.alloc(), "é", length)?;
-        let (first, second) = (first.as_str(), lasting(rt.alloc(), "😀", length)?);
-        assert!(rt;
-            are_shown::<LargeSpur, SameState, HostRuntime>(&rt, first, second)?,
-            "{length}"
-        );
+        let second = lettered(rt.alloc(), "😀", length)?;
+        let copy = lasting(rt.alloc(), "😀", length)?;
+        let other = are_shown::<LargeSpur, SameState, HostRuntime>(
+            &rt,
+            first.as_str(),
+            second.as_str(),
+            copy,
+        )?;
+        assert!(rt; other, "{length}");
     }
     Ok(())
 }
