@@ -6,7 +6,7 @@ use crate::long_columns::slices;
 use crate::numbered::printed;
 use crate::shared::stand_for;
 use crate::shared_columns::Call;
-use lasso::{Key, MemoryLimits, Spur, SpurRodeo};
+use lasso::{Key, MemoryLimits, Spur};
 use std::alloc::Global;
 use std::process::Abort;
 use std::sync::Wait;
@@ -64,23 +64,6 @@ fn lines_of(alloc: Global, column: &Column) -> Result<Vec<u8>, Fail> {
     Ok(lines)
 }
 
-// The codes stand for the column's texts in the interner.
-fn decode_all<R: AllocGlobal + Abort>(
-    rt: &R,
-    rodeo: SpurRodeo,
-    codes: &[u32],
-    column: &Column,
-) -> Result<(), Fail> {
-    let reader = rodeo.into_reader();
-    let mut decoded = Vec::new(rt.alloc());
-    decode(&reader, codes, &mut decoded)?;
-    assert!(rt; decoded.len() == column.texts.len());
-    for (text, wanted) in decoded.iter().zip(column.texts.iter()) {
-        assert!(rt; *text == wanted.as_str());
-    }
-    Ok(())
-}
-
 // One thread encodes the column, as texts and as lines, and decodes it.
 fn encode_by_one<R: AllocGlobal + Abort>(rt: &R, column: &Column) -> Result<(), Fail> {
     let lines = lines_of(rt.alloc(), column)?;
@@ -93,7 +76,11 @@ fn encode_by_one<R: AllocGlobal + Abort>(rt: &R, column: &Column) -> Result<(), 
     codes.clear();
     encode(&mut rodeo, &texts, &mut codes)?;
     assert!(rt; codes == column.codes && rodeo.len() == column.distinct.wrapping_add(1));
-    decode_all(rt, rodeo, &codes, column)
+    let reader = rodeo.into_reader();
+    let mut decoded = Vec::new(rt.alloc());
+    decode(&reader, &codes, &mut decoded)?;
+    assert!(rt; decoded.as_slice() == texts.as_slice());
+    Ok(())
 }
 
 // Merges the interner of the column's texts into one of the other text.
