@@ -6,7 +6,7 @@ use crate::long_columns::slices;
 use crate::numbered::printed;
 use crate::shared::stand_for;
 use crate::shared_columns::Call;
-use lasso::{Key, MemoryLimits, Spur};
+use lasso::{Key, MemoryLimits, Spur, SpurRodeo};
 use std::alloc::Global;
 use std::process::Abort;
 use std::sync::Wait;
@@ -64,6 +64,30 @@ fn lines_of(alloc: Global, column: &Column) -> Result<Vec<u8>, Fail> {
     Ok(lines)
 }
 
+// Whether these are the texts, in order.
+fn are_texts(decoded: &[&str], texts: &[String]) -> bool {
+    let mut all = decoded.len() == texts.len();
+    let mut position: usize = 0;
+    for text in texts.iter() {
+        all &= decoded.get(position).copied() == Some(text.as_str());
+        position = position.saturating_add(1);
+    }
+    all
+}
+
+// Whether the codes stand for the column's texts in the interner.
+fn is_decoded(
+    alloc: Global,
+    rodeo: SpurRodeo,
+    codes: &[u32],
+    column: &Column,
+) -> Result<bool, Fail> {
+    let reader = rodeo.into_reader();
+    let mut decoded = Vec::new(alloc);
+    decode(&reader, codes, &mut decoded)?;
+    Ok(are_texts(&decoded, &column.texts))
+}
+
 // One thread encodes the column, as texts and as lines, and decodes it.
 fn encode_by_one<R: AllocGlobal + Abort>(rt: &R, column: &Column) -> Result<(), Fail> {
     let lines = lines_of(rt.alloc(), column)?;
@@ -76,10 +100,7 @@ fn encode_by_one<R: AllocGlobal + Abort>(rt: &R, column: &Column) -> Result<(), 
     codes.clear();
     encode(&mut rodeo, &texts, &mut codes)?;
     assert!(rt; codes == column.codes && rodeo.len() == column.distinct.wrapping_add(1));
-    let reader = rodeo.into_reader();
-    let mut decoded = Vec::new(rt.alloc());
-    decode(&reader, &codes, &mut decoded)?;
-    assert!(rt; decoded.as_slice() == texts.as_slice());
+    assert!(rt; is_decoded(rt.alloc(), rodeo, &codes, column)?);
     Ok(())
 }
 
