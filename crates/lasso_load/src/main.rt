@@ -8,7 +8,7 @@ use std::io;
 fn main(rt: HostRuntime) -> anyhow::Result<()> {
     let saved = io::read_to_string(rt.alloc(), rt.reader())?;
     let names = load::<Spur>(rt.alloc(), saved.as_str())?;
-    for (key, name) in &names {
+    for (key, name) in names.iter() {
         println!(rt; "{} {name}", key.into_usize())?;
     }
     Ok(())
