@@ -18,7 +18,7 @@ const COUNTS: [u32; 6] = [2, 10, 21, 25, 64, 300];
 
 const WORKERS: [usize; 4] = [1, 3, 10, 64];
 
-// The text that is there before each column, and that no column has.
+// The interner's text before each column, which no column has.
 const OTHER: &str = "red";
 
 // A column's texts, and the codes that one thread gives them.

@@ -23,7 +23,7 @@ pub fn made(alloc: Global) -> Result<Shared, Fail> {
     Ok(ThreadedRodeo::default(alloc)?)
 }
 
-/// An interner with so many bytes in its first bucket, under this limit.
+/// An interner with this number of bytes in its first bucket, under this limit.
 pub fn limited<K: Key>(
     alloc: Global,
     bytes: usize,
@@ -43,7 +43,8 @@ pub fn with_bytes<K: Key>(alloc: Global, bytes: usize) -> Result<ThreadedRodeo<K
     Ok(ThreadedRodeo::with_capacity(alloc, Capacity::for_bytes(bytes))?)
 }
 
-/// An interner with so many bytes in its first bucket, under this limit, whose indexes ask such a hasher.
+/// An interner with this number of bytes in its first bucket, under this limit, whose indexes use hashers of
+/// `S`.
 pub fn limited_hashed<K: Key, S: BuildHasher + Default + Drop>(
     alloc: Global,
     bytes: usize,

@@ -47,7 +47,7 @@ fn debug_text_of_walks(rt: HostRuntime) -> Result<(), Fail> {
     Ok(())
 }
 
-// So many texts of three digits as debug text, with commas between them.
+// The first `count` texts of three digits as debug text, with commas between them.
 fn digits_printed(alloc: Global, count: u32) -> Result<String, Fail> {
     let mut printed = String::new(alloc);
     for number in 0..count {
