@@ -1,8 +1,9 @@
-//! Columns of 20,000 texts that threads encode over an interner that has texts already, and a limit that
-//! none of them meets. Each text has five bytes, so that which buckets there are afterwards is the same
+//! Columns of 20,000 texts that threads encode over an interner that has texts already, under a limit that
+//! none of them meets and under one that all of them meet. Each text has five bytes, so that which buckets there are afterwards is the same
 //! whatever the order of the texts.
 ghost use Rattle.std.specs.Prelude.{◌<◌};
 
+use crate::columns::limit_refuses;
 use crate::long_columns::slices;
 use crate::numbered::{codes_of, distinct, mixed, printed};
 use crate::shared::stand_for;
@@ -18,6 +19,9 @@ const WORKERS: [usize; 2] = [1, 4];
 
 // Far above the bytes of all texts.
 const LIMIT: usize = 1_234_567;
+
+// Below the bytes of each column's texts.
+const LOW_LIMIT: usize = 40_000;
 
 // How many texts the interner has before a column comes.
 const OPENING: usize = 500;
@@ -152,4 +156,44 @@ fn a_long_column_of_some_new_texts_follows_others(rt: HostRuntime) -> Result<(),
 fn a_long_column_of_new_texts_follows_others(rt: HostRuntime) -> Result<(), Fail> {
     let numbers = distinct(rt.alloc())?;
     encode_in_each_way(&rt, &column_of(rt.alloc(), &numbers, 20_000, 157_500)?)
+}
+
+// Encodes the texts over an interner that has no room for them under the lower limit.
+fn encode_past_the_limit<R: AllocGlobal + Threads + Wait + Sync + Abort>(
+    rt: &R,
+    texts: &[&str],
+    call: Call,
+    workers: usize,
+) -> Result<(), Fail> {
+    let rodeo = with_bytes(rt.alloc(), 2500)?;
+    rodeo.set_memory_limits(rt, MemoryLimits::new(LOW_LIMIT));
+    let mut codes = Vec::new(rt.alloc());
+    let reply = call.encode(rt, &rodeo, texts, &mut codes, workers);
+    limit_refuses(reply.err())?;
+    assert!(rt; codes.is_empty());
+    assert!(rt; rodeo.max_memory_usage(rt) == LOW_LIMIT);
+    assert!(rt; rodeo.current_memory_usage(rt) <= LOW_LIMIT);
+    Ok(())
+}
+
+// Encodes the texts of the numbers past the lower limit by each call, by one worker and by four.
+fn are_past_the_limit<R: AllocGlobal + Threads + Wait + Sync + Abort>(
+    rt: &R,
+    numbers: &[u32],
+) -> Result<(), Fail> {
+    let printed = printed(rt.alloc(), numbers)?;
+    let texts = slices(rt.alloc(), &printed)?;
+    for call in [Call::Plain, Call::ByPass] {
+        for workers in WORKERS {
+            encode_past_the_limit(rt, &texts, call, workers)?;
+        }
+    }
+    Ok(())
+}
+
+// The distinct texts of the first column have more than 49,100 bytes, those of the second 100,000.
+#[test]
+fn long_columns_are_refused_past_the_limit(rt: HostRuntime) -> Result<(), Fail> {
+    are_past_the_limit(&rt, &mixed(rt.alloc())?)?;
+    are_past_the_limit(&rt, &distinct(rt.alloc())?)
 }

@@ -2,6 +2,7 @@
 //! the lines are made.
 use super::limits::run_by;
 use super::many_lines::push_line;
+use crate::fault::RunFault;
 use std::process::Abort;
 use std::sync::Wait;
 use std::test::Fail;
@@ -81,6 +82,22 @@ fn thirty_thousand_distinct_lines(rt: HostRuntime) -> Result<(), Fail> {
         &["--limit", "520192", "--workers", "64"],
     ];
     write_in_order(&rt, &input, &output, &orders)
+}
+
+// The same texts under 300,000 bytes. Which line is refused depends on the workers.
+#[test]
+fn thirty_thousand_distinct_lines_past_the_limit(rt: HostRuntime) -> Result<(), Fail> {
+    let input = mixed_lines(&rt, &shape_of(&rt, 30_000, 0)?)?;
+    for workers in ["1", "2", "8", "64"] {
+        let words = ["--limit", "300000", "--workers", workers];
+        let (text, ended) = run_by(&rt, &words, &input)?;
+        assert!(rt; text.is_empty(), "{workers}");
+        let Err(RunFault::Refused(_, error)) = ended else {
+            return Err(Fail::from("no line was refused"));
+        };
+        assert!(rt; error.kind().is_memory_limit(), "{workers}");
+    }
+    Ok(())
 }
 
 // The texts have 4,212,500 bytes. Buckets of 4096 bytes times 1, 2, 4, .. 1024 have 8,384,512, of which each

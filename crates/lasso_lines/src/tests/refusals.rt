@@ -44,6 +44,22 @@ fn a_refused_line_is_told_by_a_great_number(rt: HostRuntime) -> Result<(), Fail>
     Ok(())
 }
 
+// The long line is the first, at the end of the input or before others.
+#[test]
+fn a_first_line_is_refused(rt: HostRuntime) -> Result<(), Fail> {
+    let wanted = "line 1: Lasso encountered an error: The configured memory limit was reached";
+    let rests: [&[u8]; 3] = [b"", b"\n", b"\nb\n"];
+    for rest in rests {
+        let input = with_line_of(&rt, LONG, b"", rest)?;
+        for workers in [1usize, 2, 3, 64] {
+            let (output, ended) = run_over(&rt, &input, MemoryLimits::new(LIMIT), workers);
+            assert_fault(&rt, ended, wanted, 1)?;
+            assert!(rt; output.is_empty());
+        }
+    }
+    Ok(())
+}
+
 // Of lines of 10 bytes 409 lie in the first bucket, which leaves 6 bytes.
 #[test]
 fn one_worker_tells_the_first_line_past_the_limit(rt: HostRuntime) -> Result<(), Fail> {

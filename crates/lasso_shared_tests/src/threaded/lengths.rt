@@ -1,7 +1,8 @@
-//! What each plain call returns for a text of each length, and what it leaves unchanged.
+//! What each call returns for a text of each length, and what it leaves unchanged.
 use crate::calls::{
-    Shared, allocated, answered, contains, copied, copied_so, found, hashed, is_key, kept, kept_so,
-    len, limit, limited, made, resolved, set_limit, text_at, usage,
+    Shared, allocated, answered, contains, copied, copied_as, copied_so, found, found_as, hashed,
+    is_key, kept, kept_as, kept_so, len, limit, limited, made, pass_of, resolved, set_limit,
+    text_at, usage,
 };
 use crate::texts::{LENGTHS, ended, lasting, lettered};
 use lasso_parts::keys::Key;
@@ -12,7 +13,7 @@ use std::process::Abort;
 use std::sync::Wait;
 use std::test::*;
 
-// A plain call that interns a text.
+// A call that interns a text, with a pass of its own or without one.
 #[derive(Clone, Copy)]
 enum Way {
     TryCopied,
@@ -20,15 +21,19 @@ enum Way {
     TryStatic,
     Static,
     Item,
+    CopiedByPass,
+    StaticByPass,
 }
 
 // Each call, with a letter of its own.
-const WAYS: [(Way, &str); 5] = [
+const WAYS: [(Way, &str); 7] = [
     (Way::TryCopied, "a"),
     (Way::Copied, "b"),
     (Way::TryStatic, "c"),
     (Way::Static, "d"),
     (Way::Item, "e"),
+    (Way::CopiedByPass, "f"),
+    (Way::StaticByPass, "g"),
 ];
 
 // Interns the text by the call. Returns its number, which is looked up after `extend`.
@@ -38,6 +43,7 @@ fn interned<K: Key, R: Wait>(
     way: Way,
     text: &'static str,
 ) -> LassoResult<Option<usize>> {
+    let mut pass = pass_of(shared);
     match way {
         Way::TryCopied => Ok(Some(copied(rt, shared, text)?)),
         Way::Copied => Ok(Some(copied_so(rt, shared, text)?)),
@@ -47,12 +53,17 @@ fn interned<K: Key, R: Wait>(
             shared.extend(rt, [text])?;
             Ok(found(rt, shared, text))
         }
+        Way::CopiedByPass => Ok(Some(copied_as(rt, shared, &mut pass, text)?.into_usize())),
+        Way::StaticByPass => Ok(Some(kept_as(rt, shared, &mut pass, text)?.into_usize())),
     }
 }
 
-// Whether each look-up finds the text under this number, and does not find the absent one.
+// Whether each look-up, also one by a pass, finds the text under this number, and does not find the absent one.
 fn has_just_one<R: Wait>(rt: &R, shared: &Shared, text: &str, number: usize, absent: &str) -> bool {
-    found(rt, shared, text) == Some(number)
+    let mut pass = pass_of(shared);
+    found_as(rt, shared, &mut pass, text) == Some(number)
+        && found_as(rt, shared, &mut pass, absent).is_none()
+        && found(rt, shared, text) == Some(number)
         && contains(rt, shared, text)
         && found(rt, shared, absent).is_none()
         && !contains(rt, shared, absent)
@@ -103,7 +114,7 @@ fn a_text_of_each_length_is_found(rt: HostRuntime) -> Result<(), Fail> {
             number = number.saturating_add(1);
         }
     }
-    assert!(rt; number == 205);
+    assert!(rt; number == 287);
     Ok(())
 }
 
@@ -115,8 +126,10 @@ fn has_sums<R: Wait>(rt: &R, shared: &Shared, count: usize, bytes: usize) -> boo
 // Looks an absent text up in each way, reads the bytes that are allocated, and compares the interner with itself. Returns
 // whether all replies are right.
 fn reads_all<R: Wait>(rt: &R, shared: &Shared, absent: &str) -> bool {
+    let mut pass = pass_of(shared);
     !contains(rt, shared, absent)
         && found(rt, shared, absent).is_none()
+        && found_as(rt, shared, &mut pass, absent).is_none()
         && allocated(rt, shared) > 0
         && shared.eq_threaded(rt, shared)
 }
@@ -150,7 +163,7 @@ fn no_reading_takes_a_byte_of_a_text(rt: HostRuntime) -> Result<(), Fail> {
 // Whether each call that copies refuses the text by the limit, and the text stays absent.
 fn are_refused<R: Wait>(rt: &R, shared: &Shared, text: &'static str) -> bool {
     let mut all = true;
-    for way in [Way::TryCopied, Way::Copied, Way::Item] {
+    for way in [Way::TryCopied, Way::Copied, Way::Item, Way::CopiedByPass] {
         all &= answered(interned(rt, shared, way, text)) == Err(LassoErrorKind::MemoryLimitReached);
         all &= !contains(rt, shared, text) && found(rt, shared, text).is_none();
     }
@@ -183,7 +196,7 @@ fn refused_until_static<R: AllocGlobal + Wait>(
 #[test]
 fn a_refused_text_leaves_nothing(rt: HostRuntime) -> Result<(), Fail> {
     for length in LENGTHS {
-        for way in [Way::TryStatic, Way::Static] {
+        for way in [Way::TryStatic, Way::Static, Way::StaticByPass] {
             assert!(rt; refused_until_static(&rt, way, length)?, "{length}");
         }
     }

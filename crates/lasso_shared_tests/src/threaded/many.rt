@@ -1,9 +1,9 @@
-//! Plain calls on many texts: the numbers of new texts, look-ups of absent ones, limits, fillings, frozen forms and comparisons.
+//! Calls on many texts: the numbers of new texts, look-ups of absent ones, limits, fillings, frozen forms and comparisons.
 use super::comparing::equal_forms;
 use super::counts::{none_past, of_first, reads_first, resolves_first};
 use crate::calls::{
-    Shared, answered, contains, copied, copied_so, found, kept, kept_so, len, limit, resolved,
-    set_limit, usage, with_bytes,
+    Shared, answered, contains, copied, copied_so, found, found_as, kept, kept_so, len, limit,
+    pass_of, resolved, set_limit, usage, with_bytes,
 };
 use crate::texts::numbered;
 use lasso_parts::util::{LassoErrorKind, LassoResult};
@@ -33,10 +33,22 @@ fn is_next<R: Wait>(rt: &R, alloc: Global, shared: &Shared, number: usize) -> Re
     Ok(given == number)
 }
 
+// Absent texts. The last has 60 bytes.
+const ABSENT: [&str; 6] = [
+    "000000",
+    "0000",
+    "00000.",
+    ".",
+    "",
+    "000000000000000000000000000000000000000000000000000000000000",
+];
+
 // Whether absent texts are found by no call, no key past the texts stands for one, and all this leaves `count` texts.
 fn lacks_others<R: Wait>(rt: &R, shared: &Shared, count: usize) -> Result<bool, Fail> {
     let mut all = len(shared) == count && none_past(shared, count)?;
-    for absent in ["000000", "0000", "00000.", ".", ""] {
+    for absent in ABSENT {
+        let mut pass = pass_of(shared);
+        all &= found_as(rt, shared, &mut pass, absent).is_none();
         all &= found(rt, shared, absent).is_none() && !contains(rt, shared, absent);
     }
     Ok(all && len(shared) == count)
