@@ -1,7 +1,8 @@
 -- Lines that were encoded, one after another.
 --
--- The lines of the bytes are those that were cut off and those of the rest. Each that was cut off was found to be text and was encoded, so
--- their number is that of the codes. Where nothing is left these are all lines; else the next one is that at which it ended.
+-- The lines of the bytes are those that were cut off, followed by those of the rest. Each line that was
+-- cut off is UTF-8 and was encoded, so there is one new code for each. If nothing is left, these are all
+-- lines. Otherwise encoding ended at the next line.
 use Rattle.std.proofs.Common.{ℕ, ◌≡◌, ◌+◌, ◌-◌, List, [], ◌∷◌, ◌++◌, length, Ok, Some, IsSomeAnd, refl, sym, ap, subst, ◌∙◌, arith, append_assoc}
 use Rattle.std.specs.Prelude.{All, slice_get}
 use Rattle.std.specs.Str.{IsUtf8}
@@ -16,7 +17,7 @@ use Rattle.lasso_columns.specs.Faults.{IsFaultOf, IsNextFault}
 use Rattle.lasso_cut.specs.Lines.{lines_of}
 use Rattle.lasso_columns.specs.declared.faults.LineError.{LineError}
 
--- so many lines were cut off the bytes and encoded, and the rest is left
+-- the first `count` lines were cut off the bytes and encoded, and `rest` is left
 pub record LinesSoFar (old : InternerView) (bytes : List ℕ) (before : List ℕ) (count : ℕ) (rest : List ℕ) (new : InternerView) (after : List ℕ) : Type 0 where
   pub done : List Text
   pub split : lines_of bytes ≡ done ++ lines_of rest
@@ -33,7 +34,7 @@ lines_none old bytes before = record {
   counted = refl;
 }
 
--- one line more
+-- one more line
 pub lines_push : (old mid new : InternerView) (bytes before : List ℕ) (count : ℕ) (rest : List ℕ) (codes : List ℕ) (line behind : List ℕ) (key code : ℕ) (after : List ℕ) → LinesSoFar old bytes before count rest mid codes → lines_of rest ≡ line ∷ lines_of behind → IsUtf8 line → InternsIn spur_at mid line (Ok key) new → position_of new.texts line ≡ Some code → after ≡ codes ++ code ∷ [] → LinesSoFar old bytes before (count + 1) behind new after
 lines_push old mid new bytes before count rest codes line behind key code after lines cut text interns here is = record {
   done = lines.done ++ line ∷ [];
@@ -43,7 +44,7 @@ lines_push old mid new bytes before count rest codes line behind key code after 
   counted = length_push lines.done line ∙ ap (λ n. n + 1) lines.counted;
 }
 
--- nothing was changed since
+-- nothing has changed since
 pub lines_still : (old mid new : InternerView) (bytes before : List ℕ) (count : ℕ) (rest codes after : List ℕ) → LinesSoFar old bytes before count rest mid codes → new ≡ mid → after ≡ codes → LinesSoFar old bytes before count rest new after
 lines_still old mid new bytes before count rest codes after lines same kept = record {
   done = lines.done;

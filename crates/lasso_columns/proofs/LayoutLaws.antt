@@ -1,7 +1,8 @@
--- Texts that are written one behind the other are cut out again, and nothing is wrong with them.
+-- Texts that are written one after another are cut out again, and their layout has no fault.
 --
--- A text is cut out at its offsets whatever lies in front of it: so a text is moved from the back to the front, one after
--- another. A text of a distinct list is none of those before it, so none is doubled where they are read in order.
+-- A text is cut out at its offsets whatever bytes are in front of it. So the proofs go from text to text,
+-- and each text joins the bytes in front of the next. A text of a distinct list differs from all before
+-- it, so no text is doubled when they are read in order.
 use Rattle.std.proofs.Common.{ℕ, suc, ◌≡◌, ◌+◌, ◌-◌, ◌<◌, ◌≤◌, false, List, [], ◌∷◌, ◌++◌, length, take, drop, slice_get, Option, Some, None, refl, ap, sym, subst, ◌∙◌, arith, length-append, append_assoc, length-drop}
 use Rattle.std.specs.Prelude.{All}
 use Rattle.std.specs.List.{slice_range, concat}
@@ -39,7 +40,7 @@ slice_here front text back at e =
 behind : (front text : List ℕ) (at : ℕ) → at ≡ length front → at + length text ≡ length (front ++ text)
 behind front text at e = omega (arith, length-append front text)
 
--- texts are cut out again where they lie
+-- texts are cut out again at their offsets
 texts_back : (front : List ℕ) (texts : List Text) (at : ℕ) → at ≡ length front → layout_texts (front ++ concat texts) (offsets_from at texts) ≡ texts
 texts_back front [] at e = refl
 texts_back front (text ∷ texts) at e =
@@ -47,14 +48,14 @@ texts_back front (text ∷ texts) at e =
     let others : layout_texts (front ++ (text ++ concat texts)) (offsets_from end texts) ≡ texts = ap (λ bytes. layout_texts bytes (offsets_from end texts)) (sym (append_assoc front text (concat texts))) ∙ texts_back (front ++ text) texts end (behind front text at e) in
     cut_first (front ++ (text ++ concat texts)) at end texts ∙ ap (λ (t : Text). t ∷ layout_texts (front ++ (text ++ concat texts)) (offsets_from end texts)) (slice_here front text (concat texts) at e) ∙ ap (λ ts. text ∷ ts) others
 
--- nothing is wrong with a text between two rising offsets that reach no further than the bytes
+-- a UTF-8 text between two rising offsets that are within reach has no fault
 pub good_text : (most : ℕ) (bytes : List ℕ) (at from to : ℕ) → from ≤ to → to ≤ reach most bytes → IsUtf8 (slice_range bytes from to) → text_fault most bytes at from to ≡ None
 good_text most bytes at from to rises within utf8 = let is = is_utf8-from_IsUtf8 (slice_range bytes from to) utf8 in grind (arith, nat_tests)
 
 pub not_text : (most : ℕ) (bytes : List ℕ) (at from to : ℕ) → from ≤ to → to ≤ reach most bytes → ¬ (IsUtf8 (slice_range bytes from to)) → text_fault most bytes at from to ≡ Some (NotText at)
 not_text most bytes at from to rises within not_utf8 = let is_not : is_utf8 (slice_range bytes from to) ≡ false = false_from_ne_true _ (λ e. not_utf8 (IsUtf8-from_is_utf8 (slice_range bytes from to) e)) in grind (arith, nat_tests)
 
--- the faults from the first of some offsets on
+-- the first fault of the texts between these offsets, if there is one
 faults_at : ℕ → List ℕ → ℕ → List ℕ → Option ReadError
 faults_at most bytes k [] = None
 faults_at most bytes k (from ∷ offsets) = texts_fault most bytes k from offsets
@@ -69,7 +70,7 @@ unfolding faults_at
 start_then most bytes at [] good = ap (λ o. option_or o None) good
 start_then most bytes at (text ∷ texts) good = ap (λ o. option_or o (texts_fault most bytes 0 at (offsets_from (at + length text) texts))) good
 
--- nothing is wrong with texts where they lie
+-- texts at their own offsets have no fault
 no_faults : (most : ℕ) (front : List ℕ) (texts : List Text) (at k : ℕ) → at ≡ length front → All IsUtf8 texts → length (front ++ concat texts) ≤ most → faults_at most (front ++ concat texts) k (offsets_from at texts) ≡ None
 unfolding faults_at
 no_faults most front [] at k e utf8 small = refl
@@ -88,13 +89,13 @@ written_good : (most : ℕ) (texts : List Text) → All IsUtf8 texts → length 
 written_good most texts utf8 small =
     start_then most (concat texts) 0 texts (grind (arith, nat_tests)) ∙ no_faults most [] texts 0 0 refl utf8 small
 
--- the text at a position behind the first ones is the list's
+-- text `n` of those from `from` on is text `from + n` of the list
 text_behind : (list : List Text) (from n : ℕ) (text : Text) → slice_get (drop from list) n ≡ Some text → slice_get list (from + n) ≡ Some text
 text_behind list from n text is =
     let inside : from + n < length list = omega (arith, slice_get_within (drop from list) n text is, length-drop from list) in
     slice_get-get_or list (from + n) [] inside ∙ ap (λ (t : Text). Some t) (sym (get_or-drop from list n []) ∙ get_or_from_slice_get (drop from list) n text [] is)
 
--- and none before it in a distinct list
+-- and in a distinct list it differs from all before it
 none_before : (list : List Text) (from n : ℕ) (text : Text) → IsDistinct list → slice_get (drop from list) n ≡ Some text → position_of (take from list ++ take n (drop from list)) text ≡ None
 none_before list from n text distinct is =
     subst (λ (ts : List Text). position_of ts text ≡ None) (take-add from n list) (absent_before list (from + n) text distinct (text_behind list from n text is))

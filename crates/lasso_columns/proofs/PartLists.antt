@@ -1,7 +1,8 @@
 -- Texts that are encoded in parts.
 --
--- A text that an interner has changes nothing. So interning the distinct texts of a list, in the order in which they first stand there,
--- leaves what interning the list leaves; and where that stops at a text, interning the list stops where this text first stands.
+-- Interning a present text changes nothing. So interning the distinct texts of a list, in the order of their
+-- first occurrences, leaves what interning all its texts leaves. If it stops at a text, interning all texts
+-- stops at the first occurrence of that text.
 use Rattle.std.proofs.Common.{ℕ, zero, suc, ◌≡◌, ◌+◌, ◌-◌, ◌<◌, ◌≤◌, List, [], ◌∷◌, ◌++◌, map, take, length, Bool, true, false, cond, is_some, is_err, Option, Some, None, Bor, Result, Ok, Err, MatchResult, IfSome, IfErr, OnOk, IsSomeAnd, refl, sym, ap, subst, ◌∙◌, arith, append_assoc, get_or, drop, min, length-append, ◌⊎◌, inl, inr}
 use Rattle.std.specs.Prelude.{slice_get, All}
 use Rattle.std.proofs.lemmas.List.{append-nil, take-map, drop-map, take_all, length-map, length-take, length_push, take-append-drop}
@@ -26,7 +27,7 @@ use Rattle.lasso_encode.proofs.Encoded.{Encoded, encoded_length, next_at}
 
 -- ---- an interner that has a text
 
--- the text is there, at a position that has a key
+-- the text is present, at a position that has a key
 abbrev pub Found : InternerView → Text → Type 0
 Found now text = (n : ℕ) × (key : ℕ) × (position_of now.texts text ≡ Some n) × (spur_at n ≡ Some key)
 
@@ -38,12 +39,12 @@ found_push : (there : Bool) (list : List Text) (last text : Text) (n : ℕ) → 
 found_push true list last text n e = e
 found_push false list last text n e = position_stays list last text n e
 
--- it is there still when another was interned
+-- it stays present when another text is interned
 pub found_stays : (old new : InternerView) (other : Text) (key : ℕ) → InternsIn spur_at old other (Ok key) new → (text : Text) → Found old text → Found new text
 found_stays old new other key interns text found =
     (found.0, found.1, rw (list_interned spur_at old new other key interns) (found_push (is_some (position_of old.texts other)) old.texts other text found.0 found.2), found.3)
 
--- and so is the other
+-- and an interned text is present
 pub found_interned : (old new : InternerView) (text : Text) (key : ℕ) → InternsIn spur_at old text (Ok key) new → Found new text
 found_interned old new text key interns =
     (interned_position old.texts text, key, rw (list_interned spur_at old new text key interns) (position_with_last old.texts text (position_of old.texts text) refl), interns.0.1)
@@ -59,7 +60,7 @@ not_there : (o : Option ℕ) → is_some o ≡ false → o ≡ None
 not_there None e = refl
 not_there (Some n) e = cc
 
--- the first of texts that were all interned
+-- the first of some texts that were all interned
 first_of : (mid new : InternerView) (texts : List Text) (one : Result ℕ LassoError) → MatchResult one (λ _. extend spur_at mid texts accepted new) (λ error. (accepted ≡ Err error) × (new ≡ mid)) → (k : ℕ) × (one ≡ Ok k) × extend spur_at mid texts accepted new
 first_of mid new texts (Ok k) h = (k, refl, h)
 first_of mid new texts (Err error) h = let e = h.0 in cc
@@ -79,7 +80,7 @@ list_extended old new (text ∷ texts) h =
     list_extended h.1 new texts first.2 ∙ ap (λ (ts : List Text). ts ++ new_texts ts texts) (list_interned spur_at old h.1 text first.0 interns)
     ∙ list_more old.texts text texts (is_some (position_of old.texts text)) refl
 
--- ---- interning the distinct texts is interning all
+-- ---- interning the distinct texts leaves what interning all leaves
 
 extend_more : (old new : InternerView) (list : List Text) (text : Text) (texts : List Text) (there : Bool) → is_some (position_of list text) ≡ there → All (Found old) list → ((now : InternerView) (ts : List Text) → All (Found now) ts → extend spur_at now (new_texts ts texts) accepted new → extend spur_at now texts accepted new) → extend spur_at old (cond there (new_texts list texts) (text ∷ new_texts (list ++ text ∷ []) texts)) accepted new → extend spur_at old (text ∷ texts) accepted new
 extend_more old new list text texts true e found others h =
@@ -100,7 +101,7 @@ extend_all old new list (text ∷ texts) found h =
 
 -- ---- where it stops
 
--- up to there codes are below the bound, and the next is not
+-- the first n codes are below the bound, and the next one, if there is one, is not
 abbrev pub Stops : ℕ → List ℕ → ℕ → Type 0
 Stops bound [] n = n ≡ 0
 Stops bound (c ∷ cs) zero = bound ≤ c
@@ -128,7 +129,7 @@ position_first : (list more : List Text) (text : Text) → position_of list text
 position_first list more text e =
     subst (λ (ts : List Text). position_of ts text ≡ Some (length list)) (append_assoc list (text ∷ []) more) (position_longer (list ++ text ∷ []) more text (length list) (position_last list text e))
 
--- the distinct texts up to one are those of the texts up to where this one first stands
+-- the first m distinct texts are those of the first n texts, and the next distinct text is the next text
 abbrev IsStop : List Text → List Text → ℕ → ℕ → Type 0
 IsStop list texts m n =
     (take m (new_texts list texts) ≡ new_texts list (take n texts)) × ((text : Text) → slice_get (new_texts list texts) m ≡ Some text → slice_get texts n ≡ Some text)
@@ -168,7 +169,7 @@ stop_is list (text ∷ texts) (c ∷ codes) m zero are stops = stop_here list te
 stop_is list (text ∷ texts) (c ∷ codes) m (suc n) are stops =
     stop_later list text texts c codes m n (is_some (position_of list text)) refl (λ ts k are' stops'. stop_is ts texts codes k n are' stops') (cc) (cc) stops.0 stops.1
 
--- no code is as great as the list is long
+-- all codes are below the list's length
 stops_never : (list texts : List Text) (codes : List ℕ) (n : ℕ) → AreCodes list texts codes → Stops (length list) codes n → n ≡ length texts
 stops_never list [] [] n are stops = stops
 stops_never list [] (c ∷ codes) n are stops = absurd (cc)
@@ -214,13 +215,13 @@ module _ (texts list : List Text) (part merged before after : List ℕ) (old new
     );
   }
 
-  -- where its whole list was, all its codes were rewritten
+  -- if its whole list was interned, all its codes were rewritten
   pub part_whole : length merged ≡ length list → length after ≡ length before + length texts
   part_whole long =
       let all : length put.0 ≡ length texts = stops_never list texts part (length put.0) encoded.1 (subst (λ (b : ℕ). Stops b part (length put.0)) long stops) in
       omega (arith, all, ap length put.1, length-append before put.0)
 
-  -- and the text of the list that was refused is the next one
+  -- the text of its list that was refused is the next text of the part
   pub part_refused : (P : Text → Type 0) → IsSomeAnd (slice_get list (length merged)) P → IsSomeAnd (slice_get texts (length after - length before)) P
   part_refused P holds = part_next P (slice_get list (length merged)) refl holds
     where
@@ -234,7 +235,7 @@ module _ (texts list : List Text) (part merged before after : List ℕ) (old new
 
 -- ---- a part
 
--- what encoding the texts with an interner that had none leaves
+-- what encoding the texts with an interner without texts leaves
 pub part_is : (made new : InternerView) (texts : List Text) (before after : List ℕ) → made.texts ≡ [] → before ≡ [] → Encoded made texts before new after → IsEncoded texts new.texts after
 part_is made new texts before after none empty whole =
     let left : new.texts ≡ new_texts [] texts = list_extended made new texts whole.list ∙ ap (λ (ts : List Text). ts ++ new_texts ts texts) none in
@@ -274,7 +275,7 @@ pub some_and_then : {X : Type 0} (P Q : X → Type 0) (o : Option X) → IsSomeA
 some_and_then P Q None holds then = absurd (holds)
 some_and_then P Q (Some x) holds then = then x holds
 
--- of two, the second: the codes have room
+-- since the codes have room, the second of two cases holds
 pub not_full : (P : Type 0) (room long : ℕ) → (room ≤ long) ⊎ P → long < room → P
 not_full P room long (inl full) some = absurd (omega (arith, full, some))
 not_full P room long (inr holds) some = holds
@@ -300,7 +301,7 @@ extend_append old mid new (text ∷ front) back h h' =
     let interns : InternsIn spur_at old text (Ok first.0) h.1 = subst (λ (r : Result ℕ LassoError). InternsIn spur_at old text r h.1) first.1 h.2 in
     (Ok first.0, h.1, interns, extend_append h.1 mid new front back first.2 h')
 
--- the texts of a part that were encoded after those of the parts before it
+-- the texts of a part were encoded after those of the parts before it
 pub encoded_join : (old mid new : InternerView) (front back : List Text) (before middle after : List ℕ) → Encoded old front before mid middle → extend spur_at mid back accepted new → AddsCodes new.texts back middle after → Encoded old (front ++ back) before new after
 encoded_join old mid new front back before middle after so_far list codes = record {
   list = extend_append old mid new front back so_far.list list;
@@ -313,7 +314,7 @@ encoded_join old mid new front back before middle after so_far list codes = reco
       );
 }
 
--- a part whose first texts were encoded, and then the others
+-- a part whose first texts were encoded, and then its other texts
 pub part_of_two : (made mid new : InternerView) (texts front back : List (Bor Text)) (n : ℕ) (before middle after : List ℕ) → front ≡ take n texts → back ≡ drop n texts → made.texts ≡ [] → before ≡ [] → length middle ≡ length before + length front → length after ≡ length middle + length back → extend spur_at made (encoded_texts before middle (map (λ (t : Bor Text). t.now) front)) accepted mid → AddsCodes mid.texts (encoded_texts before middle (map (λ (t : Bor Text). t.now) front)) before middle → extend spur_at mid (encoded_texts middle after (map (λ (t : Bor Text). t.now) back)) accepted new → AddsCodes new.texts (encoded_texts middle after (map (λ (t : Bor Text). t.now) back)) middle after → IsEncoded (map (λ (t : Bor Text). t.now) texts) new.texts after
 part_of_two made mid new texts front back n before middle after front_is back_is none empty long longer list codes list' codes' =
     let now = λ (t : Bor Text). t.now in
@@ -357,7 +358,7 @@ module _ (texts part : List (Bor Text)) (start count : ℕ) (is : part ≡ take 
       sym (take-append-drop start all_texts)
       ∙ ap (λ (ts : List Text). take start all_texts ++ ts) (sym (take-append-drop count (drop start all_texts)) ∙ ap (λ (ts : List Text). ts ++ texts_after) (sym here_is))
 
-  -- split where a part was left
+  -- all texts, split after the first k texts of the part
   pub texts_split_at : (k : ℕ) → all_texts ≡ (take start all_texts ++ take k texts_here) ++ (drop k texts_here ++ texts_after)
   texts_split_at k =
       texts_are
@@ -374,7 +375,7 @@ module _ (texts part : List (Bor Text)) (start count : ℕ) (is : part ≡ take 
       let split = texts_split_at k ∙ ap (λ (ts : List Text). (take start all_texts ++ take k texts_here) ++ (ts ++ texts_after)) (drop_at texts_here k text e) in
       next_at all_texts (take start all_texts ++ take k texts_here) text (drop (suc k) texts_here ++ texts_after) split old new before after so_far P holds
 
-  -- the text of the part that was refused is the next of all
+  -- the text of the part that was refused is the next of all texts
   pub next_here : (old new : InternerView) (before after : List ℕ) (k : ℕ) → Encoded old (take start all_texts ++ take k texts_here) before new after → (P : Text → Type 0) → IsSomeAnd (slice_get texts_here k) P → IsSomeAnd (slice_get all_texts (length after - length before)) P
   next_here old new before after k so_far P holds = next_of old new before after k so_far P (slice_get texts_here k) refl holds
 

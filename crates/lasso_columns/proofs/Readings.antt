@@ -1,8 +1,8 @@
--- Texts of a layout that are appended to an interner one after another, and what ends it.
+-- Appending the texts of a layout to an interner one after another, and what ends it.
 --
--- Up to the text that comes next nothing is wrong with the layout. So what is first wrong with the layout is what is first
--- wrong from there on, and a fault of the next text is the layout's. A text that is refused leaves the interner as it was, so
--- the interner has the texts before it. How many these are is told by how many the list has gained.
+-- Up to the next text the layout has no fault. So the first fault of the layout is the first one from
+-- there on, and a fault of the next text is the layout's first. A refused text leaves the interner as it
+-- was, so the interner has the texts before it. Their number is how many texts the list has gained.
 use Rattle.std.proofs.Common.{ℕ, ◌≡◌, ◌+◌, ◌<◌, ◌≤◌, ◌⊎◌, inl, inr, List, [], ◌∷◌, ◌++◌, length, map, get_or, take, drop, slice_get, Option, Some, None, Ok, Err, IfSome, IsSome, IsSomeAnd, refl, sym, ap, subst, ◌∙◌, arith, append_assoc, append-nil, length-append}
 use Rattle.std.specs.List.{slice_range}
 use Rattle.std.specs.Option.{option_or}
@@ -20,7 +20,7 @@ use Rattle.lasso_columns.specs.Layout.{texts_from, layout_texts, start_fault, te
 use Rattle.lasso_columns.specs.declared.faults.ReadError.{ReadError}
 use Rattle.lasso_columns.specs.declared.faults.ReadError.TheVariants.{OffsetsFall, OffsetPastBytes, NotText, Doubled, Refused}
 
--- a fault of the text of a number is told with this number
+-- the fault of a text has the text's number
 told_at : (most : ℕ) (bytes : List ℕ) (at from to : ℕ) (error : ReadError) → text_fault most bytes at from to ≡ Some error → fault_position error ≡ at
 told_at most bytes at from to error is = grind (arith, nat_tests)
 
@@ -36,7 +36,7 @@ later : (most : ℕ) (bytes : List ℕ) (at from to : ℕ) (offsets : List ℕ) 
 later most bytes at from to offsets None is h = if_later (texts_fault most bytes (at + 1) to offsets) (at + 1) at (omega arith) h
 later most bytes at from to offsets (Some error) is h = omega (arith, told_at most bytes at from to error is)
 
--- no fault from a text on is of a text before it
+-- the first fault from a text on is not one of an earlier text
 not_before : (most : ℕ) (bytes : List ℕ) (at from : ℕ) (offsets : List ℕ) → IfSome (texts_fault most bytes at from offsets) (λ error. at ≤ fault_position error)
 not_before most bytes at from [] = tt
 not_before most bytes at from (to ∷ offsets) = later most bytes at from to offsets (text_fault most bytes at from to) refl (not_before most bytes (at + 1) to offsets)
@@ -45,7 +45,7 @@ seam_at : (done : List Text) (text : Text) (rest : List Text) → slice_get (don
 seam_at [] text rest = refl
 seam_at (t ∷ done) text rest = seam_at done text rest
 
--- which fault a text may have
+-- the fault of a text, as the reason why reading ended
 text_ends : {K : Type 0} (key_at : ℕ → Option K) (most : ℕ) (bytes offsets : List ℕ) (at from to : ℕ) (now : InternerView) (error : ReadError) → text_fault most bytes at from to ≡ Some error → layout_fault most bytes offsets ≡ Some error → IsFaultAfter key_at most bytes offsets at now error
 text_ends key_at most bytes offsets at from to now (OffsetsFall n) is first = (told_at most bytes at from to (OffsetsFall n) is, first)
 text_ends key_at most bytes offsets at from to now (OffsetPastBytes n) is first = (told_at most bytes at from to (OffsetPastBytes n) is, first)
@@ -54,7 +54,7 @@ text_ends key_at most bytes offsets at from to now (Doubled n) is first = absurd
 text_ends key_at most bytes offsets at from to now (Refused n kind) is first = absurd (grind (arith, nat_tests))
 
 module _ {K : Type 0} (key_at : ℕ → Option K) (most : ℕ) (bytes offsets : List ℕ) (old : InternerView) where
-  -- so many texts were appended, and these offsets are left
+  -- the first `at` texts were appended, and the offsets `left` remain
   pub record Reading (at from : ℕ) (left : List ℕ) (new : InternerView) : Type 0 where
     pub done : List Text
     pub split : layout_texts bytes offsets ≡ done ++ texts_from bytes from left
@@ -63,7 +63,7 @@ module _ {K : Type 0} (key_at : ℕ → Option K) (most : ℕ) (bytes offsets : 
     pub list : extend key_at old done accepted new
     pub texts : new.texts ≡ old.texts ++ done
 
-  -- what the list tells of the texts that were appended
+  -- the same, with the number of appended texts read off the list
   pub record Told (new : InternerView) : Type 0 where
     pub list : extend key_at old (take (appended old.texts new.texts) (layout_texts bytes offsets)) accepted new
     pub texts : new.texts ≡ old.texts ++ take (appended old.texts new.texts) (layout_texts bytes offsets)
@@ -86,7 +86,7 @@ module _ {K : Type 0} (key_at : ℕ → Option K) (most : ℕ) (bytes offsets : 
   unless_ok None at mid new text h = (refl, h)
   unless_ok (Some error) at mid new text h = let no = h.0 in absurd cc
 
-  -- one text more
+  -- one more text
   pub next_read : (at from to : ℕ) (left : List ℕ) (mid new : InternerView) → Reading at from (to ∷ left) mid → AppendsUnless (text_fault most bytes at from to) key_at at mid (slice_range bytes from to) (Ok tt) new → Reading (at + 1) to left new
   next_read at from to left mid new r h =
       let both = unless_ok (text_fault most bytes at from to) at mid new (slice_range bytes from to) h in
@@ -111,11 +111,11 @@ module _ {K : Type 0} (key_at : ℕ → Option K) (most : ℕ) (bytes offsets : 
       | inr w ↦ w.1.0
     ]
 
-    -- a refused text leaves what was there
+    -- a refused text changes nothing
     pub still : Reading at from (to ∷ left) new
     still = subst (λ (i : InternerView). Reading at from (to ∷ left) i) (sym unchanged) r
 
-    -- a text with which nothing is wrong
+    -- a text without a fault
     good : text_fault most bytes at from to ≡ None → (P : Text → Type 0) → P (slice_range bytes from to) → IsGoodAnd most bytes offsets at P
     good none P holds =
         let first : layout_fault most bytes offsets ≡ texts_fault most bytes (at + 1) to left = r.first ∙ ap (λ o. option_or o (texts_fault most bytes (at + 1) to left)) none in
@@ -129,7 +129,7 @@ module _ {K : Type 0} (key_at : ℕ → Option K) (most : ℕ) (bytes offsets : 
       | inr w ↦ subst (λ (e : ReadError). IsFaultAfter key_at most bytes offsets at mid e) (sym w.1) (refl, good none (λ text. InternsIn {K = K} key_at mid text (Err w.0) mid) w.2)
     ]
 
-    -- why it ended
+    -- why reading ended
     pub ends : IsFaultAfter key_at most bytes offsets (appended old.texts new.texts) new error
     ends =
         let why : IsFaultAfter key_at most bytes offsets at mid error = elim (unless_err (text_fault most bytes at from to) at mid new (slice_range bytes from to) error h) [
@@ -149,13 +149,13 @@ none_read key_at most bytes from offsets old good = record {
   texts = sym (append-nil old.texts);
 }
 
--- the offset at a position and those behind it
+-- the offset at a position, followed by those after it
 pub left_is : {O : Type 0} (number : O → ℕ) (rest : List O) (at : ℕ) (d : O) → at < length rest → drop at (map number rest) ≡ number (get_or rest at d) ∷ drop (at + 1) (map number rest)
 left_is number rest at d small =
     let inside : at < length (map number rest) = omega (arith, length-map rest number) in
     drop_more (map number rest) at 0 inside ∙ ap (λ n. n ∷ drop (at + 1) (map number rest)) (get_or-map number rest at d 0 small)
 
--- ---- what the loop over the offsets keeps, and what it leaves where a text is refused
+-- ---- what the loop over the offsets keeps, and what it leaves when a text is refused
 
 module _ {K O : Type 0} (key_at : ℕ → Option K) (number : O → ℕ) (most : ℕ) (bytes offsets : List ℕ) (old : InternerView) (rest : List O) (at from to reach : ℕ) (item : O) (mid new : InternerView) (r : Reading key_at most bytes offsets old at from (drop at (map number rest)) mid) (small : at < length rest) (is : item ≡ get_or rest at item) (ends_at : to ≡ number item) (known : reach ≡ most) where
   left_from : drop at (map number rest) ≡ to ∷ drop (at + 1) (map number rest)

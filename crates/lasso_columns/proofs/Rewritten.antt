@@ -1,7 +1,8 @@
 -- Codes that are rewritten by a table.
 --
--- A part's codes are positions in its own list, so each lies below the list's length. Where the table has a new code for each of the
--- first texts of that list, the codes before the first that is too great are rewritten one by one, and each is found in the table.
+-- A part's codes are positions in its own list, so each is below the list's length. The table has a new
+-- code for each of the first texts of that list. The codes before the first one that the table lacks are
+-- rewritten one by one, and the table has each of them.
 use Rattle.std.proofs.Common.{ℕ, zero, suc, ◌≡◌, ◌-◌, ◌<◌, ◌≤◌, List, [], ◌∷◌, ◌++◌, map, take, drop, length, Some, Option, None, IfSome, refl, sym, ap, subst, ◌∙◌, arith, get_or}
 use Rattle.std.specs.List.{AllWithin}
 use Rattle.std.specs.Prelude.{slice_get, All}
@@ -33,7 +34,7 @@ each_rewritten table (c ∷ cs) (r ∷ rs) long each =
     let others : map (slice_get table) cs ≡ map Some rs = each_rewritten table cs rs (omega (arith, long)) (λ k small. each (suc k) (omega (arith, small))) in
     cc
 
--- the first codes were rewritten one by one, and the next one is not in the table
+-- the first codes were rewritten one by one, and the table lacks the next one
 adds_rewritten : (table codes before after rewritten : List ℕ) (n : ℕ) → n ≤ length codes → after ≡ before ++ rewritten → length rewritten ≡ n → ((k : ℕ) → k < n → slice_get table (get_or (take n codes) k 0) ≡ Some (get_or rewritten k 0)) → IfSome (slice_get codes n) (λ code. length table ≤ code) → AddsRewritten table codes before after
 adds_rewritten table codes before after rewritten n within is long each next =
     let kept : length (take n codes) ≡ n = length-take-le n codes within in
@@ -49,7 +50,7 @@ adds_rewritten table codes before after rewritten n within is long each next =
     not_there None past = tt
     not_there (Some code) past = slice_get_past table code past
 
--- what a list is when its end, which was appended, was written
+-- a list whose end was appended and then overwritten
 end_written : (before added written mid : List ℕ) (m n : ℕ) → m ≡ length before → mid ≡ before ++ added → n ≡ length mid → length written ≡ length added → take n ((take m mid ++ (written ++ drop (length written) (drop m mid))) ++ drop (length (take m mid ++ (written ++ drop (length written) (drop m mid)))) mid) ≡ before ++ written
 end_written before added written mid m n start is long same =
     let front : take m mid ≡ before = ap (λ k. take k mid) start ∙ ap (take (length before)) is ∙ take-append_seam before added in
@@ -62,7 +63,7 @@ end_written before added written mid m n start is long same =
     ap (λ (xs : List ℕ). take n (xs ++ drop (length xs) mid)) whole ∙ ap (λ (xs : List ℕ). take n ((before ++ written) ++ xs)) past ∙ ap (take n) (append-nil (before ++ written))
     ∙ take_all n (before ++ written) (omega (arith, long, total))
 
--- the first n codes were appended, and then each was rewritten
+-- the first n codes were appended, and then each of them was rewritten
 module _ (table codes before mid : List ℕ) (start total n : ℕ) (within : n ≤ length codes) (begins : start ≡ length before) (is : mid ≡ before ++ take n codes) (long : total ≡ length mid) (below : AllWithin (λ code. code < length table) codes 0 n) where
   kept : length (take n codes) ≡ n
   kept = length-take-le n codes within

@@ -1,8 +1,8 @@
--- Texts whose codes a pass has seen.
+-- Texts whose codes are positions in a list that a pass has seen.
 --
--- A key that a pass was answered is the text's key in the list that it has then seen, so its code is the text's position there. Lists that
--- passes see only grow. So codes stay, also in what a pass has seen that learned what another had: the codes of all workers
--- are those of one list.
+-- The key that a call of a pass returns is the text's key in the list that the pass has then seen, so the
+-- code is the text's position there. The lists that passes see only grow. So codes stay right, also after
+-- a pass has learned what another has seen: the codes of all workers are those of one list.
 use Rattle.std.proofs.Common.{ℕ, zero, suc, one-mul, Bor, Result, Err, MatchResult, inl, inr, append_assoc, ◌≡◌, ◌+◌, ◌-◌, ◌*◌, ◌<◌, ◌≤◌, List, [], ◌∷◌, ◌++◌, length, take, drop, map, min, ◌/◌, ◌%◌, Option, Some, None, Ok, sym, ap, subst, ◌∙◌, arith}
 use Rattle.std.specs.Prelude.{Contains, option_and_then}
 use Rattle.std.proofs.Math.Nat.{mul-le-mul_right}
@@ -31,7 +31,7 @@ grown : (o : Totals) (before past after : History) → before ++ past ≡ after 
 grown o before past after is =
     subst (λ (s : Totals). IsPrefix (totals o before).texts s.texts) (sym (totals_append o before past) ∙ ap (totals o) is) (list_grows (totals o before) past)
 
--- one text more, by a call of the pass
+-- one more text, by a call of the pass
 pub shared_push : (o : Totals) (before after : History) (pass : ℕ) (texts : List Text) (text : Text) (codes : List ℕ) (key : ℕ) → AreCodes (totals o before).texts texts codes → IsCall spur_at o before after pass (Intern Copied text) (Interned (Ok key)) → AreCodes (totals o after).texts (texts ++ text ∷ []) (codes ++ (key - 1) ∷ [])
 shared_push o before after pass texts text codes key are call =
     let list = (totals o after).texts in
@@ -39,7 +39,7 @@ shared_push o before after pass texts text codes key are call =
     let kept = codes_past (totals o before).texts list texts codes (grown o before call.past after call.begins) are in
     map_some_push (position_of list) texts codes text (key - 1) kept (found_at (position_of list text) key has)
 
--- what a pass has seen that learned what another has
+-- after a pass has learned what another has seen
 pub shared_join : (of : InternerId) (before known after : List NoteView) (texts more : List Text) (codes codes' : List ℕ) → IsPrefix before after → IsPrefix known after → AreCodes (list_of of before) texts codes → AreCodes (list_of of known) more codes' → AreCodes (list_of of after) (texts ++ more) (codes ++ codes')
 shared_join of before known after texts more codes codes' begins knows are are' =
     map_some_both (position_of (list_of of after)) texts more codes codes'
@@ -54,7 +54,8 @@ shared_refused o before after pass texts text error there call =
     let why = call.explained in
     inr (text, before ++ why.0, why.1, there, append_assoc before why.0 why.1 ∙ ap (λ past. before ++ past) why.2 ∙ call.begins, why.4)
 
--- what explains a refusal of one of some texts explains it of one of more texts, in any history that theirs begins
+-- what explains a refusal of one of these texts explains it of one of more texts, in any history that begins
+-- with theirs
 pub refused_more : (o : Totals) (known after : List NoteView) (texts more : List Text) (error : LassoErrorKind) → IsPrefix known after → ((text : Text) → Contains texts text → Contains more text) → IsRefusalIn o (history known) texts error → IsRefusalIn o (history after) more error
 refused_more o known after texts more error knows all (inl e) = inl e
 refused_more o known after texts more error knows all (inr why) =
@@ -64,11 +65,11 @@ refused_more o known after texts more error knows all (inr why) =
 
 -- ---- the texts of the workers
 
--- the parts up to a number, and the one of that number
+-- the first n parts, followed by part n
 pub parts_more : {X : Type 0} (xs : List X) (n size : ℕ) → take ((n + 1) * size) xs ≡ take (n * size) xs ++ take size (drop (n * size) xs)
 parts_more xs n size = let sum : (n + 1) * size ≡ n * size + size = omega arith in ap (λ k. take k xs) sum ∙ take-add (n * size) size xs
 
--- and they are those of the slice
+-- the same for the borrowed texts
 pub part_texts : (texts : List (Bor Text)) (part : List (Bor Text)) (n size : ℕ) → part ≡ take size (drop (n * size) texts) → take (n * size) (map (λ t. t.now) texts) ++ map (λ t. t.now) part ≡ take ((n + 1) * size) (map (λ t. t.now) texts)
 part_texts texts part n size is =
     let all = map (λ (t : Bor Text). t.now) texts in
@@ -95,11 +96,11 @@ reach q r length size n is small many =
     let last : r ≤ min 1 r * size = last_part r size small in
     omega (arith, enough, last, is)
 
--- as many parts of a size as there are reach the end
+-- parts of this size reach the end if there are at least `length / size` of them, rounded up
 pub parts_reach : (length size n : ℕ) → 0 < size → length / size + min 1 (length % size) ≤ n → length ≤ n * size
 parts_reach length size n some many = reach (length / size) (length % size) length size n (omega arith) (omega arith) many
 
--- what holds of a result that is there, or of its error
+-- what holds of the value of an `Ok`, and of the error of an `Err`
 pub ok_at : {T E : Type 0} (P : T → Type 0) (Q : E → Type 0) (r : Result T E) (x : T) → MatchResult r P Q → r ≡ Ok x → P x
 ok_at P Q (Ok y) x holds is = let one : y ≡ x = cc in subst P one holds
 ok_at P Q (Err e) x holds is = absurd (cc)

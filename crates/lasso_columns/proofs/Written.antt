@@ -1,7 +1,7 @@
--- Texts of a list from a position on, which are written one behind another.
+-- Writing a list's texts from a position on, one after another.
 --
--- After the first texts the bytes are theirs, and the offsets say where each of them begins and the last one ends. One text
--- more is put behind the bytes, and its end behind the offsets.
+-- After the first texts, the bytes are theirs, and the offsets are where each of them begins and where the
+-- last one ends. One more text appends its bytes, and appends its end to the offsets.
 use Rattle.std.proofs.Common.{ℕ, ◌≡◌, ◌+◌, ◌-◌, ◌<◌, ◌≤◌, List, [], ◌∷◌, ◌++◌, length, take, drop, slice_get, Some, ap, sym, subst, ◌∙◌, arith, length-append, append-nil, length-drop}
 use Rattle.std.specs.Prelude.{All}
 use Rattle.std.specs.List.{concat, slice_range}
@@ -16,7 +16,7 @@ use Rattle.lasso_columns.specs.Dictionaries.{IsWriteFault}
 use Rattle.lasso_columns.specs.Layout.{offsets_from}
 use Rattle.lasso_columns.specs.declared.faults.WriteError.TheVariants.{TooManyBytes}
 
--- the list's text at a position is the one of its number among those from a position on
+-- text `from + at` of the list is text `at` of those from `from` on
 pub text_from : (list : List Text) (from at : ℕ) (text : Text) → slice_get list (from + at) ≡ Some text → slice_get (drop from list) at ≡ Some text
 text_from list from at text is =
     let inside : at < length (drop from list) = omega (arith, slice_get_within list (from + at) text is, length-drop from list) in
@@ -30,14 +30,14 @@ bytes_more rest at text is =
 pub count_more : (rest : List Text) (at : ℕ) (text : Text) → slice_get rest at ≡ Some text → length (concat (take (at + 1) rest)) ≡ length (concat (take at rest)) + length text
 count_more rest at text is = ap length (bytes_more rest at text is) ∙ length-append (concat (take at rest)) text
 
--- the first texts have no more bytes than all
+-- the first texts have no more bytes than all of them
 pub bytes_within : (rest : List Text) (n : ℕ) → length (concat (take n rest)) ≤ length (concat rest)
 bytes_within rest n =
     let whole : length (concat rest) ≡ length (concat (take n rest)) + length (concat (drop n rest)) =
     ap (λ (ts : List Text). length (concat ts)) (sym (take-append-drop n rest)) ∙ ap length (concat-append (take n rest) (drop n rest)) ∙ length-append (concat (take n rest)) (concat (drop n rest)) in
     omega (arith, whole)
 
--- the texts from a position up to another are the first of those from there on
+-- the texts between two positions are the first of those from the first position on
 pub range_from : (list : List Text) (from at : ℕ) → slice_range list from (from + at) ≡ take at (drop from list)
 range_from list from at = let n : (from + at) - from ≡ at = omega arith in ap (λ k. take k (drop from list)) n
 
@@ -53,14 +53,14 @@ ends_past most list from at text is small large =
       subst (λ (ts : List Text). most < length (concat ts)) (sym after) (omega (arith, count_more (drop from list) at text (text_from list from at text is), large)),
     )
 
--- one offset more, where the text that goes last ends
+-- one more offset, where the appended text ends
 offsets_push : (at : ℕ) (texts : List Text) (text : Text) → offsets_from at (texts ++ text ∷ []) ≡ offsets_from at texts ++ (at + length (concat (texts ++ text ∷ []))) ∷ []
 offsets_push at [] text = ap (λ (t : Text). at ∷ (at + length t) ∷ []) (sym (append-nil text))
 offsets_push at (t ∷ texts) text =
     let end : (at + length t) + length (concat (texts ++ text ∷ [])) ≡ at + length (t ++ concat (texts ++ text ∷ [])) = omega (arith, length-append t (concat (texts ++ text ∷ []))) in
     ap (λ os. at ∷ os) (offsets_push (at + length t) texts text ∙ ap (λ n. offsets_from (at + length t) texts ++ n ∷ []) end)
 
--- the first texts are written
+-- the first `at` texts are written
 pub record Written (rest : List Text) (at : ℕ) (bytes offsets : List ℕ) : Type 0 where
   pub bytes_are : bytes ≡ concat (take at rest)
   pub offsets_are : offsets ≡ offsets_from 0 (take at rest)

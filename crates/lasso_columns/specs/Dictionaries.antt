@@ -1,4 +1,4 @@
--- How writing a list's texts as a layout ends, and reading a layout's texts into an interner.
+-- How writing a list's texts as a layout ends, and how reading a layout's texts into an interner ends.
 use Rattle.std.specs.Prelude.{ℕ, ◌≡◌, ◌+◌, ◌-◌, ◌<◌, ◌≤◌, ◌⊎◌, min, max, nat_eq, if◌then◌else◌, List, [], ◌∷◌, ◌++◌, length, take, drop, slice_get, slice_range, Option, None, Some, IfSome, IsSome, IsSomeAnd, Result, Ok, Err, MatchResult, All, IsUtf8}
 use Rattle.std.specs.List.{concat}
 use Rattle.lasso_parts.specs.Texts.{Text, IsDistinct, position_of}
@@ -13,18 +13,18 @@ use Rattle.lasso_columns.specs.declared.faults.ReadError.TheVariants.{OffsetsFal
 use Rattle.lasso_columns.specs.declared.faults.WriteError.{WriteError}
 use Rattle.lasso_columns.specs.declared.faults.WriteError.TheVariants.{TooManyBytes, NoMemory}
 
--- why the list's texts from a position on were not written: the text at this position is the first whose end is past the
--- greatest offset, or none's is and memory ran out
+-- why the list's texts from a position on were not written: the text at position `at` is the first that ends
+-- past the greatest offset; or none ends past it, and memory ran out
 abbrev pub IsWriteFault : ℕ → List Text → ℕ → WriteError → Type 0
 IsWriteFault most list from (TooManyBytes at) =
     (from ≤ at) × (at < length list) × (length (concat (slice_range list from at)) ≤ most) × (most < length (concat (slice_range list from (at + 1))))
 IsWriteFault most list from NoMemory = length (concat (drop from list)) ≤ most
 
--- how many texts went behind a list
+-- how many texts were appended to a list
 abbrev pub appended : List Text → List Text → ℕ
 appended old new = length new - length old
 
--- the position of the text that a fault is of
+-- the position of the text that has the fault
 abbrev pub fault_position : ReadError → ℕ
 fault_position (OffsetsFall at) = at
 fault_position (OffsetPastBytes at) = at
@@ -32,13 +32,13 @@ fault_position (NotText at) = at
 fault_position (Doubled at) = at
 fault_position (Refused at _) = at
 
--- the layout has a text at this position, up to whose end nothing is wrong with it, and this holds of the text
+-- the layout has a text at this position and no fault up to that text's end, and `P` holds of the text
 abbrev pub IsGoodAnd : ℕ → List ℕ → List ℕ → ℕ → (Text → Type 0) → Type 0
 IsGoodAnd most bytes offsets n P =
     IfSome (layout_fault most bytes offsets) (λ error. n < fault_position error) × IsSomeAnd (slice_get (layout_texts bytes offsets) n) P
 
--- why reading a layout ended after its first n texts, which the interner has: the next text is the first with which something
--- is wrong in the layout; or it is good and the interner has it; or it is good and the interner refuses it
+-- why reading a layout ended after its first n texts, which the interner has: the next text has the layout's
+-- first fault; or it is good and the interner already has it; or it is good and the interner refuses it
 abbrev pub IsFaultAfter : {K : Type 0} → (ℕ → Option K) → ℕ → List ℕ → List ℕ → ℕ → InternerView → ReadError → Type 0
 IsFaultAfter key_at most bytes offsets n now (OffsetsFall at) = (at ≡ n) × (layout_fault most bytes offsets ≡ Some (OffsetsFall at))
 IsFaultAfter key_at most bytes offsets n now (OffsetPastBytes at) = (at ≡ n) × (layout_fault most bytes offsets ≡ Some (OffsetPastBytes at))
@@ -47,19 +47,19 @@ IsFaultAfter key_at most bytes offsets n now (Doubled at) = (at ≡ n) × IsGood
 IsFaultAfter {K} key_at most bytes offsets n now (Refused at error) =
     (at ≡ n) × IsGoodAnd most bytes offsets n (λ text. InternsIn {K = K} key_at now text (Err error) now)
 
--- why a new interner was not filled: there was no memory for it; or the first texts of the layout were appended, and the next
--- ended it
+-- why a new interner was not filled: there was no memory for it; or the first texts of the layout were
+-- appended, and the next one ended the reading
 abbrev pub IsRefusedReading : {K : Type 0} → (ℕ → Option K) → ℕ → List ℕ → List ℕ → InternerView → ReadError → Type 0
 IsRefusedReading {K} key_at most bytes offsets made error =
     (error ≡ Refused 0 FailedAllocation)
     ⊎ ((now : InternerView) × extend {K = K} key_at made now.texts (Ok tt) now × (now.texts ≡ take (length now.texts) (layout_texts bytes offsets))
     × IsFaultAfter key_at most bytes offsets (length now.texts) now error)
 
--- the bytes of the first bucket of an interner for these bytes
+-- how many bytes the first bucket of an interner for these bytes has
 abbrev pub first_bucket : ℕ → List ℕ → ℕ
 first_bucket limit bytes = max (min (if nat_eq (length bytes) 0 then 4096 else length bytes) limit) 1
 
--- a text goes last in the list; or it is refused, since it is there or by the interner, and nothing changes
+-- a text is appended to the list; or it is refused, as present or by the interner, and nothing changes
 abbrev pub AppendsNew : {K : Type 0} → (ℕ → Option K) → ℕ → InternerView → Text → Result (Unit {0}) ReadError → InternerView → Type 0
 AppendsNew {K} key_at at old text outcome new =
     MatchResult outcome
@@ -67,18 +67,18 @@ AppendsNew {K} key_at at old text outcome new =
     (λ error. (new ≡ old) × (((error ≡ Doubled at) × IsSome (position_of old.texts text))
     ⊎ ((kind : LassoErrorKind) × (error ≡ Refused at kind) × InternsIn {K = K} key_at old text (Err kind) old)))
 
--- the same, unless something is wrong with the text
+-- the same, unless the text has a fault
 abbrev pub AppendsUnless : {K : Type 0} → Option ReadError → (ℕ → Option K) → ℕ → InternerView → Text → Result (Unit {0}) ReadError → InternerView → Type 0
 AppendsUnless None key_at at old text outcome new = AppendsNew key_at at old text outcome new
 AppendsUnless (Some error) key_at at old text outcome new = (outcome ≡ Err error) × (new ≡ old)
 
--- what reading makes of the layout that writing makes of the list's texts from a position on
+-- what reading gets from the layout that writing makes of the list's texts from a position on
 pub record ReadsBack (most : ℕ) (list : List Text) (from : ℕ) (bytes offsets : List ℕ) : Type 0 where
-  -- the texts before the position, and then those of the layout, are the list
+  -- the texts before the position, followed by those of the layout, are the list
   pub list_again : take from list ++ layout_texts bytes offsets ≡ list
-  -- nothing is wrong with the layout
+  -- the layout has no fault
   pub good : layout_fault most bytes offsets ≡ None
-  -- none of its texts is there once those before it are
+  -- each of its texts is absent until its turn
   pub new : (n : ℕ) (text : Text) → slice_get (layout_texts bytes offsets) n ≡ Some text → position_of (take from list ++ take n (layout_texts bytes offsets)) text ≡ None
 
 -- reading what was written gives the same list, so the same codes
@@ -88,15 +88,16 @@ ReadingUndoesWriting =
     → IsDistinct list → All IsUtf8 (drop from list) → length (concat (drop from list)) ≤ most
     → ReadsBack most list from (concat (drop from list)) (offsets_from 0 (drop from list))
 
--- rows worked by hand: `a` is 97, `b` 98, `c` 99, and `é` is 195 169. Tests have those of bytes that are no text
+-- layouts worked out by hand: `a` is 97, `b` 98, `c` 99, and `é` is 195 169. Tests have those with bytes
+-- that are not UTF-8
 pub record LayoutsByHand : Type 0 where
-  -- no text has one offset
+  -- the layout of no texts has one offset
   pub none : offsets_from 0 [] ≡ 0 ∷ []
   -- `a`, the empty text, `é`
   pub three : offsets_from 0 ((97 ∷ []) ∷ [] ∷ (195 ∷ 169 ∷ []) ∷ []) ≡ 0 ∷ 1 ∷ 1 ∷ 3 ∷ []
   pub three_bytes : concat ((97 ∷ []) ∷ [] ∷ (195 ∷ 169 ∷ []) ∷ []) ≡ 97 ∷ 195 ∷ 169 ∷ []
   pub three_again : layout_texts (97 ∷ 195 ∷ 169 ∷ []) (0 ∷ 1 ∷ 1 ∷ 3 ∷ []) ≡ (97 ∷ []) ∷ [] ∷ (195 ∷ 169 ∷ []) ∷ []
-  -- a layout may begin behind the first byte, and end before the last
+  -- a layout may begin after the first byte, and end before the last
   pub part : layout_texts (97 ∷ 98 ∷ 99 ∷ []) (1 ∷ 2 ∷ []) ≡ (98 ∷ []) ∷ []
   pub no_offset : layout_fault 9 (97 ∷ []) [] ≡ None
   pub one_offset : layout_fault 9 (97 ∷ []) (1 ∷ []) ≡ None

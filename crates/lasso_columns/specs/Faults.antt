@@ -1,4 +1,4 @@
--- The faults of lines and of codes: when they come, and what they print.
+-- When the errors of lines and of codes occur, and what these and the errors of dictionaries print.
 use Rattle.std.specs.Prelude.{ℕ, ◌≡◌, ◌+◌, ◌-◌, ◌<◌, List, ◌++◌, length, None, Some, IsSomeAnd, Vec, slice_get, codes, decimal}
 use Rattle.std.specs.Str.{IsUtf8}
 use Rattle.lasso_parts.specs.Errors.{error_text, kind_text}
@@ -38,22 +38,22 @@ abbrev pub IsFaultOf : InternerView → Text → ℕ → LineError → Type 0
 IsFaultOf now line number (Refused at error) = (at ≡ number) × IsUtf8 line × IsRefused now line error
 IsFaultOf now line number (NotText at) = (at ≡ number) × ¬ (IsUtf8 line)
 
--- the fault is that of the line behind those that were encoded; lines are numbered from 1
+-- the fault is that of the line after those that were encoded; lines are numbered from 1
 abbrev pub IsNextFault : InternerView → List ℕ → List ℕ → List Text → LineError → Type 0
 IsNextFault now before after lines fault =
     let n = length after - length before in IsSomeAnd (slice_get lines n) (λ line. IsFaultOf now line (n + 1) fault)
 
--- when memory may be wanting for a line, once these codes are there: as for a text
+-- when memory may run out for a line, with these codes so far: as for a text
 abbrev pub LineMayLackMemory : {A : Type 0} → InternerView → Vec ℕ A → Text → LineError → Type 0
 LineMayLackMemory now codes line (Refused _ error) = MayLackMemory now codes line error
 LineMayLackMemory now codes line (NotText _) = Unit {0}
 
--- the same of the line behind those that were encoded
+-- the same of the line after those that were encoded
 abbrev pub NextLineMayLackMemory : {A : Type 0} → InternerView → List ℕ → Vec ℕ A → List Text → LineError → Type 0
 NextLineMayLackMemory now before codes lines fault =
     IsSomeAnd (slice_get lines (length codes.items - length before)) (λ line. LineMayLackMemory now codes line fault)
 
--- why the code at this position was not decoded: the list has no such position, or it has and memory was wanting
+-- why this position's code was not decoded: the list has no text for it, or has one and memory ran out
 abbrev pub IsFaultAt : List Text → List ℕ → ℕ → DecodeError → Type 0
 IsFaultAt list codes n (NoText position code) = (position ≡ n) × (slice_get codes n ≡ Some code) × (slice_get list code ≡ None)
 IsFaultAt list codes n NoMemory = IsSomeAnd (slice_get codes n) (λ code. code < length list)

@@ -7,13 +7,14 @@ use Rattle.lasso_single.specs.Filling.{extend}
 use Rattle.lasso_single.specs.Interner.{InternerView}
 use Rattle.lasso_encode.specs.Encoding.{spur_at, IsAdmitted}
 
--- When memory may be wanting for a list's next text where its code has room: the text is absent and admitted.
+-- When memory may run out for a list's next text, if there is room for its code: the text is absent and
+-- admitted.
 abbrev pub MayLackMemoryWithRoom : InternerView → List ℕ → List Text → LassoError → Type 0
 MayLackMemoryWithRoom now codes list error =
     IsSomeAnd (slice_get list (length codes)) (λ text. error ≡ FailedAllocation → IsAdmitted now text)
 
--- When memory may be wanting while a list is interned in another: before its first text, or at an absent and admitted
--- text, when all texts before it were interned
+-- When memory may run out while a list is interned in another: before its first text; or for an absent and
+-- admitted text, after all texts before it were interned.
 abbrev pub MayLackMemoryMerging : InternerView → InternerView → List Text → LassoError → Type 0
 MayLackMemoryMerging old now list error =
     error ≡ FailedAllocation

@@ -3,12 +3,12 @@ use Rattle.std.specs.Prelude.{◌≡◌, ℕ, List, [], ◌∷◌, ◌++◌, con
 use Rattle.lasso_parts.specs.Texts.{Text, position_of}
 use Rattle.lasso_encode.specs.Codes.{AreCodes}
 
--- the texts that the list lacks, each once, in the order of their first places
+-- the texts that the list lacks, each once, in the order of their first occurrences
 abbrev pub new_texts : List Text → List Text → List Text
 new_texts list [] = []
 new_texts list (text ∷ texts) = cond (is_some (position_of list text)) (new_texts list texts) (text ∷ new_texts (list ++ text ∷ []) texts)
 
--- the list is that of the distinct texts, and these are their codes in it
+-- the list has just the distinct texts, and these are the codes of all texts in it
 abbrev pub IsEncoded : List Text → List Text → List ℕ → Type 0
 IsEncoded texts list codes = (list ≡ new_texts [] texts) × AreCodes list texts codes
 

@@ -10,18 +10,19 @@ use Rattle.lasso_log.specs.Views.{InternerId, SnapshotView, list_of}
 use Rattle.lasso_encode.specs.Codes.{AreCodes, AddsCodes}
 use Rattle.lasso_encode.specs.Encoding.{spur_at}
 
--- the codes of the texts were put behind those that were there: their positions in the list that one legal history leads to
+-- the codes of the texts were appended: their positions in the list that one legal history leads to
 abbrev pub AddsSharedCodes : Totals → List Text → List ℕ → List ℕ → Type 0
 AddsSharedCodes opening texts before after =
     (past : History) × IsLegal spur_at opening past × AddsCodes (totals opening past).texts texts before after
 
--- memory was wanting; or somewhere in this history interning one of the texts may be refused with this error
+-- memory ran out; or at some point of this history interning one of the texts may be refused with this error
 abbrev pub IsRefusalIn : Totals → History → List Text → LassoErrorKind → Type 0
 IsRefusalIn opening past texts error =
     (error ≡ FailedAllocation)
     ⊎ ((text : Text) × (front back : History) × Contains texts text × (front ++ back ≡ past) × MayReply spur_at (totals opening front) (Intern Copied text) (Interned (Err error)))
 
--- what was seen of the interner, in whose list the texts have these codes; or interning one of them may be refused there
+-- a history of the interner that was seen: the texts have these codes in its list, or interning one of them
+-- may be refused somewhere in it
 abbrev pub IsPartOf : {A : Type 0} → InternerId → List Text → SnapshotView → Result (Vec ℕ A) LassoErrorKind → Type 0
 IsPartOf of texts known outcome =
     (known.of ≡ of)

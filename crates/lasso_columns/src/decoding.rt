@@ -1,4 +1,4 @@
-//! Codes to texts.
+//! Decodes codes to texts.
 ghost use Rattle.std.specs.Prelude.{◌≡◌, ◌+◌, ◌-◌, OnOk, IfErr, length, take, vec_len};
 ghost use Rattle.lasso_encode.specs.Codes.{AddsTexts};
 ghost use Rattle.lasso_columns.specs.Faults.{IsFaultAt};
@@ -9,10 +9,11 @@ use lasso::{RodeoReader, Spur};
 use std::alloc::Allocator;
 use std::hash::BuildHasher;
 
-/// Puts the texts that the codes stand for behind those that are there. They are lent by the reader.
+/// Appends the texts of the codes to `out`. The texts are borrowed from the reader.
 ///
-/// The first code that stands for no text ends it, and so does want of memory. The texts of the codes before it are put behind
-/// the others, and no code after it is read; so the number of texts tells which code it is.
+/// Stops at the first code without a text, or when out of memory for one more text. The texts of the codes
+/// before it are appended, and no later code is read. So the number of appended texts is the position where
+/// it stopped.
 ///
 /// ```rust
 /// let mut rodeo: SpurRodeo = Rodeo::default(rt.alloc())?;
@@ -31,7 +32,7 @@ pub fn decode<'r, S: BuildHasher, A: Allocator>(
     ensures whole { OnOk result (vec_len out.new ≡ vec_len out.old + length codes.now) }
     ensures fault { IfErr result (IsFaultAt reader.now codes.now (vec_len out.new - vec_len out.old)) }
 {
-    // Where there is no memory for the texts of all codes, each asks for its own.
+    // If there is no memory for all texts at once, each push asks for its own.
     let _ = out.reserve(codes.len());
     let count = reader.len();
     for position in 0..codes.len() {

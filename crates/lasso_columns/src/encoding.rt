@@ -1,4 +1,4 @@
-//! Lines to codes.
+//! Encodes lines to codes.
 ghost use Rattle.std.specs.Prelude.{◌≡◌, ℕ, ◌+◌, ◌∷◌, ◌++◌, [], Some, Ok, OnOk, IfErr, MatchResult, All, IsUtf8, length, vec_len};
 ghost use Rattle.lasso_parts.specs.Texts.{position_of};
 ghost use Rattle.lasso_single.specs.Filling.{extend};
@@ -16,12 +16,12 @@ use std::alloc::Allocator;
 use std::hash::BuildHasher;
 use std::str::from_utf8;
 
-/// Encodes the lines of the bytes, as `encode` does with texts. Each line feed ends a line and is no part of it, and bytes
-/// behind the last one are a line too.
+/// Encodes the lines of the bytes, as `encode` does texts. Each line feed ends a line and is no part of it.
+/// Bytes after the last line feed are a line too.
 ///
-/// The first line that is refused or is not UTF-8 ends it, and the error has its number, counted from 1. The lines before it are
-/// interned and have their codes, and no line after it is taken. Out of memory (`FailedAllocation`) comes only where it may come
-/// in `encode`.
+/// Stops at the first line that is refused or is not UTF-8. The error has the line's number, counted from 1.
+/// The lines before it are interned and have their codes, and no later line is read. Out of memory
+/// (`FailedAllocation`) occurs only where it may occur in `encode`.
 ///
 /// ```rust
 /// let mut rodeo: SpurRodeo = Rodeo::default(rt.alloc())?;
@@ -51,7 +51,7 @@ pub fn encode_lines<S: BuildHasher, A: Allocator + Clone>(
     Ok(())
 }
 
-// Interns the line of this number and puts its code behind the others.
+// Interns the line of this number and appends its code. An error changes nothing.
 fn encode_line<S: BuildHasher, A: Allocator + Clone>(
     rodeo: &mut Rodeo<Spur, S, A>,
     line: &[u8],

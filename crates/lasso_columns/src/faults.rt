@@ -1,4 +1,4 @@
-//! Why bytes were not encoded, codes not decoded, or a dictionary not written or not read.
+//! The errors of encoding lines, decoding codes, and writing and reading dictionaries.
 ghost use Rattle.std.specs.Prelude.{◌≡◌, Some};
 ghost use Rattle.lasso_columns.specs.Faults.{line_error_text, decode_error_text, write_error_text, read_error_text};
 ghost use Rattle.lasso_columns.specs.declared.faults.WriteError.TheVariants.{NoMemory};
@@ -11,7 +11,7 @@ use std::fmt;
 /// Why a line was not encoded. Lines are numbered from 1.
 #[derive(Clone, Debug, PartialEq, Eq, Drop)]
 pub enum LineError {
-    /// The line of this number was refused.
+    /// The line of this number was refused: by the limit, for lack of a key, or out of memory.
     Refused(usize, LassoError),
     /// The line of this number is not UTF-8.
     NotText(usize),
@@ -33,14 +33,14 @@ impl Error for LineError {}
 /// Why codes were not decoded. Positions are counted from 0.
 #[derive(Clone, Copy, Debug, PartialEq, Eq, Hash)]
 pub enum DecodeError {
-    /// The code at this position stands for no text.
+    /// The code at this position has no text.
     NoText {
         /// The position among the codes.
         position: usize,
-        /// The code that stands there.
+        /// The code at that position.
         code: u32,
     },
-    /// There was no memory for one text more.
+    /// Out of memory for one more text.
     NoMemory,
 }
 
@@ -64,7 +64,7 @@ impl Error for DecodeError {}
 pub enum WriteError {
     /// The text at this position is the first that ends past the greatest offset.
     TooManyBytes(usize),
-    /// There was no memory for the bytes or the offsets.
+    /// Out of memory for the bytes or the offsets.
     NoMemory,
 }
 
@@ -102,15 +102,16 @@ impl<T: Drop> From<AllocFailed<T>> for WriteError {
 pub enum ReadError {
     /// The text at this position ends before it begins.
     OffsetsFall(usize),
-    /// The text at this position ends past the bytes, or past the greatest offset. At 0 it may also
-    /// begin there.
+    /// The text at this position ends past the bytes or past the greatest offset. At position 0, the offset
+    /// past them may also be the first one.
     OffsetPastBytes(usize),
     /// The text at this position is not UTF-8.
     NotText(usize),
-    /// The text at this position is one that the interner has: it came before in the dictionary, or was
-    /// there at first.
+    /// The interner already has the text at this position: from earlier in the dictionary, or from before
+    /// the call.
     Doubled(usize),
-    /// The interner refused the text at this position: by its limit, for lack of a key, or out of memory.
+    /// The interner refused the text at this position: by its limit, for lack of a key, or out of memory. At
+    /// position 0 it may also be out of memory for a new interner.
     Refused(usize, LassoErrorKind),
 }
 

@@ -1,4 +1,4 @@
-//! Texts in a buffer of bytes with a buffer of offsets, as Arrow's arrays of strings have them.
+//! Texts as a buffer of bytes and a buffer of offsets, like Arrow's arrays of strings.
 ghost use Rattle.std.specs.Prelude.{◌≡◌, ℕ, ◌≤◌, None, Some, MatchResult};
 ghost use Rattle.std.specs.List.{slice_range};
 ghost use Rattle.lasso_columns.specs.Layout.{start_fault, text_fault};
@@ -6,23 +6,23 @@ ghost use Rattle.lasso_columns.specs.Layout.{start_fault, text_fault};
 use crate::faults::ReadError;
 use std::str::from_utf8;
 
-/// A width of offsets: `u32` or `u64`. Arrow's offsets are signed numbers of the same width and the same
-/// bits, so the greatest offset is the greatest signed number.
+/// A type of offsets: `u32` or `u64`. Arrow's offsets are signed integers of the same width, with the same
+/// bits. So the greatest offset is the greatest signed integer of that width.
 pub trait Offset: Copy {
     /// The greatest offset.
     const GREATEST: usize;
 
-    // the greatest offset
+    // the greatest offset, in contracts
     ghost GREATEST: { ℕ };
 
-    // the number that the offset is
+    // the offset as a number, in contracts
     ghost number: { Self → ℕ };
 
-    /// The number that the offset is.
+    /// The offset as a number.
     fn into_usize(self) -> usize
         ensures { result ≡ number self };
 
-    /// The offset of the number, which may not be above the greatest.
+    /// The offset of this number, which must be at most the greatest offset.
     fn from_usize(number_of_bytes: usize) -> Self
         requires { number_of_bytes ≤ GREATEST }
         ensures { number result ≡ number_of_bytes };
@@ -60,17 +60,17 @@ impl Offset for u64 {
     }
 }
 
-/// Texts as `write_dictionary` gives them: text n is what lies in the bytes between offset n and offset
-/// n + 1. There is one offset more than there are texts, and the first is 0.
+/// Texts as `write_dictionary` returns them: text n is the bytes from offset n to offset n + 1. There is one
+/// more offset than texts, and the first offset is 0.
 #[derive(Drop)]
 pub struct Layout<O> {
     /// The bytes of the texts, one text after another.
     pub bytes: Vec<u8>,
-    /// Where each text begins, and last where the last one ends.
+    /// Where each text begins, followed by where the last one ends.
     pub offsets: Vec<O>,
 }
 
-// Looks at where the first text begins.
+// Checks the offset where the first text begins.
 pub(crate) fn check_start(bytes: &[u8], from: usize, most: usize) -> Result<(), ReadError>
     ensures { MatchResult result (λ _. start_fault most bytes.now from ≡ None) (λ error. start_fault most bytes.now from ≡ Some error) }
 {
@@ -80,7 +80,7 @@ pub(crate) fn check_start(bytes: &[u8], from: usize, most: usize) -> Result<(), 
     Ok(())
 }
 
-// The text of this number, between two offsets.
+// Returns the text of number `at`, which is the bytes `from..to`. Offsets may be at most `most`.
 pub(crate) fn text_between(
     bytes: &[u8],
     at: usize,

@@ -1,7 +1,8 @@
-//! Columns of texts as columns of codes.
+//! Turns columns of texts into columns of codes, and back.
 //!
-//! `encode`, `encode_lines` and `encode_shared` hash with their interner's hasher, which may be any. The threads of `encode_in_parts`
-//! hash with a fixed seed. Whoever chooses the texts can make them collide, and a search then takes time linear in their number.
+//! `encode`, `encode_lines` and `encode_shared` hash with their interner's hasher, which may be any. The
+//! threads of `encode_in_parts` hash with a fixed seed. Whoever chooses the texts can make them collide, and
+//! a search then takes time linear in their number.
 #![tactic(auto)]
 
 mod decoding;

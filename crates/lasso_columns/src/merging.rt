@@ -1,4 +1,4 @@
-//! The codes of one interner in another.
+//! Merges the texts of one interner into another.
 ghost use Rattle.std.specs.Prelude.{◌≡◌, ℕ, ◌≤◌, [], Ok, OnOk, IfOk, IfErr, IsSomeAnd, slice_get, take, length, vec_capacity};
 ghost use Rattle.lasso_single.specs.Filling.{extend};
 ghost use Rattle.lasso_encode.specs.Codes.{AreCodes, StandFor};
@@ -11,12 +11,14 @@ use lasso_encode::encode_text;
 use std::alloc::{Allocator, Global};
 use std::hash::BuildHasher;
 
-/// Interns the texts of one interner in another, in order, and answers the code that each has there: for the code n of `from` the
-/// number at position n. So columns of both are joined by rewriting codes alone.
+/// Interns the texts of `from` in `into`, in order, and returns their codes there: the number at position
+/// n is the new code of the text with code n in `from`. So rewriting codes is enough to join columns of
+/// both.
 ///
-/// The first text that is refused ends it, as in `encode`, and is the answer. The texts before it stay in `into`. Out of memory
-/// (`FailedAllocation`) comes only before the first text, where there is none for the codes and `into` is unchanged, or for an
-/// absent text that neither the keys nor the limit refuse.
+/// Stops at the first text that is refused, as `encode` does, and returns the error. The texts before it
+/// stay in `into`. Out of memory (`FailedAllocation`) occurs in two cases only: before the first text,
+/// when there is no memory for the codes, with `into` unchanged; or for an absent text that neither the
+/// keys nor the limit refuse.
 ///
 /// ```rust
 /// let mut into: SpurRodeo = Rodeo::default(rt.alloc())?;
@@ -43,8 +45,8 @@ pub fn merge<S: BuildHasher, A: Allocator + Clone, T: BuildHasher, B: Allocator>
     Ok(codes)
 }
 
-// Interns the texts of the reader in order, and puts the codes that they then have into `codes`, which is empty before and
-// has room for all of them.
+// Interns the texts of the reader in order, and appends the codes that they then have to `codes`, which must
+// be empty and have room for all of them.
 pub(crate) fn encode_list<S: BuildHasher, A: Allocator + Clone, T: BuildHasher, B: Allocator>(
     into: &mut Rodeo<Spur, S, A>,
     from: &RodeoReader<Spur, T, B>,

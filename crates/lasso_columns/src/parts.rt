@@ -1,4 +1,4 @@
-//! Texts to codes in parts, each by a thread with an interner of its own.
+//! Encodes texts to codes in parts, each by a thread with an interner of its own.
 ghost use Rattle.std.specs.Prelude.{◌≡◌, ℕ, ◌+◌, ◌<◌, ◌≤◌, Ok, OnOk, IfErr, IfSome, All, length, map, slice_get, slice_index, vec_len, vec_capacity};
 ghost use Rattle.std.specs.List.{AllWithin};
 ghost use Rattle.lasso_single.specs.Filling.{extend};
@@ -13,10 +13,10 @@ use std::alloc::{Allocator, Global};
 use std::hash::BuildHasher;
 use std::thread::{Threads, for_each_mut, map_chunks};
 
-// The most texts that a part encodes before it may give up.
+// The most texts of a part that are encoded before it may give up.
 const LONGEST_SAMPLE: usize = 65_536;
 
-// How many codes are worth a thread: to rewrite these takes about as long as to start one.
+// How many codes are worth a thread: rewriting them takes about as long as starting one.
 const CODES_A_THREAD: usize = 65_536;
 
 /// Does what `encode` does, with up to `workers` threads, and returns what `encode` returns: the same codes
@@ -24,13 +24,13 @@ const CODES_A_THREAD: usize = 65_536;
 /// interner of its own. Then the caller interns the distinct texts of each part, in the order of the parts,
 /// and the codes are rewritten.
 ///
-/// It pays where most texts repeat within their part. A part whose first texts are mostly new gives up, and
+/// It pays when most texts repeat within their part. A part whose first texts are mostly new gives up, and
 /// the caller encodes it as `encode` does; so does a part that runs out of memory. With one worker, or none,
-/// it is `encode`. It keeps a dictionary and a code of 4 bytes a text for each part until it returns. For an
-/// interner that other threads use meanwhile there is `encode_shared`.
+/// it is `encode`. Until it returns, it keeps a dictionary of each part and a code of 4 bytes for each text.
+/// For an interner that other threads use meanwhile, there is `encode_shared`.
 ///
-/// The first text that is refused ends it, as in `encode`: the texts before it are interned and have their
-/// codes. Out of memory (`FailedAllocation`) comes only where it may come in `encode`.
+/// Stops at the first text that is refused, as `encode` does: the texts before it are interned and have
+/// their codes. Out of memory (`FailedAllocation`) occurs only where it may occur in `encode`.
 ///
 /// ```rust
 /// let mut rodeo: SpurRodeo = Rodeo::default(rt.alloc())?;
@@ -54,7 +54,7 @@ pub fn encode_in_parts<R: AllocGlobal + Threads + Sync, S: BuildHasher, A: Alloc
     if workers < 2 {
         return encode(rodeo, texts, codes);
     }
-    // Where there is no memory for the codes of all texts, each part asks for its own.
+    // If there is no memory for all codes at once, each part asks for its own.
     let _ = codes.reserve(texts.len());
     let size = texts.len().div_ceil(workers).max(1);
     let work = move |_: usize, part: &[&str]| -> Option<Part>
@@ -73,15 +73,15 @@ pub fn encode_in_parts<R: AllocGlobal + Threads + Sync, S: BuildHasher, A: Alloc
     Ok(())
 }
 
-// The distinct texts of a part, and the codes of all its texts among them.
+// The distinct texts of a part, and the codes of all its texts in this list.
 #[derive(Drop)]
 struct Part {
     list: SpurRodeoReader,
     codes: Vec<u32>,
 }
 
-// Encodes the texts with an interner of their own. `None` where memory runs out, or where more than half of
-// the first texts are new: the caller would then intern most texts again.
+// Encodes the texts with a new interner. Returns `None` if memory runs out, or if more than half of the
+// first texts are new: the caller would then intern most texts again.
 fn encode_part(alloc: Global, texts: &[&str]) -> Option<Part>
     ensures { IfSome result (λ encoded. IsEncoded (map (λ t. t.now) texts.now) encoded.list encoded.codes.items) }
 {
@@ -102,7 +102,7 @@ fn encode_part(alloc: Global, texts: &[&str]) -> Option<Part>
     })
 }
 
-// Does what `encode` does with the texts, which are those of the part where there is one.
+// Does what `encode` does with the texts. `part` is what `encode_part` returned for them.
 fn put_part<R: AllocGlobal + Threads + Sync, S: BuildHasher, A: Allocator + Clone>(
     rt: &R,
     rodeo: &mut Rodeo<Spur, S, A>,
@@ -122,7 +122,7 @@ fn put_part<R: AllocGlobal + Threads + Sync, S: BuildHasher, A: Allocator + Clon
     let Some(part) = part else {
         return encode(rodeo, texts, codes);
     };
-    // There is room for all codes, and for the table, before a text is interned.
+    // Room for all codes and for the table is reserved before a text is interned.
     if codes.reserve(part.codes.len()).is_err() {
         return encode(rodeo, texts, codes);
     }
@@ -135,9 +135,9 @@ fn put_part<R: AllocGlobal + Threads + Sync, S: BuildHasher, A: Allocator + Clon
     outcome
 }
 
-// Appends the codes of a list of `len` texts, rewritten by the table: it has the new code of each text, or of
-// the first ones only. Stops at the first code that the table lacks. There must be room for all. Up to
-// `workers` threads rewrite.
+// Appends the codes of a list of `len` texts, rewritten by the table. The table has the new code of each
+// text, or of the first texts only. Stops at the first code that the table lacks. `codes` must have room
+// for all. Up to `workers` threads rewrite.
 fn append_rewritten<R: Threads + Sync>(
     rt: &R,
     codes: &mut Vec<u32>,
@@ -160,7 +160,7 @@ fn append_rewritten<R: Threads + Sync>(
     rewrite(rt, codes.slice_mut(before..), table, threads);
 }
 
-// Gives each code the one that the table has for it.
+// Replaces each code by the new code that the table has for it.
 fn rewrite<R: Threads + Sync>(rt: &R, codes: &mut [u32], table: &[u32], threads: usize)
     requires threads { 0 < threads }
     requires inside { All (λ code. code < length table.now) codes.old }
@@ -169,7 +169,7 @@ fn rewrite<R: Threads + Sync>(rt: &R, codes: &mut [u32], table: &[u32], threads:
     for_each_mut(rt, codes, threads, &|_, code| *code = table[*code as usize]);
 }
 
-// How many of the codes stand before the first that is `bound` or more. All are below `len`.
+// How many codes come before the first that is `bound` or more. All codes are below `len`.
 fn known(codes: &[u32], len: usize, bound: usize) -> usize
     requires { All (λ code. code < len) codes.now }
     ensures within { result ≤ length codes.now }

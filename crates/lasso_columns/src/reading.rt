@@ -1,4 +1,4 @@
-//! A layout's texts into an interner.
+//! Reads the texts of a layout into an interner.
 ghost use Rattle.std.specs.Prelude.{◌≡◌, ◌+◌, ◌<◌, ◌++◌, None, Ok, Err, OnOk, IfOk, IfErr, map, take};
 ghost use Rattle.std.specs.List.{slice_range};
 ghost use Rattle.lasso_parts.specs.declared.util.LassoErrorKind.TheVariants.{FailedAllocation};
@@ -13,12 +13,13 @@ use lasso::{Capacity, Key, LassoErrorKind, MemoryLimits, Rodeo};
 use std::alloc::Allocator;
 use std::hash::BuildHasher;
 
-/// A new interner with the texts of the layout, in order: text n has the key of number n, so what was
-/// written from position 0 has its codes again. Its first bucket has as many bytes as there are, or 4096
-/// where there are none, but no more than the limit, and at least one.
+/// Returns a new interner with the texts of the layout, in order. Text n has the key of number n, so what
+/// was written from position 0 has its codes again. The first bucket has `bytes.len()` bytes (4096 if
+/// `bytes` is empty), but no more than the limit, and at least one.
 ///
-/// It is refused at the first text with which something is wrong, which came before, or which the interner
-/// refuses; and out of memory for the interner, which is `Refused` at 0. Nothing is kept then.
+/// Fails at the first text whose offsets are wrong, that is not UTF-8, that came before, or that the
+/// interner refuses. Out of memory for the interner is `Refused` at position 0. After an error nothing is
+/// kept.
 ///
 /// ```rust
 /// let limits = MemoryLimits::default();
@@ -53,7 +54,7 @@ pub fn read_dictionary<K: Key, S: BuildHasher + Drop, A: Allocator + Clone, O: O
     }
 }
 
-// The size of the first bucket of an interner for these bytes.
+// How many bytes the first bucket of an interner for these bytes has.
 fn first_bucket(bytes: &[u8], limits: MemoryLimits) -> usize
     ensures value { result ≡ first_bucket limits bytes.now }
     ensures some { 0 < result }
@@ -62,11 +63,11 @@ fn first_bucket(bytes: &[u8], limits: MemoryLimits) -> usize
     wanted.min(limits.max_memory_usage()).max(1)
 }
 
-/// Appends the texts of the layout to the interner's list, in order. None of them may be there yet. So what
-/// was written from position n goes into an interner that has the first n texts, and has its codes again.
+/// Appends the texts of the layout to the interner's list, in order. The interner may have none of them yet.
+/// So what was written from position n has its codes again in an interner with the first n texts.
 ///
-/// It ends at the first text with which something is wrong, which the interner has, or which the interner
-/// refuses. The texts before it stay in the list, and nothing else changes.
+/// Stops at the first text whose offsets are wrong, that is not UTF-8, that the interner already has, or
+/// that it refuses. The texts before it stay in the list, and nothing else changes.
 ///
 /// ```rust
 /// let mut rodeo = SpurRodeo::from_iter(rt.alloc(), ["red"])?;
@@ -100,7 +101,7 @@ pub fn append_dictionary<K: Key, S: BuildHasher, A: Allocator + Clone, O: Offset
     Ok(())
 }
 
-// Appends the text of this number, between two offsets. Where it is refused nothing has changed.
+// Appends the text of number `at`, which is the bytes `from..to`. An error changes nothing.
 fn append_text<K: Key, S: BuildHasher, A: Allocator + Clone>(
     rodeo: &mut Rodeo<K, S, A>,
     bytes: &[u8],
@@ -118,7 +119,7 @@ fn append_text<K: Key, S: BuildHasher, A: Allocator + Clone>(
     append_new(rodeo, text, at)
 }
 
-// Appends the text, which is that of this number. Where it is refused nothing has changed.
+// Appends the text, which has number `at`. An error changes nothing.
 fn append_new<K: Key, S: BuildHasher, A: Allocator + Clone>(
     rodeo: &mut Rodeo<K, S, A>,
     text: &str,

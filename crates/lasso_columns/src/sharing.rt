@@ -1,4 +1,4 @@
-//! Texts to codes by many threads.
+//! Encodes texts to codes by several threads over one interner.
 ghost use Rattle.std.specs.Prelude.{◌≡◌, [], OnOk, OnErr, IfOk, IfErr, map};
 ghost use Rattle.lasso_log.specs.History.{History, IsLegal};
 ghost use Rattle.lasso_log.specs.Notes.{Since};
@@ -13,15 +13,17 @@ use std::hash::BuildHasher;
 use std::sync::Wait;
 use std::thread::{Threads, map_chunks};
 
-/// Interns the texts by at most so many threads, and puts their codes behind those that are there, in the order of the texts: the positions
-/// that they then have in the interner's list, and keep. So codes of equal texts are equal. 0 workers count as one; where a
-/// thread can't be started, the caller does its work.
+/// Interns the texts with up to `workers` threads, and appends their codes to `codes`, in the order of the
+/// texts. A code is the position that the text then has in the interner's list, and keeps. So equal texts
+/// have equal codes. 0 workers count as 1. If a thread can't be started, the caller does its work.
 ///
-/// It serves where other threads use the interner meanwhile. For a column alone `encode_in_parts` is faster, and gives the codes
-/// of one thread. The interner may have any hasher that threads share, so also a keyed one for texts that a stranger chooses.
+/// Use it when other threads use the interner meanwhile. For a column alone `encode_in_parts` is faster, and
+/// gives the codes of one thread. The interner may have any hasher that threads can share, also a keyed one
+/// for texts that a stranger chooses.
 ///
-/// Each worker stops at the first of its texts that is refused, and the refusal of the first of these workers is the answer. No code is
-/// added then, nor where there is no memory for the codes, and the texts that were interned stay.
+/// Each worker stops at the first of its texts that is refused. The call returns the error of the first such
+/// worker, in the order of the texts. After an error, also when out of memory for the codes, no code is
+/// added, and the texts that were interned stay.
 ///
 /// ```rust
 /// let rodeo: SpurThreadedRodeo = ThreadedRodeo::default(rt.alloc())?;
@@ -48,9 +50,10 @@ where
     encode_shared_as(rt, rodeo, &mut pass, texts, codes, workers)
 }
 
-/// The same with a pass, which has then seen what the workers did: the codes are the positions of the texts in the list that it
-/// has seen. The call adds no event to the pass itself. After a refusal the pass has seen what the workers up to the refused one
-/// did, and so what explains it, or for want of memory maybe no more than before.
+/// The same with a pass. Afterwards the pass has seen what the workers did, and the codes are the
+/// positions of the texts in the list that it has seen. The pass itself adds no event. After a refusal it
+/// has seen what the workers up to the refused one did, and so what explains the refusal. When out of
+/// memory, it may have seen no more than before.
 pub fn encode_shared_as<
     R: AllocGlobal + Threads + Wait + Sync,
     S: BuildHasher + Send + Sync + Drop,
@@ -91,14 +94,15 @@ where
     Ok(())
 }
 
-// What a worker gives back: what its pass has seen of the interner, and the codes of its texts, or why one of them was refused.
+// What a worker returns: what its pass has seen of the interner, and the codes of its texts, or the error at
+// which it stopped.
 #[derive(Drop)]
 struct Part {
     known: Snapshot<Spur>,
     codes: LassoResult<Vec<u32>>,
 }
 
-// Interns the texts by a pass of its own.
+// Interns the texts with a new pass.
 fn encode_part<R: AllocGlobal + Wait, S: BuildHasher + Drop>(
     rt: &R,
     rodeo: &ThreadedRodeo<Spur, S>,
@@ -114,7 +118,7 @@ fn encode_part<R: AllocGlobal + Wait, S: BuildHasher + Drop>(
     }
 }
 
-// The codes of the texts, which it interns by the pass.
+// Interns the texts with the pass, and returns their codes.
 fn encode_by<R: AllocGlobal + Wait, S: BuildHasher + Drop>(
     rt: &R,
     rodeo: &ThreadedRodeo<Spur, S>,

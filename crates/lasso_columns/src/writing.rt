@@ -1,4 +1,4 @@
-//! The texts of an interner or a frozen form as a layout.
+//! Writes the texts of an interner or a frozen form as a layout.
 ghost use Rattle.std.specs.Prelude.{◌≡◌, ◌+◌, ◌<◌, ◌≤◌, OnOk, IfOk, IfErr, All, IsUtf8, length, map, drop};
 ghost use Rattle.std.specs.List.{concat};
 ghost use Rattle.lasso_columns.specs.Dictionaries.{IsWriteFault};
@@ -36,12 +36,12 @@ impl<K: Key, A: Allocator> Dictionary for RodeoResolver<K, A> {
     }
 }
 
-/// The texts from a position on as bytes and offsets, in the order of their positions. From 0 it is the
-/// whole list, from the number of texts or above it no text. Reading it gives the same list
+/// Returns the texts from position `from` on as bytes and offsets, in the order of their positions. From
+/// position 0 that is the whole list; from `texts()` or above, no text. Reading it gives the same list again
 /// (`append_dictionary`, `read_dictionary`).
 ///
-/// It is refused with the first text that ends past the greatest offset, and where none does, only out of
-/// memory.
+/// Fails with the first text that ends past the greatest offset. If there is none, the only error is out of
+/// memory (`NoMemory`).
 ///
 /// ```rust
 /// let rodeo = SpurRodeo::from_iter(rt.alloc(), ["red", "", "blue"])?;
@@ -73,7 +73,7 @@ pub fn write_dictionary<O: Offset, D: Dictionary>(
     Ok(Layout { bytes, offsets })
 }
 
-// How many bytes the texts have from a position on, unless they are more than `most`.
+// How many bytes the texts from position `from` on have. It is an error if they have more than `most`.
 fn total_bytes<D: Dictionary>(dictionary: &D, from: usize, most: usize) -> Result<usize, WriteError>
     ensures total { IfOk result (λ total. total ≡ length (concat (drop from (D.list dictionary.now)))) }
     ensures fits { OnOk result (length (concat (drop from (D.list dictionary.now))) ≤ most) }

@@ -1,4 +1,5 @@
-//! The calls that the tests make, each in a function of no contract: what a call leaves is looked at, and nothing of it is known before.
+//! The calls that the tests make, each in a function without a contract. So the prover knows nothing of
+//! their results, and the tests check them.
 use lasso::{
     FixedState, Key, LassoResult, MemoryLimits, Rodeo, Spur, SpurRodeo, SpurRodeoReader,
     SpurThreadedRodeo, ThreadedRodeo,
@@ -81,7 +82,7 @@ where
     lasso_columns::encode_shared(rt, rodeo, texts, codes, workers)
 }
 
-// By a pass of its own.
+// Encodes with a new pass.
 pub(super) fn encode_shared_as<R: AllocGlobal + Threads + Wait + Sync>(
     rt: &R,
     rodeo: &SpurThreadedRodeo,
@@ -109,7 +110,7 @@ pub(super) fn append_dictionary<K: Key, A: Allocator + Clone, O: Offset>(
     lasso_columns::append_dictionary(rodeo, bytes, offsets)
 }
 
-// With the hasher of fixed seed.
+// Reads into an interner whose hasher has a fixed seed.
 pub(super) fn read_dictionary<K: Key, A: Allocator + Clone, O: Offset>(
     alloc: A,
     limits: MemoryLimits,

@@ -1,4 +1,5 @@
-//! What no clause says: that each call answers where memory is there; and whole columns, with values worked by hand.
+//! Tests that each call succeeds when memory is available, which no contract can state; and whole columns,
+//! with values worked out by hand.
 use crate::calls::{decode, encode, encode_lines, interner, merge};
 use crate::limited::limited;
 use lasso::LassoError;
@@ -39,7 +40,7 @@ fn a_code_without_a_text_is_told(rt: HostRuntime) -> Result<(), Fail> {
     Ok(())
 }
 
-// Another end of a test than the one that it looks for, as want of memory is.
+// Why a test fails when a call ends otherwise than expected, for example out of memory.
 fn unwanted<E: Debug + Drop>(ended: Result<(), E>) -> Fail {
     match ended {
         Ok(()) => Fail::from("not refused"),
@@ -47,7 +48,7 @@ fn unwanted<E: Debug + Drop>(ended: Result<(), E>) -> Fail {
     }
 }
 
-// The refusal is the limit's.
+// Checks that the refusal is by the memory limit.
 pub(super) fn limit_refuses(refusal: Option<LassoError>) -> Result<(), Fail> {
     let error = refusal.ok_or("not refused")?;
     if error.kind().is_memory_limit() {
@@ -120,7 +121,7 @@ fn two_dictionaries_are_merged(rt: HostRuntime) -> Result<(), Fail> {
     Ok(())
 }
 
-// The dictionary that takes the texts is unchanged until one is refused.
+// The refused merges add no text: each is refused at the first text that `into` lacks.
 #[test]
 fn a_first_new_text_is_refused_by_the_limit(rt: HostRuntime) -> Result<(), Fail> {
     let mut into = limited(rt.alloc())?;

@@ -1,4 +1,5 @@
-//! Dictionaries that are written as bytes and offsets, and read again. What they must be is worked by hand, or told by numbers.
+//! Dictionaries that are written as bytes and offsets, and read again. The expected values are worked out by
+//! hand, or computed from numbers.
 use crate::calls::{append_dictionary, interner, read_dictionary, write_dictionary};
 use crate::columns::limit_refuses;
 use crate::limited::limited;
@@ -31,7 +32,7 @@ fn has_texts<R: Abort, K: Key, A: Allocator>(
     }
 }
 
-// What is written of the five texts from each position.
+// Checks what is written of the five texts from position 0, from 2, and from their end and past it.
 fn writes_five<R: AllocGlobal + Abort, D: Dictionary>(
     rt: &R,
     dictionary: &D,
@@ -90,7 +91,7 @@ fn a_dictionary_may_have_no_texts(rt: HostRuntime) -> Result<(), Fail> {
     Ok(())
 }
 
-// The offsets may begin behind the first byte and end before the last.
+// The offsets may begin after the first byte and end before the last.
 #[test]
 fn a_part_of_the_bytes_is_read(rt: HostRuntime) -> Result<(), Fail> {
     let mut rodeo = interner(&rt, &[])?;
@@ -99,7 +100,8 @@ fn a_part_of_the_bytes_is_read(rt: HostRuntime) -> Result<(), Fail> {
     Ok(())
 }
 
-// The layout is refused with this fault, and the interner then has the texts.
+// Appending the layout to an interner of `red` ends with this fault and leaves these texts. Reading it
+// ends with the same fault.
 fn ends_with<R: AllocGlobal + Abort>(
     rt: &R,
     bytes: &[u8],
@@ -140,7 +142,7 @@ fn wrong_offsets_are_told(rt: HostRuntime) -> Result<(), Fail> {
 fn bytes_that_are_no_text_are_told(rt: HostRuntime) -> Result<(), Fail> {
     let no_text = ReadError::NotText;
     ends_with(&rt, b"a\xff", &[0, 1, 2], no_text(1), &["red", "a"])?;
-    // Each half of `é` is no text, and both are one.
+    // Neither byte of `é` is UTF-8 alone; both together are.
     ends_with(
         &rt,
         b"\xc3\xa9",
@@ -162,7 +164,7 @@ fn a_doubled_text_is_told(rt: HostRuntime) -> Result<(), Fail> {
         &["red", "ab", "c"],
     )?;
     ends_with(&rt, b"a", &[0, 0, 1, 1], doubled(2), &["red", "", "a"])?;
-    // This one the interner has at first.
+    // The interner has this text before the call.
     let mut rodeo = interner(&rt, &["red", "green"])?;
     let ended = append_dictionary(&mut rodeo, b"bluegreen", &[0u64, 4, 9, 9]);
     assert!(rt; ended == Err(doubled(1)));
@@ -170,7 +172,7 @@ fn a_doubled_text_is_told(rt: HostRuntime) -> Result<(), Fail> {
     Ok(())
 }
 
-// Why the text of this position was refused by the interner.
+// The error with which the interner refused the text at this position.
 fn refusal(ended: Option<ReadError>, position: usize) -> Result<LassoError, Fail> {
     match ended {
         Some(ReadError::Refused(at, kind)) if at == position => Ok(LassoError::new(kind)),
@@ -202,7 +204,7 @@ fn the_limit_ends_a_reading(rt: HostRuntime) -> Result<(), Fail> {
     Ok(())
 }
 
-// The bytes of 256 texts of two letters each, no two alike.
+// The bytes of 256 different texts of two letters each.
 fn pairs(alloc: Global) -> Result<Vec<u8>, Fail> {
     let mut bytes = Vec::new(alloc);
     for first in b'a'..b'q' {
@@ -255,7 +257,7 @@ fn bytes_past_the_greatest_offset_are_refused(rt: HostRuntime) -> Result<(), Fai
     let mut nine = interner(&rt, &["abcdefgh", "i", "j"])?;
     let whole: Result<Layout<Narrow>, WriteError> = write_dictionary(&rt, &nine, 0);
     assert!(rt; whole.err() == Some(WriteError::TooManyBytes(2)));
-    // Each offset of the last text is past 9, though the bytes reach there.
+    // The last text ends at 10, past the greatest offset 9, though the bytes reach that far.
     let offsets = [
         Narrow::from_usize(8),
         Narrow::from_usize(9),
@@ -267,7 +269,7 @@ fn bytes_past_the_greatest_offset_are_refused(rt: HostRuntime) -> Result<(), Fai
     Ok(())
 }
 
-// Written from 0 and read; and written from 12,345 and appended to the texts before it.
+// Writes from 0 and reads; then writes from 12,345 and appends to the texts before that position.
 #[test]
 fn many_texts_are_written_and_read(rt: HostRuntime) -> Result<(), Fail> {
     let printed = printed(rt.alloc(), &distinct(rt.alloc())?)?;
@@ -292,8 +294,8 @@ fn many_texts_are_written_and_read(rt: HostRuntime) -> Result<(), Fail> {
     Ok(())
 }
 
-// Each request of the interner is refused once. The texts before the refused one are there, and the others follow by a second
-// call.
+// Each memory request of the interner is refused once. The texts before the refused one are in its list,
+// and a second call appends the others.
 #[test]
 fn a_refused_request_leaves_the_first_texts(rt: HostRuntime) -> Result<(), Fail> {
     let printed = printed(
@@ -328,7 +330,7 @@ fn appended_in_two<R: Abort>(
     Ok(())
 }
 
-// The same of an interner that the reading makes, which is gone then with its memory.
+// The same for the interner that `read_dictionary` makes. A refused call gives its memory back.
 #[test]
 fn a_refused_request_ends_a_reading(rt: HostRuntime) -> Result<(), Fail> {
     each_refused(&rt, read_or_refused)

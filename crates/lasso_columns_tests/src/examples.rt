@@ -1,4 +1,4 @@
-//! The examples in the documents of the calls, in tests.
+//! The examples in the doc comments of the calls, as tests.
 use lasso::{FixedState, Key, MemoryLimits, Rodeo, SpurRodeo, SpurThreadedRodeo, ThreadedRodeo};
 use lasso_columns::{
     Layout, ReadError, append_dictionary, decode, encode, encode_in_parts, encode_lines,

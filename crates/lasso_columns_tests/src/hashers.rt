@@ -1,4 +1,5 @@
-//! Columns that threads encode over interners of other hashers than the one of fixed seed.
+//! Columns that threads encode over interners with different hashers: keyed ones, the one with a fixed
+//! seed, and one that gives all texts the same hash.
 use crate::calls::encode_shared;
 use crate::long_columns::slices;
 use crate::shared::{TWENTY, stand_for};
@@ -15,10 +16,11 @@ use std::thread::Threads;
 // How many texts collide.
 const TEXTS: u32 = 10_000;
 
-// The codes of the twenty texts for one worker: the first text of each has the next code.
+// The codes of the twenty texts with one worker: each new text gets the next code.
 const CODES: [u32; 20] = [0, 1, 0, 2, 1, 3, 0, 4, 3, 0, 1, 5, 0, 2, 6, 0, 0, 4, 1, 3];
 
-// A search in an interner of the fixed seed would compare with each of these texts. Here none collides.
+// Under the fixed seed these texts have one hash, so a search would compare with each of them. The keyed
+// hasher spreads them.
 #[test]
 fn threads_encode_texts_that_collide_under_the_fixed_seed(rt: HostRuntime) -> Result<(), Fail> {
     let chosen = colliding(rt.alloc(), TEXTS)?;
@@ -44,7 +46,7 @@ fn threads_encode_texts_that_collide_under_the_fixed_seed(rt: HostRuntime) -> Re
     Ok(())
 }
 
-// Equal texts have equal codes, and others have others.
+// Equal texts have equal codes, and different texts different ones.
 fn tell_texts<R: Abort>(rt: &R, codes: &[u32], texts: &[&str]) {
     for (code, text) in codes.iter().zip(texts) {
         for (other, that) in codes.iter().zip(texts) {
@@ -53,7 +55,7 @@ fn tell_texts<R: Abort>(rt: &R, codes: &[u32], texts: &[&str]) {
     }
 }
 
-// The codes of the twenty texts, which this many workers encode in a new interner.
+// The codes of the twenty texts, encoded with `workers` workers over a new interner.
 fn encode_twenty<
     R: AllocGlobal + Threads + Wait + Sync + Abort,
     S: BuildHasher + Send + Sync + Drop,
@@ -70,7 +72,7 @@ where
     Ok(codes)
 }
 
-// One worker gives the codes of the order of the texts; the codes of four follow their turns.
+// With one worker the codes follow the order of the texts; with four they depend on the workers' turns.
 #[test]
 fn equal_texts_have_equal_codes_whichever_hasher(rt: HostRuntime) -> Result<(), Fail> {
     for keys in [*b"sixteen of bytes", *b"another sixteen "] {

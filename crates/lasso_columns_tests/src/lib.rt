@@ -1,5 +1,6 @@
-//! Tests of `lasso_columns` by its public calls: whole columns, with values worked by hand, columns that several threads encode,
-//! together or in parts, dictionaries that are written and read, and the examples in the documents.
+//! Tests of `lasso_columns` through its public calls: whole columns, with values worked out by hand;
+//! columns that several threads encode, together or in parts; dictionaries that are written and read; and
+//! the examples in the doc comments.
 #![tactic(auto)]
 
 #[cfg(test)]

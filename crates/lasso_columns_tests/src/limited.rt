@@ -1,4 +1,4 @@
-//! Interners that a third text of five bytes is refused in.
+//! Interners that refuse a third text of five bytes.
 ghost use Rattle.std.specs.Prelude.{◌≡◌, ℕ, [], IfOk};
 
 use lasso::{
@@ -6,7 +6,8 @@ use lasso::{
 };
 use std::alloc::Global;
 
-/// An interner whose first bucket has 10 bytes, which two texts of five fill; the limit leaves no second one.
+/// An interner whose first bucket has 10 bytes. Two texts of five bytes fill it, and the limit of 10 bytes
+/// leaves no second bucket.
 pub fn limited(alloc: Global) -> LassoResult<SpurRodeo>
     ensures { IfOk result (λ r. (r.texts ≡ []) × (r.account.limit ≡ 10)) }
 {
@@ -15,7 +16,7 @@ pub fn limited(alloc: Global) -> LassoResult<SpurRodeo>
     Rodeo::with_capacity_and_memory_limits(alloc, capacity, limits)
 }
 
-/// The same for threads.
+/// The same, as an interner that threads share.
 pub fn limited_shared(alloc: Global) -> LassoResult<SpurThreadedRodeo> {
     let capacity = Capacity::for_bytes(10);
     let limits = MemoryLimits::new(10);

@@ -1,4 +1,4 @@
-//! Columns of 20,000 texts. What their codes are is told by the numbers that the texts print.
+//! Columns of 20,000 texts. The expected codes are computed from the numbers that the texts print.
 use crate::calls::{decode, encode, encode_lines, encode_shared, interner, merge, shared_interner};
 use crate::numbered::{codes_of, distinct, mixed, printed, repeated};
 use crate::shared::stand_for;
@@ -71,7 +71,7 @@ fn dictionaries_of_many_texts_are_merged(rt: HostRuntime) -> Result<(), Fail> {
     Ok(())
 }
 
-// The order of the list is another each time.
+// The order of the list may differ from run to run.
 #[test]
 fn threads_encode_many_texts(rt: HostRuntime) -> Result<(), Fail> {
     let numbers = mixed(rt.alloc())?;

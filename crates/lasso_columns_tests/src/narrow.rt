@@ -1,4 +1,4 @@
-//! Offsets of a width of the tests' own, that reach no further than 9.
+//! A type of offsets for the tests, whose greatest offset is 9.
 use lasso_columns::Offset;
 
 #[derive(Clone, Copy)]

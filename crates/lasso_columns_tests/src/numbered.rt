@@ -1,4 +1,4 @@
-//! Columns of texts that print numbers. What their codes are is told by the numbers alone.
+//! Columns of texts that print numbers. The expected codes are computed from the numbers.
 use std::alloc::Global;
 use std::test::Fail;
 
@@ -8,7 +8,7 @@ pub(super) const COUNT: u32 = 20_000;
 // The least number that is printed with five digits.
 const LEAST: u32 = 10_000;
 
-/// Numbers that mostly came before, each in the part of any worker too, with new ones up to the end.
+/// Numbers that mostly repeat, also within the part of any one worker. New ones come up to the end.
 pub(super) fn repeated(alloc: Global) -> Result<Vec<u32>, Fail> {
     let mut numbers = Vec::new(alloc);
     for place in 0..COUNT {
@@ -17,7 +17,7 @@ pub(super) fn repeated(alloc: Global) -> Result<Vec<u32>, Fail> {
     Ok(numbers)
 }
 
-/// Numbers no two of which are alike.
+/// Numbers that are all different: 7919 and 20,000 have no common factor.
 pub(super) fn distinct(alloc: Global) -> Result<Vec<u32>, Fail> {
     let mut numbers = Vec::new(alloc);
     for place in 0..COUNT {
@@ -36,7 +36,7 @@ pub(super) fn mixed(alloc: Global) -> Result<Vec<u32>, Fail> {
     Ok(numbers)
 }
 
-/// The texts of the numbers, of five digits each.
+/// Prints each number plus 10,000, which has five digits.
 pub(super) fn printed(alloc: Global, numbers: &[u32]) -> Result<Vec<String>, Fail> {
     let mut texts = Vec::new(alloc);
     for number in numbers {
@@ -45,7 +45,7 @@ pub(super) fn printed(alloc: Global, numbers: &[u32]) -> Result<Vec<String>, Fai
     Ok(texts)
 }
 
-/// The code of each number in a column of them: how many others came before it came first.
+/// The code of each number: how many different numbers come before its first occurrence.
 pub(super) fn codes_of(alloc: Global, numbers: &[u32]) -> Result<Vec<u32>, Fail> {
     let mut found = vec![in alloc; u32::MAX; COUNT as usize]?;
     let mut count = 0u32;

@@ -1,5 +1,5 @@
-//! Columns that are encoded in parts: whatever the number of workers, what comes out is what the numbers
-//! tell.
+//! Columns that are encoded in parts. The expected codes are computed from the numbers, and are the same
+//! for each number of workers.
 use crate::calls::{encode_in_parts, interner};
 use crate::columns::limit_refuses;
 use crate::numbered::{codes_of, distinct, mixed, printed, repeated};
@@ -14,7 +14,7 @@ use std::thread::Threads;
 
 const WORKERS: [usize; 5] = [1, 2, 3, 4, 7];
 
-// How many texts have these codes: codes are given in order.
+// How many different texts have these codes. Codes are given in order, from 0.
 fn distinct_of(codes: &[u32]) -> usize {
     match codes.iter().max() {
         Some(greatest) => *greatest as usize + 1,
@@ -37,7 +37,7 @@ fn stand_for<R: Abort, A: Allocator>(
     Ok(())
 }
 
-// Encodes the texts of the numbers by each number of workers.
+// Encodes the texts of the numbers with each number of workers.
 fn encode_all<R: AllocGlobal + Threads + Sync + Abort>(
     rt: &R,
     numbers: &[u32],
@@ -85,8 +85,8 @@ fn interner_for(alloc: Global, texts: usize) -> LassoResult<SpurRodeo> {
     Rodeo::with_capacity_and_memory_limits(alloc, capacity, MemoryLimits::new(bytes))
 }
 
-// The limit refuses the first text whose code would be `most`. The texts before it are there, and have their
-// codes.
+// The limit refuses the first text whose code would be `most`. The texts before it are interned and have
+// their codes.
 fn limit_ends<R: AllocGlobal + Threads + Sync + Abort>(
     rt: &R,
     numbers: &[u32],
@@ -155,7 +155,7 @@ fn an_empty_column_has_no_codes(rt: HostRuntime) -> Result<(), Fail> {
     Ok(())
 }
 
-// Parts so long that several threads rewrite the codes of each.
+// Parts long enough that two threads rewrite the codes of each.
 #[test]
 fn long_parts_are_rewritten(rt: HostRuntime) -> Result<(), Fail> {
     let words = ["one", "two", "three"];
@@ -173,8 +173,8 @@ fn long_parts_are_rewritten(rt: HostRuntime) -> Result<(), Fail> {
     Ok(())
 }
 
-// Each request of the caller's interner is refused once. What is left then is a beginning, and the rest is
-// encoded by a second call.
+// Each memory request of the caller's interner is refused once. The texts before the refused one then have
+// their codes, and a second call encodes the rest.
 #[test]
 fn a_refused_request_leaves_a_beginning(rt: HostRuntime) -> Result<(), Fail> {
     let numbers = repeated(rt.alloc())?;

@@ -1,4 +1,5 @@
-//! Columns that several threads encode. How they take turns is another each time, and what is looked at is the same.
+//! Columns that several threads encode. Their turns may differ from run to run; the tests check what is
+//! the same in each run.
 use crate::calls::{encode_shared, encode_shared_as, shared_interner};
 use crate::columns::limit_refuses;
 use crate::limited::limited_shared;
@@ -7,13 +8,13 @@ use std::hash::BuildHasher;
 use std::process::Abort;
 use std::test::Fail;
 
-// Five texts for each of four workers; they are a, b, c, d, e, f and g.
+// Five texts for each of four workers. The different ones are a, b, c, d, e, f and g.
 pub(super) const TWENTY: [&str; 20] = [
     "a", "b", "a", "c", "b", "d", "a", "e", "d", "a", "b", "f", "a", "c", "g", "a", "a", "e", "b",
     "d",
 ];
 
-// There is a code for each text, and it resolves to it.
+// There is one code for each text, and it resolves to the text.
 pub(super) fn stand_for<R: Abort, S: BuildHasher + Drop>(
     rt: &R,
     rodeo: &ThreadedRodeo<Spur, S>,
@@ -100,7 +101,7 @@ fn a_refused_worker_adds_no_code(rt: HostRuntime) -> Result<(), Fail> {
     Ok(())
 }
 
-// The last of four workers meets the limit at its third text, after it has interned the two that fill the bucket.
+// The last of four workers meets the limit at its third text, after the two texts that fill the bucket.
 #[test]
 fn a_limit_in_mid_column_stays_what_it_was(rt: HostRuntime) -> Result<(), Fail> {
     let rodeo = limited_shared(rt.alloc())?;
@@ -117,8 +118,8 @@ fn a_limit_in_mid_column_stays_what_it_was(rt: HostRuntime) -> Result<(), Fail> 
     Ok(())
 }
 
-// The second worker interns its text whatever the first one, which is refused, does meanwhile: the bucket has room for it all the time. One
-// worker alone would end at the first text.
+// The first worker is refused. The second interns its text whatever the first does meanwhile, since the
+// bucket always has room for it. One worker alone would stop at the first text.
 #[test]
 fn each_worker_interns_its_part(rt: HostRuntime) -> Result<(), Fail> {
     let rodeo = limited_shared(rt.alloc())?;
@@ -140,7 +141,7 @@ fn a_worker_ends_at_its_first_refused_text(rt: HostRuntime) -> Result<(), Fail> 
     Ok(())
 }
 
-// What was refused before counts no more once the limit was raised.
+// After the limit was raised, an earlier refusal has no effect.
 #[test]
 fn a_raised_limit_is_the_one_in_force(rt: HostRuntime) -> Result<(), Fail> {
     let rodeo = limited_shared(rt.alloc())?;

@@ -1,5 +1,5 @@
-//! Columns that threads encode over an interner that has texts already. The new texts of a column go into that interner, after
-//! those that it has, and its own calls resolve the codes.
+//! Columns that threads encode over an interner that already has texts. The new texts of a column are
+//! appended to that interner's list, and its own calls resolve the codes.
 use crate::calls::{encode_shared, encode_shared_as, shared_interner};
 use crate::columns::limit_refuses;
 use crate::shared::stand_for;
@@ -23,17 +23,18 @@ const THIRD: [&str; 9] = [
     "pink", "gold", "gold", "brown", "red", "black", "teal", "gold", "cyan",
 ];
 
-// The texts of the three columns in the order in which they first come, and how many had come after each column.
+// The different texts of the three columns, in the order of their first occurrences; and how many of them
+// have come up to the end of each column.
 const TEXTS: [&str; 11] = [
     "red", "green", "blue", "white", "black", "grey", "pink", "gold", "brown", "teal", "cyan",
 ];
 
 const AFTER: [usize; 3] = [4, 7, 11];
 
-// Above the bytes of the first bucket, and below those of a long text.
+// More than the bytes of the first bucket, and fewer than those of a long text.
 const LIMIT: usize = 5000;
 
-// One worker, threads for some texts each, and as many workers as a column has texts or about so.
+// The numbers of workers: one, four, and about one for each text.
 const WORKERS: [usize; 4] = [1, 4, 8, 9];
 
 // Which of the two calls encodes.
@@ -59,7 +60,7 @@ impl Call {
     }
 }
 
-// The interner has these texts first, in this order.
+// The interner's list begins with these texts, in this order.
 fn begins_with<R: Abort>(rt: &R, rodeo: &SpurThreadedRodeo, texts: &[&str]) -> Result<(), Fail> {
     for (position, text) in texts.iter().enumerate() {
         let key = Spur::try_from_usize(position).ok_or("no key")?;
@@ -68,7 +69,8 @@ fn begins_with<R: Abort>(rt: &R, rodeo: &SpurThreadedRodeo, texts: &[&str]) -> R
     Ok(())
 }
 
-// The limit is read, and refuses a long text to either way in. Then all is as before.
+// The interner's limit is `LIMIT`. It refuses a long text, whether interned or encoded. Afterwards the
+// number of texts and the limit are as before.
 fn limit_holds<R: AllocGlobal + Threads + Wait + Sync + Abort>(
     rt: &R,
     rodeo: &SpurThreadedRodeo,
@@ -91,7 +93,8 @@ fn limit_holds<R: AllocGlobal + Threads + Wait + Sync + Abort>(
     Ok(())
 }
 
-// Encodes the three columns one after another over an interner of `opening`, which none of them has.
+// Encodes the three columns one after another over an interner of the texts of `opening`, which no column
+// has.
 fn encode_three<R: AllocGlobal + Threads + Wait + Sync + Abort>(
     rt: &R,
     rodeo: &SpurThreadedRodeo,
@@ -117,7 +120,7 @@ fn encode_three<R: AllocGlobal + Threads + Wait + Sync + Abort>(
     Ok(())
 }
 
-// The same by one worker, after which the texts are in the order in which they came.
+// The same with one worker. Afterwards the texts are in the order in which they came.
 fn encode_in_order<R: AllocGlobal + Threads + Wait + Sync + Abort>(
     rt: &R,
     rodeo: &SpurThreadedRodeo,

@@ -1,4 +1,4 @@
-//! Columns of texts that are all alike, or all different, over an interner of one other text.
+//! Columns of texts that are all alike, or all different, over an interner that has one other text.
 use crate::calls::{
     decode, encode, encode_in_parts, encode_lines, interner, merge, shared_interner,
 };
@@ -13,12 +13,12 @@ use std::sync::Wait;
 use std::test::Fail;
 use std::thread::Threads;
 
-// How many texts a column has.
+// How many texts the columns have.
 const COUNTS: [u32; 6] = [2, 10, 21, 25, 64, 300];
 
 const WORKERS: [usize; 4] = [1, 3, 10, 64];
 
-// The interner's text before each column, which no column has.
+// The text that the interner has before each column, and that no column has.
 const OTHER: &str = "red";
 
 // A column's texts, and the codes that one thread gives them.
@@ -40,7 +40,7 @@ fn all_alike(alloc: Global, count: u32) -> Result<Column, Fail> {
     })
 }
 
-// The column of `count` different texts. 7919 and 10,000 have no common factor.
+// The column of `count` different texts: 7919 and 10,000 have no common factor.
 fn all_different(alloc: Global, count: u32) -> Result<Column, Fail> {
     let (mut numbers, mut codes) = (Vec::new(alloc), Vec::new(alloc));
     for place in 0..count {
@@ -75,7 +75,7 @@ fn are_texts(decoded: &[&str], texts: &[String]) -> bool {
     all
 }
 
-// Whether the codes stand for the column's texts in the interner.
+// Whether the codes decode to the column's texts.
 fn is_decoded(
     alloc: Global,
     rodeo: SpurRodeo,
@@ -118,8 +118,8 @@ fn merge_texts<R: AllocGlobal + Abort>(rt: &R, column: &Column) -> Result<(), Fa
     Ok(())
 }
 
-// Threads encode the column in parts, and then over an interner that they share, which keeps its limit and
-// its one bucket.
+// Threads encode the column in parts, and then over a shared interner, which keeps its limit and its one
+// bucket.
 fn encode_by_many<R: AllocGlobal + Threads + Wait + Sync + Abort>(
     rt: &R,
     column: &Column,
@@ -147,7 +147,7 @@ fn encode_by_many<R: AllocGlobal + Threads + Wait + Sync + Abort>(
     Ok(())
 }
 
-// Encodes and merges the column in each way.
+// Encodes the column by each call and merges it.
 fn encode_in_each_way<R: AllocGlobal + Threads + Wait + Sync + Abort>(
     rt: &R,
     column: &Column,

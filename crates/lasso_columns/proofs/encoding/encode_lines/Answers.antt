@@ -6,7 +6,7 @@ use Rattle.lasso_columns.specs.Faults.{LineMayLackMemory}
 use Rattle.lasso_columns.proofs.encoding.encode_lines.Given.{Over}
 use Rattle.lasso_columns.proofs.encoding.encode_lines.Goals as goal
 
--- a line was refused
+-- encoding ended at a line
 stopped : (g : Over) (c : goal.After-from_residual g) → LinesSoFar c.args.rodeo.now c.args.bytes.now c.args.codes.now.items c.loop-line.number c.loop-line.rest.now c.encode_line.new.rodeo c.encode_line.new.codes.items
 stopped g c =
     let told = c.in_err-encode_line.ensures in

@@ -2,7 +2,7 @@ use Rattle.std.proofs.Common.{◌+◌, ◌≤◌, length}
 use Rattle.lasso_columns.proofs.EncodedLines.{LinesSoFar}
 use Rattle.lasso_columns.proofs.encoding.encode_lines.Given as goal
 
--- the lines before the rest were encoded, and there are no more of them than bytes before it
+-- the lines before the rest were encoded, at most one for each byte before the rest
 abbrev pub invariant-loop-line : goal.invariant-loop-line
 invariant-loop-line g l = record {
   lines : LinesSoFar l.fn.rodeo l.bytes l.fn.codes.items l.number l.rest l.rodeo l.codes.items;

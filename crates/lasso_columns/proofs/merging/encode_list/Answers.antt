@@ -40,7 +40,7 @@ returns-in_err-encode_text-clause-refused g c =
     let here = list_next _ _ _ _ _ (stopped g c) _ c.text_at.ensures (λ text. IsRefused c.loop-position.into text c.in_err-encode_text.field-0.0) told.2 in
     rw (p.1, p.2, told.0) here
 
--- the codes have room for one more, so memory was wanting for the text alone
+-- the codes have room for one more, so memory can have run out only for the text
 pub returns-in_err-encode_text-clause-memory : goal.returns-in_err-encode_text-clause-memory
 returns-in_err-encode_text-clause-memory g c =
     let p = err_from_is_err_and c.from_residual.result c.from_residual.ensures.1 in

@@ -47,7 +47,7 @@ returns-clause-refused g c =
     (λ error refused.
     part_refused _ c.in-Some.part.list c.in-Some.part.codes.items c.encode_list-outcome.new.codes.items c.args.codes.now.items c.append_rewritten.new.codes.items c.args.rodeo.now c.encode_list-outcome.new.into (is_encoded g c) c.encode_list-outcome.ensures.list c.encode_list-outcome.ensures.codes (is_rewritten g c) (λ text. IsRefused c.encode_list-outcome.new.into text error) refused)
 
--- the table has room for all codes of the list, so memory was wanting for the text alone
+-- the table has room for all codes of the list, so memory can have run out only for the text
 pub returns-clause-memory : goal.returns-clause-memory
 returns-clause-memory g c =
     if_err_then _ _ c.encode_list-outcome.result c.encode_list-outcome.ensures.memory

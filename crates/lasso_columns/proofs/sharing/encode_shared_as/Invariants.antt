@@ -6,7 +6,7 @@ use Rattle.lasso_encode.specs.Codes.{AreCodes}
 use Rattle.lasso_encode.specs.Encoding.{spur_at}
 use Rattle.lasso_columns.proofs.sharing.encode_shared_as.Given as goal
 
--- the texts of the parts before have their codes in what the pass has seen
+-- the texts of the earlier parts have their codes in the list that the pass has seen
 abbrev pub invariant-loop-part : goal.invariant-loop-part
 invariant-loop-part g l = record {
   same : IsSamePass l.pass l.fn.pass;
