@@ -14,20 +14,20 @@ use Rattle.lasso_parts.proofs.TextLemmas.{position_here}
 use Rattle.lasso_log.specs.History.{Totals}
 use Rattle.lasso_log.specs.Notes.{NoteView, history, state}
 use Rattle.lasso_encode.specs.Codes.{AreCodes}
-use Rattle.lasso_lines.specs.Shares.{line_at, share, AreInBefore, HasCodes, IsLower, IsRefusedBy, Refusal}
+use Rattle.lasso_lines.specs.Shares.{line_at, share, AreInBefore, HasCodes, IsLower, IsRefusedBy, NumberedError}
 use Rattle.lasso_lines.proofs.Named.{each_found}
 use Rattle.lasso_lines.proofs.ShareLines.{share_has, share_reaches}
 
 -- the line at this position comes before the lowest refusal, if there is one
-abbrev pub ComesBefore : Option Refusal → ℕ → Type 0
+abbrev pub ComesBefore : Option NumberedError → ℕ → Type 0
 ComesBefore None i = Unit {0}
 ComesBefore (Some refusal) i = i + 1 < refusal.0
 
 -- the lines of the first workers that come before the lowest refusal are in the list
-abbrev pub AreReached : List Text → List Text → (workers done : ℕ) → Option Refusal → Type 0
+abbrev pub AreReached : List Text → List Text → (workers done : ℕ) → Option NumberedError → Type 0
 AreReached list lines workers done lowest = (i : ℕ) → i < length lines → i % workers < done → ComesBefore lowest i → Contains list (line_at lines i)
 
-pub reached_none : (list lines : List Text) (workers : ℕ) (lowest : Option Refusal) → AreReached list lines workers 0 lowest
+pub reached_none : (list lines : List Text) (workers : ℕ) (lowest : Option NumberedError) → AreReached list lines workers 0 lowest
 reached_none list lines workers lowest = λ i small none before. absurd (omega arith)
 
 -- what a list has, each one has that it begins
@@ -63,44 +63,44 @@ before_refused list lines worker workers n i reached mine small =
 -- ---- one worker more
 
 module _ (o : Totals) (before known after : List NoteView) (lines : List Text) (workers done : ℕ) (begins : IsPrefix (state o before).texts (state o after).texts) (knows : IsPrefix (state o known).texts (state o after).texts) where
-  earlier_reached : (lowest : Option Refusal) (i : ℕ) → AreReached (state o before).texts lines workers done lowest → i < length lines → i % workers < done → ComesBefore lowest i → Contains (state o after).texts (line_at lines i)
+  earlier_reached : (lowest : Option NumberedError) (i : ℕ) → AreReached (state o before).texts lines workers done lowest → i < length lines → i % workers < done → ComesBefore lowest i → Contains (state o after).texts (line_at lines i)
   earlier_reached lowest i reached small earlier comes = still_there (state o before).texts (state o after).texts (line_at lines i) begins (reached i small earlier comes)
 
-  whole_reached : (lowest : Option Refusal) (codes : List ℕ) (i : ℕ) → AreReached (state o before).texts lines workers done lowest → HasCodes (state o known).texts lines done workers codes → i < length lines → ((i % workers < done) ⊎ (done ≤ i % workers)) → i % workers < done + 1 → ComesBefore lowest i → Contains (state o after).texts (line_at lines i)
+  whole_reached : (lowest : Option NumberedError) (codes : List ℕ) (i : ℕ) → AreReached (state o before).texts lines workers done lowest → HasCodes (state o known).texts lines done workers codes → i < length lines → ((i % workers < done) ⊎ (done ≤ i % workers)) → i % workers < done + 1 → ComesBefore lowest i → Contains (state o after).texts (line_at lines i)
   whole_reached lowest codes i reached has small (inl earlier) below comes = earlier_reached lowest i reached small earlier comes
   whole_reached lowest codes i reached has small (inr its) below comes =
       still_there (state o known).texts (state o after).texts (line_at lines i) knows
       (coded_there (state o known).texts (share lines done workers has.0) codes (line_at lines i) has.2 (share_reaches lines done workers has.0 i has.1 small (omega arith)))
 
   -- the lowest refusal is at most the one before and the new one
-  lower_bounds : (first other result : Refusal) → ((other.0 < first.0) ⊎ (first.0 ≤ other.0)) → IsLower (Some first) other result → (result.0 ≤ first.0) × (result.0 ≤ other.0)
-  lower_bounds first other result (inl higher) is = let same = ap (λ (r : Refusal). r.0) (is.1 higher) in (omega (arith, same, higher), omega (arith, same))
-  lower_bounds first other result (inr lower) is = let same = ap (λ (r : Refusal). r.0) (is.0 lower) in (omega (arith, same), omega (arith, same, lower))
+  lower_bounds : (first other result : NumberedError) → ((other.0 < first.0) ⊎ (first.0 ≤ other.0)) → IsLower (Some first) other result → (result.0 ≤ first.0) × (result.0 ≤ other.0)
+  lower_bounds first other result (inl higher) is = let same = ap (λ (r : NumberedError). r.0) (is.1 higher) in (omega (arith, same, higher), omega (arith, same))
+  lower_bounds first other result (inr lower) is = let same = ap (λ (r : NumberedError). r.0) (is.0 lower) in (omega (arith, same), omega (arith, same, lower))
 
-  below_first : (lowest : Option Refusal) (other result : Refusal) (i : ℕ) → IsLower lowest other result → i + 1 < result.0 → ComesBefore lowest i
+  below_first : (lowest : Option NumberedError) (other result : NumberedError) (i : ℕ) → IsLower lowest other result → i + 1 < result.0 → ComesBefore lowest i
   below_first None other result i is comes = tt
   below_first (Some first) other result i is comes = omega (arith, comes, (lower_bounds first other result (cases_lt other.0 first.0) is).0)
 
-  below_other : (lowest : Option Refusal) (other result : Refusal) → IsLower lowest other result → result.0 ≤ other.0
-  below_other None other result is = omega (arith, ap (λ (r : Refusal). r.0) is)
+  below_other : (lowest : Option NumberedError) (other result : NumberedError) → IsLower lowest other result → result.0 ≤ other.0
+  below_other None other result is = omega (arith, ap (λ (r : NumberedError). r.0) is)
   below_other (Some first) other result is = (lower_bounds first other result (cases_lt other.0 first.0) is).1
 
-  part_reached : (lowest : Option Refusal) (other result : Refusal) (i : ℕ) → AreReached (state o before).texts lines workers done lowest → IsRefusedBy o (history known) lines done workers other → IsLower lowest other result → i < length lines → ((i % workers < done) ⊎ (done ≤ i % workers)) → i % workers < done + 1 → i + 1 < result.0 → Contains (state o after).texts (line_at lines i)
+  part_reached : (lowest : Option NumberedError) (other result : NumberedError) (i : ℕ) → AreReached (state o before).texts lines workers done lowest → IsRefusedBy o (history known) lines done workers other → IsLower lowest other result → i < length lines → ((i % workers < done) ⊎ (done ≤ i % workers)) → i % workers < done + 1 → i + 1 < result.0 → Contains (state o after).texts (line_at lines i)
   part_reached lowest other result i reached why is small (inl earlier) below comes = earlier_reached lowest i reached small earlier (below_first lowest other result i is comes)
   part_reached lowest other result i reached why is small (inr its) below comes =
       let least = below_other lowest other result is in
       still_there (state o known).texts (state o after).texts (line_at lines i) knows
       (before_refused (state o known).texts lines done workers why.0 i why.4 (omega arith) (omega (arith, comes, least, why.2)))
 
-  some_reached : (lowest next : Option Refusal) (other : Refusal) → AreReached (state o before).texts lines workers done lowest → IsRefusedBy o (history known) lines done workers other → IsSomeAnd next (IsLower lowest other) → AreReached (state o after).texts lines workers (done + 1) next
+  some_reached : (lowest next : Option NumberedError) (other : NumberedError) → AreReached (state o before).texts lines workers done lowest → IsRefusedBy o (history known) lines done workers other → IsSomeAnd next (IsLower lowest other) → AreReached (state o after).texts lines workers (done + 1) next
   some_reached lowest None other reached why is = absurd is
   some_reached lowest (Some result) other reached why is = λ i small below comes. part_reached lowest other result i reached why is small (cases_lt (i % workers) done) below comes
 
   -- the lines that come before the lowest refusal, once the worker's outcome was looked at
-  pub reached_of_worker : {A : Type 0} (lowest next : Option Refusal) (outcome : Result (Vec ℕ A) Refusal) → AreReached (state o before).texts lines workers done lowest → MatchResult outcome (λ codes. HasCodes (state o known).texts lines done workers codes.items) (IsRefusedBy o (history known) lines done workers) → MatchResult outcome (λ _. next ≡ lowest) (λ refusal. IsSomeAnd next (IsLower lowest refusal)) → AreReached (state o after).texts lines workers (done + 1) next
+  pub reached_of_worker : {A : Type 0} (lowest next : Option NumberedError) (outcome : Result (Vec ℕ A) NumberedError) → AreReached (state o before).texts lines workers done lowest → MatchResult outcome (λ codes. HasCodes (state o known).texts lines done workers codes.items) (IsRefusedBy o (history known) lines done workers) → MatchResult outcome (λ _. next ≡ lowest) (λ refusal. IsSomeAnd next (IsLower lowest refusal)) → AreReached (state o after).texts lines workers (done + 1) next
   reached_of_worker lowest next (Ok codes) reached has is = subst (AreReached (state o after).texts lines workers (done + 1)) (sym is) (λ i small below comes. whole_reached lowest codes.items i reached has small (cases_lt (i % workers) done) below comes)
   reached_of_worker lowest next (Err other) reached why is = some_reached lowest next other reached why is
 
 -- all workers were looked at
-pub all_before : (list lines : List Text) (workers done number : ℕ) (refusal : Refusal) → 0 < workers → workers ≤ done → number ≤ length lines → refusal.0 ≡ number → AreReached list lines workers done (Some refusal) → AreInBefore list lines number
+pub all_before : (list lines : List Text) (workers done number : ℕ) (refusal : NumberedError) → 0 < workers → workers ≤ done → number ≤ length lines → refusal.0 ≡ number → AreReached list lines workers done (Some refusal) → AreInBefore list lines number
 all_before list lines workers done number refusal some all inside is reached = λ i small. reached i (omega (arith, small, inside)) (omega (arith, mod_below i workers some, all)) (omega (arith, small, is))

@@ -32,8 +32,8 @@ abbrev pub HasCodes : List Text → List Text → (worker workers : ℕ) → Lis
 HasCodes list lines worker workers codes = (count : ℕ) × IsShare lines worker workers count × AreCodes list (share lines worker workers count) codes
 
 -- a refused line: its number, counted from 1, and the reason
-abbrev pub Refusal : Type 0
-Refusal = ℕ × LassoErrorKind
+abbrev pub NumberedError : Type 0
+NumberedError = ℕ × LassoErrorKind
 
 -- out of memory; or somewhere in this history interning one of the texts may be refused with this error
 abbrev pub IsRefusalIn : Totals → History → List Text → LassoErrorKind → Type 0
@@ -43,7 +43,7 @@ IsRefusalIn opening past texts error =
 
 -- one of the worker's lines was refused: the number is that line's, and the reason is out of memory, or one with which interning
 -- this line may be refused somewhere in the history; the worker's lines before it are in the list that the history leads to
-abbrev pub IsRefusedBy : Totals → History → List Text → (worker workers : ℕ) → Refusal → Type 0
+abbrev pub IsRefusedBy : Totals → History → List Text → (worker workers : ℕ) → NumberedError → Type 0
 IsRefusedBy opening past lines worker workers refusal =
     (n : ℕ)
     × (worker + n * workers < length lines)
@@ -52,7 +52,7 @@ IsRefusedBy opening past lines worker workers refusal =
     × ((j : ℕ) → j < n → Contains (totals opening past).texts (line_at lines (worker + j * workers)))
 
 -- a line of whichever worker was refused, for such a reason
-abbrev pub IsRefusedIn : Totals → History → List Text → Refusal → Type 0
+abbrev pub IsRefusedIn : Totals → History → List Text → NumberedError → Type 0
 IsRefusedIn opening past lines refusal =
     (i : ℕ) × (i < length lines) × (refusal.0 ≡ i + 1) × IsRefusalIn opening past (line_at lines i ∷ []) refusal.1
 
@@ -61,7 +61,7 @@ abbrev pub AreInBefore : List Text → List Text → ℕ → Type 0
 AreInBefore list lines number = (i : ℕ) → i + 1 < number → Contains list (line_at lines i)
 
 -- such a refusal is the lowest one: all lines before it are in the list that the history leads to
-abbrev pub IsLowestRefusedIn : Totals → History → List Text → Refusal → Type 0
+abbrev pub IsLowestRefusedIn : Totals → History → List Text → NumberedError → Type 0
 IsLowestRefusedIn opening past lines refusal = IsRefusedIn opening past lines refusal × AreInBefore (totals opening past).texts lines refusal.0
 
 -- the fault is the lowest refusal; or out of memory where no line was at hand
@@ -70,12 +70,12 @@ IsRefusalOf opening past lines (Refused number error) = ((number ≡ 0) × (erro
 IsRefusalOf opening past lines _ = ⊥
 
 -- the result is the refusal of the lower line, with its own reason
-abbrev pub IsLower : Option Refusal → Refusal → Refusal → Type 0
+abbrev pub IsLower : Option NumberedError → NumberedError → NumberedError → Type 0
 IsLower None other result = result ≡ other
 IsLower (Some refusal) other result = (refusal.0 ≤ other.0 → result ≡ refusal) × (other.0 < refusal.0 → result ≡ other)
 
 -- what was seen of the interner, in whose list the worker's lines have these codes; or one of them was refused there
-abbrev pub IsShareOf : {A : Type 0} → InternerId → List Text → (worker workers : ℕ) → SnapshotView → Result (Vec ℕ A) Refusal → Type 0
+abbrev pub IsShareOf : {A : Type 0} → InternerId → List Text → (worker workers : ℕ) → SnapshotView → Result (Vec ℕ A) NumberedError → Type 0
 IsShareOf of lines worker workers known outcome =
     (known.of ≡ of)
     × MatchResult outcome

@@ -21,14 +21,14 @@ use std::thread::{Threads, map_indices};
 mod tests;
 
 // A line that was refused, by its number, and why.
-type Refusal = (u64, LassoError);
+type NumberedError = (u64, LassoError);
 
 // What a worker gives back: what its pass has seen of the interner, and the positions of its lines' texts in order, or
 // the first of its lines that was refused.
 #[derive(Drop)]
 struct Share {
     known: Snapshot<Spur>,
-    codes: Result<Vec<u32>, Refusal>,
+    codes: Result<Vec<u32>, NumberedError>,
 }
 
 // Has the workers intern the lines. Returns the positions of the lines' texts in the list that the pass has then seen,
@@ -73,9 +73,9 @@ pub(crate) fn share_out<R: AllocGlobal + Threads + Wait + Sync, G: Gate>(
 // Adds the positions that a worker gave back, or keeps the lowest line that was refused.
 fn add_codes(
     codes: &mut Vec<u32>,
-    lowest: Option<Refusal>,
-    outcome: &Result<Vec<u32>, Refusal>,
-) -> Result<Option<Refusal>, RunFault>
+    lowest: Option<NumberedError>,
+    outcome: &Result<Vec<u32>, NumberedError>,
+) -> Result<Option<NumberedError>, RunFault>
     ensures fault { IfErr result (λ fault. fault ≡ Refused 0 FailedAllocation) }
     ensures lowest { IfOk result (λ next. MatchResult outcome.now (λ _. next ≡ lowest) (λ refusal. IsSomeAnd next (IsLower lowest refusal))) }
     ensures added { IfOk result (λ next. next ≡ None → (lowest ≡ None) × MatchResult outcome.now (λ more. codes.new.items ≡ codes.old.items ++ more.items) (λ _. ⊥)) }
@@ -92,7 +92,7 @@ fn add_codes(
 }
 
 // The refusal of the lower line.
-fn lower(lowest: Option<Refusal>, other: &Refusal) -> Refusal
+fn lower(lowest: Option<NumberedError>, other: &NumberedError) -> NumberedError
     ensures { IsLower lowest other.now result }
 {
     match lowest {
@@ -130,7 +130,7 @@ fn intern_by<R: AllocGlobal + Wait, G: Gate>(
     worker: usize,
     workers: usize,
     gate: &G,
-) -> Result<Vec<u32>, Refusal>
+) -> Result<Vec<u32>, NumberedError>
     requires some { 0 < workers }
     requires of { pass.old.of ≡ rodeo.now }
     ensures of { pass.new.of ≡ rodeo.now }
@@ -157,7 +157,7 @@ fn intern_line<R: Wait>(
     line: &str,
     number: u64,
     codes: &mut Vec<u32>,
-) -> Result<(), Refusal>
+) -> Result<(), NumberedError>
     requires { pass.old.of ≡ rodeo.now }
     ensures of { pass.new.of ≡ rodeo.now }
     ensures number { IfErr result (λ refusal. refusal.0 ≡ number) }

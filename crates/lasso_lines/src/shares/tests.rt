@@ -1,5 +1,5 @@
 //! Workers one after the other on one thread, in either order.
-use super::{Refusal, add_codes, intern_share};
+use super::{NumberedError, add_codes, intern_share};
 use crate::workers::OpenGate;
 use lasso::{Capacity, LassoError, LassoErrorKind, MemoryLimits, SpurThreadedRodeo, ThreadedRodeo};
 use std::sync::Wait;
@@ -7,7 +7,10 @@ use std::test::Fail;
 
 // Which line is told where the workers take their turns in this order. The second and the third line are refused: the first bucket has
 // room for neither, and the limit leaves none for another.
-fn told_after<R: AllocGlobal + Wait>(rt: &R, order: [usize; 2]) -> Result<Option<Refusal>, Fail> {
+fn told_after<R: AllocGlobal + Wait>(
+    rt: &R,
+    order: [usize; 2],
+) -> Result<Option<NumberedError>, Fail> {
     let long = String::from_utf8(vec![in rt.alloc(); b'a'; 4097]?)?;
     let longer = String::from_utf8(vec![in rt.alloc(); b'b'; 4098]?)?;
     let lines = ["c", long.as_str(), longer.as_str(), "d"];
