@@ -1,7 +1,8 @@
--- Why the refused line that is told is the lowest one.
+-- Why the refused line that is reported is the lowest one.
 --
--- A worker stops at the first of its lines that is refused, so its lines before that one are in the list; and where none is refused, all of them are.
--- The lowest refusal of some workers is at most each one's. So each of their lines that comes before it is in the list, which only grows.
+-- A worker stops at its first refused line, so its lines before that one are in the list. If none is
+-- refused, all of its lines are. The lowest refused line of some workers is at most that of each. So each
+-- of their lines before it is in the list, which only grows.
 use Rattle.std.proofs.Common.{ℕ, ◌≡◌, ◌+◌, ◌*◌, ◌/◌, ◌%◌, ◌<◌, ◌≤◌, ◌⊎◌, inl, inr, List, length, Option, Some, None, Result, Ok, Err, Vec, sym, subst, ap, arith, div-add-mod', mul-le-mul_right}
 use Rattle.std.specs.Prelude.{Contains, IsSomeAnd, MatchResult, slice_get}
 use Rattle.std.proofs.lemmas.Bool.{cases_lt}
@@ -18,33 +19,33 @@ use Rattle.lasso_lines.specs.Shares.{line_at, share, AreInBefore, HasCodes, IsLo
 use Rattle.lasso_lines.proofs.Named.{each_found}
 use Rattle.lasso_lines.proofs.ShareLines.{share_has, share_reaches}
 
--- the line at this position comes before the lowest refusal, if there is one
+-- the line at this position comes before the lowest refused line, if there is one
 abbrev pub ComesBefore : Option NumberedError → ℕ → Type 0
 ComesBefore None i = Unit {0}
 ComesBefore (Some refusal) i = i + 1 < refusal.0
 
--- the lines of the first workers that come before the lowest refusal are in the list
+-- the lines of the first `done` workers that come before the lowest refused line are in the list
 abbrev pub AreReached : List Text → List Text → (workers done : ℕ) → Option NumberedError → Type 0
 AreReached list lines workers done lowest = (i : ℕ) → i < length lines → i % workers < done → ComesBefore lowest i → Contains list (line_at lines i)
 
 pub reached_none : (list lines : List Text) (workers : ℕ) (lowest : Option NumberedError) → AreReached list lines workers 0 lowest
 reached_none list lines workers lowest = λ i small none before. absurd (omega arith)
 
--- what a list has, each one has that it begins
+-- a text in a list is in each list that begins with it
 pub still_there : (list later : List Text) (text : Text) → IsPrefix list later → Contains list text → Contains later text
 still_there list later text begins there = subst (λ (ts : List Text). Contains ts text) begins.1 (Contains-append_left list begins.0 text there)
 
--- a text that is found at a position is there
+-- a text at a position of the list is in the list
 stands_there : (list : List Text) (text : Text) (n : ℕ) → slice_get list n ≡ Some text → Contains list text
 stands_there list text n is = subst (Contains list) (get_or_from_slice_get list n text text is) (Contains-get_or list n text (slice_get_within list n text is))
 
--- a text that has a code is in the list
+-- a text with a code is in the list
 pub coded_there : (list texts : List Text) (codes : List ℕ) (text : Text) → AreCodes list texts codes → Contains texts text → Contains list text
 coded_there list texts codes text are there =
     let found = each_found (position_of list) texts codes text are there in
     stands_there list text found.0 (position_here list text found.0 found.2)
 
--- a worker's lines that have codes are in the list
+-- a worker's lines with codes are in the list
 pub lines_coded : (list lines : List Text) (worker workers count : ℕ) (codes : List ℕ) → AreCodes list (share lines worker workers count) codes → (j : ℕ) → j < count → Contains list (line_at lines (worker + j * workers))
 lines_coded list lines worker workers count codes are j small =
     coded_there list (share lines worker workers count) codes (line_at lines (worker + j * workers)) are (share_has lines worker workers count j small)
@@ -53,14 +54,14 @@ below_times : (i worker workers j n : ℕ) → i ≡ worker + j * workers → i 
 below_times i worker workers j n is small (inl below) = below
 below_times i worker workers j n is small (inr above) = let far : n * workers ≤ j * workers = mul-le-mul_right workers above in absurd (omega (arith, is, far))
 
--- a worker's line that comes before the refused one is one of those before it
+-- a worker's lines before its refused line are in the list
 before_refused : (list lines : List Text) (worker workers n i : ℕ) → ((j : ℕ) → j < n → Contains list (line_at lines (worker + j * workers))) → i % workers ≡ worker → i < worker + n * workers → Contains list (line_at lines i)
 before_refused list lines worker workers n i reached mine small =
     let j = i / workers in
     let is : i ≡ worker + j * workers = omega (arith, div-add-mod' i workers) in
     subst (λ k. Contains list (line_at lines k)) (sym is) (reached j (below_times i worker workers j n is small (cases_lt j n)))
 
--- ---- one worker more
+-- ---- one more worker
 
 module _ (o : Totals) (before known after : List NoteView) (lines : List Text) (workers done : ℕ) (begins : IsPrefix (state o before).texts (state o after).texts) (knows : IsPrefix (state o known).texts (state o after).texts) where
   earlier_reached : (lowest : Option NumberedError) (i : ℕ) → AreReached (state o before).texts lines workers done lowest → i < length lines → i % workers < done → ComesBefore lowest i → Contains (state o after).texts (line_at lines i)
@@ -72,7 +73,7 @@ module _ (o : Totals) (before known after : List NoteView) (lines : List Text) (
       still_there (state o known).texts (state o after).texts (line_at lines i) knows
       (coded_there (state o known).texts (share lines done workers has.0) codes (line_at lines i) has.2 (share_reaches lines done workers has.0 i has.1 small (omega arith)))
 
-  -- the lowest refusal is at most the one before and the new one
+  -- the new lowest refused line is at most the one before and at most the worker's
   lower_bounds : (first other result : NumberedError) → ((other.0 < first.0) ⊎ (first.0 ≤ other.0)) → IsLower (Some first) other result → (result.0 ≤ first.0) × (result.0 ≤ other.0)
   lower_bounds first other result (inl higher) is = let same = ap (λ (r : NumberedError). r.0) (is.1 higher) in (omega (arith, same, higher), omega (arith, same))
   lower_bounds first other result (inr lower) is = let same = ap (λ (r : NumberedError). r.0) (is.0 lower) in (omega (arith, same), omega (arith, same, lower))
@@ -96,11 +97,11 @@ module _ (o : Totals) (before known after : List NoteView) (lines : List Text) (
   some_reached lowest None other reached why is = absurd is
   some_reached lowest (Some result) other reached why is = λ i small below comes. part_reached lowest other result i reached why is small (cases_lt (i % workers) done) below comes
 
-  -- the lines that come before the lowest refusal, once the worker's outcome was looked at
+  -- the lines before the lowest refused line, after one more worker
   pub reached_of_worker : {A : Type 0} (lowest next : Option NumberedError) (outcome : Result (Vec ℕ A) NumberedError) → AreReached (state o before).texts lines workers done lowest → MatchResult outcome (λ codes. HasCodes (state o known).texts lines done workers codes.items) (IsRefusedBy o (history known) lines done workers) → MatchResult outcome (λ _. next ≡ lowest) (λ refusal. IsSomeAnd next (IsLower lowest refusal)) → AreReached (state o after).texts lines workers (done + 1) next
   reached_of_worker lowest next (Ok codes) reached has is = subst (AreReached (state o after).texts lines workers (done + 1)) (sym is) (λ i small below comes. whole_reached lowest codes.items i reached has small (cases_lt (i % workers) done) below comes)
   reached_of_worker lowest next (Err other) reached why is = some_reached lowest next other reached why is
 
--- all workers were looked at
+-- after all workers
 pub all_before : (list lines : List Text) (workers done number : ℕ) (refusal : NumberedError) → 0 < workers → workers ≤ done → number ≤ length lines → refusal.0 ≡ number → AreReached list lines workers done (Some refusal) → AreInBefore list lines number
 all_before list lines workers done number refusal some all inside is reached = λ i small. reached i (omega (arith, small, inside)) (omega (arith, mod_below i workers some, all)) (omega (arith, small, is))

@@ -59,7 +59,7 @@ returns-clause-codes g c =
     gathered_all (list_of c.args.rodeo.now c.loop-share.pass.notes) lines c.args.workers c.loop-share.share c.loop-share.codes.items c.requires.some
     (omega (arith, c.loop-share-test.false, c.len-share-end.ensures, c.in-Ok.ensures.len)) (c.loop-share.invariant.gathered c.in-None.is)
 
--- the lowest line that was refused, after all workers were looked at
+-- the lowest refused line, after all workers
 pub returns-in-Some-clause-refused : goal.returns-in-Some-clause-refused
 returns-in-Some-clause-refused g c =
     let of = c.args.rodeo.now in
