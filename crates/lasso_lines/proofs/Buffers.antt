@@ -1,7 +1,8 @@
 -- What buffered readers and writers do to known bytes.
 --
--- A reader's bytes are those of its buffer, and then those that the inner one has left. A writer's are those that the
--- inner one holds, and then those of its buffer. Where the inner one's are not known, nothing is said.
+-- A reader's bytes are those in its buffer, and then those left in the inner reader. A writer's bytes are
+-- those in the inner writer, and then those in its buffer. If the inner bytes are not known, nothing is
+-- said.
 use Rattle.std.proofs.Common.{ℕ, zero, suc, ◌≡◌, ◌+◌, ◌-◌, ◌<◌, ◌≤◌, List, [], ◌∷◌, ◌++◌, length, take, drop, Option, Some, None, ap, sym, subst, ◌∙◌, refl, arith, append_assoc, append-nil, length-drop, length-take}
 use Rattle.std.specs.Io.KnownBytes.{prepend_known, Consumes, IsAtEnd, Keeps, Appends}
 use Rattle.lasso_lines.specs.Stream.{Grows, OnlyGrows, Stays, Loses, ComeFirst, Ended, written}
@@ -57,7 +58,7 @@ grows_not None known' keeps = λ held e. cc
 grows_not (Some xs) None keeps = absurd keeps
 grows_not (Some xs) (Some ys) keeps = λ held e. let same : xs ≡ held = cc in ([], ap (λ b. Some b) (keeps ∙ same ∙ sym (append-nil held)), tt)
 
--- the inner writer takes the first of the pending bytes
+-- the inner writer takes the first n pending bytes
 pub sends_front : (known known' : Option (List ℕ)) (pending left : List ℕ) (n : ℕ) → Appends known known' (take n pending) → left ≡ drop n pending → Stays (written known (Some pending)) (written known' (Some left))
 sends_front None known' pending left n appends is = λ held e. cc
 sends_front (Some xs) None pending left n appends is = absurd appends
@@ -90,7 +91,7 @@ drop_nil : (n : ℕ) → ◌≡◌ {A = List ℕ} (drop n []) []
 drop_nil zero = refl
 drop_nil (suc n) = refl
 
--- none are at hand
+-- the buffer is empty
 pub none_at_hand : (used filled : ℕ) (bytes : List ℕ) → filled ≤ used → drop used (take filled bytes) ≡ []
 none_at_hand used zero bytes small = drop_nil used
 none_at_hand zero (suc filled) bytes small = absurd (omega arith)
@@ -110,7 +111,7 @@ take_drop (suc used) zero n bytes e = absurd (omega arith)
 take_drop (suc used) (suc filled) n [] e = take_nil n
 take_drop (suc used) (suc filled) n (b ∷ bytes) e = take_drop used filled n bytes (omega arith)
 
--- the bytes that are buffer, as the code cuts them out
+-- the bytes in the buffer, as the code slices them
 pub cut_out : (used filled : ℕ) (bytes buffer : List ℕ) → used ≤ filled → bytes ≡ buffer → take (filled - used) (drop used bytes) ≡ drop used (take filled buffer)
 cut_out used filled bytes buffer small same = take_drop used filled (filled - used) bytes (omega arith) ∙ ap (λ bs. drop used (take filled bs)) same
 
@@ -118,7 +119,7 @@ take_whole : (bytes : List ℕ) → take (length bytes) bytes ≡ bytes
 take_whole [] = refl
 take_whole (b ∷ bytes) = ap (λ bs. b ∷ bs) (take_whole bytes)
 
--- the bytes that are pending, as the code cuts them out
+-- the pending bytes, as the code slices them
 pub cut_rest : (sent : ℕ) (bytes buffer : List ℕ) → sent ≤ length bytes → bytes ≡ buffer → take (length bytes - sent) (drop sent bytes) ≡ drop sent buffer
 cut_rest sent bytes buffer small same = take_drop sent (length bytes) (length bytes - sent) bytes (omega arith) ∙ ap (λ bs. drop sent bs) (take_whole bytes ∙ same)
 
@@ -126,7 +127,7 @@ take_front : (front back : List ℕ) → take (length front) (front ++ back) ≡
 take_front [] back = refl
 take_front (x ∷ front) back = ap (λ bs. x ∷ bs) (take_front front back)
 
--- a read fills the whole buffer anew
+-- after a read of `len` bytes the buffer begins with them
 pub buffer_read : (bytes old : List ℕ) (len : ℕ) → length bytes ≡ len → take len (bytes ++ drop (length bytes) old) ≡ bytes
 buffer_read bytes old len same = ap (λ n. take n (bytes ++ drop (length bytes) old)) (sym same) ∙ take_front bytes (drop (length bytes) old)
 
@@ -136,7 +137,7 @@ refilled_by bs got got' known known' none is took = subst (λ gs. Stays (prepend
 pub kept_none : (bs bs' : List ℕ) (known known' : Option (List ℕ)) → bs ≡ [] → bs' ≡ [] → Keeps known known' → Stays (prepend_known bs known) (prepend_known bs' known')
 kept_none bs bs' known known' none none' keeps = subst (λ cs. Stays (prepend_known bs known) (prepend_known cs known')) (none ∙ sym none') (kept_front bs known known' keeps)
 
--- an empty buffer stands in front of the other bytes
+-- an empty buffer adds no bytes to those of the inner reader
 pub prepend_nothing : (known : Option (List ℕ)) → prepend_known [] known ≡ known
 prepend_nothing None = refl
 prepend_nothing (Some xs) = refl

@@ -1,7 +1,7 @@
--- The texts at the positions that are marked.
+-- The texts at marked positions.
 --
--- A mark keeps the text at its position, and the others are left out. So what is kept is at a marked position, and each text at one
--- is kept; and of a distinct list no text is kept twice.
+-- A mark chooses the text at its position. So every chosen text is at a marked position, and every text at
+-- a marked position is chosen. In a distinct list no text is chosen twice.
 use Rattle.std.proofs.Common.{ℕ, zero, suc, ◌≡◌, ◌+◌, ◌<◌, ◌≤◌, List, [], ◌∷◌, ◌++◌, length, get_or, Bool, true, false, cond, Some, refl, sym, ap, subst, ◌∙◌, drop, drop-cons, add-one, replicate, arith, ◌⊎◌, inl, inr}
 use Rattle.std.specs.Prelude.{Contains, slice_get}
 use Rattle.std.specs.List.{IsDistinct, AllByRecursion}
@@ -11,7 +11,7 @@ use Rattle.std.proofs.lemmas.List.Elements.{Contains-push, Contains-push_cases, 
 use Rattle.lasso_parts.specs.Texts.{Text}
 use Rattle.lasso_lines.proofs.Fronts.{Compared, lower, same, higher, compared}
 
--- the texts that are marked
+-- the texts at marked positions
 abbrev pub chosen : List Bool → List Text → List Text
 chosen [] texts = []
 chosen (mark ∷ marks) [] = []
@@ -34,7 +34,7 @@ here_or_later x xs text (suc k, small, is) = inr (k, omega arith, is)
 later_contained : (x : Text) (xs : List Text) (text : Text) → Contains xs text → Contains (x ∷ xs) text
 later_contained x xs text (k, small, is) = (suc k, omega arith, is)
 
--- what is kept is marked
+-- a chosen text is marked
 pub chosen_marked : (marks : List Bool) (texts : List Text) (text : Text) → Contains (chosen marks texts) text → IsMarked marks texts text
 chosen_marked [] texts text there = absurd (omega (arith, there.1))
 chosen_marked (mark ∷ marks) [] text there = absurd (omega (arith, there.1))
@@ -44,7 +44,7 @@ chosen_marked (true ∷ marks) (first ∷ texts) text there = elim (here_or_late
   | inr later ↦ later_marked true marks first texts text (chosen_marked marks texts text later)
 ]
 
--- what is marked is kept
+-- a marked text is chosen
 pub marked_chosen : (marks : List Bool) (texts : List Text) (text : Text) (k : ℕ) → get_or marks k false ≡ true → slice_get texts k ≡ Some text → Contains (chosen marks texts) text
 marked_chosen [] texts text k is there = cc
 marked_chosen (mark ∷ marks) [] text k is there = cc
@@ -59,7 +59,7 @@ all_chosen P (mark ∷ marks) [] all = tt
 all_chosen P (true ∷ marks) (text ∷ texts) all = (all.0, all_chosen P marks texts all.1)
 all_chosen P (false ∷ marks) (text ∷ texts) all = all_chosen P marks texts all.1
 
--- texts that are apart stay so
+-- distinct texts stay distinct
 pub distinct_chosen : (marks : List Bool) (texts : List Text) → IsDistinct bytes_eq texts → IsDistinct bytes_eq (chosen marks texts)
 unfolding IsDistinct
 distinct_chosen [] texts apart = tt
@@ -73,29 +73,29 @@ first_marked : (mark : Bool) (marks : List Bool) (text : Text) (texts : List Tex
 first_marked true marks text texts = refl
 first_marked false marks text texts = refl
 
--- the text of the mark at a position, and those after it
+-- the text at position k if its mark is set, and then the texts chosen by the later marks
 pub chosen_next : (marks : List Bool) (k : ℕ) (d : Bool) (text : Text) (rest strings : List Text) → k < length marks → strings ≡ text ∷ rest → chosen (drop k marks) strings ≡ cond (get_or marks k d) (text ∷ []) [] ++ chosen (drop (k + 1) marks) rest
 chosen_next marks k d text rest strings small ahead =
     let mark = get_or marks k d in
     let here : drop k marks ≡ mark ∷ drop (k + 1) marks = drop-cons marks k d small ∙ ap (λ n. mark ∷ drop n marks) (sym (add-one k)) in
     ap (λ ms. chosen ms strings) here ∙ ap (λ ts. chosen (mark ∷ drop (k + 1) marks) ts) ahead ∙ first_marked mark (drop (k + 1) marks) text rest
 
--- none is left past the last mark
+-- no text is chosen after the last mark
 pub chosen_past : (marks : List Bool) (k : ℕ) (strings : List Text) → length marks ≤ k → chosen (drop k marks) strings ≡ []
 chosen_past marks k strings past = ap (λ ms. chosen ms strings) (drop_all k marks past)
 
--- none is left past the last text
+-- no text is chosen after the last text
 pub chosen_ended : (marks : List Bool) (strings : List Text) → strings ≡ [] → chosen marks strings ≡ []
 chosen_ended marks strings none = ap (chosen marks) none ∙ none_marked marks
 
 -- ---- marking positions one after another
 
--- the codes are marked, where the marks reach, and nothing else
+-- the marks are set at the codes, as far as the marks reach, and nowhere else
 pub record AreMarks (marks : List Bool) (codes : List ℕ) : Type 0 where
   pub marked : (p : ℕ) → p < length marks → Contains codes p → get_or marks p false ≡ true
   pub only : (p : ℕ) → get_or marks p false ≡ true → Contains codes p
 
--- one position was marked
+-- the mark at one position was set, if the marks reach it
 pub record IsMarkedAt (old new : List Bool) (at : ℕ) : Type 0 where
   pub long : length new ≡ length old
   pub here : at < length old → get_or new at false ≡ true
@@ -120,7 +120,7 @@ module _ (old new : List Bool) (codes : List ℕ) (at : ℕ) (marks : AreMarks o
     only = λ p is. only_marked p is (compared p at);
   }
 
--- no position is marked at first
+-- no mark is set at first
 pub no_marks : (len : ℕ) → AreMarks (replicate len false) []
 no_marks len = record {
   marked = λ p small there. absurd (omega (arith, there.1));

@@ -1,8 +1,8 @@
 -- The bytes of a stretch, cut at their first line feed.
 --
--- Where the search finds a line feed, the bytes are a line's end, the feed, and what is behind it. So a line that is
--- answered leads from the bytes to those behind it, whatever comes after them, by the definition of the report. Where
--- the search finds none, nothing is answered, and all bytes are held.
+-- If the search finds a line feed, the bytes are the end of a line, the feed, and the rest. So by the
+-- definition of the report, the answer to the line leads from the bytes to the rest, whatever follows. If
+-- the search finds none, no line is answered, and all bytes are held.
 use Rattle.std.proofs.Common.{ℕ, ◌≡◌, ◌+◌, ◌<◌, Ok, Err, List, [], ◌∷◌, ◌++◌, length, take, drop, Some, ap, sym, subst, ◌∙◌, refl, arith, append_assoc}
 use Rattle.memchr.specs.Find.{IsFirstByte, is_byte}
 use Rattle.lasso_lines.specs.Stretch.{LeadsTo, FailsWith}
@@ -22,20 +22,20 @@ held_no_feed begun bytes held is none none' = subst NoFeed (sym is) (no_feed_bot
 
 -- ---- the steps over a stretch
 
--- nothing is answered yet
+-- no line is answered yet
 pub leads_still : (held : Held) (number : ℕ) (bytes : List ℕ) → LeadsTo held number bytes held number bytes []
 leads_still held number bytes = λ later more result e. e
 
--- nothing is answered, and all bytes are held
+-- no line is answered, and all bytes are held
 pub leads_held : (held : Held) (number : ℕ) (bytes begun : List ℕ) → begun ≡ bytes → LeadsTo held number bytes held number begun []
 leads_held held number bytes begun is = subst (λ bs. LeadsTo held number bytes held number bs []) (sym is) (leads_still held number bytes)
 
--- one stretch leads to another
+-- a step, and then another
 pub leads_then : (before mid after : Held) (first second third : ℕ) (bytes rest last p q : List ℕ) → LeadsTo before first bytes mid second rest p → LeadsTo mid second rest after third last q → LeadsTo before first bytes after third last (p ++ q)
 leads_then before mid after first second third bytes rest last p q one two = λ later more result e.
     subst (λ bs. EndsFrom before first (lines_of (bytes ++ later)) bs result) (sym (append_assoc p q more)) (one later (q ++ more) result (two later more result e))
 
--- or to a fault
+-- a step, and then a fault
 pub fails_then : (before mid : Held) (first second : ℕ) (bytes rest p q : List ℕ) (fault : RunFault) → LeadsTo before first bytes mid second rest p → FailsWith mid second rest q fault → FailsWith before first bytes (p ++ q) fault
 fails_then before mid first second bytes rest p q fault one two = λ later. one later q (Err fault) (two later)
 
@@ -51,7 +51,7 @@ module _ (held : Held) (number : ℕ) (begun bytes end behind : List ℕ) (at : 
       let joined : (begun ++ bytes) ++ later ≡ (begun ++ end) ++ 10 ∷ (behind ++ later) = ap (λ bs. bs ++ later) whole ∙ append_assoc (begun ++ end) (10 ∷ behind) later in
       ap lines_of joined ∙ lines_cut (begun ++ end) (behind ++ later) (no_feed_both begun end none (subst NoFeed (sym end_is) cut.no_feed))
 
-  -- it is answered
+  -- its answer is written
   pub leads_line : (after : Held) (reply : List ℕ) → 0 < number → (after_line held number (begun ++ end) ≡ Ok after) × (reply ≡ line_report held (begun ++ end)) → LeadsTo held number (begun ++ bytes) after (number + 1) behind reply
   leads_line after reply counted good = λ later more result e.
       let line = begun ++ end in
@@ -63,7 +63,7 @@ module _ (held : Held) (number : ℕ) (begun bytes end behind : List ℕ) (at : 
   fails_line reply fault fails = λ later.
       subst (λ ls. EndsFrom held number ls reply (Err fault)) (sym (lines_are later)) (line_fails held number (begun ++ end) (lines_of (behind ++ later)) reply fault fails)
 
--- there is no memory to hold some bytes
+-- out of memory for the bytes to hold
 pub fails_held : (held : Held) (number : ℕ) (begun bytes : List ℕ) (fault : RunFault) → (fault ≡ Refused number FailedAllocation) × (0 < length bytes) → FailsWith held number (begun ++ bytes) [] fault
 fails_held held number begun [] fault lacks = absurd (omega (arith, lacks.1))
 fails_held held number begun (b ∷ bytes) fault lacks = λ later.

@@ -1,7 +1,7 @@
 -- What explains the faults of a run with workers.
 --
--- Out of memory explains itself, in the history of an interner in which nothing has happened too. Any other refusal of a line is the workers',
--- and the history that the run's pass has seen explains it.
+-- Out of memory needs no explanation, so an empty history will do. Any other refused line comes from the
+-- workers, and the history that the run's pass has seen explains it.
 use Rattle.std.proofs.Common.{ℕ, ◌≡◌, inl, inr, List, [], Result, Ok, Err, refl, sym, subst}
 use Rattle.std.specs.Prelude.{IfErr}
 use Rattle.lasso_parts.specs.Texts.{Text}
@@ -21,7 +21,7 @@ cut_explained o past lines Usage none = absurd none
 cut_explained o past lines ReadFailed none = absurd none
 cut_explained o past lines WriteFailed none = absurd none
 
--- the workers' refusal
+-- a line that the workers report as refused
 pub refusal_explained : (o : Totals) (past : History) (lines : List Text) (fault : RunFault) → IsRefusalOf o past lines fault → IsExplainedIn o past lines fault
 refusal_explained o past lines (Refused number error) (inl lacks) = inl lacks.1
 refusal_explained o past lines (Refused number error) (inr why) = inr why
@@ -34,13 +34,13 @@ pub share_explained : {X : Type 0} (o : Totals) (past : History) (lines : List T
 share_explained o past lines (Ok done) none = tt
 share_explained o past lines (Err fault) why = refusal_explained o past lines fault why
 
--- ---- whatever the limit
+-- ---- for any limit
 
--- there was no memory for the interner
+-- out of memory for the interner
 pub no_interner_explained : (limit : ℕ) (lines : List Text) (fault : RunFault) → fault ≡ Refused 0 FailedAllocation → IsExplainedBy limit lines fault
 no_interner_explained limit lines fault is = subst (IsExplainedBy limit lines) (sym is) ([], tt, inl refl)
 
--- a read failed, or memory was not found for what was read
+-- a read failed, or out of memory for the input
 pub input_explained : (limit : ℕ) (lines : List Text) (fault : RunFault) → IsInputFault fault → IsExplainedBy limit lines fault
 input_explained limit lines (Refused number error) lacks = ([], tt, inl lacks.1)
 input_explained limit lines (NotText number) none = absurd none
@@ -52,7 +52,7 @@ input_explained limit lines WriteFailed none = absurd none
 pub write_explained : (limit : ℕ) (lines : List Text) (fault : RunFault) → fault ≡ WriteFailed → IsExplainedBy limit lines fault
 write_explained limit lines fault is = subst (IsExplainedBy limit lines) (sym is) ([], tt, tt)
 
--- a write failed, or memory was not found for what is written
+-- a write failed, or out of memory for the output
 pub end_explained : (limit : ℕ) (lines : List Text) (result : Result (Unit {0}) RunFault) → IfErr result IsEndFault → IfErr result (IsExplainedBy limit lines)
 end_explained limit lines (Ok done) none = tt
 end_explained limit lines (Err (Refused number error)) lacks = ([], tt, inl lacks.1)

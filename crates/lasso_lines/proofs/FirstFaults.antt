@@ -1,7 +1,8 @@
 -- The first line that is not UTF-8.
 --
--- A line that is UTF-8 leaves the search to the lines after it, which are numbered from the next number on. So where all lines before
--- were UTF-8, one that is not is the first of all lines, and the end finds none. A line that is reached is one of all lines, so its number is at most theirs.
+-- The search goes on after a line that is UTF-8, with the next number. So if all lines before a line are
+-- UTF-8 and it is not, it is the first such line; and if the search reaches the end, there is none. A line
+-- that is reached is one of the lines, so its number is at most the number of lines.
 use Rattle.std.proofs.Common.{ℕ, ◌≡◌, ◌+◌, ◌≤◌, ◌⊎◌, inl, inr, cond, List, ◌∷◌, ◌++◌, length, Some, Result, Ok, Err, ap, sym, subst, ◌∙◌, refl, arith, length-append}
 use Rattle.std.specs.Prelude.{IfErr, OnOk}
 use Rattle.std.specs.Str.{IsUtf8}
@@ -16,7 +17,7 @@ use Rattle.lasso_lines.specs.Shares.{IsRefusalOf}
 use Rattle.lasso_lines.specs.declared.fault.RunFault.{RunFault}
 use Rattle.lasso_lines.specs.declared.fault.RunFault.TheVariants.{Refused, NotText, Usage, ReadFailed, WriteFailed}
 
--- a line that is text
+-- a line that is UTF-8
 pub after_text : (number : ℕ) (line : Text) (lines : List Text) → IsUtf8 line → first_not_text number (line ∷ lines) ≡ first_not_text (number + 1) lines
 after_text number line lines utf8 = ap (λ b. cond b (first_not_text (number + 1) lines) (Some number)) (is_utf8-from_IsUtf8 line utf8)
 
@@ -24,13 +25,13 @@ after_text number line lines utf8 = ap (λ b. cond b (first_not_text (number + 1
 at_not_text : (number : ℕ) (line : Text) (lines : List Text) → ¬ (IsUtf8 line) → first_not_text number (line ∷ lines) ≡ Some number
 at_not_text number line lines not_utf8 = ap (λ b. cond b (first_not_text (number + 1) lines) (Some number)) (false_from_ne_true _ (λ e. not_utf8 (IsUtf8-from_is_utf8 line e)))
 
--- the number of a line that is reached is at most that of all lines
+-- the number of a line that is reached is at most the number of lines
 pub number_inside : (before more all : List Text) (line : Text) (number : ℕ) → before ++ line ∷ more ≡ all → number ≡ length before + 1 → number ≤ length all
 number_inside before more all line number is counted =
     let long : length all ≡ length before + length (line ∷ more) = ap length (sym is) ∙ length-append before (line ∷ more) in
     omega (arith, long, counted)
 
--- the fault of a line, where those before it are text
+-- the fault of a line, if all lines before it are UTF-8
 pub fault_here : (before more all : List Text) (line : Text) (number : ℕ) (fault : RunFault) → before ++ line ∷ more ≡ all → number ≡ length before + 1 → first_not_text 1 all ≡ first_not_text number (line ∷ more) → ((fault ≡ NotText number) × ¬ (IsUtf8 line)) ⊎ (fault ≡ Refused number FailedAllocation) → IsFaultOf all fault
 fault_here before more all line number fault is counted same (inl faulty) =
     subst (IsFaultOf all) (sym faulty.0) (same ∙ at_not_text number line more faulty.1)
@@ -39,7 +40,7 @@ fault_here before more all line number fault is counted same (inr lacks) =
 
 -- ---- the faults of a run
 
--- a line that was refused, where all lines are text
+-- a refused line, if all lines are UTF-8
 pub refusal_is : (o : Totals) (past : History) (lines : List Text) (fault : RunFault) → AreTexts lines → IsRefusalOf o past lines fault → IsFaultOf lines fault
 refusal_is o past lines (Refused number error) texts (inl lacks) = (omega (arith, lacks.0), inl texts)
 refusal_is o past lines (Refused number error) texts (inr why) = (omega (arith, why.0.1, why.0.2), inl texts)
@@ -52,11 +53,11 @@ pub share_fault_is : {X : Type 0} (o : Totals) (past : History) (lines : List Te
 share_fault_is o past lines (Ok done) texts none = tt
 share_fault_is o past lines (Err fault) texts why = refusal_is o past lines fault texts why
 
--- memory was not found for the interner
+-- out of memory for the interner
 pub no_interner : (lines : List Text) (fault : RunFault) → fault ≡ Refused 0 FailedAllocation → IsFaultOf lines fault
 no_interner lines fault is = subst (IsFaultOf lines) (sym is) (omega arith, inr refl)
 
--- a read failed, or memory was not found for what was read
+-- a read failed, or out of memory for the input
 pub input_fault_is : (lines : List Text) (fault : RunFault) → IsInputFault fault → IsFaultOf lines fault
 input_fault_is lines (Refused number error) lacks = (omega (arith, lacks.0), inr lacks.1)
 input_fault_is lines (NotText number) none = absurd none
@@ -64,7 +65,7 @@ input_fault_is lines Usage none = absurd none
 input_fault_is lines ReadFailed failed = tt
 input_fault_is lines WriteFailed none = absurd none
 
--- a write failed, or memory was not found for what is written
+-- a write failed, or out of memory for the output
 pub end_fault_is : (lines : List Text) (result : Result (Unit {0}) RunFault) → IfErr result IsEndFault → IfErr result (IsFaultOf lines)
 end_fault_is lines (Ok done) none = tt
 end_fault_is lines (Err (Refused number error)) lacks = (omega (arith, lacks.0), inr lacks.1)
@@ -73,7 +74,7 @@ end_fault_is lines (Err Usage) none = absurd none
 end_fault_is lines (Err ReadFailed) none = absurd none
 end_fault_is lines (Err WriteFailed) failed = tt
 
--- what holds anyway holds where a result is Ok
+-- what is true anyway is true if the result is Ok
 pub where_ok : {X E : Type 0} (P : Type 0) (result : Result X E) → P → OnOk result P
 where_ok P (Ok x) holds = holds
 where_ok P (Err e) holds = tt

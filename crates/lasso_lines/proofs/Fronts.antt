@@ -1,7 +1,8 @@
--- The order of fronts.
+-- A text with a lower front comes first.
 --
--- Each byte is a digit of base 256. So of two numbers that differ, the lower one stays lower however many digits follow both; and
--- where one front is lower than another, the texts differ first at a byte that is lower, or the one has ended there.
+-- Each byte is a digit of base 256. So of two numbers that differ, the lower one stays lower whatever
+-- digits follow both. If one front is lower than another, then at the first byte where the texts differ,
+-- its text has the lower byte or has ended.
 use Rattle.std.proofs.Common.{ℕ, zero, suc, ◌≡◌, ◌+◌, ◌-◌, ◌*◌, ◌^◌, ◌<◌, ◌≤◌, List, [], ◌∷◌, get_or, drop, add-zero, refl, sym, ap, subst, ◌∙◌, arith}
 use Rattle.std.specs.Prelude.{nat_lt, ◌==◌, Bool, true, false}
 use Rattle.std.specs.Ordering.{ordering_then, nat_cmp}
@@ -50,7 +51,7 @@ compared_by x y false false e f = higher (grind (arith, nat_tests))
 pub compared : (x y : ℕ) → Compared x y
 compared x y = compared_by x y (nat_lt x y) (x == y) refl refl
 
--- n digits after a number order two texts
+-- if n digits after the same number give a lower number, their text is less
 abbrev Orders : ℕ → Type 0
 Orders n = (a : ℕ) (one other : Text) → AreBytes one → AreBytes other → front_from a n one < front_from a n other → text_cmp one other ≡ Less
 
@@ -58,7 +59,7 @@ not_before : (text : Text) → text_cmp text [] ≡ Less → ⊥
 not_before [] e = cc
 not_before (z ∷ text) e = cc
 
--- a text that goes on has no lower front than one that has ended
+-- a text that goes on does not have a lower front than one that has ended
 ended : (n a x : ℕ) (one : Text) → Orders n → AreBytes (x ∷ one) → AreBytes [] → front_from (a * 256 + x) n one < front_from (a * 256) n [] → Compared x 0 → ⊥
 ended n a x one orders bytes none low (lower below) = omega arith
 ended n a x one orders bytes none low (same is) =
@@ -67,7 +68,7 @@ ended n a x one orders bytes none low (same is) =
 ended n a x one orders bytes none low (higher above) =
     let there = front_below n (a * 256) (a * 256 + x) [] one none (bytes_after x one bytes) (omega arith) in omega arith
 
--- the first bytes of both
+-- two texts that both go on
 digits : (n a x y : ℕ) (one other : Text) → Orders n → AreBytes (x ∷ one) → AreBytes (y ∷ other) → front_from (a * 256 + x) n one < front_from (a * 256 + y) n other → Compared x y → text_cmp (x ∷ one) (y ∷ other) ≡ Less
 digits n a x y one other orders bytes bytes' low (lower below) = ap (λ o. ordering_then o (text_cmp one other)) (cmp_less x y below)
 digits n a x y one other orders bytes bytes' low (same is) =
@@ -90,7 +91,7 @@ pub front_step : (number n : ℕ) (text : Text) → front_from number (suc n) te
 front_step number n [] = ap (λ k. front_from k n []) (sym (add-zero (number * 256)))
 front_step number n (b ∷ text) = refl
 
--- the digit at a position, and those after it
+-- the digit at a position, and the digits after it
 pub front_next : (number at left : ℕ) (text : Text) → left ≡ 8 - at → at < 8 → front_from (number * 256 + get_or text at 0) (8 - (at + 1)) (drop (at + 1) text) ≡ front_from number (8 - at) (drop at text)
 front_next number at left text is small =
     let n = 8 - (at + 1) in
@@ -99,7 +100,7 @@ front_next number at left text is small =
     let past : drop 1 (drop at text) ≡ drop (at + 1) text = drop-drop 1 at text in
     sym (ap (λ k. front_from number k (drop at text)) more ∙ front_step number n (drop at text) ∙ ap (λ d. front_from (number * 256 + d) n (drop 1 (drop at text))) here ∙ ap (front_from (number * 256 + get_or text at 0) n) past)
 
--- the digits stay those of a number that fits
+-- a number with one more digit still fits in 64 bits
 pub one_more_digit : (number at digit : ℕ) → at < 8 → number < 2 ^ (8 * at) → digit < 256 → (number * 256 + digit < 2 ^ (8 * (at + 1))) × (number * 256 + digit < 2 ^ 64)
 one_more_digit number at digit few small byte =
     let sum : 8 * (at + 1) ≡ 8 * at + 8 = omega arith in

@@ -1,6 +1,7 @@
--- Pairs of a front and a text that were put in order.
+-- Sorted pairs of a front and a text.
 --
--- Sorting only moves the pairs. So the texts are still those that the codes name, and none comes twice; and being sorted, they ascend.
+-- Sorting only moves the pairs. So the texts are still those that the codes name, and none comes twice.
+-- Since the pairs are sorted, the texts ascend.
 use Rattle.std.proofs.Common.{ℕ, ◌≡◌, List, map, Bor}
 use Rattle.std.specs.Prelude.{All, Contains, ◌↔◌, IsPermutation, IsSorted}
 use Rattle.std.specs.Str.{bytes_eq}

@@ -1,7 +1,7 @@
--- Known bytes that grow, one call after the other.
+-- Known bytes that grow, call by call.
 --
--- A relation between the known bytes before and after a call says something only where they are known before. So
--- two relations in a row compose: the bytes that the first tells are known to the second, and the two parts join.
+-- A relation between the bytes before and after a call says something only if they are known before it.
+-- Then they are known after it too. So the relations of two calls compose, and their parts are joined.
 use Rattle.std.proofs.Common.{ℕ, ◌≡◌, ◌+◌, ◌-◌, List, [], ◌∷◌, ◌++◌, length, take, Option, Some, Result, Ok, Err, OnOk, IfErr, ap, sym, subst, ◌∙◌, append_assoc, append-nil, arith}
 use Rattle.std.proofs.lemmas.List.{take_all, length-append}
 use Rattle.lasso_lines.specs.Stream.{Begins, Grows, OnlyGrows, Stays, written}
@@ -28,14 +28,14 @@ only_grows_still known = nothing_more known (λ _. Unit {0}) tt
 pub only_grows_then : (before mid after : Option (List ℕ)) → OnlyGrows before mid → OnlyGrows mid after → OnlyGrows before after
 only_grows_then before mid after first second = grows_then before mid after (λ _. Unit {0}) (λ _. Unit {0}) (λ _. Unit {0}) first second (λ p q a b. tt)
 
--- what stays grows by nothing
+-- a call that leaves the bytes as they are adds nothing
 pub grows_stays : (before mid after : Option (List ℕ)) (P Q : List ℕ → Type 0) → Grows before mid P → Stays mid after → ((part : List ℕ) → P part → Q part) → Grows before after Q
 grows_stays before mid after P Q grown stays then = λ held e. let w = grown held e in (w.0, stays (held ++ w.0) w.1, then w.0 w.2)
 
 pub stays_grows : (before mid after : Option (List ℕ)) (P : List ℕ → Type 0) → Stays before mid → Grows mid after P → Grows before after P
 stays_grows before mid after P stays grown = λ held e. grown held (stays held e)
 
--- one more call took n of the bytes that were left
+-- one more call took the first n of the bytes that were left
 pub took_more : (before mid after : Option (List ℕ)) (bytes rest others : List ℕ) (n : ℕ) → Grows before mid (λ part. part ++ rest ≡ bytes) → Grows mid after (λ part. part ≡ take n rest) → take n rest ++ others ≡ rest → Grows before after (λ part. part ++ others ≡ bytes)
 took_more before mid after bytes rest others n grown took split =
     grows_then before mid after (λ part. part ++ rest ≡ bytes) (λ part. part ≡ take n rest) (λ part. part ++ others ≡ bytes) grown took (λ p q first second.
@@ -44,7 +44,7 @@ took_more before mid after bytes rest others n grown took split =
 begins_split : (p q rest bytes : List ℕ) → p ++ rest ≡ bytes → Begins q rest → Begins (p ++ q) bytes
 begins_split p q rest bytes whole b = (b.0, sym whole ∙ ap (λ bs. p ++ bs) b.1 ∙ sym (append_assoc p q b.0))
 
--- the call that failed took a beginning of the bytes that were left
+-- the failed call took a beginning of the bytes that were left
 pub took_less : (before mid after : Option (List ℕ)) (bytes rest : List ℕ) → Grows before mid (λ part. part ++ rest ≡ bytes) → Grows mid after (λ part. Begins part rest) → Grows before after (λ part. Begins part bytes)
 took_less before mid after bytes rest grown took =
     grows_then before mid after (λ part. part ++ rest ≡ bytes) (λ part. Begins part rest) (λ part. Begins part bytes) grown took (λ p q first second. begins_split p q rest bytes first second)
@@ -52,7 +52,7 @@ took_less before mid after bytes rest grown took =
 begins_first : (part front back : List ℕ) → Begins part front → Begins part (front ++ back)
 begins_first part front back b = (b.0 ++ back, ap (λ bs. bs ++ back) b.1 ∙ append_assoc part b.0 back)
 
--- a fault while the front of some bytes is written
+-- a write failed within the front of some bytes
 pub front_fails : (before after : Option (List ℕ)) (front back : List ℕ) (fault : RunFault) → Grows before after (WritesAll front (Err fault)) → Grows before after (WritesAll (front ++ back) (Err fault))
 front_fails before after front back fault grown = grows_as before after (WritesAll front (Err fault)) (WritesAll (front ++ back) (Err fault)) grown (λ part w. (w.0, begins_first part front back w.1))
 
@@ -60,21 +60,21 @@ writes_behind : (p q front back : List ℕ) (result : Result (Unit {0}) RunFault
 writes_behind p q front back (Ok x) is w = ap (λ bs. bs ++ q) is ∙ ap (λ bs. front ++ bs) w
 writes_behind p q front back (Err fault) is w = (w.0, begins_split p q back (front ++ back) (ap (λ bs. bs ++ back) is) w.1)
 
--- the front of some bytes is written, and then the rest of them
+-- the front of some bytes is written, and then the rest
 pub front_then : (before mid after : Option (List ℕ)) (front back : List ℕ) (result : Result (Unit {0}) RunFault) → Grows before mid (λ part. part ≡ front) → Grows mid after (WritesAll back result) → Grows before after (WritesAll (front ++ back) result)
 front_then before mid after front back result first second =
     grows_then before mid after (λ part. part ≡ front) (WritesAll back result) (WritesAll (front ++ back) result) first second (λ p q is w. writes_behind p q front back result is w)
 
--- the digits end before the last position of 21, where the space is
+-- of 21 bytes the last is a space, and the digits end before it
 pub front_is : (digits back : List ℕ) (start : ℕ) → back ≡ digits ++ 32 ∷ [] → start + length digits ≡ 20 → take (21 - start) back ≡ digits ++ 32 ∷ []
 front_is digits back start is fits = take_all (21 - start) back (let n : length back ≡ length digits + 1 = ap length is ∙ length-append digits (32 ∷ []) in omega arith) ∙ is
 
--- the digits of an answer and the space behind them are its front
+-- the front of an answer is its digits and a space
 module _ (digits front line : List ℕ) (is : front ≡ digits ++ 32 ∷ []) where
   whole_answer : front ++ (line ++ 10 ∷ []) ≡ digits ++ (32 ∷ (line ++ 10 ∷ []))
   whole_answer = ap (λ bs. bs ++ (line ++ 10 ∷ [])) is ∙ append_assoc digits (32 ∷ []) (line ++ 10 ∷ [])
 
-  -- the front is written, and the rest of the answer
+  -- the front, the line and a line feed are the answer
   pub answer_parts : (before after : Option (List ℕ)) (result : Result (Unit {0}) RunFault) → Grows before after (WritesAll (front ++ (line ++ 10 ∷ [])) result) → Grows before after (WritesAll (digits ++ (32 ∷ (line ++ 10 ∷ []))) result)
   answer_parts before after result grown = subst (λ bs. Grows before after (WritesAll bs result)) whole_answer grown
 
@@ -83,17 +83,17 @@ pub write_fault : (result : Result (Unit {0}) RunFault) → IfErr result (λ fau
 write_fault (Ok x) is = is
 write_fault (Err fault) is = subst IsAnswerFault (sym is) tt
 
--- what holds anyway holds without a fault
+-- what is true anyway is true if the result is Ok
 pub on_ok : (result : Result (Unit {0}) RunFault) (P : Type 0) → P → OnOk result P
 on_ok (Ok x) P p = p
 on_ok (Err fault) P p = tt
 
--- what holds of each fault holds of the one that there is
+-- what is true of every fault is true of the result's fault
 pub if_err : (result : Result (Unit {0}) RunFault) (P : RunFault → Type 0) → ((fault : RunFault) → P fault) → IfErr result P
 if_err (Ok x) P p = tt
 if_err (Err fault) P p = p fault
 
--- what a writer into empty memory has delivered is the part
+-- a memory writer that was empty has delivered exactly the part
 pub delivered_part : (before pending after pending' : Option (List ℕ)) (bytes : List ℕ) (P : List ℕ → Type 0) → before ≡ Some [] → pending ≡ Some [] → after ≡ Some bytes → pending' ≡ Some [] → Grows (written before pending) (written after pending') P → P bytes
 delivered_part before pending after pending' bytes P none none' all all' grown =
     let start : written before pending ≡ Some [] = ap (λ d. written d pending) none ∙ ap (λ p. written (Some []) p) none' in

@@ -1,6 +1,6 @@
--- The lines of bytes, and what answering one of them gives.
+-- The lines of bytes, and the answer to one of them.
 --
--- Bytes without a line feed are the last line, where nothing is behind them, unless there are none.
+-- Bytes without a line feed are one line, or none if there are no bytes.
 use Rattle.std.proofs.Common.{ℕ, ◌≡◌, ◌-◌, ◌⊎◌, inl, inr, Bool, true, false, cond, List, [], ◌∷◌, ◌++◌, Some, Result, Ok, Err, decimal, ap, sym, subst, ◌∙◌, refl}
 use Rattle.std.specs.List.{onto_first}
 use Rattle.std.specs.Str.{IsUtf8}
@@ -27,7 +27,7 @@ pub lines_last : (line : List ℕ) → NoFeed line → lines_of line ≡ last_li
 lines_last [] none = refl
 lines_last (x ∷ line) none = ap (λ t. cond t ([] ∷ lines_of line) (onto_first x (lines_of line))) none.0 ∙ ap (λ ls. onto_first x ls) (lines_last line none.1) ∙ lines_last_onto x line
 
--- bytes have a first line
+-- if there are bytes, there is a first line
 onto_some : (x : ℕ) (lines : List (List ℕ)) → (l : List ℕ) × (ls : List (List ℕ)) × (onto_first x lines ≡ l ∷ ls)
 onto_some x [] = (x ∷ [], [], refl)
 onto_some x (line ∷ lines) = (x ∷ line, lines, refl)
@@ -40,7 +40,7 @@ pub lines_some : (line : List ℕ) (b : ℕ) (rest : List ℕ) → (l : List ℕ
 lines_some [] b rest = cond_lines (is_line_feed b) b rest
 lines_some (x ∷ line) b rest = cond_lines (is_line_feed x) x (line ++ b ∷ rest)
 
--- bytes that are not UTF-8 are a fault
+-- a line that is not UTF-8 is a fault
 pub not_text : (held : Held) (number : ℕ) (line : List ℕ) → ¬ (IsUtf8 line) → after_line held number line ≡ Err (NotText number)
 not_text held number line not_utf8 = ap (λ b. cond b (with_number number (interned spur_at first_bytes held line)) (Err (NotText number))) (false_from_ne_true _ (λ e. not_utf8 (IsUtf8-from_is_utf8 line e)))
 
@@ -55,7 +55,7 @@ refused_line first held number line text error X Y same is (inr none) = subst (�
 line_is_text : (held after : Held) (number : ℕ) (line text : List ℕ) → (text ≡ line) × IsUtf8 line → interned spur_at first_bytes held text ≡ Ok after → after_line held number line ≡ Ok after
 line_is_text held after number line text is reply = text_line held number line is.1 ∙ ap (λ r. with_number number r) (subst (λ t. interned spur_at first_bytes held t ≡ Ok after) is.0 reply)
 
--- the position in front of the line
+-- the answer begins with the position of the line's text
 report_is : (held : Held) (line text : List ℕ) (position key : ℕ) → text ≡ line → spur_at (interned_position held.texts text) ≡ Some key → position ≡ key - 1 → decimal position ++ (32 ∷ (line ++ 10 ∷ [])) ≡ line_report held line
 report_is held line text position key is found at = ap (λ n. decimal n ++ (32 ∷ (line ++ 10 ∷ []))) (at ∙ sym (position_of_key (interned_position held.texts text) key found) ∙ ap (λ t. interned_position held.texts t) is)
 
@@ -63,6 +63,6 @@ answered_by : (held after : Held) (number : ℕ) (line : List ℕ) (result : Res
 answered_by held after number line (Ok x) bytes good is part wrote = (good, wrote ∙ is)
 answered_by held after number line (Err fault) bytes good is part wrote = subst (λ f. LineFails held number line part f) (sym wrote.0) (not_written after good (subst (λ bs. Begins part bs) is wrote.1))
 
--- a text that is interned, and its answer
+-- an interned text and its answer
 pub answered_line : (first : ℕ) (held after : Held) (number : ℕ) (line text : List ℕ) (position key : ℕ) (result : Result (Unit {0}) RunFault) → first ≡ first_bytes → (text ≡ line) × IsUtf8 line → (interned spur_at first held text ≡ Ok after) × (spur_at (interned_position held.texts text) ≡ Some key) → position ≡ key - 1 → (part : List ℕ) → WritesAll (decimal position ++ (32 ∷ (line ++ 10 ∷ []))) result part → AnswersLine held number line result after part
 answered_line first held after number line text position key result same is reply at = answered_by held after number line result _ (line_is_text held after number line text is (subst (λ (n : ℕ). interned spur_at n held text ≡ Ok after) same reply.0)) (report_is held line text position key is.0 reply.1 at)

@@ -1,7 +1,7 @@
--- The number that a word says, digit by digit.
+-- The number in a word, digit by digit.
 --
--- Behind the digits read so far, the others only make the value greater. So where the value of some first digits is
--- past the greatest number, so is that of the word.
+-- Further digits never make the value smaller. So if the value of the first digits is 2 ^ 64 or more, so is
+-- the value of the word.
 use Rattle.std.proofs.Common.{ℕ, suc, ◌≡◌, ◌+◌, ◌-◌, ◌*◌, ◌<◌, ◌≤◌, ◌^◌, true, false, List, [], ◌∷◌, length, drop, get_or, drop-cons, Some, None, ap, subst, arith}
 use Rattle.std.proofs.lemmas.Bool.Decides.{nat_tests}
 use Rattle.lasso_lines.specs.Arguments.{all_digits, value_behind, number_of}
@@ -10,7 +10,7 @@ pub value_grows : (bytes : List ℕ) (value : ℕ) → value ≤ value_behind va
 value_grows [] value = omega arith
 value_grows (b ∷ bytes) value = omega (arith, value_grows bytes (value * 10 + (b - 48)))
 
--- a number past the greatest one
+-- a value of 2 ^ 64 or more is no number
 pub too_great : (word : List ℕ) → 2 ^ 64 ≤ value_behind 0 word → number_of word ≡ None
 too_great word great = grind (arith, nat_tests)
 
@@ -26,7 +26,7 @@ too_long word long = grind (arith, nat_tests)
 pub a_number : (word : List ℕ) (value : ℕ) → 0 < length word → length word ≤ 20 → all_digits word ≡ true → value_behind 0 word ≡ value → value < 2 ^ 64 → number_of word ≡ Some value
 a_number word value some short digits is fits = grind (arith, nat_tests)
 
--- the next digit brings the value past the greatest number
+-- the next digit brings the value to 2 ^ 64 or more
 pub past_greatest : (word digits : List ℕ) (i value : ℕ) → digits ≡ word → i < length digits → value_behind value (drop i digits) ≡ value_behind 0 digits → 2 ^ 64 ≤ value * 10 + (get_or digits i 0 - 48) → number_of word ≡ None
 past_greatest word digits i value same inside reads great =
     let rest = drop (suc i) digits in

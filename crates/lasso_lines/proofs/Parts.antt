@@ -1,6 +1,7 @@
--- A list of which each part was put in another order.
+-- A list whose parts are permuted, each in its place.
 --
--- The parts follow one another. So the first parts, put together, are in another order too, and as many parts as the list has are all of it.
+-- The parts follow one another. So the first n parts together are permuted too, and enough parts are the
+-- whole list.
 use Rattle.std.proofs.Common.{ℕ, zero, suc, ◌≡◌, ◌+◌, ◌*◌, ◌<◌, ◌≤◌, List, [], ◌++◌, length, take, drop, refl, sym, ap, subst, ◌∙◌, append-nil, arith, add-one, mul-le-mul_left, mul-one, ◌⊎◌, inl, inr}
 use Rattle.std.specs.Prelude.{IsPermutation}
 use Rattle.std.specs.Fork.{slice_chunk}
@@ -9,14 +10,14 @@ use Rattle.std.proofs.lemmas.Bool.{cases_lt}
 use Rattle.std.proofs.lemmas.List.{take_all, drop_all}
 use Rattle.std.proofs.lemmas.List.Sorted.{IsPermutation-refl, IsPermutation-append}
 
--- each part is in another order
+-- each part is permuted
 abbrev pub PartsMove : {X : Type 0} → ℕ → List X → List X → Type 0
 PartsMove size xs ys = (n : ℕ) → n * size < length xs → IsPermutation (slice_chunk xs size n) (slice_chunk ys size n)
 
 one_more : {X : Type 0} (xs : List X) (n size : ℕ) → take ((n + 1) * size) xs ≡ take (n * size) xs ++ slice_chunk xs size n
 one_more xs n size = let sum : (n + 1) * size ≡ n * size + size = omega arith in ap (λ k. take k xs) sum ∙ take-add (n * size) size xs
 
--- no part is past the end
+-- a part past the end is empty
 past_end : {X : Type 0} (xs : List X) (n size : ℕ) → length xs ≤ n * size → slice_chunk xs size n ≡ []
 past_end xs n size past = ap (take size) (drop_all (n * size) xs past) ∙ none size
   where
@@ -39,7 +40,7 @@ module _ {X : Type 0} (size : ℕ) (xs ys : List X) (long : length ys ≡ length
       let next : suc n * size ≡ (n + 1) * size = ap (λ k. k * size) (sym (add-one n)) in
       rw (next, one_more xs n size, one_more ys n size) more
 
-  -- so the whole list is
+  -- so the whole list is permuted
   pub parts_move : 0 < size → IsPermutation xs ys
   parts_move some =
       let enough : length xs ≤ length xs * size = omega (arith, mul-le-mul_left {m = 1} {n = size} (length xs) some, mul-one (length xs)) in
@@ -48,7 +49,7 @@ module _ {X : Type 0} (size : ℕ) (xs ys : List X) (long : length ys ≡ length
       let whole' : take (length xs * size) ys ≡ ys = take_all (length xs * size) ys (omega arith) in
       subst (λ zs. IsPermutation xs zs) whole' (subst (λ zs. IsPermutation zs (take (length xs * size) ys)) whole moved)
 
--- a slice that a vector's elements were lent as, and that is as long as before, is all of them again
+-- a vector whose elements were lent as a slice of the same length has the slice's elements afterwards
 pub lent_back : {X : Type 0} (n : ℕ) (xs ys : List X) → n ≡ length ys → length xs ≡ length ys → take n (xs ++ drop (length xs) ys) ≡ xs
 lent_back n xs ys whole long =
     let none : drop (length xs) ys ≡ [] = drop_all (length xs) ys (omega arith) in

@@ -1,4 +1,4 @@
--- The limit in settings. Equal settings have equal limits: what reads the limit reads the same from both.
+-- The limit in settings. Equal settings have equal limits.
 use Rattle.std.proofs.Common.{ℕ, ◌≡◌, Option, Some, None, ap}
 
 abbrev limit_in : Option (ℕ × Option ℕ) → ℕ

@@ -1,8 +1,8 @@
--- The lines of the workers, put together.
+-- The lines of the workers together.
 --
--- Each of a worker's lines is one of the lines. A line at position i is one of the worker i modulo the number of workers, and comes
--- there at the quotient: so the shares of all workers have all lines. A list that a pass sees only grows, so the codes that the workers gave back
--- are those of one list.
+-- Each of a worker's lines is one of the lines. The line at position i belongs to worker i modulo the
+-- number of workers, and is there at position i divided by it. So the shares of all workers have all lines.
+-- The list that a pass sees only grows, so the codes that the workers returned are codes in one list.
 use Rattle.std.proofs.Common.{ℕ, zero, suc, ◌≡◌, ◌+◌, ◌*◌, ◌/◌, ◌%◌, ◌<◌, ◌≤◌, List, [], ◌∷◌, ◌++◌, length, map, get_or, Bor, Vec, Result, Ok, Err, refl, sym, ap, subst, ◌∙◌, arith, add-one, mul-le-mul_right, div-add-mod', ◌⊎◌, inl, inr}
 use Rattle.std.specs.Prelude.{Contains, MatchResult}
 use Rattle.std.proofs.lemmas.Bool.{cases_lt}
@@ -18,7 +18,7 @@ use Rattle.lasso_lines.specs.Shares.{line_at, share, IsShare, HasCodes, AreCodes
 line_there : (lines : List Text) (i : ℕ) → i < length lines → Contains lines (line_at lines i)
 line_there lines i small = Contains-get_or lines i [] small
 
--- a worker's lines are lines
+-- each of a worker's lines is one of the lines
 share_inside : (lines : List Text) (worker workers count : ℕ) → ((n : ℕ) → n < count → worker + n * workers < length lines) → (text : Text) → Contains (share lines worker workers count) text → Contains lines text
 share_inside lines worker workers zero inside text there = absurd (omega (arith, there.1))
 share_inside lines worker workers (suc n) inside text there = elim (Contains-push_cases (share lines worker workers n) (line_at lines (worker + n * workers)) text there) [
@@ -32,7 +32,7 @@ share_more lines worker workers n j small (inr last) has =
     let is : j ≡ n = omega arith in
     subst (λ k. Contains (share lines worker workers (suc n)) (line_at lines (worker + k * workers))) (sym is) (Contains-push (share lines worker workers n) (line_at lines (worker + n * workers)))
 
--- each of them comes
+-- each line of a worker is in its share
 pub share_has : (lines : List Text) (worker workers count j : ℕ) → j < count → Contains (share lines worker workers count) (line_at lines (worker + j * workers))
 share_has lines worker workers zero j small = absurd (omega arith)
 share_has lines worker workers (suc n) j small = share_more lines worker workers n j small (cases_lt j n) (λ before. share_has lines worker workers n j before)
@@ -42,7 +42,7 @@ below_count lines worker workers count j is small (inl below) = below
 below_count lines worker workers count j is small (inr above) =
     let far : count * workers ≤ j * workers = mul-le-mul_right workers above in absurd (omega (arith, is.whole))
 
--- the line at a position is one of its worker's
+-- the line at a position is in its worker's share
 pub share_reaches : (lines : List Text) (worker workers count i : ℕ) → IsShare lines worker workers count → i < length lines → i % workers ≡ worker → Contains (share lines worker workers count) (line_at lines i)
 share_reaches lines worker workers count i is small mine =
     let j = i / workers in
@@ -50,9 +50,9 @@ share_reaches lines worker workers count i is small mine =
     let here : worker + j * workers < length lines = omega arith in
     subst (λ k. Contains (share lines worker workers count) (line_at lines k)) adds (share_has lines worker workers count j (below_count lines worker workers count j is here (cases_lt j count)))
 
--- ---- put together
+-- ---- all workers
 
--- the codes of the first workers' lines, in a list
+-- the codes of the lines of the first `done` workers, in a list
 pub record Gathered (list lines : List Text) (workers done : ℕ) (codes : List ℕ) : Type 0 where
   pub texts : List Text
   pub inside : (text : Text) → Contains texts text → Contains lines text
@@ -75,7 +75,7 @@ module _ (before known after lines : List Text) (workers done : ℕ) (codes more
   reached_more i small below (inl earlier) = Contains-append_left gathered.texts its_lines _ (gathered.reached i small earlier)
   reached_more i small below (inr its) = Contains-append_right gathered.texts its_lines _ (share_reaches lines done workers has.0 i has.1 small (omega arith))
 
-  -- one worker more, and a list that may have grown
+  -- one more worker, and a list that may have grown
   pub gathered_more : Gathered after lines workers (done + 1) (codes ++ more)
   gathered_more = record {
     texts = gathered.texts ++ its_lines;
@@ -87,7 +87,7 @@ module _ (before known after lines : List Text) (workers done : ℕ) (codes more
     coded = map_some_both (position_of after) gathered.texts its_lines codes more (codes_past before after gathered.texts codes begins gathered.coded) (codes_past known after its_lines more knows has.2);
   }
 
--- the codes stay those of a list that has grown
+-- the codes are also those of a list that has grown
 pub gathered_past : (before after lines : List Text) (workers done : ℕ) (codes : List ℕ) → IsPrefix before after → Gathered before lines workers done codes → Gathered after lines workers done codes
 gathered_past before after lines workers done codes begins gathered = record {
   texts = gathered.texts;
@@ -96,7 +96,7 @@ gathered_past before after lines workers done codes begins gathered = record {
   coded = codes_past before after gathered.texts codes begins gathered.coded;
 }
 
--- all workers together have the lines
+-- all workers together have all lines
 pub gathered_all : (list lines : List Text) (workers done : ℕ) (codes : List ℕ) → 0 < workers → workers ≤ done → Gathered list lines workers done codes → AreCodesOf list lines codes
 gathered_all list lines workers done codes some all gathered = (
   gathered.texts,
@@ -112,17 +112,17 @@ gathered_all list lines workers done codes some all gathered = (
 
 -- ---- a worker's lines one after another
 
--- the line that was read at a position
+-- the line that the code reads at a position
 pub line_read : (lines : List (Bor Text)) (at : ℕ) (d : Bor Text) → at < length lines → line_at (map (λ t. t.now) lines) at ≡ (get_or lines at d).now
 line_read lines at d small = get_or-map (λ (t : Bor Text). t.now) lines at d [] small
 
--- one line more of the worker
+-- one more line of the worker
 pub share_next : (lines : List Text) (worker workers n at : ℕ) (line : Text) → at ≡ worker + n * workers → line_at lines at ≡ line → share lines worker workers n ++ line ∷ [] ≡ share lines worker workers (n + 1)
 share_next lines worker workers n at line is read =
     let here : line_at lines (worker + n * workers) ≡ line = ap (line_at lines) (sym is) ∙ read in
     ap (λ (t : Text). share lines worker workers n ++ t ∷ []) (sym here) ∙ sym (ap (share lines worker workers) (add-one n))
 
--- what a worker gave back is added, where none of its lines was refused
+-- the codes that a worker returned are added, if none of its lines was refused
 pub gathered_worker : {A E : Type 0} (Q : E → Type 0) (before known after lines : List Text) (workers done : ℕ) (codes : List ℕ) (outcome : Result (Vec ℕ A) E) (all : List ℕ) → IsPrefix before after → IsPrefix known after → Gathered before lines workers done codes → MatchResult outcome (λ more. HasCodes known lines done workers more.items) Q → MatchResult outcome (λ more. all ≡ codes ++ more.items) (λ _. ⊥) → Gathered after lines workers (done + 1) all
 gathered_worker Q before known after lines workers done codes (Ok more) all begins knows gathered has is =
     subst (λ (cs : List ℕ). Gathered after lines workers (done + 1) cs) (sym is) (gathered_more before known after lines workers done codes more.items begins knows gathered has)

@@ -1,8 +1,8 @@
--- Calls of a pass that interns lines: the code that one gives, and why one is refused.
+-- Calls that intern a line with a pass: the code of its text, and why it was refused.
 --
--- A key that a pass was given is the text's key in the list that it has then seen, so its code is the text's
--- position there. That list only grows, so the codes from before stay. What explains a refusal in a history
--- explains it in any that this one begins.
+-- The key that a call returns is the text's key in the list that the pass has seen then, so its code is the
+-- text's position there. That list only grows, so earlier codes stay. What explains a refused text in a
+-- history also explains it in each history that begins with this one.
 use Rattle.std.proofs.Common.{ℕ, Err, inl, inr, append_assoc, ◌≡◌, ◌-◌, List, [], ◌∷◌, ◌++◌, Some, Ok, sym, ap, ◌∙◌}
 use Rattle.std.specs.Prelude.{Contains}
 use mathlib.Core.List.{IsPrefix}
@@ -21,7 +21,7 @@ use Rattle.lasso_encode.specs.Encoding.{spur_at}
 use Rattle.lasso_lines.specs.Shares.{IsRefusalIn}
 use Rattle.lasso_lines.proofs.Listed.{call_grows}
 
--- one text more, by a call of the pass
+-- a call that interns one more text
 pub shared_push : (o : Totals) (before after : History) (pass : ℕ) (texts : List Text) (text : Text) (codes : List ℕ) (key : ℕ) → AreCodes (totals o before).texts texts codes → IsCall spur_at o before after pass (Intern Copied text) (Interned (Ok key)) → AreCodes (totals o after).texts (texts ++ text ∷ []) (codes ++ (key - 1) ∷ [])
 shared_push o before after pass texts text codes key are call =
     let list = (totals o after).texts in
@@ -29,13 +29,13 @@ shared_push o before after pass texts text codes key are call =
     let kept = codes_past (totals o before).texts list texts codes (call_grows o before after pass (Intern Copied text) (Interned (Ok key)) call) are in
     map_some_push (position_of list) texts codes text (key - 1) kept (found_at (position_of list text) key has)
 
--- a call of the pass is refused
+-- a call that is refused
 pub shared_refused : (o : Totals) (before after : History) (pass : ℕ) (texts : List Text) (text : Text) (error : LassoErrorKind) → Contains texts text → IsCall {K = ℕ} spur_at o before after pass (Intern Copied text) (Interned (Err error)) → IsRefusalIn o after texts error
 shared_refused o before after pass texts text error there call =
     let why = call.explained in
     inr (text, before ++ why.0, why.1, there, append_assoc before why.0 why.1 ∙ ap (λ past. before ++ past) why.2 ∙ call.begins, why.4)
 
--- what explains a refusal of some texts explains it in any history that theirs begins
+-- what explains an error also explains it in each history that begins with this one
 pub refused_later : (o : Totals) (known after : List NoteView) (texts : List Text) (error : LassoErrorKind) → IsPrefix known after → IsRefusalIn o (history known) texts error → IsRefusalIn o (history after) texts error
 refused_later o known after texts error knows (inl e) = inl e
 refused_later o known after texts error knows (inr why) =

@@ -1,7 +1,7 @@
--- Sorted pairs of a front and a text, whose texts are distinct: the texts ascend.
+-- Sorted pairs of a front and a text ascend by their texts, if the texts are distinct.
 --
--- Of two neighbours the second is not less. So its front is higher, and then its text comes later; or the fronts are the same and its
--- text is not less. Since no text is there twice, it comes later then too.
+-- Of two neighbours the second is not less. If its front is higher, its text is greater. If the fronts are
+-- equal, its text is not less; and since the texts are distinct, it is greater.
 use Rattle.std.proofs.Common.{ℕ, ◌≡◌, ◌+◌, ◌<◌, List, [], ◌∷◌, map, length, get_or, Bor, refl, sym, ap, subst, ◌∙◌, arith, false, true}
 use Rattle.std.specs.Prelude.{All, IsSorted}
 use Rattle.std.specs.Ordering.{is_lt, ordering_then, ordering_reverse, nat_cmp}
@@ -19,7 +19,7 @@ use Rattle.lasso_lines.specs.Fronts.{front, IsFronted, text_cmp, fronted_cmp}
 use Rattle.lasso_lines.specs.Ordered.{IsAscending}
 use Rattle.lasso_lines.proofs.Fronts.{Compared, lower, same, higher, compared, front_orders}
 
--- of two texts that differ, one of which is not less, the other comes first
+-- if two texts differ and the other one is not less, the first is less
 apart : (one other : Text) (o : Ordering) → text_cmp one other ≡ o → is_lt (text_cmp other one) ≡ false → (one ≡ other → ⊥) → o ≡ Less
 apart one other Less e kept differ = refl
 apart one other Equal e kept differ = absurd (differ (slice_cmp-IsAntisymmetric nat_cmp-IsAntisymmetric one other e))
@@ -36,7 +36,7 @@ lower_cmp x y low = grind (arith, nat_tests)
 equal_cmp : (x y : ℕ) → x ≡ y → nat_cmp x y ≡ Equal
 equal_cmp x y is = grind (arith, nat_tests)
 
--- neighbours
+-- two neighbours
 before : (p q : ℕ × Bor Text) → IsFronted p → IsFronted q → is_lt (fronted_cmp q p) ≡ false → (p.1.now ≡ q.1.now → ⊥) → Compared p.0 q.0 → text_cmp p.1.now q.1.now ≡ Less
 before p q is is' kept differ (lower below) =
     front_orders 8 0 p.1.now q.1.now is.1 is'.1 (subst (λ n. n < front q.1.now) is.0 (subst (λ n. p.0 < n) is'.0 below))

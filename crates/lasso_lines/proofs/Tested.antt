@@ -1,7 +1,7 @@
--- A stretch of bytes that is tested once, for all its lines.
+-- A stretch of bytes that is tested for UTF-8 once, for all its lines.
 --
--- The bytes in front of those not tested are text. A line feed is ASCII, so a text may be cut before and behind it: a
--- line that ends in the tested bytes is a text, and so are the tested bytes behind it.
+-- The bytes before the untested ones are UTF-8. A line feed is ASCII, so UTF-8 can be cut before and after
+-- it. So a line that ends in the tested bytes is UTF-8, and so are the tested bytes after it.
 use Rattle.std.proofs.Common.{ℕ, suc, zero, ◌≡◌, ◌+◌, ◌-◌, ◌<◌, ◌≤◌, ◌==◌, true, List, [], ◌∷◌, length, take, drop, get_or, Some, ap, sym, subst, refl, arith, length-drop, length-take}
 use Rattle.std.specs.List.{slice_index}
 use Rattle.std.specs.Str.{IsUtf8}
@@ -11,7 +11,7 @@ use Rattle.memchr.specs.Find.{IsFirstByte, is_byte}
 use Rattle.lasso_lines.proofs.Buffers.{take_drop}
 use Rattle.lasso_cut.proofs.FirstLines.{Cut, cut_at}
 
--- a byte of the front
+-- a line feed in the first n bytes is ASCII
 byte_of_front : (bytes : List ℕ) (n at : ℕ) → at < n → at < length bytes → slice_index bytes at == 10 ≡ true → get_or (take n bytes) at 0 < 128
 byte_of_front bytes zero at below inside feed = absurd (omega arith)
 byte_of_front [] (suc n) at below inside feed = absurd (omega arith)
@@ -41,7 +41,7 @@ module _ (bytes : List ℕ) (at untested : ℕ) (text : IsUtf8 (take (length byt
   cut : Cut bytes at
   cut = cut_at bytes at found
 
-  -- a line in the tested bytes
+  -- a line that ends in the tested bytes is UTF-8
   pub line_is_tested : untested < length bytes - at → IsUtf8 (take at bytes)
   line_is_tested small = line_of_front bytes at (length bytes - untested) text (omega (arith, cut.inside)) (omega arith) cut.feed
 
@@ -51,6 +51,6 @@ module _ (bytes : List ℕ) (at untested : ℕ) (text : IsUtf8 (take (length byt
       let same : length bytes - untested - (at + 1) ≡ suc n = omega (arith, length-drop (at + 1) bytes, cut.inside, is) in
       subst (λ k. IsUtf8 (take k (drop (at + 1) bytes))) same (behind_in_front bytes at (length bytes - untested) text (omega (arith, length-drop (at + 1) bytes, cut.inside, is)) (omega arith) cut.feed)
 
-  -- the tested bytes behind it
+  -- and so are the tested bytes after it
   pub behind_is_tested : IsUtf8 (take (length (drop (at + 1) bytes) - untested) (drop (at + 1) bytes))
   behind_is_tested = behind_by (length (drop (at + 1) bytes) - untested) refl

@@ -1,11 +1,11 @@
--- How a run over all bytes ends, from how the run over the lines that are left ends.
+-- How a run over all bytes ends, from how a run over the remaining lines ends.
 --
--- While the engine works, it holds the beginning of a line, and some bytes are left to read. What it keeps true is
--- this: however the run over the lines of those bytes ends, with the part that it writes, so ends the run over the
--- whole input, with the bytes written so far in front of that part. This holds at the start, when all is left. A
--- stretch of bytes, of which some lines are answered and the rest is held, leads from one such state to the next:
--- what is said of it holds whatever comes behind, and so for the bytes that are left. At a return only the lines that
--- are left matter: none after the counts, or one of which a fault is told.
+-- While the engine works, it holds the beginning of a line, and some bytes are left to read. Its invariant:
+-- if a run over the lines of the held and the remaining bytes may write a part and end with a result, then
+-- the run over the whole input may write the bytes written so far and then this part, and end with the same
+-- result. It is true at the start, when all bytes are left. A stretch, of which some lines are answered and
+-- the rest is held, keeps it true: what is proved of the stretch is true whatever bytes follow. At a return
+-- only the remaining lines matter: none after the counts, or the line with the fault.
 use Rattle.std.proofs.Common.{ℕ, zero, suc, ◌≡◌, ◌+◌, ◌<◌, inl, inr, Bool, true, false, cond, List, [], ◌∷◌, ◌++◌, length, drop, Some, Result, Ok, Err, ap, sym, subst, ◌∙◌, refl, append_assoc, append-nil, arith}
 use Rattle.std.specs.Str.{is_utf8}
 use Rattle.lasso_parts.specs.Held.{Held}
@@ -21,7 +21,7 @@ use Rattle.lasso_lines.specs.declared.fault.RunFault.TheVariants.{Refused, NotTe
 use Rattle.lasso_lines.specs.Stretch.{LeadsTo, FailsWith}
 use Rattle.lasso_lines.proofs.Lines.{lines_last}
 
--- what one good line gives
+-- after a good line
 report_good : (held after : Held) (number : ℕ) (line : List ℕ) (lines : List (List ℕ)) → after_line held number line ≡ Ok after → report_from held number (line ∷ lines) ≡ line_report held line ++ report_from after (number + 1) lines
 report_good held after number line lines e = ap (λ r. or_else r (λ a. line_report held line ++ report_from a (number + 1) lines) (λ _. [])) e
 
@@ -34,7 +34,7 @@ reach_good held after number line lines e = ap (λ r. or_else r (λ a. 1 + reach
 answers_good : (held after : Held) (number : ℕ) (line : List ℕ) (lines : List (List ℕ)) (count : ℕ) → after_line held number line ≡ Ok after → answers_from held number (line ∷ lines) (suc count) ≡ line_report held line ++ answers_from after (number + 1) lines count
 answers_good held after number line lines count e = ap (λ r. or_else r (λ a. line_report held line ++ answers_from a (number + 1) lines count) (λ _. [])) e
 
--- what one faulty line gives
+-- at a faulty line
 report_bad : (held : Held) (number : ℕ) (line : List ℕ) (lines : List (List ℕ)) (fault : RunFault) → after_line held number line ≡ Err fault → report_from held number (line ∷ lines) ≡ []
 report_bad held number line lines fault e = ap (λ r. or_else r (λ a. line_report held line ++ report_from a (number + 1) lines) (λ _. [])) e
 
@@ -58,7 +58,7 @@ begins_more part front back b = (b.0 ++ back, ap (λ bs. bs ++ back) b.1 ∙ app
 begins_behind : (first part whole : List ℕ) → Begins part whole → Begins (first ++ part) (first ++ whole)
 begins_behind first part whole b = (b.0, ap (λ bs. first ++ bs) b.1 ∙ sym (append_assoc first part b.0))
 
--- the answers to the first lines begin the report
+-- the answers to the first lines are a beginning of the report
 answers_begin_of : (held : Held) (number : ℕ) (line : List ℕ) (lines : List (List ℕ)) (count : ℕ) (r : Result Held RunFault) → ((after : Held) → Begins (answers_from after (number + 1) lines count) (report_from after (number + 1) lines)) → Begins (or_else r (λ a. line_report held line ++ answers_from a (number + 1) lines count) (λ _. [])) (or_else r (λ a. line_report held line ++ report_from a (number + 1) lines) (λ _. []))
 answers_begin_of held number line lines count (Ok after) rest = begins_behind (line_report held line) _ _ (rest after)
 answers_begin_of held number line lines count (Err fault) rest = ([], refl)
@@ -68,7 +68,7 @@ answers_begin [] held number count = (_, refl)
 answers_begin (line ∷ lines) held number zero = (_, refl)
 answers_begin (line ∷ lines) held number (suc count) = answers_begin_of held number line lines count (after_line held number line) (λ after. answers_begin lines after (number + 1) count)
 
--- however a run ends, what it has written begins the report
+-- whatever a run ends with, what it has written is a beginning of the report
 begins_equal : (part whole : List ℕ) → part ≡ whole → Begins part whole
 begins_equal part whole e = subst (λ bs. Begins bs whole) (sym e) (begins_all whole)
 
@@ -89,7 +89,7 @@ pub ends_begin : (held : Held) (first : ℕ) (lines : List (List ℕ)) (part : L
 ends_begin held first lines part (Ok x) ends = begins_equal _ _ ends.1
 ends_begin held first lines part (Err fault) ends = fault_begins held first lines part fault ends
 
--- a good line, and then the others
+-- a good line, and then the rest
 module _ (held after : Held) (number : ℕ) (line : List ℕ) (lines : List (List ℕ)) (good : after_line held number line ≡ Ok after) where
   begins_after : (part : List ℕ) → Begins part (report_from after (number + 1) lines) → Begins (line_report held line ++ part) (report_from held number (line ∷ lines))
   begins_after part begins = subst (λ bs. Begins (line_report held line ++ part) bs) (sym (report_good held after number line lines good)) (begins_behind (line_report held line) part _ begins)
@@ -114,7 +114,7 @@ module _ (held after : Held) (number : ℕ) (line : List ℕ) (lines : List (Lis
   ends_after counted part (Ok x) ends = (fault_good held after number line lines good ∙ ends.0, told_after part ends.1)
   ends_after counted part (Err fault) ends = fault_after counted part fault ends
 
--- a line's own fault says so
+-- a fault that names this line
 data OwnFault (number : ℕ) : RunFault → Type 0 where
   own_text : OwnFault number (NotText number)
   own_refusal : (error : LassoError) → OwnFault number (Refused number error)
@@ -131,13 +131,13 @@ own_ends : (held : Held) (first : ℕ) (lines : List (List ℕ)) (number : ℕ) 
 own_ends held first lines number fault own_text w f = inl (f, sym w)
 own_ends held first lines number fault (own_refusal error) w f = inl (f, sym w)
 
--- the fault at the first of some lines ends them
+-- a fault at the first line ends the run
 pub line_fails : (held : Held) (number : ℕ) (line : List ℕ) (lines : List (List ℕ)) (part : List ℕ) (fault : RunFault) → LineFails held number line part fault → EndsFrom held number (line ∷ lines) part (Err fault)
 line_fails held number line lines part fault (faulty f e none) = subst (λ bs. EndsWithFault held number (line ∷ lines) bs f) (sym none) (own_ends held number (line ∷ lines) number f (own_of number (is_utf8 line) (interned spur_at first_bytes held line) f e) (report_bad held number line lines f e) (fault_bad held number line lines f e))
 line_fails held number line lines part fault (no_memory none) = inr (refl, inl (0, omega arith, reach_some held number line lines, none))
 line_fails held number line lines part fault (not_written after e b) = subst (λ w. Begins part w) (sym (report_good held after number line lines e)) (begins_more part (line_report held line) _ b)
 
--- the counts end a run without a fault
+-- after the last line, the counts end the run
 pub counts_end : (held : Held) (number : ℕ) (result : Result (Unit {0}) RunFault) (part : List ℕ) → WritesAll (last_report held) result part → EndsFrom held number [] part result
 counts_end held number (Ok x) part told = (refl, told)
 counts_end held number (Err fault) part w = subst (λ f. EndsWithFault held number [] part f) (sym w.0) w.1
@@ -163,18 +163,19 @@ drop_front : (front back : List ℕ) → drop (length front) (front ++ back) ≡
 drop_front [] back = refl
 drop_front (x ∷ front) back = drop_front front back
 
--- the bytes buffer, and those that are left behind them
+-- the bytes left to read are those in the buffer and the rest
 pub all_shown : (buffer left : List ℕ) → Begins buffer left → left ≡ buffer ++ drop (length buffer) left
 all_shown buffer left begins = begins.1 ∙ ap (λ bs. buffer ++ bs) (sym (ap (λ bs. drop (length buffer) bs) begins.1 ∙ drop_front buffer begins.0))
 
--- however the lines of the held and the left bytes end, so ends the whole input
+-- however a run over the held and the remaining bytes may end, so may the run over the whole input, with
+-- `part` in front
 pub record OnTheWay (input : List ℕ) (limit : ℕ) (held : Held) (number : ℕ) (begun left part : List ℕ) : Type 0 where
   pub ends : (more : List ℕ) (result : Result (Unit {0}) RunFault) → EndsFrom held number (lines_of (begun ++ left)) more result → Ends input limit (part ++ more) result
 
 pub way_starts : (input : List ℕ) (limit : ℕ) → OnTheWay input limit (new_held limit) 1 [] input []
 way_starts input limit = record { ends = λ more result e. e }
 
--- the bytes of a stretch go to the answers and to the line that is held
+-- some lines of a stretch are answered, and the rest of it is held
 way_leads : (input : List ℕ) (limit : ℕ) (held after : Held) (number number' : ℕ) (begun stretch begun' left part reply : List ℕ) → OnTheWay input limit held number begun (stretch ++ left) part → LeadsTo held number (begun ++ stretch) after number' begun' reply → OnTheWay input limit after number' begun' left (part ++ reply)
 way_leads input limit held after number number' begun stretch begun' left part reply way leads = record {
   ends = λ more result e.
@@ -182,11 +183,11 @@ way_leads input limit held after number number' begun stretch begun' left part r
       (way.ends (reply ++ more) result (subst (λ bs. EndsFrom held number (lines_of bs) (reply ++ more) result) (append_assoc begun stretch left) (leads left more result e)));
 }
 
--- the bytes buffer are the first of those that are left
+-- the bytes in the buffer are the first of those left to read
 pub way_shown : (input : List ℕ) (limit : ℕ) (held : Held) (number : ℕ) (begun buffer left part : List ℕ) → Begins buffer left → OnTheWay input limit held number begun left part → OnTheWay input limit held number begun (buffer ++ drop (length buffer) left) part
 way_shown input limit held number begun buffer left part begins way = subst (λ bs. OnTheWay input limit held number begun bs part) (all_shown buffer left begins) way
 
--- the bytes buffer are answered or held, and those behind them are left
+-- the bytes in the buffer are answered or held, and the bytes after them are left to read
 pub way_goes_on : (input : List ℕ) (limit : ℕ) (held after : Held) (number number' : ℕ) (begun buffer begun' left part reply : List ℕ) → Begins buffer left → OnTheWay input limit held number begun left part → LeadsTo held number (begun ++ buffer) after number' begun' reply → OnTheWay input limit after number' begun' (drop (length buffer) left) (part ++ reply)
 way_goes_on input limit held after number number' begun buffer begun' left part reply begins way leads =
     way_leads input limit held after number number' begun buffer begun' (drop (length buffer) left) part reply (way_shown input limit held number begun buffer left part begins way) leads
@@ -203,7 +204,7 @@ way_stops input limit held number begun left part way = (
   subst (λ bs. Ends input limit bs (Err WriteFailed)) (append-nil part) (way.ends [] (Err WriteFailed) (_, refl)),
 )
 
--- the input has ended, and the bytes that are held are the last line
+-- the input has ended, and the held bytes are the last line
 pub way_ended : (input : List ℕ) (limit : ℕ) (held : Held) (number : ℕ) (begun left part more : List ℕ) (result : Result (Unit {0}) RunFault) → NoFeed begun → left ≡ [] → EndsFrom held number (last_lines begun) more result → OnTheWay input limit held number begun left part → Ends input limit (part ++ more) result
 way_ended input limit held number begun left part more result none gone ends way =
     let last : lines_of (begun ++ left) ≡ last_lines begun = ap (λ bs. lines_of (begun ++ bs)) gone ∙ ap lines_of (append-nil begun) ∙ lines_last begun none in
@@ -217,6 +218,6 @@ stream_ends input limit part Usage is ends = absurd is
 stream_ends input limit part ReadFailed is ends = ends.0
 stream_ends input limit part WriteFailed is ends = ends.1
 
--- whatever a run ends with, it may end with a failed write in its place
+-- a run that may end with some result may end with a failed write instead
 pub ends_unflushed : (input : List ℕ) (limit : ℕ) (part : List ℕ) (result : Result (Unit {0}) RunFault) → Ends input limit part result → Ends input limit part (Err WriteFailed)
 ends_unflushed input limit part result ends = ends_begin (new_held limit) 1 (lines_of input) part result ends

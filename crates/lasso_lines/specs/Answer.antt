@@ -1,4 +1,4 @@
--- What answering lines does to the interner and the writer.
+-- What a call that writes answers does to the interner and the writer, and the faults with which it ends.
 use Rattle.std.specs.Prelude.{ℕ, ◌≡◌, List, [], ◌∷◌, Result, Ok, Err, MatchResult}
 use Rattle.lasso_parts.specs.declared.util.LassoErrorKind.TheVariants.{FailedAllocation}
 use Rattle.lasso_parts.specs.Held.{Held}
@@ -7,13 +7,13 @@ use Rattle.lasso_lines.specs.Report.{after_line, line_report}
 use Rattle.lasso_lines.specs.declared.fault.RunFault.{RunFault}
 use Rattle.lasso_lines.specs.declared.fault.RunFault.TheVariants.{Refused, NotText, Usage, ReadFailed, WriteFailed}
 
--- how often the reader failed in the call
+-- the number of failed reads in a call with this result
 abbrev pub failed_reads : {X : Type 0} → Result X RunFault → ℕ
 failed_reads (Ok _) = 0
 failed_reads (Err ReadFailed) = 1
 failed_reads (Err _) = 0
 
--- how often the writer failed in the call
+-- the number of failed writes in a call with this result
 abbrev pub failed_writes : {X : Type 0} → Result X RunFault → ℕ
 failed_writes (Ok _) = 0
 failed_writes (Err WriteFailed) = 1
@@ -23,55 +23,56 @@ failed_writes (Err _) = 0
 abbrev pub WritesAll : List ℕ → Result (Unit {0}) RunFault → List ℕ → Type 0
 WritesAll bytes result part = MatchResult result (λ _. part ≡ bytes) (λ fault. (fault ≡ WriteFailed) × Begins part bytes)
 
--- the line is faulty or memory was not found, and nothing is written; or the line is not, and a write failed
+-- why a line fails: it is faulty, or memory ran out, and nothing is written; or it is not faulty, but a
+-- write failed, and the part is a beginning of its answer
 pub data LineFails (before : Held) (number : ℕ) (line : List ℕ) (part : List ℕ) : RunFault → Type 0 where
   faulty : (fault : RunFault) → after_line before number line ≡ Err fault → part ≡ [] → LineFails before number line part fault
   no_memory : part ≡ [] → LineFails before number line part (Refused number FailedAllocation)
   not_written : (after : Held) → after_line before number line ≡ Ok after → Begins part (line_report before line) → LineFails before number line part WriteFailed
 
--- the line is interned, and its answer written; or it fails
+-- the line is interned, and its answer is written; or the line fails
 abbrev pub AnswersLine : Held → ℕ → List ℕ → Result (Unit {0}) RunFault → Held → List ℕ → Type 0
 AnswersLine before number line result after part = MatchResult result
     (λ _. (after_line before number line ≡ Ok after) × (part ≡ line_report before line))
     (LineFails before number line part)
 
--- a reader or a writer failed
+-- a read or a write failed
 abbrev pub IsStreamFault : RunFault → Type 0
 IsStreamFault ReadFailed = Unit {0}
 IsStreamFault WriteFailed = Unit {0}
 IsStreamFault _ = ⊥
 
--- a line is faulty, or a writer failed
+-- a line is refused or is not UTF-8, or a write failed
 abbrev pub IsAnswerFault : RunFault → Type 0
 IsAnswerFault ReadFailed = ⊥
 IsAnswerFault Usage = ⊥
 IsAnswerFault _ = Unit {0}
 
--- a reader failed, or there was no memory, at no line
+-- a read failed; or out of memory at no line, as line 0
 abbrev pub IsInputFault : RunFault → Type 0
 IsInputFault (Refused number error) = (number ≡ 0) × (error ≡ FailedAllocation)
 IsInputFault ReadFailed = Unit {0}
 IsInputFault _ = ⊥
 
--- a writer failed, or there was no memory, at no line
+-- a write failed; or out of memory at no line, as line 0
 abbrev pub IsEndFault : RunFault → Type 0
 IsEndFault (Refused number error) = (number ≡ 0) × (error ≡ FailedAllocation)
 IsEndFault WriteFailed = Unit {0}
 IsEndFault _ = ⊥
 
--- a line is not text, or there was no memory
+-- a line is not UTF-8; or out of memory
 abbrev pub IsCutFault : RunFault → Type 0
 IsCutFault (Refused number error) = error ≡ FailedAllocation
 IsCutFault (NotText number) = Unit {0}
 IsCutFault _ = ⊥
 
--- a line is faulty, or there was no memory
+-- a line is refused or is not UTF-8; or out of memory
 abbrev pub IsLineFault : RunFault → Type 0
 IsLineFault (Refused number error) = Unit {0}
 IsLineFault (NotText number) = Unit {0}
 IsLineFault _ = ⊥
 
--- the lines that a rest of bytes without a line feed has
+-- the lines of bytes without a line feed: one, or none if there are no bytes
 abbrev pub last_lines : List ℕ → List (List ℕ)
 last_lines [] = []
 last_lines (b ∷ bytes) = (b ∷ bytes) ∷ []

@@ -1,4 +1,4 @@
--- Which words give which settings.
+-- Which arguments set which limit and which number of workers.
 use Rattle.std.specs.Prelude.{ℕ, option_map, option_and_then, ◌+◌, ◌-◌, ◌*◌, ◌^◌, Bool, true, ◌&&◌, List, [], ◌∷◌, length, nat_le, nat_lt, Option, Some, None, codes, bytes_eq, if◌then◌else◌}
 
 -- an ASCII digit
@@ -9,7 +9,7 @@ abbrev pub all_digits : List ℕ → Bool
 all_digits [] = true
 all_digits (b ∷ bytes) = is_digit b && all_digits bytes
 
--- the value of digits, the highest first, behind others of this value
+-- the value of decimal digits that follow digits of this value
 abbrev pub value_behind : ℕ → List ℕ → ℕ
 value_behind value [] = value
 value_behind value (b ∷ bytes) = value_behind (value * 10 + (b - 48)) bytes
@@ -18,7 +18,7 @@ value_behind value (b ∷ bytes) = value_behind (value * 10 + (b - 48)) bytes
 abbrev pub is_number : List ℕ → Bool
 is_number word = nat_le 1 (length word) && (nat_le (length word) 20 && all_digits word)
 
--- the number that a word says: 1 to 20 digits, leading zeros among them, of a value below 2 ^ 64
+-- the number in a word: 1 to 20 digits, with leading zeros or not, of a value below 2 ^ 64
 abbrev pub number_of : List ℕ → Option ℕ
 number_of word = if is_number word && nat_lt (value_behind 0 word) (2 ^ 64) then Some (value_behind 0 word) else None
 
@@ -43,8 +43,9 @@ is_limit word = bytes_eq word (codes "--limit")
 abbrev pub is_workers : List ℕ → Bool
 is_workers word = bytes_eq word (codes "--workers")
 
--- the limit and the number of workers that the words set: the greatest limit and no workers where there is no word; those of
--- `--limit N` and of `--workers N`, each at most once, in any order; other words set none
+-- the limit and the number of workers that the words set: `--limit N` and `--workers N`, each at most once,
+-- in either order. Without a limit it is 2 ^ 64 - 1, and without a number of workers there are none. Other
+-- words set nothing
 abbrev pub settings_of : List (List ℕ) → Option (ℕ × Option ℕ)
 settings_of [] = Some (2 ^ 64 - 1, None)
 settings_of (flag ∷ []) = None

@@ -1,4 +1,4 @@
--- What explains that a run with workers tells a refused line.
+-- What explains that a run with workers reports a refused line.
 use Rattle.std.specs.Prelude.{ℕ, ◌≡◌, ◌⊎◌, List, []}
 use Rattle.lasso_parts.specs.Texts.{Text}
 use Rattle.lasso_parts.specs.declared.util.LassoErrorKind.TheVariants.{FailedAllocation}
@@ -9,8 +9,9 @@ use Rattle.lasso_lines.specs.Shares.{IsLowestRefusedIn}
 use Rattle.lasso_lines.specs.declared.fault.RunFault.{RunFault}
 use Rattle.lasso_lines.specs.declared.fault.RunFault.TheVariants.{Refused}
 
--- a refused line is told for out of memory; or it may be refused so somewhere in the history, and all lines before it are in the
--- list that the history leads to. Nothing is said of other faults
+-- a refused line is explained if it ran out of memory; or if, somewhere in the history, interning it may be
+-- refused with this error, and all lines before it are in the list at the history's end. Other faults need
+-- no explanation
 abbrev pub IsExplainedIn : Totals → History → List Text → RunFault → Type 0
 IsExplainedIn opening past lines (Refused number error) = (error ≡ FailedAllocation) ⊎ IsLowestRefusedIn opening past lines (number, error)
 IsExplainedIn opening past lines fault = Unit {0}
@@ -19,6 +20,7 @@ IsExplainedIn opening past lines fault = Unit {0}
 abbrev pub begun : ℕ → Totals
 begun limit = opened [] first_bytes 0 limit
 
--- the same in some legal history of such an interner. Whose events it has, and whether it sets another limit, is not said
+-- some legal history of such an interner explains the fault. It may have events of other callers, and may
+-- set another limit
 abbrev pub IsExplainedBy : ℕ → List Text → RunFault → Type 0
 IsExplainedBy limit lines fault = (past : History) × IsLegal spur_at (begun limit) past × IsExplainedIn (begun limit) past lines fault

@@ -1,4 +1,4 @@
--- Which line a fault names, in a run whose lines several workers intern.
+-- Which line a fault names, in a run with workers.
 use Rattle.std.specs.Prelude.{ℕ, ◌≡◌, ◌+◌, ◌≤◌, ◌⊎◌, cond, List, [], ◌∷◌, length, Option, Some, None}
 use Rattle.std.specs.Str.{is_utf8}
 use Rattle.lasso_parts.specs.Texts.{Text}
@@ -6,7 +6,7 @@ use Rattle.lasso_parts.specs.declared.util.LassoErrorKind.TheVariants.{FailedAll
 use Rattle.lasso_lines.specs.declared.fault.RunFault.{RunFault}
 use Rattle.lasso_lines.specs.declared.fault.RunFault.TheVariants.{Refused, NotText, Usage, ReadFailed, WriteFailed}
 
--- the number of the first of these lines that is not UTF-8, where the first line has this number
+-- the number of the first line that is not UTF-8, if the first of these lines has this number
 abbrev pub first_not_text : ℕ → List Text → Option ℕ
 first_not_text number [] = None
 first_not_text number (line ∷ lines) = cond (is_utf8 line) (first_not_text (number + 1) lines) (Some number)
@@ -19,8 +19,9 @@ AreTexts lines = first_not_text 1 lines ≡ None
 abbrev pub IsFirstNotText : List Text → ℕ → Type 0
 IsFirstNotText lines number = first_not_text 1 lines ≡ Some number
 
--- a run with workers over these lines may end with the fault: the first line that is not UTF-8; or the number of a line, or 0, where
--- all lines are UTF-8 or memory was not found; or a reader or a writer failed
+-- a run with workers over these lines may end with the fault: `NotText` names the first line that is not
+-- UTF-8; `Refused` has the number of a line, or 0, and all lines are UTF-8 or memory ran out; or a read or
+-- a write failed
 abbrev pub IsFaultOf : List Text → RunFault → Type 0
 IsFaultOf lines (Refused number error) = (number ≤ length lines) × (AreTexts lines ⊎ (error ≡ FailedAllocation))
 IsFaultOf lines (NotText number) = IsFirstNotText lines number

@@ -6,24 +6,24 @@ use Rattle.lasso_parts.specs.Texts.{Text, IsDistinct}
 use Rattle.lasso_lines.specs.Fronts.{text_cmp}
 use Rattle.lasso_lines.specs.Stream.{Begins}
 
--- each text comes before the next one, in the order of their bytes: so none comes twice
+-- each text is less than the next one, in the order of their bytes; so none comes twice
 abbrev pub IsAscending : List Text → Type 0
 IsAscending texts = AllAdjacentBelow (λ text next. text_cmp text next ≡ Less) texts (length texts)
 
--- each text with a line feed after it
+-- the texts, each followed by a line feed
 abbrev pub told : List Text → List ℕ
 told [] = []
 told (text ∷ texts) = (text ++ 10 ∷ []) ++ told texts
 
--- the two lists have the same texts, however often
+-- the two lists have the same texts; how often each comes does not matter
 abbrev pub AreSameTexts : List Text → List Text → Type 0
 AreSameTexts texts others = (text : Text) → Contains texts text ↔ Contains others text
 
--- the part is the lines, each once, in the order of their bytes, and each with a line feed after it
+-- the part is the distinct lines in the order of their bytes, each followed by a line feed
 abbrev pub WritesOrdered : List Text → List ℕ → Type 0
 WritesOrdered lines part = (texts : List Text) × IsAscending texts × AreSameTexts texts lines × (part ≡ told texts)
 
--- the part is a beginning of the lines in this order, if it is not empty
+-- the part is empty, or a beginning of the distinct lines in this order
 abbrev pub BeginsOrdered : List Text → List ℕ → Type 0
 BeginsOrdered lines part = ¬ (part ≡ []) → (whole : List ℕ) × WritesOrdered lines whole × Begins part whole
 
@@ -36,7 +36,8 @@ pub record AreNamed (list : List Text) (codes : List ℕ) (texts : List Text) : 
   pub distinct : IsDistinct texts
   pub each : (text : Text) → Contains texts text ↔ IsNamed list codes text
 
--- the part is the texts at the codes' positions, each once, in the order of their bytes, and each with a line feed after it
+-- the part is the texts at the codes' positions, each once, in the order of their bytes, each followed by a
+-- line feed
 abbrev pub WritesNamed : List Text → List ℕ → List ℕ → Type 0
 WritesNamed list codes part =
     (texts : List Text) × IsAscending texts × ((text : Text) → Contains texts text ↔ IsNamed list codes text) × (part ≡ told texts)

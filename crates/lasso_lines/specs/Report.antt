@@ -13,11 +13,11 @@ use Rattle.lasso_lines.specs.Stream.{Begins}
 use Rattle.lasso_lines.specs.declared.fault.RunFault.{RunFault}
 use Rattle.lasso_lines.specs.declared.fault.RunFault.TheVariants.{Refused, NotText, Usage, ReadFailed, WriteFailed}
 
--- an interner of these texts and this account
+-- an interner with these texts and this account
 abbrev pub holding : List Text → Account → Held
 holding texts account = record { texts = texts; account = account }
 
--- a refusal of the line of this number
+-- the result, with an error as the refusal of the line of this number
 abbrev pub with_number : ℕ → Result Held LassoError → Result Held RunFault
 with_number number (Ok after) = Ok after
 with_number number (Err error) = Err (Refused number error)
@@ -30,11 +30,11 @@ first_bytes = 4096
 abbrev pub after_line : Held → ℕ → List ℕ → Result Held RunFault
 after_line held number line = cond (is_utf8 line) (with_number number (interned spur_at first_bytes held line)) (Err (NotText number))
 
--- the answer to a line: the position of its text, and the line
+-- the answer to a line: the position of its text, a space, the line and a line feed
 abbrev pub line_report : Held → List ℕ → List ℕ
 line_report held line = decimal (interned_position held.texts line) ++ (32 ∷ (line ++ 10 ∷ []))
 
--- how many texts and bytes there are
+-- the counts: the number of texts, and the bytes of their buckets
 abbrev pub last_report : Held → List ℕ
 last_report held = decimal (length held.texts) ++ (codes " texts, " ++ (decimal held.account.usage ++ codes " bytes\n"))
 
@@ -42,37 +42,37 @@ abbrev pub or_else : {X E Y : Type 0} → Result X E → (X → Y) → (E → Y)
 or_else (Ok x) f g = f x
 or_else (Err e) f g = g e
 
--- the report of these lines, of which the first has this number: the answers up to the first faulty line, and
--- the counts where none is faulty
+-- the report of these lines, the first of which has this number: the answers to the lines before the first
+-- faulty one, or, if none is faulty, all answers and then the counts
 abbrev pub report_from : Held → ℕ → List (List ℕ) → List ℕ
 report_from held number [] = last_report held
 report_from held number (line ∷ lines) = or_else (after_line held number line) (λ after. line_report held line ++ report_from after (number + 1) lines) (λ _. [])
 
--- the first fault of these lines
+-- the fault of the first faulty line
 abbrev pub fault_from : Held → ℕ → List (List ℕ) → Option RunFault
 fault_from held number [] = None
 fault_from held number (line ∷ lines) = or_else (after_line held number line) (λ after. fault_from after (number + 1) lines) (λ fault. Some fault)
 
--- how many of these lines are read at most: those up to the first faulty one, that one included
+-- how many of these lines a run reaches at most: those before the first faulty one, and that one
 abbrev pub reach_from : Held → ℕ → List (List ℕ) → ℕ
 reach_from held number [] = 0
 reach_from held number (line ∷ lines) = or_else (after_line held number line) (λ after. 1 + reach_from after (number + 1) lines) (λ _. 1)
 
--- the answers to so many of these lines, up to the first faulty one
+-- the answers to the first `count` of these lines; they stop before a faulty line
 abbrev pub answers_from : Held → ℕ → List (List ℕ) → ℕ → List ℕ
 answers_from held number [] count = []
 answers_from held number (line ∷ lines) zero = []
 answers_from held number (line ∷ lines) (suc count) = or_else (after_line held number line) (λ after. line_report held line ++ answers_from after (number + 1) lines count) (λ _. [])
 
 module _ (held : Held) (first : ℕ) (lines : List (List ℕ)) (part : List ℕ) where
-  -- memory was not found at the line of this number, which no faulty line comes before, and the part is exactly
-  -- the answers to the lines before it; or the run found none before its first line, and nothing is written
+  -- memory ran out at the line of this number, no line before it is faulty, and the part is exactly the
+  -- answers to the lines before it; or memory ran out before the first line, and nothing is written
   abbrev pub LacksMemory : ℕ → Type 0
   LacksMemory number =
       ((before : ℕ) × (number ≡ first + before) × (before < reach_from held first lines) × (part ≡ answers_from held first lines before))
       ⊎ ((number ≡ 0) × (first ≡ 1) × (part ≡ []))
 
-  -- the fault is that of the first faulty line, and the part is the report up to it; or memory was not found
+  -- the fault is that of the first faulty line, and the part is the report; or memory ran out
   abbrev pub IsLineFault : RunFault → ℕ → Type 0
   IsLineFault fault number =
       ((fault_from held first lines ≡ Some fault) × (part ≡ report_from held first lines))
@@ -85,16 +85,16 @@ module _ (held : Held) (first : ℕ) (lines : List (List ℕ)) (part : List ℕ)
   EndsWithFault ReadFailed = Begins part (report_from held first lines)
   EndsWithFault WriteFailed = Begins part (report_from held first lines)
 
-  -- how a run over these lines ends, of which the first has this number, where it has written the part and answers the
-  -- result: without a fault no line is faulty, and the part is the report
+  -- how a run over these lines ends that has written the part and returns the result; the first line has
+  -- the number `first`. If the result is Ok, no line is faulty, and the part is the report
   abbrev pub EndsFrom : Result (Unit {0}) RunFault → Type 0
   EndsFrom result = MatchResult result (λ _. (fault_from held first lines ≡ None) × (part ≡ report_from held first lines)) EndsWithFault
 
--- an interner of default capacity, with this limit
+-- a new interner of default capacity with this limit
 abbrev pub new_held : ℕ → Held
 new_held limit = holding [] (fresh first_bytes limit)
 
--- what a run over these bytes writes where nothing but a line is faulty
+-- what a run over these bytes writes, unless a read or a write fails or memory runs out
 abbrev pub report : List ℕ → ℕ → List ℕ
 report bytes limit = report_from (new_held limit) 1 (lines_of bytes)
 

@@ -13,11 +13,12 @@ use Rattle.lasso_lines.specs.Ordered.{AreSameTexts}
 use Rattle.lasso_lines.specs.declared.fault.RunFault.{RunFault}
 use Rattle.lasso_lines.specs.declared.fault.RunFault.TheVariants.{Refused}
 
--- the line at this position, or the empty one past the end
+-- the line at this position, or an empty one past the end
 abbrev pub line_at : List Text → ℕ → Text
 line_at lines i = slice_index_or lines i []
 
--- the first `count` lines of a worker: the line at its number, and each `workers` lines on
+-- the first `count` lines of a worker, at the positions `worker`, `worker + workers`,
+-- `worker + 2 * workers` and so on
 abbrev pub share : List Text → (worker workers count : ℕ) → List Text
 share lines worker workers zero = []
 share lines worker workers (suc n) = share lines worker workers n ++ line_at lines (worker + n * workers) ∷ []
@@ -31,9 +32,9 @@ pub record IsShare (lines : List Text) (worker workers count : ℕ) : Type 0 whe
 abbrev pub HasCodes : List Text → List Text → (worker workers : ℕ) → List ℕ → Type 0
 HasCodes list lines worker workers codes = (count : ℕ) × IsShare lines worker workers count × AreCodes list (share lines worker workers count) codes
 
--- a refused line: its number, counted from 1, and the reason
-abbrev pub Refusal : Type 0
-Refusal = ℕ × LassoErrorKind
+-- a refused line: its number, counted from 1, and the error
+abbrev pub NumberedError : Type 0
+NumberedError = ℕ × LassoErrorKind
 
 -- out of memory; or somewhere in this history interning one of the texts may be refused with this error
 abbrev pub IsRefusalIn : Totals → History → List Text → LassoErrorKind → Type 0
@@ -41,9 +42,10 @@ IsRefusalIn opening past texts error =
     (error ≡ FailedAllocation)
     ⊎ ((text : Text) × (front back : History) × Contains texts text × (front ++ back ≡ past) × MayReply spur_at (totals opening front) (Intern Copied text) (Interned (Err error)))
 
--- one of the worker's lines was refused: the number is that line's, and the reason is out of memory, or one with which interning
--- this line may be refused somewhere in the history; the worker's lines before it are in the list that the history leads to
-abbrev pub IsRefusedBy : Totals → History → List Text → (worker workers : ℕ) → Refusal → Type 0
+-- one of the worker's lines, with this number, was refused. The error is out of memory, or one with which
+-- interning the line may be refused somewhere in the history. The worker's lines before it are in the list
+-- at the history's end
+abbrev pub IsRefusedBy : Totals → History → List Text → (worker workers : ℕ) → NumberedError → Type 0
 IsRefusedBy opening past lines worker workers refusal =
     (n : ℕ)
     × (worker + n * workers < length lines)
@@ -51,31 +53,32 @@ IsRefusedBy opening past lines worker workers refusal =
     × IsRefusalIn opening past (line_at lines (worker + n * workers) ∷ []) refusal.1
     × ((j : ℕ) → j < n → Contains (totals opening past).texts (line_at lines (worker + j * workers)))
 
--- a line of whichever worker was refused, for such a reason
-abbrev pub IsRefusedIn : Totals → History → List Text → Refusal → Type 0
+-- a line of any worker was refused, with this number and such an error
+abbrev pub IsRefusedIn : Totals → History → List Text → NumberedError → Type 0
 IsRefusedIn opening past lines refusal =
     (i : ℕ) × (i < length lines) × (refusal.0 ≡ i + 1) × IsRefusalIn opening past (line_at lines i ∷ []) refusal.1
 
--- each line before the one of this number, counted from 1, is in the list
+-- every line before the line of this number, counted from 1, is in the list
 abbrev pub AreInBefore : List Text → List Text → ℕ → Type 0
 AreInBefore list lines number = (i : ℕ) → i + 1 < number → Contains list (line_at lines i)
 
--- such a refusal is the lowest one: all lines before it are in the list that the history leads to
-abbrev pub IsLowestRefusedIn : Totals → History → List Text → Refusal → Type 0
+-- such a line is the lowest refused one: all lines before it are in the list at the history's end
+abbrev pub IsLowestRefusedIn : Totals → History → List Text → NumberedError → Type 0
 IsLowestRefusedIn opening past lines refusal = IsRefusedIn opening past lines refusal × AreInBefore (totals opening past).texts lines refusal.0
 
--- the fault is the lowest refusal; or out of memory where no line was at hand
+-- the fault is the lowest refused line; or out of memory at no line, as line 0
 abbrev pub IsRefusalOf : Totals → History → List Text → RunFault → Type 0
 IsRefusalOf opening past lines (Refused number error) = ((number ≡ 0) × (error ≡ FailedAllocation)) ⊎ IsLowestRefusedIn opening past lines (number, error)
 IsRefusalOf opening past lines _ = ⊥
 
--- the result is the refusal of the lower line, with its own reason
-abbrev pub IsLower : Option Refusal → Refusal → Refusal → Type 0
+-- the result is the refused line with the lower number, and its own error
+abbrev pub IsLower : Option NumberedError → NumberedError → NumberedError → Type 0
 IsLower None other result = result ≡ other
 IsLower (Some refusal) other result = (refusal.0 ≤ other.0 → result ≡ refusal) × (other.0 < refusal.0 → result ≡ other)
 
--- what was seen of the interner, in whose list the worker's lines have these codes; or one of them was refused there
-abbrev pub IsShareOf : {A : Type 0} → InternerId → List Text → (worker workers : ℕ) → SnapshotView → Result (Vec ℕ A) Refusal → Type 0
+-- what a worker returned: what it has seen of the interner, and the codes of its lines in the list there,
+-- or its refused line
+abbrev pub IsShareOf : {A : Type 0} → InternerId → List Text → (worker workers : ℕ) → SnapshotView → Result (Vec ℕ A) NumberedError → Type 0
 IsShareOf of lines worker workers known outcome =
     (known.of ≡ of)
     × MatchResult outcome

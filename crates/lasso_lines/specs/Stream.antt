@@ -1,15 +1,15 @@
 -- What a call does to the bytes of a reader or a writer, where they are known.
 use Rattle.std.specs.Prelude.{ℕ, ◌≡◌, List, [], ◌++◌, drop, Option, Some, None, Result, Ok, Err}
 
--- the first list begins the second
+-- the first list is a beginning of the second
 abbrev pub Begins : List ℕ → List ℕ → Type 0
 Begins part whole = (rest : List ℕ) × (whole ≡ part ++ rest)
 
--- known bytes grow by a part, of which P holds
+-- known bytes grow by a part that satisfies P
 abbrev pub Grows : Option (List ℕ) → Option (List ℕ) → (List ℕ → Type 0) → Type 0
 Grows before after P = (held : List ℕ) → before ≡ Some held → (part : List ℕ) × (after ≡ Some (held ++ part)) × P part
 
--- known bytes stay at the front
+-- known bytes stay, and others may follow
 abbrev pub OnlyGrows : Option (List ℕ) → Option (List ℕ) → Type 0
 OnlyGrows before after = Grows before after (λ _. Unit {0})
 
@@ -17,15 +17,15 @@ OnlyGrows before after = Grows before after (λ _. Unit {0})
 abbrev pub Stays : Option (List ℕ) → Option (List ℕ) → Type 0
 Stays before after = (held : List ℕ) → before ≡ Some held → after ≡ Some held
 
--- known bytes lose so many at the front
+-- known bytes lose the first `count`
 abbrev pub Loses : ℕ → Option (List ℕ) → Option (List ℕ) → Type 0
 Loses count before after = (held : List ℕ) → before ≡ Some held → after ≡ Some (drop count held)
 
--- these bytes come first in the known ones
+-- the known bytes begin with these
 abbrev pub ComeFirst : List ℕ → Option (List ℕ) → Type 0
 ComeFirst bytes known = (held : List ℕ) → known ≡ Some held → Begins bytes held
 
--- none are left of the bytes that were known
+-- none of the known bytes are left
 abbrev pub Ended : Option (List ℕ) → Option (List ℕ) → Type 0
 Ended before after = (held : List ℕ) → before ≡ Some held → after ≡ Some []
 
@@ -35,27 +35,27 @@ written None pending = None
 written (Some delivered) None = None
 written (Some delivered) (Some pending) = Some (delivered ++ pending)
 
--- 1 where the call failed, else 0
+-- 1 if the call failed, else 0
 abbrev pub failed_calls : {X E : Type 0} → Result X E → ℕ
 failed_calls (Ok _) = 0
 failed_calls (Err _) = 1
 
--- a reader: the bytes at hand, all bytes that are left, where they are known, and how many calls have failed
+-- a reader: the bytes in its buffer and all bytes left to read, where known, and the number of failed calls
 pub record ReaderView : Type 0 where
   pub at_hand : List ℕ
   pub left : Option (List ℕ)
   pub failures : ℕ
 
--- a writer: the bytes that were delivered and those that are pending, where they are known, how many calls have
--- failed, and how many bytes it can take at once
+-- a writer: the delivered and the pending bytes, where known, the number of failed calls, and how many
+-- bytes `take_line` has room for
 pub record WriterView : Type 0 where
   pub delivered : Option (List ℕ)
   pub pending : Option (List ℕ)
   pub failures : ℕ
   pub room : ℕ
 
--- a writer into memory: the bytes that it has taken, which are delivered, how many calls have failed, and how many
--- bytes it can take at once
+-- a writer into memory: the bytes that it has taken and delivered, the number of failed calls, and how many
+-- bytes `take_line` has room for
 pub record MemoryWriterView : Type 0 where
   pub bytes : List ℕ
   pub failures : ℕ

@@ -1,4 +1,4 @@
-//! The answers: a line behind the position of its text, and the counts.
+//! Writes the report: an answer to each line, and the counts at the end.
 ghost use Rattle.std.specs.Prelude.{◌≡◌, ℕ, ◌+◌, ◌++◌, ◌∷◌, [], IfErr, MatchResult, IsTrue, IsUtf8, decimal};
 ghost use Rattle.lasso_lines.specs.Stream.{Grows, OnlyGrows, written};
 ghost use Rattle.lasso_lines.specs.Report.{holding, first_bytes, last_report};
@@ -14,8 +14,9 @@ use std::str::{Utf8Error, from_utf8, from_utf8_unchecked};
 
 pub(crate) type LineRodeo = Rodeo<Spur, FixedState, Global>;
 
-// Interns the line and writes it behind the position of its text. It is text where `is_text` says so. The first
-// bucket must be of the report's bytes.
+// Interns the line and writes its answer: the position of its text, a space, the line and a line feed.
+// `is_text`: the caller has checked that `line` is UTF-8. `number` is the line's, for the fault. The
+// interner's first bucket must have 4096 bytes.
 pub(crate) fn answer_line<O: ByteWriter>(
     rodeo: &mut LineRodeo,
     line: &[u8],
@@ -41,7 +42,7 @@ pub(crate) fn answer_line<O: ByteWriter>(
     }
 }
 
-// The line as a text, where it is one. It is tested where `is_text` does not say that it is one.
+// The line as a `str`, or an error if it is not UTF-8. Not checked again if `is_text`.
 #[inline]
 fn line_text(line: &[u8], is_text: bool) -> Result<&str, Utf8Error>
     requires { IsTrue is_text → IsUtf8 line.now }
@@ -53,7 +54,7 @@ fn line_text(line: &[u8], is_text: bool) -> Result<&str, Utf8Error>
     from_utf8(line)
 }
 
-// Writes the line behind the position.
+// Writes the position, a space, the line and a line feed.
 fn write_answer<O: ByteWriter>(writer: &mut O, position: usize, line: &[u8]) -> Result<(), RunFault>
     ensures failures { O.failures writer.new ≡ O.failures writer.old + failed_writes result }
     ensures delivered { OnlyGrows (O.delivered writer.old) (O.delivered writer.new) }
@@ -61,13 +62,13 @@ fn write_answer<O: ByteWriter>(writer: &mut O, position: usize, line: &[u8]) -> 
         (WritesAll (decimal position ++ (32 ∷ (line.now ++ 10 ∷ []))) result) }
     ensures faults { IfErr result (λ fault. fault ≡ WriteFailed) }
 {
-    // The digits of the greatest position and the space behind them.
+    // 20 bytes for the digits of the greatest position, and a space.
     let mut front = [b' '; 21];
     let start = write_digits(position as u64, &mut front, 20);
     write_line(writer, &front[start..], line)
 }
 
-// Writes the front, the line and a line feed, at once where the writer has room.
+// Writes the front, the line and a line feed, by `take_line` if the writer has room for all of them.
 #[inline(always)]
 pub(crate) fn write_line<O: ByteWriter>(
     writer: &mut O,
@@ -86,7 +87,7 @@ pub(crate) fn write_line<O: ByteWriter>(
     write_parts(writer, front, line)
 }
 
-// Writes the front of an answer, the line and a line feed one after the other.
+// Writes the front, the line and a line feed one after another.
 #[cold]
 fn write_parts<O: ByteWriter>(writer: &mut O, front: &[u8], line: &[u8]) -> Result<(), RunFault>
     ensures failures { O.failures writer.new ≡ O.failures writer.old + failed_writes result }
@@ -100,7 +101,7 @@ fn write_parts<O: ByteWriter>(writer: &mut O, front: &[u8], line: &[u8]) -> Resu
     write_all(writer, b"\n")
 }
 
-// Writes how many texts and bytes there are.
+// Writes the counts: the number of texts, and the bytes of their buckets.
 pub(crate) fn answer_counts<O: ByteWriter>(
     rodeo: &LineRodeo,
     writer: &mut O,
@@ -117,7 +118,7 @@ pub(crate) fn answer_counts<O: ByteWriter>(
     write_all(writer, b" bytes\n")
 }
 
-// Writes the number's digits.
+// Writes the number in decimal.
 fn write_number<O: ByteWriter>(writer: &mut O, number: usize) -> Result<(), RunFault>
     ensures failures { O.failures writer.new ≡ O.failures writer.old + failed_writes result }
     ensures delivered { OnlyGrows (O.delivered writer.old) (O.delivered writer.new) }
@@ -129,7 +130,7 @@ fn write_number<O: ByteWriter>(writer: &mut O, number: usize) -> Result<(), RunF
     write_all(writer, digits.format(number).as_bytes())
 }
 
-// Writes the bytes by as many calls as it takes.
+// Writes all of the bytes, by several calls if needed. Stops at the first failed call.
 fn write_all<O: ByteWriter>(writer: &mut O, bytes: &[u8]) -> Result<(), RunFault>
     ensures failures { O.failures writer.new ≡ O.failures writer.old + failed_writes result }
     ensures delivered { OnlyGrows (O.delivered writer.old) (O.delivered writer.new) }

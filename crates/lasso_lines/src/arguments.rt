@@ -1,25 +1,25 @@
-//! The program's arguments.
+//! Parses the program's arguments.
 ghost use Rattle.std.specs.Prelude.{◌≡◌, Some, None, map, string_bytes, OnErr, IfOk, IfErr, option_map};
 ghost use Rattle.std.specs.Result.{result_ok};
 ghost use Rattle.lasso_lines.specs.Arguments.{settings_of, limited, worked, both, number_of};
 
 use crate::fault::RunFault;
 
-/// The most workers.
+/// The greatest number of workers.
 pub const MOST_WORKERS: usize = 64;
 
-/// What the arguments say.
+/// The settings that the arguments give.
 #[derive(Clone, Copy, Debug, PartialEq, Eq)]
 pub struct Settings {
-    /// The most bytes that the interner's buckets may take.
+    /// The most bytes that the interner's buckets may take. `usize::MAX` without `--limit`.
     pub limit: usize,
-    /// How many workers intern the lines, where they are to.
+    /// The number of workers, 1 to 64. `None` without `--workers`: one thread interns the lines.
     pub workers: Option<usize>,
 }
 
-/// The settings that the words give: none, or `--limit N` and `--workers N`, each at most once, in any order. Each N is 1 to 20
-/// digits, of a value below 2^64 for the limit and of one from 1 to 64 for the workers. Without a limit it is the greatest
-/// one; without workers there are none. Other words are `Usage`.
+/// Parses the arguments: `--limit N` and `--workers N`, each at most once, in either order. N has 1 to 20
+/// digits. It is below 2^64 for the limit, and 1 to 64 for the workers. Without `--limit` the limit is
+/// `usize::MAX`; without `--workers` there are no workers. Returns `Usage` for any other arguments.
 pub fn arguments(words: &[String]) -> Result<Settings, RunFault>
     ensures value { option_map (λ s. (s.limit, s.workers)) (result_ok result) ≡ settings_of (map string_bytes words.now) }
     ensures usage { IfErr result (λ fault. fault ≡ RunFault.Usage) }
@@ -44,7 +44,7 @@ pub fn arguments(words: &[String]) -> Result<Settings, RunFault>
     settings.ok_or(RunFault::Usage)
 }
 
-// The settings of a limit alone.
+// The settings of a limit alone. `None` if the word is not a number below 2^64.
 fn limited(limit: &str) -> Option<Settings>
     ensures { option_map (λ s. (s.limit, s.workers)) result ≡ limited limit.now }
 {
@@ -55,7 +55,7 @@ fn limited(limit: &str) -> Option<Settings>
     })
 }
 
-// The settings of this limit and a word for the workers.
+// The settings of this limit and a word for the workers. `None` if the word is not a number from 1 to 64.
 fn worked(limit: usize, workers: &str) -> Option<Settings>
     ensures { option_map (λ s. (s.limit, s.workers)) result ≡ worked limit workers.now }
 {
@@ -69,14 +69,14 @@ fn worked(limit: usize, workers: &str) -> Option<Settings>
     })
 }
 
-// The settings of both words.
+// The settings of a word for the limit and a word for the workers. `None` if either is wrong.
 fn both(limit: &str, workers: &str) -> Option<Settings>
     ensures { option_map (λ s. (s.limit, s.workers)) result ≡ both limit.now workers.now }
 {
     worked(parse_number(limit)?, workers)
 }
 
-// The number that a word says: 1 to 20 digits of a value below 2^64.
+// Parses 1 to 20 digits. `None` for any other word, and for a value of 2^64 or more.
 fn parse_number(word: &str) -> Option<usize>
     ensures { result ≡ number_of word.now }
 {

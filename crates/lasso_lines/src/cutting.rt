@@ -1,4 +1,4 @@
-//! A whole input, and its lines.
+//! Reads a whole input, and cuts it into lines.
 ghost use Rattle.std.specs.Prelude.{◌≡◌, ◌+◌, ◌++◌, ◌∷◌, ◌⊎◌, ℕ, List, [], Some, OnOk, IfOk, IfErr, IsUtf8, map};
 ghost use Rattle.lasso_cut.specs.Lines.{lines_of};
 ghost use Rattle.lasso_lines.specs.Stream.{Stays, Ended};
@@ -14,7 +14,7 @@ use lasso_cut::{after_newline, find_newline};
 use std::str::from_utf8;
 use std::sync::Wait;
 
-// Reads the input to its end, and puts its bytes behind those that are there.
+// Reads to the end of the input and appends its bytes to `input`. Out of memory is reported as line 0.
 pub(crate) fn read_all<R: Wait, I: ByteReader>(
     rt: &R,
     reader: &mut I,
@@ -38,7 +38,7 @@ pub(crate) fn read_all<R: Wait, I: ByteReader>(
     unreachable!()
 }
 
-// Asks for more bytes, where none are at hand.
+// Fills the reader's buffer if it is empty. It stays empty only at the end of the input.
 fn refill<I: ByteReader>(reader: &mut I) -> Result<(), RunFault>
     ensures reads { I.failures reader.new ≡ I.failures reader.old + failed_reads result }
     ensures left { Stays (I.left reader.old) (I.left reader.new) }
@@ -51,8 +51,8 @@ fn refill<I: ByteReader>(reader: &mut I) -> Result<(), RunFault>
     }
 }
 
-// The lines of the input, all of which have to be text. Bytes behind the last line feed are a line too. The first line that is
-// not text is the fault, by its number, counted from 1; or memory is not found at a line before that one.
+// The lines of the input. Bytes after the last line feed are a line too. Returns `NotText` with the number
+// of the first line that is not UTF-8, counted from 1, unless it runs out of memory at an earlier line.
 pub(crate) fn cut<'a, R: AllocGlobal + Wait>(
     rt: &R,
     input: &'a [u8],
@@ -77,7 +77,7 @@ pub(crate) fn cut<'a, R: AllocGlobal + Wait>(
     Ok(lines)
 }
 
-// Puts the line of this number behind the others.
+// Appends the line of this number. Returns `NotText` if it is not UTF-8.
 #[inline]
 fn push_line<'a>(lines: &mut Vec<&'a str>, line: &'a [u8], number: u64) -> Result<(), RunFault>
     ensures fault { IfErr result (λ fault. ((fault ≡ NotText number) × ¬ (IsUtf8 line.now)) ⊎ (fault ≡ Refused number FailedAllocation)) }

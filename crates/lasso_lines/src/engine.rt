@@ -1,4 +1,4 @@
-//! The engine: from bytes to the report of their lines.
+//! The engine: reads bytes and writes the report of their lines.
 ghost use Rattle.std.specs.Prelude.{◌≡◌, ℕ, ◌+◌, List, [], Some, Err, OnOk, IfErr};
 ghost use Rattle.lasso_lines.specs.Stream.{Grows, OnlyGrows, Stays, Ended, written};
 ghost use Rattle.lasso_lines.specs.Report.{Ends, EndsFrom, holding, first_bytes};
@@ -12,15 +12,14 @@ use crate::stretches::answer_stretch;
 use lasso::{Capacity, MemoryLimits, Rodeo};
 use std::sync::Wait;
 
-/// Reads lines to the end of the input and writes the report of them: each line behind the position of
-/// its text, and then how many texts and bytes there are. The bytes that the reader shows are used up
-/// together, once each line that ends among them is answered: so a line's answer is written before the
-/// next line's bytes are used up. All is flushed before more input is asked for and before each return;
-/// nothing is tried again after a failed read or write.
+/// Reads lines to the end of the input and writes their report: for each line the position of its text and
+/// the line, and at the end the number of texts and of bytes. Writes the answers to all lines that end in
+/// the reader's buffer, and only then consumes the buffer. Flushes before each read and before it returns,
+/// unless a write failed. Never retries a failed read or write.
 ///
-/// A refused line, or one that is not UTF-8, ends the run after the answers to the lines before it. So
-/// does want of memory at a line; at number 0 no line was at hand, and nothing is written. After a failed
-/// read or write, what was written is a beginning of the report.
+/// A line that is refused or is not UTF-8 ends the run after the answers to the lines before it. So does
+/// out of memory at a line. Out of memory before the first line is reported as line 0, and nothing is
+/// written. After a failed read or write, what was written is a beginning of the report.
 pub fn run<R: AllocGlobal + Wait, I: ByteReader, O: ByteWriter>(
     rt: &R,
     reader: &mut I,
@@ -45,7 +44,7 @@ pub fn run<R: AllocGlobal + Wait, I: ByteReader, O: ByteWriter>(
     result
 }
 
-// Answers each line and then counts. All is flushed before each read.
+// Writes the answers and then the counts. Flushes before each read; the caller flushes at the end.
 fn answer_input<R: AllocGlobal + Wait, I: ByteReader, O: ByteWriter>(
     rt: &R,
     reader: &mut I,
@@ -82,7 +81,7 @@ fn answer_input<R: AllocGlobal + Wait, I: ByteReader, O: ByteWriter>(
     unreachable!()
 }
 
-// Flushes what is written, and then asks for more bytes, where none are at hand.
+// Flushes the writer, and then fills the reader's buffer if it is empty.
 fn ask_for_more<I: ByteReader, O: ByteWriter>(
     reader: &mut I,
     writer: &mut O,
@@ -103,7 +102,7 @@ fn ask_for_more<I: ByteReader, O: ByteWriter>(
     }
 }
 
-// Answers what is left as a line, if there is anything, and then writes the counts.
+// Writes the answer to the bytes after the last line feed, if there are any, and then the counts.
 fn answer_end<O: ByteWriter>(
     rodeo: &mut LineRodeo,
     line: &[u8],
@@ -124,7 +123,7 @@ fn answer_end<O: ByteWriter>(
     answer_counts(rodeo, writer)
 }
 
-// Delivers all that is written.
+// Flushes the writer: delivers every byte that it has taken.
 pub(crate) fn flush_all<O: ByteWriter>(writer: &mut O) -> Result<(), RunFault>
     ensures failures { O.failures writer.new ≡ O.failures writer.old + failed_writes result }
     ensures delivered { OnlyGrows (O.delivered writer.old) (O.delivered writer.new) }

@@ -1,10 +1,10 @@
-//! A count of failed calls that has no bound. It exists only in proofs and takes no memory.
+//! An unbounded count of failed calls. It exists only in proofs and takes no memory.
 ghost use Rattle.std.specs.Prelude.{◌≡◌, ℕ, ◌+◌};
 ghost use base.Fml.{ftrue};
 
 use std::marker::Model;
 
-/// How many calls of a reader or a writer have failed, as proofs count them.
+/// The number of failed calls of a reader or a writer, for proofs.
 #[derive(Drop)]
 pub struct Failures {
     pub ghost count: { ℕ },
@@ -15,14 +15,14 @@ impl Model for Failures {
 }
 
 impl Failures {
-    /// No call has failed.
+    /// A count of 0.
     pub fn none() -> Failures
         ensures { result.count ≡ 0 }
     {
         Failures {}
     }
 
-    /// One call more has failed.
+    /// A count that is one higher.
     pub fn and_one(&self) -> Failures
         ensures { result.count ≡ self.now.count + 1 }
     {

@@ -1,4 +1,4 @@
-//! Why a run ends before its report is whole.
+//! Why a run ends early.
 ghost use Rattle.std.specs.Prelude.{◌≡◌, Some};
 ghost use Rattle.lasso_lines.specs.Fault.{status_of, fault_text};
 ghost use Rattle.lasso_parts.specs.declared.util.LassoErrorKind.TheVariants.{FailedAllocation};
@@ -6,31 +6,31 @@ ghost use Rattle.lasso_parts.specs.declared.util.LassoErrorKind.TheVariants.{Fai
 use lasso::{LassoError, LassoErrorKind};
 use std::fmt;
 
-/// Why a run ended before its report was whole. Lines are numbered from 1.
+/// Why a run ended before its report was complete. Lines are numbered from 1.
 #[derive(Debug, Drop, PartialEq, Eq)]
 pub enum RunFault {
-    /// The line was refused. Number 0 stands where no line is at hand.
+    /// The line was refused, and why. Number 0 means out of memory at no line.
     Refused(u64, LassoError),
     /// The line is not UTF-8.
     NotText(u64),
-    /// The program's arguments are not those of its usage.
+    /// The program's arguments are wrong.
     Usage,
-    /// The reader failed.
+    /// A read failed.
     ReadFailed,
-    /// The writer failed.
+    /// A write or a flush failed.
     WriteFailed,
 }
 
 impl RunFault {
-    /// Want of memory at the line of this number.
+    /// Out of memory at the line of this number, or at no line if it is 0.
     pub fn no_memory(number: u64) -> Self
         ensures { result ≡ RunFault.Refused number FailedAllocation }
     {
         RunFault::Refused(number, LassoError::new(LassoErrorKind::FailedAllocation))
     }
 
-    /// The status that the program ends with: 1 for a refused line, 2 for a line that is not UTF-8,
-    /// 3 for bad arguments, 4 for a failed read or write.
+    /// The program's exit status: 1 for a refused line, 2 for a line that is not UTF-8, 3 for wrong
+    /// arguments, 4 for a failed read or write.
     pub fn status(&self) -> u8
         ensures { result ≡ status_of self.now }
     {

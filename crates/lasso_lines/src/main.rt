@@ -1,5 +1,6 @@
-//! Writes each line of its input behind the position of its text, and then how many texts there are; with `--workers N` it has
-//! threads intern the lines, and writes the distinct ones in the order of their bytes.
+//! Writes each line of standard input after the position of its text, and at the end the number of texts
+//! and of bytes. With `--workers N`, N threads intern the lines, and the program writes the distinct lines
+//! in the order of their bytes.
 #![tactic(auto)]
 
 mod answers;
@@ -41,7 +42,7 @@ fn main(rt: HostRuntime) -> ExitCode {
     }
 }
 
-// Reports the lines of standard input on standard output, as the words behind the program's name say.
+// Runs from standard input to standard output, with the program's arguments.
 fn report_lines<R>(rt: &R) -> Result<(), RunFault>
 where
     R: AllocGlobal + Env + Input + Print + Threads + Wait + Sync,
@@ -54,7 +55,7 @@ where
     run_words(rt, &words, &mut reader, &mut writer)
 }
 
-// The words behind the program's name. Words that are not text are bad arguments.
+// The arguments after the program's name. Returns `Usage` if one is not UTF-8.
 fn argument_words<R: AllocGlobal + Env>(rt: &R) -> Result<Vec<String>, RunFault> {
     let mut all = match env::args(rt) {
         Ok(all) => all,
@@ -65,7 +66,7 @@ fn argument_words<R: AllocGlobal + Env>(rt: &R) -> Result<Vec<String>, RunFault>
     all.collect(rt.alloc()).map_err(no_memory)
 }
 
-// Want of memory that is no line's.
+// Out of memory at no line.
 fn no_memory(_: AllocError) -> RunFault {
     RunFault::no_memory(0)
 }

@@ -1,4 +1,4 @@
-//! A reader and a writer of bytes in memory, and the report over them.
+//! A reader and a writer of bytes in memory, and a run over them.
 ghost use Rattle.std.specs.Prelude.{◌≡◌, ℕ, [], Some, Err};
 ghost use Rattle.lasso_lines.specs.Report.{Ends};
 ghost use Rattle.lasso_lines.specs.declared.fault.RunFault.TheVariants.{ReadFailed, Usage};
@@ -12,7 +12,7 @@ use std::alloc::Global;
 use std::marker::Model;
 use std::sync::Wait;
 
-/// A reader that shows all its bytes at once and never fails.
+/// A reader of bytes in memory. All bytes that are left are in its buffer, and it never fails.
 #[derive(Drop)]
 pub struct MemoryReader<'a> {
     rest: &'a [u8],
@@ -27,7 +27,7 @@ impl<'a> Model for MemoryReader<'a> {
 }
 
 impl<'a> MemoryReader<'a> {
-    /// A reader of the bytes.
+    /// A reader of these bytes.
     pub fn new(bytes: &'a [u8]) -> Self
         ensures { result ≡ bytes.now }
     {
@@ -55,7 +55,7 @@ impl ByteReader for MemoryReader<'_> {
     }
 }
 
-/// A writer that delivers what it takes into memory at once. Where there is no memory for it a write fails.
+/// A writer into memory. What it takes is delivered at once. A write fails when out of memory.
 #[derive(Drop)]
 pub struct MemoryWriter {
     bytes: Vec<u8>,
@@ -72,7 +72,7 @@ impl Model for MemoryWriter {
 }
 
 impl MemoryWriter {
-    /// A writer that has delivered nothing and has not failed.
+    /// A writer that has delivered nothing and has no failed call.
     pub fn new(alloc: Global) -> Self
         ensures bytes { result.bytes ≡ [] }
         ensures failures { result.failures ≡ 0 }
@@ -83,7 +83,7 @@ impl MemoryWriter {
         }
     }
 
-    /// The bytes that were delivered.
+    /// Returns the delivered bytes.
     pub fn into_bytes(self) -> Vec<u8>
         ensures { result.items ≡ self.bytes }
     {
@@ -125,7 +125,7 @@ impl ByteWriter for MemoryWriter {
     }
 }
 
-/// What a run over the bytes writes, and how it ends. A read never fails.
+/// Runs over the bytes. Returns what was written and how the run ended: never `ReadFailed` or `Usage`.
 pub fn report_of<R: AllocGlobal + Wait>(
     rt: &R,
     input: &[u8],

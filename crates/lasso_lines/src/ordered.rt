@@ -1,4 +1,4 @@
-//! The distinct lines, in the order of their bytes.
+//! Writes the distinct lines in the order of their bytes.
 ghost use Rattle.std.specs.Prelude.{◌≡◌, ◌+◌, ◌++◌, ◌∷◌, [], true, false, ◌↔◌, ◌<◌, ℕ, Some, OnOk, IfOk, IfErr, Err, All, Contains, length, map, slice_index_or, vec_len, if◌then◌else◌};
 ghost use mathlib.Core.List.{IsPrefix};
 ghost use Rattle.lasso_log.specs.Views.{PassView, InternerId, list_of};
@@ -18,8 +18,9 @@ use lasso::{Spur, SpurThreadedRodeo};
 use std::alloc::{AllocError, Global};
 use std::thread::Threads;
 
-// Writes the texts at these positions of the interner's list, each once, in the order of their bytes and with a line feed
-// after it. They are sorted by `threads` threads.
+// Writes the texts at these positions of the interner's list, each once, in the order of their bytes, each
+// followed by a line feed. Sorts them with `threads` threads. Out of memory is reported as line 0, and
+// nothing is written then.
 pub(crate) fn write_in_order<R: AllocGlobal + Threads + Sync, O: ByteWriter>(
     rt: &R,
     rodeo: &SpurThreadedRodeo,
@@ -46,7 +47,7 @@ pub(crate) fn write_in_order<R: AllocGlobal + Threads + Sync, O: ByteWriter>(
     flush_all(writer)
 }
 
-// The texts at these positions of the interner's list, each once.
+// The texts at these positions of the interner's list, each once, each with its front.
 fn collect<'a, R: AllocGlobal>(
     rt: &R,
     rodeo: &'a SpurThreadedRodeo,
@@ -74,7 +75,7 @@ fn collect<'a, R: AllocGlobal>(
     Ok(texts)
 }
 
-// Adds the text if it is marked.
+// Appends the text and its front if it is marked.
 fn take_marked<'a>(
     texts: &mut Vec<Fronted<'a>>,
     text: &'a str,
@@ -94,7 +95,7 @@ fn take_marked<'a>(
     }
 }
 
-// A list of this length that marks these positions.
+// A list of `len` marks, set at these positions. Positions past its end are ignored.
 fn marks_of(alloc: Global, codes: &[u32], len: usize) -> Result<Vec<bool>, AllocError>
     ensures { IfOk result (λ marks. (vec_len marks ≡ len) × ((p : ℕ) → p < len → (slice_index_or marks.items p false ≡ true) ↔ Contains codes.now p)) }
 {
@@ -105,7 +106,7 @@ fn marks_of(alloc: Global, codes: &[u32], len: usize) -> Result<Vec<bool>, Alloc
     Ok(marks)
 }
 
-// Marks the position, if the list has it.
+// Sets the mark at the position. Does nothing past the end.
 fn mark(marks: &mut [bool], at: usize)
     ensures here { at < length marks.old → slice_index_or marks.new at false ≡ true }
     ensures others { (p : ℕ) → ¬ (p ≡ at) → slice_index_or marks.new p false ≡ slice_index_or marks.old p false }
@@ -115,7 +116,7 @@ fn mark(marks: &mut [bool], at: usize)
     }
 }
 
-// Writes each text with a line feed after it.
+// Writes the texts in this order, each followed by a line feed.
 fn write_texts<O: ByteWriter>(writer: &mut O, texts: &[Fronted<'_>]) -> Result<(), RunFault>
     ensures writes { O.failures writer.new ≡ O.failures writer.old + failed_writes result }
     ensures delivered { OnlyGrows (O.delivered writer.old) (O.delivered writer.new) }

@@ -1,4 +1,4 @@
-//! The program between its ends: the words of the command line, a reader and a writer.
+//! The program, given its arguments, a reader and a writer.
 ghost use Rattle.std.specs.Prelude.{◌≡◌, ℕ, ◌+◌, List, [], Option, Some, None, Err, OnOk, IfErr, map, string_bytes};
 ghost use Rattle.lasso_lines.specs.Stream.{Grows, OnlyGrows, Stays, Ended, written};
 ghost use Rattle.lasso_lines.specs.Report.{Ends};
@@ -19,8 +19,8 @@ use lasso::MemoryLimits;
 use std::sync::Wait;
 use std::thread::Threads;
 
-/// Does what the words say with the lines of the reader: `run` with the limit that they set, or `run_workers` where they set a
-/// number of workers. Words that set none are the fault `Usage`, and nothing is read or written then.
+/// Parses the arguments, and runs over the reader's lines: `run_workers` if they set a number of workers,
+/// else `run`. Returns `Usage` for wrong arguments; nothing is read or written then.
 pub fn run_words<R: AllocGlobal + Threads + Wait + Sync, I: ByteReader, O: ByteWriter>(
     rt: &R,
     words: &[String],

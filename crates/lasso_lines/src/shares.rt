@@ -1,4 +1,4 @@
-//! The lines of each worker, and what the workers give back.
+//! Gives each worker its lines, and joins what the workers return.
 ghost use Rattle.std.specs.Prelude.{◌≡◌, ◌<◌, ◌≤◌, ◌+◌, ◌++◌, ◌∷◌, List, [], OnOk, IfOk, IfErr, IfSome, IsSomeAnd, MatchResult, None, length, map, vec_len};
 ghost use mathlib.Core.List.{IsPrefix};
 ghost use Rattle.lasso_parts.specs.Texts.{Text};
@@ -20,20 +20,20 @@ use std::thread::{Threads, map_indices};
 #[cfg(test)]
 mod tests;
 
-// A line that was refused, by its number, and why.
-type Refusal = (u64, LassoError);
+// A refused line: its number, counted from 1, and the error.
+type NumberedError = (u64, LassoError);
 
-// What a worker gives back: what its pass has seen of the interner, and the positions of its lines' texts in order, or
-// the first of its lines that was refused.
+// What a worker returns: what its pass has seen of the interner, and the positions of its lines' texts in
+// order, or the first of its lines that was refused.
 #[derive(Drop)]
 struct Share {
     known: Snapshot<Spur>,
-    codes: Result<Vec<u32>, Refusal>,
+    codes: Result<Vec<u32>, NumberedError>,
 }
 
-// Has the workers intern the lines. Returns the positions of the lines' texts in the list that the pass has then seen,
-// worker by worker. The fault is that of the lowest line that was refused, with the reason that it was refused for: all lines before
-// it are in that list.
+// Interns the lines with the workers. Returns the positions of the lines' texts, worker by worker, in the
+// list that the pass has seen at the end. If lines were refused, returns the error of the lowest one; all
+// lines before it are in that list. Out of memory at no line is reported as line 0.
 pub(crate) fn share_out<R: AllocGlobal + Threads + Wait + Sync, G: Gate>(
     rt: &R,
     rodeo: &SpurThreadedRodeo,
@@ -70,12 +70,13 @@ pub(crate) fn share_out<R: AllocGlobal + Threads + Wait + Sync, G: Gate>(
     }
 }
 
-// Adds the positions that a worker gave back, or keeps the lowest line that was refused.
+// Appends the positions that a worker returned, if none of its lines was refused. Returns the lowest
+// refused line so far.
 fn add_codes(
     codes: &mut Vec<u32>,
-    lowest: Option<Refusal>,
-    outcome: &Result<Vec<u32>, Refusal>,
-) -> Result<Option<Refusal>, RunFault>
+    lowest: Option<NumberedError>,
+    outcome: &Result<Vec<u32>, NumberedError>,
+) -> Result<Option<NumberedError>, RunFault>
     ensures fault { IfErr result (λ fault. fault ≡ Refused 0 FailedAllocation) }
     ensures lowest { IfOk result (λ next. MatchResult outcome.now (λ _. next ≡ lowest) (λ refusal. IsSomeAnd next (IsLower lowest refusal))) }
     ensures added { IfOk result (λ next. next ≡ None → (lowest ≡ None) × MatchResult outcome.now (λ more. codes.new.items ≡ codes.old.items ++ more.items) (λ _. ⊥)) }
@@ -91,8 +92,8 @@ fn add_codes(
     }
 }
 
-// The refusal of the lower line.
-fn lower(lowest: Option<Refusal>, other: &Refusal) -> Refusal
+// The refused line with the lower number, and its error.
+fn lower(lowest: Option<NumberedError>, other: &NumberedError) -> NumberedError
     ensures { IsLower lowest other.now result }
 {
     match lowest {
@@ -101,7 +102,7 @@ fn lower(lowest: Option<Refusal>, other: &Refusal) -> Refusal
     }
 }
 
-// Interns the lines of the worker by a pass of its own.
+// Interns the worker's lines with a new pass.
 fn intern_share<R: AllocGlobal + Wait, G: Gate>(
     rt: &R,
     rodeo: &SpurThreadedRodeo,
@@ -121,7 +122,8 @@ fn intern_share<R: AllocGlobal + Wait, G: Gate>(
     }
 }
 
-// Interns the lines of the worker by the pass, up to the first that is refused, and returns their texts' positions.
+// Interns the worker's lines, at the positions `worker`, `worker + workers`, `worker + 2 * workers` and so
+// on. Returns the positions of their texts. Stops at the first refused line and returns its error.
 fn intern_by<R: AllocGlobal + Wait, G: Gate>(
     rt: &R,
     rodeo: &SpurThreadedRodeo,
@@ -130,7 +132,7 @@ fn intern_by<R: AllocGlobal + Wait, G: Gate>(
     worker: usize,
     workers: usize,
     gate: &G,
-) -> Result<Vec<u32>, Refusal>
+) -> Result<Vec<u32>, NumberedError>
     requires some { 0 < workers }
     requires of { pass.old.of ≡ rodeo.now }
     ensures of { pass.new.of ≡ rodeo.now }
@@ -149,7 +151,7 @@ fn intern_by<R: AllocGlobal + Wait, G: Gate>(
     Ok(codes)
 }
 
-// Interns the line of this number, and adds its text's position.
+// Interns the line of this number, and appends its text's position.
 fn intern_line<R: Wait>(
     rt: &R,
     rodeo: &SpurThreadedRodeo,
@@ -157,7 +159,7 @@ fn intern_line<R: Wait>(
     line: &str,
     number: u64,
     codes: &mut Vec<u32>,
-) -> Result<(), Refusal>
+) -> Result<(), NumberedError>
     requires { pass.old.of ≡ rodeo.now }
     ensures of { pass.new.of ≡ rodeo.now }
     ensures number { IfErr result (λ refusal. refusal.0 ≡ number) }

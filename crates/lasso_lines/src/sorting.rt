@@ -1,14 +1,14 @@
-//! Texts in the order of their bytes, sorted by several threads.
+//! Sorts texts in the order of their bytes, with several threads.
 ghost use Rattle.std.specs.Prelude.{◌≡◌, ◌<◌, All, IsPermutation, IsSorted, slice_index};
 ghost use Rattle.lasso_lines.specs.Fronts.{front, fronted_cmp};
 
 use std::thread::{Threads, for_each_chunk_mut};
 
-// A text after its first bytes as a number. Such pairs have the order of the texts' bytes.
+// A text after its front (`front_of`). Such pairs have the order of their texts.
 pub(crate) type Fronted<'a> = (u64, &'a str);
 
-// The first eight bytes as a number, the first one highest, with zeros after a shorter text. Where two such numbers differ the texts
-// have their order: a text that ends first begins the other, or differs from it before.
+// The front of a text: its first eight bytes as a big-endian number, with zeros past its end. If the fronts
+// of two texts differ, the texts have the order of their fronts.
 pub(crate) fn front_of(text: &str) -> u64
     ensures front { result ≡ front text.now }
     ensures bytes { All (λ b. b < 256) text.now }
@@ -28,8 +28,8 @@ fn byte_at(bytes: &[u8], at: usize) -> u8
     bytes.get(at).copied().unwrap_or(0)
 }
 
-// Sorts the texts: each thread a part of them, and then the parts are merged. Where there is no memory to merge them, all are
-// sorted in place.
+// Sorts the texts. Each thread sorts a part of them, and then the parts are merged. With one thread, or
+// without memory to merge, all are sorted in place.
 pub(crate) fn sort<R: AllocGlobal + Threads + Sync>(
     rt: &R,
     texts: &mut Vec<Fronted<'_>>,
@@ -47,7 +47,7 @@ pub(crate) fn sort<R: AllocGlobal + Threads + Sync>(
     texts.sort_unstable();
 }
 
-// Sorts parts of the texts, each by a thread.
+// Cuts the texts into at most `threads` parts, and sorts each part in a thread.
 fn sort_parts<R: Threads + Sync>(rt: &R, texts: &mut [Fronted<'_>], threads: usize)
     ensures { IsPermutation texts.old texts.new }
 {
@@ -58,7 +58,6 @@ fn sort_parts<R: Threads + Sync>(rt: &R, texts: &mut [Fronted<'_>], threads: usi
     for_each_chunk_mut(rt, texts, size, &work);
 }
 
-// Sorts one part.
 fn sort_part(part: &mut [Fronted<'_>])
     ensures { IsPermutation part.old part.new }
 {

@@ -1,4 +1,4 @@
-//! The readers and writers of std, with a large buffer each.
+//! Readers and writers of std, each with a large buffer.
 ghost use Rattle.std.specs.Prelude.{◌≡◌, ℕ, ◌+◌, ◌-◌, ◌<◌, ◌≤◌, ◌↔◌, ◌++◌, ◌∷◌, [], false, IsTrue, Some, IfOk, OnOk, MatchResult, drop, take, length, vec_capacity};
 ghost use Rattle.lasso_lines.specs.Stream.{Begins, Grows, Stays, OnlyGrows, written};
 
@@ -11,10 +11,10 @@ use std::alloc::{AllocError, Global};
 use std::io::{Read, Write};
 use std::marker::Model;
 
-/// How many bytes a buffer takes.
+/// The size of a buffer in bytes.
 pub const BUFFER: usize = 65536;
 
-/// A reader of std behind a buffer of 64 KiB.
+/// A reader of std with a buffer of 64 KiB.
 #[derive(Drop)]
 pub struct StandardReader<R: Read + Drop> {
     inner: R,
@@ -37,7 +37,7 @@ impl<R: Read + Drop> Model for StandardReader<R> {
 }
 
 impl<R: Read + Drop> StandardReader<R> {
-    /// A reader of what `inner` gives, which has not failed. It is refused for want of memory alone.
+    /// A reader of `inner` with an empty buffer and no failed call. The only error is out of memory.
     pub fn new(alloc: Global, inner: R) -> Result<Self, AllocError>
         ensures at_hand { IfOk result (λ r. r.at_hand ≡ []) }
         ensures left { IfOk result (λ r. r.left ≡ R.remaining inner) }
@@ -86,7 +86,7 @@ impl<R: Read + Drop> ByteReader for StandardReader<R> {
     }
 }
 
-/// A writer of std behind a buffer of 64 KiB.
+/// A writer of std with a buffer of 64 KiB.
 #[derive(Drop)]
 pub struct StandardWriter<W: Write + Drop> {
     outgoing: Outgoing<W>,
@@ -103,8 +103,7 @@ impl<W: Write + Drop> Model for StandardWriter<W> {
 }
 
 impl<W: Write + Drop> StandardWriter<W> {
-    /// A writer to `inner`, which has taken nothing and has not failed. It is refused for want of memory
-    /// alone.
+    /// A writer to `inner` with an empty buffer and no failed call. The only error is out of memory.
     pub fn new(alloc: Global, inner: W) -> Result<Self, AllocError>
         ensures delivered { IfOk result (λ w. w.delivered ≡ W.contents inner) }
         ensures pending { IfOk result (λ w. w.pending ≡ Some []) }
@@ -122,7 +121,7 @@ impl<W: Write + Drop> StandardWriter<W> {
         })
     }
 
-    /// The inner writer. What is pending is dropped.
+    /// Returns the inner writer. Pending bytes are lost.
     pub fn into_inner(self) -> W
         ensures { W.contents result ≡ self.delivered }
     {
@@ -170,7 +169,7 @@ impl<W: Write + Drop> ByteWriter for StandardWriter<W> {
     }
 }
 
-// An inner writer, and the bytes for it, of which so many are sent.
+// An inner writer and the buffer in front of it. The first `sent` bytes of the buffer are sent already.
 #[derive(Drop)]
 struct Outgoing<W: Write + Drop> {
     inner: W,
@@ -182,7 +181,8 @@ struct Outgoing<W: Write + Drop> {
 }
 
 impl<W: Write + Drop> Outgoing<W> {
-    // Takes the front, the line and a line feed where the buffer has room for them all.
+    // Appends the front, the line and a line feed if the buffer has room for all of them, and returns
+    // whether it had. If not, nothing changes.
     #[inline]
     fn take_line(&mut self, front: &[u8], line: &[u8]) -> bool
         ensures room { IsTrue result ↔ (length front.now + length line.now < 65536 - length self.old.buffer.items) }
@@ -198,7 +198,7 @@ impl<W: Write + Drop> Outgoing<W> {
         fits
     }
 
-    // Takes as many bytes as there is room for, once the buffer is not full.
+    // Appends the first of the bytes, those that fit, and returns how many. Sends a full buffer first.
     fn take(&mut self, bytes: &[u8]) -> Result<usize, StreamError>
         ensures delivered { OnlyGrows (W.contents self.old.inner) (W.contents self.new.inner) }
         ensures written { Grows (written (W.contents self.old.inner) (Some (drop self.old.sent self.old.buffer.items))) (written (W.contents self.new.inner) (Some (drop self.new.sent self.new.buffer.items)))
@@ -214,7 +214,7 @@ impl<W: Write + Drop> Outgoing<W> {
         }
     }
 
-    // Hands all to the inner writer and flushes it.
+    // Sends the whole buffer, and flushes the inner writer.
     fn flush(&mut self) -> Result<(), StreamError>
         ensures delivered { OnlyGrows (W.contents self.old.inner) (W.contents self.new.inner) }
         ensures written { Stays (written (W.contents self.old.inner) (Some (drop self.old.sent self.old.buffer.items))) (written (W.contents self.new.inner) (Some (drop self.new.sent self.new.buffer.items))) }
@@ -227,7 +227,7 @@ impl<W: Write + Drop> Outgoing<W> {
         }
     }
 
-    // Sees that the buffer is not full.
+    // Sends the buffer if it is full.
     fn make_room(&mut self) -> Result<(), StreamError>
         ensures delivered { OnlyGrows (W.contents self.old.inner) (W.contents self.new.inner) }
         ensures written { Stays (written (W.contents self.old.inner) (Some (drop self.old.sent self.old.buffer.items))) (written (W.contents self.new.inner) (Some (drop self.new.sent self.new.buffer.items))) }
@@ -239,7 +239,8 @@ impl<W: Write + Drop> Outgoing<W> {
         self.send()
     }
 
-    // Hands all to the inner writer. Where that fails, what was not sent is kept.
+    // Writes the whole buffer to the inner writer. A write that takes no byte counts as failed. After a
+    // failed write, the bytes that were not sent stay in the buffer.
     fn send(&mut self) -> Result<(), StreamError>
         ensures delivered { OnlyGrows (W.contents self.old.inner) (W.contents self.new.inner) }
         ensures written { Stays (written (W.contents self.old.inner) (Some (drop self.old.sent self.old.buffer.items))) (written (W.contents self.new.inner) (Some (drop self.new.sent self.new.buffer.items))) }

@@ -1,5 +1,5 @@
-//! Readers and writers of stretches of bytes, which tell those bytes where they are known and count
-//! their failed calls.
+//! Readers and writers of bytes. Their contracts say what happens to the bytes, where these are known, and
+//! count the failed calls.
 ghost use Rattle.std.specs.Prelude.{◌≡◌, ℕ, ◌+◌, ◌<◌, ◌≤◌, ◌↔◌, ◌++◌, ◌∷◌, List, [], false, IsTrue, Option, Some, length, drop, take, is_ok, IfOk, OnOk, MatchResult, vec_capacity};
 ghost use Rattle.lasso_lines.specs.Stream.{Begins, Grows, OnlyGrows, Stays, Loses, ComeFirst, Ended, written, failed_calls};
 
@@ -7,30 +7,30 @@ ghost use Rattle.lasso_lines.specs.Stream.{Begins, Grows, OnlyGrows, Stays, Lose
 #[derive(Clone, Copy, Debug, PartialEq, Eq)]
 pub struct StreamError;
 
-/// Shows the bytes that are at hand, and gets more when it is asked.
+/// A reader with a buffer.
 pub trait ByteReader {
-    // the bytes that are at hand
+    // the bytes in the buffer
     ghost at_hand: { Self → List ℕ };
 
-    // all bytes that are left, those at hand among them, where they are known
+    // all bytes that are left to read, those in the buffer first, where they are known
     ghost left: { Self → Option (List ℕ) };
 
-    // how many calls have failed
+    // the number of failed calls
     ghost failures: { Self → ℕ };
 
-    /// The bytes at hand, which are the first of those that are left.
+    /// The bytes in the buffer. They are the first of those left to read.
     fn buffer(&self) -> &[u8]
         ensures value { result.now ≡ at_hand self.now }
         ensures first { ComeFirst result.now (left self.now) };
 
-    /// Gets more bytes, where none are at hand. Where none are at hand after that, the input has ended.
-    /// It may fail, and takes nothing then.
+    /// Reads more bytes into the buffer if it is empty. If it is still empty then, the input has ended. A
+    /// failed call takes no byte from the input.
     fn fill_buf(&mut self) -> Result<(), StreamError>
         ensures failures { failures self.new ≡ failures self.old + failed_calls result }
         ensures left { Stays (left self.old) (left self.new) }
         ensures end { OnOk result (at_hand self.new ≡ [] → Ended (left self.old) (left self.new)) };
 
-    /// Takes so many of the bytes at hand away.
+    /// Removes the first `count` bytes from the buffer, which must have them.
     fn consume(&mut self, count: usize)
         requires { count ≤ length (at_hand self.old) }
         ensures at_hand { at_hand self.new ≡ drop count (at_hand self.old) }
@@ -38,22 +38,22 @@ pub trait ByteReader {
         ensures failures { failures self.new ≡ failures self.old };
 }
 
-/// Takes bytes, which it may keep for a while before it delivers them.
+/// A writer that may keep bytes pending before it delivers them.
 pub trait ByteWriter {
-    // the bytes that were delivered, where they are known
+    // the delivered bytes, where they are known
     ghost delivered: { Self → Option (List ℕ) };
 
-    // the bytes that were taken and are not delivered, where they are known
+    // the bytes that were taken and are not delivered yet, where they are known
     ghost pending: { Self → Option (List ℕ) };
 
-    // how many calls have failed
+    // the number of failed calls
     ghost failures: { Self → ℕ };
 
-    // how many bytes it can take at once where nothing may fail
+    // how many bytes `take_line` has room for
     ghost room: { Self → ℕ };
 
-    /// Takes the front, the line and a line feed where there is room for them all, and answers whether.
-    /// Where it does not take them, nothing has changed. It never fails.
+    /// Takes the front, the line and a line feed if there is room for all of them, and returns whether
+    /// there was. If not, nothing changes. It never fails.
     fn take_line(&mut self, front: &[u8], line: &[u8]) -> bool
         ensures room { IsTrue result ↔ (length front.now + length line.now < room self.old) }
         ensures failures { failures self.new ≡ failures self.old }
@@ -62,8 +62,8 @@ pub trait ByteWriter {
             (λ part. part ≡ front.now ++ (line.now ++ 10 ∷ [])) }
         ensures refused { result ≡ false → self.new ≡ self.old };
 
-    /// Takes some of the bytes, at least one where there is one, and answers how many; it may deliver
-    /// bytes meanwhile. A call that fails may have taken some of the bytes, and keeps what is pending.
+    /// Takes some bytes from the front, at least one unless there are none, and returns how many. It may
+    /// deliver bytes. A failed call may have taken some of the bytes, and loses no pending byte.
     fn write(&mut self, bytes: &[u8]) -> Result<usize, StreamError>
         ensures failures { failures self.new ≡ failures self.old + failed_calls result }
         ensures delivered { OnlyGrows (delivered self.old) (delivered self.new) }
@@ -72,7 +72,7 @@ pub trait ByteWriter {
         ensures count { IfOk result (λ n. n ≤ length bytes.now) }
         ensures progress { IfOk result (λ n. 0 < length bytes.now → 0 < n) };
 
-    /// Delivers all that is pending. A call that fails may have delivered some, and keeps the rest.
+    /// Delivers all pending bytes. A failed call may have delivered some of them; the rest stay pending.
     fn flush(&mut self) -> Result<(), StreamError>
         ensures failures { failures self.new ≡ failures self.old + failed_calls result }
         ensures delivered { OnlyGrows (delivered self.old) (delivered self.new) }
@@ -80,8 +80,7 @@ pub trait ByteWriter {
         ensures all { OnOk result (pending self.new ≡ Some []) };
 }
 
-// What a writer's `take_line` does to its buffer, where the buffer has room: it pushes the front, the line and a
-// line feed.
+// Appends the front, the line and a line feed to a buffer with room for them, for `take_line`.
 #[inline]
 pub(crate) fn push_line(buffer: &mut Vec<u8>, front: &[u8], line: &[u8])
     requires { length buffer.old.items + (length front.now + length line.now) < vec_capacity buffer.old }

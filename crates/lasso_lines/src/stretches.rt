@@ -1,4 +1,4 @@
-//! The lines of a stretch: the bytes that a reader's buffer has at once.
+//! Writes the answers to the lines of a stretch: the bytes in a reader's buffer at one time.
 ghost use Rattle.std.specs.Prelude.{◌≡◌, ℕ, ◌+◌, ◌-◌, ◌<◌, ◌++◌, [], OnOk, IfOk, IfErr, MatchResult, IsUtf8, length, take};
 ghost use Rattle.lasso_lines.specs.Stream.{Grows, OnlyGrows, written};
 ghost use Rattle.lasso_lines.specs.Report.{holding, first_bytes};
@@ -15,8 +15,9 @@ use lasso_cut::{after_newline, find_newline};
 use std::str::from_utf8;
 use std::sync::Wait;
 
-// Answers the lines that end among the buffer's bytes, the first of which begins with the bytes held, and holds
-// what is behind them. It returns the number of the line that is held then, or that comes next.
+// Writes the answers to the lines that end in the buffer. The first one has the number `number` and begins
+// with the bytes in `begun`. Leaves in `begun` the bytes after the last line feed, and returns the number
+// of the line that they begin.
 pub(crate) fn answer_stretch<R: Wait, O: ByteWriter>(
     rt: &R,
     rodeo: &mut LineRodeo,
@@ -55,8 +56,8 @@ pub(crate) fn answer_stretch<R: Wait, O: ByteWriter>(
     Ok(next)
 }
 
-// Answers the lines that end in the stretch, which begins with a line. It returns the number of the line
-// behind them, and what the stretch has of that one.
+// Writes the answers to the lines that end in the stretch. The stretch begins with a line of this number.
+// Returns the number of the line after them, and the bytes that the stretch has of it.
 fn answer_lines<'a, R: Wait, O: ByteWriter>(
     rt: &R,
     rodeo: &mut LineRodeo,
@@ -90,7 +91,7 @@ fn answer_lines<'a, R: Wait, O: ByteWriter>(
     Ok((number, rest))
 }
 
-// How many bytes at the end are not known to be text: those in front of them are. ASCII is looked for first,
+// How many bytes at the end are not known to be UTF-8. All bytes before them are. Tests for ASCII first,
 // which is faster.
 fn untested_len(bytes: &[u8]) -> usize
     ensures { IsUtf8 (take (length bytes.now - result) bytes.now) }
@@ -104,8 +105,7 @@ fn untested_len(bytes: &[u8]) -> usize
     }
 }
 
-// The number of the line behind the one of this number. No run reaches the greatest number: there it waits
-// forever.
+// The number of the next line. Loops forever at the greatest number, which no run reaches.
 #[inline]
 pub(crate) fn next_number<R: Wait>(rt: &R, number: u64) -> u64
     ensures { result ≡ number + 1 }
@@ -117,7 +117,7 @@ pub(crate) fn next_number<R: Wait>(rt: &R, number: u64) -> u64
     unreachable!()
 }
 
-// Holds the bytes behind those that are held of the line of this number.
+// Appends `bytes` to the unfinished line `number`. The only error is out of memory at that line.
 pub(crate) fn hold(begun: &mut Vec<u8>, bytes: &[u8], number: u64) -> Result<(), RunFault>
     ensures held { OnOk result (begun.new.items ≡ begun.old.items ++ bytes.now) }
     ensures lacks { IfErr result (λ fault. (fault ≡ Refused number FailedAllocation) × (0 < length bytes.now)) }
@@ -128,7 +128,7 @@ pub(crate) fn hold(begun: &mut Vec<u8>, bytes: &[u8], number: u64) -> Result<(),
     Ok(())
 }
 
-// Answers the line that begins with the bytes held and ends with these, and then holds nothing.
+// Writes the answer to the line made of `begun` and `end`, and then empties `begun`.
 fn answer_held<O: ByteWriter>(
     rodeo: &mut LineRodeo,
     begun: &mut Vec<u8>,

@@ -1,5 +1,5 @@
-//! Runs over small inputs, and the program's words. Readers and writers that fail, odd inputs, those of someone who
-//! waits for answers, and runs with workers stand in files of their own.
+//! Runs over small inputs, and the program's arguments. Failing readers and writers, odd inputs, a user who
+//! waits for answers, and runs with workers have their own files.
 mod distinct_lines;
 mod failing;
 mod limits;
@@ -29,7 +29,7 @@ fn no_limit() -> MemoryLimits {
     MemoryLimits::default()
 }
 
-// The fault has these words and this status.
+// Asserts that the run ended with a fault of this message and status.
 fn assert_fault<R: AllocGlobal + Abort>(
     rt: &R,
     ended: Result<(), RunFault>,
@@ -82,7 +82,7 @@ fn not_text(rt: HostRuntime) -> Result<(), Fail> {
     assert_fault(&rt, result, "line 2: not UTF-8", 2)
 }
 
-// The texts of lines that are refused, and where.
+// The messages for line 1 and line 2 past the limit.
 const PAST_LIMIT: [&str; 2] = [
     "line 1: Lasso encountered an error: The configured memory limit was reached",
     "line 2: Lasso encountered an error: The configured memory limit was reached",
@@ -113,7 +113,7 @@ fn the_first_line_is_past_the_limit(rt: HostRuntime) -> Result<(), Fail> {
     Ok(())
 }
 
-// Inputs with a line that is not UTF-8, what is written before it, and what is said of it.
+// Inputs with a line that is not UTF-8, what is written before it, and the message.
 const NOT_TEXT: [(&[u8], &[u8], &str); 5] = [
     (b"\xff", b"", "line 1: not UTF-8"),
     (b"\xff\n", b"", "line 1: not UTF-8"),
@@ -151,7 +151,7 @@ fn a_faulty_line_comes_byte_by_byte(rt: HostRuntime) -> Result<(), Fail> {
     Ok(())
 }
 
-// What the words give, as the limit and the number of workers.
+// The limit and the number of workers that these arguments set.
 fn settings_of_words<R: AllocGlobal>(
     rt: &R,
     words: &[&str],
@@ -162,7 +162,7 @@ fn settings_of_words<R: AllocGlobal>(
     }
 }
 
-// The words as the program has them.
+// The arguments as the program gets them.
 fn owned_words<R: AllocGlobal>(rt: &R, words: &[&str]) -> Result<Vec<String>, Fail> {
     let mut owned = Vec::new(rt.alloc());
     for word in words {

@@ -1,4 +1,4 @@
-//! A run whose lines several threads intern, and which writes the distinct ones in order.
+//! A run in which several threads intern the lines, and which writes the distinct lines in order.
 ghost use Rattle.std.specs.Prelude.{◌≡◌, ℕ, ◌+◌, ◌<◌, List, [], Some, Err, OnOk, IfOk, IfErr};
 ghost use Rattle.lasso_encode.specs.Encoding.{spur_at};
 ghost use Rattle.lasso_cut.specs.Lines.{lines_of};
@@ -25,13 +25,13 @@ use std::alloc::Global;
 use std::sync::Wait;
 use std::thread::Threads;
 
-/// What each worker passes before it interns a line.
+/// What each worker calls before it interns a line.
 pub trait Gate: Sync {
-    /// Lets the worker of this number go on. Workers are numbered from 0.
+    /// Returns when the worker of this number may go on. Workers are numbered from 0.
     fn enter(&self, worker: usize);
 }
 
-/// A gate that lets each worker go on at once.
+/// A gate that returns at once.
 #[derive(Clone, Copy, Debug)]
 pub struct OpenGate;
 
@@ -39,16 +39,16 @@ impl Gate for OpenGate {
     fn enter(&self, _worker: usize) {}
 }
 
-/// Reads the input to its end, has `workers` threads intern its lines in one interner, and writes the distinct lines in the
-/// order of their bytes, each with a line feed after it. Line i, from 0, goes to worker i modulo the number of workers;
-/// 0 workers count as one. Each worker is a thread, of which the caller's is one, and passes the gate before each line.
-/// Where a thread can't be started, the one that would have started it does its work. All are joined before anything
-/// is written.
+/// Reads the whole input, interns its lines with `workers` threads in one interner, and writes the distinct
+/// lines in the order of their bytes, each followed by a line feed. Line i, from 0, goes to worker i modulo
+/// `workers`; 0 workers count as one. One of the threads is the caller's. If a thread can't be started, the
+/// thread that would have started it does its work. Each worker calls the gate before each line. All are
+/// joined before the lines are written.
 ///
-/// The first line that is not UTF-8 ends the run before a worker starts. Each worker stops at the first of its lines that
-/// is refused, and the fault is that of the lowest one. Out of memory at no line has the number 0. Nothing is
-/// written then, nor after a failed read. What was written before a failed write is a beginning of the output. Nothing is
-/// tried again after a failed read or write.
+/// The first line that is not UTF-8 ends the run before a worker starts. Each worker stops at its first
+/// refused line, and the fault names the lowest of them. Out of memory at no line is reported as line 0. In
+/// these cases, and after a failed read, nothing is written. After a failed write, what was written is a
+/// beginning of the output. Never retries a failed read or write.
 pub fn run_workers<R: AllocGlobal + Threads + Wait + Sync, I: ByteReader, O: ByteWriter, G: Gate>(
     rt: &R,
     reader: &mut I,
@@ -83,7 +83,7 @@ pub fn run_workers<R: AllocGlobal + Threads + Wait + Sync, I: ByteReader, O: Byt
     write_in_order(rt, &rodeo, &mut pass, &codes, workers, writer)
 }
 
-// An interner of default capacity with this limit.
+// An interner of default capacity with this limit. The only error is out of memory, reported as line 0.
 fn new_interner(alloc: Global, limits: MemoryLimits) -> Result<SpurThreadedRodeo, RunFault>
     ensures opening { IfOk result (λ rodeo. rodeo.opening ≡ begun limits) }
     ensures fault { IfErr result (λ fault. fault ≡ Refused 0 FailedAllocation) }
@@ -94,8 +94,8 @@ fn new_interner(alloc: Global, limits: MemoryLimits) -> Result<SpurThreadedRodeo
     }
 }
 
-// Has the workers intern the lines of the input. Returns the positions of the lines' texts in the list that the pass has then
-// seen, worker by worker.
+// Cuts the input into lines, and interns them with the workers. Returns the positions of the lines' texts,
+// worker by worker, in the list that the pass has seen at the end.
 fn intern_lines<R: AllocGlobal + Threads + Wait + Sync, G: Gate>(
     rt: &R,
     rodeo: &SpurThreadedRodeo,

@@ -1,13 +1,16 @@
-//! Workers one after the other on one thread, in either order.
-use super::{Refusal, add_codes, intern_share};
+//! Workers that run one after another on one thread, in either order.
+use super::{NumberedError, add_codes, intern_share};
 use crate::workers::OpenGate;
 use lasso::{Capacity, LassoError, LassoErrorKind, MemoryLimits, SpurThreadedRodeo, ThreadedRodeo};
 use std::sync::Wait;
 use std::test::Fail;
 
-// Which line is told where the workers take their turns in this order. The second and the third line are refused: the first bucket has
-// room for neither, and the limit leaves none for another.
-fn told_after<R: AllocGlobal + Wait>(rt: &R, order: [usize; 2]) -> Result<Option<Refusal>, Fail> {
+// The lowest refused line when the workers run in this order. Lines 2 and 3 are refused: neither fits in
+// the first bucket, and the limit leaves no room for another.
+fn told_after<R: AllocGlobal + Wait>(
+    rt: &R,
+    order: [usize; 2],
+) -> Result<Option<NumberedError>, Fail> {
     let long = String::from_utf8(vec![in rt.alloc(); b'a'; 4097]?)?;
     let longer = String::from_utf8(vec![in rt.alloc(); b'b'; 4098]?)?;
     let lines = ["c", long.as_str(), longer.as_str(), "d"];
@@ -42,7 +45,8 @@ fn the_lowest_refused_line_is_told_in_either_order(rt: HostRuntime) -> Result<()
     Ok(())
 }
 
-// What is told where this line was refused, so far the lowest, and a worker gives back that line 3 was: its number and why.
+// The lowest refused line, by number and kind, after a worker ran out of memory at line 3. `lowest` is the
+// lowest one before that.
 fn told_with_third<R: AllocGlobal>(
     rt: &R,
     lowest: Option<(u64, LassoErrorKind)>,

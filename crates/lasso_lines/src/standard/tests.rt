@@ -14,7 +14,7 @@ const INPUT: &[u8] = b"b\na\nb";
 
 const OUTPUT: &[u8] = b"0 b\n1 a\n0 b\n2 texts, 4096 bytes\n";
 
-// Gives at most three bytes a call, and fails at each call after its number of good ones.
+// Gives at most three bytes a call. Fails at every call after the first `calls`.
 #[derive(Drop)]
 struct ShortRead<'a> {
     left: &'a [u8],
@@ -36,8 +36,8 @@ impl Read for ShortRead<'_> {
     }
 }
 
-// Takes at most three bytes a call, and fails at each call once so many went well: with an error, or by
-// taking nothing.
+// Takes at most three bytes a call. Fails at every call after the first `calls`: with an error, or, if
+// `takes_nothing`, by a write that takes no byte.
 #[derive(Drop)]
 struct ShortWrite {
     taken: Vec<u8>,
@@ -110,7 +110,7 @@ fn a_failed_read_is_not_tried_again(rt: HostRuntime) -> Result<(), Fail> {
             whole = true;
             assert!(rt; written.taken.as_slice() == OUTPUT);
             assert!(rt; reader.inner.failed == 0);
-            // two calls give the five bytes, and the third, which gives none, is the last
+            // two reads give the five bytes, and the third finds the end
             assert!(rt; calls == 3);
             break;
         }
@@ -121,7 +121,8 @@ fn a_failed_read_is_not_tried_again(rt: HostRuntime) -> Result<(), Fail> {
     Ok(())
 }
 
-// A run over a writer whose calls fail once so many went well.
+// Runs over a writer that fails at every call after the first `calls`. Returns how the run ended, and the
+// inner writer.
 fn run_with_writes<R: AllocGlobal + Wait>(
     rt: &R,
     calls: u64,

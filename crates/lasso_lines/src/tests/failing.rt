@@ -1,4 +1,4 @@
-//! Runs over a writer and a reader that take and show few bytes at once, and fail at each call in turn.
+//! Runs over a writer and a reader that take and give few bytes a call, and fail at each call in turn.
 ghost use Rattle.std.specs.Prelude.{◌≡◌, ◌+◌, ◌<◌, ◌++◌, [], Some};
 
 use super::{INPUT, OUTPUT, assert_fault, no_limit};
@@ -9,7 +9,7 @@ use crate::stream::{ByteReader, ByteWriter, StreamError};
 use std::alloc::Global;
 use std::test::Fail;
 
-// A writer that takes at most three bytes a call, and fails once its calls are used up.
+// A writer that takes at most three bytes a call. It fails at every call after the first `calls`.
 #[derive(Drop)]
 pub(super) struct ShortWriter {
     pub(super) taken: Vec<u8>,
@@ -19,7 +19,6 @@ pub(super) struct ShortWriter {
 }
 
 impl ShortWriter {
-    // It fails once so many calls went well.
     pub(super) fn new(alloc: Global, calls: u64) -> Self {
         ShortWriter {
             taken: Vec::new(alloc),
@@ -91,7 +90,7 @@ fn each_write_fails_in_turn(rt: HostRuntime) -> Result<(), Fail> {
     Ok(())
 }
 
-// A reader that shows few bytes at once, and fails once its calls are used up.
+// A reader that has at most `most` bytes in its buffer. It fails at every call after the first `calls`.
 #[derive(Drop)]
 pub(super) struct ShortReader<'a> {
     at_hand: &'a [u8],
@@ -104,7 +103,7 @@ pub(super) struct ShortReader<'a> {
 }
 
 impl<'a> ShortReader<'a> {
-    // A reader of this input, which shows at most three bytes at once and fails once so many calls went well.
+    // A reader of this input with at most three bytes in its buffer.
     pub(super) fn new(input: &'a [u8], calls: u64) -> Self {
         ShortReader {
             at_hand: b"",
@@ -116,7 +115,7 @@ impl<'a> ShortReader<'a> {
         }
     }
 
-    // A reader of this input, which shows one byte at once and does not fail.
+    // A reader of this input with at most one byte in its buffer, which does not fail.
     pub(super) fn one_by_one(input: &'a [u8]) -> Self {
         ShortReader {
             at_hand: b"",
@@ -160,8 +159,8 @@ impl ByteReader for ShortReader<'_> {
     }
 }
 
-// What is written before each read of three bytes: the first line ends in the first one, the second line in the second. The third
-// read finds the end.
+// What is written before each read of three bytes. The first line ends in the first read, and the second
+// line in the second. The third read finds the end.
 #[test]
 fn each_read_fails_in_turn(rt: HostRuntime) -> Result<(), Fail> {
     let rows: [(u64, &[u8]); 3] = [(0, b""), (1, b"0 b\n"), (2, b"0 b\n1 a\n")];
@@ -181,7 +180,7 @@ fn each_read_fails_in_turn(rt: HostRuntime) -> Result<(), Fail> {
     Ok(())
 }
 
-// Each stretch ends within a letter of two bytes.
+// Each read but the last ends within a character of two bytes.
 #[test]
 fn letters_cut_by_stretches(rt: HostRuntime) -> Result<(), Fail> {
     let mut reader = ShortReader::new("a\né\né\né".as_bytes(), 100);
@@ -192,7 +191,7 @@ fn letters_cut_by_stretches(rt: HostRuntime) -> Result<(), Fail> {
     Ok(())
 }
 
-// The buffer is consumed as a whole, once each line that ends there is answered: not where one is faulty.
+// The buffer is consumed as a whole, after the answers to all of its lines, and not if one is faulty.
 #[test]
 fn a_faulty_line_leaves_what_is_shown(rt: HostRuntime) -> Result<(), Fail> {
     let input = b"a\n\xff\nb\n".as_slice();

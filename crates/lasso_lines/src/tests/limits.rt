@@ -1,4 +1,4 @@
-//! Limits that a run with workers never meets: no line is refused.
+//! Limits that a run with workers does not reach: no line is refused.
 use super::workers::{run_over, with_line_of};
 use super::{no_limit, owned_words};
 use crate::fault::RunFault;
@@ -8,7 +8,7 @@ use std::sync::Wait;
 use std::test::Fail;
 use std::thread::Threads;
 
-// What the words do with the input: what they write, and how they end.
+// Runs the program with these arguments over the input. Returns what it writes and how it ends.
 pub(super) fn run_by<R: AllocGlobal + Threads + Wait + Sync>(
     rt: &R,
     words: &[&str],
@@ -21,7 +21,7 @@ pub(super) fn run_by<R: AllocGlobal + Threads + Wait + Sync>(
     Ok((writer.into_bytes(), ended))
 }
 
-// The lower 32 bits of these limits are 0 and 4096. Either would leave no room for the long line beside the first bucket.
+// The low 32 bits of these limits are 0 and 4096. As limits, both would refuse the long line.
 #[test]
 fn limits_of_more_than_32_bits(rt: HostRuntime) -> Result<(), Fail> {
     let input = with_line_of(&rt, 4097, b"b\n", b"\n")?;
@@ -37,7 +37,8 @@ fn limits_of_more_than_32_bits(rt: HostRuntime) -> Result<(), Fail> {
     Ok(())
 }
 
-// Puts a line of 4000 bytes and its line feed at the end. Such lines have the order of their numbers.
+// Appends the number's last three digits, the filling and a line feed. With a filling of 3997 bytes, a line
+// has 4000 bytes. Such lines have the order of their numbers.
 fn push_line(bytes: &mut Vec<u8>, number: usize, filling: &[u8]) -> Result<(), Fail> {
     for part in [number / 100, number / 10, number] {
         let digit = (part % 10) as u8;
@@ -48,9 +49,10 @@ fn push_line(bytes: &mut Vec<u8>, number: usize, filling: &[u8]) -> Result<(), F
     Ok(())
 }
 
-// 999 texts of 4000 bytes have 3,996,000 bytes. Buckets of 4096 bytes times 1, 2, 4, .. 256 have room for 1 + 2 + 4 + 8 + 16 + 32 + 65 + 131
-// + 262 = 521 of them, and the next one for the others. All have 4,190,208 bytes, which is more than 2^21 = 2,097,152 and less than 2^24
-// = 16,777,216. The lines are distinct and in order.
+// 999 texts of 4000 bytes have 3,996,000 bytes. Buckets of 4096 bytes times 1, 2, 4, .. 256 have room for
+// 1 + 2 + 4 + 8 + 16 + 32 + 65 + 131 + 262 = 521 of them, and the next bucket for the others. All buckets
+// have 4,190,208 bytes: more than 2^21 = 2,097,152 and less than 2^24 = 16,777,216. The lines are distinct
+// and in order.
 #[test]
 fn more_than_a_mebibyte_of_text(rt: HostRuntime) -> Result<(), Fail> {
     let filling = vec![in rt.alloc(); b'a'; 3997]?;

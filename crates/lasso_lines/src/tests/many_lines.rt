@@ -1,4 +1,5 @@
-//! Runs over 20,000 lines, of which 5,000 are distinct. What they write is worked out from how the lines are made.
+//! Runs over 20,000 lines, of which 5,000 are distinct. The expected output is computed from how the lines
+//! are made.
 use super::no_limit;
 use crate::memory::{MemoryReader, MemoryWriter, report_of};
 use crate::workers::{OpenGate, run_workers};
@@ -8,12 +9,13 @@ const LINES: usize = 20_000;
 
 const DISTINCT: usize = 5_000;
 
-// The number of the line at this position. 7919 and 5000 have no common factor, so 5000 lines in a row have 5000 numbers.
+// The number of the line at this position. 7919 and 5000 have no common factor, so 5000 lines in a row have
+// 5000 numbers.
 fn number_at(position: usize) -> usize {
     position % DISTINCT * 7919 % DISTINCT
 }
 
-// Puts a line of 10 bytes and its line feed at the end. Such lines have the order of their numbers.
+// Appends a line of 10 bytes and its line feed. Such lines have the order of their numbers.
 pub(super) fn push_line(bytes: &mut Vec<u8>, number: usize) -> Result<(), Fail> {
     bytes.extend_from_slice(b"line-")?;
     let parts = [
@@ -39,8 +41,9 @@ fn many_lines<R: AllocGlobal>(rt: &R) -> Result<Vec<u8>, Fail> {
     Ok(input)
 }
 
-// The first 5000 lines are new, and the others come again in the same order. The texts have 10 bytes each: 409 are in the first bucket
-// of 4096 bytes, 819 in the next of 8192, 1638 in the next of 16384, and the other 2134 in one of 32768.
+// The first 5000 lines are new, and the others repeat them in the same order. Each text has 10 bytes: 409
+// are in the first bucket of 4096 bytes, 819 in the next of 8192, 1638 in the next of 16,384, and the other
+// 2134 in one of 32,768.
 #[test]
 fn one_thread_numbers_many_lines(rt: HostRuntime) -> Result<(), Fail> {
     let input = many_lines(&rt)?;

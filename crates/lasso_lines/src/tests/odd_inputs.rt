@@ -1,4 +1,4 @@
-//! Runs over lines about as long as the buffers, and over lines with odd bytes, for both ways to go over them.
+//! Runs over lines about as long as the buffers, and over lines with odd bytes, without and with workers.
 use super::failing::{ShortReader, ShortWriter};
 use super::owned_words;
 use crate::program::run_words;
@@ -10,7 +10,7 @@ use std::thread::Threads;
 
 const TWO_WORKERS: &[&str] = &["--workers", "2"];
 
-// The words make this output of the input through buffers of 64 KiB.
+// Asserts that the program with these arguments writes this output, through buffers of 64 KiB.
 fn assert_whole<R: AllocGlobal + Threads + Wait + Sync + Abort>(
     rt: &R,
     words: &[&str],
@@ -25,7 +25,7 @@ fn assert_whole<R: AllocGlobal + Threads + Wait + Sync + Abort>(
     Ok(())
 }
 
-// The words make this output of the input where a read gives one byte and a write takes three.
+// Asserts the same when a read gives one byte and a write takes at most three.
 fn assert_piecewise<R: AllocGlobal + Threads + Wait + Sync + Abort>(
     rt: &R,
     words: &[&str],
@@ -42,7 +42,8 @@ fn assert_piecewise<R: AllocGlobal + Threads + Wait + Sync + Abort>(
 
 const LETTERS: &[u8] = b"abcdefghijklmnopqrstuvwxyz";
 
-// An input with a long line at each `X`, its report, in which `#` stands for the bytes, and its distinct lines in order.
+// An input with a long line for each `X`, its report with the bytes of the buckets for `#`, and its
+// distinct lines in order.
 const FORMS: [(&str, &str, &str); 6] = [
     ("X", "0 X\n1 texts, # bytes\n", "X\n"),
     ("X\n", "0 X\n1 texts, # bytes\n", "X\n"),
@@ -73,7 +74,7 @@ fn fill_in<R: AllocGlobal>(rt: &R, form: &str, line: &[u8], bytes: &str) -> Resu
     Ok(filled)
 }
 
-// A text of more than twice the first bucket's 4096 bytes has a bucket of just its own.
+// A text of more than 8192 bytes, twice the first bucket, gets a bucket of exactly its size.
 #[test]
 fn lines_about_as_long_as_the_buffers(rt: HostRuntime) -> Result<(), Fail> {
     let letters = LETTERS.repeat(rt.alloc(), 2521)?;
@@ -97,7 +98,7 @@ fn lines_about_as_long_as_the_buffers(rt: HostRuntime) -> Result<(), Fail> {
     Ok(())
 }
 
-// A line of NUL bytes comes before a longer one, and a line before the same with NUL bytes behind it.
+// Fewer NUL bytes come before more, and a line before the same line with NUL bytes after it.
 #[test]
 fn lines_of_odd_bytes(rt: HostRuntime) -> Result<(), Fail> {
     let rows: [(&[u8], &[u8], &[u8]); 6] = [

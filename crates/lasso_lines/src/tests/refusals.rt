@@ -1,5 +1,6 @@
-//! Which of many lines workers tell that was refused. No text of one or ten bytes is refused while the first bucket of 4096 bytes has
-//! room, a line of 4097 bytes does not fit there, and a limit of 4096 bytes leaves none for another bucket.
+//! Which refused line workers report. Lines of 1 or 10 bytes fit while the first bucket of 4096 bytes has
+//! room. A line of 4097 bytes does not fit there, and a limit of 4096 bytes leaves no room for another
+//! bucket.
 use super::assert_fault;
 use super::many_lines::push_line;
 use super::workers::{run_over, with_line_of};
@@ -11,7 +12,7 @@ const LIMIT: usize = 4096;
 
 const LONG: usize = 4097;
 
-// Lines of one byte, this many, then a long one and a short one.
+// `lines` lines of one byte, then a long one and a short one.
 fn long_line_after<R: AllocGlobal>(rt: &R, lines: usize) -> Result<Vec<u8>, Fail> {
     let mut before = Vec::new(rt.alloc());
     for _ in 0..lines {
@@ -20,7 +21,7 @@ fn long_line_after<R: AllocGlobal>(rt: &R, lines: usize) -> Result<Vec<u8>, Fail
     with_line_of(rt, LONG, &before, b"\nb\n")
 }
 
-// 300 needs more than one byte, and 140,000 more than seventeen bits.
+// 300 needs more than one byte, and 140,000 more than 17 bits.
 #[test]
 fn a_refused_line_is_told_by_a_great_number(rt: HostRuntime) -> Result<(), Fail> {
     let cases: [(usize, &str); 2] = [
@@ -60,7 +61,7 @@ fn a_first_line_is_refused(rt: HostRuntime) -> Result<(), Fail> {
     Ok(())
 }
 
-// Of lines of 10 bytes 409 lie in the first bucket, which leaves 6 bytes.
+// The first bucket has room for 409 lines of 10 bytes, and 6 bytes are left.
 #[test]
 fn one_worker_tells_the_first_line_past_the_limit(rt: HostRuntime) -> Result<(), Fail> {
     let mut input = Vec::new(rt.alloc());
@@ -80,7 +81,7 @@ fn one_worker_tells_the_first_line_past_the_limit(rt: HostRuntime) -> Result<(),
     Ok(())
 }
 
-// Of 600 such lines some are refused, whichever worker interns first.
+// 600 such lines do not all fit, so some are refused, whichever worker interns first.
 #[test]
 fn more_workers_meet_the_limit_too(rt: HostRuntime) -> Result<(), Fail> {
     let mut input = Vec::new(rt.alloc());
@@ -98,8 +99,8 @@ fn more_workers_meet_the_limit_too(rt: HostRuntime) -> Result<(), Fail> {
     Ok(())
 }
 
-// Short lines, this many, and as many long ones and one more. With one worker more than there are short lines the first long line is
-// the last worker's, and each other worker has the next one.
+// `lines` short lines, a long one, a short one, and then `lines - 1` long ones. With `lines + 1` workers,
+// the first long line is the last worker's, and each other worker but the first has one of the later ones.
 fn long_lines_after<R: AllocGlobal>(rt: &R, lines: usize) -> Result<Vec<u8>, Fail> {
     let mut input = long_line_after(rt, lines)?;
     for _ in 1..lines {
@@ -109,7 +110,7 @@ fn long_lines_after<R: AllocGlobal>(rt: &R, lines: usize) -> Result<Vec<u8>, Fai
     Ok(input)
 }
 
-// The lowest line that is refused is that of the last worker to be joined.
+// The last worker to be joined has the lowest refused line.
 #[test]
 fn the_last_worker_has_the_lowest_refused_line(rt: HostRuntime) -> Result<(), Fail> {
     let cases: [(usize, usize, &str); 3] = [

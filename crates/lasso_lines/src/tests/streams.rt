@@ -1,4 +1,4 @@
-//! Runs over standard streams that give and take some number of bytes a call, as files, pipes and terminals do.
+//! Runs over streams that give and take a limited number of bytes a call, as files, pipes and terminals do.
 use super::many_lines::push_line;
 use super::no_limit;
 use crate::engine::run;
@@ -49,8 +49,8 @@ impl Write for Taking {
     }
 }
 
-// What one thread, or the workers if there are any, write of the input by calls of at most `most` bytes, whether all of it was
-// flushed, and how the run ends.
+// Runs over the input by calls of at most `most` bytes, on one thread if `workers` is 0. Returns what was
+// written, whether all of it was flushed, and how the run ended.
 fn run_by<R: AllocGlobal + Threads + Wait + Sync>(
     rt: &R,
     input: &[u8],
@@ -75,7 +75,7 @@ fn run_by<R: AllocGlobal + Threads + Wait + Sync>(
     Ok((taken, is_flushed, ended))
 }
 
-// This many lines of 11 bytes with their line feeds, all distinct and in order.
+// `count` lines of 11 bytes with their line feeds, all distinct and in order.
 fn lines_of(alloc: Global, count: usize) -> Result<Vec<u8>, Fail> {
     let mut input = Vec::new(alloc);
     for number in 0..count {
@@ -84,7 +84,7 @@ fn lines_of(alloc: Global, count: usize) -> Result<Vec<u8>, Fail> {
     Ok(input)
 }
 
-// The report of these lines by one thread, whose buckets then have this many bytes.
+// The report of these lines by one thread, if the buckets have `bytes` bytes.
 fn report_of_lines(alloc: Global, count: usize, bytes: usize) -> Result<Vec<u8>, Fail> {
     let mut output = Vec::new(alloc);
     for number in 0..count {
@@ -95,8 +95,8 @@ fn report_of_lines(alloc: Global, count: usize, bytes: usize) -> Result<Vec<u8>,
     Ok(output)
 }
 
-// How many lines, and the bytes of the buckets. The bucket of 4096 bytes has room for 409 texts of 10 bytes, the next of 8192 for 819,
-// that of 16384 for 1638, that of 32768 for 3276.
+// The number of lines, and the bytes of the buckets. The bucket of 4096 bytes has room for 409 texts of 10
+// bytes, the one of 8192 for 819, the one of 16,384 for 1638, and the one of 32,768 for 3276.
 const CASES: [(usize, usize); 8] = [
     (1, 4096),
     (10, 4096),

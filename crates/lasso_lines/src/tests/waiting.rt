@@ -1,4 +1,4 @@
-//! Runs for someone who types a line once the answers to those before it are seen.
+//! Runs for a user who types a line after seeing the answers to the lines before it.
 ghost use Rattle.std.specs.Prelude.{◌+◌, Some, None};
 
 use super::{OUTPUT, assert_fault, no_limit};
@@ -8,7 +8,7 @@ use crate::stream::{ByteReader, ByteWriter, StreamError};
 use std::cell::RefCell;
 use std::test::Fail;
 
-// A screen shows what was flushed.
+// A writer to a screen, which shows what was flushed.
 #[derive(Drop)]
 struct ScreenWriter<'a> {
     pending: Vec<u8>,
@@ -51,8 +51,8 @@ impl ByteWriter for ScreenWriter<'_> {
     }
 }
 
-// Someone types a line at a time, and looks at the screen first: beside each line stands what the
-// screen has to show by then.
+// A user who types one line at a time, and looks at the screen before each. `typed` has each line, and what
+// the screen has to show before it.
 #[derive(Drop)]
 struct TypedReader<'a> {
     at_hand: &'a [u8],

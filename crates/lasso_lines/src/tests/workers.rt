@@ -1,4 +1,4 @@
-//! Runs whose lines several workers intern.
+//! Runs with workers.
 use super::failing::{ShortReader, ShortWriter};
 use super::{assert_fault, no_limit, owned_words};
 use crate::fault::RunFault;
@@ -18,12 +18,12 @@ const OUTPUT: &[u8] = b"a\nb\n";
 const SECOND_REFUSED: &str =
     "line 2: Lasso encountered an error: The configured memory limit was reached";
 
-// A line of 4097 bytes between others: more than the first bucket has.
+// A line of 4097 bytes, more than the first bucket has, between others.
 fn with_long_line<R: AllocGlobal>(rt: &R, before: &[u8], behind: &[u8]) -> Result<Vec<u8>, Fail> {
     with_line_of(rt, 4097, before, behind)
 }
 
-// A line of that many bytes between others.
+// A line of `bytes` bytes between others.
 pub(super) fn with_line_of<R: AllocGlobal>(
     rt: &R,
     bytes: usize,
@@ -37,7 +37,7 @@ pub(super) fn with_line_of<R: AllocGlobal>(
     Ok(input)
 }
 
-// What so many workers write, and how they end.
+// Runs over the input with `workers` workers. Returns what was written and how the run ended.
 pub(super) fn run_over<R: AllocGlobal + Threads + Wait + Sync>(
     rt: &R,
     input: &[u8],
@@ -60,7 +60,7 @@ fn words_set_workers(rt: HostRuntime) -> Result<(), Fail> {
     Ok(())
 }
 
-// The second line has no room in the first bucket, and the limit leaves none for another.
+// The second line does not fit in the first bucket, and the limit leaves no room for another.
 #[test]
 fn words_set_the_limit_of_workers(rt: HostRuntime) -> Result<(), Fail> {
     let input = with_long_line(&rt, b"a\n", b"\nb\n")?;
@@ -79,7 +79,7 @@ fn words_set_the_limit_of_workers(rt: HostRuntime) -> Result<(), Fail> {
     Ok(())
 }
 
-// The first bucket is there whatever the limit, and no limit of these leaves room for another.
+// The first bucket is always allocated. None of these limits leaves 4097 bytes for the second line.
 #[test]
 fn words_set_the_limit_of_any_number_of_workers(rt: HostRuntime) -> Result<(), Fail> {
     let input = with_long_line(&rt, b"a\n", b"\nb\n")?;
@@ -100,7 +100,7 @@ fn words_set_the_limit_of_any_number_of_workers(rt: HostRuntime) -> Result<(), F
     Ok(())
 }
 
-// The limit leaves just the bytes of the second line behind the first bucket, and with one less it leaves too few.
+// After the first bucket, this limit leaves exactly the second line's 4097 bytes. One less is too few.
 #[test]
 fn a_limit_leaves_room_for_another_bucket(rt: HostRuntime) -> Result<(), Fail> {
     let input = with_long_line(&rt, b"b\n", b"\n")?;
@@ -119,8 +119,8 @@ fn a_limit_leaves_room_for_another_bucket(rt: HostRuntime) -> Result<(), Fail> {
     Ok(())
 }
 
-// A line of more than 8192 bytes has a bucket of just its bytes, beside the first one of 4096. 4096 + 995,904 = 1,000,000, and
-// 4096 + 1,044,480 = 1,048,576.
+// A line of more than 8192 bytes gets a bucket of exactly its size, after the first one of 4096.
+// 4096 + 995,904 = 1,000,000, and 4096 + 1,044,480 = 1,048,576.
 #[test]
 fn a_great_limit_is_met_and_missed(rt: HostRuntime) -> Result<(), Fail> {
     let cases: [(&str, usize); 2] = [("1000000", 995_904), ("1048576", 1_044_480)];
@@ -142,7 +142,7 @@ fn a_great_limit_is_met_and_missed(rt: HostRuntime) -> Result<(), Fail> {
     Ok(())
 }
 
-// The refused line is that of its worker's second round, third round and first round.
+// In the four cases, the refused line is its worker's second, third, third and first line.
 #[test]
 fn a_refused_line_is_told_by_its_number(rt: HostRuntime) -> Result<(), Fail> {
     let cases: [(&[u8], usize, &str); 4] = [
@@ -191,7 +191,7 @@ fn distinct_lines_in_order(rt: HostRuntime) -> Result<(), Fail> {
     Ok(())
 }
 
-// Two workers show that they are there, and look for each other.
+// A gate at which each of two workers waits for the other, for a while.
 #[derive(Drop)]
 struct Meeting {
     there: [AtomicBool; 2],
@@ -228,7 +228,7 @@ fn workers_meet(rt: HostRuntime) -> Result<(), Fail> {
     Ok(())
 }
 
-// Counts how often each of three workers enters.
+// A gate that counts how often each of three workers enters.
 #[derive(Drop)]
 struct Turnstile {
     entered: [AtomicUsize; 3],
@@ -274,7 +274,7 @@ fn lines_go_to_workers_in_turn(rt: HostRuntime) -> Result<(), Fail> {
     Ok(())
 }
 
-// Keeps the greatest number of a worker that entered, plus one.
+// A gate that keeps the greatest number of a worker that entered, plus one.
 #[derive(Drop)]
 struct Highest {
     count: AtomicUsize,
@@ -303,7 +303,8 @@ fn each_of_many_workers_has_a_line(rt: HostRuntime) -> Result<(), Fail> {
     Ok(())
 }
 
-// The worker of the second line is refused there, and never enters for the fourth; the first one enters for the first and the third.
+// The second worker enters for line 2, which is refused, and never for line 4. The first worker enters for
+// lines 1 and 3.
 #[test]
 fn the_second_line_goes_to_the_second_worker(rt: HostRuntime) -> Result<(), Fail> {
     let turnstile = Turnstile::new();
@@ -349,7 +350,7 @@ fn a_line_that_is_not_text_decides(rt: HostRuntime) -> Result<(), Fail> {
     Ok(())
 }
 
-// The first bucket has room for neither of the two long lines, and the limit leaves none.
+// Neither of the two long lines fits in the first bucket, and the limit leaves no room for another.
 #[test]
 fn the_lowest_refused_line_is_told(rt: HostRuntime) -> Result<(), Fail> {
     let mut input = with_long_line(&rt, b"a\n", b"\n")?;
@@ -384,7 +385,7 @@ fn each_write_fails_in_turn(rt: HostRuntime) -> Result<(), Fail> {
     Ok(())
 }
 
-// The first two reads have three bytes each, and the third finds the end: no more are made.
+// The first two reads give three bytes each, and the third finds the end. No more are made.
 #[test]
 fn each_read_fails_in_turn(rt: HostRuntime) -> Result<(), Fail> {
     for calls in 0..3 {

@@ -38,7 +38,7 @@ loop-at-preserved g c =
           ∙ ap (λ n. first_not_text n (lines_of behind)) (sym c.next_number-number.ensures);
     }
 
--- the line that a line feed ends is faulty
+-- a line that ends with a line feed is faulty
 pub returns-in_err-push_line-clause-told : goal.returns-in_err-push_line-clause-told
 returns-in_err-push_line-clause-told g c =
     let now = c.loop-at.invariant in
@@ -79,7 +79,7 @@ returns-clause-lines g c =
     let last : lines_of rest ≡ rest ∷ [] = lines_last rest (grind (arith, common_steps)) c.in_default.ensures in
     c.in_ok-push_line-2.ensures.line ∙ ap (λ (ls : List Text). before ++ ls) (sym last) ∙ c.loop-at.invariant.lines
 
--- the last line is text too
+-- the last line is UTF-8 too
 pub returns-clause-texts : goal.returns-clause-texts
 returns-clause-texts g c =
     let now = c.loop-at.invariant in

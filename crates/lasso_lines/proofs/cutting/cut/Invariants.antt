@@ -3,7 +3,8 @@ use Rattle.lasso_cut.specs.Lines.{lines_of}
 use Rattle.lasso_lines.specs.LineFaults.{first_not_text}
 use Rattle.lasso_lines.proofs.cutting.cut.Given as goal
 
--- the lines that were cut off, and those of the rest, of which the first has this number; those that were cut off are text
+-- the lines cut so far and those of the rest are all lines. The first line of the rest has this number, and
+-- the lines cut so far are UTF-8
 abbrev pub invariant-loop-at : goal.invariant-loop-at
 invariant-loop-at g l = record {
   lines : map (λ t. t.now) l.lines.items ++ lines_of l.rest ≡ lines_of l.input;

@@ -3,7 +3,7 @@ use Rattle.std.proofs.lemmas.Grind.{common_steps}
 use Rattle.lasso_lines.proofs.Ways.{all_shown}
 use Rattle.lasso_lines.proofs.cutting.read_all.Goals as goal
 
--- nothing is at hand after a read, so nothing is left
+-- the buffer is empty after a read, so no bytes are left
 pub returns-then-is_empty-clause-whole : goal.returns-then-is_empty-clause-whole
 returns-then-is_empty-clause-whole g c =
     let none : g.I.ByteReader.at_hand c.refill.new.reader ≡ [] = grind (arith, common_steps) in
@@ -11,7 +11,7 @@ returns-then-is_empty-clause-whole g c =
     let left = c.parts.invariant.ahead whole e in
     c.in_ok-refill.ensures.end none _ (c.consume.ensures.left left.0 left.1)
 
--- so all was read
+-- so all bytes were read
 pub returns-then-is_empty-clause-bytes : goal.returns-then-is_empty-clause-bytes
 returns-then-is_empty-clause-bytes g c = λ whole e.
     let none : g.I.ByteReader.at_hand c.refill.new.reader ≡ [] = grind (arith, common_steps) in

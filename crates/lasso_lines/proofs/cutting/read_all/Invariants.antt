@@ -1,7 +1,7 @@
 use Rattle.std.proofs.Common.{◌≡◌, ◌++◌, ℕ, List, Some}
 use Rattle.lasso_lines.proofs.cutting.read_all.Given as goal
 
--- what is left is known where it was at first, and stands after what was read
+-- if the bytes left to read were known at first, they are known now, and follow those that were read
 abbrev pub invariant-parts : goal.invariant-parts
 invariant-parts g l =
     let reader = g.I.ByteReader in

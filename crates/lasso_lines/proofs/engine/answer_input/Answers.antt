@@ -28,7 +28,7 @@ returns-in_err-number-clause-report g c = λ input e.
 pub returns-in_err-number-clause-delivered : goal.returns-in_err-number-clause-delivered
 returns-in_err-number-clause-delivered g c = only_grows_then _ _ _ c.stretches.invariant.delivered c.answer_stretch.ensures.delivered
 
--- its lines are answered, and a flush or the next read fails
+-- its lines are answered, but a flush or the next read fails
 pub returns-in_err-ask_for_more-clause-report : goal.returns-in_err-ask_for_more-clause-report
 returns-in_err-ask_for_more-clause-report g c = λ input e.
     let ahead = c.stretches.invariant.ahead input e in
@@ -79,7 +79,7 @@ returns-then-is_empty-clause-delivered g c =
     let answered = only_grows_then _ _ _ c.stretches.invariant.delivered c.answer_stretch.ensures.delivered in
     only_grows_then _ _ _ (only_grows_then _ _ _ answered c.ask_for_more.ensures.delivered) c.answer_end.ensures.delivered
 
--- more bytes are at hand
+-- more bytes are in the buffer
 pub stretches-preserved : goal.stretches-preserved
 stretches-preserved g c =
     let buffer = c.buffer-buffer.result.now in

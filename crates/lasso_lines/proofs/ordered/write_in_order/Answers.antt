@@ -13,7 +13,7 @@ returns-clause-texts g c =
     on_ok c.flush_all.result _ (grows_stays _ _ _ _ _ c.in_ok-write_texts.ensures.texts c.flush_all.ensures.written (λ part is.
     writes_named list c.args.codes.now c.in_ok-texts.texts.items c.sort.new.texts.items c.sort.ensures.permutation c.sort.ensures.sorted c.in_ok-texts.ensures.fronts c.in_ok-texts.ensures.texts part (rw c.deref.ensures.value at is)))
 
--- all was sent before the flush failed
+-- all texts were written, and the flush fails
 pub returns-clause-begins : goal.returns-clause-begins
 returns-clause-begins g c =
     let list = list_of c.args.rodeo.now c.collect.new.pass.notes in
@@ -25,7 +25,7 @@ returns-clause-begins g c =
       ([], sym is ∙ sym (append-nil part)),
     )))
 
--- a line could not be sent
+-- a text could not be written
 pub returns-in_err-write_texts-clause-begins : goal.returns-in_err-write_texts-clause-begins
 returns-in_err-write_texts-clause-begins g c =
     let p = err_from_is_err_and c.from_residual-in_err-write_texts.result c.from_residual-in_err-write_texts.ensures.1 in

@@ -3,7 +3,7 @@ use Rattle.lasso_lines.specs.Ordered.{told}
 use Rattle.lasso_lines.specs.Stream.{Grows, OnlyGrows, written}
 use Rattle.lasso_lines.proofs.ordered.write_texts.Given as goal
 
--- the texts before the index are written, and the writer has failed no call
+-- the texts before the index are written, and no call of the writer has failed
 abbrev pub invariant-lines : goal.invariant-lines
 invariant-lines g l =
     let writer = g.O.ByteWriter in

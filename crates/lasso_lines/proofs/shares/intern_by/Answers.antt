@@ -10,7 +10,7 @@ use Rattle.lasso_lines.proofs.Lowest.{still_there, lines_coded}
 use Rattle.lasso_lines.proofs.ShareLines.{line_read, share_next}
 use Rattle.lasso_lines.proofs.shares.intern_by.Goals as goal
 
--- one line more lies inside
+-- one more line is inside
 inside_more : (long worker workers count : ℕ) → ((n : ℕ) → n < count → worker + n * workers < long) → worker + count * workers < long → (n : ℕ) → n < count + 1 → ((n < count) ⊎ (count ≤ n)) → worker + n * workers < long
 inside_more long worker workers count inside last n small (inl before) = inside n before
 inside_more long worker workers count inside last n small (inr after) = let is : n ≡ count = omega arith in subst (λ k. worker + k * workers < long) (sym is) last
@@ -50,7 +50,7 @@ returns-clause-codes g c =
       now.coded,
     )
 
--- the line that was refused is the next one of the worker
+-- the refused line is the worker's next one
 pub returns-in_err-intern_line-clause-refused : goal.returns-in_err-intern_line-clause-refused
 returns-in_err-intern_line-clause-refused g c =
     let now = c.loop-at.invariant in

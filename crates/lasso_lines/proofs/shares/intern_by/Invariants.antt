@@ -4,7 +4,7 @@ use Rattle.lasso_encode.specs.Codes.{AreCodes}
 use Rattle.lasso_lines.specs.Shares.{share}
 use Rattle.lasso_lines.proofs.shares.intern_by.Given as goal
 
--- the worker's lines before the position have their codes in what the pass has seen
+-- the worker's lines before the position have their codes in the list that the pass has seen
 abbrev pub invariant-loop-at : goal.invariant-loop-at
 invariant-loop-at g l =
     let count = length l.codes.items in

@@ -5,7 +5,7 @@ use Rattle.lasso_encode.specs.Encoding.{spur_at}
 use Rattle.lasso_log.specs.History.{IsLegal}
 use Rattle.lasso_log.specs.Views.{InternerId, list_of, seen}
 use Rattle.lasso_log.proofs.Lengths.{texts_past}
-use Rattle.lasso_lines.specs.Shares.{IsRefusedIn, IsShareOf, Refusal}
+use Rattle.lasso_lines.specs.Shares.{IsRefusedIn, IsShareOf, NumberedError}
 use Rattle.lasso_lines.proofs.Lowest.{AreReached, reached_none, reached_of_worker, all_before}
 use Rattle.lasso_lines.proofs.Refusals.{refused_of_worker}
 use Rattle.lasso_lines.proofs.ShareLines.{Gathered, gathered_none, gathered_worker, gathered_all}
@@ -59,14 +59,14 @@ returns-clause-codes g c =
     gathered_all (list_of c.args.rodeo.now c.loop-share.pass.notes) lines c.args.workers c.loop-share.share c.loop-share.codes.items c.requires.some
     (omega (arith, c.loop-share-test.false, c.len-share-end.ensures, c.in-Ok.ensures.len)) (c.loop-share.invariant.gathered c.in-None.is)
 
--- the lowest line that was refused, after all workers were looked at
+-- the lowest refused line, after all workers
 pub returns-in-Some-clause-refused : goal.returns-in-Some-clause-refused
 returns-in-Some-clause-refused g c =
     let of = c.args.rodeo.now in
     let lines = map (λ (t : Bor Text). t.now) c.args.lines.now in
-    let told : Refusal = (c.in-Some.number, c.in-Some.error) in
+    let told : NumberedError = (c.in-Some.number, c.in-Some.error) in
     let why : IsRefusedIn of.opening (seen c.loop-share.pass) lines told =
-    subst (λ (r : Option Refusal). IfSome r (IsRefusedIn of.opening (seen c.loop-share.pass) lines)) c.in-Some.is c.loop-share.invariant.refused in
+    subst (λ (r : Option NumberedError). IfSome r (IsRefusedIn of.opening (seen c.loop-share.pass) lines)) c.in-Some.is c.loop-share.invariant.refused in
     let reached = subst (AreReached (list_of of c.loop-share.pass.notes) lines c.args.workers c.loop-share.share) c.in-Some.is c.loop-share.invariant.reached in
     let all : c.args.workers ≤ c.loop-share.share = omega (arith, c.loop-share-test.false, c.len-share-end.ensures, c.in-Ok.ensures.len) in
     inr (why, all_before (list_of of c.loop-share.pass.notes) lines c.args.workers c.loop-share.share told.0 told c.requires.some all (omega (arith, why.1, why.2)) refl reached)

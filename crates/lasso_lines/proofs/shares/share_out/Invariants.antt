@@ -8,8 +8,9 @@ use Rattle.lasso_lines.proofs.Lowest.{AreReached}
 use Rattle.lasso_lines.proofs.ShareLines.{Gathered}
 use Rattle.lasso_lines.proofs.shares.share_out.Given as goal
 
--- the lines of the workers before have their codes in what the pass has seen, unless one was refused, for a reason that is found there;
--- of their lines those before the lowest refused one are in its list
+-- if no line of the earlier workers was refused, their lines have their codes in the list that the pass has
+-- seen. If one was, the history that the pass has seen explains the lowest one, and their lines before it
+-- are in the list
 abbrev pub invariant-loop-share : goal.invariant-loop-share
 invariant-loop-share g l = record {
   same : IsSamePass l.pass l.fn.pass;

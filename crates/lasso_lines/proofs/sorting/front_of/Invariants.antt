@@ -2,7 +2,7 @@ use Rattle.std.proofs.Common.{◌≡◌, ◌-◌, ◌*◌, ◌^◌, ◌<◌, dro
 use Rattle.lasso_lines.specs.Fronts.{front_from, front}
 use Rattle.lasso_lines.proofs.sorting.front_of.Given as goal
 
--- the bytes before the position are digits of the number
+-- the bytes before the position are the digits of the number
 abbrev pub invariant-loop-at : goal.invariant-loop-at
 invariant-loop-at l = record {
   digits : front_from l.number (8 - l.at) (drop l.at l.bytes) ≡ front l.bytes;

@@ -5,7 +5,7 @@ use Rattle.lasso_lines.proofs.Parts.{lent_back}
 use Rattle.lasso_lines.proofs.sorting.sort.Goals.{then-threads-gt1+else-is_ok, else-threads-gt1}
 use Rattle.lasso_lines.proofs.sorting.sort.Goals as goal
 
--- the sorted parts are the vector's elements again
+-- the vector has the elements of the sorted parts
 lent : (n : ℕ) (xs slice parts : List (ℕ × Bor (List ℕ))) → n ≡ length xs → slice ≡ xs → length parts ≡ length slice → IsPermutation slice parts → IsPermutation xs (take n (parts ++ drop (length parts) xs))
 lent n xs slice parts whole is long moved =
     let same : length parts ≡ length xs = long ∙ ap length is in

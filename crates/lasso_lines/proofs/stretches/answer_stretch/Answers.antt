@@ -8,7 +8,7 @@ use Rattle.lasso_cut.proofs.FirstLines.{none_no_feed}
 use Rattle.lasso_lines.proofs.Cuts.{held_no_feed, leads_line, leads_held, leads_then, fails_line, fails_held, fails_then}
 use Rattle.lasso_lines.proofs.stretches.answer_stretch.Goals as goal
 
--- no bytes are held: there is no memory for those behind the last line feed
+-- no bytes were held: out of memory for the bytes after the last line feed
 pub returns-in_err-hold-clause-answers : goal.returns-in_err-hold-clause-answers
 returns-in_err-hold-clause-answers g c =
     let before = holding c.args.rodeo.now.texts c.args.rodeo.now.account in
@@ -20,7 +20,7 @@ returns-in_err-hold-clause-answers g c =
     subst (λ bs. FailsWith before c.args.number c.args.buffer.now bs c.in_err-hold.field-0.0) (append-nil part)
     (fails_then before after c.args.number c.in_ok-next.next c.args.buffer.now last part [] _ leads (fails_held after c.in_ok-next.next [] last _ c.in_err-hold.ensures.lacks))))
 
--- no line feed is buffer
+-- the buffer has no line feed
 pub returns-in_err-hold-2-clause-answers : goal.returns-in_err-hold-2-clause-answers
 returns-in_err-hold-2-clause-answers g c =
     let before = holding c.args.rodeo.now.texts c.args.rodeo.now.account in
@@ -36,7 +36,7 @@ pub returns-in_default-clause-held : goal.returns-in_default-clause-held
 returns-in_default-clause-held g c =
     held_no_feed c.args.begun.now.items c.args.buffer.now _ c.in_ok-hold-2.ensures.held c.requires.no_feed (none_no_feed c.args.buffer.now c.in_default.ensures)
 
--- the line that is held ends, and then others
+-- the held line ends, and then others
 pub returns-in_err-answer_held-clause-answers : goal.returns-in_err-answer_held-clause-answers
 returns-in_err-answer_held-clause-answers g c =
     let before = holding c.args.rodeo.now.texts c.args.rodeo.now.account in

@@ -33,7 +33,7 @@ returns-clause-begins g c = λ input left.
 pub returns-clause-delivered : goal.returns-clause-delivered
 returns-clause-delivered g c = only_grows_then _ _ _ c.flush_all.ensures.delivered c.write_in_order.ensures.delivered
 
--- what was pending could not be written
+-- the pending bytes could not be written
 pub returns-in_err-flush_all-clause-refused : goal.returns-in_err-flush_all-clause-refused
 returns-in_err-flush_all-clause-refused g c = λ input left.
     let p = err_from_is_err_and c.from_residual.result c.from_residual.ensures.1 in
@@ -50,7 +50,7 @@ returns-in_err-read_all-clause-refused g c = λ input left.
     let p = err_from_is_err_and c.from_residual-in_err-read_all.result c.from_residual-in_err-read_all.ensures.1 in
     rw (p.1, p.2) (input_explained c.args.limits (lines_of input) _ c.in_err-read_all.ensures.faults)
 
--- there was no memory for the interner
+-- out of memory for the interner
 pub returns-in_err-rodeo-clause-fault : goal.returns-in_err-rodeo-clause-fault
 returns-in_err-rodeo-clause-fault g c = λ input left.
     let p = err_from_is_err_and c.from_residual-in_err-rodeo.result c.from_residual-in_err-rodeo.ensures.1 in

@@ -1,5 +1,5 @@
--- The new count is picked as one more than the old one. It has no field and owns nothing, so that the code makes an
--- empty struct, and the reference to the old one is let go.
+-- The new count is chosen as the old one plus 1. It has no field and owns nothing, so the code makes an
+-- empty struct. The reference to the old one is dropped.
 use Rattle.std.proofs.Common.{List, [], ◌∷◌, ◌+◌, refl}
 use Rattle.std.proofs.raw_atomic.Walks.{proved}
 use mir.Syntax.{named}

@@ -1,4 +1,4 @@
--- The new count is picked as 0. It has no field and owns nothing, so that the code makes an empty struct.
+-- The new count is chosen as 0. It has no field and owns nothing, so the code makes an empty struct.
 use Rattle.std.proofs.Common.{List, [], ◌∷◌, refl}
 use Rattle.std.proofs.raw_atomic.Walks.{proved}
 use mir.Val.{Val, vstruct, vnil}
