@@ -95,8 +95,8 @@ fn allocated_bytes_of_many_texts_are_those_given(rt: HostRuntime) -> Result<(), 
 }
 
 // Interns more than twice `strings` texts. Returns whether exactly the texts past `capacity()` change it,
-// whether each of these allocates, and whether the list and the index have at least a byte for each text of
-// the capacity.
+// whether each of these allocates, and whether list and index have at least a byte for each text of the
+// capacity.
 fn has_the_room_it_says<R: AllocGlobal>(rt: &R, strings: usize) -> Result<bool, Fail> {
     let memory = Refusing::new(rt.alloc(), 0);
     let room = Capacity::new(strings, 20_000);

@@ -77,8 +77,7 @@ fn an_interner_of_items(rt: HostRuntime) -> Result<(), Fail> {
 }
 
 // A copy of 100 texts allocates room in the index and in the list, and then buckets. If an allocation fails
-// (`rt try --test --fail-alloc N`), the target is empty, its next text gets key 0, and the copy then
-// succeeds.
+// (`rt try --test --fail-alloc N`), the target is empty, its next text gets key 0, and a new copy succeeds.
 #[test]
 fn a_copy_without_memory_leaves_nothing(rt: HostRuntime) -> Result<(), Fail> {
     let mut source: Rodeo<Spur, FixedState, Global> = Rodeo::new(rt.alloc())?;
