@@ -1,4 +1,4 @@
-//! What an arena accepts, what it refuses, and the bytes that its regions then take.
+//! What an arena stores, what it refuses, and the bytes that its regions then take.
 
 use lasso_parts::arena::Arena;
 use lasso_parts::entries::long::{LongText, is_vast};
@@ -11,9 +11,9 @@ use std::test::Fail;
 
 #[derive(Clone, Copy, Debug)]
 enum Call {
-    // the text is accepted
+    // the text is stored
     Stores(&'static str),
-    // the text is past the limit
+    // the limit refuses the text
     Refuses(&'static str),
     SetsLimit(usize),
     Clears,
@@ -21,7 +21,7 @@ enum Call {
 
 use Call::{Clears, Refuses, SetsLimit, Stores};
 
-// Makes each call, and looks at the usage after it.
+// Makes each call, and checks the usage after it.
 fn run_row(rt: &impl Abort, arena: &mut Arena<Global>, row: &[(Call, usize)]) {
     for (call, usage) in row {
         match *call {
@@ -43,7 +43,7 @@ fn run_row(rt: &impl Abort, arena: &mut Arena<Global>, row: &[(Call, usize)]) {
     }
 }
 
-// Stores a text and looks at it, or answers why it is refused.
+// Stores a text and checks that it can be read, or returns why it is refused.
 fn store(rt: &impl Abort, arena: &mut Arena<Global>, text: &str) -> Option<LassoErrorKind> {
     match arena.store_str(text) {
         Ok(span) => {

@@ -1,4 +1,4 @@
-//! A bucket that fills and is cleared, and sizes that no region can have.
+//! A bucket that is filled and cleared, and sizes that no region can have.
 use lasso_parts::bucket::Bucket;
 use lasso_parts::bucket::region::{Region, RegionRight};
 use lasso_parts::util::LassoErrorKind;

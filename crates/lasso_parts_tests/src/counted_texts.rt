@@ -1,10 +1,10 @@
-//! A list that counts how often a text is read.
+//! A list that counts how many times a text is read.
 ghost use Rattle.std.specs.Prelude.{◌≡◌, map};
 
 use lasso_parts::index::Texts;
 use std::cell::Cell;
 
-/// A list of texts that counts how often one is read.
+/// A list of texts that counts how many times one is read.
 #[derive(Clone, Copy)]
 pub struct CountedTexts<'a> {
     texts: &'a [&'a str],

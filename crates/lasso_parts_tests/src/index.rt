@@ -1,4 +1,5 @@
-//! What no clause says of an index: which texts are hashed again, which are read, and that a constant hasher serves.
+//! What no contract says of an index: which texts it hashes again, which it reads, and that it works with a
+//! constant hasher.
 ghost use Rattle.lasso_parts.specs.Index.{IsFiledAnywhere};
 
 use crate::counted_texts::CountedTexts;
@@ -49,7 +50,7 @@ impl<'a, S: BuildHasher + Drop> Entered<'a, S> {
         }
     }
 
-    // Enters the text at the position.
+    // Enters the text at this position.
     fn enter(&mut self, position: usize) -> LassoResult<()> {
         if let Some(text) = self.texts.get(position) {
             if let Some(key) = Spur::try_from_usize(position) {
@@ -61,7 +62,7 @@ impl<'a, S: BuildHasher + Drop> Entered<'a, S> {
         Ok(())
     }
 
-    // The same, in the slot where the search for the text ends.
+    // The same, in the slot where a search for the text ends.
     fn enter_located(&mut self, position: usize) -> LassoResult<()> {
         if let Some(text) = self.texts.get(position) {
             if let Some(key) = Spur::try_from_usize(position) {
@@ -80,7 +81,7 @@ impl<'a, S: BuildHasher + Drop> Entered<'a, S> {
         self.index.find(&self.texts, &self.hasher, text)
     }
 
-    // The same, over a list that counts the texts read.
+    // The same, with a list that counts the texts read.
     fn find_counted(&self, read: &Cell<u64>, text: &str) -> Option<usize> {
         read.set(0);
         let texts = CountedTexts::new(self.texts, read);
@@ -111,7 +112,7 @@ fn constant_hash(rt: HostRuntime) -> Result<(), Fail> {
     Ok(())
 }
 
-// Texts of each length that is compared in a way of its own, which differ in one byte.
+// Texts that differ in one byte. Their lengths are compared in different ways.
 static NEAR: [&str; 19] = [
     "abc",
     "abd",

@@ -1,4 +1,4 @@
-//! Arrays and keys as JSON, and the printed faults of values that can't be read.
+//! Arrays and keys as JSON, and the printed errors of values that can't be read.
 mod kinds;
 mod objects;
 
@@ -9,12 +9,12 @@ use serde_json::{Number, Value};
 use std::alloc::Global;
 use std::test::Fail;
 
-// What the value reads as.
+// The array that is read from the value, as `told` shows it.
 fn reading<K: Key>(alloc: Global, value: &Value, distinct: bool) -> Result<String, Fail> {
     told(alloc, read_array::<K, Global>(alloc, value, distinct))
 }
 
-// What was read: each text with a slash behind it, or the fault.
+// What was read: each text followed by a slash, or the error.
 fn told(alloc: Global, read: Result<Vec<&str>, JsonError>) -> Result<String, Fail> {
     match read {
         Ok(texts) => {
@@ -75,7 +75,7 @@ fn written_texts(rt: HostRuntime) -> Result<(), Fail> {
     Ok(())
 }
 
-// Reads the value as a key: its position, or no key.
+// The position of the key that is read from the value, if it is one.
 fn read_key<K: JsonKey>(value: Value) -> Option<usize> {
     match K::key_from_json(&value) {
         Ok(key) => Some(key.into_usize()),
@@ -104,7 +104,7 @@ fn keys_of_numbers(rt: HostRuntime) {
     assert!(rt; read_key::<Spur>(Value::Null) == None);
 }
 
-// What number 0 of the key type is written as.
+// The number that key 0 of this type is written as.
 fn first_written<K: JsonKey>(alloc: Global) -> Result<u64, Fail> {
     let key = K::try_from_usize(0).ok_or("no key")?;
     let value = key.key_to_json(alloc)?;

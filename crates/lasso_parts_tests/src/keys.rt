@@ -1,10 +1,10 @@
-//! Ranges and printed forms of the key types, and a key type of a user's own.
+//! Ranges and printed forms of the key types, and a user's own key type.
 use lasso_parts::keys::{Key, LargeSpur, MicroSpur, MiniSpur, Spur};
 use lasso_testing::keys::Below;
 use std::cmp::Ordering;
 use std::test::Fail;
 
-// A key type of a user's own: it keeps the position in 32 bits, and leaves the 16777216 highest values free.
+// A user's own key type. It keeps the position in 32 bits, and leaves the 16777216 highest values free.
 type NicheKey = Below<4278190080>;
 
 fn number_of<K: Key>(position: usize) -> Option<usize> {

@@ -1,5 +1,5 @@
-//! Tests of `lasso_parts` by its public calls: keys, errors, capacities and limits, the memory of texts, the index, and
-//! texts and keys as JSON.
+//! Tests of `lasso_parts` through its public calls: keys, errors, capacities and limits, the memory of texts,
+//! the index, and texts and keys as JSON.
 #![tactic(auto)]
 
 #[cfg(test)]

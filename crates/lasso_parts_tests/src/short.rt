@@ -5,7 +5,7 @@ use lasso_parts::entries::{Entry, text_of};
 use lasso_testing::texts::OF_EACH_LENGTH;
 use std::test::Fail;
 
-// Short texts have less than 15 bytes.
+// Short texts have fewer than 15 bytes.
 const SHORT: usize = 15;
 
 #[test]

@@ -1,4 +1,4 @@
-//! Order, hash and debug text of keys, capacities, limits and errors.
+//! Order, hash and debug output of keys, capacities, limits and errors.
 use lasso_parts::arena::Arena;
 use lasso_parts::keys::{Key, LargeSpur, MicroSpur, MiniSpur, Spur};
 use lasso_parts::util::{Capacity, LassoError, LassoErrorKind, MemoryLimits};
@@ -14,7 +14,7 @@ fn hash_of<T: Hash>(value: &T) -> u64 {
     hasher.finish()
 }
 
-// The lesser comes first, and each hashes as itself and not as the other.
+// Checks that the lesser comes first, that its hash is always the same, and that the other hash differs.
 fn are_apart<T: Ord + Hash + Copy>(rt: &impl Abort, lesser: T, greater: T) {
     assert!(rt; lesser.cmp(&greater) == Ordering::Less);
     assert!(rt; greater.cmp(&lesser) == Ordering::Greater);

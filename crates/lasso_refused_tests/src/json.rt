@@ -1,4 +1,4 @@
-//! Interners that threads share, read from JSON values and written as such.
+//! Interners that threads share, read from JSON and written as JSON.
 
 use crate::retried::{Refused, retried};
 use crate::scenarios::{Interner, Scenario, State, Way, shows};
@@ -11,10 +11,10 @@ const LIST: [&str; 3] = ["b", "a", "c"];
 
 const FIRST_TWO: State = State { texts: 2, usage: 2 };
 
-// The bucket of two bytes is full, so one of four comes.
+// The bucket of two bytes is full, so the new text takes one of four.
 const THREE: State = State { texts: 3, usage: 6 };
 
-// An interner that is read from the text, a text that is then interned, and the object that is then written.
+// Reads an interner from the JSON, interns a new text, and writes the interner as an object.
 #[test]
 fn an_object_and_an_array_are_read(rt: HostRuntime) -> Result<(), Fail> {
     let mut refused = Refused::none();
@@ -68,7 +68,7 @@ fn the_empty_text_is_read(rt: HostRuntime) -> Result<(), Fail> {
     refused.end()
 }
 
-// The value of the text.
+// The value of the JSON text.
 fn value_of<R: AllocGlobal + Abort>(
     rt: &R,
     refused: &mut Refused,
@@ -84,7 +84,7 @@ fn value_of<R: AllocGlobal + Abort>(
     Ok(read)
 }
 
-/// Looks that this is the value's text.
+/// Checks that this is the value's JSON text.
 pub fn check_written<R: AllocGlobal + Abort>(
     rt: &R,
     refused: &mut Refused,

@@ -1,7 +1,7 @@
-//! Tests of calls that may run out of memory. Where one does, the test looks that all is as it was before the
-//! call, and makes the call again; all replies have to be those that were worked by hand. `bench/refused-tests`
-//! runs each test with its requests for memory refused in turn. Where nothing is refused, each call has to
-//! return its value at once.
+//! Tests of calls that may run out of memory. If one does, the test checks that all is as it was before the
+//! call, and makes the call again. All replies have to be those that were worked out by hand.
+//! `bench/refused-tests` runs each test with its requests for memory refused in turn. If nothing is refused,
+//! each call has to return its value at once.
 #![tactic(auto)]
 
 #[cfg(test)]

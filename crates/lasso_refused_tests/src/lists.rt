@@ -1,5 +1,4 @@
-//! Interners that threads share, whose lists are looked at whole: walked, written, frozen, and compared with
-//! other forms.
+//! Whole lists of interners that threads share: walked, written, frozen, and compared with other forms.
 
 ghost use Rattle.std.specs.Prelude.{◌<◌};
 
@@ -22,8 +21,8 @@ const THREE: State = State {
     usage: 12,
 };
 
-// Under a limit of 12 bytes: a bucket of 4 and one of twice that, which the first two texts fill but for a
-// byte of the first bucket. The third text takes that, and the limit refuses a bucket for the last.
+// The limit is 12 bytes. The first two texts take buckets of 4 and 8 bytes, and leave one byte of the first.
+// The third text takes that byte, and the limit refuses a bucket for the last text.
 const UP_TO_LIMIT: [Step; 4] = [
     ("abc", Ok(0), State { texts: 1, usage: 4 }),
     (
@@ -38,7 +37,7 @@ const UP_TO_LIMIT: [Step; 4] = [
     ("yz", Err(LassoErrorKind::MemoryLimitReached), THREE),
 ];
 
-// A limit of 14 bytes leaves 2 for a bucket.
+// A limit of 14 bytes leaves 2 bytes for another bucket.
 const FOUR: State = State {
     texts: 4,
     usage: 14,
@@ -72,7 +71,7 @@ fn four_texts_are_written(rt: HostRuntime) -> Result<(), Fail> {
     refused.end()
 }
 
-// A call that runs out of memory takes the interner with it, so another one is frozen.
+// A call that runs out of memory drops the interner, so the retry freezes a new one.
 #[test]
 fn four_texts_are_frozen(rt: HostRuntime) -> Result<(), Fail> {
     let mut refused = Refused::none();
@@ -89,7 +88,7 @@ fn four_texts_are_frozen(rt: HostRuntime) -> Result<(), Fail> {
     refused.end()
 }
 
-// An interner of four texts, of which the last is interned once the limit is raised.
+// An interner of four texts. The last is interned after the limit is raised.
 fn four_texts<R: AllocGlobal + Wait + Abort>(
     rt: &R,
     refused: &mut Refused,
@@ -115,7 +114,7 @@ fn four_texts<R: AllocGlobal + Wait + Abort>(
     Ok(interner)
 }
 
-// Looks that the last text and its key are present, or neither. The texts before it are present.
+// Checks that the last text and its key are both present, or both absent.
 fn check_last<R: Wait + Abort>(rt: &R, interner: &Interner<Spur>, is_present: bool) {
     assert!(rt; interner.contains(rt, "yz") == is_present);
     assert!(rt; has_fourth_key(interner) == Some(is_present));
@@ -130,7 +129,7 @@ fn has_fourth_key(interner: &Interner<Spur>) -> Option<bool> {
     }
 }
 
-// Whether the walk gives the four texts in order, each after the key of its position, and then nothing.
+// Whether the walk yields exactly the four texts in order, each with the key of its position.
 fn iter_gives_all(interner: &Interner<Spur>) -> bool {
     let mut walk = interner.iter();
     let mut position = 0usize;
@@ -146,7 +145,7 @@ fn iter_gives_all(interner: &Interner<Spur>) -> bool {
     walk.next().is_none()
 }
 
-// Whether the walk gives the four texts in order, and then nothing.
+// Whether the walk yields exactly the four texts in order.
 fn strings_give_all(interner: &Interner<Spur>) -> bool {
     let mut walk = interner.strings();
     for wanted in LIST {
@@ -166,8 +165,8 @@ fn three_texts_are_compared(rt: HostRuntime) -> Result<(), Fail> {
     refused.end()
 }
 
-// An interner of two texts of an iterator, which is filled with one of them and another one. Where memory
-// runs out for that one, the first two are present.
+// An interner made of two texts, which is then filled with one of them and a new one. If memory runs out for
+// the new one, the first two are present.
 fn three_texts<R: AllocGlobal + Wait + Abort>(
     rt: &R,
     refused: &mut Refused,
@@ -201,7 +200,7 @@ fn three_texts<R: AllocGlobal + Wait + Abort>(
     Ok(interner)
 }
 
-// Looks at what the four comparisons of the interner and each form of this list return.
+// Checks what the comparisons of the interner with each of four forms of this list return.
 fn check_comparisons<R: AllocGlobal + Wait + Abort>(
     rt: &R,
     refused: &mut Refused,

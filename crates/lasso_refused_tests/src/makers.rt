@@ -6,7 +6,7 @@ use lasso::{Capacity, FixedState, LassoResult, MemoryLimits, Spur, ThreadedRodeo
 use std::alloc::Global;
 use std::test::Fail;
 
-// The makers, by what they are given.
+// The makers, by what they take.
 #[derive(Clone, Copy)]
 enum Maker {
     Default,

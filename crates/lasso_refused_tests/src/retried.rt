@@ -35,7 +35,7 @@ impl CallError for AllocError {
     }
 }
 
-/// The call of a test that ran out of memory. One request of a run is refused, so there is at most one.
+/// The call of a test that ran out of memory, if any. At most one does, as one request of a run is refused.
 #[derive(Clone, Copy)]
 pub struct Refused {
     call: Option<&'static str>,
@@ -47,20 +47,20 @@ impl Refused {
         Refused { call: None }
     }
 
-    /// This call ran out of memory, as the first one of the test.
+    /// Notes that this call ran out of memory. It has to be the first one of the test.
     pub fn note(&mut self, rt: &impl Abort, call: &'static str) {
         assert!(rt; self.call.is_none(), "{call}");
         self.call = Some(call);
     }
 
-    /// This call returned the error, which has to say that it ran out of memory.
+    /// Notes that this call returned the error, which has to say that it ran out of memory.
     pub fn note_error(&mut self, rt: &impl Abort, call: &'static str, error: &impl CallError) {
         assert!(rt; error.is_out_of_memory(), "{call}");
         self.note(rt, call);
     }
 
-    /// The end of a test all of whose checks hold: an error that names the call that ran out of memory, if one
-    /// did.
+    /// Ends a test whose checks all hold. If a call ran out of memory, it returns an error that names the
+    /// call.
     pub fn end(self) -> Result<(), Fail> {
         match self.call {
             Some(call) => Err(Fail::new(format_args!("out of memory at {call}"))),
@@ -69,7 +69,7 @@ impl Refused {
     }
 }
 
-/// The value of a call. Where it runs out of memory, the condition has to hold, and the call is made again.
+/// The value of a call. If it runs out of memory, the condition has to hold, and the call is made again.
 macro_rules! retried {
     ($rt:expr, $refused:expr, $name:expr, $call:expr, $unchanged:expr) => {{
         let name = $name;

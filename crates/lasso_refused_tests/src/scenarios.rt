@@ -1,4 +1,4 @@
-//! Texts that an interner that threads share interns in order, and what is seen of it after each.
+//! Texts that are interned in order in an interner that threads share, and what it shows after each.
 
 ghost use Rattle.std.specs.Prelude.{◌<◌};
 
@@ -11,7 +11,7 @@ use std::test::Fail;
 /// An interner that threads share, with the hasher of fixed seed.
 pub type Interner<K> = ThreadedRodeo<K, FixedState>;
 
-/// What is seen of an interner: how many texts of the scenario's list it has, and the bytes of its buckets.
+/// What an interner shows: how many texts of the scenario's list it has, and the bytes of its buckets.
 #[derive(Clone, Copy)]
 pub struct State {
     pub texts: usize,
@@ -21,7 +21,7 @@ pub struct State {
 /// The number of the key that an intern returns, or why it is refused.
 pub type Reply = Result<usize, LassoErrorKind>;
 
-/// A text, the reply to its intern, and what is seen then.
+/// A text, the reply when it is interned, and what the interner shows then.
 pub type Step = (&'static str, Reply, State);
 
 /// How a text is interned.
@@ -68,8 +68,8 @@ impl Scenario<'_> {
         Ok(interner)
     }
 
-    /// Interns the texts in an interner of which this is seen. After a call that ran out of memory the same
-    /// has to be seen, and the text is interned again.
+    /// Interns the texts in an interner that shows `start`. If a call runs out of memory, the interner has to
+    /// show the same as before, and the text is interned again.
     pub fn intern_steps<R: Wait + Abort, K: Key>(
         &self,
         rt: &R,
@@ -109,8 +109,8 @@ fn reply_of<K: Key>(interned: LassoResult<K>) -> Reply {
     }
 }
 
-/// Whether the interner has just the first texts of the list, each under the key of its position, and its
-/// buckets take the bytes of the state.
+/// Whether the interner has exactly the first `state.texts` texts of the list, each with the key of its
+/// position, and its buckets take `state.usage` bytes.
 pub fn shows<R: Wait, K: Key>(
     rt: &R,
     interner: &Interner<K>,

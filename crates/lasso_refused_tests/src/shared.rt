@@ -1,4 +1,4 @@
-//! An interner that threads share: texts that are interned, freezing, and items of an iterator.
+//! An interner that threads share: interning texts, freezing, and filling from an iterator.
 
 ghost use Rattle.std.specs.Prelude.{◌<◌};
 
@@ -32,7 +32,7 @@ const STATIC: [Step; 3] = [
     ("abc", Ok(0), State { texts: 2, usage: 4 }),
 ];
 
-// The second text takes a bucket of eight bytes, and the third what is left of the first one.
+// The second text takes a bucket of eight bytes, and the third the last byte of the first bucket.
 const BUCKETS: [Step; 3] = [
     ("abc", Ok(0), State { texts: 1, usage: 4 }),
     (
@@ -53,7 +53,7 @@ const BUCKETS: [Step; 3] = [
     ),
 ];
 
-// A text that has no key takes its bytes, until none are left.
+// A text that has no key takes its bytes each time, until none are left.
 const GAP: [Step; 6] = [
     ("p", Ok(0), State { texts: 1, usage: 4 }),
     ("q", Ok(1), State { texts: 2, usage: 4 }),
@@ -126,8 +126,8 @@ fn texts_before_a_missing_key_are_frozen(rt: HostRuntime) -> Result<(), Fail> {
     refused.end()
 }
 
-// Freezes an interner of the scenario, which has this many texts then, to each form, and looks at the texts
-// there. A call that runs out of memory takes the interner with it, so another one is frozen.
+// Builds the scenario's interner, freezes it to each form, and checks that this has exactly the first `texts`
+// texts. A call that runs out of memory drops the interner, so the retry freezes a new one.
 fn freeze<R: AllocGlobal + Wait + Abort, K: Key>(
     rt: &R,
     refused: &mut Refused,
@@ -155,7 +155,7 @@ fn freeze<R: AllocGlobal + Wait + Abort, K: Key>(
     Ok(())
 }
 
-// Whether the reader has just the first texts of the list, each under the key of its position.
+// Whether the reader has exactly the first `texts` texts of the list, each with the key of its position.
 fn reader_shows<K: Key>(
     reader: &RodeoReader<K, FixedState, Global>,
     list: &[&'static str],
@@ -175,7 +175,7 @@ fn reader_shows<K: Key>(
     reader.len() == texts
 }
 
-// Whether the resolver has just the first texts of the list, each under the key of its position.
+// Whether the resolver has exactly the first `texts` texts of the list, each with the key of its position.
 fn resolver_shows<K: Key>(
     resolver: &RodeoResolver<K, Global>,
     list: &[&'static str],
@@ -193,7 +193,7 @@ fn resolver_shows<K: Key>(
     resolver.len() == texts
 }
 
-// A refusal leaves no interner.
+// A call that runs out of memory leaves no interner.
 #[test]
 fn an_interner_of_an_iterator(rt: HostRuntime) -> Result<(), Fail> {
     let mut refused = Refused::none();
@@ -208,7 +208,7 @@ fn an_interner_of_an_iterator(rt: HostRuntime) -> Result<(), Fail> {
     refused.end()
 }
 
-// A refusal leaves the texts before the refused one.
+// A call that runs out of memory leaves the texts before the refused one.
 #[test]
 fn an_interner_filled_by_an_iterator(rt: HostRuntime) -> Result<(), Fail> {
     let mut refused = Refused::none();

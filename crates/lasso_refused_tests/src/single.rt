@@ -1,5 +1,5 @@
-//! An interner for one thread: a run of commands, texts that are copied and written, and items of an iterator
-//! that tells how many it has.
+//! An interner for one thread: a run of commands, texts that are cloned and written, and items of an iterator
+//! with a size hint.
 
 use crate::json::check_written;
 use crate::retried::{Refused, retried};
@@ -13,7 +13,7 @@ use std::test::Fail;
 
 type Interner = Rodeo<Spur, FixedState, Global>;
 
-// What a command is to reply.
+// The reply that a command has to give.
 #[derive(Clone, Copy)]
 enum Wanted {
     Key(usize),
@@ -27,8 +27,8 @@ const LIMIT: Wanted = Wanted::Refused(LassoErrorKind::MemoryLimitReached);
 
 const MEMORY: Wanted = Wanted::Refused(LassoErrorKind::FailedAllocation);
 
-// The replies of a run in which no command runs out of memory; of one in which the first does, so that the
-// second text is the first one that is present; and of one in which the copy of the resolved text does.
+// The replies if no command runs out of memory; if the first does, so that the second text becomes the first
+// one; and if the copy of the resolved text does.
 const USUAL: [Wanted; 7] = [
     Wanted::Key(0),
     LIMIT,
@@ -66,8 +66,8 @@ const ARRAY: &str = r#"["one string","two string","red string","blue string"]"#;
 // Twenty times the texts that an interner of default capacity has room for.
 const ITEMS: usize = 1000;
 
-// A run of commands in an interner of four bytes. Where the room for replies is refused nothing is done; else
-// the command that runs out of memory has that as its reply, and the run goes on.
+// A run of commands in an interner of four bytes. If the room for the replies is refused, no command is run.
+// Otherwise a command that runs out of memory gets that as its reply, and the run goes on.
 #[test]
 fn a_run_goes_on_after_a_refused_command(rt: HostRuntime) -> Result<(), Fail> {
     let mut refused = Refused::none();
@@ -100,7 +100,7 @@ fn a_run_goes_on_after_a_refused_command(rt: HostRuntime) -> Result<(), Fail> {
     refused.end()
 }
 
-// The commands of the run, where this is the key of number 0.
+// The commands of the run. `first` is the key of number 0.
 fn commands_on(first: Spur) -> [Command<'static, Spur, FixedState, Global>; 7] {
     [
         Command::Intern("abcd"),
@@ -197,8 +197,8 @@ fn each_form_is_written(rt: HostRuntime) -> Result<(), Fail> {
     refused.end()
 }
 
-// An interner of items that all lend one text, whose iterator tells of 1000. Where that room is refused, the
-// interner has no more than one of default capacity, and the same text.
+// An interner of 1000 equal items, with their number as the size hint. If that room is refused, the interner
+// has less room, but the same text.
 #[test]
 fn room_for_items_is_refused(rt: HostRuntime) -> Result<(), Fail> {
     let mut refused = Refused::none();

@@ -1,5 +1,5 @@
-//! Calls of an interner that threads share, each in a function of its own. None hands on what its call's contract says, so a test of
-//! many calls is proved as fast as one of few.
+//! Calls of an interner that threads share, each in a function of its own. These functions do not repeat the
+//! contracts of the calls, so a test of many calls is proved as fast as one of few.
 ghost use Rattle.std.specs.Prelude.{◌≡◌, ◌<◌};
 
 use lasso_log::log::Pass;
@@ -18,12 +18,12 @@ pub type Shared = ThreadedRodeo<Spur, FixedState>;
 /// A frozen interner with the default keys and hasher.
 pub type Reader = RodeoReader<Spur, FixedState, Global>;
 
-/// An interner by default.
+/// An interner made by `default`.
 pub fn made(alloc: Global) -> Result<Shared, Fail> {
     Ok(ThreadedRodeo::default(alloc)?)
 }
 
-/// An interner with this number of bytes in its first bucket, under this limit.
+/// An interner with a first bucket of `bytes` bytes, under this limit.
 pub fn limited<K: Key>(
     alloc: Global,
     bytes: usize,
@@ -36,15 +36,14 @@ pub fn limited<K: Key>(
     Ok(ThreadedRodeo::with_capacity_and_memory_limits(alloc, room, limits)?)
 }
 
-/// The same under no limit.
+/// The same without a limit.
 pub fn with_bytes<K: Key>(alloc: Global, bytes: usize) -> Result<ThreadedRodeo<K, FixedState>, Fail>
     requires { 0 < bytes }
 {
     Ok(ThreadedRodeo::with_capacity(alloc, Capacity::for_bytes(bytes))?)
 }
 
-/// An interner with this number of bytes in its first bucket, under this limit, whose indexes use hashers of
-/// `S`.
+/// An interner with a first bucket of `bytes` bytes, under this limit, with a hasher of `S`.
 pub fn limited_hashed<K: Key, S: BuildHasher + Default + Drop>(
     alloc: Global,
     bytes: usize,
@@ -62,14 +61,14 @@ pub fn limited_hashed<K: Key, S: BuildHasher + Default + Drop>(
     Ok(made?)
 }
 
-/// An interner of default capacity and limit whose indexes ask such a hasher.
+/// An interner of default capacity and limit, with a hasher of `S`.
 pub fn hashed<K: Key, S: BuildHasher + Default + Drop>(
     alloc: Global,
 ) -> Result<ThreadedRodeo<K, S>, Fail> {
     Ok(ThreadedRodeo::with_hasher(alloc, S::default())?)
 }
 
-/// An interner with no room for texts and ten bytes in its first bucket, whose indexes ask such a hasher.
+/// An interner with a capacity of no texts and a first bucket of ten bytes, with a hasher of `S`.
 pub fn roomless<K: Key, S: BuildHasher + Default + Drop>(
     alloc: Global,
 ) -> Result<ThreadedRodeo<K, S>, Fail> {
@@ -78,7 +77,7 @@ pub fn roomless<K: Key, S: BuildHasher + Default + Drop>(
     Ok(made?)
 }
 
-/// How many texts there are.
+/// How many texts the interner has.
 pub fn len<K: Key, S: BuildHasher + Drop>(shared: &ThreadedRodeo<K, S>) -> usize {
     shared.len()
 }
@@ -105,7 +104,7 @@ pub fn allocated<K: Key, S: BuildHasher + Drop, R: Wait>(
     shared.allocated_bytes(rt)
 }
 
-/// How many bytes all buckets may take.
+/// The limit: how many bytes all buckets may take.
 pub fn limit<K: Key, S: BuildHasher + Drop, R: Wait>(
     rt: &R,
     shared: &ThreadedRodeo<K, S>,
@@ -113,7 +112,7 @@ pub fn limit<K: Key, S: BuildHasher + Drop, R: Wait>(
     shared.max_memory_usage(rt)
 }
 
-/// Sets how many bytes all buckets may take.
+/// Sets the limit.
 pub fn set_limit<K: Key, S: BuildHasher + Drop, R: Wait>(
     rt: &R,
     shared: &ThreadedRodeo<K, S>,
@@ -122,7 +121,7 @@ pub fn set_limit<K: Key, S: BuildHasher + Drop, R: Wait>(
     shared.set_memory_limits(rt, MemoryLimits::new(bytes));
 }
 
-/// Whether the text is there.
+/// Whether the text is present.
 pub fn contains<K: Key, S: BuildHasher + Drop, R: Wait>(
     rt: &R,
     shared: &ThreadedRodeo<K, S>,
@@ -131,7 +130,7 @@ pub fn contains<K: Key, S: BuildHasher + Drop, R: Wait>(
     shared.contains(rt, text)
 }
 
-/// The number of the text, if it is there.
+/// The number of the text, if it is present.
 pub fn found<K: Key, S: BuildHasher + Drop, R: Wait>(
     rt: &R,
     shared: &ThreadedRodeo<K, S>,
@@ -164,7 +163,7 @@ pub fn text_at<K: Key, S: BuildHasher + Drop>(
     Ok(shared.try_resolve(key(number)?))
 }
 
-/// The same by the other call.
+/// The same by `resolve`.
 pub fn resolved<K: Key, S: BuildHasher + Drop>(
     shared: &ThreadedRodeo<K, S>,
     number: usize,
@@ -172,7 +171,7 @@ pub fn resolved<K: Key, S: BuildHasher + Drop>(
     Ok(shared.resolve(key(number)?))
 }
 
-/// The same by a new pass.
+/// The same by `try_resolve_as` with a new pass.
 pub fn text_at_as<K: Key, S: BuildHasher + Drop>(
     shared: &ThreadedRodeo<K, S>,
     number: usize,
@@ -181,7 +180,7 @@ pub fn text_at_as<K: Key, S: BuildHasher + Drop>(
     Ok(shared.try_resolve_as(&mut pass, key(number)?))
 }
 
-/// The number of a copied text.
+/// Interns a copied text, and returns its number.
 pub fn copied<K: Key, S: BuildHasher + Drop, R: Wait>(
     rt: &R,
     shared: &ThreadedRodeo<K, S>,
@@ -190,7 +189,7 @@ pub fn copied<K: Key, S: BuildHasher + Drop, R: Wait>(
     Ok(shared.try_get_or_intern(rt, text)?.into_usize())
 }
 
-/// The number of a static text.
+/// Interns a static text, and returns its number.
 pub fn kept<K: Key, S: BuildHasher + Drop, R: Wait>(
     rt: &R,
     shared: &ThreadedRodeo<K, S>,
@@ -199,7 +198,7 @@ pub fn kept<K: Key, S: BuildHasher + Drop, R: Wait>(
     Ok(shared.try_get_or_intern_static(rt, text)?.into_usize())
 }
 
-/// The number of a copied text, by the other call.
+/// The same as `copied`, by `get_or_intern`.
 pub fn copied_so<K: Key, S: BuildHasher + Drop, R: Wait>(
     rt: &R,
     shared: &ThreadedRodeo<K, S>,
@@ -208,7 +207,7 @@ pub fn copied_so<K: Key, S: BuildHasher + Drop, R: Wait>(
     Ok(shared.get_or_intern(rt, text)?.into_usize())
 }
 
-/// The number of a static text, by the other call.
+/// The same as `kept`, by `get_or_intern_static`.
 pub fn kept_so<K: Key, S: BuildHasher + Drop, R: Wait>(
     rt: &R,
     shared: &ThreadedRodeo<K, S>,
@@ -217,7 +216,7 @@ pub fn kept_so<K: Key, S: BuildHasher + Drop, R: Wait>(
     Ok(shared.get_or_intern_static(rt, text)?.into_usize())
 }
 
-/// The number of a copied text, or why it was refused. It is asked for again where memory was wanting.
+/// Interns a copied text, again if memory runs out. Returns its number, or why it was refused.
 pub fn number<K: Key, S: BuildHasher + Drop, R: Wait>(
     rt: &R,
     shared: &ThreadedRodeo<K, S>,
@@ -231,7 +230,7 @@ pub fn number<K: Key, S: BuildHasher + Drop, R: Wait>(
     }
 }
 
-/// The answer, or why it was refused.
+/// The value of the call, or why it was refused.
 pub fn answered<T>(reply: LassoResult<T>) -> Result<T, LassoErrorKind> {
     match reply {
         Ok(answer) => Ok(answer),
@@ -239,14 +238,14 @@ pub fn answered<T>(reply: LassoResult<T>) -> Result<T, LassoErrorKind> {
     }
 }
 
-/// A pass of the interner.
+/// A new pass of the interner.
 pub fn pass_of<K: Key, S: BuildHasher + Drop>(shared: &ThreadedRodeo<K, S>) -> Pass<K>
     ensures { result.of ≡ shared.now }
 {
     shared.pass()
 }
 
-/// How many texts the pass then has seen.
+/// How many texts the pass has seen after this call, which is `len_as`.
 pub fn seen_by<K: Key, S: BuildHasher + Drop>(
     shared: &ThreadedRodeo<K, S>,
     pass: &mut Pass<K>,
@@ -283,7 +282,7 @@ pub fn copied_as<K: Key, S: BuildHasher + Drop, R: Wait>(
     shared.try_get_or_intern_as(rt, pass, text)
 }
 
-/// The number of the text by the pass, if it is there.
+/// The number of the text by the pass, if it is present.
 pub fn found_as<K: Key, S: BuildHasher + Drop, R: Wait>(
     rt: &R,
     shared: &ThreadedRodeo<K, S>,
@@ -299,7 +298,7 @@ pub fn found_as<K: Key, S: BuildHasher + Drop, R: Wait>(
     }
 }
 
-/// Whether the key stands for the text by the pass.
+/// Whether the key resolves to the text by the pass.
 pub fn stands_for<K: Key, S: BuildHasher + Drop>(
     shared: &ThreadedRodeo<K, S>,
     pass: &mut Pass<K>,
@@ -349,7 +348,7 @@ pub fn sums_as<K: Key, S: BuildHasher + Drop, R: Wait>(
     (limit, shared.current_memory_usage_as(rt, pass))
 }
 
-/// Sets how many bytes all buckets may take by the pass.
+/// Sets the limit by the pass.
 pub fn set_limit_as<K: Key, S: BuildHasher + Drop, R: Wait>(
     rt: &R,
     shared: &ThreadedRodeo<K, S>,

@@ -1,4 +1,4 @@
-//! Tests of the interner that threads share and of its shards, by their public calls alone.
+//! Tests of the interner that threads share and of its shards, through their public calls only.
 #![tactic(auto)]
 
 #[cfg(test)]

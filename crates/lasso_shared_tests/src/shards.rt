@@ -1,4 +1,5 @@
-//! Shards that stand apart, hashers that put all texts into one, and slots that are given back.
+//! Calls of different shards, which do not wait for each other; many texts in one shard; and the slots of
+//! refused texts, which are freed.
 ghost use Rattle.std.specs.Prelude.{◌<◌};
 
 mod armed;
@@ -29,7 +30,7 @@ const OPENED: Opened = Opened {
     limit: u64::MAX,
 };
 
-// How often a test looks for a flag, yielding between.
+// How many times a test looks for a flag before it gives up. It yields after each.
 const TURNS: u32 = 10_000_000;
 
 const TEXTS: [&str; 300] = [
@@ -59,7 +60,7 @@ const TEXTS: [&str; 300] = [
     "299",
 ];
 
-// Whether the flag is set at one of the turns.
+// Waits for the flag, but not for ever. Returns whether it was set.
 fn is_seen(flag: &AtomicU64) -> bool {
     for _ in 0..TURNS {
         if flag.load(Ordering::SeqCst) != 0 {
@@ -70,12 +71,12 @@ fn is_seen(flag: &AtomicU64) -> bool {
     false
 }
 
-// An interner that holds nothing, with such a hasher.
+// An interner without texts, with this hasher.
 fn opened<K: Key, S: BuildHasher + Drop>(alloc: Global, hasher: S) -> Result<Shards<K, S>, Fail> {
     Ok(Shards::open(alloc, hasher, OPENED)?)
 }
 
-// The number of a static text that a new pass interns.
+// Interns a static text by a new pass, and returns its number.
 fn intern_static<K: Key, S: BuildHasher + Drop, R: Wait>(
     rt: &R,
     shards: &Shards<K, S>,
@@ -97,7 +98,7 @@ fn intern_and_set<S: BuildHasher + Drop, R: Wait>(
     }
 }
 
-// Whether the flag is set by who interns the text while the shard of this number is held.
+// Whether another thread interns the text while the shard of this number is locked for writing.
 fn is_set_beside_a_writer<S: BuildHasher + Drop, R: Threads + Wait + Sync>(
     rt: &R,
     shards: &Shards<Spur, S>,
@@ -117,7 +118,7 @@ fn is_set_beside_a_writer<S: BuildHasher + Drop, R: Threads + Wait + Sync>(
     seen
 }
 
-// The shard of the text.
+// The number of the text's shard.
 fn shard_of(hasher: &FirstState, text: &str) -> usize {
     number_of(hash_text(hasher, text))
 }
@@ -132,7 +133,7 @@ fn shards_apart(rt: HostRuntime) -> Result<(), Fail> {
     Ok(())
 }
 
-// Looks a text up that is there, interns it in both ways, and then sets the flag.
+// Looks up a present text, interns it as a static and as a copied one, and then sets the flag.
 fn find_and_set<S: BuildHasher + Drop, R: Wait>(
     rt: &R,
     shards: &Shards<Spur, S>,
@@ -148,7 +149,7 @@ fn find_and_set<S: BuildHasher + Drop, R: Wait>(
     }
 }
 
-// Whether the flag is set by who finds the text while the shard of this number is read.
+// Whether another thread finds and interns the text while the shard of this number is locked for reading.
 fn is_set_beside_a_reader<S: BuildHasher + Drop, R: Threads + Wait + Sync>(
     rt: &R,
     shards: &Shards<Spur, S>,
@@ -176,7 +177,7 @@ fn a_text_that_is_there_is_found_beside_readers(rt: HostRuntime) -> Result<(), F
     Ok(())
 }
 
-// Whether each text gets its position as its number when it is interned, and is found there.
+// Interns the texts. Returns whether each gets its position as its number, and is found there.
 fn in_order<S: BuildHasher + Drop, R: Wait>(
     rt: &R,
     shared: &ThreadedRodeo<Spur, S>,
@@ -196,7 +197,7 @@ fn in_order<S: BuildHasher + Drop, R: Wait>(
     true
 }
 
-// Whether the reader has these texts at their positions, and no other.
+// Whether the reader has exactly these texts, each at its position, and lacks the other.
 fn has_just<S: BuildHasher + Drop>(
     reader: &RodeoReader<Spur, S, Global>,
     texts: &[&str],
@@ -211,7 +212,6 @@ fn has_just<S: BuildHasher + Drop>(
     reader.len() == texts.len() && reader.get(other).is_none()
 }
 
-// The frozen interner.
 fn frozen<S: BuildHasher + Drop, R: Wait>(
     rt: &R,
     shared: ThreadedRodeo<Spur, S>,
@@ -240,7 +240,7 @@ fn texts_of_one_shard_and_of_others(rt: HostRuntime) -> Result<(), Fail> {
     Ok(())
 }
 
-// How many slots the spine keeps.
+// How many slots the spine keeps for texts to come.
 fn kept_slots<K: Key, R: Wait>(rt: &R, shards: &Shards<K, FixedState>) -> u64 {
     let (guard, held) = shards.spine.lock(rt);
     let kept = held.tally.spine.kept();
@@ -248,7 +248,7 @@ fn kept_slots<K: Key, R: Wait>(rt: &R, shards: &Shards<K, FixedState>) -> u64 {
     kept
 }
 
-// The number of an interned text, or why it was refused. It is asked for again where memory was wanting, which kept no slot.
+// Interns the text, again if memory runs out and no slot is kept. Returns its number, or why it was refused.
 fn number<K: Key, R: Wait>(
     rt: &R,
     shards: &Shards<K, FixedState>,
@@ -262,7 +262,7 @@ fn number<K: Key, R: Wait>(
     }
 }
 
-// Whether the first texts, so many of them, get their positions as their numbers.
+// Interns the first `count` texts. Returns whether each gets its position as its number.
 fn takes_first<K: Key, R: Wait>(rt: &R, shards: &Shards<K, FixedState>, count: usize) -> bool {
     let mut position: usize = 0;
     for text in TEXTS.iter().take(count) {
@@ -279,12 +279,12 @@ fn a_refused_text_gives_its_slot_back(rt: HostRuntime) -> Result<(), Fail> {
     let shards: Shards<MicroSpur, FixedState> = opened(rt.alloc(), FixedState::new())?;
     assert!(rt; takes_first(&rt, &shards, 255));
     assert!(rt; kept_slots(&rt, &shards) == 0);
-    // no number is left for another text nor for the empty one
+    // no key is left for another text, nor for the empty one
     for text in ["255", ""] {
         assert!(rt; number(&rt, &shards, text) == Err(LassoErrorKind::KeySpaceExhaustion));
         assert!(rt; kept_slots(&rt, &shards) == 0);
     }
-    // and the texts that are there keep theirs
+    // present texts keep theirs
     assert!(rt; number(&rt, &shards, "000") == Ok(0));
     Ok(())
 }

@@ -62,7 +62,7 @@ const SECOND: [&str; 100] = [
     "b91", "b92", "b93", "b94", "b95", "b96", "b97", "b98", "b99",
 ];
 
-// Interns these texts, and tells whether each was accepted.
+// Interns the texts. Returns whether none was refused.
 fn fill<R: Wait>(rt: &R, shared: &Shared, texts: &[&'static str]) -> bool {
     let mut pass = pass_of(shared);
     let mut all = true;
@@ -74,7 +74,7 @@ fn fill<R: Wait>(rt: &R, shared: &Shared, texts: &[&'static str]) -> bool {
     all
 }
 
-// The number of an interned text, or why it was refused.
+// Interns the text. Returns its number, or why it was refused.
 fn number<K: Key, R: Wait>(
     rt: &R,
     shared: &ThreadedRodeo<K, FixedState>,
@@ -90,7 +90,8 @@ fn number<K: Key, R: Wait>(
     }
 }
 
-// How many of the texts stand in the list, each past the one before it.
+// How many of the texts, from the first on, are in this order at positions below 200, with or without other
+// texts in between.
 fn in_order(shared: &Shared, texts: &[&str]) -> usize {
     let mut pass = pass_of(shared);
     let mut found: usize = 0;
@@ -115,15 +116,15 @@ fn two_threads_append(rt: HostRuntime) -> Result<(), Fail> {
     );
     assert!(rt; a && b);
     assert!(rt; len_as(&shared) == 200);
-    // 100 texts of each thread at 200 positions: each stands once, in its thread's order
+    // 100 texts of each thread at 200 positions: each is present once, in its thread's order
     assert!(rt; in_order(&shared, &FIRST) == 100);
     assert!(rt; in_order(&shared, &SECOND) == 100);
     assert!(rt; text_at_as(&shared, 200)? == None);
     Ok(())
 }
 
-// Interns the texts, and asks again where one was refused. Tells whether each refusal was for want of memory and
-// left the list as it was, and whether each text got the next number.
+// Interns the texts, and again each whose first call runs out of memory. Returns whether such a call left the
+// list as it was, and whether each text got the next number.
 fn takes_all<R: Wait>(rt: &R, shared: &Shared, texts: &[&'static str]) -> bool {
     let mut pass = pass_of(shared);
     for position in 0..texts.len() {
@@ -160,7 +161,7 @@ fn keys_used_up_refuse_new_texts_alone(rt: HostRuntime) -> Result<(), Fail> {
     Ok(())
 }
 
-// Interns `x` and a text of its own, and gives the number of `x` where both keys stand for their texts.
+// Interns `x` and the text `own`. Returns the number of `x` if both keys resolve to their texts.
 fn meets<R: Wait>(rt: &R, shared: &Shared, own: &'static str) -> LassoResult<Option<usize>> {
     let mut pass = pass_of(shared);
     let x = kept_as(rt, shared, &mut pass, "x")?;

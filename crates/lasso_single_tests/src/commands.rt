@@ -1,4 +1,4 @@
-//! Runs of commands, worked by hand.
+//! Runs of commands, with replies worked out by hand.
 
 use lasso_parts::keys::{Key, Spur};
 use lasso_parts::util::{Capacity, FixedState, MemoryLimits};
@@ -27,7 +27,6 @@ fn key_at(position: usize) -> Result<Spur, Fail> {
     Ok(Spur::try_from_usize(position).ok_or("no key")?)
 }
 
-// The replies to the commands.
 fn replies_to(
     alloc: Global,
     rodeo: &mut Small,
@@ -108,9 +107,9 @@ fn a_refusal_does_not_end_the_run(rt: HostRuntime) -> Result<(), Fail> {
     Ok(())
 }
 
-// A first bucket of 4 bytes under a limit of 20: "abc" leaves room for 1 byte, so "defgh" asks for a bucket of
-// twice 4 bytes, and 12 are taken. The clear keeps both. Of the copy "one" goes into the first bucket and "two"
-// into the other, in which "three" has just room.
+// The first bucket has 4 bytes, and the limit is 20. "abc" leaves room for 1 byte, so "defgh" takes a second
+// bucket, of 8 bytes, and the usage is 12. The clear keeps both buckets. The copy puts "one" into the first
+// and "two" into the second, where "three" then fits exactly.
 #[test]
 fn each_command_in_one_run(rt: HostRuntime) -> Result<(), Fail> {
     let source = of_two_texts(rt.alloc())?;
@@ -192,8 +191,8 @@ fn holds_as_worked(rt: &impl Abort, rodeo: &Small) {
     assert!(rt; rodeo.max_memory_usage() == 20);
 }
 
-// "abc" fills what a limit of 4 bytes has room for but 1. So the copy stops at its second text and leaves none, the
-// filling stops at "three" behind the text that fits, and a static text asks for nothing.
+// The first bucket has 4 bytes, which are the limit. The copy stops at its second text and leaves none. The
+// extend keeps "two" and stops at "three". A static text takes no bytes.
 #[test]
 fn each_command_past_the_limit(rt: HostRuntime) -> Result<(), Fail> {
     let source = of_two_texts(rt.alloc())?;

@@ -1,4 +1,4 @@
-//! Reading interners from JSON, what they are written as, and the way through JSON's text and back.
+//! Interners read from JSON, written as JSON, and read back from what they wrote.
 ghost use Rattle.std.specs.Prelude.{◌<◌};
 
 mod kinds;
@@ -41,7 +41,7 @@ fn as_resolver(alloc: Global, value: &Value) -> Result<SpurResolver, JsonError> 
     SpurResolver::deserialize(alloc, value)
 }
 
-// What was wrong with the value, or none.
+// The error of reading, if any.
 fn fault<T: Drop>(answer: Result<T, JsonError>) -> Option<JsonError> {
     match answer {
         Ok(_read) => None,
@@ -75,7 +75,7 @@ fn faulty_arrays_of_distinct_texts(rt: HostRuntime) -> Result<(), Fail> {
     Ok(())
 }
 
-// The resolver's text at the position is this.
+// Whether the resolver has this text at the position.
 fn resolves(resolver: &SpurResolver, position: usize, text: &str) -> Result<bool, Fail> {
     let key = Spur::try_from_usize(position).ok_or("no key")?;
     Ok(resolver.try_resolve(key) == Some(text))
@@ -97,7 +97,7 @@ fn a_resolver_may_hold_equal_texts(rt: HostRuntime) -> Result<(), Fail> {
     Ok(())
 }
 
-// The number of the text's key.
+// Interns the text and returns the number of its key.
 fn interned(rodeo: &mut SpurRodeo, text: &str) -> Result<usize, Fail> {
     Ok(rodeo.try_get_or_intern(text)?.into_usize())
 }
@@ -151,7 +151,7 @@ fn each_form_writes_its_texts(rt: HostRuntime) -> Result<(), Fail> {
     Ok(())
 }
 
-// So many texts, each with its number modulo `different`.
+// An array of `count` texts: the numbers below `count`, each modulo `different`.
 fn numbered(alloc: Global, count: usize, different: usize) -> Result<Value, Fail>
     requires { 0 < different }
 {
@@ -163,7 +163,7 @@ fn numbered(alloc: Global, count: usize, different: usize) -> Result<Value, Fail
     Ok(Value::Array(items))
 }
 
-// So many times the text "a".
+// An array that has the text "a" `count` times.
 fn equal_texts(alloc: Global, count: usize) -> Result<Value, Fail> {
     let mut items: Vec<Value> = Vec::new(alloc);
     for _item in 0..count {
@@ -203,7 +203,7 @@ fn a_position_without_a_key(rt: HostRuntime) -> Result<(), Fail> {
     Ok(())
 }
 
-// Each text compared with all before it would be 20 thousand million comparisons.
+// Comparing each text with all earlier ones would take 20 billion comparisons.
 #[test]
 fn a_double_behind_many_texts(rt: HostRuntime) -> Result<(), Fail> {
     let last_as_first = numbered(rt.alloc(), 200_000, 199_999)?;
@@ -227,7 +227,7 @@ fn of_strange_texts(alloc: Global) -> Result<SpurRodeo, Fail> {
     Ok(SpurRodeo::from_iter(alloc, STRANGE)?)
 }
 
-// The text stands at the position, and is found there.
+// Checks that the key of this position resolves to the text, and that `get` finds the text there.
 fn is_at(rt: &impl Abort, rodeo: &SpurRodeo, position: usize, text: &str) -> Result<(), Fail> {
     let key = Spur::try_from_usize(position).ok_or("no key")?;
     assert!(rt; rodeo.try_resolve(key) == Some(text));

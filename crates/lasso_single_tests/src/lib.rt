@@ -1,4 +1,4 @@
-//! Tests of the interner for one thread and of its frozen forms, by their public calls alone.
+//! Tests of the interner for one thread and of its frozen forms, through their public calls only.
 #![tactic(auto)]
 
 #[cfg(test)]

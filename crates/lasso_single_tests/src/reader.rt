@@ -1,4 +1,4 @@
-//! Readers alone, in two threads, under one hash, and with keys that ran out.
+//! Readers: alone, in two threads, with a constant hash, and after the keys are used up.
 ghost use Rattle.std.specs.Prelude.{All, ◌≤◌, length};
 
 use lasso_parts::keys::{Key, Spur};
@@ -30,7 +30,7 @@ fn texts(reader: &SpurReader, near: Spur, far: Spur) -> (bool, bool) {
 
 fn is_shared<T: Send + Sync>(_value: &T) {}
 
-// Whatever the keys, the hasher and the allocator are, a reader and its walks cross threads where these do.
+// A reader and its iterators are `Send` and `Sync` if the keys, the hasher and the allocator are.
 fn crosses<K: Key + Send + Sync, S: BuildHasher + Send + Sync, A: Allocator + Send + Sync>(
     reader: &RodeoReader<K, S, A>,
 ) {
@@ -93,7 +93,7 @@ fn a_reader_shows_the_list_that_was_frozen(rt: HostRuntime) -> Result<(), Fail> 
     Ok(())
 }
 
-// How many bytes the longest text has: what a walk's caller can prove of a loop over it.
+// The length of the longest text in bytes. Its contract shows what can be proved of a loop over a reader.
 fn longest<K: Key, S: BuildHasher, A: Allocator>(reader: &RodeoReader<K, S, A>) -> usize
     ensures { All (λ t. length t ≤ result) reader.now }
 {

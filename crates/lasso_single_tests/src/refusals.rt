@@ -1,5 +1,6 @@
-//! Scripts that are run with each of their requests for memory refused in turn. A refused call changes nothing but what it
-//! says, the same call later goes on as if it was the first, and after each run all memory has come back.
+//! Scripts that are run with each of their requests for memory refused in turn. A call that runs out of
+//! memory changes only what its documentation says. The same call made again returns what the first would
+//! have. Each run frees all its memory.
 ghost use Rattle.std.specs.Prelude.{◌<◌};
 
 mod copies;
@@ -31,10 +32,11 @@ type Memory = Refusing<Global>;
 
 type Metered<'a, K> = Rodeo<K, FixedState, &'a Memory>;
 
-// A run meets its own refusal, and at most one of the allocator below (`rt try --test --fail-alloc N`).
+// In each run `Refusing` refuses at most one request, and the allocator below it at most one more
+// (`rt try --test --fail-alloc N`).
 const REFUSALS: u8 = 2;
 
-// What was made, or none where the memory for it was refused.
+// The value that was made. `None` if the call ran out of memory, which `is_refused` then checks.
 fn made<T>(rt: &impl Abort, memory: &Memory, outcome: LassoResult<T>) -> Option<T> {
     match outcome {
         Ok(made) => Some(made),
@@ -45,13 +47,14 @@ fn made<T>(rt: &impl Abort, memory: &Memory, outcome: LassoResult<T>) -> Option<
     }
 }
 
-// The call answers this where a request of its own was refused, which no call before told of.
+// Checks the error of a call that ran out of memory: it is `FailedAllocation`, and a request was refused
+// since the last such check.
 fn is_refused(rt: &impl Abort, memory: &Memory, kind: LassoErrorKind) {
     assert!(rt; memory.has_refused_anew());
     assert!(rt; kind == MEMORY);
 }
 
-// An interner without room for any text in its list and index, so that its texts ask for it.
+// An interner whose list and index have no room, so that interning a text allocates in both.
 fn interner<'a, K: Key>(
     rt: &impl Abort,
     memory: &'a Memory,
@@ -69,7 +72,7 @@ fn interner<'a, K: Key>(
     )
 }
 
-// What the call was refused for.
+// Why the call was refused, if it was.
 fn refusal_of<T: Drop>(outcome: LassoResult<T>) -> Option<LassoErrorKind> {
     match outcome {
         Ok(_made) => None,
@@ -84,7 +87,8 @@ fn told<K: Key>(outcome: LassoResult<K>) -> Answer {
     }
 }
 
-// Interns the text until no request of the call is refused. Each call before answers want of memory, and changes nothing.
+// Interns the text, again while a request of the call is refused. Each refused call has to return
+// `FailedAllocation` and change nothing.
 fn gives<K: Key>(
     rt: &impl Abort,
     memory: &Memory,
@@ -107,7 +111,7 @@ fn gives<K: Key>(
     assert!(rt; answer == wanted, "{text}");
 }
 
-// Exactly these texts are there, in this order, and the buckets take so many bytes.
+// Checks that the interner has exactly these texts, in this order, and that its buckets take `usage` bytes.
 fn holds<K: Key>(rt: &impl Abort, rodeo: &Metered<'_, K>, texts: &[&str], usage: usize) {
     assert!(rt; rodeo.len() == texts.len());
     let mut walk = rodeo.strings();
@@ -128,7 +132,7 @@ fn hello_twice<R: AllocGlobal + Abort>(rt: &R, memory: &Memory) -> Result<(), Fa
     Ok(())
 }
 
-// The long text has a bucket of its own of 9 bytes, and one of twice 4 comes for the last.
+// The long text gets a bucket of its own, of 9 bytes. The last text gets one of 8 bytes.
 fn past_the_first_bucket<R: AllocGlobal + Abort>(rt: &R, memory: &Memory) -> Result<(), Fail> {
     let Some(mut rodeo) = interner::<Spur>(rt, memory, 4, usize::MAX) else {
         return Ok(());
@@ -140,7 +144,7 @@ fn past_the_first_bucket<R: AllocGlobal + Abort>(rt: &R, memory: &Memory) -> Res
     Ok(())
 }
 
-// A text without a key takes no bytes, so that none of its refusals is the limit's.
+// A text without a key takes no bytes, so the limit never refuses it.
 fn past_the_keys<R: AllocGlobal + Abort>(rt: &R, memory: &Memory) -> Result<(), Fail> {
     let Some(mut rodeo) = interner::<Gap<2>>(rt, memory, 4, 4) else {
         return Ok(());

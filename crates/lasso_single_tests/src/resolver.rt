@@ -1,4 +1,4 @@
-//! Resolvers alone and in two threads.
+//! Resolvers: alone, and in two threads.
 
 use lasso_parts::keys::{Key, Spur};
 use lasso_parts::util::{FixedState, LassoResult};
@@ -17,7 +17,7 @@ fn texts(resolver: &RodeoResolver<Spur, Global>, near: Spur, far: Spur) -> (bool
 
 fn is_shared<T: Send + Sync>(_value: &T) {}
 
-// Whatever the keys and the allocator are, a resolver crosses threads where these do.
+// A resolver is `Send` and `Sync` if the keys and the allocator are.
 fn crosses<K: Key + Send + Sync, A: Allocator + Send + Sync>(resolver: &RodeoResolver<K, A>) {
     is_shared(resolver);
 }

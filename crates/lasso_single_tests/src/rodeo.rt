@@ -1,4 +1,4 @@
-//! Worked interning on small accounts, and a key type that lacks a number.
+//! Interning with small buckets and low limits, worked out by hand, and with key types that lack a number.
 ghost use Rattle.std.specs.Prelude.{◌<◌};
 
 mod changes;
@@ -209,7 +209,7 @@ fn makers_of_default_size(rt: HostRuntime) -> Result<(), Fail> {
     Ok(())
 }
 
-// For how many texts the list of what was made has room.
+// How many texts fit in the new interner before its list grows.
 fn room_of(made: LassoResult<Rodeo<Spur, FixedState, Global>>) -> LassoResult<usize> {
     Ok(made?.capacity())
 }

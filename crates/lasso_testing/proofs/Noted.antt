@@ -1,4 +1,5 @@
--- `refuses`, `gives_out` and `takes_back` at a call: what each is handed, and what a caller has of it. Assumes `Logic`.
+-- Calls of `refuses`, `gives_out` and `takes_back`: what each needs, and what its caller gets. Assumes
+-- `Logic`.
 use Rattle.std.proofs.Common.{◌≡◌, ℕ, ◌^◌, ◌<◌, List, [], ◌∷◌, refl, ap, w64}
 use mathlib.Core.Bool.{Bool}
 use seplogic.Ra.Ura.{Ura}

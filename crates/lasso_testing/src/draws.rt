@@ -1,7 +1,7 @@
 //! Pseudorandom numbers.
 ghost use Rattle.std.specs.Prelude.{◌<◌};
 
-/// A generator of pseudorandom numbers: it draws the same ones wherever it starts from the same seed.
+/// A generator of pseudorandom numbers. From the same seed it draws the same numbers.
 #[derive(Clone, Copy, Debug)]
 pub struct Draws {
     state: u64,
@@ -15,7 +15,7 @@ impl Draws {
         }
     }
 
-    /// A number below the count, or 0 where that is 0.
+    /// Draws a number below `count`, or 0 if `count` is 0.
     pub fn below(&mut self, count: usize) -> usize
         ensures { 0 < count → result < count }
     {

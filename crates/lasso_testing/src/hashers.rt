@@ -1,14 +1,14 @@
-//! Hashers that choose where a text goes, and one that counts the texts.
+//! Hashers that choose the shard and slot of a text, and one that counts the texts.
 ghost use Rattle.std.specs.Prelude.{◌≡◌, ◌+◌, ◌*◌, ◌%◌, ◌^◌, ⊤, length};
 ghost use Rattle.std.specs.Hash.FoldHasher as folding;
 
 use std::cell::Cell;
 use std::hash::{BuildHasher, BuildHasherDefault, FoldHasher, Hasher};
 
-/// Makes hashers that answer 0.
+/// Makes hashers that return 0.
 pub type SameState = BuildHasherDefault<SameHasher>;
 
-/// Answers 0 for each text.
+/// Returns 0 for each text.
 #[derive(Clone, Copy)]
 pub struct SameHasher {
     answer: u64,
@@ -34,13 +34,13 @@ impl Hasher for SameHasher {
     fn write(&mut self, _bytes: &[u8]) {}
 }
 
-/// Makes hashers that answer a text's first byte times 2^56: it chooses the shard.
+/// Makes hashers that return a text's first byte times 2^56. Its high four bits choose the shard.
 pub type FirstState = BuildHasherDefault<FirstHasher<56>>;
 
-/// Makes hashers that answer a text's first byte times 2^60, without what is past 2^64: four bits of it are left.
+/// Makes hashers that return a text's first byte times 2^60, modulo 2^64. Its low four bits choose the shard.
 pub type LowState = BuildHasherDefault<FirstHasher<60>>;
 
-/// Answers the first byte that it is given, moved left by `BITS` bits, without what is past 2^64.
+/// Returns the first byte that is written, shifted left by `BITS` bits, modulo 2^64.
 #[derive(Clone, Copy)]
 pub struct FirstHasher<const BITS: u32> {
     begun: bool,
@@ -77,11 +77,11 @@ impl<const BITS: u32> Hasher for FirstHasher<BITS> {
     }
 }
 
-/// Makes hashers that answer by a text's length.
+/// Makes hashers that return the same for texts of the same length.
 pub type LengthState = BuildHasherDefault<LengthHasher>;
 
-/// Counts the bytes that it is given, from the first bit of a tag on: texts of two lengths below 127 have two tags, and all
-/// searches begin at one slot.
+/// Returns the number of bytes written times 2^53, so the count begins at the lowest bit of an index's tag.
+/// Texts of two lengths below 127 have different tags, and all searches begin at the same slot.
 #[derive(Clone, Copy)]
 pub struct LengthHasher {
     answer: u64,
@@ -110,14 +110,14 @@ impl Hasher for LengthHasher {
     }
 }
 
-/// Makes the hashers of the fixed seed, and counts them: one for each text that is hashed.
+/// Makes hashers of the fixed seed, and counts them: one for each text that is hashed.
 #[derive(Clone, Copy)]
 pub struct CountingState<'a> {
     made: &'a Cell<u64>,
 }
 
 impl<'a> CountingState<'a> {
-    /// Counts up from what the cell has.
+    /// Adds the count to the number in the cell.
     pub fn new(made: &'a Cell<u64>) -> Self {
         CountingState { made }
     }

@@ -3,7 +3,7 @@ use lasso_parts::keys::Key;
 use std::cmp::{Eq, PartialEq};
 use std::marker::Model;
 
-/// Keys of the numbers below a count.
+/// Keys of the numbers below `COUNT`.
 #[derive(Clone, Copy, PartialEq, Eq)]
 pub struct Below<const COUNT: u32> {
     position: u32,
@@ -60,7 +60,7 @@ impl<const COUNT: u32> Key for Below<COUNT> {
     ghost equal = { λ a b is_value is_value'. Prim.grind (arith, nat_tests) };
 }
 
-/// Keys of the numbers below 1000, without one of them.
+/// Keys of the numbers below 1000, except `MISSING`.
 #[derive(Clone, Copy, PartialEq, Eq)]
 pub struct Gap<const MISSING: u16> {
     position: u16,

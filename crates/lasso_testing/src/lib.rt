@@ -1,5 +1,5 @@
-//! What the tests of several crates share: key types that lack numbers, hashers that choose where a text goes or count
-//! the texts, an allocator that refuses a request, lists of texts, and pseudorandom numbers.
+//! What the tests of several crates share: key types that lack numbers, hashers that choose a text's shard
+//! and slot or count texts, an allocator that refuses a request, lists of texts, and pseudorandom numbers.
 #![tactic(auto)]
 
 pub mod draws;

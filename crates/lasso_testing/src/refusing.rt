@@ -1,30 +1,30 @@
-//! An allocator that refuses one of its requests, and counts the refusals and the bytes that are out; and scripts
-//! that are run with each of their requests refused in turn.
+//! An allocator that refuses one of its requests, and counts its refusals and the bytes in use.
+//! `each_refused` runs a script with each of its requests refused in turn.
 use std::alloc::{AllocError, Allocator, Global};
 use std::cell::Cell;
 use std::test::Fail;
 
-/// What was asked of an allocator, and what it gave.
+/// Counts of the requests to an allocator, and of the bytes in use.
 #[derive(Drop)]
 pub struct Requests {
     // the number of the request that is refused
     refused: u64,
     made: Cell<u64>,
-    // how many of those made were given their bytes
+    // how many requests got their bytes
     met: Cell<u64>,
-    // how many refusals `has_refused_anew` has told of
+    // how many refusals `has_refused_anew` has reported
     told: Cell<u64>,
     bytes_out: Cell<usize>,
 }
 
-// Notes a request, and says whether it is the one to be refused.
+// Counts a request. Returns whether it is the one to refuse.
 fn refuses(requests: &Requests) -> bool {
     let number = requests.made.get().saturating_add(1);
     requests.made.set(number);
     number == requests.refused
 }
 
-// Notes that a request was met, by `size` bytes.
+// Counts a request that got `size` bytes.
 fn gives_out(requests: &Requests, size: usize) {
     requests.met.set(requests.met.get().saturating_add(1));
     requests
@@ -32,22 +32,22 @@ fn gives_out(requests: &Requests, size: usize) {
         .set(requests.bytes_out.get().wrapping_add(size));
 }
 
-// Notes that `size` bytes came back.
+// Subtracts `size` bytes, which were freed.
 fn takes_back(requests: &Requests, size: usize) {
     requests
         .bytes_out
         .set(requests.bytes_out.get().wrapping_sub(size));
 }
 
-/// Memory of another allocator; one request for it is refused. A request that the other allocator refuses is
-/// refused too. A `&` to it is an allocator too, that of the interners under test.
+/// Passes requests on to another allocator, but refuses one of them. A request that the other allocator
+/// refuses is refused too. A `&` to it is an allocator too, which the interners under test use.
 pub struct Refusing<B: Allocator> {
     inner: B,
     requests: Requests,
 }
 
 impl<B: Allocator> Refusing<B> {
-    /// Refuses the request of this number, counted from 1, and by number 0 none.
+    /// Refuses the request of this number, counted from 1. The number 0 refuses none.
     pub fn new(inner: B, refused: u64) -> Self {
         let requests = Requests {
             refused,
@@ -67,7 +67,7 @@ impl<B: Allocator> Refusing<B> {
             .saturating_sub(self.requests.met.get())
     }
 
-    /// Whether a request was refused since this was asked last.
+    /// Whether a request was refused since this was last called.
     pub fn has_refused_anew(&self) -> bool {
         let refusals = self.refusals();
         let is_new = refusals > self.requests.told.get();
@@ -75,7 +75,7 @@ impl<B: Allocator> Refusing<B> {
         is_new
     }
 
-    /// How many bytes were given and have not come back.
+    /// How many bytes were allocated and are not yet freed.
     pub fn bytes_out(&self) -> usize {
         self.requests.bytes_out.get()
     }
@@ -115,8 +115,9 @@ unsafe impl<B: Allocator> Allocator for Refusing<B> {
 // More requests than a script makes.
 const MOST: u64 = 1000;
 
-/// Runs the script with its first request refused, then with its second, and so on until a run meets no refusal. Each run has to give
-/// all its bytes back. It fails where the script does, where the first run makes no request, and where a thousand runs meet refusals.
+/// Runs the script with its first request refused, then with its second, and so on until a run meets no
+/// refusal. Each run has to free all its bytes. Fails if the script fails, if the first run makes no request,
+/// or if 999 runs meet refusals.
 pub fn each_refused<R: AllocGlobal, F: Fn(&R, &Refusing<Global>) -> Result<(), Fail> + Drop>(
     rt: &R,
     script: F,

@@ -1,6 +1,6 @@
 //! Lists of texts.
 
-/// A text of each length below 33, by its length.
+/// A text of each length below 33. The index is the length.
 pub const OF_EACH_LENGTH: [&str; 33] = [
     "",
     "a",

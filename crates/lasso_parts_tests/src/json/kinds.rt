@@ -1,11 +1,12 @@
-//! Values of each kind as keys of each width.
+//! JSON values of each kind, read as keys of each width.
 use lasso_parts::json::{JsonError, JsonKey};
 use lasso_parts::keys::{Key, LargeSpur, MicroSpur, MiniSpur, Spur};
 use serde_json::Value;
 use std::process::Abort;
 use std::test::Fail;
 
-// The greatest number of each width, and the first past it: the position of a key of 8, of 16, of 32 and of 64 bits.
+// The numbers 0 and 1, and of each width the greatest number and the one after it. Each has the positions
+// that it is read as by keys of 8, 16, 32 and 64 bits.
 const NUMBERS: [(&str, [Option<usize>; 4]); 10] = [
     ("0", [None, None, None, None]),
     ("1", [Some(0), Some(0), Some(0), Some(0)]),
@@ -56,7 +57,7 @@ const OTHERS: [&str; 28] = [
     r#"{"a":{"b":[1]}}"#,
 ];
 
-// The value is the key at this position, or none of this width.
+// Checks that the value is read as the key of this position, or refused if that is `None`.
 fn reads<K: JsonKey>(rt: &impl Abort, value: &Value, wanted: Option<usize>, json: &str) {
     match K::key_from_json(value) {
         Ok(key) => assert!(rt; Some(key.into_usize()) == wanted, "{json}"),

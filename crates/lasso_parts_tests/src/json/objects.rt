@@ -1,4 +1,4 @@
-//! Objects that are read as lists of texts, and lists that are written as objects.
+//! Objects that are read as lists of texts, and lists of texts that are written as objects.
 use super::told;
 use lasso_parts::json::{read_map, write_map};
 use lasso_parts::keys::{Key, MicroSpur, Spur};
@@ -7,7 +7,7 @@ use serde_json::Value;
 use std::alloc::Global;
 use std::test::Fail;
 
-// What the JSON text reads as.
+// The object that is read from the JSON text, as `told` shows it.
 fn reading<K: Key>(alloc: Global, text: &str) -> Result<String, Fail> {
     let value = Value::from_str(alloc, text)?;
     told(alloc, read_map::<K, Global>(alloc, &value))
@@ -83,7 +83,7 @@ fn positions_without_a_key(rt: HostRuntime) -> Result<(), Fail> {
     Ok(())
 }
 
-// An object of texts of three digits, from 0 on, each to its position plus one.
+// An object of `count` texts of three digits, from `000` on, each with its position plus one.
 fn counted(alloc: Global, count: usize) -> Result<String, Fail> {
     let mut all = String::from_str(alloc, "{")?;
     for position in 0..count {

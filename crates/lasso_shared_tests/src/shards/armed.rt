@@ -1,11 +1,12 @@
-//! A hasher that waits for another writer while a table grows.
+//! A hasher that waits for another writer while an index grows.
 ghost use Rattle.std.specs.Prelude.{◌≡◌, ◌+◌, ◌%◌, ◌^◌, length};
 
 use crate::shards::is_seen;
 use std::hash::{BuildHasher, Hasher};
 use std::sync::atomic::{AtomicU64, Ordering};
 
-// Where two writers meet: the first sets its flag and looks for the second one's, once after the gate was armed.
+// Where two writers meet. An armed gate stops the first writer once: that writer sets its flag, and waits for
+// the flag of the second.
 #[derive(Drop)]
 pub struct Gate {
     armed: AtomicU64,
@@ -24,12 +25,13 @@ impl Gate {
         }
     }
 
-    // From now on the first writer stops at the gate.
+    // Makes the first writer stop when it comes to the gate next.
     pub fn arm(&self) {
         self.armed.store(1, Ordering::SeqCst);
     }
 
-    // The first writer stops, if the gate is armed, and goes on once it saw the second.
+    // Stops the first writer, if the gate is armed. It goes on when the second writer is done, or when it has
+    // waited too long.
     fn stop(&self) {
         if self.armed.swap(0, Ordering::SeqCst) == 0 {
             return;
@@ -40,23 +42,23 @@ impl Gate {
         }
     }
 
-    // Whether the first writer stops at the gate now or has stopped there.
+    // Waits for the first writer to come to the gate, but not for ever. Returns whether it came.
     pub fn is_first_there(&self) -> bool {
         is_seen(&self.first)
     }
 
-    // The second writer is done.
+    // Says that the second writer is done.
     pub fn pass(&self) {
         self.second.store(1, Ordering::SeqCst);
     }
 
-    // Whether the first writer saw the second while it stopped.
+    // Whether the second writer was done while the first waited.
     pub fn is_met(&self) -> bool {
         self.met.load(Ordering::SeqCst) == 1
     }
 }
 
-// Makes hashers that answer a text's first byte times 2^56, and that stop at a gate where the text has two bytes.
+// Makes hashers that return a text's first byte times 2^56. A text of two bytes stops at the gate first.
 #[derive(Clone, Copy)]
 pub struct ArmedState<'a> {
     gate: &'a Gate,
@@ -85,7 +87,7 @@ impl<'a> BuildHasher for ArmedState<'a> {
     }
 }
 
-// Keeps the first byte, and how many bytes it was given: those of the text, and one more.
+// Keeps the first byte, and counts the bytes written: those of the text, and one more.
 #[derive(Clone, Copy)]
 pub struct ArmedHasher<'a> {
     gate: &'a Gate,

@@ -1,4 +1,4 @@
-//! Copied texts: what they take of the buckets, and what refuses them.
+//! Copied texts: the bytes that they take, and why they are refused.
 ghost use Rattle.std.specs.Prelude.{◌≢◌};
 
 use super::{TEXTS, kept_slots, takes_first};
@@ -11,7 +11,7 @@ use std::alloc::Global;
 use std::sync::Wait;
 use std::test::*;
 
-// An interner that opens with an empty bucket of so many bytes, under this limit.
+// An interner with an empty first bucket of `size` bytes, under this limit.
 fn opens<K: Key>(alloc: Global, size: u64, limit: u64) -> LassoResult<Shards<K, FixedState>>
     requires { size ≢ 0 }
 {
@@ -30,7 +30,7 @@ fn set_limit<K: Key, R: Wait>(rt: &R, shards: &Shards<K, FixedState>, limit: u64
     shards.set_limit(rt, &mut pass, limit);
 }
 
-// The number of a copied text that a new pass interns.
+// Interns a copied text by a new pass, and returns its number.
 fn intern_copied<K: Key, R: Wait>(
     rt: &R,
     shards: &Shards<K, FixedState>,
@@ -40,8 +40,8 @@ fn intern_copied<K: Key, R: Wait>(
     Ok(shards.intern_copied(rt, &mut pass, text)?.into_usize())
 }
 
-// The number of an interned text, or why it was refused. It is asked for again where memory was wanting, which kept no slot and took no
-// byte.
+// Interns the text, again if memory runs out, no slot is kept and no bytes are taken. Returns its number, or
+// why it was refused.
 fn number<K: Key, R: Wait>(
     rt: &R,
     shards: &Shards<K, FixedState>,
@@ -57,7 +57,7 @@ fn number<K: Key, R: Wait>(
     }
 }
 
-// Whether copies of the first texts, so many of them, get their positions as their numbers.
+// Interns copies of the first `count` texts. Returns whether each gets its position as its number.
 fn takes_first_copies<K: Key, R: Wait>(
     rt: &R,
     shards: &Shards<K, FixedState>,
@@ -82,7 +82,7 @@ fn last_bucket<R: Wait>(rt: &R, shards: &Shards<Spur, FixedState>) -> u64 {
 #[test]
 fn bytes_are_taken_where_a_bucket_has_room(rt: HostRuntime) -> Result<(), Fail> {
     let shards: Shards<Spur, FixedState> = opens(rt.alloc(), 4, u64::MAX)?;
-    // the first bucket has room for one byte still when the third text comes
+    // the third text takes the last byte of the first bucket
     let rows = [("abc", Ok(0), 4), ("defghijk", Ok(1), 12), ("x", Ok(2), 12)];
     for (text, wanted, bytes) in rows {
         assert!(rt; number(&rt, &shards, text) == wanted, "{text}");
@@ -121,7 +121,7 @@ fn limit_and_keys_are_used_up_together(rt: HostRuntime) -> Result<(), Fail> {
     assert!(rt; takes_first_copies(&rt, &shards, 255));
     assert!(rt; number(&rt, &shards, "x") == Err(LassoErrorKind::MemoryLimitReached));
     assert!(rt; number(&rt, &shards, "000") == Ok(0));
-    // no byte of a static text is stored, nor of the empty one
+    // neither a static text nor the empty one takes bytes
     assert!(rt; super::number(&rt, &shards, "x") == Err(LassoErrorKind::KeySpaceExhaustion));
     assert!(rt; number(&rt, &shards, "") == Err(LassoErrorKind::KeySpaceExhaustion));
     assert!(rt; usage(&rt, &shards) == 765);
@@ -133,7 +133,7 @@ fn limit_and_keys_are_used_up_together(rt: HostRuntime) -> Result<(), Fail> {
 fn bytes_are_taken_before_the_key_type_is_asked(rt: HostRuntime) -> Result<(), Fail> {
     let shards: Shards<MicroSpur, FixedState> = opens(rt.alloc(), 4, 4)?;
     assert!(rt; takes_first(&rt, &shards, 255));
-    // each refusal by the key type takes a byte of four
+    // each refusal for lack of a key takes one of the four bytes
     for _ in 0..4u32 {
         assert!(rt; number(&rt, &shards, "r") == Err(LassoErrorKind::KeySpaceExhaustion));
     }

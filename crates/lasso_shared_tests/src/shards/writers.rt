@@ -1,4 +1,4 @@
-//! Writers of two shards that go on beside each other.
+//! Writers of two shards, which do not wait for each other.
 use crate::calls::{copied, kept, len};
 use crate::shards::armed::{ArmedState, Gate};
 use lasso_parts::keys::Spur;
@@ -44,7 +44,7 @@ fn fills<R: Wait>(
     Ok(())
 }
 
-// Interns `a` while the other writer stops at the gate.
+// Waits for the other writer at the gate, interns `a`, and lets that writer go on. Returns whether it came.
 fn passes<R: Wait>(rt: &R, shared: &Armed<'_>, gate: &Gate) -> LassoResult<bool> {
     let there = gate.is_first_there();
     kept(rt, shared, "a")?;
@@ -52,7 +52,7 @@ fn passes<R: Wait>(rt: &R, shared: &Armed<'_>, gate: &Gate) -> LassoResult<bool>
     Ok(there)
 }
 
-// The same with copied texts.
+// The same as `fills`, with copied texts.
 fn fills_copies<R: Wait>(
     rt: &R,
     shared: &Armed<'_>,
@@ -67,7 +67,7 @@ fn fills_copies<R: Wait>(
     Ok(())
 }
 
-// Copies `a` in while the other writer stops at the gate.
+// The same as `passes`, with a copied text.
 fn passes_with_a_copy<R: Wait>(rt: &R, shared: &Armed<'_>, gate: &Gate) -> LassoResult<bool> {
     let there = gate.is_first_there();
     copied(rt, shared, "a")?;

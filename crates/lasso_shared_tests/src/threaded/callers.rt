@@ -1,5 +1,5 @@
-//! What callers can rely on, where two passes call one interner: each function's contract follows from those of the calls by the laws
-//! for callers.
+//! What the callers of one interner with two passes can rely on. The contract of each function follows from
+//! those of the calls, by the laws of `lasso_shared::laws`.
 ghost use Rattle.std.specs.Prelude.{◌≡◌, ◌≢◌, ◌↔◌, Some, IsTrue, IfOk, option_map};
 
 use crate::calls::{Shared, kept_as, made, pass_of, text_seen_by};
@@ -14,7 +14,7 @@ use lasso_shared::threaded::ThreadedRodeo;
 use std::sync::Wait;
 use std::test::*;
 
-// Interns the text by one pass, and resolves its key by another that has met it.
+// Interns the text by one pass, and resolves its key by another, which has met the first.
 fn resolved_by_another<'a, R: Wait>(
     rt: &R,
     shared: &'a ThreadedRodeo<Spur, FixedState>,
@@ -33,7 +33,7 @@ fn resolved_by_another<'a, R: Wait>(
     Ok(shared.try_resolve_as(other, key))
 }
 
-// Interns the text by one pass, and again by another that has met it.
+// Interns the text by one pass, and again by another, which has met the first.
 fn interned_by_both<R: Wait>(
     rt: &R,
     shared: &ThreadedRodeo<Spur, FixedState>,
@@ -54,7 +54,7 @@ fn interned_by_both<R: Wait>(
     Ok((key, again.ok()))
 }
 
-// Whether two texts that two passes interned got one key.
+// Interns a text by each of two passes. Returns whether the two texts have the same key.
 fn have_one_key<R: Wait>(
     rt: &R,
     shared: &ThreadedRodeo<Spur, FixedState>,
@@ -76,7 +76,7 @@ fn have_one_key<R: Wait>(
     Ok(key == other_key)
 }
 
-// Contracts learn that the passes have two numbers.
+// Does nothing. Its contract shows that the passes have different numbers.
 fn numbers_differ(
     shared: &ThreadedRodeo<Spur, FixedState>,
     one: &mut Pass<Spur>,
@@ -90,7 +90,7 @@ fn numbers_differ(
     one.prove_differs(other);
 }
 
-// Whether another pass resolves the text's key.
+// Interns the text by one pass. Returns whether the other resolves its key to it.
 fn resolves<R: Wait>(
     rt: &R,
     shared: &Shared,
@@ -104,7 +104,7 @@ fn resolves<R: Wait>(
     Ok(resolved_by_another(rt, shared, one, other, text)? == Some(text))
 }
 
-// The number of the text, where both passes interned it with one key.
+// Interns the text by both passes. Returns its number if both calls return the same key.
 fn number_by_both<R: Wait>(
     rt: &R,
     shared: &Shared,
@@ -123,7 +123,7 @@ fn number_by_both<R: Wait>(
     })
 }
 
-// The same as `have_one_key`, with no promise.
+// The same as `have_one_key`, without its clause `same`.
 fn one_key<R: Wait>(
     rt: &R,
     shared: &Shared,

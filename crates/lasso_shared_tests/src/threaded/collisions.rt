@@ -1,4 +1,4 @@
-//! Threads that intern the same few texts, and threads that call two interners in turn.
+//! Threads that intern the same few texts, and threads that call two interners alternately.
 use crate::calls::{
     Shared, contains, copied_as, len, limit, limited, made, pass_of, stands_for, usage,
 };
@@ -14,8 +14,8 @@ const FEW: [&str; 16] = [
     "pppp",
 ];
 
-// Interns the few texts 1000 times, from one of them on, and gives their numbers. None, where a text was refused or had two
-// numbers.
+// Interns each of the few texts 1000 times, starting with the text at `first`, and returns their numbers.
+// `None` if a text was refused or had two numbers.
 fn numbers_of_few<R: Wait>(rt: &R, shared: &Shared, first: usize) -> Option<[usize; 16]> {
     let mut pass = pass_of(shared);
     let mut numbers = [usize::MAX; 16];
@@ -33,7 +33,7 @@ fn numbers_of_few<R: Wait>(rt: &R, shared: &Shared, first: usize) -> Option<[usi
     Some(numbers)
 }
 
-// Whether there are so many lists of numbers, all alike and of the numbers below 16.
+// Whether these are `count` equal lists, each with all numbers below 16.
 fn are_alike(found: &[Option<[usize; 16]>], count: usize) -> bool {
     let Some(Some(first)) = found.first() else {
         return false;
@@ -66,7 +66,7 @@ fn few_texts(rt: HostRuntime) -> Result<(), Fail> {
     Ok(())
 }
 
-// The letter with three digits behind it, from 000 on.
+// Texts of the letter and three digits, from 000 on.
 fn lettered(alloc: Global, letter: &str) -> Result<Vec<String>, AllocError> {
     let mut texts = Vec::new(alloc);
     for number in 0..1000u32 {
@@ -75,7 +75,7 @@ fn lettered(alloc: Global, letter: &str) -> Result<Vec<String>, AllocError> {
     Ok(texts)
 }
 
-// Interns a text in one interner and a text in the other in turn, and tells whether each key resolves to its text there.
+// Interns texts in the two interners alternately. Returns whether each key resolves to its text.
 fn interns_in_turn<R: Wait>(
     rt: &R,
     one: &Shared,
@@ -99,7 +99,7 @@ fn interns_in_turn<R: Wait>(
     Ok(all)
 }
 
-// Whether the interner has the texts and no others.
+// Whether the interner has exactly these texts.
 fn has_just<R: Wait>(rt: &R, shared: &Shared, texts: &[String]) -> bool {
     let mut all = len(shared) == texts.len();
     for text in texts.iter() {
@@ -110,7 +110,8 @@ fn has_just<R: Wait>(rt: &R, shared: &Shared, texts: &[String]) -> bool {
     all
 }
 
-// Whether two threads that call the interners in different order got keys that resolve to their texts.
+// Interns the texts in two threads, which call the interners in opposite order. Returns whether each key
+// resolves to its text.
 fn both_intern<R: Threads + Wait + Sync>(
     rt: &R,
     one: &Shared,
@@ -129,7 +130,7 @@ fn both_intern<R: Threads + Wait + Sync>(
 
 #[test]
 fn two_interners(rt: HostRuntime) -> Result<(), Fail> {
-    // 1000 texts of 4 bytes: there is room for these in one interner, and for no other text
+    // one interner has room for exactly its 1000 texts of 4 bytes
     let one: Shared = limited(rt.alloc(), 4000, 4000)?;
     let other = made(rt.alloc())?;
     let here = lettered(rt.alloc(), "a")?;

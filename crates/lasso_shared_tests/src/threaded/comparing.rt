@@ -1,4 +1,4 @@
-//! An interner that threads share, compared with each form of a list.
+//! An interner that threads share, compared with others and with the forms for one thread.
 use crate::calls::{Shared, answered, copied, limit, limited, made, set_limit};
 use crate::texts::{LENGTHS, ended, lettered, numbered};
 use lasso_parts::keys::Spur;
@@ -28,7 +28,7 @@ fn single_of(alloc: Global, texts: [&'static str; 3]) -> LassoResult<Single> {
     Rodeo::from_iter(alloc, texts)
 }
 
-// Interns these texts too.
+// Interns two more texts.
 fn extend<R: Wait>(rt: &R, shared: &Shared, texts: [&'static str; 2]) -> LassoResult<()> {
     shared.extend(rt, texts)
 }
@@ -43,12 +43,11 @@ fn resolver_of(rodeo: &Single) -> LassoResult<RodeoResolver<Spur, Global>> {
     Ok(rodeo.try_clone()?.into_resolver())
 }
 
-// Whether the interner is equal to the other.
 fn is_equal<R: Wait>(rt: &R, shared: &Shared, other: &Shared) -> bool {
     shared.eq_threaded(rt, other)
 }
 
-// Whether the interner is equal to one for one thread, to its reader and to its resolver.
+// Whether the interner is equal to the one for one thread, to its reader and to its resolver.
 fn is_equal_to_forms<R: Wait>(
     rt: &R,
     shared: &Shared,
@@ -60,7 +59,8 @@ fn is_equal_to_forms<R: Wait>(
     Ok((rodeo, reader, shared.eq_resolver(rt, &resolver)))
 }
 
-// Whether the interner is equal to another one, to an interner for one thread, to a reader and to a resolver of these texts.
+// Whether the interner is equal to each of four forms of these texts: one that threads share, one for one
+// thread, a reader and a resolver.
 fn compared<R: Wait>(
     rt: &R,
     alloc: Global,
@@ -76,7 +76,7 @@ fn compared<R: Wait>(
 #[test]
 fn four_forms_of_one_list(rt: HostRuntime) -> Result<(), Fail> {
     let shared = pair_of(&rt, rt.alloc(), ["a", "b"])?;
-    // a list that only begins another is not equal to it
+    // a list is not equal to a longer one that begins with it
     let shorter = compared(&rt, rt.alloc(), &shared, ["a", "b", "c"])?;
     assert!(rt; shorter == (false, false, false, false));
     extend(&rt, &shared, ["b", "c"])?;
@@ -109,7 +109,7 @@ fn a_longer_list_is_not_equal(rt: HostRuntime) -> Result<(), Fail> {
     Ok(())
 }
 
-// Whether the interner is equal to the reader of the other, and to that reader's resolver.
+// Freezes the other interner. Returns whether the first is equal to its reader, and to its resolver.
 fn is_equal_to_frozen<R: Wait>(
     rt: &R,
     shared: &Shared,
@@ -120,7 +120,7 @@ fn is_equal_to_frozen<R: Wait>(
     Ok((same, shared.eq_resolver(rt, &reader.into_resolver())))
 }
 
-// A limit of its own, which is neither 0 nor the greatest number.
+// A limit that is neither 0 nor `usize::MAX`.
 const LIMIT: usize = 5000;
 
 #[test]
@@ -137,8 +137,9 @@ fn no_comparison_sets_a_limit(rt: HostRuntime) -> Result<(), Fail> {
     Ok(())
 }
 
-// Interns a text of `length` bytes in each of two interners with room for two, and compares them in each way. Returns whether all are
-// equal, and each interner has its limit and room for one more text afterwards.
+// Interns a text of `length` bytes in each of two interners, which have bytes for two such texts, and
+// compares them in each way. Returns whether all are equal, and whether each interner then takes exactly one
+// more text and still has its limit.
 fn comparisons_leave_all<R: AllocGlobal + Wait>(rt: &R, length: usize) -> Result<bool, Fail> {
     if length == 0 {
         return Ok(false);
@@ -184,7 +185,7 @@ fn an_interner_is_equal_to_itself_and_to_its_frozen_form(rt: HostRuntime) -> Res
     Ok(())
 }
 
-// The texts with another one at this position: in the place of the one there, or appended where the position is past the end.
+// The texts with `one` instead of the text at this position. It is appended if the position is past the end.
 fn with_one<'a>(
     alloc: Global,
     texts: &'a [String],
@@ -213,8 +214,8 @@ fn single_of_all(alloc: Global, texts: &[&str]) -> LassoResult<Single> {
     Rodeo::from_iter(alloc, texts.iter().copied())
 }
 
-// How many of five comparisons say that the interner is equal to one of these texts: with each of the four forms, and of the other
-// interner with it.
+// Compares the interner with each of four forms of these texts, and the form that threads share with the
+// interner. Returns how many of these five comparisons are true.
 pub(super) fn equal_forms<R: Wait>(
     rt: &R,
     alloc: Global,
@@ -235,8 +236,8 @@ pub(super) fn equal_forms<R: Wait>(
     Ok(count)
 }
 
-// Whether an interner of `count` texts is equal to each form of them, and to no form of a list with one other text: at the first
-// position, in the middle, at the last position, or appended.
+// Whether an interner of `count` texts is equal to each form of them, and to no form of a list that differs
+// in one text: the first, the middle or the last one, or one that is appended.
 fn tells_one_apart<R: AllocGlobal + Wait>(rt: &R, count: usize) -> Result<bool, Fail> {
     let alloc = rt.alloc();
     let texts = numbered(alloc, count)?;
@@ -264,8 +265,8 @@ fn one_other_text_of_many_makes_a_list_unequal(rt: HostRuntime) -> Result<(), Fa
     Ok(())
 }
 
-// Whether an interner of one text of `length` bytes is equal to each form of it, and to no form of a text that differs in the last
-// byte.
+// Whether an interner of one text of `length` bytes is equal to each form of it, and to no form of a text
+// that differs in the last byte.
 fn tells_last_bytes_apart<R: AllocGlobal + Wait>(rt: &R, length: usize) -> Result<bool, Fail> {
     let alloc = rt.alloc();
     let text = lettered(alloc, "a", length)?;

@@ -1,4 +1,4 @@
-//! Copied texts, beside static ones and of two threads.
+//! Copied texts: alone, together with static ones, and in two threads.
 use crate::calls::{
     Shared, answered, copied, copied_as, copied_so, found, kept, kept_so, len, limit, limited,
     made, number, pass_of, resolved, set_limit, stands_for, usage, with_bytes,
@@ -17,7 +17,7 @@ use std::thread::join;
 #[test]
 fn usage_grows_by_whole_buckets(rt: HostRuntime) -> Result<(), Fail> {
     let shared: Shared = with_bytes(rt.alloc(), 4)?;
-    // the first bucket has a byte left when the third text comes
+    // the third text takes the last byte of the first bucket
     for (text, wanted, bytes) in [("abc", Ok(0), 4), ("defghijk", Ok(1), 12), ("x", Ok(2), 12)] {
         assert!(rt; number(&rt, &shared, text) == wanted, "{text}");
         assert!(rt; usage(&rt, &shared) == bytes, "{text}");
@@ -47,7 +47,7 @@ fn a_raised_limit_lets_a_text_in(rt: HostRuntime) -> Result<(), Fail> {
     Ok(())
 }
 
-// An interner of 8-bit keys with 655 bytes in its first bucket, which are its limit.
+// An interner of 8-bit keys with a first bucket of 655 bytes, which are its limit.
 fn full_with_655<S: BuildHasher + Default + Drop>(
     alloc: Global,
 ) -> Result<ThreadedRodeo<MicroSpur, S>, Fail> {
@@ -61,7 +61,7 @@ fn full_with_655<S: BuildHasher + Default + Drop>(
     Ok(made?)
 }
 
-// Interns the numbers from 0 on, so many of them, and tells whether each got itself as its number.
+// Interns the numbers below `count`. Returns whether each gets its own value as its number.
 fn takes_numbers<S: BuildHasher + Drop, R: AllocGlobal + Wait>(
     rt: &R,
     shared: &ThreadedRodeo<MicroSpur, S>,
@@ -130,7 +130,7 @@ fn a_copy_stays_where_its_source_changes(rt: HostRuntime) -> Result<(), Fail> {
     Ok(())
 }
 
-// Interns `x` and a text of its own, and gives the number of `x` where both keys stand for their texts.
+// Interns `x` and the text `own`. Returns the number of `x` if both keys resolve to their texts.
 fn meets<R: Wait>(rt: &R, shared: &Shared, own: &str) -> LassoResult<Option<usize>> {
     let mut pass = pass_of(shared);
     let x = copied_as(rt, shared, &mut pass, "x")?;

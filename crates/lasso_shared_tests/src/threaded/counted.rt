@@ -1,5 +1,5 @@
-//! How many bytes an interner that threads share says it has of the allocator, text after text. It has the global allocator, which
-//! no test can put another one in place of; so what it should have is worked out by hand.
+//! `allocated_bytes` of an interner that threads share, after each of many texts. It always uses the global
+//! allocator, which no test can replace by one that counts. So the expected numbers are worked out by hand.
 use crate::calls::{allocated, copied, kept, roomless, text_at, usage};
 use crate::texts::numbered;
 use lasso_parts::keys::{Key, MicroSpur, Spur};
@@ -16,13 +16,13 @@ const TEXTS: [&str; 50] = [
     "M", "N", "O", "P", "Q", "R", "S", "T", "U", "V", "W", "X",
 ];
 
-// A cell has its state, whether it has a text, and the text's address and length.
+// The bytes of a cell: its state, whether it has a text, and the text's address and length.
 const CELL: usize = 32;
 
-// How many texts, the cells that there are then, and the slots of the one index.
+// Numbers of texts, of the cells that the interner then has, and of the slots of its one index.
 //
-// Each text asks for the cells of sixteen positions, its own first; they lie in chunks of 32, 32, 64 and 128 cells. An index of 8
-// slots has room for 6 keys, and one of twice the slots for twice the keys.
+// Each text needs the cells of sixteen positions, its own and the next ones. Cells come in chunks of 32, 32,
+// 64, 128 and so on. An index of 8 slots has room for 6 keys, and one of twice the slots for twice the keys.
 const STATES: [(usize, usize, usize); 16] = [
     (0, 0, 0),
     (1, 32, 8),
@@ -42,8 +42,9 @@ const STATES: [(usize, usize, usize); 16] = [
     (50, 128, 128),
 ];
 
-// Whether the interner has the bytes of each state, where a key has so many and one byte more for its tag. Nothing is copied, so the
-// first bucket of ten bytes is the only one.
+// Interns static texts. Returns whether `allocated_bytes` is right in each state. A slot has `key_bytes`
+// bytes, and one more for its tag. The first bucket, of ten bytes, is the only one, as static
+// texts take no bytes.
 fn grows<K: Key, S: BuildHasher + Drop, R: Wait>(
     rt: &R,
     shared: &ThreadedRodeo<K, S>,
@@ -72,7 +73,7 @@ fn bytes_of_list_and_index(rt: HostRuntime) -> Result<(), Fail> {
     Ok(())
 }
 
-// Texts of two first bytes are of two shards, each of which has an index of 8 slots.
+// Texts with different first bytes are in two shards, each with an index of 8 slots.
 #[test]
 fn bytes_of_each_index(rt: HostRuntime) -> Result<(), Fail> {
     let shared: ThreadedRodeo<Spur, FirstState> = roomless(rt.alloc())?;
@@ -85,13 +86,13 @@ fn bytes_of_each_index(rt: HostRuntime) -> Result<(), Fail> {
     Ok(())
 }
 
-// Their first bytes are 112 and 97 to 111, which have the lowest four bits 0 and 1 to 15: so each is of a shard of its own.
+// Each text has its own shard: the lowest four bits of its first byte are 0 for `p`, else 1 to 15.
 const OF_EACH_SHARD: [&str; 16] = [
     "p", "a", "b", "c", "d", "e", "f", "g", "h", "i", "j", "k", "l", "m", "n", "o",
 ];
 
-// The first text takes 32 cells of 32 bytes, which are enough for all, and the first bucket has ten bytes. Each text takes an index of 8
-// slots, of four bytes and a tag each.
+// The first text makes 32 cells of 32 bytes, which are enough for all texts. The first bucket has ten bytes.
+// Each text makes an index of 8 slots of 5 bytes: four for the key, and one for the tag.
 #[test]
 fn bytes_of_the_index_of_each_shard(rt: HostRuntime) -> Result<(), Fail> {
     let shared: ThreadedRodeo<Spur, LowState> = roomless(rt.alloc())?;
@@ -106,7 +107,7 @@ fn bytes_of_the_index_of_each_shard(rt: HostRuntime) -> Result<(), Fail> {
     Ok(())
 }
 
-// The first bucket has room for nine bytes; the next text takes a bucket of twice its bytes.
+// The first text fits in the first bucket, of ten bytes. The next text takes a bucket of twice its size.
 #[test]
 fn bytes_of_buckets(rt: HostRuntime) -> Result<(), Fail> {
     let shared: ThreadedRodeo<Spur, SameState> = roomless(rt.alloc())?;
@@ -119,7 +120,7 @@ fn bytes_of_buckets(rt: HostRuntime) -> Result<(), Fail> {
     Ok(())
 }
 
-// How many texts, the cells that there are then, and the slots of the one index, by the same rule.
+// The same as `STATES`, for more texts.
 const MORE_STATES: [(usize, usize, usize); 7] = [
     (0, 0, 0),
     (48, 64, 64),
@@ -130,7 +131,8 @@ const MORE_STATES: [(usize, usize, usize); 7] = [
     (300, 512, 512),
 ];
 
-// Copies of 300 texts of five bytes lie in the one bucket of 2000 bytes. A key has four bytes, and one more for its tag.
+// The copies of 300 texts of five bytes fit in the one bucket of 2000 bytes. A slot has four bytes for the
+// key, and one for the tag.
 #[test]
 fn bytes_of_more_texts(rt: HostRuntime) -> Result<(), Fail> {
     let alloc = rt.alloc();

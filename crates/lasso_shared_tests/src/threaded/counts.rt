@@ -1,4 +1,4 @@
-//! What each plain call returns where there are few texts, and where there are many.
+//! What each plain call returns for few texts and for many.
 use crate::calls::{
     Reader, Shared, contains, copied, copied_so, found, is_key, len, resolved, roomless, text_at,
 };
@@ -12,10 +12,10 @@ use std::process::Abort;
 use std::sync::Wait;
 use std::test::*;
 
-// How many texts, and the cells that there are then.
+// Numbers of texts, and of the cells that the interner then has.
 //
-// Each text asks for the cells of sixteen positions, its own first; they lie in chunks of 32, 32, 64, 128 cells and so on, each as
-// large as all before it.
+// Each text needs the cells of sixteen positions, its own and the next ones. Cells come in chunks of 32, 32,
+// 64, 128 and so on, each as large as all earlier ones.
 const STATES: [(usize, usize); 18] = [
     (0, 0),
     (1, 32),
@@ -37,10 +37,10 @@ const STATES: [(usize, usize); 18] = [
     (3000, 4096),
 ];
 
-// A text that is none of these, though it begins and ends as one of them.
+// An absent text, which begins and ends like a present one.
 const ABSENT: &str = "000000";
 
-// The number of the text that the walk gives, and the text.
+// The next text of the walk, and its number.
 fn next<'a>(walk: &mut Iter<'a, Spur>) -> Option<(usize, &'a str)> {
     match walk.next() {
         Some((key, text)) => Some((key.into_usize(), text)),
@@ -53,7 +53,7 @@ fn have_left(walk: &Iter<'_, Spur>, strings: &Strings<'_, Spur>, left: usize) ->
     walk.len() == left && strings.len() == left
 }
 
-// Whether both walks give the first `count` texts in order, and then no other.
+// Whether both walks yield exactly the first `count` texts, in order.
 fn are_walked(shared: &Shared, texts: &[String], count: usize) -> bool {
     let mut walk = shared.iter();
     let mut strings = shared.strings();
@@ -67,7 +67,7 @@ fn are_walked(shared: &Shared, texts: &[String], count: usize) -> bool {
     all && position == count && have_left(&walk, &strings, 0)
 }
 
-// Whether the first `count` texts are found and read, each in five ways.
+// Whether the first `count` texts are found and resolved, each by five calls.
 fn are_found<R: Wait>(
     rt: &R,
     shared: &Shared,
@@ -87,7 +87,7 @@ fn are_found<R: Wait>(
     Ok(all)
 }
 
-// Whether keys with numbers of at least `count` stand for no text.
+// Whether keys with numbers from `count` on stand for no text.
 pub(super) fn none_past(shared: &Shared, count: usize) -> Result<bool, Fail> {
     let mut all = true;
     for more in [0usize, 1, 2, 15, 16, 17, 31, 32, 33, 1000, 70_000] {
@@ -98,7 +98,7 @@ pub(super) fn none_past(shared: &Shared, count: usize) -> Result<bool, Fail> {
     Ok(all)
 }
 
-// Whether each reading shows just the first `count` texts.
+// Whether each call that reads shows exactly the first `count` texts.
 fn has_first<R: Wait>(
     rt: &R,
     shared: &Shared,
@@ -111,7 +111,7 @@ fn has_first<R: Wait>(
     Ok(sums && gone && walked && none_past(shared, count)? && are_found(rt, shared, texts, count)?)
 }
 
-// Interns a new text by one call and again by the other. Returns whether it has this number both times.
+// Interns a new text by one call and again by the other. Returns whether both return this number.
 fn is_next<R: Wait>(rt: &R, shared: &Shared, text: &str, number: usize) -> LassoResult<bool> {
     if number % 2 == 0 {
         Ok(copied(rt, shared, text)? == number && copied_so(rt, shared, text)? == number)
@@ -152,7 +152,7 @@ pub(super) fn of_first<R: Wait>(
     Ok(ThreadedRodeo::from_iter(alloc, rt, items.iter().copied())?)
 }
 
-// Whether the reader has just the first `count` texts.
+// Whether the reader has exactly the first `count` texts.
 pub(super) fn reads_first(reader: &Reader, texts: &[String], count: usize) -> bool {
     let mut all = reader.len() == count && reader.get(ABSENT).is_none();
     let mut walk = reader.strings();
@@ -168,7 +168,7 @@ pub(super) fn reads_first(reader: &Reader, texts: &[String], count: usize) -> bo
     all && walk.next().is_none()
 }
 
-// Whether the resolver has just the first `count` texts.
+// Whether the resolver has exactly the first `count` texts.
 pub(super) fn resolves_first(
     resolver: &RodeoResolver<Spur, Global>,
     texts: &[String],
@@ -208,7 +208,7 @@ fn members(alloc: Global, texts: &[String], count: usize) -> Result<String, Allo
     Ok(json)
 }
 
-// The debug text of an interner of the first `count` texts.
+// The debug output of an interner of the first `count` texts.
 fn debug_text(alloc: Global, texts: &[String], count: usize) -> Result<String, AllocError> {
     let mut printed = String::new(alloc);
     printed.push_str("ThreadedRodeo { strings: [")?;

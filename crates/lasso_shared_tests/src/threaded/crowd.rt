@@ -1,4 +1,4 @@
-//! Four threads, each with texts of its own and texts that all of them have.
+//! Four threads that intern texts of their own, and texts that all of them intern.
 use crate::calls::{Shared, len, made, usage};
 use lasso_parts::keys::Spur;
 use lasso_parts::util::LassoResult;
@@ -8,10 +8,10 @@ use std::sync::Wait;
 use std::test::*;
 use std::thread::{Threads, join};
 
-// How many texts a thread has of its own, and how many all threads have.
+// How many texts each thread has of its own, and how many texts they have in common.
 const EACH: u32 = 10_000;
 
-// The letter with the numbers from 0 on behind it.
+// Texts of the letter and a number, from 0 on.
 fn lettered(alloc: Global, letter: &str) -> Result<Vec<String>, AllocError> {
     let mut texts = Vec::new(alloc);
     for number in 0..EACH {
@@ -29,17 +29,16 @@ fn bytes_of(texts: &[String]) -> usize {
     bytes
 }
 
-// Interns the text and gives its key.
 fn key_of<R: Wait>(rt: &R, shared: &Shared, text: &str) -> LassoResult<Spur> {
     shared.try_get_or_intern(rt, text)
 }
 
-// Whether the key stands for the text.
+// Whether the key resolves to the text.
 fn is_key_of(shared: &Shared, key: Spur, text: &str) -> bool {
     shared.resolve(key) == Some(text)
 }
 
-// Interns a text of its own and a common one in turn, and tells whether each key resolves to its text.
+// Interns own texts and common ones alternately. Returns whether each key resolves to its text.
 fn interns<R: Wait>(
     rt: &R,
     shared: &Shared,
@@ -77,7 +76,7 @@ fn are_there<R: Wait>(rt: &R, shared: &Shared, texts: &[String]) -> bool {
     all
 }
 
-// Whether two threads that intern their texts and the common ones beside each other got keys that resolve to them.
+// Interns a list and the common texts in each of two threads. Returns whether each key resolves to its text.
 fn both_intern<R: Threads + Wait + Sync>(
     rt: &R,
     shared: &Shared,

@@ -1,4 +1,4 @@
-//! Debug text of an interner that threads share, and of its walks.
+//! Debug output of an interner that threads share, and of its iterators.
 use lasso_parts::keys::{Key, Spur};
 use lasso_parts::util::FixedState;
 use lasso_shared::threaded::ThreadedRodeo;

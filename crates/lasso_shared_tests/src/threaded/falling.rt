@@ -1,4 +1,4 @@
-//! A limit that falls to nothing while another thread interns.
+//! A limit that falls to 0 while another thread interns.
 ghost use Rattle.std.specs.Prelude.{◌≡◌};
 
 use crate::calls::{Reader, Shared, copied_as, len, pass_of, seen_by, usage, with_bytes};
@@ -13,7 +13,7 @@ use std::thread::{Threads, join};
 // How many texts the thread has to intern.
 const EACH: u32 = 1000;
 
-// The texts `t0`, `t1` and so on: none is shorter than one before it.
+// The texts `t0`, `t1` and so on. None is shorter than an earlier one.
 fn numbered(alloc: Global) -> Result<Vec<String>, AllocError> {
     let mut texts = Vec::new(alloc);
     for number in 0..EACH {
@@ -22,8 +22,8 @@ fn numbered(alloc: Global) -> Result<Vec<String>, AllocError> {
     Ok(texts)
 }
 
-// Interns the texts in turn, and gives how many got a key, their position. None, where another came than these keys and from some
-// text on refusals by the limit alone.
+// Interns the texts in order, and returns how many got their position as their number. `None` unless the
+// limit refused all texts after these.
 fn keys_before_refusals<R: Wait>(rt: &R, shared: &Shared, texts: &[String]) -> Option<usize> {
     let mut pass = pass_of(shared);
     let mut position: usize = 0;
@@ -41,7 +41,7 @@ fn keys_before_refusals<R: Wait>(rt: &R, shared: &Shared, texts: &[String]) -> O
     Some(taken)
 }
 
-// Lets the limit fall, and reads the usage then.
+// Sets the limit to 0, and returns the usage then.
 fn let_fall<R: Wait>(rt: &R, shared: &Shared, pass: &mut Pass<Spur>) -> usize
     requires { pass.old.of ≡ shared.now }
 {
@@ -49,7 +49,7 @@ fn let_fall<R: Wait>(rt: &R, shared: &Shared, pass: &mut Pass<Spur>) -> usize
     shared.current_memory_usage_as(rt, pass)
 }
 
-// Waits for so many texts, but not for ever; lets the limit fall, and reads the usage then.
+// Waits for `awaited` texts, but not for ever. Then sets the limit to 0, and returns the usage.
 fn usage_after_fall<R: Wait>(rt: &R, shared: &Shared, awaited: usize) -> usize {
     let mut pass = pass_of(shared);
     for _ in 0..1_000_000usize {
@@ -60,7 +60,7 @@ fn usage_after_fall<R: Wait>(rt: &R, shared: &Shared, awaited: usize) -> usize {
     let_fall(rt, shared, &mut pass)
 }
 
-// Whether the reader has just the first texts, so many of them, in order.
+// Whether the reader has exactly the first `count` texts, in order.
 fn has_first(reader: &Reader, texts: &[String], count: usize) -> bool {
     let mut walk = reader.strings();
     for text in texts.iter().take(count) {
@@ -71,7 +71,7 @@ fn has_first(reader: &Reader, texts: &[String], count: usize) -> bool {
     walk.next().is_none()
 }
 
-// Whether the frozen interner has just the first texts, so many of them.
+// Freezes the interner. Returns whether it has exactly the first `count` texts.
 fn freezes_first<R: Wait>(
     rt: &R,
     shared: Shared,
@@ -82,7 +82,8 @@ fn freezes_first<R: Wait>(
     Ok(has_first(&reader, texts, count))
 }
 
-// Whether all is right where the limit falls after so many texts: the keys, the count, the usage and the frozen list.
+// Lets the limit fall after `awaited` texts. Returns whether the keys, the count, the usage and the frozen
+// list are right.
 fn falls_after<R: AllocGlobal + Threads + Wait + Sync>(
     rt: &R,
     texts: &[String],

@@ -24,17 +24,17 @@ fn extend_by_four<R: Wait>(rt: &R, shared: &Shared, items: [&'static str; 4]) ->
     shared.extend(rt, items)
 }
 
-// Interns all of them.
+// Interns all items.
 fn extend_by_all<R: Wait>(rt: &R, shared: &Shared, items: &[&str]) -> LassoResult<()> {
     shared.extend(rt, items.iter().copied())
 }
 
-// An interner of all of them.
+// An interner of all items.
 fn of_all<R: Wait>(rt: &R, alloc: Global, items: &[&str]) -> LassoResult<Shared> {
     ThreadedRodeo::from_iter(alloc, rt, items.iter().copied())
 }
 
-// Whether each of them stands at its position, and no other text is there.
+// Whether the interner has exactly these texts, each at its position.
 fn stand_in_order(shared: &Shared, items: &[&str]) -> Result<bool, Fail> {
     let mut all = len(shared) == items.len();
     for (position, item) in items.iter().enumerate() {
@@ -83,7 +83,7 @@ fn a_refused_item_ends_the_filling(rt: HostRuntime) -> Result<(), Fail> {
     let shared: Shared = limited(rt.alloc(), 4, 4)?;
     let reply = answered(extend_by_four(&rt, &shared, ["ab", "cd", "e", ""]));
     assert!(rt; reply == Err(LassoErrorKind::MemoryLimitReached));
-    // the empty text takes no bytes, and was not taken
+    // the empty text takes no bytes, but it comes after the refused item
     assert!(rt; len(&shared) == 2);
     assert!(rt; contains(&rt, &shared, "cd"));
     assert!(rt; !contains(&rt, &shared, ""));
@@ -114,7 +114,7 @@ fn items_fill_a_new_interner(rt: HostRuntime) -> Result<(), Fail> {
     Ok(())
 }
 
-// Whether no interner was made for want of a key.
+// Whether the call failed because a text has no key.
 fn lacks_a_key(made: LassoResult<TwoKeys>) -> bool {
     match made {
         Ok(_made) => false,
@@ -146,11 +146,11 @@ fn two_threads_fill_one_interner(rt: HostRuntime) -> Result<(), Fail> {
     Ok(())
 }
 
-// How many texts, and the bytes that each has. All of them together have the 4096 bytes of the first bucket.
+// Numbers of texts, and of the bytes of each. Together they have 4096 bytes, as the first bucket has.
 const FULL: [(usize, usize); 5] = [(512, 8), (64, 64), (16, 256), (2, 2048), (1, 4096)];
 
-// Makes an interner of all texts but the last. Returns whether it has the first bucket and no limit, and whether just the last text
-// then fits in that bucket, and one byte more takes a bucket of 8192 bytes.
+// Makes an interner of all texts but the last. Returns whether it has one bucket and no limit, whether the
+// last text then fits in that bucket, and whether one more byte takes a bucket of 8192 bytes.
 fn fill_the_first_bucket<R: AllocGlobal + Wait>(
     rt: &R,
     count: usize,

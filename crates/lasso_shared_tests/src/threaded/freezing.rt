@@ -16,7 +16,6 @@ use std::thread::join;
 
 type Resolver = RodeoResolver<Spur, Global>;
 
-// The reader of the interner.
 fn reader<K: Key, R: Wait>(
     rt: &R,
     shared: ThreadedRodeo<K, FixedState>,
@@ -24,7 +23,6 @@ fn reader<K: Key, R: Wait>(
     shared.into_reader(rt)
 }
 
-// The resolver of the interner.
 fn resolver<R: Wait>(rt: &R, shared: Shared) -> LassoResult<Resolver> {
     shared.into_resolver(rt)
 }
@@ -106,7 +104,8 @@ fn refused_texts_are_not_in_a_frozen_form(rt: HostRuntime) -> Result<(), Fail> {
     Ok(())
 }
 
-// What a thread finds and reads: the numbers of two texts, and the texts of numbers 0 and 10.
+// What a thread finds in the reader: the numbers of `A` and `F`, whether number 0 is `A`, and whether number
+// 10 has no text.
 fn looks(reader: &Reader) -> (Option<usize>, Option<usize>, bool, bool) {
     let (first, past) = (read(reader, 0) == Some("A"), read(reader, 10) == None);
     (found(reader, "A"), found(reader, "F"), first, past)
@@ -123,7 +122,7 @@ fn two_threads_read_a_reader(rt: HostRuntime) -> Result<(), Fail> {
     Ok(())
 }
 
-// Whether number 0 is `A` for a thread, and number 10 nothing.
+// Whether number 0 is `A`, and whether number 10 has no text.
 fn resolves(resolver: &Resolver) -> (bool, bool) {
     (
         resolved(resolver, 0) == Some("A"),

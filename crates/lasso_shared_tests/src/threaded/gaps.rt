@@ -1,4 +1,4 @@
-//! Key types that lack one number and have the next.
+//! Key types that lack one number but have the next.
 use crate::calls::{len, limited, number, usage};
 use lasso_parts::keys::Key;
 use lasso_parts::util::{FixedState, LassoErrorKind};
@@ -27,7 +27,7 @@ fn no_text_passes_over_a_number_without_a_key(rt: HostRuntime) -> Result<(), Fai
     Ok(())
 }
 
-// Two of the four bytes are taken by each text that finds no key for it.
+// Each of the first two calls takes two of the four bytes, though the text has no key.
 #[test]
 fn no_text_has_a_key(rt: HostRuntime) -> Result<(), Fail> {
     let shared: ThreadedRodeo<WithoutZero, FixedState> = limited(rt.alloc(), 4, 4)?;

@@ -1,4 +1,4 @@
-//! Reading an interner that threads share from JSON, and what it is afterwards.
+//! Interners that threads share, read from JSON and written as JSON.
 mod kinds;
 
 use crate::calls::{Shared, contains, copied, found, len, limit, usage};
@@ -18,7 +18,7 @@ use std::thread::{Threads, join};
 
 type Single = Rodeo<Spur, FixedState, Global>;
 
-// What is wrong with the value, or none.
+// The error of reading the value, if any.
 fn fault<K: Key>(alloc: Global, value: &Value) -> Option<JsonError> {
     match ThreadedRodeo::<K, FixedState>::deserialize(alloc, value) {
         Ok(_read) => None,
@@ -26,7 +26,7 @@ fn fault<K: Key>(alloc: Global, value: &Value) -> Option<JsonError> {
     }
 }
 
-// What is wrong with the JSON, or none.
+// The error of reading the JSON text, if any.
 fn wrong_with<K: Key>(alloc: Global, json: &str) -> Result<Option<JsonError>, Fail> {
     let value = Value::from_str(alloc, json)?;
     Ok(fault::<K>(alloc, &value))
@@ -78,7 +78,7 @@ fn a_position_without_a_key(rt: HostRuntime) -> Result<(), Fail> {
     Ok(())
 }
 
-// The object of so many texts of three digits, each with its position plus one.
+// An object of `count` texts of three digits, each with its position plus one.
 fn numbered(alloc: Global, count: usize) -> Result<Value, Fail> {
     let mut members: Map<String, Value> = Map::new(alloc);
     for n in 0..count {
@@ -105,25 +105,25 @@ fn read<S: BuildHasher + Default + Drop>(
     Ok(ThreadedRodeo::deserialize(alloc, value)?)
 }
 
-// The interner that is read from the JSON.
+// The interner that is read from the JSON text.
 fn read_from(alloc: Global, json: &str) -> Result<Shared, Fail> {
     let value = Value::from_str(alloc, json)?;
     read(alloc, &value)
 }
 
-// What the interner is written as.
+// The interner as a JSON value.
 fn written(alloc: Global, shared: &Shared) -> Result<Value, Fail> {
     Ok(shared.serialize(alloc)?)
 }
 
-// The JSON that the interner is written as.
+// The interner as JSON text.
 fn json_of(alloc: Global, shared: &Shared) -> Result<String, Fail> {
     Ok(written(alloc, shared)?.to_string(alloc)?)
 }
 
 #[test]
 fn a_new_text_goes_last(rt: HostRuntime) -> Result<(), Fail> {
-    // the bucket of two bytes is full, and one of four comes
+    // the bucket of two bytes is full, so the new text takes one of four
     for text in [r#"{"a":2,"b":1}"#, r#"["b","a"]"#] {
         let shared = read_from(rt.alloc(), text)?;
         assert!(rt; copied(&rt, &shared, "c")? == 2, "{text}");
@@ -151,12 +151,12 @@ fn pair(alloc: Global) -> LassoResult<Single> {
     Rodeo::from_iter(alloc, ["x", "y"])
 }
 
-// What an interner for one thread is written as.
+// An interner for one thread as a JSON value.
 fn written_by(alloc: Global, rodeo: &Single) -> Result<Value, Fail> {
     Ok(rodeo.serialize(alloc)?)
 }
 
-// Whether the interner is equal to one for one thread, and these texts are at their positions in its reader.
+// Whether the interner is equal to the one for one thread, and whether its reader has these texts in order.
 fn is_equal_and_has<R: Wait>(
     rt: &R,
     shared: Shared,
@@ -243,12 +243,12 @@ fn are_found<S: BuildHasher + Drop, R: Wait>(rt: &R, shared: &ThreadedRodeo<Spur
     true
 }
 
-// Whether there are as many texts as the list has, and another is not among them.
+// Whether the interner has 40 texts, and lacks another one.
 fn has_no_other<S: BuildHasher + Drop, R: Wait>(rt: &R, shared: &ThreadedRodeo<Spur, S>) -> bool {
     found(rt, shared, "none") == None && len(shared) == 40
 }
 
-// Whether two threads find each text in what is read from the value, and no other, where texts are of several shards.
+// Reads the value. Returns whether two threads find exactly `TEXTS`, which are in several shards.
 fn found_in_several_shards<R: Threads + Wait + Sync>(
     rt: &R,
     alloc: Global,
@@ -259,7 +259,7 @@ fn found_in_several_shards<R: Threads + Wait + Sync>(
     Ok(here && there && has_no_other(rt, &shared))
 }
 
-// Whether two threads find each text in what is read from the value, and no other, where texts are of one shard.
+// The same with all texts in one shard.
 fn found_in_one_shard<R: Threads + Wait + Sync>(
     rt: &R,
     alloc: Global,
@@ -270,7 +270,7 @@ fn found_in_one_shard<R: Threads + Wait + Sync>(
     Ok(here && there && has_no_other(rt, &shared))
 }
 
-// Whether two threads find each text in what is read from the value, and no other, where texts are of shards by their first bytes.
+// The same with each text's shard chosen by its first byte.
 fn found_by_first_bytes<R: Threads + Wait + Sync>(
     rt: &R,
     alloc: Global,
@@ -281,7 +281,7 @@ fn found_by_first_bytes<R: Threads + Wait + Sync>(
     Ok(here && there && has_no_other(rt, &shared))
 }
 
-// Whether they do in each of these three ways.
+// The results of the three functions above.
 fn found_in_shards<R: Threads + Wait + Sync>(
     rt: &R,
     alloc: Global,

@@ -1,4 +1,4 @@
-//! Limits that are set and read.
+//! Setting and reading limits.
 ghost use Rattle.std.specs.Prelude.{◌≡◌};
 
 use crate::calls::{
@@ -14,7 +14,7 @@ use std::sync::Wait;
 use std::test::*;
 use std::thread::{Threads, join};
 
-// Lifts the limit by the pass.
+// Sets the default limit, `usize::MAX`, by the pass.
 fn lift_limit_as<R: Wait>(rt: &R, shared: &Shared, pass: &mut Pass<Spur>)
     requires { pass.old.of ≡ shared.now }
     ensures { pass.new.of ≡ pass.old.of }
@@ -42,7 +42,7 @@ fn a_limit_is_what_was_set_last(rt: HostRuntime) -> Result<(), Fail> {
     Ok(())
 }
 
-// Whether the limit is this one, read without a pass and by the pass.
+// Whether the limit is this one, read by the pass and without one.
 fn is_limit<R: Wait>(rt: &R, shared: &Shared, pass: &mut Pass<Spur>, bytes: usize) -> bool
     requires { pass.old.of ≡ shared.now }
     ensures { pass.new.of ≡ pass.old.of }
@@ -50,7 +50,7 @@ fn is_limit<R: Wait>(rt: &R, shared: &Shared, pass: &mut Pass<Spur>, bytes: usiz
     sums_as(rt, shared, pass).0 == bytes && limit(rt, shared) == bytes
 }
 
-// Sets one limit and another in turn, without a pass and by the pass. Returns whether each reading gives what was set last.
+// Sets the two limits alternately, by the pass and without one. Returns whether the last one always holds.
 fn keeps_both<R: Wait>(
     rt: &R,
     shared: &Shared,
@@ -71,11 +71,11 @@ fn keeps_both<R: Wait>(
     plainly && by_pass && again && is_limit(rt, shared, pass, other)
 }
 
-// An odd number of 57 bits, with a pattern in each byte.
+// An odd number of 57 bits, whose bytes are all different.
 const ODD: usize = 0x0123_4567_89ab_cdef;
 
-// Sets each power of two and the number before it, the pattern without its last bits and its complement. Returns whether each reading
-// gives what was set last.
+// Sets each power of two and the number before it, and `ODD`, shifted right by 0 to 63 bits, and its
+// complement. Returns whether the last limit set always holds.
 fn keeps_each_limit<R: Wait>(rt: &R, shared: &Shared) -> bool {
     let mut pass = pass_of(shared);
     let mut bytes: usize = 1;
@@ -98,14 +98,14 @@ fn keeps_each_limit<R: Wait>(rt: &R, shared: &Shared) -> bool {
 fn limits_of_each_size_are_kept(rt: HostRuntime) -> Result<(), Fail> {
     let shared = made(rt.alloc())?;
     assert!(rt; keeps_each_limit(&rt, &shared));
-    // of the pattern no bit was left
+    // the last limit is the complement of 0, as `ODD` was shifted to nothing
     assert!(rt; limit(&rt, &shared) == 18_446_744_073_709_551_615);
     assert!(rt; usage(&rt, &shared) == 4096);
     assert!(rt; len(&shared) == 0);
     Ok(())
 }
 
-// Interns the three texts as static ones, each by another call. Tells whether they got the numbers from the given one on.
+// Interns three static texts, each by another call. Returns whether they get the numbers from `first` on.
 fn keeps_three<R: Wait>(
     rt: &R,
     shared: &Shared,
@@ -123,8 +123,8 @@ fn keeps_three<R: Wait>(
     Ok((one, two, three) == wanted)
 }
 
-// Interns three static texts of `length` bytes; the only bucket has room for two. Returns whether two copied texts then fill it to the
-// last byte.
+// Interns three static texts of `length` bytes. The only bucket has room for two. Returns whether two copied
+// texts then fill it exactly.
 fn leave_all_bytes<R: AllocGlobal + Wait>(rt: &R, length: usize) -> Result<bool, Fail> {
     if length == 0 {
         return Ok(false);
@@ -153,8 +153,9 @@ fn a_static_text_takes_no_bytes(rt: HostRuntime) -> Result<(), Fail> {
     Ok(())
 }
 
-// Interns three static texts of `length` bytes, each by another call, and then a copied one. The first bucket has one byte, and the
-// limit leaves `length` bytes for another. Returns whether the limit stays, and a copied text of two bytes or more gets that bucket.
+// Interns three static texts of `length` bytes, each by another call, and then a copied one. The first bucket
+// has one byte, and the limit leaves `length` bytes for another. Returns whether the limit stays the same,
+// and whether a copied text of two bytes or more takes that other bucket.
 fn leave_the_limit<R: AllocGlobal + Wait>(rt: &R, length: usize) -> Result<bool, Fail> {
     let alloc = rt.alloc();
     let bytes = length.saturating_add(1);
@@ -179,7 +180,7 @@ fn no_static_text_sets_a_limit(rt: HostRuntime) -> Result<(), Fail> {
     Ok(())
 }
 
-// Sets the limit many times, with one value and another, and gives the last that it reads then.
+// Sets the limits from 0 to 99 and then `last`. Returns the limit that it reads then.
 fn set_often<R: Wait>(rt: &R, shared: &Shared, last: usize) -> usize {
     let mut pass = pass_of(shared);
     for limit in 0..100usize {
@@ -197,7 +198,7 @@ fn two_threads_set_limits(rt: HostRuntime) -> Result<(), Fail> {
         || set_often(&rt, &shared, 1000),
         || set_often(&rt, &shared, 2000),
     );
-    // each reads its own limit, or one that the other set after it
+    // each thread reads its own limit, or one that the other thread set later
     assert!(rt; a == 1000 || a == 2000 || a < 100);
     assert!(rt; b == 1000 || b == 2000 || b < 100);
     let last = limit(&rt, &shared);

@@ -1,4 +1,4 @@
-//! Readings, with a pass and without one.
+//! Calls that read, with a pass and without one.
 ghost use Rattle.std.specs.Prelude.{◌≡◌};
 
 use crate::calls::{
@@ -12,7 +12,6 @@ use std::sync::Wait;
 use std::test::*;
 use std::thread::{Threads, join};
 
-// Whether there is no text.
 fn is_empty(shared: &Shared) -> bool {
     shared.is_empty()
 }

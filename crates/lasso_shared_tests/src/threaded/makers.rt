@@ -1,4 +1,4 @@
-//! What makers open with.
+//! What each maker makes: the usage, the limit and the number of cells.
 use super::FIRST;
 use crate::calls::{Shared, kept, limit, limited, usage};
 use lasso_parts::keys::{Key, MicroSpur, Spur};
@@ -8,7 +8,7 @@ use std::alloc::Global;
 use std::sync::Wait;
 use std::test::*;
 
-// Whether the interner that was made has this usage, this limit and this number of cells; or why none was made.
+// Whether the new interner has this usage, this limit and this number of cells, or why none was made.
 fn has<K: Key, R: Wait>(
     rt: &R,
     made: LassoResult<ThreadedRodeo<K, FixedState>>,
@@ -18,17 +18,17 @@ fn has<K: Key, R: Wait>(
     Ok((usage(rt, &shared), limit(rt, &shared), cells(&shared)) == wanted)
 }
 
-// For how many texts there are cells.
+// The number of cells, which is the capacity.
 fn cells<K: Key>(shared: &ThreadedRodeo<K, FixedState>) -> usize {
     shared.capacity()
 }
 
-// What the maker by default makes.
+// Whether `default` makes an interner of these numbers.
 fn by_default<R: Wait>(rt: &R, alloc: Global, wanted: (usize, usize, usize)) -> LassoResult<bool> {
     has(rt, ThreadedRodeo::default(alloc), wanted)
 }
 
-// What the maker by default makes for 8-bit keys.
+// The same for `new`, with 8-bit keys.
 fn by_new<R: Wait>(rt: &R, alloc: Global, wanted: (usize, usize, usize)) -> LassoResult<bool> {
     has::<MicroSpur, _>(rt, ThreadedRodeo::new(alloc), wanted)
 }
@@ -41,7 +41,7 @@ fn makers_open_with_defaults(rt: HostRuntime) -> Result<(), Fail> {
     Ok(())
 }
 
-// What is made with this capacity.
+// The same for `with_capacity`.
 fn by_capacity<R: Wait>(
     rt: &R,
     alloc: Global,
@@ -51,7 +51,7 @@ fn by_capacity<R: Wait>(
     has::<Spur, _>(rt, ThreadedRodeo::with_capacity(alloc, room), wanted)
 }
 
-// What is made under this limit.
+// The same for `with_memory_limits`.
 fn by_limit<R: Wait>(
     rt: &R,
     alloc: Global,
@@ -61,7 +61,7 @@ fn by_limit<R: Wait>(
     has::<Spur, _>(rt, ThreadedRodeo::with_memory_limits(alloc, limits), wanted)
 }
 
-// What is made with this capacity under this limit.
+// The same for `with_capacity_and_memory_limits`.
 fn by_both<R: Wait>(
     rt: &R,
     alloc: Global,
@@ -84,7 +84,8 @@ fn makers_open_with_capacity_and_limit(rt: HostRuntime) -> Result<(), Fail> {
     Ok(())
 }
 
-// Numbers of texts and of bytes, and the cells that there are for these texts: a power of two, and 32 at least.
+// Numbers of texts, of bytes, and of the cells that are made for the texts. There are no cells for no texts,
+// and otherwise a power of two, at least 32.
 const ROOMS: [(usize, usize, usize); 16] = [
     (0, 1, 0),
     (1, 2, 32),
@@ -124,7 +125,7 @@ fn makers_open_with_each_size(rt: HostRuntime) -> Result<(), Fail> {
     Ok(())
 }
 
-// What is made with this capacity and a hasher.
+// The same for `with_capacity_and_hasher`.
 fn by_hasher<R: Wait>(
     rt: &R,
     alloc: Global,
@@ -135,7 +136,7 @@ fn by_hasher<R: Wait>(
     has::<Spur, _>(rt, made, wanted)
 }
 
-// What is made with this capacity under this limit and with a hasher.
+// The same for `with_capacity_memory_limits_and_hasher`.
 fn by_all<R: Wait>(
     rt: &R,
     alloc: Global,
@@ -152,13 +153,13 @@ fn by_all<R: Wait>(
 fn makers_take_a_hasher(rt: HostRuntime) -> Result<(), Fail> {
     let room = Capacity::for_bytes(7);
     assert!(rt; by_hasher(&rt, rt.alloc(), room, (7, usize::MAX, 64))?);
-    // the limit lies below the first bucket, which stays
+    // the first bucket is larger than the limit, and is made anyway
     let (room, limits) = (Capacity::new(0, 10), MemoryLimits::new(5));
     assert!(rt; by_all(&rt, rt.alloc(), room, limits, (10, 5, 0))?);
     Ok(())
 }
 
-// Interns the texts, and gives the usage and the number of cells then.
+// Interns static texts. Returns the usage and the number of cells then.
 fn filled<R: Wait>(
     rt: &R,
     made: LassoResult<Shared>,

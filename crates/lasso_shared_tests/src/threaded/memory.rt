@@ -1,5 +1,5 @@
-//! Texts that are interned while memory is out. `bench/refused-tests` refuses the requests for memory; where
-//! none is refused, each text is interned at the first call.
+//! Texts that are interned while memory is out. `bench/refused-tests` refuses the requests for memory. If
+//! none is refused, the first call interns each text.
 
 use crate::calls::{Shared, answered, contains, copied, kept, len, limited, text_at, usage};
 use lasso_parts::util::LassoErrorKind;
@@ -23,8 +23,8 @@ enum Way {
     Static,
 }
 
-// Interns an absent text, again and again while memory is out, and gives its number. `None` where a call
-// failed otherwise, or where one that was out of memory left the text, another length or another usage.
+// Interns an absent text, again and again while memory is out, and returns its number. `None` if a call
+// failed otherwise, or if one that ran out of memory left the text, another length or another usage.
 fn interned_at_last<R: Wait>(
     rt: &R,
     shared: &Shared,
@@ -49,7 +49,7 @@ fn interned_at_last<R: Wait>(
     None
 }
 
-// Whether each text gets the next number, and is found under it at the end.
+// Whether each text gets the next number, and has it at the end.
 fn all_are_interned<R: Wait>(rt: &R, shared: &Shared, way: Way) -> Result<bool, Fail> {
     for position in 0..TEXTS.len() {
         if interned_at_last(rt, shared, way, TEXTS[position]) != Some(position) {
@@ -66,7 +66,7 @@ fn all_are_interned<R: Wait>(rt: &R, shared: &Shared, way: Way) -> Result<bool, 
 
 #[test]
 fn a_copied_text_out_of_memory_leaves_nothing(rt: HostRuntime) -> Result<(), Fail> {
-    // The texts need some more buckets.
+    // the texts need more buckets than this one
     let shared: Shared = limited(rt.alloc(), 4, usize::MAX)?;
     assert!(rt; all_are_interned(&rt, &shared, Way::Copied)?);
     assert!(rt; len(&shared) == 40);

@@ -1,4 +1,4 @@
-//! Passes that meet and that are compared, where one has seen more than the other.
+//! Passes that meet or are compared, when one has seen more than the other.
 ghost use Rattle.std.specs.Prelude.{◌≡◌, ◌≤◌, ◌<◌, ◌⊎◌, length};
 ghost use Rattle.lasso_log.specs.Views.{list_of};
 
@@ -16,7 +16,8 @@ const OPENED: Opened = Opened {
 
 const TEXTS: [&str; 3] = ["p", "q", "Bär"];
 
-// Whether the pass, once it has met the other, is lent the texts that either had seen, from the first on.
+// Lets the pass meet the other. Returns whether it then reads these texts, from position 0 on. One of the two
+// passes must have seen at least `texts.len()` texts.
 fn lends_after_meeting(
     shards: &Shards<Spur, FixedState>,
     pass: &mut Pass<Spur>,
@@ -48,7 +49,7 @@ fn a_pass_that_meets_another_has_seen_its_texts(rt: HostRuntime) -> Result<(), F
     shards.intern_static(&rt, &mut ahead, "Bär")?;
     assert!(rt; shards.log.len(&mut ahead) == 3);
     assert!(rt; lends_after_meeting(&shards, &mut behind, &ahead, &TEXTS));
-    // what it has seen stays, and both go on interning
+    // a pass that meets one that has seen nothing keeps what it has seen, and both can still intern
     let nothing = shards.log.pass();
     assert!(rt; lends_after_meeting(&shards, &mut ahead, &nothing, &TEXTS));
     let new = shards.intern_static(&rt, &mut behind, "r")?;
@@ -58,7 +59,7 @@ fn a_pass_that_meets_another_has_seen_its_texts(rt: HostRuntime) -> Result<(), F
     Ok(())
 }
 
-// Whether both passes are lent this text at the position. Where one is, the other is.
+// Whether each pass reads this text at the position. The contract says that both results are the same.
 fn both_lend(
     shards: &Shards<Spur, FixedState>,
     one: &Pass<Spur>,

@@ -1,5 +1,4 @@
-//! What walks, JSON and frozen forms show of texts of each length, ASCII and not, for two key types and
-//! hashers.
+//! Walks, JSON and frozen forms of texts of many lengths, ASCII and not, with two key types and two hashers.
 use crate::calls::{
     contains, copied, found, is_key, kept, len, limit, limited_hashed, pass_of, resolved, text_at,
     usage,
@@ -17,7 +16,7 @@ use std::hash::BuildHasher;
 use std::sync::Wait;
 use std::test::*;
 
-// The number of the text that the walk gives, and the text.
+// The next text of the walk, and its number.
 fn next<'a, K: Key>(walk: &mut Iter<'a, K>) -> Option<(usize, &'a str)> {
     match walk.next() {
         Some((key, text)) => Some((key.into_usize(), text)),
@@ -25,7 +24,7 @@ fn next<'a, K: Key>(walk: &mut Iter<'a, K>) -> Option<(usize, &'a str)> {
     }
 }
 
-// Whether both walks give these texts in order, and then no other.
+// Whether both walks yield exactly these texts, in order.
 fn give<K: Key>(mut walk: Iter<'_, K>, mut strings: Strings<'_, K>, texts: &[&str]) -> bool {
     let mut all = walk.len() == texts.len() && strings.len() == texts.len();
     let mut position: usize = 0;
@@ -37,7 +36,7 @@ fn give<K: Key>(mut walk: Iter<'_, K>, mut strings: Strings<'_, K>, texts: &[&st
     all && next(&mut walk).is_none() && strings.next().is_none()
 }
 
-/// Whether walks give just these texts, without a pass and with one.
+/// Whether walks yield exactly these texts, without a pass and with one.
 pub(super) fn are_walked<K: Key, S: BuildHasher + Drop>(
     shared: &ThreadedRodeo<K, S>,
     texts: &[&str],
@@ -48,8 +47,8 @@ pub(super) fn are_walked<K: Key, S: BuildHasher + Drop>(
     plainly && give(walk, shared.strings_as(&mut pass), texts)
 }
 
-// The object from each text to its position plus one. The texts are in the order of their bytes, and none
-// needs an escape.
+// The JSON object of the texts, each with its position plus one. The texts must be in the order of their
+// bytes, and none may need an escape.
 fn object_of(alloc: Global, texts: &[&str]) -> Result<String, AllocError> {
     let mut json = String::new(alloc);
     json.push_str("{")?;
@@ -63,7 +62,7 @@ fn object_of(alloc: Global, texts: &[&str]) -> Result<String, AllocError> {
     Ok(json)
 }
 
-// The array of the texts.
+// The JSON array of the texts. None may need an escape.
 fn array_of(alloc: Global, texts: &[&str]) -> Result<String, AllocError> {
     let mut json = String::new(alloc);
     json.push_str("[")?;
@@ -77,8 +76,8 @@ fn array_of(alloc: Global, texts: &[&str]) -> Result<String, AllocError> {
     Ok(json)
 }
 
-/// Whether the interner is written as the object of these texts, without a pass and with one. They are in
-/// the order of their bytes.
+/// Whether the interner is written as the object of these texts, without a pass and with one. The texts must
+/// be in the order of their bytes.
 pub(super) fn are_written<K: Key, S: BuildHasher + Drop>(
     alloc: Global,
     shared: &ThreadedRodeo<K, S>,
@@ -91,7 +90,7 @@ pub(super) fn are_written<K: Key, S: BuildHasher + Drop>(
     Ok(plainly == wanted && by_pass == wanted)
 }
 
-// Whether the interner has just these texts.
+// Whether the interner has exactly these texts.
 fn has_just<K: Key, S: BuildHasher + Drop, R: Wait>(
     rt: &R,
     shared: &ThreadedRodeo<K, S>,
@@ -108,7 +107,7 @@ fn has_just<K: Key, S: BuildHasher + Drop, R: Wait>(
     Ok(all && !is_key(shared, position)? && text_at(shared, position)?.is_none())
 }
 
-// The interner that is read from the JSON.
+// The interner that is read from the JSON text.
 fn read<K: Key, S: BuildHasher + Default + Drop>(
     alloc: Global,
     json: &str,
@@ -126,8 +125,8 @@ fn bytes_of(texts: &[&str]) -> usize {
     bytes
 }
 
-/// Whether the texts' object and their array are read as just these texts, in one bucket of their bytes,
-/// under no limit. The texts are in the order of their bytes.
+/// Whether the object and the array of these texts are read as exactly these texts, in one bucket of their
+/// size and without a limit. The texts must be in the order of their bytes.
 pub(super) fn are_read<K: Key, S: BuildHasher + Default + Drop, R: AllocGlobal + Wait>(
     rt: &R,
     texts: &[&str],
@@ -142,7 +141,7 @@ pub(super) fn are_read<K: Key, S: BuildHasher + Default + Drop, R: AllocGlobal +
     Ok(all)
 }
 
-// Whether the reader has just these texts.
+// Whether the reader has exactly these texts.
 fn reads<K: Key, S: BuildHasher>(reader: &RodeoReader<K, S, Global>, texts: &[&str]) -> bool {
     let mut all = reader.len() == texts.len() && reader.get("absent").is_none();
     let mut position: usize = 0;
@@ -157,7 +156,7 @@ fn reads<K: Key, S: BuildHasher>(reader: &RodeoReader<K, S, Global>, texts: &[&s
     all
 }
 
-// Whether the resolver has just these texts.
+// Whether the resolver has exactly these texts.
 fn resolves<K: Key>(resolver: &RodeoResolver<K, Global>, texts: &[&str]) -> bool {
     let mut all = resolver.len() == texts.len();
     let mut walk = resolver.strings();
@@ -176,8 +175,8 @@ fn reader_as<K: Key, S: BuildHasher + Drop, R: Wait>(
     shared.into_reader_as(rt, &mut pass)
 }
 
-/// Whether a frozen form of each of the three interners has just these texts: a reader, a reader by a pass,
-/// and a resolver.
+/// Freezes the three interners: to a reader, to a reader by a pass, and to a resolver. Returns whether each
+/// has exactly these texts.
 pub(super) fn are_frozen<K: Key, S: BuildHasher + Drop, R: Wait>(
     rt: &R,
     interners: (
@@ -193,8 +192,7 @@ pub(super) fn are_frozen<K: Key, S: BuildHasher + Drop, R: Wait>(
     Ok(plainly && by_pass && resolves(&third.into_resolver(rt)?, texts))
 }
 
-// An interner of two texts, of which the second is static. Its bucket has just the bytes of the first,
-// which are its limit.
+// An interner of a copied text and a static one. Its bucket and its limit are the bytes of the copied text.
 fn pair<K: Key, S: BuildHasher + Default + Drop, R: AllocGlobal + Wait>(
     rt: &R,
     first: &str,
@@ -207,8 +205,8 @@ fn pair<K: Key, S: BuildHasher + Default + Drop, R: AllocGlobal + Wait>(
     Ok(shared)
 }
 
-// Whether walks, JSON and frozen forms show just the two texts, which are in the order of their bytes, and
-// leave limit and usage. The second text is interned as a static one, which is its copy.
+// Whether walks, JSON and frozen forms show exactly the two texts, and leave limit and usage as they were.
+// The texts must be in the order of their bytes. `copy` is the second text as a static one.
 fn are_shown<'a, K: Key, S: BuildHasher + Default + Drop, R: AllocGlobal + Wait>(
     rt: &R,
     first: &'a str,
@@ -225,7 +223,7 @@ fn are_shown<'a, K: Key, S: BuildHasher + Default + Drop, R: AllocGlobal + Wait>
     Ok(all && are_frozen(rt, interners, &texts)?)
 }
 
-// The first characters are in the order of their bytes: of 1 byte, or of 2 and 4 bytes.
+// The first characters of the texts have 1 byte each, or 2 and 4. The texts are in the order of their bytes.
 #[test]
 fn texts_of_each_length_are_shown(rt: HostRuntime) -> Result<(), Fail> {
     for length in LENGTHS {

@@ -1,5 +1,5 @@
-//! Events that no call may add under a pass of its own: a reading takes no byte, an intern takes the bytes of its text and no
-//! more, and a call that raises the limit never lowers it on the way.
+//! Changes that a call may not hide under a pass of its own: a call that reads takes no bytes, one that
+//! interns takes only the bytes of its text, and one that raises the limit never lowers it on the way.
 ghost use Rattle.std.specs.Prelude.{◌≡◌};
 
 use crate::calls::{
@@ -17,14 +17,14 @@ use std::sync::Wait;
 use std::test::*;
 use std::thread::{Threads, join};
 
-// 16 texts of 4 bytes: they fill a bucket of 64 bytes to the last one.
+// 16 texts of 4 bytes, which fill a bucket of 64 bytes exactly.
 const TEXTS: [&str; 16] = [
     "aaaa", "bbbb", "cccc", "dddd", "eeee", "ffff", "gggg", "hhhh", "iiii", "jjjj", "kkkk", "llll",
     "mmmm", "nnnn", "oooo", "pppp",
 ];
 
-// Reads in each way without a pass, where there are `count` texts, and tells whether each reply is right: of the text that was
-// interned last, where there is one, and of one that is absent.
+// Reads an interner of `count` texts by each call without a pass. Returns whether all replies are right, for
+// an absent text and for the last one, if any.
 fn reads_plainly<R: Wait>(rt: &R, shared: &Shared, count: usize) -> Result<bool, Fail> {
     let absent = !contains(rt, shared, "absent") && found(rt, shared, "absent").is_none();
     let sums = len(shared) == count && usage(rt, shared) == 64 && limit(rt, shared) == 64;
@@ -37,7 +37,7 @@ fn reads_plainly<R: Wait>(rt: &R, shared: &Shared, count: usize) -> Result<bool,
     Ok(absent && sums && past && present && text_at(shared, count - 1)? == Some(last))
 }
 
-// Reads in each way by the pass, likewise.
+// The same by the pass.
 fn reads_as<R: Wait>(
     rt: &R,
     shared: &Shared,
@@ -59,7 +59,7 @@ fn reads_as<R: Wait>(
     Ok(absent && sums && past && present && text == Some(last))
 }
 
-// Interns the texts after readings in each way, and tells whether all replies are right.
+// Interns the texts, and reads in each way before each and at the end. Returns whether all replies are right.
 fn fills_between_readings<R: Wait>(rt: &R, shared: &Shared) -> Result<bool, Fail> {
     let mut pass = pass_of(shared);
     for position in 0..TEXTS.len() {
@@ -77,18 +77,18 @@ fn fills_between_readings<R: Wait>(rt: &R, shared: &Shared) -> Result<bool, Fail
 fn look_ups_take_no_byte(rt: HostRuntime) -> Result<(), Fail> {
     let shared: Shared = limited(rt.alloc(), 64, 64)?;
     assert!(rt; fills_between_readings(&rt, &shared)?);
-    // not a byte is left
+    // no byte is left
     assert!(rt; number(&rt, &shared, "z") == Err(LassoErrorKind::MemoryLimitReached));
     assert!(rt; len(&shared) == 16);
     Ok(())
 }
 
-// Interns the text as the only item.
+// Interns the text by `extend`.
 fn extend_by_one<R: Wait>(rt: &R, shared: &Shared, text: &str) -> LassoResult<()> {
     shared.extend(rt, [text])
 }
 
-// Interns the text by each of four calls. Returns whether each gives this number.
+// Interns the text by each of four calls. Returns whether the three that return a key return this number.
 fn interns_in_each_way<R: Wait>(
     rt: &R,
     shared: &Shared,
@@ -105,8 +105,8 @@ fn interns_in_each_way<R: Wait>(
     Ok(by_pass && plainly && copied_so(rt, shared, text)? == wanted)
 }
 
-// Interns four texts of `length` bytes, each first by another call; the only bucket has just their bytes. Returns whether all fit, and
-// no byte is left.
+// Interns four texts of `length` bytes, each first by another call and then by all. The only bucket has
+// exactly their bytes. Returns whether all texts fit, and no byte is left.
 fn take_their_bytes_alone<R: AllocGlobal + Wait>(rt: &R, length: usize) -> Result<bool, Fail> {
     if length == 0 {
         return Ok(false);
@@ -142,11 +142,11 @@ fn an_intern_takes_the_bytes_of_its_text_alone(rt: HostRuntime) -> Result<(), Fa
 // How many texts one thread interns while another raises the limit.
 const EACH: u32 = 40;
 
-// The bytes that they all take beside a first bucket of one byte, which none of them fits in: each has a bucket of its own 8
-// bytes.
+// The limit that all texts need. None fits in the first bucket, of one byte, so each takes a bucket of its
+// own 8 bytes.
 const NEEDED: usize = 321;
 
-// How often the limit is raised at most, and how often a thread looks whether the other has begun.
+// How many times the limit is raised at most, and how many times a thread looks whether the other has begun.
 const TURNS: usize = 1000;
 
 // Different texts of 8 bytes.
@@ -158,7 +158,7 @@ fn eights(alloc: Global) -> Result<Vec<String>, AllocError> {
     Ok(texts)
 }
 
-// Waits until the limit was raised, but not for ever.
+// Waits until the limit is raised, but not for ever.
 fn await_raise<R: Wait>(rt: &R, shared: &Shared, pass: &mut Pass<Spur>)
     requires { pass.old.of ≡ shared.now }
     ensures { pass.new.of ≡ pass.old.of }
@@ -170,8 +170,8 @@ fn await_raise<R: Wait>(rt: &R, shared: &Shared, pass: &mut Pass<Spur>)
     }
 }
 
-// Interns the texts in turn once the limit is being raised, and gives how many the limit refused. `None` where one failed
-// otherwise.
+// Waits until the limit is raised, interns the texts, and returns how many the limit refused. `None` if one
+// failed otherwise.
 fn refused_of<R: Wait>(rt: &R, shared: &Shared, texts: &[String]) -> Option<usize> {
     let mut pass = pass_of(shared);
     await_raise(rt, shared, &mut pass);
@@ -200,7 +200,7 @@ fn raise<R: Wait>(rt: &R, shared: &Shared, pass: &mut Pass<Spur>, bytes: usize, 
     }
 }
 
-// Raises the limit by a byte again and again, until all texts are seen, but not for ever. Gives how often.
+// Raises the limit byte by byte until all texts are seen, but not for ever. Returns how many times.
 fn raised<R: Wait>(rt: &R, shared: &Shared, plainly: bool) -> usize {
     let mut pass = pass_of(shared);
     for raised in 0..TURNS {
@@ -218,7 +218,7 @@ fn raised<R: Wait>(rt: &R, shared: &Shared, plainly: bool) -> usize {
     TURNS
 }
 
-// Whether no text is refused while the limit rises from what all of them need.
+// Whether no text is refused while the limit rises. It begins at what all texts need.
 fn refuses_nothing<R: AllocGlobal + Threads + Wait + Sync>(
     rt: &R,
     texts: &[String],

@@ -1,4 +1,4 @@
-//! Walks over an interner that threads share.
+//! Walks, the iterators of an interner that threads share.
 ghost use Rattle.std.specs.Prelude.{◌≡◌};
 
 use super::FIRST;
@@ -37,7 +37,7 @@ fn strings_as<'a>(shared: &'a Shared, pass: &mut Pass<Spur>) -> Strings<'a, Spur
     shared.strings_as(pass)
 }
 
-// Whether both walks have so many texts left, and say so.
+// Whether both walks say, by `len` and `size_hint`, that they have `left` texts left.
 fn have_left(walk: &Iter<'_, Spur>, strings: &Strings<'_, Spur>, left: usize) -> bool {
     let hint = (left, Some(left));
     (walk.len(), strings.len()) == (left, left)
@@ -71,7 +71,7 @@ fn third_text<'a>(mut strings: Strings<'a, Spur>) -> Option<&'a str> {
     strings.nth(2)
 }
 
-// Whether both walks give these texts and then no other, and tell all the way how many are left.
+// Whether both walks yield exactly these texts, and say before each how many are left.
 fn give(mut walk: Iter<'_, Spur>, mut strings: Strings<'_, Spur>, texts: &[&str]) -> bool {
     let mut all = true;
     for position in 0..texts.len() {
@@ -98,7 +98,7 @@ fn walks_give_the_texts_in_the_order_of_their_keys(rt: HostRuntime) -> Result<()
     Ok(())
 }
 
-// Whether both walks give this text next.
+// Whether both walks yield this text next.
 fn give_next(
     walk: &mut Iter<'_, Spur>,
     strings: &mut Strings<'_, Spur>,
@@ -132,7 +132,7 @@ fn a_walk_has_the_texts_of_its_making(rt: HostRuntime) -> Result<(), Fail> {
     assert!(rt; have_left(&walk, &strings, 1));
     assert!(rt; give_next(&mut walk, &mut strings, 1, "q"));
     assert!(rt; are_at_end(&mut walk, &mut strings));
-    // walks that are made now have the later text too
+    // walks made now have the later text too
     assert!(rt; third(walk_as(&shared, &mut pass)) == Some((2, "r")));
     assert!(rt; third_text(strings_as(&shared, &mut pass)) == Some("r"));
     assert!(rt; have_left(&walk_of(&shared), &strings_of(&shared), 3));
@@ -150,7 +150,7 @@ fn walks_of_an_empty_interner_are_at_their_end(rt: HostRuntime) -> Result<(), Fa
     Ok(())
 }
 
-// Interns copies of the texts, and tells whether each was accepted.
+// Interns copies of the texts. Returns whether none was refused.
 fn copies<R: Wait>(rt: &R, shared: &Shared, texts: &[&str]) -> bool {
     let mut all = true;
     for text in texts.iter() {
@@ -161,7 +161,7 @@ fn copies<R: Wait>(rt: &R, shared: &Shared, texts: &[&str]) -> bool {
     all
 }
 
-// Whether the walk gives a beginning of the texts.
+// Whether the walk yields a prefix of the texts.
 fn begins(mut walk: Strings<'_, Spur>, texts: &[&str]) -> bool {
     for text in texts.iter() {
         match next_text(&mut walk) {
@@ -178,7 +178,8 @@ fn left_of(strings: &Strings<'_, Spur>) -> usize {
     strings.len()
 }
 
-// Walks so many times, and gives how many walks it was until one gave no beginning of the texts or was shorter than an earlier one.
+// Walks `times` times, and stops at a walk that yields no prefix of the texts or is shorter than an earlier
+// one. Returns how many walks came before.
 fn walks(shared: &Shared, texts: &[&str], times: usize) -> usize {
     let mut least = 0;
     for time in 0..times {

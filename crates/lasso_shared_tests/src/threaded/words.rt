@@ -1,4 +1,4 @@
-//! An interner that threads share and that opens with words.
+//! An interner that threads share, made from static words.
 use crate::calls::{Shared, found, len, limit, resolved, usage};
 use lasso_parts::keys::{Key, Spur};
 use lasso_parts::util::{FixedState, LassoErrorKind, LassoResult};
@@ -11,7 +11,7 @@ use std::test::*;
 
 const KEYWORDS: [&str; 3] = ["if", "else", "a word of more bytes than an entry has"];
 
-// An interner that opens with the keywords.
+// An interner made from the keywords.
 fn opened(alloc: Global) -> LassoResult<Shared> {
     ThreadedRodeo::from_static(alloc, &KEYWORDS)
 }
@@ -39,14 +39,14 @@ const TEXTS: [&str; 4] = [
     "width",
 ];
 
-// An interner that opens with the keywords and has the later text.
+// An interner made from the keywords, with the later text.
 fn grown<R: Wait>(rt: &R, alloc: Global) -> LassoResult<Shared> {
     let shared = opened(alloc)?;
     shared.try_get_or_intern(rt, TEXTS[3])?;
     Ok(shared)
 }
 
-// Whether the interner is equal to one for one thread of these texts, to its reader and to its resolver.
+// Whether the interner is equal to one of these texts for one thread, to its reader and to its resolver.
 fn is_equal_to_all<R: Wait>(
     rt: &R,
     alloc: Global,
@@ -92,7 +92,7 @@ fn a_later_text_is_frozen_with_the_words(rt: HostRuntime) -> Result<(), Fail> {
     Ok(())
 }
 
-// Two of the three words have keys.
+// The key type has keys for two of the three words.
 fn opened_with_two_keys(alloc: Global) -> LassoResult<ThreadedRodeo<BelowTwo, FixedState>> {
     ThreadedRodeo::from_static(alloc, &KEYWORDS)
 }

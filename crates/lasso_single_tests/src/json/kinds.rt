@@ -1,4 +1,4 @@
-//! A value of each kind in each role: alone, as an item and as a member.
+//! JSON values of each kind in each role: alone, as an item of an array, and as a member of an object.
 use super::{
     SpurReader, SpurResolver, SpurRodeo, as_reader, as_resolver, as_rodeo, fault, usage, value_of,
 };
@@ -12,7 +12,8 @@ const NO_ARRAY: Option<JsonError> = Some(JsonError::NotAnArray);
 
 const NO_TEXT: Option<JsonError> = Some(JsonError::NotText(0));
 
-// A value, the text that it is as an item, and what is wrong with it alone.
+// A JSON value, the text that it is as an item of an array (`None` if it is no text), and the error of
+// reading it alone.
 const KINDS: [(&str, Option<&str>, Option<JsonError>); 33] = [
     ("null", None, NO_ARRAY),
     ("true", None, NO_ARRAY),
@@ -49,7 +50,7 @@ const KINDS: [(&str, Option<&str>, Option<JsonError>); 33] = [
     (r#"{"a":{"b":["c"]}}"#, None, NO_ARRAY),
 ];
 
-// What is wrong with the value as an interner, and the same as a reader and as a resolver.
+// The error of reading the value as an interner. Checks that a reader and a resolver return the same.
 fn wrong_value<R: AllocGlobal + Abort>(rt: &R, value: &Value) -> Option<JsonError> {
     let wrong = fault(as_rodeo(rt.alloc(), value));
     assert!(rt; fault(as_reader(rt.alloc(), value)) == wrong);
@@ -57,13 +58,13 @@ fn wrong_value<R: AllocGlobal + Abort>(rt: &R, value: &Value) -> Option<JsonErro
     wrong
 }
 
-// The same with the value of the JSON.
+// The same for a value given as JSON text.
 fn wrong_with<R: AllocGlobal + Abort>(rt: &R, json: &str) -> Result<Option<JsonError>, Fail> {
     let value = value_of(rt.alloc(), json)?;
     Ok(wrong_value(rt, &value))
 }
 
-// The same with the JSON of a value between these.
+// The same for JSON text made of three parts.
 fn wrong_between<R: AllocGlobal + Abort>(
     rt: &R,
     before: &str,
@@ -74,7 +75,8 @@ fn wrong_between<R: AllocGlobal + Abort>(
     wrong_with(rt, json.as_str())
 }
 
-// What is wrong with an array where the item at the position is this text, if it is one, and nothing before it is wrong but this behind it.
+// The error of an array whose items before position `at` are texts. `text` is the item at `at`, if that is a
+// text, and `behind` is the error of the items after it.
 fn wrong_item(text: Option<&str>, at: usize, behind: Option<JsonError>) -> Option<JsonError> {
     match text {
         None => Some(JsonError::NotText(at)),
@@ -118,7 +120,7 @@ fn is_resolver_of(resolver: &SpurResolver, text: &str) -> bool {
     resolver.len() == 1 && resolver.strings().next() == Some(text)
 }
 
-// The text is the one that each form reads from the value.
+// Checks that each form reads exactly this text from the value.
 fn is_read<R: AllocGlobal + Abort>(rt: &R, value: &Value, text: &str) -> Result<(), Fail> {
     assert!(rt; is_rodeo_of(&as_rodeo(rt.alloc(), value)?, text));
     assert!(rt; is_reader_of(&as_reader(rt.alloc(), value)?, text));
@@ -126,7 +128,7 @@ fn is_read<R: AllocGlobal + Abort>(rt: &R, value: &Value, text: &str) -> Result<
     Ok(())
 }
 
-// The same with the value of an array of this JSON.
+// The same for an array of one item, given as JSON text.
 fn is_read_from<R: AllocGlobal + Abort>(rt: &R, kind: &str, text: &str) -> Result<(), Fail> {
     let json = format!(in rt.alloc(); "[{kind}]")?;
     let value = value_of(rt.alloc(), json.as_str())?;
@@ -147,7 +149,7 @@ fn long_text(alloc: Global) -> Result<String, Fail> {
     Ok("a".repeat(alloc, 1_000_000)?)
 }
 
-// An array of a text of 1 MB, so many times.
+// An array of `count` texts of a million bytes.
 fn long_texts(alloc: Global, count: usize) -> Result<Value, Fail> {
     let mut items: Vec<Value> = Vec::new(alloc);
     for _item in 0..count {
@@ -166,7 +168,7 @@ fn texts_of_a_million_bytes(rt: HostRuntime) -> Result<(), Fail> {
     Ok(())
 }
 
-// How many texts there are of 1 MB.
+// How many texts of a million bytes the resolver has.
 fn count_long(resolver: &SpurResolver) -> usize {
     let mut count = 0usize;
     for text in resolver.strings() {

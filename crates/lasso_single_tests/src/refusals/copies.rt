@@ -1,7 +1,7 @@
-//! Clones, and copies over another interner.
+//! `clone` and `clone_from`.
 use super::*;
 
-// The static text goes into the clone's one bucket of 7 bytes, which is past the limit of 5 that the source has.
+// The clone copies the static text too. Its one bucket has 7 bytes, more than the source's limit of 5.
 fn cloned<R: AllocGlobal + Abort>(rt: &R, memory: &Memory) -> Result<(), Fail> {
     let Some(mut rodeo) = interner::<Spur>(rt, memory, 10, 5) else {
         return Ok(());
@@ -40,8 +40,8 @@ fn two<'a>(rt: &impl Abort, memory: &'a Memory) -> Option<Metered<'a, Spur>> {
     Some(source)
 }
 
-// Whatever refuses the copy, the limit or want of memory before, it leaves no text, and the bucket of 4 bytes that the target began
-// with. The target has one text before the copy, or none.
+// The limit refuses the copy, unless it runs out of memory first. Either way the target then has no text, and
+// only its first bucket, of 4 bytes. Before the copy it has one text, or none if `is_empty`.
 fn copied_past_the_limit(rt: &impl Abort, memory: &Memory, is_empty: bool) {
     let Some(source) = two(rt, memory) else {
         return;
@@ -75,7 +75,7 @@ fn over_no_text<R: AllocGlobal + Abort>(rt: &R, memory: &Memory) -> Result<(), F
     Ok(())
 }
 
-// "abc" goes into the first bucket, and "defg" asks for one of twice 4 bytes, in which "wxyz" has room too.
+// "abc" goes into the first bucket. "defg" takes a second one, of 8 bytes, where "wxyz" fits too.
 fn copied_into_a_new_bucket<R: AllocGlobal + Abort>(rt: &R, memory: &Memory) -> Result<(), Fail> {
     let Some(source) = two(rt, memory) else {
         return Ok(());
@@ -99,9 +99,10 @@ fn copied_into_a_new_bucket<R: AllocGlobal + Abort>(rt: &R, memory: &Memory) -> 
     Ok(())
 }
 
-// Behind "abc" in the first bucket the nine bytes have a bucket of their own, and "defgh" is in one of twice 4 bytes; the limit of
-// these 21 bytes leaves no room for "ijkl". The doubled bucket is kept, and the one of exact size given back. Memory is asked for
-// before the doubled bucket is there, so that the first bucket alone is left where it is refused.
+// "abc" goes into the first bucket of 4 bytes, the nine bytes get a bucket of their own, and "defgh" gets one
+// of 8 bytes. These 21 bytes are the limit, which refuses "ijkl". Then the bucket of 8 bytes is kept, and
+// that of 9 bytes is freed. Nothing is allocated after the bucket of 8 bytes, so a copy that runs out of
+// memory leaves only the first bucket.
 fn copied_past_the_first_bucket<R: AllocGlobal + Abort>(
     rt: &R,
     memory: &Memory,
@@ -130,7 +131,7 @@ fn copied_past_the_first_bucket<R: AllocGlobal + Abort>(
     Ok(())
 }
 
-// The list, the index and the buckets of the copy are in the memory of the interner that was copied over.
+// The copy allocates its list, its index and its buckets from the target's allocator.
 fn copied_between<'a, R: AllocGlobal + Abort>(
     rt: &R,
     of_source: &'a Memory,

@@ -1,4 +1,4 @@
-//! What an interner and its frozen forms say they have of their allocator is what it gave.
+//! `allocated_bytes` of an interner and of its frozen forms is what the allocator gave out.
 use super::*;
 use lasso_parts::keys::{LargeSpur, MicroSpur, MiniSpur};
 
@@ -15,7 +15,7 @@ const TEXTS: [&str; 10] = [
     "rstuvwxyz0123456789",
 ];
 
-// Each state of an interner, and then of what it freezes to.
+// Checks the number of a new interner, after each text, after a clear and a refill, and of both frozen forms.
 fn counted<R: AllocGlobal + Abort>(rt: &R, memory: &Memory) -> Result<(), Fail> {
     let capacity = Capacity::new(2, 4);
     let mut rodeo: Metered<'_, Spur> = Rodeo::with_capacity(memory, capacity)?;
@@ -44,8 +44,8 @@ fn allocated_bytes_are_those_given(rt: HostRuntime) -> Result<(), Fail> {
     Ok(())
 }
 
-// Interns `count` texts, each `step` bytes longer than the one before it. Returns whether the interner says each time that it has what the
-// allocator gave.
+// Interns `count` texts, each at least `step` bytes longer than the one before it. Returns whether
+// `allocated_bytes` is right after each.
 fn fills_counted<K: Key, R: AllocGlobal>(
     rt: &R,
     memory: &Memory,
@@ -64,7 +64,8 @@ fn fills_counted<K: Key, R: AllocGlobal>(
     Ok(all)
 }
 
-// Whether an interner of this key type, its clone and its frozen forms say so, with `count` texts, and after a clear with `count` again.
+// Whether `allocated_bytes` is right for an interner of `count` texts, for its clone and for its frozen
+// forms. The interner is cleared and filled again before it is frozen.
 fn is_counted<K: Key, R: AllocGlobal>(rt: &R, count: usize, step: usize) -> Result<bool, Fail> {
     let memory = Refusing::new(rt.alloc(), 0);
     let mut rodeo: Metered<'_, K> = Rodeo::new(&memory)?;
@@ -93,8 +94,9 @@ fn allocated_bytes_of_many_texts_are_those_given(rt: HostRuntime) -> Result<(), 
     Ok(())
 }
 
-// Interns twice as many texts as the list has room for by its maker, and more. Tells whether each text past the room that is said takes
-// memory, and no other changes the room; and whether there is a byte at least for each text that there is room for.
+// Interns more than twice `strings` texts. Returns whether exactly the texts past `capacity()` change it,
+// whether each of these allocates, and whether list and index have at least a byte for each text of the
+// capacity.
 fn has_the_room_it_says<R: AllocGlobal>(rt: &R, strings: usize) -> Result<bool, Fail> {
     let memory = Refusing::new(rt.alloc(), 0);
     let room = Capacity::new(strings, 20_000);

@@ -1,9 +1,10 @@
-//! Interners filled from items, where a refused reservation for what their iterator tells of changes no answer.
+//! Interners filled from items. If the room for the iterator's size hint is refused, the calls return the
+//! same as without a refusal.
 ghost use Rattle.std.specs.Prelude.{◌<◌};
 
 use super::*;
 
-// What the filling was refused for, and the item that it did not take.
+// Why the extend was refused, and the item after the refused one.
 fn refused_filling(
     rodeo: &mut Metered<'_, Spur>,
 ) -> (Option<LassoErrorKind>, Option<&'static str>) {
@@ -12,8 +13,8 @@ fn refused_filling(
     (refusal, items.next())
 }
 
-// "ab" and "cd" fill what the limit of 4 bytes leaves: one first bucket of 4 bytes, or one of 2 and one of the other 2. Where memory
-// for one of them is refused, the next item is the one behind it, and those before it stay.
+// "ab" and "cd" use up the limit of 4 bytes, in one bucket of 4 bytes or in two of 2. If one of them runs out
+// of memory, the next item is the one after it, and the items before it stay.
 fn extended_to_the_limit(rt: &impl Abort, memory: &Memory, bytes: usize) -> Result<(), Fail>
     requires { 0 < bytes }
 {

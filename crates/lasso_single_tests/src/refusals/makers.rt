@@ -1,7 +1,7 @@
-//! Each maker of an empty interner, and copies of what it made.
+//! Each maker of an empty interner, and copies of the interners.
 use super::*;
 
-// The maker of this number.
+// Makes an interner by the maker of this number.
 fn by_maker<'a>(memory: &'a Memory, maker: usize) -> LassoResult<Metered<'a, Spur>> {
     let (room, limits, hasher) = (
         Capacity::new(3, 10),
@@ -20,7 +20,8 @@ fn by_maker<'a>(memory: &'a Memory, maker: usize) -> LassoResult<Metered<'a, Spu
     }
 }
 
-// What the maker of this number made takes so many bytes, and a clone of its one text one.
+// Checks an interner by the maker of this number: it takes `usage` bytes, and the copies of its only text, of
+// one byte, take one byte.
 fn copies(rt: &impl Abort, memory: &Memory, maker: usize, usage: usize) -> Result<(), Fail> {
     let Some(mut rodeo) = made(rt, memory, by_maker(memory, maker)) else {
         assert!(rt; memory.bytes_out() == 0);

@@ -1,9 +1,9 @@
-//! A run of commands. Where memory is refused to one of them that one is answered so, and the run goes on.
+//! A run of commands. A command that runs out of memory gets that as its reply, and the run goes on.
 use super::*;
 use lasso_single::commands::{Command, Reply, run_commands};
 use std::alloc::Allocator;
 
-// Each reply in a word.
+// The replies in words, each followed by a slash.
 fn words(alloc: Global, replies: &[Reply<Spur>]) -> Result<String, Fail> {
     let mut all = String::new(alloc);
     for reply in replies {
@@ -22,7 +22,7 @@ fn words(alloc: Global, replies: &[Reply<Spur>]) -> Result<String, Fail> {
     Ok(all)
 }
 
-// Both texts do not fit below a limit of 4 bytes, and after the clear the second one does.
+// Under a limit of 4 bytes the second text does not fit after the first. After the clear it does.
 fn commands<'a, A: Allocator + 'a>() -> [Command<'a, Spur, FixedState, A>; 7] {
     [
         Command::Intern("abcd"),
@@ -35,22 +35,21 @@ fn commands<'a, A: Allocator + 'a>() -> [Command<'a, Spur, FixedState, A>; 7] {
     ]
 }
 
-// The replies where no command is refused memory; where the first is, so that the second text is the first one there; and where
-// the copy of the text is that is resolved. No other command asks for memory: the limit refuses the second before, and a clear
-// keeps the room that the first one made.
+// The replies if no command runs out of memory; if the first does, so that the second text becomes the first
+// one; and if the copy of the resolved text does. No other command allocates: the limit refuses the second
+// one first, and the clear keeps the room that the first one made.
 const USUAL: &str = "key 0/MemoryLimitReached/done/key 0/text e/1/4/";
 
 const WITHOUT_THE_FIRST: &str = "FailedAllocation/key 0/done/key 0/text e/1/4/";
 
 const WITHOUT_THE_COPY: &str = "key 0/MemoryLimitReached/done/key 0/FailedAllocation/1/4/";
 
-// The replies of a run of these commands.
 fn replies<'m>(alloc: Global, rodeo: &mut Metered<'m, Spur>) -> LassoResult<Vec<Reply<Spur>>> {
     let commands = commands::<'m, &'m Memory>();
     run_commands(alloc, rodeo, commands.as_slice())
 }
 
-// The replies and the copy have memory of their own, which is not refused.
+// The replies and the copy of the text use the global allocator, so `memory` refuses none of their requests.
 fn small_run<R: AllocGlobal + Abort>(rt: &R, memory: &Memory) -> Result<(), Fail> {
     let Some(mut rodeo) = interner::<Spur>(rt, memory, 4, 4) else {
         return Ok(());
@@ -72,7 +71,8 @@ fn runs_of_commands(rt: HostRuntime) -> Result<(), Fail> {
     each_refused(&rt, small_run)
 }
 
-// Whether the replies are those where nothing is refused. The room for them and the copy of the text are asked of the same memory.
+// Whether the replies are those of a run that does not run out of memory. Here the interner, the replies and
+// the copy of the text have the same allocator.
 fn is_usual_run<R: AllocGlobal + Abort>(rt: &R) -> Result<bool, Fail> {
     let (room, limits) = (Capacity::new(0, 4), MemoryLimits::new(4));
     let mut rodeo: Rodeo<Spur, FixedState, Global> = Rodeo::with_capacity_and_memory_limits(
@@ -98,7 +98,7 @@ fn is_usual_run<R: AllocGlobal + Abort>(rt: &R) -> Result<bool, Fail> {
     }
 }
 
-// Of two runs at most one meets the refusal of an allocation (`rt try --test --fail-alloc N`).
+// An allocation is refused in at most one of the two runs (`rt try --test --fail-alloc N`).
 #[test]
 fn a_refused_command_does_not_end_the_run(rt: HostRuntime) -> Result<(), Fail> {
     let is_first_usual = is_usual_run(&rt)?;

@@ -1,4 +1,4 @@
-//! Interners read from JSON. What they are written as is asked of the global allocator.
+//! Interners read from JSON, and written with the global allocator.
 use super::*;
 use lasso_parts::json::{JsonError, JsonKey};
 use lasso_single::reader::RodeoReader;
@@ -11,7 +11,7 @@ type Resolver<'a> = RodeoResolver<Spur, &'a Memory>;
 
 const WANTING: JsonError = JsonError::Lasso(LassoErrorKind::FailedAllocation);
 
-// How many texts the form of this number reads, or what is wrong with the value.
+// How many texts a form reads from the value, or its error. 0 is an interner, 1 a reader, and 2 a resolver.
 fn read(memory: &Memory, value: &Value, form: usize) -> Result<usize, JsonError> {
     match form {
         0 => Ok(Metered::<Spur>::deserialize(memory, value)?.len()),
@@ -20,7 +20,8 @@ fn read(memory: &Memory, value: &Value, form: usize) -> Result<usize, JsonError>
     }
 }
 
-// Where memory is wanting nothing is made, and the same call again answers as the first would have.
+// A call that runs out of memory leaves nothing allocated, and the same call made again returns what the
+// first would have.
 fn each_form<R: AllocGlobal + Abort>(rt: &R, memory: &Memory) -> Result<(), Fail> {
     let doubled = Err(JsonError::Doubled(2));
     let no_text = Err(JsonError::NotText(1));
@@ -49,7 +50,7 @@ fn each_form<R: AllocGlobal + Abort>(rt: &R, memory: &Memory) -> Result<(), Fail
     Ok(())
 }
 
-// What was read, or none where the memory for it was refused.
+// The value that was read. `None` if the call ran out of memory.
 fn was_read<T>(rt: &impl Abort, memory: &Memory, outcome: Result<T, JsonError>) -> Option<T> {
     match outcome {
         Ok(made) => Some(made),
@@ -73,7 +74,7 @@ fn three_texts<R: AllocGlobal + Abort>(rt: &R, memory: &Memory) -> Result<(), Fa
     Ok(())
 }
 
-// Of two texts there is a bucket of their three bytes, and of none the usual one.
+// Two texts of three bytes get a bucket of three bytes. Without texts the bucket has the usual 4096.
 fn read_interners<R: AllocGlobal + Abort>(rt: &R, memory: &Memory) -> Result<(), Fail> {
     let value = Value::from_str(rt.alloc(), r#"["a","bc"]"#)?;
     if let Some(rodeo) = was_read(rt, memory, Metered::<Spur>::deserialize(memory, &value)) {
@@ -97,8 +98,8 @@ fn what_was_read(rt: HostRuntime) -> Result<(), Fail> {
     each_refused(&rt, read_interners)
 }
 
-// Where the memory for the value is wanting (`rt try --test --fail-alloc N`), the interner and the key are what they were, and the same
-// call again writes the value.
+// If writing runs out of memory (`rt try --test --fail-alloc N`), the interner is unchanged, and the same
+// call made again writes the value.
 #[test]
 fn what_is_written_changes_nothing(rt: HostRuntime) -> Result<(), Fail> {
     let memory = Refusing::new(rt.alloc(), 0);

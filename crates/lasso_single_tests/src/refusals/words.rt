@@ -1,9 +1,9 @@
-//! Interners that open with words, and lists of texts interned by one call.
+//! Interners made from static words, and lists of texts interned by one call.
 use super::*;
 
 const WORDS: [&str; 3] = ["if", "else", "a word of more bytes than an entry has"];
 
-// The words go in without a copy, and the index has room for them from the beginning.
+// A present word keeps its key, and a new text gets the key after the words.
 fn opened_with_words<R: AllocGlobal + Abort>(rt: &R, memory: &Memory) -> Result<(), Fail> {
     let Some(mut rodeo) = made(rt, memory, Metered::<Spur>::from_static(memory, &WORDS)) else {
         assert!(rt; memory.bytes_out() == 0);
@@ -15,7 +15,7 @@ fn opened_with_words<R: AllocGlobal + Abort>(rt: &R, memory: &Memory) -> Result<
     Ok(())
 }
 
-// "ab" and "cd" fill what the limit of 4 bytes leaves. The keys lie in memory of their own, of which a request may be refused too.
+// "ab" and "cd" use up the limit of 4 bytes. The list of keys allocates too, and that may be refused as well.
 fn listed<R: AllocGlobal + Abort>(rt: &R, memory: &Memory) -> Result<(), Fail> {
     let Some(mut rodeo) = interner::<Spur>(rt, memory, 2, 4) else {
         return Ok(());

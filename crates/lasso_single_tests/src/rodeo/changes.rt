@@ -1,4 +1,4 @@
-//! Static texts, keys past a clear, and other limits.
+//! Keys after a clear, keys that are used up, and changed limits.
 
 use super::*;
 use lasso_parts::keys::MicroSpur;
@@ -20,7 +20,8 @@ fn a_key_outlives_its_text(rt: HostRuntime) -> Result<(), Fail> {
     Ok(())
 }
 
-// The numbers below 255 in decimal take 655 bytes: 10 of one digit, 90 of two and 155 of three.
+// Interns the numbers below 255 in decimal, which use up the keys and all 655 bytes: 10 numbers have one
+// digit, 90 have two and 155 have three.
 fn uses_keys_up<S: BuildHasher + Default + Drop, R: AllocGlobal + Abort>(
     rt: &R,
 ) -> Result<(), Fail> {

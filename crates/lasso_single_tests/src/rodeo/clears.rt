@@ -1,12 +1,12 @@
-//! Clears, and the buckets that are filled again after them.
+//! Clears, and the buckets that are kept and filled again.
 
 use super::*;
 
 #[derive(Clone, Copy)]
 enum Step {
-    // interning the text answers that, and then the buckets take so many bytes
+    // interning the text returns this, and the buckets then take this number of bytes
     Gives(&'static str, Answer, usize),
-    // after a clear the buckets take so many bytes
+    // after a clear the buckets take this number of bytes
     Clears(usize),
 }
 
@@ -108,8 +108,7 @@ fn what_the_limit_leaves_is_had_again(rt: HostRuntime) -> Result<(), Fail> {
     Ok(())
 }
 
-// A first bucket of 4 bytes and a doubled one of 8 have room for the copy: "abc" goes into the first, and
-// "defg" into the other.
+// The copy fits in the target's buckets of 4 and 8 bytes: "abc" goes into one, and "defg" into the other.
 #[test]
 fn copies_fill_the_kept_buckets(rt: HostRuntime) -> Result<(), Fail> {
     let mut source = Rodeo::<Spur, FixedState, Global>::new(rt.alloc())?;

@@ -1,4 +1,4 @@
-//! Clones, copies over another interner, and interners filled from items.
+//! `clone` and `clone_from`, and interners filled from items.
 
 use super::*;
 
@@ -76,8 +76,8 @@ fn an_interner_of_items(rt: HostRuntime) -> Result<(), Fail> {
     Ok(())
 }
 
-// A copy of 100 texts asks for room in the index and in the list, and then for buckets. Where one of these is refused
-// (`rt try --test --fail-alloc N`), no text is left, the next one goes in from key 0, and the same copy again is made.
+// A copy of 100 texts allocates room in the index and in the list, and then buckets. If an allocation fails
+// (`rt try --test --fail-alloc N`), the target is empty, its next text gets key 0, and a new copy succeeds.
 #[test]
 fn a_copy_without_memory_leaves_nothing(rt: HostRuntime) -> Result<(), Fail> {
     let mut source: Rodeo<Spur, FixedState, Global> = Rodeo::new(rt.alloc())?;

@@ -1,7 +1,7 @@
-//! Debug text of interners, of their frozen forms and of walks.
+//! Debug output of interners, of their frozen forms and of their iterators.
 use super::*;
 
-// The texts "red" and "a\"b", in buckets of 8 bytes and 16.
+// The texts "red" and "a\"b", in buckets of 3 and 6 bytes.
 fn two(alloc: Global) -> LassoResult<Rodeo<Spur, FixedState, Global>> {
     let mut rodeo = interner(alloc, 3, 100)?;
     rodeo.extend(["red", "a\"b"])?;
@@ -47,7 +47,7 @@ fn debug_text_of_walks(rt: HostRuntime) -> Result<(), Fail> {
     Ok(())
 }
 
-// The first `count` texts of three digits as debug text, with commas between them.
+// The debug output of the first `count` texts of three digits, with commas between them.
 fn digits_printed(alloc: Global, count: u32) -> Result<String, Fail> {
     let mut printed = String::new(alloc);
     for number in 0..count {
@@ -57,7 +57,7 @@ fn digits_printed(alloc: Global, count: u32) -> Result<String, Fail> {
     Ok(printed)
 }
 
-// The texts of three digits, 900 bytes, lie in the one bucket of 2000 bytes.
+// The 300 texts of three digits take 900 bytes, so one bucket of 2000 bytes holds them.
 #[test]
 fn debug_text_of_many_texts(rt: HostRuntime) -> Result<(), Fail> {
     let alloc = rt.alloc();

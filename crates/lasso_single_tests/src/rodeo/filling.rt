@@ -1,4 +1,4 @@
-//! Interners filled from items, also from those that keys, limit or memory have no room for.
+//! Interners filled from items, also where the keys or the limit refuse one, or where the size hint is huge.
 use super::*;
 use std::iter::repeat_n;
 
@@ -15,7 +15,8 @@ fn items_past_the_keys(rt: HostRuntime) -> Result<(), Fail> {
     Ok(())
 }
 
-// No memory holds the list that the iterator tells of, and none is needed for its first item.
+// The size hint is more than memory can hold. That is no error: the error is that of the first item, which
+// the limit or the key type refuses.
 #[test]
 fn a_hint_past_all_memory(rt: HostRuntime) -> Result<(), Fail> {
     let mut rodeo = interner::<Spur>(rt.alloc(), 4, 4)?;

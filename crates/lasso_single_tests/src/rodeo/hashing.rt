@@ -1,4 +1,4 @@
-//! How often an interner hashes a text.
+//! How many times an interner hashes a text.
 use lasso_parts::keys::Spur;
 use lasso_parts::util::Capacity;
 use lasso_single::rodeo::Rodeo;
@@ -29,7 +29,7 @@ fn each_call_hashes_its_text_once(rt: HostRuntime) -> Result<(), Fail> {
     Ok(())
 }
 
-// A growth of the index would hash the texts that it holds again, and one of the list would change its room.
+// A growing index would hash its texts again, and a growing list would change `capacity()`.
 #[test]
 fn texts_given_room_first_go_in_without_a_growth(rt: HostRuntime) -> Result<(), Fail> {
     let made = Cell::new(0);
@@ -49,7 +49,7 @@ fn texts_given_room_first_go_in_without_a_growth(rt: HostRuntime) -> Result<(), 
     Ok(())
 }
 
-// A growth of the clone's index would hash the texts that it holds again.
+// A growing index in the clone would hash its texts again.
 #[test]
 fn a_clone_has_room_for_its_texts(rt: HostRuntime) -> Result<(), Fail> {
     let made = Cell::new(0);
@@ -68,7 +68,8 @@ fn a_clone_has_room_for_its_texts(rt: HostRuntime) -> Result<(), Fail> {
     Ok(())
 }
 
-// A copy of two texts over another interner: the source's hasher is asked for them, once each, and later too.
+// Copies an interner of two texts over another. The copy hashes each text once, with the source's hasher, and
+// the target uses that hasher from then on.
 fn copies_with<'a, R: AllocGlobal + Abort>(
     rt: &R,
     of_source: &'a Cell<u64>,

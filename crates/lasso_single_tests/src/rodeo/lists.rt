@@ -1,7 +1,7 @@
-//! Lists of texts that are interned by one call.
+//! Lists of texts interned by one call.
 use super::*;
 
-// The positions that the keys stand for are these.
+// Checks that the keys stand for these positions.
 fn stand_for<K: Key>(rt: &impl Abort, keys: &[K], positions: &[usize]) {
     assert!(rt; keys.len() == positions.len());
     for (key, position) in keys.iter().zip(positions) {

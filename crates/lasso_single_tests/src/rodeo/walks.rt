@@ -1,4 +1,4 @@
-//! Walks from both ends.
+//! Iterators: from both ends, with `nth`, and cloned.
 
 use super::*;
 

@@ -1,4 +1,4 @@
-//! Interners that open with words, and lists of texts interned by one call.
+//! Interners made from static words, and the checks of such words.
 use super::*;
 use lasso_single::words::{are_distinct, have_keys};
 
@@ -24,7 +24,7 @@ fn words_have_the_lowest_keys(rt: HostRuntime) -> Result<(), Fail> {
     Ok(())
 }
 
-// A text of 4096 bytes still fits in the first bucket, so the words took none of it.
+// A text of 4096 bytes still fits in the first bucket, so the words take no bytes of it.
 #[test]
 fn words_are_not_copied(rt: HostRuntime) -> Result<(), Fail> {
     let mut rodeo = Rodeo::<Spur, FixedState, Global>::from_static(rt.alloc(), &KEYWORDS)?;

@@ -1,4 +1,4 @@
--- What the bucket holds is known by then, so the texts that are read are known too: `cd` and `yz`.
+-- The bytes of the bucket are known at each read, so the texts that are read are known: `cd` and `yz`.
 use Rattle.std.proofs.Common.{rules, [], ◌∷◌}
 use Rattle.std.proofs.lemmas.Str.{IsUtf8-from_ascii}
 use Rattle.lasso_parts_tests.proofs.bucket.fills_and_is_cleared.Goals as goal

@@ -1,4 +1,4 @@
-//! A value of each kind in each role: alone, as an item, as the number of a text, and as its name.
+//! JSON values of each kind in each role: alone, as an item, as the number of a text, and as its name.
 use super::{fault, read, wrong_with};
 use crate::calls::{Shared, len, usage};
 use lasso_parts::json::JsonError;
@@ -19,7 +19,8 @@ const FIRST: Wrong = Some(JsonError::NotAPosition(0));
 
 const SECOND: Wrong = Some(JsonError::NotAPosition(1));
 
-// A value, and what is wrong with it alone, as the number of the only text, and as that of a text behind one of number 1.
+// A JSON value and its three errors, if any: alone, as the number of the only text, and as the number of a
+// text after one of number 1.
 const KINDS: [(&str, Wrong, Wrong, Wrong); 38] = [
     ("null", NO_OBJECT, FIRST, SECOND),
     ("true", NO_OBJECT, FIRST, SECOND),
@@ -61,7 +62,7 @@ const KINDS: [(&str, Wrong, Wrong, Wrong); 38] = [
     (r#"{"a":{"a":1}}"#, NO_POSITION, FIRST, SECOND),
 ];
 
-// What is wrong with the JSON of a value, or a name, between these.
+// The error of reading JSON text made of three parts, if any.
 fn wrong_between<K: Key>(
     alloc: Global,
     before: &str,
@@ -72,7 +73,7 @@ fn wrong_between<K: Key>(
     wrong_with::<K>(alloc, json.as_str())
 }
 
-// What is wrong with a value of the kind alone, as the number of the only text, and as that of a text behind one of number 1.
+// The three errors of the value, as in `KINDS`.
 fn wrong_in_each_role<K: Key>(alloc: Global, kind: &str) -> Result<(Wrong, Wrong, Wrong), Fail> {
     let alone = wrong_with::<K>(alloc, kind)?;
     let first = wrong_between::<K>(alloc, r#"{"k":"#, kind, "}")?;
@@ -80,7 +81,7 @@ fn wrong_in_each_role<K: Key>(alloc: Global, kind: &str) -> Result<(Wrong, Wrong
     Ok((alone, first, second))
 }
 
-// Each of these key types has keys for two texts.
+// The errors are the same for these key types, as each has keys for two texts.
 #[test]
 fn each_kind_in_each_role(rt: HostRuntime) -> Result<(), Fail> {
     let alloc = rt.alloc();
@@ -102,7 +103,8 @@ fn each_kind_in_each_role(rt: HostRuntime) -> Result<(), Fail> {
     Ok(())
 }
 
-// The object of so many texts of five digits, each with its position plus one, but for the first, which has this number.
+// An object of `count` texts of five digits. The number of the first is `first`, and that of each other is
+// its position plus one.
 fn numbered_after(alloc: Global, first: u64, count: u64) -> Result<Value, Fail> {
     let mut members: Map<String, Value> = Map::new(alloc);
     for n in 0..count {
@@ -113,13 +115,14 @@ fn numbered_after(alloc: Global, first: u64, count: u64) -> Result<Value, Fail> 
     Ok(Value::Object(members))
 }
 
-// What is wrong with that object.
+// The error of reading that object, if any.
 fn wrong_after<K: Key>(alloc: Global, first: u64, count: u64) -> Result<Wrong, Fail> {
     let value = numbered_after(alloc, first, count)?;
     Ok(fault::<K>(alloc, &value))
 }
 
-// A number is looked at in this order: whether it is above the count, whether its position has a key, whether it is taken.
+// Three things are checked of a number, in this order: that it is not above the count, that its position has
+// a key, and that no other text has it.
 #[test]
 fn greatest_numbers_of_8_bits(rt: HostRuntime) -> Result<(), Fail> {
     let rows = [
@@ -159,7 +162,7 @@ fn greatest_numbers_of_8_bits(rt: HostRuntime) -> Result<(), Fail> {
     Ok(())
 }
 
-// Gives the text this number in the object, and adds it first where it is absent.
+// Sets the number of the text in the object, and adds the text if it is absent.
 fn put(alloc: Global, value: &mut Value, text: &str, number: u64) -> Result<(), Fail> {
     if let Value::Object(members) = value {
         let name = format!(in alloc; "{text}")?;
@@ -168,7 +171,7 @@ fn put(alloc: Global, value: &mut Value, text: &str, number: u64) -> Result<(), 
     Ok(())
 }
 
-// Keys of 16 bits end after 65535 texts. One object of so many texts serves all rows, since it takes longer to make than to read.
+// Keys of 16 bits end after 65535 texts. All checks share one object, which is slow to make.
 #[test]
 fn greatest_numbers_of_16_bits(rt: HostRuntime) -> Result<(), Fail> {
     let alloc = rt.alloc();
@@ -188,7 +191,7 @@ fn greatest_numbers_of_16_bits(rt: HostRuntime) -> Result<(), Fail> {
     Ok(())
 }
 
-// What is wrong with an array whose item at this position is of this kind: nothing, where it is a text.
+// The error of an array whose item at this position is of this kind. There is none if the item is a text.
 fn wrong_item(kind: &str, at: usize) -> Wrong {
     if kind.starts_with('"') {
         return None;
@@ -196,7 +199,7 @@ fn wrong_item(kind: &str, at: usize) -> Wrong {
     Some(JsonError::NotText(at))
 }
 
-// What is wrong with an array of which one item more is at fault: the first of the two faults.
+// The error of an array whose first item is of this kind: that of the item, or `later` if the item is a text.
 fn first_wrong(kind: &str, later: JsonError) -> Wrong {
     if kind.starts_with('"') {
         return Some(later);
@@ -238,7 +241,7 @@ fn each_kind_of_item_before_a_fault(rt: HostRuntime) -> Result<(), Fail> {
     Ok(())
 }
 
-// Each name is one text, with a number of a kind that is right and of one that is not.
+// Each name is read as a text with number 1, and refused with a string instead of a number.
 #[test]
 fn each_kind_of_name(rt: HostRuntime) -> Result<(), Fail> {
     let alloc = rt.alloc();
@@ -264,7 +267,7 @@ fn long_text(alloc: Global) -> Result<Value, Fail> {
     Ok(Value::String("a".repeat(alloc, 1_000_000)?))
 }
 
-// The array of such a text, so many times.
+// An array of `count` texts of a million bytes.
 fn long_texts(alloc: Global, count: u32) -> Result<Value, Fail> {
     let mut items: Vec<Value> = Vec::new(alloc);
     for _ in 0..count {
@@ -273,7 +276,7 @@ fn long_texts(alloc: Global, count: u32) -> Result<Value, Fail> {
     Ok(Value::Array(items))
 }
 
-// The array of two values.
+// An array of two values.
 fn array_of(alloc: Global, first: Value, second: Value) -> Result<Value, Fail> {
     let mut items: Vec<Value> = Vec::new(alloc);
     items.push(first)?;
@@ -281,7 +284,7 @@ fn array_of(alloc: Global, first: Value, second: Value) -> Result<Value, Fail> {
     Ok(Value::Array(items))
 }
 
-// The object of one member.
+// An object of one member.
 fn object_of(alloc: Global, name: String, value: Value) -> Result<Value, Fail> {
     let mut members: Map<String, Value> = Map::new(alloc);
     members.insert(name, value)?;
@@ -295,7 +298,7 @@ fn a_text_of_a_million_bytes(rt: HostRuntime) -> Result<(), Fail> {
     assert!(rt; fault::<Spur>(alloc, &alone) == NO_OBJECT);
     let member = object_of(alloc, String::from_str(alloc, "k")?, alone)?;
     assert!(rt; fault::<Spur>(alloc, &member) == NO_POSITION);
-    // the same in an array that is the number of a text, or an item
+    // the same text inside an array, which is the number of a text, or an item
     let array = long_texts(alloc, 1)?;
     let member = object_of(alloc, String::from_str(alloc, "k")?, array)?;
     assert!(rt; fault::<Spur>(alloc, &member) == NO_POSITION);
@@ -306,7 +309,7 @@ fn a_text_of_a_million_bytes(rt: HostRuntime) -> Result<(), Fail> {
     Ok(())
 }
 
-// One such text is read into a bucket of its bytes, and two of them are equal.
+// One text of a million bytes is read into a bucket of its size. Two such texts are equal, which is an error.
 #[test]
 fn items_of_a_million_bytes(rt: HostRuntime) -> Result<(), Fail> {
     let one = long_texts(rt.alloc(), 1)?;

@@ -1,4 +1,4 @@
--- Where the walk ends it has given the whole list, each text behind its number.
+-- At its end the loop has had each text of the list, with its number.
 use Rattle.std.proofs.Common.{◌≡◌, ◌≤◌, ◌+◌, ℕ, List, [], ◌∷◌, length, map, refl, ap, subst}
 use Rattle.std.specs.Prelude.{All}
 use Rattle.std.specs.List.{enumerate_from}
@@ -11,7 +11,7 @@ texts_of_items : (n : ℕ) (texts : List Text) → map (λ (x : ℕ × Text). x.
 texts_of_items n [] = refl
 texts_of_items n (t ∷ ts) = ap (λ (l : List Text). t ∷ l) (texts_of_items (n + 1) ts)
 
--- what holds of each item's text holds of each text
+-- what holds of the text of each item holds of each text of the list
 of_texts : {K : Type 0} (item : K → ℕ × Text) (P : Text → Type 0) (items : List K) (texts : List Text) → map item items ≡ enumerate_from 0 texts → All (λ (x : K). P (item x).1) items → All P texts
 of_texts item P items texts e all =
     subst (All P) (texts_of_items 0 texts) (All-map P (λ (x : ℕ × Text). x.1) (enumerate_from 0 texts) (subst (All (λ (x : ℕ × Text). P x.1)) e (All-map (λ (x : ℕ × Text). P x.1) item items all)))

@@ -1,4 +1,5 @@
--- The text has its key where the first call ends, and the other pass has seen that since the two met. So the second call answers it.
+-- The text has its key when the first call returns. The other pass has seen that since the two met, so the
+-- second call returns the same key.
 use Rattle.std.proofs.Common.{◌≡◌, ◌∙◌, ap, Ok}
 use Rattle.std.specs.Result.{result_ok}
 use Rattle.lasso_log.specs.Replies.{Static}

@@ -1,4 +1,4 @@
--- The answered key resolves to its text for the other pass, which has seen the answer since the two met.
+-- The returned key resolves to its text for the other pass, which has seen the first call since the two met.
 use Rattle.lasso_shared.proofs.CallerLaws.{history_past}
 use Rattle.lasso_shared_tests.proofs.threaded.callers.resolved_by_another.Goals as goal
 

@@ -1,4 +1,5 @@
--- It refuses the one request, and answers each other as the inner allocator does: what that gives is noted. Assumes `Logic`.
+-- It refuses the one request. For each other it returns what the inner allocator does, and counts the bytes.
+-- Assumes `Logic`.
 use Rattle.std.proofs.Common.{◌≡◌, ℕ, ◌+◌, ◌^◌, ◌<◌, true, false, List, [], ◌∷◌, Ok, Err, refl, w64, Bor}
 use seplogic.Ra.Ura.{Ura}
 use mir.Syntax.{Ty, Args, Fn, Body, a_type, dnil, dcons}
