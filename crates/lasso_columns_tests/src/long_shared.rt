@@ -23,7 +23,7 @@ const LIMIT: usize = 1_234_567;
 // Below the bytes of each column's texts.
 const LOW_LIMIT: usize = 40_000;
 
-// How many texts the interner has before a column comes.
+// How many texts the interner has before a column is encoded.
 const OPENING: usize = 500;
 
 // Every fortieth number below 20,000.
@@ -44,8 +44,7 @@ fn with_bytes(alloc: Global, bytes: usize) -> LassoResult<SpurThreadedRodeo>
     ThreadedRodeo::with_capacity_and_memory_limits(alloc, capacity, limits)
 }
 
-// The interner has the texts of the opening first, and as many texts as there are different ones; limit and
-// usage are these.
+// The interner has the texts of the opening first, and `count` texts in all; limit and usage are these.
 fn holds<R: Wait + Abort>(
     rt: &R,
     rodeo: &SpurThreadedRodeo,
@@ -72,8 +71,8 @@ fn codes_after(alloc: Global, numbers: &[u32]) -> Result<Vec<u32>, Fail> {
     Ok(added.to_vec(alloc)?)
 }
 
-// A column and the opening before it, as texts, with what an interner of both has to have: how many texts, and
-// the bytes of all buckets, of which the first has just the opening's.
+// A column and the opening before it, as texts. An interner of both has `count` texts, and `usage` bytes in its
+// buckets, where the first bucket has room for the opening alone.
 #[derive(Drop)]
 struct Column {
     opening: Vec<String>,

@@ -23,7 +23,7 @@ InternsCode old text reply new =
 abbrev pub encoded_texts : List ℕ → List ℕ → List Text → List Text
 encoded_texts before after texts = take (length after - length before) texts
 
--- the limit or the keys refuse the text, or memory was wanting: for the text, or for its code
+-- the limit or the keys refuse the text, or it is out of memory: for the text, or for its code
 abbrev pub IsRefused : InternerView → Text → LassoError → Type 0
 IsRefused now text error =
     let held : Held = record { texts = now.texts; account = now.account } in

@@ -30,7 +30,7 @@ pub(crate) fn read_all<R: Wait, I: ByteReader>(
         hold(input, buffer, 0)?;
         let count = buffer.len();
         reader.consume(count);
-        refill(reader)?;
+        fill_again(reader)?;
         if reader.buffer().is_empty() {
             return Ok(());
         }
@@ -39,7 +39,7 @@ pub(crate) fn read_all<R: Wait, I: ByteReader>(
 }
 
 // Fills the reader's buffer if it is empty. It stays empty only at the end of the input.
-fn refill<I: ByteReader>(reader: &mut I) -> Result<(), RunFault>
+fn fill_again<I: ByteReader>(reader: &mut I) -> Result<(), RunFault>
     ensures reads { I.failures reader.new ≡ I.failures reader.old + failed_reads result }
     ensures left { Stays (I.left reader.old) (I.left reader.new) }
     ensures end { OnOk result (I.at_hand reader.new ≡ [] → Ended (I.left reader.old) (I.left reader.new)) }

@@ -38,7 +38,7 @@ impl<X: Fits> Model for TaggedMutex<X> {
     ghost view = { λ l. l.slot };
 }
 
-/// A holder's guard, next to the value that it took. It ends by `give` and by nothing else. A contract sees
+/// A holder's guard, next to the value that it took. Only `unlock` ends it. A contract sees
 /// the lock's tag.
 pub struct TaggedMutexGuard<'a, X: Fits> {
     claim: Claim<'a, Option<X>>,
@@ -141,7 +141,7 @@ impl<X: Fits + Drop> Model for TaggedRwLock<X> {
     ghost view = { λ l. l.slot };
 }
 
-/// A reader's hold of a value. It ends by `leave`.
+/// A reader's hold of a value. Only `unlock` ends it.
 pub struct TaggedRwLockReadGuard<'a, X: Fits + Drop> {
     claim: Claim<'a, Option<X>>,
     ghost right: { claim.right ≡ shared },
@@ -158,7 +158,7 @@ impl<'a, X: Fits + Drop> Model for TaggedRwLockReadGuard<'a, X> {
     ghost view = { λ r. record { tag = r.claim.tag; value = value_of r.claim.value } };
 }
 
-/// A writer's guard, next to the value that it took. It ends by `give` and by nothing else. A contract sees
+/// A writer's guard, next to the value that it took. Only `unlock` ends it. A contract sees
 /// the lock's tag.
 pub struct TaggedRwLockWriteGuard<'a, X: Fits + Drop> {
     claim: Claim<'a, Option<X>>,

@@ -71,7 +71,7 @@ KeysAreEqualWhereTextsAre {K} key_at =
 pub record PassesShareKeys {K : Type 0} (key_at : ℕ → Option K) (one other : PassView) : Type 0 where
   -- a pass that has seen what the other has, as it has after `meet`, has the other's keys
   pub met : (text : Text) (k : K) → IsPrefix other.notes one.notes → HasKey key_at other.of.opening (seen other) text k → HasKey key_at one.of.opening (seen one) text k
-  -- what `compare` tells of their notes holds of their histories
+  -- what `prove_comparable` says of their notes holds of their histories
   pub compared : IsPrefix one.notes other.notes ⊎ IsPrefix other.notes one.notes → IsOneHistory (seen one) (seen other)
 
 abbrev pub PassesShare : {K : Type 0} → (ℕ → Option K) → Type 0

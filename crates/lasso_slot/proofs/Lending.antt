@@ -81,7 +81,7 @@ module _ {M : Type 1} {𝓤 : Ura M} (𝓛 : Logic 𝓤) where
     pub stored_fits : (x : R.Denot) → fits x → ⟦ Stored x ⟧ ⊢ ⟦ C ⟧
     stored_fits x fit = qed 𝓛 (‵ (Stored x) ∷ []) ∵ nothing ! $ fpack ! (fits x) (λ _. ftrue) fit $ fjoin ! $ fpack ! R.Denot (λ y. fsep (holds (fits y)) (Stored y)) x $ done !
 
-    -- a borrow of the content is one of the value that is there
+    -- a borrow of the content is one of the value in it
     abbrev One : Lft → Fml
     One κ = fex R.Denot (λ x. fex (fits x) (λ _. fbor κ (Stored x)))
 

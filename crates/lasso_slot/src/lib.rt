@@ -63,7 +63,7 @@ impl<X: Fits> Move for Slot<X> {
     ghost own_val = { λ tag vs. owned_slot X.row (X.fits tag) (λ w x. Fields.own_val (record { state = w; content = x }) vs) };
 }
 
-/// What a thread may do with a slot: `right` is `whole`, `shared`, or 0 for nothing. A claim can't be dropped: it ends by `give_back`.
+/// What a thread may do with a slot: `right` is `whole`, `shared`, or 0 for nothing. A claim can't be dropped: only `unlock` and `unlock_read` end it.
 pub struct Claim<'a, X: Fits> {
     place: *const Slot<X>,
     borrow: PhantomData<&'a X>,

@@ -1,4 +1,4 @@
-//! No two passes of one interner have one number. It is for callers alone: nothing in the library calls `differs`.
+//! No two passes of one interner have one number. It is for callers alone: nothing in the library calls `prove_differs`.
 ghost use Rattle.std.specs.Prelude.{◌≡◌, ◌≢◌};
 ghost use Rattle.logbook.specs.Pages.{may_write};
 ghost use Rattle.lasso_log.specs.Views.{PassView};
