@@ -2,7 +2,7 @@
 --
 -- The lines of the bytes are those that were cut off and those of the rest. Each that was cut off was found to be text and was encoded, so
 -- their number is that of the codes. Where nothing is left these are all lines; else the next one is that at which it ended.
-use Rattle.std.proofs.Common.{ℕ, ◌≡◌, ◌+◌, ◌-◌, List, [], ◌∷◌, ◌++◌, length, Ok, Some, IsSomeAnd, refl, sym, ap, subst, ◌∙◌, arith, append_assoc}
+use Rattle.std.proofs.Common.{ℕ, ◌≡◌, ◌+◌, ◌-◌, List, [], ◌∷◌, ◌++◌, length, Ok, Some, IsSomeAnd, sym, ap, subst, ◌∙◌, arith, append_assoc}
 use Rattle.std.specs.Prelude.{All, slice_get}
 use Rattle.std.specs.Str.{IsUtf8}
 use Rattle.std.proofs.lemmas.List.{length_push}
@@ -10,7 +10,7 @@ use Rattle.std.proofs.lemmas.List.Elements.{All-push}
 use Rattle.lasso_parts.specs.Texts.{Text, position_of}
 use Rattle.lasso_single.specs.Intern.{InternsIn}
 use Rattle.lasso_single.specs.Interner.{InternerView}
-use Rattle.lasso_encode.proofs.Encoded.{Encoded, encoded_none, encoded_push, encoded_still, encoded_are, encoded_length, next_at}
+use Rattle.lasso_encode.proofs.Encoded.{Encoded, encoded_push, encoded_still, encoded_are, encoded_length, next_at}
 use Rattle.lasso_encode.specs.Encoding.{spur_at, encoded_texts}
 use Rattle.lasso_columns.specs.Faults.{IsFaultOf, IsNextFault}
 use Rattle.lasso_cut.specs.Lines.{lines_of}
@@ -23,15 +23,6 @@ pub record LinesSoFar (old : InternerView) (bytes : List ℕ) (before : List ℕ
   pub so_far : Encoded old done before new after
   pub texts : All IsUtf8 done
   pub counted : length done ≡ count
-
-pub lines_none : (old : InternerView) (bytes before : List ℕ) → LinesSoFar old bytes before 0 bytes old before
-lines_none old bytes before = record {
-  done = [];
-  split = refl;
-  so_far = encoded_none old before;
-  texts = λ k d small. absurd (omega (arith, small));
-  counted = refl;
-}
 
 -- one line more
 pub lines_push : (old mid new : InternerView) (bytes before : List ℕ) (count : ℕ) (rest : List ℕ) (codes : List ℕ) (line behind : List ℕ) (key code : ℕ) (after : List ℕ) → LinesSoFar old bytes before count rest mid codes → lines_of rest ≡ line ∷ lines_of behind → IsUtf8 line → InternsIn spur_at mid line (Ok key) new → position_of new.texts line ≡ Some code → after ≡ codes ++ code ∷ [] → LinesSoFar old bytes before (count + 1) behind new after
