@@ -3,7 +3,7 @@
 -- The lines of the bytes are those that were cut off, followed by those of the rest. Each line that was
 -- cut off is UTF-8 and was encoded, so there is one new code for each. If nothing is left, these are all
 -- lines. Otherwise encoding ended at the next line.
-use Rattle.std.proofs.Common.{ℕ, ◌≡◌, ◌+◌, ◌-◌, List, [], ◌∷◌, ◌++◌, length, Ok, Some, IsSomeAnd, refl, sym, ap, subst, ◌∙◌, arith, append_assoc}
+use Rattle.std.proofs.Common.{ℕ, ◌≡◌, ◌+◌, ◌-◌, List, [], ◌∷◌, ◌++◌, length, Ok, Some, IsSomeAnd, sym, ap, subst, ◌∙◌, arith, append_assoc}
 use Rattle.std.specs.Prelude.{All, slice_get}
 use Rattle.std.specs.Str.{IsUtf8}
 use Rattle.std.proofs.lemmas.List.{length_push}
@@ -11,7 +11,7 @@ use Rattle.std.proofs.lemmas.List.Elements.{All-push}
 use Rattle.lasso_parts.specs.Texts.{Text, position_of}
 use Rattle.lasso_single.specs.Intern.{InternsIn}
 use Rattle.lasso_single.specs.Interner.{InternerView}
-use Rattle.lasso_encode.proofs.Encoded.{Encoded, encoded_none, encoded_push, encoded_still, encoded_are, encoded_length, next_at}
+use Rattle.lasso_encode.proofs.Encoded.{Encoded, encoded_push, encoded_still, encoded_are, encoded_length, next_at}
 use Rattle.lasso_encode.specs.Encoding.{spur_at, encoded_texts}
 use Rattle.lasso_columns.specs.Faults.{IsFaultOf, IsNextFault}
 use Rattle.lasso_cut.specs.Lines.{lines_of}
@@ -24,15 +24,6 @@ pub record LinesSoFar (old : InternerView) (bytes : List ℕ) (before : List ℕ
   pub so_far : Encoded old done before new after
   pub texts : All IsUtf8 done
   pub counted : length done ≡ count
-
-pub lines_none : (old : InternerView) (bytes before : List ℕ) → LinesSoFar old bytes before 0 bytes old before
-lines_none old bytes before = record {
-  done = [];
-  split = refl;
-  so_far = encoded_none old before;
-  texts = λ k d small. absurd (omega (arith, small));
-  counted = refl;
-}
 
 -- one more line
 pub lines_push : (old mid new : InternerView) (bytes before : List ℕ) (count : ℕ) (rest : List ℕ) (codes : List ℕ) (line behind : List ℕ) (key code : ℕ) (after : List ℕ) → LinesSoFar old bytes before count rest mid codes → lines_of rest ≡ line ∷ lines_of behind → IsUtf8 line → InternsIn spur_at mid line (Ok key) new → position_of new.texts line ≡ Some code → after ≡ codes ++ code ∷ [] → LinesSoFar old bytes before (count + 1) behind new after

@@ -66,13 +66,6 @@ pub record Written (rest : List Text) (at : ℕ) (bytes offsets : List ℕ) : Ty
   pub offsets_are : offsets ≡ offsets_from 0 (take at rest)
   pub are_utf8 : All IsUtf8 (take at rest)
 
-pub none_written : (rest : List Text) (bytes offsets : List ℕ) → bytes ≡ [] → offsets ≡ 0 ∷ [] → Written rest 0 bytes offsets
-none_written rest bytes offsets none zero = record {
-  bytes_are = none;
-  offsets_are = zero;
-  are_utf8 = λ k d small. absurd (omega (arith, small));
-}
-
 pub one_written : (rest : List Text) (at : ℕ) (text : Text) (bytes offsets bytes' offsets' : List ℕ) (end : ℕ) → slice_get rest at ≡ Some text → IsUtf8 text → Written rest at bytes offsets → bytes' ≡ bytes ++ text → end ≡ length bytes' → offsets' ≡ offsets ++ end ∷ [] → Written rest (at + 1) bytes' offsets'
 one_written rest at text bytes offsets bytes' offsets' end is utf8 w puts ends put =
     let more : take (at + 1) rest ≡ take at rest ++ text ∷ [] = take_more_at rest at text is in
@@ -89,12 +82,6 @@ one_written rest at text bytes offsets bytes' offsets' end is utf8 w puts ends p
 module _ (rest : List Text) (at : ℕ) (bytes offsets : List ℕ) (past : length rest ≤ at) (w : Written rest at bytes offsets) where
   all_taken : take at rest ≡ rest
   all_taken = take_all at rest past
-
-  pub all_bytes : bytes ≡ concat rest
-  all_bytes = w.bytes_are ∙ ap concat all_taken
-
-  pub all_offsets : offsets ≡ offsets_from 0 rest
-  all_offsets = w.offsets_are ∙ ap (λ (ts : List Text). offsets_from 0 ts) all_taken
 
   pub all_utf8 : All IsUtf8 rest
   all_utf8 = subst (λ (ts : List Text). All IsUtf8 ts) all_taken w.are_utf8

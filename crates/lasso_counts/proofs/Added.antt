@@ -149,9 +149,6 @@ put_padded old now list counts reserved after n lengths grown same many is =
 
 -- ---- the counts of a list that are added
 
-pub amounts_none : (list : List Text) (counts : List ℕ) → AddsAmounts list [] [] counts counts
-amounts_none list counts = record { each = λ s. sym (add-zero (count_at counts (position_of list s))); long = refl; total = sym (add-zero (sum counts)) }
-
 pub amounts_push : (list from : List Text) (amounts old now new : List ℕ) (text : Text) (amount place : ℕ) → length old ≡ length list → length amounts ≡ length from → AddsAmounts list from amounts old now → position_of list text ≡ Some place → position_of from text ≡ None → new ≡ set now place (get_or now place 0 + amount) → AddsAmounts list (from ++ text ∷ []) (amounts ++ amount ∷ []) old new
 amounts_push list from amounts old now new text amount place lengths each so_far here absent is =
     let lengths' : length now ≡ length list = so_far.long ∙ lengths in record {

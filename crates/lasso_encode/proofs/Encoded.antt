@@ -4,11 +4,11 @@
 -- theirs, so their codes stay, and one more code goes after them. As many codes were added as texts were
 -- encoded: so their number says which these are.
 use denote.Ref.{Bor}
-use Rattle.std.proofs.Common.{ℕ, suc, map, drop, get_or, ◌≡◌, ◌+◌, ◌-◌, ◌<◌, List, [], ◌∷◌, ◌++◌, length, take, Option, None, Some, Ok, IsSomeAnd, is_some, refl, sym, ap, subst, ◌∙◌, arith, lit≤, length-append}
+use Rattle.std.proofs.Common.{ℕ, suc, map, drop, get_or, ◌≡◌, ◌+◌, ◌-◌, ◌<◌, List, [], ◌∷◌, ◌++◌, length, take, Option, None, Some, Ok, IsSomeAnd, is_some, refl, sym, ap, subst, ◌∙◌, arith, lit≤}
 use Rattle.std.specs.Prelude.{Contains, option_and_then, slice_get}
 use Rattle.std.proofs.lemmas.Option.{cond_some}
 use Rattle.std.proofs.Math.Seq.{drop-cons, take-append_seam}
-use Rattle.std.proofs.lemmas.List.{append-nil, take_more, take-append-drop, get_or-map, length-map}
+use Rattle.std.proofs.lemmas.List.{take_more, take-append-drop, get_or-map, length-map}
 use Rattle.std.proofs.lemmas.List.Elements.{Contains-get_or}
 use Rattle.lasso_parts.specs.Kept.{IsKeptNumber, kept_made}
 use Rattle.lasso_parts.specs.Texts.{Text, position_of}
@@ -43,9 +43,6 @@ pub record Encoded (old : InternerView) (texts : List Text) (before : List ℕ) 
   pub list : extend spur_at old texts accepted new
   pub codes : AddsCodes new.texts texts before after
 
-pub encoded_none : (old : InternerView) (before : List ℕ) → Encoded old [] before old before
-encoded_none old before = record { list = (refl, refl); codes = ([], sym (append-nil before), refl) }
-
 -- one text more
 pub encoded_push : (old mid new : InternerView) (texts : List Text) (text : Text) (key code : ℕ) (before codes after : List ℕ) → Encoded old texts before mid codes → InternsIn spur_at mid text (Ok key) new → position_of new.texts text ≡ Some code → after ≡ codes ++ code ∷ [] → Encoded old (texts ++ text ∷ []) before new after
 encoded_push old mid new texts text key code before codes after so_far interns here is = record {
@@ -72,9 +69,6 @@ module _ (all done rest : List Text) (split : all ≡ done ++ rest) (old new : I
 
   pub told_codes : AddsCodes new.texts (encoded_texts before after all) before after
   told_codes = subst (λ (ts : List Text). AddsCodes new.texts ts before after) (sym encoded_are) so_far.codes
-
-  pub told_whole : rest ≡ [] → length after ≡ length before + length all
-  told_whole none = omega (arith, encoded_length old new done before after so_far, ap length split, length-append done rest, ap length none)
 
 at_seam : (done : List Text) (text : Text) (rest : List Text) → slice_get (done ++ text ∷ rest) (length done) ≡ Some text
 at_seam [] text rest = refl

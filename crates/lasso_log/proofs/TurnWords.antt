@@ -193,10 +193,6 @@ module _ {Key : Type 0} (keys : ℕ → Option Key) where
         all = ap (λ (x : ℕ). x + 1) cs ∙ (sym more ∙ sym (ap (λ (x : Totals). length x.buckets) st));
       }
 
-  -- bytes are above the limit at the turn of these numbers
-  pub past_limit : (o : Totals) (v log : List NoteView) (n turns doubling usage limit count : ℕ) → IsTurned keys o v turns doubling usage limit count → IsPrefix v log → IsWordWith log 1 1 turns → limit < usage + n → (state o log).limit < (state o log).usage + n
-  past_limit o v log n turns doubling usage limit count t begins word above = let c = same_turn o v log turns begins t.word word in omega (arith, above, t.used, t.most, c.usage, c.limit)
-
   -- bytes that are above the limit of the turns are past it at a log between the turns and one that has their turn word, if none had room before
   pub is_past_limit : (o : Totals) (v before mid after : List NoteView) (n len turns doubling usage limit count : ℕ) → IsTurned keys o v turns doubling usage limit count → IsPrefix v mid → IsPrefix before mid → IsPrefix mid after → IsWordWith after 1 1 turns
       → NoneHasRoom (state o before) count n → limit < usage + n → length (state o mid).texts ≡ len → IsPastLimit o before after len n

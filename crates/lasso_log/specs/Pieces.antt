@@ -1,7 +1,6 @@
 -- What contracts see of a range and of a piece.
 use Rattle.std.specs.Prelude.{◌≡◌, ℕ, ◌^◌, ◌<◌, List, length, IsUtf8}
 use denote.RawPtr.{Ptr, block_ptr}
-use base.Stored.{Coded, coded×, coded_ℕ, coded_list, coded_via}
 use Rattle.lasso_parts.specs.Cells.{LeadsToBlock}
 use Rattle.lasso_log.specs.declared.shared_arena.rights.Free.{Free}
 use Rattle.lasso_log.specs.declared.shared_arena.rights.Lent.{Lent}
@@ -17,9 +16,6 @@ pub record RangeView : Type 0 where
 pub record PieceView : Type 0 where
   pub until : List ℕ
   pub text : List ℕ
-
-abbrev pub piece_coded : Coded PieceView
-piece_coded = coded_via (coded× (coded_list coded_ℕ) (coded_list coded_ℕ)) (λ (p : PieceView). (p.until, p.text)) (λ x y e i. record { until = (e i).0; text = (e i).1 })
 
 -- these are the two words of a range
 pub record IsRange (r : Free) (ptr : Ptr) (len : ℕ) : Type 0 where

@@ -5,24 +5,19 @@
 -- which the walk has passed.
 use Rattle.std.proofs.Common.{◌≡◌, ℕ, zero, suc, ◌+◌, ◌*◌, ◌<◌, ◌≤◌, inl, inr, List, [], ◌∷◌, ◌++◌, length, get_or, set, take, drop, map, sym, ap, subst, refl, ◌∙◌, arith, append_assoc}
 use Rattle.std.proofs.lemmas.Bool.{cases_eq}
-use Rattle.std.proofs.lemmas.List.{take-set, take-set-le, take_more_set, drop-set-lt, drop_more, map-set, length-set, length-map, append-nil}
+use Rattle.std.proofs.lemmas.List.{take-set, take-set-le, take_more_set, drop-set-lt, drop_more, map-set, length-set, length-map}
 use Rattle.std.proofs.lemmas.List.Edits.{swap_is}
 use Rattle.std.specs.List.{swap}
 use Rattle.lasso_parts.specs.Bucket.{Extent, Block, block_of}
 use Rattle.std.proofs.lemmas.List.Sums.{sum_by-cons}
 use Rattle.lasso_parts.specs.Arena.{no_region, region_at, usage_of}
-use Rattle.lasso_parts.specs.Doubled.{doubled_from, kept_of}
+use Rattle.lasso_parts.specs.Doubled.{doubled_from}
 use Rattle.lasso_parts.proofs.Doubled.{from_hit, from_miss}
 
 -- what is gathered of a list ys, where `kept` regions are in front, the last of this size, and the walk has
 -- come to `at`
 abbrev pub gathered : List Extent → ℕ → ℕ → ℕ → List Extent
 gathered ys kept last at = take kept ys ++ doubled_from (2 * last) (drop at ys)
-
--- before the walk
-pub gathered_none : (xs : List Extent) → 0 < length xs → gathered xs 1 (region_at xs 0).capacity 1 ≡ kept_of xs
-gathered_none [] some = absurd (omega (arith, some))
-gathered_none (x ∷ xs) some = refl
 
 -- a region that is not kept
 pub gathered_pass : (ys : List Extent) (kept last at : ℕ) → at < length ys → ((region_at ys at).capacity ≡ 2 * last → ⊥) → gathered ys kept last (at + 1) ≡ gathered ys kept last at
@@ -70,14 +65,6 @@ pub usage_fits : (ys : List Extent) (at : ℕ) (r : Extent) → at < length ys �
 usage_fits [] at r inside is = absurd (omega (arith, inside))
 usage_fits (y ∷ ys) zero r inside is = omega (arith, ap (λ (x : Extent). x.capacity) is, sum_by-cons (λ (x : Extent). x.capacity) y ys)
 usage_fits (y ∷ ys) (suc at) r inside is = omega (arith, sum_by-cons (λ (x : Extent). x.capacity) y ys, sum_by-cons (λ (x : Extent). x.capacity) y (take at ys), usage_fits ys at r (omega (arith, inside)) is)
-
--- after the walk
-pub gathered_all : (ys : List Extent) (kept last : ℕ) → gathered ys kept last (length ys) ≡ take kept ys
-gathered_all ys kept last = ap (λ (l : List Extent). take kept ys ++ doubled_from (2 * last) l) (drop_length ys) ∙ append-nil (take kept ys)
-  where
-    drop_length : (l : List Extent) → drop (length l) l ≡ []
-    drop_length [] = refl
-    drop_length (r ∷ rs) = drop_length rs
 
 -- the rights are exchanged likewise
 pub swap_blocks : (ys : List Extent) (i j : ℕ) → i < length ys → j < length ys → map block_of (swap ys i j) ≡ swap (map block_of ys) i j

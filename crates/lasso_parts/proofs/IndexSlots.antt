@@ -2,19 +2,15 @@
 --
 -- A key that goes into an empty slot changes that slot and its tag alone: a range that was full stays full, so
 -- each search that got to a slot still gets there, and the new key is got to where the search for its hash ended.
--- So the table holds one position more, has one slot more in use, and stays filed. A search may pass over a
--- slot whose tag differs from that of its hash: had the slot the text, the tag would be that of the text's hash.
-use Rattle.std.proofs.Common.{◌≡◌, ◌≢◌, ℕ, zero, suc, false, ◌+◌, ◌^◌, ◌<◌, ◌≤◌, ◌⊎◌, ◌↔◌, List, [], ◌∷◌, Option, Some, None, length, slice_get, set, replicate, refl, sym, ap, ◌∙◌, subst, inl, inr, arith}
+-- So the table holds one position more, has one slot more in use, and stays filed.
+use Rattle.std.proofs.Common.{◌≡◌, ◌≢◌, ℕ, zero, suc, ◌+◌, ◌^◌, ◌<◌, ◌≤◌, ◌⊎◌, ◌↔◌, List, [], ◌∷◌, Option, Some, None, length, slice_get, set, replicate, refl, sym, ap, ◌∙◌, subst, inl, inr, arith}
 use Rattle.std.specs.Option.{option_map}
 use Rattle.std.proofs.lemmas.Bool.{cases_lt, cases_eq}
 use Rattle.std.proofs.lemmas.List.{length-set, get_or-set_same, get_or-set_other, get_or_past}
 use Rattle.std.proofs.lemmas.Option.{slice_get_within, same_Some, none-some}
-use Rattle.std.specs.Str.{bytes_eq}
-use Rattle.std.proofs.lemmas.Bool.{true≢false}
-use Rattle.std.proofs.lemmas.Slice.Eq.{bytes_eq-Decides}
 use Rattle.lasso_parts.specs.Texts.{Text}
 use Rattle.lasso_parts.specs.Index.{Table, slot, used, home, tag_at, tag_of, Holds, IsFull, Reaches, Retags, IsFiled, StaysFiled, load_limit, room}
-use Rattle.lasso_parts.specs.IndexTable.{Misses, HaveTag, IsEntered, IsSlotCount, IsTable}
+use Rattle.lasso_parts.specs.IndexTable.{IsEntered, IsSlotCount, IsTable}
 
 -- ---- slots
 
@@ -58,20 +54,6 @@ IsFull-more xs a b full here j l h = elim (cases_lt j b) [
   | inl before ↦ full j l before
   | inr after ↦ let e : j ≡ b = omega arith in λ n. here (ap (slot xs) (sym e) ∙ n)
 ]
-
--- one more slot lacks the text
-pub Misses-more : (texts : List Text) (text : Text) (xs : List (Option ℕ)) (a b : ℕ) → Misses texts text xs a b → ((n : ℕ) → slot xs b ≡ Some n → slice_get texts n ≢ Some text) → Misses texts text xs a (b + 1)
-Misses-more texts text xs a b miss here j n l h = elim (cases_lt j b) [
-  | inl before ↦ miss j n l before
-  | inr after ↦ let e : j ≡ b = omega arith in λ s. here n (ap (slot xs) (sym e) ∙ s)
-]
-
--- a slot whose position has another text lacks the text
-pub misses_here : (texts : List Text) (text other : Text) (xs : List (Option ℕ)) (j p : ℕ) → slot xs j ≡ Some p → slice_get texts p ≡ Some other → bytes_eq other text ≡ false → (n : ℕ) → slot xs j ≡ Some n → slice_get texts n ≢ Some text
-misses_here texts text other xs j p here at differ n e there =
-    let same : p ≡ n = same_Some p n (sym here ∙ e) in
-    let equal : other ≡ text = same_Some other text (sym at ∙ ap (slice_get texts) same ∙ there) in
-    true≢false (sym ((bytes_eq-Decides other text).1 equal) ∙ differ)
 
 -- some slot is empty, so not both ranges are full
 pub not_all_full : (xs : List (Option ℕ)) (a : ℕ) → used xs < length xs → IsFull xs a (length xs) → IsFull xs 0 a → ⊥
@@ -185,14 +167,3 @@ module _ (table new v : Table) (view : table ≡ v) (m : ℕ) (more : IsEntered 
   -- the count of keys fits where that of slots does
   pub used_fits : (count : ℕ) → IsTable table.slots count → length table.slots < 2 ^ 64 → count + 1 < 2 ^ 64
   used_fits count t small = let l = used_le new.slots in omega (arith, t.counted, more.more, more.len)
-
--- ---- a search by tags
-
--- a slot with another tag lacks the text
-pub misses_by_tag : (texts : List Text) (text : Text) (tag found : ℕ) (table : Table) (j : ℕ) → HaveTag texts text tag table → found ≡ tag_at table j → found ≢ tag → (n : ℕ) → slot table.slots j ≡ Some n → slice_get texts n ≢ Some text
-misses_by_tag texts text tag found table j have is other n e there = other (is ∙ have j n e there)
-
--- the tag of the hash is that of each slot that has the text
-pub have_tag : (hash_of : Text → ℕ) (texts : List Text) (text : Text) (hash tag : ℕ) (table v : Table) → table ≡ v → IsFiled hash_of texts v → hash ≡ hash_of text → tag ≡ tag_of hash → HaveTag texts text tag table
-have_tag hash_of texts text hash tag table v view filed hashed tagged j n e g =
-    (subst (λ (t : Table). IsFiled hash_of texts t) (sym view) filed).tagged j n text e g ∙ sym (tagged ∙ ap tag_of hashed)

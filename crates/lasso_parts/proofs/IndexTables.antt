@@ -7,7 +7,7 @@
 -- from 8 on, so doubling it makes room.
 use Rattle.std.proofs.Common.{◌≡◌, ℕ, zero, suc, ◌+◌, ◌*◌, ◌^◌, ◌<◌, ◌≤◌, ◌⊎◌, ◌↔◌, List, [], ◌∷◌, ◌++◌, Option, Some, None, length, take, replicate, refl, sym, ap, ◌∙◌, subst, inl, inr, arith, zero-add, add-zero}
 use Rattle.std.proofs.lemmas.Bool.{cases_lt}
-use Rattle.std.proofs.lemmas.List.{get_or_past, get_or-replicate, length-replicate, get_or_append_left, get_or_push, length_push, take_more, take_all}
+use Rattle.std.proofs.lemmas.List.{get_or_past, get_or-replicate, length-replicate, get_or_append_left, get_or_push, length_push, take_more}
 use Rattle.std.proofs.lemmas.Option.{same_Some, none-some}
 use Rattle.lasso_parts.specs.Texts.{Text}
 use Rattle.lasso_parts.specs.Index.{Table, slot, used, Holds, IsFiled, IsIndexOf, load_limit, room, grown_count}
@@ -110,10 +110,6 @@ IsRefilled-same hash_of texts table new IsHeld IsNext count next r same held c =
   holds = λ n. (λ h. (held n).1 ((r.holds n).0 h), λ h. (r.holds n).1 ((held n).0 h));
   counted = r.counted ∙ sym c;
 })
-
--- all old slots were read
-pub IsRefilled-end : (hash_of : Text → ℕ) (texts : List Text) (table : Table) (old : List (Option ℕ)) (i : ℕ) → IsRefilled hash_of texts table (Holds (take i old)) (used (take i old)) → length old ≤ i → IsRefilled hash_of texts table (Holds old) (used old)
-IsRefilled-end hash_of texts table old i r h = subst (λ xs. IsRefilled hash_of texts table (Holds xs) (used xs)) (take_all i old h) r
 
 -- the next position of the list
 pub below_more : (i m n : ℕ) → m ≡ i → (n < i + 1) ↔ ((n < i) ⊎ (n ≡ m))

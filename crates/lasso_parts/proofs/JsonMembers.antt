@@ -23,7 +23,6 @@ use Rattle.lasso_parts.specs.Json.{whole_number, and_then, key_or_too_many}
 use Rattle.lasso_parts.specs.JsonObjects.{AreInOrder, IsInOrder, is_taken, keyed_position, member_texts, member_position, position_among, new_position, next_position, read_if_object, read_members, read_object, TakesPosition}
 use Rattle.lasso_parts.proofs.JsonLaws.{and_then_ok}
 use Rattle.lasso_parts.specs.declared.json.error.JsonError.{JsonError}
-use Rattle.lasso_parts.specs.declared.json.error.JsonError.TheVariants.{Taken}
 
 -- what is left to read of `all` are the members, with marks at the positions of those before
 pub record IsReading {K : Type 0} (key_at : ℕ → Option K) (n : ℕ) (all : Result (List Text) JsonError) (taken : List Bool) (texts : List Text) (at : ℕ) (ms : Members) : Type 0 where
@@ -76,12 +75,6 @@ next_new : {K : Type 0} (key_at : ℕ → Option K) (n : ℕ) (all : Result (Lis
 next_new key_at n all taken texts at t d ms p mark reading h marked =
     next_from key_at n at reading.seen d (Ok p) reading.counted (sym h)
     ∙ ap (new_position (length reading.seen) p) (sym (reading.marks p mark (position_below key_at n at (whole_number d) p (sym h))) ∙ marked)
-
--- the next member's position is taken
-pub taken_position : {K : Type 0} (key_at : ℕ → Option K) (n : ℕ) (all : Result (List Text) JsonError) (taken : List Bool) (texts : List Text) (at : ℕ) (t : Text) (d : Data) (ms : Members) (p : ℕ) → IsReading key_at n all taken texts at (member t d ms) → Ok p ≡ member_position key_at n at (whole_number d) → get_or taken p true ≡ true → Err (Taken at) ≡ all
-taken_position key_at n all taken texts at t d ms p reading h marked =
-    let here = next_new key_at n all taken texts at t d ms p true reading h marked in
-    ap (λ (m : ℕ). Err (Taken m)) reading.counted ∙ sym (whole_from key_at n all reading.seen texts t d ms _ reading.left here)
 
 marked_more : (n : ℕ) (taken : List Bool) (seen : List ℕ) (p q : ℕ) (d : Bool) → length taken ≡ n → p < n → q < n → get_or taken q d ≡ is_taken seen q → get_or (set taken p true) q d ≡ is_taken (seen ++ p ∷ []) q
 marked_more n taken seen p q d long inside inside' before =

@@ -1,5 +1,5 @@
--- The order of an arena's regions, its account, and the bound on its waste, through each of its changes: bytes in the current region
--- or in a spare, a new region, another limit, and a clear.
+-- The order of an arena's regions, its account, and the bound on its waste, through its changes: bytes in the current region or in a
+-- spare, a new region, and a clear.
 --
 -- Bytes in a region change no region's size, so the order stays; they take from the spares' sum just where the region was one. A new
 -- region of exact size has more than twice the doubling size, and a remnant fewer: neither counts as doubled, and the next size
@@ -9,15 +9,15 @@ use Rattle.std.specs.Prelude.{slice_range}
 use Rattle.std.proofs.lemmas.List.{take-append-le, length-append, get_or_append_left, get_or_at, get_or-set_same, length-set, length-map, take_all}
 use Rattle.std.proofs.lemmas.List.Sums.{sum_by-cons, sum_by_push}
 use denote.RawPtr.{Ptr}
-use Rattle.lasso_parts.specs.Account.{Account, fresh, clear, store_in_current, store_in_spare}
+use Rattle.lasso_parts.specs.Account.{Account, clear, store_in_current, store_in_spare}
 use Rattle.lasso_parts.specs.Bucket.{Extent}
 use Rattle.lasso_parts.specs.Arena.{Regions, no_region, region_at, emptied, with_bytes, usage_of, first_of, copied_in, copied_of, most_of, spare_part, spare_in, spares_at_clear, spare_of, account_of}
 use Rattle.lasso_parts.specs.Doubled.{AreDoubled, doubled_from, next_of, kept_of, IsOrdered, IsSound}
 use Rattle.lasso_parts.specs.Placements.{with_bucket, IsSpareAt, NeedsNew}
 use Rattle.lasso_parts.specs.Waste.{IsThriftySince}
 use Rattle.lasso_parts.proofs.Doubled.{next_hit, next_miss, next_append, next_set, usage_doubled, part_taken, spare_emptied, doubled_set, spare_set, spare_taken, kept_doubled, kept_next}
-use Rattle.lasso_parts.proofs.Regions.{opened, filled, copied_emptied}
-use Rattle.lasso_parts.proofs.WastedSince.{since_fresh, since_with_limit, since_clear, since_current, since_spare, since_exact, since_remnant, since_doubled}
+use Rattle.lasso_parts.proofs.Regions.{filled, copied_emptied}
+use Rattle.lasso_parts.proofs.WastedSince.{since_clear, since_current, since_spare, since_exact, since_remnant, since_doubled}
 
 -- ---- accounts
 
@@ -236,21 +236,7 @@ doubled_sound a p t size sound needs fits is =
           (since_doubled (first_of a) (copied_of a) (most_of a) (most_of new) (length t) (account_of a) (omega (arith, copied)) (omega (arith, copied)) needs.room needs.spare (omega (arith, fits, is)) sound.thrift);
     }
 
--- ---- at first, another limit, and a clear
-
-pub made_sound : (p : Ptr) (bytes limit : ℕ) → 0 < bytes → IsSound (record { all = opened p bytes ∷ []; current = 0; kept = 1; doubling = bytes; limit = limit; most = 0 })
-made_sound p bytes limit some =
-    record {
-      order = record { some = some; kept = (omega arith, omega arith); doubled = tt; next = refl; current = omega arith; filled = inl refl };
-      thrift = subst (IsThriftySince bytes 0 0) (same_account (fresh bytes limit) (account_of (record { all = opened p bytes ∷ []; current = 0; kept = 1; doubling = bytes; limit = limit; most = 0 })) (omega arith) refl refl (omega arith) refl) (since_fresh bytes limit);
-    }
-
-pub limit_sound : (a : Regions) (limit : ℕ) → IsSound a → IsSound (record a { limit = limit })
-limit_sound a limit sound =
-    record {
-      order = record { some = sound.order.some; kept = sound.order.kept; doubled = sound.order.doubled; next = sound.order.next; current = sound.order.current; filled = sound.order.filled };
-      thrift = since_with_limit (first_of a) (copied_of a) (most_of a) limit (account_of a) sound.thrift;
-    }
+-- ---- a clear
 
 -- the arena after a clear
 abbrev pub cleared : Regions → Regions

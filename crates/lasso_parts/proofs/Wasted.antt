@@ -5,18 +5,10 @@
 -- twice what was copied; the current one is at most the first, or twice a size that was left, or what the
 -- limit left for a text that is in it; a bucket of exact size is full. Four linear facts say so, and each
 -- case of storing keeps them. There is no spare before the first clear.
-use Rattle.std.proofs.Common.{◌≡◌, ℕ, ◌+◌, ◌*◌, ◌≤◌, Some, None, ap, arith}
+use Rattle.std.proofs.Common.{◌≡◌, ℕ, ◌+◌, ◌*◌, Some, None, ap, arith}
 use Rattle.std.proofs.lemmas.Grind.{common_steps}
-use Rattle.lasso_parts.specs.Account.{Account, store, spare_for, smallest_spare, fresh, with_limit}
+use Rattle.lasso_parts.specs.Account.{Account, store, spare_for, smallest_spare}
 use Rattle.lasso_parts.specs.Waste.{IsThrifty}
-
--- they hold at first
-pub thrifty_fresh : (first limit : ℕ) → IsThrifty first 0 (fresh first limit)
-thrifty_fresh first limit = record { spare = omega arith; usage = omega arith; doubling = omega arith; room = omega arith }
-
--- another limit keeps them
-pub thrifty_with_limit : (first copied limit : ℕ) (a : Account) → IsThrifty first copied a → IsThrifty first copied (with_limit a limit)
-thrifty_with_limit first copied limit a h = record { spare = h.spare; usage = h.usage; doubling = h.doubling; room = h.room }
 
 -- where there are no spares, none is found
 none_to_take : (first n : ℕ) (a : Account) → a.spare ≡ 0 → spare_for first a n ≡ None
@@ -27,7 +19,3 @@ pub thrifty_store : (first copied n : ℕ) (a b : Account) → IsThrifty first c
 thrifty_store first copied n a b h e =
     let none = none_to_take first n a h.spare in
     record { spare = grind (arith, common_steps, e, none); usage = grind (arith, common_steps, e, none); doubling = grind (arith, common_steps, e, none); room = grind (arith, common_steps, e, none) }
-
--- the bound that they give
-pub thrifty_bound : (first copied : ℕ) (a : Account) → IsThrifty first copied a → a.usage ≤ first + 4 * copied
-thrifty_bound first copied a h = omega arith

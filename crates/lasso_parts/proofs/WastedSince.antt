@@ -6,20 +6,8 @@
 -- first bucket and the doubled ones take less than twice the doubling size. Buckets of exact size are full, and remnants that were
 -- left add up to less than twice the bytes. Linear facts say so, and each case of storing and a clear keep them.
 use Rattle.std.proofs.Common.{ℕ, ◌+◌, ◌-◌, ◌*◌, ◌<◌, ◌≤◌, arith}
-use Rattle.lasso_parts.specs.Account.{Account, fresh, with_limit, clear, store_in_current, store_in_spare, store_in_doubled}
+use Rattle.lasso_parts.specs.Account.{Account, clear, store_in_current, store_in_spare, store_in_doubled}
 use Rattle.lasso_parts.specs.Waste.{IsThriftySince, IsSpare, HasNoSpare}
-
--- they hold at first
-pub since_fresh : (first limit : ℕ) → IsThriftySince first 0 0 (fresh first limit)
-since_fresh first limit = record { counted = omega arith; grown = omega arith; step = omega arith; held = omega arith; left = omega arith; over = omega arith; doubling = omega arith; greatest = omega arith }
-
--- another limit keeps them
-pub since_with_limit : (first copied most limit : ℕ) (a : Account) → IsThriftySince first copied most a → IsThriftySince first copied most (with_limit a limit)
-since_with_limit first copied most limit a h = record { counted = h.counted; grown = h.grown; step = h.step; held = h.held; left = h.left; over = h.over; doubling = h.doubling; greatest = h.greatest }
-
--- the bound that they give
-pub since_bound : (first copied most : ℕ) (a : Account) → IsThriftySince first copied most a → a.usage ≤ first + 8 * most
-since_bound first copied most a h = omega arith
 
 -- a clear begins to count again
 pub since_clear : (first copied most : ℕ) (a : Account) → IsThriftySince first copied most a → IsThriftySince first 0 most (clear first a)

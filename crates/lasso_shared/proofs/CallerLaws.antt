@@ -102,10 +102,6 @@ module _ {K : Type 0} (key_at : ℕ → Option K) where
       let p = position_of_key key_at (totals o h).texts text k has in
       ap (option_and_then key_at) (position_past (totals o h).texts (totals o g).texts text p.position (list_past o h g more) p.at) ∙ p.key
 
-  -- the history at which a call's reply is read, past its beginning and before its end
-  read_at : (o : Totals) (before after : History) (pass : ℕ) (q : Question) (r : Reply K) → IsCall key_at o before after pass q r → History
-  read_at o before after pass q r c = before ++ c.explained.0
-
   end_past : (o : Totals) (before after : History) (pass : ℕ) (q : Question) (r : Reply K) (c : IsCall key_at o before after pass q r) → IsPrefix (before ++ c.explained.0) after
   end_past o before after pass q r c = (c.explained.1, append_assoc before c.explained.0 c.explained.1 ∙ ap (λ (h : History). before ++ h) c.explained.2 ∙ c.begins)
 

@@ -4,11 +4,11 @@
 -- so is distinct and fits the keys, by the laws of both. The value that is written for such a list, in either
 -- form, is read as that list. A reply that is not the list is then `FailedAllocation`, since the reading is
 -- no fault.
-use Rattle.std.proofs.Common.{◌≡◌, ◌⊎◌, inl, inr, ℕ, List, length, true, false, Option, Some, None, Result, Ok, Err, IsOk, IfOk, is_some, refl, sym, ap, ◌∙◌}
+use Rattle.std.proofs.Common.{◌≡◌, ◌⊎◌, inl, inr, ℕ, List, length, true, false, Option, Some, None, Result, Ok, Err, IfOk, is_some, refl, sym, ap, ◌∙◌}
 use Rattle.serde_json.specs.Data.{Data, Items}
 use Rattle.serde_json.specs.Find.{as_array}
 use Rattle.lasso_parts.specs.Texts.{Text, IsDistinct, Fits}
-use Rattle.lasso_parts.specs.Json.{json_array, read_array, shown, no_memory, TakesText, ReadsOr}
+use Rattle.lasso_parts.specs.Json.{json_array, read_array, shown, TakesText, ReadsOr}
 use Rattle.lasso_parts.specs.JsonLaws.{IsReadable}
 use Rattle.lasso_parts.specs.JsonObjects.{json_object, read_object, TakesPosition, IsInOrder}
 use Rattle.lasso_parts.specs.declared.json.error.JsonError.{JsonError}
@@ -16,7 +16,7 @@ use Rattle.lasso_parts.specs.declared.json.error.JsonError.TheVariants.{Lasso}
 use Rattle.lasso_parts.specs.declared.util.LassoErrorKind.TheVariants.{FailedAllocation}
 use Rattle.lasso_parts.proofs.JsonLaws as arrays
 use Rattle.lasso_parts.proofs.JsonObjectLaws as objects
-use Rattle.lasso_shared.specs.Json.{read_by_form, read_list, ReadsShared}
+use Rattle.lasso_shared.specs.Json.{read_by_form, read_list}
 
 -- the same reply, of an equal reading, where memory runs out for one more reason
 widened : (P Q : Type 0) (read longer answer : Result (List Text) JsonError) → longer ≡ read → (P → Q) → ReadsOr P read answer → ReadsOr Q longer answer
@@ -76,38 +76,7 @@ module _ {K : Type 0} (key_at : ℕ → Option K) where
     | inr items ↦ ap (read_list key_at) items ∙ arrays.reads_back key_at texts distinct fits
   ]
 
-  -- and so is the reply, or memory ran out
-  pub answers_back : {A : Type 0} (see : A → List Text) (d : Data) (r : Result A JsonError) → ReadsShared key_at d (shown see r)
-      → (texts : List Text) → IsDistinct texts → Fits key_at (length texts) → (d ≡ json_object texts) ⊎ (d ≡ json_array texts) → (shown see r ≡ Ok texts) ⊎ (r ≡ Err (Lasso FailedAllocation))
-  answers_back see d (Ok a) h texts distinct fits written = elim h [
-    | inl is ↦ inl (is ∙ read_back d texts distinct fits written)
-    | inr none ↦ (let e = none.0 in absurd (cc))
-  ]
-  answers_back see d (Err error) h texts distinct fits written =
-      let back = read_back d texts distinct fits written in elim h [
-        | inl is ↦ (let e = is ∙ back in absurd (cc))
-        | inr none ↦ (let e = none.0 in inr (cc))
-      ]
-
-  -- ---- from the list to the interner that opens with it
-
-  -- the list was not had
-  pub reads_fault : (d : Data) (answer : Result (List Text) JsonError) → ReadsOr (TakesText key_at d ⊎ TakesPosition key_at d) (read_list key_at d) answer → ReadsShared key_at d answer
-  reads_fault d answer h =
-      let read = read_list key_at d in
-      widened (TakesText key_at d ⊎ TakesPosition key_at d) (TakesText key_at d ⊎ TakesPosition key_at d ⊎ IsOk read) read read answer refl
-      (λ takes. elim takes [ inl text ↦ inl text | inr position ↦ inr (inl position) ]) h
-
-  -- the list was had, and no memory for the interner
-  pub reads_refused : (d : Data) (texts : List Text) → ReadsOr (TakesText key_at d ⊎ TakesPosition key_at d) (read_list key_at d) (Ok texts) → ReadsShared key_at d no_memory
-  reads_refused d texts h =
-      let read = was_read (TakesText key_at d ⊎ TakesPosition key_at d) (read_list key_at d) texts h in
-      inr (refl, inr (inr (rw read refl)))
-
-  -- the interner opens with the list
-  pub reads_opened : (d : Data) (texts opened : List Text) → opened ≡ texts → ReadsOr (TakesText key_at d ⊎ TakesPosition key_at d) (read_list key_at d) (Ok texts) → ReadsShared key_at d (Ok opened)
-  reads_opened d texts opened same h =
-      inl (ap (λ (ts : List Text). Ok ts) same ∙ sym (was_read (TakesText key_at d ⊎ TakesPosition key_at d) (read_list key_at d) texts h))
+  -- ---- a value that is read as a list
 
   -- a list that was had is the only one that the value is read as
   pub one_reading : (P : Type 0) (d : Data) (texts list : List Text) → ReadsOr P (read_list key_at d) (Ok texts) → read_list key_at d ≡ Ok list → texts ≡ list

@@ -11,7 +11,7 @@ use Rattle.lasso_parts.proofs.IndexLaws.{position_of_at, slice_get_push}
 use Rattle.lasso_parts.specs.declared.util.LassoErrorKind.{LassoErrorKind}
 use Rattle.lasso_parts.specs.declared.util.LassoErrorKind.TheVariants.{FailedAllocation, KeySpaceExhaustion, MemoryLimitReached}
 use Rattle.lasso_log.specs.Calls.{events_of, TakesBytes, Stores, Makes, IsCall}
-use Rattle.lasso_log.specs.History.{Event, Append, Reserve, Charge, History, Totals, totals, Lacks}
+use Rattle.lasso_log.specs.History.{Event, Append, Charge, History, Totals, totals, Lacks}
 use Rattle.lasso_log.specs.Notes.{NoteView, history, state, Since}
 use Rattle.lasso_log.specs.Replies.{Keeping, Copied, Intern, Reply, Interned, MayReply}
 use Rattle.lasso_shared.specs.Shards.{PutsLast}
@@ -46,10 +46,7 @@ takes_later_where p q a b c n (Err e) same s t = tt
 
 -- ---- the bytes
 
--- one event took the bytes, in a present bucket or in a new one
-pub reserved_bytes : (p : ℕ) (a b : List NoteView) (n bucket : ℕ) → Since p a b (Reserve bucket n ∷ []) → (own : List Event) × TakesBytes n own × Since p a b own
-reserved_bytes p a b n bucket s = (Reserve bucket n ∷ [], inl (bucket, refl), s)
-
+-- one event took the bytes, in a new bucket
 pub charged_bytes : (p : ℕ) (a b : List NoteView) (n : ℕ) (size : Option ℕ) → IsSomeAnd size (λ m. Since p a b (Charge m n ∷ [])) → (own : List Event) × TakesBytes n own × Since p a b own
 charged_bytes p a b n (Some m) s = (Charge m n ∷ [], inr (m, refl), s)
 charged_bytes p a b n None s = absurd s
@@ -64,11 +61,6 @@ charged_later p q a b c n size (Err e) same s charged = tt
 pub none_later : {A E : Type 0} (X : Type 0) (p q : ℕ) (a b c : List NoteView) (r : Result A E) → q ≡ p → Since p a b [] → OnErr r (Since q b c [] × X) → OnErr r (Since p a c [])
 none_later X p q a b c (Ok x) same s none = tt
 none_later X p q a b c (Err e) same s none = since_trans p a b c [] s (subst (λ (i : ℕ). Since i b c []) same none.0)
-
--- the bytes of a text that is not empty
-pub stores_bytes : (text : Text) (own : List Event) → text ≢ [] → TakesBytes (length text) own → Stores Copied text own
-stores_bytes [] own some takes = absurd (some refl)
-stores_bytes (byte ∷ bytes) own some takes = takes
 
 pub is_none : (text : Text) → length text ≡ 0 → text ≡ []
 is_none [] e = refl

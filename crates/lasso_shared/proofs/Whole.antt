@@ -76,9 +76,6 @@ none_yet hash_of number texts index is none filed = record {
   distinct = subst IsDistinct (sym is) none_distinct;
 }
 
-pub count_none : (hash_of : Text → ℕ) (number : ℕ) (texts : List Text) → texts ≡ [] → 0 ≡ count_in hash_of number texts
-count_none hash_of number texts is = ap (count_in hash_of number) (sym is)
-
 -- a longer list of things that each know their number
 pub numbered_push : {A : Type 0} (f : ℕ → A) (xs : List A) (x : A) (n : ℕ) → length xs ≡ n → x ≡ f n → ((i : ℕ) → i < n → slice_get xs i ≡ Some (f i)) → (i : ℕ) → i < n + 1 → slice_get (xs ++ x ∷ []) i ≡ Some (f i)
 numbered_push f xs x n long is each i below = elim (cases_lt i n) [

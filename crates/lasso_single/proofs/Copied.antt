@@ -3,21 +3,21 @@
 -- The text at position i is none of those before it, since the list is distinct, and position i has a key,
 -- since the list fits the keys. So interning it either puts it last and stores its bytes, or is refused by
 -- the limit or out of memory: no text is found, and no key is lacking.
-use Rattle.std.proofs.Common.{◌≡◌, ℕ, ◌+◌, ◌<◌, ◌≤◌, ◌⊎◌, inl, inr, List, [], ◌∷◌, ◌++◌, length, take, slice_get, Option, Some, None, IsSome, is_some, cond, IsOk, max, Result, Ok, Err, MatchResult, refl, sym, subst, ap, ◌∙◌, arith}
+use Rattle.std.proofs.Common.{◌≡◌, ℕ, ◌+◌, ◌<◌, ◌≤◌, ◌⊎◌, inl, inr, List, [], ◌∷◌, ◌++◌, length, take, slice_get, Option, Some, None, IsSome, is_some, cond, IsOk, Result, Ok, Err, MatchResult, refl, sym, subst, ap, ◌∙◌, arith}
 use Rattle.std.specs.Prelude.{option_and_then}
 use Rattle.std.proofs.lemmas.Grind.{common_steps}
 use Rattle.std.proofs.lemmas.Bool.Decides.{nat_tests}
 use Rattle.std.proofs.lemmas.List.{length-take-le}
 use Rattle.std.proofs.lemmas.List.Sums.{sum_by_more, sum_by-cons, sum_by-take-le}
 use Rattle.std.proofs.lemmas.Option.{option_and_then_some, slice_get_within, get_or_from_slice_get}
-use Rattle.lasso_parts.specs.Account.{Account, fresh, store}
+use Rattle.lasso_parts.specs.Account.{Account, store}
 use Rattle.lasso_parts.specs.Held.{Held}
 use Rattle.lasso_parts.specs.Texts.{Text, position_of, IsDistinct, Fits}
 use Rattle.lasso_parts.specs.declared.util.LassoError.{LassoError}
 use Rattle.lasso_parts.specs.declared.util.LassoErrorKind.TheVariants.{MemoryLimitReached, FailedAllocation}
 use Rattle.lasso_parts.proofs.IndexLaws.{absent_before}
 use Rattle.lasso_parts.proofs.TextLemmas.{take_more_at}
-use Rattle.lasso_single.specs.Copies.{bytes_of, store_all, CopiesOne, StopsAt, clone_size, clone_of}
+use Rattle.lasso_single.specs.Copies.{bytes_of, store_all, CopiesOne, StopsAt, clone_size}
 use Rattle.lasso_single.specs.Intern.{Interns, InternsIn, interned, with_text, stored_or_refused, keyed_or_refused, found_or_new}
 use Rattle.lasso_single.specs.Interner.{InternerView, KeepsOrigin, bytes_added}
 
@@ -113,9 +113,6 @@ pub record CopiedTo (start : InternerView) (source : List Text) (i : ℕ) (now :
   pub copied : now.copied ≡ start.copied + bytes_of (take i source)
   pub origin : KeepsOrigin start now
 
-pub copied_none : (start : InternerView) (texts : List Text) → start.texts ≡ [] → CopiedTo start texts 0 start
-copied_none start texts empty = record { texts = empty; account = refl; copied = omega arith; origin = (refl, refl, refl) }
-
 -- one text more went last and its bytes were stored; or copying stopped there
 pub copied_more : (start : InternerView) (texts : List Text) (i : ℕ) (text : Text) (old : InternerView) (reply : Result (Unit {0}) LassoError) (new : InternerView) → slice_get texts i ≡ Some text → CopiedTo start texts i old → CopiesOne old text reply new
     → MatchResult reply (λ _. CopiedTo start texts (i + 1) new) (λ error. StopsAt start.first start.account texts i error new.account × (new.copied ≡ start.copied + bytes_of (take i texts)) × KeepsOrigin start new)
@@ -182,9 +179,3 @@ clone_stops first a texts j error stopped fits h = elim h.1 [
 -- all bytes fit into the bucket
 pub bytes-le-clone_size : (texts : List Text) → bytes_of texts ≤ clone_size texts
 bytes-le-clone_size texts = grind (arith, common_steps, nat_tests)
-
--- the account of a clone, from what it was made with
-pub clone_account : (texts : List Text) (limit size greatest : ℕ) (made done : Account) → size ≡ clone_size texts → greatest ≡ max limit size → made ≡ fresh size greatest → store_all (clone_size texts) made texts ≡ Some done → clone_of texts limit ≡ Some done
-clone_account texts limit size greatest made done is_size is_greatest is_made h =
-    let same : made ≡ fresh (clone_size texts) (max limit (clone_size texts)) = is_made ∙ ap (λ (m : ℕ). fresh size m) is_greatest ∙ ap (λ (n : ℕ). fresh n (max limit n)) is_size in
-    ap (λ (a : Account). store_all (clone_size texts) a texts) (sym same) ∙ h

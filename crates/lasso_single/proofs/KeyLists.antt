@@ -92,9 +92,6 @@ pub record Keyed (K : Type 0) (key_at : ℕ → Option K) (old : InternerView) (
   pub list : extend key_at old texts accepted new
   pub keys : AddsKeys key_at new.texts texts before after
 
-pub keyed_none : (K : Type 0) (key_at : ℕ → Option K) (old : InternerView) (before : List K) → Keyed K key_at old [] before old before
-keyed_none K key_at old before = record { list = (refl, refl); keys = ([], sym (append-nil before), refl) }
-
 pub keyed_same : (K : Type 0) (key_at : ℕ → Option K) (old : InternerView) (before after : List K) → after ≡ before → Keyed K key_at old [] before old after
 keyed_same K key_at old before after same = record { list = (refl, refl); keys = ([], same ∙ sym (append-nil before), refl) }
 

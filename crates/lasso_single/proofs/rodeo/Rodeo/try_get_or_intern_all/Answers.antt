@@ -2,7 +2,7 @@ use Rattle.std.proofs.Common.{List, map, take, inr, refl, sym, ap, subst, ◌∙
 use Rattle.std.proofs.lemmas.List.{take-append-drop}
 use Rattle.std.proofs.lemmas.Result.{err_from_is_err_and}
 use Rattle.lasso_parts.specs.Texts.{Text}
-use Rattle.lasso_single.proofs.KeyLists.{Keyed, keyed_none, keyed_same, keyed_push, keyed_still, unchanged, told_list, told_keys, told_refused, texts_more, texts_split}
+use Rattle.lasso_single.proofs.KeyLists.{Keyed, keyed_same, keyed_push, keyed_still, unchanged, told_list, told_keys, told_refused, texts_more, texts_split}
 use Rattle.lasso_single.proofs.rodeo.Rodeo.try_get_or_intern_all.Given.{Over}
 use Rattle.lasso_single.proofs.rodeo.Rodeo.try_get_or_intern_all.Goals as goal
 
