@@ -2,14 +2,13 @@
 --
 -- The faults are asked for from the first offset on, and the texts are cut off in the same order. So what is
 -- known of a text after the first ones is found by stepping over these.
-use Rattle.std.proofs.Common.{ℕ, zero, suc, ◌≡◌, ◌+◌, ◌<◌, ◌≤◌, true, false, List, [], ◌∷◌, length, drop, get_or, slice_get, Option, Some, None, refl, ap, ◌∙◌, ◌-◌, add-one, arith}
+use Rattle.std.proofs.Common.{ℕ, zero, suc, ◌≡◌, ◌+◌, ◌<◌, ◌≤◌, true, false, List, [], ◌∷◌, length, get_or, slice_get, Option, Some, None, refl, ap, ◌∙◌, ◌-◌, add-one, arith}
 use Rattle.std.specs.List.{slice_range}
 use Rattle.std.specs.Option.{option_or}
 use Rattle.std.specs.Str.{IsUtf8, is_utf8}
 use Rattle.std.proofs.lemmas.Str.{IsUtf8-from_is_utf8, is_utf8-from_IsUtf8}
 use Rattle.std.proofs.lemmas.Bool.{false_from_ne_true}
 use Rattle.std.proofs.lemmas.Bool.Decides.{nat_tests}
-use Rattle.std.proofs.lemmas.List.{drop_all, drop_more}
 use Rattle.std.proofs.lemmas.Option.{slice_get_past}
 use Rattle.lasso_parts.specs.Texts.{Text}
 use Rattle.lasso_c.specs.Layout.{reach, texts_from, layout_texts, start_fault, text_fault, texts_fault, layout_fault}
@@ -86,41 +85,3 @@ module _ (greatest : ℕ) where
   good_at bytes (from ∷ offsets) at good small =
       let both = or_none (start_fault greatest bytes from) (texts_fault greatest bytes 0 from offsets) good in
       rw add-one (good_from bytes 0 from offsets at at (omega arith) both.1 (omega arith))
-
-  -- one text further from an offset on
-  pub fault_step : (bytes : List ℕ) (at from to : ℕ) (offsets : List ℕ) → text_fault greatest bytes at from to ≡ None → texts_fault greatest bytes at from (to ∷ offsets) ≡ texts_fault greatest bytes (at + 1) to offsets
-  fault_step bytes at from to offsets good = ap (λ o. option_or o (texts_fault greatest bytes (at + 1) to offsets)) good
-
-  -- the first text is the wrong one
-  pub fault_here : (bytes : List ℕ) (at from to : ℕ) (offsets : List ℕ) (refusal : CallError) → text_fault greatest bytes at from to ≡ Some refusal → texts_fault greatest bytes at from (to ∷ offsets) ≡ Some refusal
-  fault_here bytes at from to offsets refusal wrong = ap (λ o. option_or o (texts_fault greatest bytes (at + 1) to offsets)) wrong
-
-  -- nothing is wrong with the first offset
-  pub start_step : (bytes : List ℕ) (from : ℕ) (offsets : List ℕ) → start_fault greatest bytes from ≡ None → layout_fault greatest bytes (from ∷ offsets) ≡ texts_fault greatest bytes 0 from offsets
-  start_step bytes from offsets good = ap (λ o. option_or o (texts_fault greatest bytes 0 from offsets)) good
-
-  -- the first offset is wrong
-  pub start_here : (bytes : List ℕ) (from : ℕ) (offsets : List ℕ) (refusal : CallError) → start_fault greatest bytes from ≡ Some refusal → layout_fault greatest bytes (from ∷ offsets) ≡ Some refusal
-  start_here bytes from offsets refusal wrong = ap (λ o. option_or o (texts_fault greatest bytes 0 from offsets)) wrong
-
-  -- a layout is asked from its first offset on, one text after another
-  pub fault_begins : (bytes offsets : List ℕ) → 0 < length offsets → start_fault greatest bytes (get_or offsets 0 0) ≡ None → layout_fault greatest bytes offsets ≡ texts_fault greatest bytes 0 (get_or offsets 0 0) (drop 1 offsets)
-  fault_begins bytes [] there good = absurd (omega arith)
-  fault_begins bytes (from ∷ offsets) there good = start_step bytes from offsets good
-
-  pub fault_at_start : (bytes offsets : List ℕ) (refusal : CallError) → 0 < length offsets → start_fault greatest bytes (get_or offsets 0 0) ≡ Some refusal → layout_fault greatest bytes offsets ≡ Some refusal
-  fault_at_start bytes [] refusal there wrong = absurd (omega arith)
-  fault_at_start bytes (from ∷ offsets) refusal there wrong = start_here bytes from offsets refusal wrong
-
-  module _ (bytes offsets : List ℕ) (at from : ℕ) (small : at + 1 < length offsets) (before : layout_fault greatest bytes offsets ≡ texts_fault greatest bytes at from (drop (at + 1) offsets)) where
-    next : layout_fault greatest bytes offsets ≡ texts_fault greatest bytes at from (get_or offsets (at + 1) 0 ∷ drop ((at + 1) + 1) offsets)
-    next = before ∙ ap (λ (os : List ℕ). texts_fault greatest bytes at from os) (drop_more offsets (at + 1) 0 small)
-
-    pub fault_goes_on : text_fault greatest bytes at from (get_or offsets (at + 1) 0) ≡ None → layout_fault greatest bytes offsets ≡ texts_fault greatest bytes (at + 1) (get_or offsets (at + 1) 0) (drop ((at + 1) + 1) offsets)
-    fault_goes_on good = next ∙ fault_step bytes at from (get_or offsets (at + 1) 0) (drop ((at + 1) + 1) offsets) good
-
-    pub fault_is_here : (refusal : CallError) → text_fault greatest bytes at from (get_or offsets (at + 1) 0) ≡ Some refusal → layout_fault greatest bytes offsets ≡ Some refusal
-    fault_is_here refusal wrong = next ∙ fault_here bytes at from (get_or offsets (at + 1) 0) (drop ((at + 1) + 1) offsets) refusal wrong
-
-  pub fault_none : (bytes offsets : List ℕ) (at from : ℕ) → length offsets ≤ at + 1 → layout_fault greatest bytes offsets ≡ texts_fault greatest bytes at from (drop (at + 1) offsets) → layout_fault greatest bytes offsets ≡ None
-  fault_none bytes offsets at from past before = before ∙ ap (λ (os : List ℕ). texts_fault greatest bytes at from os) (drop_all (at + 1) offsets past)

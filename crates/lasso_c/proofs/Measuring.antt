@@ -2,17 +2,16 @@
 --
 -- Each code is asked in turn, and the sizes go on with its text. Where none is refused, each names a text, and the sizes are
 -- those of all these texts.
-use Rattle.std.proofs.Common.{ℕ, zero, suc, ◌≡◌, ◌+◌, ◌<◌, ◌≤◌, List, [], ◌∷◌, length, get_or, IsOkAnd, slice_get, drop, Option, Some, None, Result, Ok, Err, refl, ap, ◌∙◌, lit≤, arith, length-append}
+use Rattle.std.proofs.Common.{ℕ, zero, suc, ◌≡◌, ◌+◌, ◌<◌, ◌≤◌, List, [], ◌∷◌, length, get_or, IsOkAnd, slice_get, Option, Some, None, Result, Ok, Err, refl, ap, ◌∙◌, lit≤, arith, length-append}
 use Rattle.std.specs.List.{concat}
 use Rattle.std.specs.Option.{option_map, unwrap_or}
 use Rattle.std.proofs.lemmas.Bool.Decides.{nat_tests}
-use Rattle.std.proofs.lemmas.List.{drop_more, length-map}
+use Rattle.std.proofs.lemmas.List.{length-map}
 use Rattle.std.proofs.lemmas.Option.{slice_get-get_or, slice_get-map}
 use Rattle.lasso_parts.specs.Texts.{Text}
 use Rattle.lasso_c.specs.Layout.{greatest_offset}
 use Rattle.lasso_c.specs.Decoding.{nothing, rows_named, text_of_code, with_next, unless_refused, measured}
 use Rattle.lasso_c.specs.declared.error.Sizes.{Sizes}
-use Rattle.lasso_c.specs.declared.error.CallError.{CallError}
 use Rattle.lasso_c.specs.declared.error.CallError.TheVariants.{NoSuchCode}
 
 -- the sizes with one text more, which is there
@@ -59,15 +58,6 @@ measured_known null dictionary sizes (code ∷ codes) whole is =
       bytes = omega (arith, rest.bytes, next.1.bytes, one, length-append (unwrap_or found []) (concat (rows_named null dictionary codes)));
       small = λ small. rest.small next.1.small;
     }
-
-module _ (null : Option ℕ) (dictionary : List Text) (sizes : Sizes) (codes : List ℕ) (at : ℕ) where
-  -- the next code's text is there and fits
-  pub measured_more : (more : Sizes) → at < length codes → with_next sizes (text_of_code null dictionary (get_or codes at 0)) ≡ Ok more → measured null dictionary sizes (drop at codes) ≡ measured null dictionary more (drop (at + 1) codes)
-  measured_more more small is = ap (λ cs. measured null dictionary sizes cs) (drop_more codes at 0 small) ∙ ap (λ r. unless_refused r (λ m. measured null dictionary m (drop (at + 1) codes))) is
-
-  -- the next code is the first wrong one
-  pub measured_stops : (refusal : CallError) → at < length codes → with_next sizes (text_of_code null dictionary (get_or codes at 0)) ≡ Err refusal → measured null dictionary sizes (drop at codes) ≡ Err refusal
-  measured_stops refusal small is = ap (λ cs. measured null dictionary sizes cs) (drop_more codes at 0 small) ∙ ap (λ r. unless_refused r (λ m. measured null dictionary m (drop (at + 1) codes))) is
 
 -- the text that a code names is that of its position
 pub named_at : (null : Option ℕ) (dictionary : List Text) (codes : List ℕ) (at : ℕ) (text : Text) → at < length codes → text_of_code null dictionary (get_or codes at 0) ≡ Some text → slice_get (rows_named null dictionary codes) at ≡ Some text
