@@ -21,22 +21,13 @@ use Rattle.lasso_cut.specs.Lines.{lines_of}
 use Rattle.lasso_columns.specs.declared.faults.LineError.{LineError}
 use Rattle.lasso_columns.specs.declared.faults.LineError.TheVariants.{Refused}
 use Rattle.lasso_counts.specs.Counts.{AreCounts, counted_texts, ranked_cmp}
-use Rattle.lasso_counts.proofs.Counted.{counts_none}
 use Rattle.lasso_codes.specs.Counts.{count_line, CountingError, CountsEnd, IsBegun}
 use Rattle.lasso_codes.specs.Errors.{IsReadError, IsWriteEnd}
 use Rattle.lasso_codes.specs.Stages.{Counting}
 use Rattle.lasso_codes.specs.Streams.{WritesAll}
 use Rattle.lasso_codes.specs.declared.error.RunError.{RunError}
 use Rattle.lasso_codes.specs.declared.error.RunError.TheVariants.{Line, TooManyLines, ReadFailed, WriteFailed, ReaderGone, Column}
-use Rattle.lasso_codes.proofs.Taken.{taken_none, taken_push, taken_all, taken_first, taken_next}
-
-pub counting_none : (input : List ℕ) (old : InternerView) (counts : List ℕ) → old.texts ≡ [] → counts ≡ [] → Counting input input 1 old old counts
-counting_none input old counts no_texts no_counts = record {
-  done = [];
-  taken = taken_none input;
-  counted = subst (λ (ts : List Text). AreCounts [] ts counts) (sym no_texts) (subst (λ cs. AreCounts [] [] cs) (sym no_counts) counts_none);
-  list = (refl, refl);
-}
+use Rattle.lasso_codes.proofs.Taken.{taken_push, taken_all, taken_first, taken_next}
 
 -- one line more
 pub counting_push : (input rest : List ℕ) (number : ℕ) (old now after : InternerView) (counts : List ℕ) (line left counts' : List ℕ) (key : ℕ) → Counting input rest number old now counts → lines_of rest ≡ line ∷ lines_of left → IsUtf8 line → InternsIn spur_at now line (Ok key) after → ((texts : List Text) → AreCounts texts now.texts counts → AreCounts (texts ++ line ∷ []) after.texts counts') → Counting input left (number + 1) old after counts'

@@ -46,9 +46,6 @@ begins_after part more xs ys is b =
 
 -- ---- the lines of a column on their way
 
-pub lines_none : (others read : ReadItems Text) → IsAhead [] others read → LinesAhead others read []
-lines_none others read ahead = record { done = []; ahead = ahead; part_is = refl }
-
 module _ (others read : ReadItems Text) (part : List ℕ) (so_far : LinesAhead others read part) where
   -- one line more
   pub lines_push : (later : ReadItems Text) (more : List ℕ) (line : Text) → IsAhead (so_far.done ++ line ∷ []) later read → more ≡ with_feed line → LinesAhead later read (part ++ more)
@@ -145,9 +142,6 @@ pub record ColumnsAhead (input : List ℕ) (null : Option Text) (rest : List ℕ
   pub reads : Reads null count input lines rest
   pub counted : count + 1 ≡ column
   pub part_is : part ≡ fed_lines lines
-
-pub columns_none : (input : List ℕ) (null : Option Text) → ColumnsAhead input null input 1 []
-columns_none input null = record { count = 0; lines = []; reads = (refl, refl); counted = refl; part_is = refl }
 
 module _ (input : List ℕ) (limit : ℕ) (null : Option Text) (rest : List ℕ) (column : ℕ) (part : List ℕ) (way : ColumnsAhead input null rest column part) where
   -- one column more

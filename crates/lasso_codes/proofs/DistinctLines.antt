@@ -27,7 +27,7 @@ use Rattle.lasso_codes.specs.Stages.{OnTheWay}
 use Rattle.lasso_codes.specs.Streams.{Begins}
 use Rattle.lasso_codes.specs.declared.error.RunError.{RunError}
 use Rattle.lasso_codes.specs.declared.error.RunError.TheVariants.{Line, TooManyLines, ReadFailed, WriteFailed, ReaderGone, Column}
-use Rattle.lasso_codes.proofs.Taken.{taken_none, taken_push, taken_all, taken_first, taken_next}
+use Rattle.lasso_codes.proofs.Taken.{taken_push, taken_all, taken_first, taken_next}
 
 -- ---- the report of one line more
 
@@ -58,9 +58,6 @@ first_begins lines n part is =
     subst (λ bs. Begins bs (distinct_report lines)) (sym is) whole
 
 -- ---- a run on its way
-
-pub way_none : (input : List ℕ) (limit : ℕ) (now : InternerView) → now ≡ made_with 4096 limit → OnTheWay input limit input 1 now []
-way_none input limit now made = record { done = []; taken = taken_none input; list = (refl, made); part_is = refl }
 
 -- the list is that of the distinct lines
 way_list : (input : List ℕ) (limit : ℕ) (rest : List ℕ) (number : ℕ) (now : InternerView) (part : List ℕ) (way : OnTheWay input limit rest number now part) → now.texts ≡ new_texts [] way.done

@@ -32,7 +32,7 @@ use Rattle.lasso_codes.specs.Streams.{Begins, WritesAll}
 use Rattle.lasso_codes.specs.declared.error.RunError.{RunError}
 use Rattle.lasso_codes.specs.declared.error.RunError.TheVariants.{Line, TooManyLines, ReadFailed, WriteFailed, ReaderGone, Column}
 use Rattle.lasso_codes.proofs.FewTexts.{few_texts}
-use Rattle.lasso_codes.proofs.Taken.{taken_none, taken_push, taken_all, taken_first, taken_next}
+use Rattle.lasso_codes.proofs.Taken.{taken_push, taken_all, taken_first, taken_next}
 
 -- ---- numbers of lines
 
@@ -75,14 +75,6 @@ entries_are null list (l ∷ ls) (n ∷ ns) are =
     cc
 
 -- ---- a run on its way
-
-pub encoding_none : (input : List ℕ) (null : Option Text) (old : InternerView) (numbers : List ℕ) → numbers ≡ [] → Encoding input input 1 null old old numbers
-encoding_none input null old numbers none = record {
-  done = [];
-  taken = taken_none input;
-  entries = subst (λ ns. AreEntries null old.texts [] ns) (sym none) tt;
-  list = (refl, refl);
-}
 
 pub texts_push : (null : Option Text) (lines : List Text) (line : Text) (b : Bool) → is_null null line ≡ b → texts_of null (lines ++ line ∷ []) ≡ texts_of null lines ++ cond b [] (line ∷ [])
 texts_push null lines line true e =

@@ -6,7 +6,6 @@
 use Rattle.std.proofs.Common.{ℕ, zero, suc, ◌≡◌, ◌+◌, ◌-◌, ◌<◌, ◌≤◌, ◌==◌, Bool, true, false, cond, List, [], ◌∷◌, ◌++◌, length, get_or, Option, Some, None, option_map, refl, sym, ap, subst, ◌∙◌, arith, ◌⊎◌, inl, inr}
 use Rattle.std.specs.Prelude.{IfSome}
 use Rattle.std.specs.Io.BufRead.{take_through, drop_through}
-use Rattle.std.specs.Io.KnownBytes.{IsAtEnd}
 use Rattle.std.proofs.lemmas.Bool.Decides.{nat_tests}
 use Rattle.std.proofs.lemmas.List.{length_push}
 use Rattle.lasso_cut.specs.Lines.{lines_of, is_line_feed, NoFeed}
@@ -64,11 +63,6 @@ takes_line (Some known) after held got line none got_is after_is some at_end at_
     let taken : got ≡ take_through 10 bytes = subst (λ bs. got ≡ held ++ take_through 10 bs) same got_is ∙ ap (λ hs. hs ++ take_through 10 bytes) none in
     let left : after ≡ Some (drop_through 10 bytes) = subst (λ bs. after ≡ Some (drop_through 10 bs)) same after_is in
     (drop_through 10 bytes, left, line_of bytes got line (drop_through 10 bytes) (gives bytes) taken refl some at_end at_open)
-
--- the bytes have ended
-pub takes_none : (before after : Option (List ℕ)) (line : List ℕ) → IsAtEnd before → TakesLine before after false line
-takes_none None after line end = λ bytes e. absurd (cc)
-takes_none (Some known) after line end = λ bytes e. let same : known ≡ bytes = cc in sym same ∙ end
 
 -- what a call says of the lines, by its result
 pub no_line : (before after : Option (List ℕ)) (is_line : Bool) (line : List ℕ) → TakesLine before after is_line line → is_line ≡ false → TakesLine before after false line
@@ -132,11 +126,6 @@ cuts_part (Some known) after held got line none got_is after_is at_end some long
     let left : after ≡ Some (drop_through 10 bytes) = subst (λ bs. after ≡ Some (drop_through 10 bs)) same after_is in
     let told = part_of bytes got line (gives bytes) taken at_end some longer in
     (left ∙ ap (λ bs. Some bs) told.0, told.1, told.2)
-
--- the bytes have ended
-pub cuts_none : (before after : Option (List ℕ)) (line : List ℕ) → IfSome before (λ bytes. after ≡ Some (drop_through 10 bytes)) → IsAtEnd before → CutsLine before after End line
-cuts_none None after line after_is end = λ bytes e. absurd (cc)
-cuts_none (Some known) after line after_is end = λ bytes e. let same : known ≡ bytes = cc in (after_is ∙ ap (λ bs. Some (drop_through 10 bs)) end, sym same ∙ end)
 
 -- what a call says of the line, by its result
 pub cut_as : (before after : Option (List ℕ)) (cut other : Cut) (line : List ℕ) → CutsLine before after cut line → cut ≡ other → CutsLine before after other line

@@ -22,9 +22,6 @@ use Rattle.lasso_codes.specs.Errors.{IsReadError}
 use Rattle.lasso_codes.specs.declared.reading.Header.{Header}
 use Rattle.lasso_codes.proofs.Feeds.{no_cut}
 
-pub ahead_none : {X : Type 0} (make : Makes X) (k n : ℕ) (binary : Bool) (bytes : List ℕ) → k ≡ n → IsAhead [] (items_from make k binary 1 bytes) (items_from make n binary 1 bytes)
-ahead_none make k n binary bytes same = let e = ap (λ m. items_from make m binary 1 bytes) (sym same) in (ap (λ r. r.0) e, ap (λ r. r.1) e)
-
 item_next : {X : Type 0} (make : Makes X) (n : ℕ) (binary : Bool) (number : ℕ) (bytes rest : List ℕ) (entry : Entry) → cut_entry binary bytes ≡ (entry, rest) → items_from make (suc n) binary number bytes ≡ on_item (make entry number) (items_from make n binary (number + 1) rest)
 item_next make n binary number bytes rest entry cut = ap (λ (c : Entry × List ℕ). on_item (make c.0 number) (items_from make n binary (number + 1) c.1)) cut
 

@@ -92,9 +92,6 @@ recode_error list texts (Code code) number error e = past_error list (slice_get 
 
 -- ---- the entries of a column on their way
 
-pub entries_none : (others read : ReadItems (Option ℕ)) (before : List ℕ) → IsAhead [] others read → EntriesAhead others read before before
-entries_none others read before ahead = record { done = []; ahead = ahead; numbers_are = sym (append-nil (map entry_at before)) }
-
 module _ (others read : ReadItems (Option ℕ)) (before numbers : List ℕ) (so_far : EntriesAhead others read before numbers) where
   pub entries_push : (later : ReadItems (Option ℕ)) (number : ℕ) (after : List ℕ) → IsAhead (so_far.done ++ entry_at number ∷ []) later read → after ≡ numbers ++ number ∷ [] → EntriesAhead later read before after
   entries_push later number after ahead is = record {
@@ -107,14 +104,6 @@ module _ (others read : ReadItems (Option ℕ)) (before numbers : List ℕ) (so_
 
   pub entries_end : (column : ℕ) (left : Option (List ℕ)) (rest : List ℕ) → left ≡ Some rest → (read.0 ≡ so_far.done) × (read.1 ≡ Ok rest) → AddsEntries read column left before numbers (Ok tt)
   entries_end column left rest is ended = (rest, is, ended.1, so_far.numbers_are ∙ ap (λ (es : List (Option ℕ)). map entry_at before ++ es) (sym ended.0))
-
-pub entries_read_fails : (read : ReadItems (Option ℕ)) (column : ℕ) (error : RunError) → IsReadError 0 error → EntriesError read column error
-entries_read_fails read column (Line error) is = is
-entries_read_fails read column TooManyLines is = absurd is
-entries_read_fails read column ReadFailed is = tt
-entries_read_fails read column WriteFailed is = absurd is
-entries_read_fails read column ReaderGone is = absurd is
-entries_read_fails read column (Column number error) is = absurd is
 
 -- the entry at a position; its number is added, or the entry is bad
 module _ (list texts : List Text) (lines position : ℕ) (binary : Bool) (bytes rest : List ℕ) (entry : Entry) (read : ReadItems (Option ℕ)) (before numbers : List ℕ) (small : position < lines) (cut : cut_entry binary bytes ≡ (entry, rest)) (so_far : EntriesAhead (items_from (recoded list texts) (lines - position) binary (position + 1) bytes) read before numbers) where
@@ -146,15 +135,6 @@ pub record Merging (input rest : List ℕ) (limit column : ℕ) (now : InternerV
   pub merges : Merges count input texts (map entry_at numbers) rest
   pub counted : count + 1 ≡ column
   pub list : extend spur_at (made_with 4096 limit) texts accepted now
-
-pub merging_none : (input : List ℕ) (limit : ℕ) (now : InternerView) (numbers : List ℕ) → now ≡ made_with 4096 limit → numbers ≡ [] → Merging input input limit 1 now numbers
-merging_none input limit now numbers made none = record {
-  count = 0;
-  texts = [];
-  merges = (refl, ap (map entry_at) none, refl);
-  counted = refl;
-  list = (refl, made);
-}
 
 module _ (input rest : List ℕ) (limit column : ℕ) (now : InternerView) (numbers : List ℕ) (way : Merging input rest limit column now numbers) where
   -- the list is that of the distinct texts, and their codes fit

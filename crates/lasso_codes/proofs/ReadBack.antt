@@ -63,9 +63,6 @@ drop_seam : (ds rest : List ℕ) → drop (length ds + 1) (ds ++ 32 ∷ rest) �
 drop_seam [] rest = refl
 drop_seam (d ∷ ds) rest = let more : suc (length ds) + 1 ≡ suc (length ds + 1) = omega arith in ap (λ n. drop n (d ∷ ds ++ 32 ∷ rest)) more ∙ drop_seam ds rest
 
-header_is : Bool → ℕ → ℕ → Header
-header_is binary d n = record { binary = binary; distinct = d; lines = n }
-
 numbers_back : (binary : Bool) (d n : ℕ) → d < 2 ^ 64 → n < 2 ^ 64 → header_in binary (decimal d ++ 32 ∷ decimal n) ≡ Some (record { binary = binary; distinct = d; lines = n })
 numbers_back binary d n small small' =
     let ds = decimal d in

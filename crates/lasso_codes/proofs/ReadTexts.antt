@@ -75,12 +75,6 @@ pub adds_more : (old now after : InternerView) (line : Text) → extend spur_at 
 adds_more old now after line list adds =
     subst (λ (ts : List Text). extend spur_at old ts accepted after) (sym (added_last now after line adds)) (extend_push spur_at old now after now.texts line (Ok adds.2.0) accepted list adds.2.1 refl)
 
-pub reading_none : (bytes : List ℕ) (now : InternerView) → now.texts ≡ [] → Reading bytes bytes 0 now
-reading_none bytes now none = record {
-  read = ap (λ (ts : List Text). Ok (ts, bytes)) (sym none);
-  counted = ap length none;
-}
-
 module _ (bytes rest : List ℕ) (position distinct : ℕ) (now : InternerView) (small : position < distinct) (so_far : Reading bytes rest position now) where
   others_ahead : (m : ℕ) → position + m ≡ distinct → texts_from distinct [] bytes ≡ texts_from m now.texts rest
   others_ahead m count = ap (λ k. texts_from k [] bytes) (sym count) ∙ texts_split position m [] bytes (now.texts, rest) so_far.read

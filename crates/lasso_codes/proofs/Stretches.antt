@@ -8,7 +8,6 @@ use Rattle.std.proofs.Common.{ℕ, suc, zero, ◌≡◌, ◌+◌, ◌-◌, ◌<�
 use Rattle.std.specs.Prelude.{if◌then◌else◌}
 use Rattle.std.specs.Io.BufRead.{DropsConsumable}
 use Rattle.std.specs.Io.KnownBytes.{prepend_known}
-use Rattle.std.specs.Int.{w32, from_le_bytes}
 use Rattle.std.specs.List.{slice_index}
 use Rattle.std.specs.Str.{IsUtf8}
 use Rattle.std.proofs.lemmas.List.{drop-append-le, drop-take}
@@ -17,7 +16,7 @@ use Rattle.std.proofs.lemmas.Bool.Decides.{nat_tests}
 use Rattle.memchr.specs.Find.{IsFirstByte, is_byte}
 use Rattle.lasso_cut.specs.Lines.{lines_of}
 use Rattle.lasso_cut.proofs.FirstLines.{Cut, cut_at, lines_cut}
-use Rattle.lasso_codes.specs.Reading.{cut_entry, cut_number, number_entry}
+use Rattle.lasso_codes.specs.Reading.{cut_entry}
 use Rattle.lasso_codes.specs.Streams.{cut_line}
 use Rattle.lasso_codes.specs.declared.entries.Entry.{Entry}
 use Rattle.lasso_codes.proofs.Feeds.{cut_fed}
@@ -66,14 +65,6 @@ stretch_cut_line stretch used len later found =
 -- the line ends in the stretch
 stretch_inside : (stretch : List ℕ) (used len : ℕ) → used ≤ length stretch → IsFirstByte (is_byte 10) (drop used stretch) (Some len) → used + (len + 1) ≤ length stretch
 stretch_inside stretch used len small found = let cut = cut_at (drop used stretch) len found in omega (arith, length-drop used stretch, cut.inside, small)
-
--- an entry of four bytes
-pub four_first : (stretch later : List ℕ) → 4 ≤ length stretch → cut_number (stretch ++ later) ≡ (number_entry (from_le_bytes w32 (get_or stretch 0 0 ∷ get_or stretch 1 0 ∷ get_or stretch 2 0 ∷ get_or stretch 3 0 ∷ [])), drop 4 stretch ++ later)
-four_first [] later small = absurd (omega (arith, small))
-four_first (a ∷ []) later small = absurd (omega (arith, small))
-four_first (a ∷ b ∷ []) later small = absurd (omega (arith, small))
-four_first (a ∷ b ∷ c ∷ []) later small = absurd (omega (arith, small))
-four_first (a ∷ b ∷ c ∷ d ∷ stretch) later small = refl
 
 -- an entry at the start of the rest of the stretch
 entry_cut : (stretch : List ℕ) (used len : ℕ) (later : List ℕ) (binary : Bool) (entry : Entry) → cut_entry binary (drop used stretch ++ later) ≡ (entry, drop len (drop used stretch) ++ later) → cut_entry binary (drop used stretch ++ later) ≡ (entry, drop (used + len) stretch ++ later)

@@ -7,13 +7,10 @@ use Rattle.std.specs.Prelude.{slice_get}
 use Rattle.std.specs.Str.{IsUtf8}
 use Rattle.std.proofs.Math.Seq.{take-append_seam}
 use Rattle.std.proofs.lemmas.List.{append-nil, length_push}
-use Rattle.std.proofs.lemmas.List.Elements.{All-nil, All-push}
+use Rattle.std.proofs.lemmas.List.Elements.{All-push}
 use Rattle.lasso_parts.specs.Texts.{Text}
 use Rattle.lasso_cut.specs.Lines.{lines_of}
 use Rattle.lasso_codes.specs.Stages.{Taken}
-
-pub taken_none : (input : List ℕ) → Taken input input 1 []
-taken_none input = record { split = refl; texts = All-nil IsUtf8; counted = refl }
 
 -- one line more
 pub taken_push : (input rest : List ℕ) (number : ℕ) (done : List Text) (line : Text) (left : List ℕ) → Taken input rest number done → lines_of rest ≡ line ∷ lines_of left → IsUtf8 line → Taken input left (number + 1) (done ++ line ∷ [])

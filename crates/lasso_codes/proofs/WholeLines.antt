@@ -40,12 +40,6 @@ pub record FirstTexts (bytes rest : List ℕ) (texts : List Text) : Type 0 where
   pub split : lines_of bytes ≡ texts ++ lines_of rest
   pub each : All IsUtf8 texts
 
-pub texts_none : (bytes : List ℕ) (texts : List Text) → texts ≡ [] → FirstTexts bytes bytes texts
-texts_none bytes texts none = record {
-  split = ap (λ (ts : List Text). ts ++ lines_of bytes) (sym none);
-  each = subst (λ (ts : List Text). All IsUtf8 ts) (sym none) (λ k d small. absurd (omega (arith, small)));
-}
-
 pub first_push : (bytes rest left : List ℕ) (texts after : List Text) (line text : Text) → FirstTexts bytes rest texts → lines_of rest ≡ line ∷ lines_of left → text ≡ line → IsUtf8 text → after ≡ texts ++ text ∷ [] → FirstTexts bytes left after
 first_push bytes rest left texts after line text so_far cut same is grown = record {
   split =
@@ -53,12 +47,6 @@ first_push bytes rest left texts after line text so_far cut same is grown = reco
       ∙ ap (λ (ts : List Text). ts ++ lines_of left) (sym grown);
   each = subst (λ (ts : List Text). All IsUtf8 ts) (sym grown) (All-push IsUtf8 texts text so_far.each is);
 }
-
-pub texts_whole : (bytes rest : List ℕ) (texts : List Text) → FirstTexts bytes rest texts → rest ≡ [] → AreTextLines true texts (lines_of bytes)
-texts_whole bytes rest texts so_far none = (so_far.each, so_far.split ∙ ap (λ bs. texts ++ lines_of bs) none ∙ append-nil texts)
-
-pub texts_stop : (bytes rest left : List ℕ) (texts : List Text) (line : Text) → FirstTexts bytes rest texts → lines_of rest ≡ line ∷ lines_of left → ¬ (IsUtf8 line) → AreTextLines false texts (lines_of bytes)
-texts_stop bytes rest left texts line so_far cut other = (so_far.each, (line, lines_of left, so_far.split ∙ ap (λ (ls : List Text). texts ++ ls) cut, other))
 
 -- the texts are the first of the lines
 abbrev pub Begin : List Text → List Text → Type 0
