@@ -130,9 +130,6 @@ counts_push texts list counts text are = record {
   total = counted_total counts (position_of list text) (λ n at. inside list counts text n are.lengths at) ∙ ap (λ n. n + 1) are.total ∙ sym (length_push texts text);
 }
 
-pub counts_none : AreCounts [] [] []
-counts_none = record { list_is = refl; each = λ s. refl; lengths = refl; total = refl }
-
 -- ---- what the code adds to
 
 added_at : (list : List Text) (counts : List ℕ) (text : Text) (n : ℕ) (o : Option ℕ) → length counts ≡ length list → position_of list text ≡ o → n ≡ interned_position list text → added counts n ≡ counted counts o
