@@ -3,9 +3,9 @@
 -- A reader's bytes are those in its buffer, and then those left in the inner reader. A writer's bytes are
 -- those in the inner writer, and then those in its buffer. If the inner bytes are not known, nothing is
 -- said.
-use Rattle.std.proofs.Common.{ℕ, zero, suc, ◌≡◌, ◌+◌, ◌-◌, ◌<◌, ◌≤◌, List, [], ◌∷◌, ◌++◌, length, take, drop, Option, Some, None, ap, sym, subst, ◌∙◌, refl, arith, append_assoc, append-nil, length-drop, length-take}
-use Rattle.std.specs.Io.KnownBytes.{prepend_known, Consumes, IsAtEnd, Keeps, Appends}
-use Rattle.lasso_lines.specs.Stream.{Grows, OnlyGrows, Stays, Loses, ComeFirst, Ended, written}
+use Rattle.std.proofs.Common.{ℕ, zero, suc, ◌≡◌, ◌+◌, ◌-◌, ◌<◌, ◌≤◌, List, [], ◌∷◌, ◌++◌, length, take, drop, Option, Some, None, ap, sym, subst, ◌∙◌, refl, arith, append_assoc, length-drop, length-take}
+use Rattle.std.specs.Io.KnownBytes.{prepend_known, Consumes, Keeps, Appends}
+use Rattle.lasso_lines.specs.Stream.{OnlyGrows, Stays, Loses, ComeFirst, written}
 
 pub drop_append : (n : ℕ) (front back : List ℕ) → n ≤ length front → drop n (front ++ back) ≡ drop n front ++ back
 drop_append zero front back small = refl
@@ -36,11 +36,6 @@ refilled bs got (Some xs) (Some ys) none took = λ held e.
     let same : bs ++ xs ≡ held = cc in
     ap (λ b. Some b) (sym took ∙ ap (λ b. b ++ xs) (sym none) ∙ same)
 
-pub refilled_end : (bs got : List ℕ) (known known' : Option (List ℕ)) → Consumes known known' got → got ≡ [] → IsAtEnd known' → Ended (prepend_known bs known) (prepend_known got known')
-refilled_end bs got None known' took none end = λ held e. cc
-refilled_end bs got (Some xs) None took none end = absurd took
-refilled_end bs got (Some xs) (Some ys) took none end = λ held e. ap (λ b. Some b) (ap (λ b. b ++ ys) none ∙ end)
-
 pub kept_front : (bs : List ℕ) (known known' : Option (List ℕ)) → Keeps known known' → Stays (prepend_known bs known) (prepend_known bs known')
 kept_front bs None known' keeps = λ held e. cc
 kept_front bs (Some xs) None keeps = absurd keeps
@@ -53,11 +48,6 @@ grows_by None known' bs appends = λ held e. cc
 grows_by (Some xs) None bs appends = absurd appends
 grows_by (Some xs) (Some ys) bs appends = λ held e. let same : xs ≡ held = cc in (bs, ap (λ b. Some b) (appends ∙ ap (λ b. b ++ bs) same), tt)
 
-pub grows_not : (known known' : Option (List ℕ)) → Keeps known known' → OnlyGrows known known'
-grows_not None known' keeps = λ held e. cc
-grows_not (Some xs) None keeps = absurd keeps
-grows_not (Some xs) (Some ys) keeps = λ held e. let same : xs ≡ held = cc in ([], ap (λ b. Some b) (keeps ∙ same ∙ sym (append-nil held)), tt)
-
 -- the inner writer takes the first n pending bytes
 pub sends_front : (known known' : Option (List ℕ)) (pending left : List ℕ) (n : ℕ) → Appends known known' (take n pending) → left ≡ drop n pending → Stays (written known (Some pending)) (written known' (Some left))
 sends_front None known' pending left n appends is = λ held e. cc
@@ -68,19 +58,6 @@ sends_front (Some xs) (Some ys) pending left n appends is = λ held e.
 
 pub sends_part : (known known' : Option (List ℕ)) (pending handed left : List ℕ) (n : ℕ) → handed ≡ pending → Appends known known' (take n handed) → left ≡ drop n pending → Stays (written known (Some pending)) (written known' (Some left))
 sends_part known known' pending handed left n is appends rest = sends_front known known' pending left n (subst (λ bs. Appends known known' (take n bs)) is appends) rest
-
-pub sends_none : (known known' : Option (List ℕ)) (pending left : List ℕ) → Keeps known known' → left ≡ pending → Stays (written known (Some pending)) (written known' (Some left))
-sends_none None known' pending left keeps is = λ held e. cc
-sends_none (Some xs) None pending left keeps is = absurd keeps
-sends_none (Some xs) (Some ys) pending left keeps is = λ held e.
-    let same : xs ++ pending ≡ held = cc in ap (λ b. Some b) (ap (λ b. b ++ left) keeps ∙ ap (λ b. xs ++ b) is ∙ same)
-
--- the pending bytes grow
-pub pends_more : (known : Option (List ℕ)) (pending more after : List ℕ) (P : List ℕ → Type 0) → after ≡ pending ++ more → P more → Grows (written known (Some pending)) (written known (Some after)) P
-pends_more None pending more after P is p = λ held e. cc
-pends_more (Some xs) pending more after P is p = λ held e.
-    let same : xs ++ pending ≡ held = cc in
-    (more, ap (λ b. Some b) (ap (λ b. xs ++ b) is ∙ sym (append_assoc xs pending more) ∙ ap (λ b. b ++ more) same), p)
 
 pub stays_then : (before mid after : Option (List ℕ)) → Stays before mid → Stays mid after → Stays before after
 stays_then before mid after first second = λ held e. second held (first held e)

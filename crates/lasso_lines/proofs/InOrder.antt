@@ -14,12 +14,6 @@ use Rattle.lasso_lines.specs.Ordered.{told, IsNamed, AreNamed, WritesNamed}
 use Rattle.lasso_lines.proofs.Sorted.{ascending}
 
 module _ (list : List Text) (codes : List ℕ) (pairs sorted : List (ℕ × Bor Text)) (moved : IsPermutation pairs sorted) (order : IsSorted fronted_cmp sorted) (fronted : All IsFronted pairs) (named : AreNamed list codes (map (λ p. p.1.now) pairs)) where
-  texts : List Text
-  texts = map (λ (p : ℕ × Bor Text). p.1.now) pairs
-
-  texts' : List Text
-  texts' = map (λ (p : ℕ × Bor Text). p.1.now) sorted
-
   texts_moved : IsPermutation (map (λ (p : ℕ × Bor Text). p.1.now) pairs) (map (λ (p : ℕ × Bor Text). p.1.now) sorted)
   texts_moved = IsPermutation-map (λ (p : ℕ × Bor Text). p.1.now) pairs sorted moved
 

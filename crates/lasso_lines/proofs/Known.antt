@@ -22,9 +22,6 @@ grows_then before mid after P Q R first second join = λ held e.
     let w = second (held ++ v.0) v.1 in
     (v.0 ++ w.0, w.1 ∙ ap (λ bs. Some bs) (append_assoc held v.0 w.0), join v.0 w.0 v.2 w.2)
 
-pub only_grows_still : (known : Option (List ℕ)) → OnlyGrows known known
-only_grows_still known = nothing_more known (λ _. Unit {0}) tt
-
 pub only_grows_then : (before mid after : Option (List ℕ)) → OnlyGrows before mid → OnlyGrows mid after → OnlyGrows before after
 only_grows_then before mid after first second = grows_then before mid after (λ _. Unit {0}) (λ _. Unit {0}) (λ _. Unit {0}) first second (λ p q a b. tt)
 
@@ -43,11 +40,6 @@ took_more before mid after bytes rest others n grown took split =
 
 begins_split : (p q rest bytes : List ℕ) → p ++ rest ≡ bytes → Begins q rest → Begins (p ++ q) bytes
 begins_split p q rest bytes whole b = (b.0, sym whole ∙ ap (λ bs. p ++ bs) b.1 ∙ sym (append_assoc p q b.0))
-
--- the failed call took a beginning of the bytes that were left
-pub took_less : (before mid after : Option (List ℕ)) (bytes rest : List ℕ) → Grows before mid (λ part. part ++ rest ≡ bytes) → Grows mid after (λ part. Begins part rest) → Grows before after (λ part. Begins part bytes)
-took_less before mid after bytes rest grown took =
-    grows_then before mid after (λ part. part ++ rest ≡ bytes) (λ part. Begins part rest) (λ part. Begins part bytes) grown took (λ p q first second. begins_split p q rest bytes first second)
 
 begins_first : (part front back : List ℕ) → Begins part front → Begins part (front ++ back)
 begins_first part front back b = (b.0 ++ back, ap (λ bs. bs ++ back) b.1 ∙ append_assoc part b.0 back)

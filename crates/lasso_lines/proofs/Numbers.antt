@@ -2,9 +2,9 @@
 --
 -- Further digits never make the value smaller. So if the value of the first digits is 2 ^ 64 or more, so is
 -- the value of the word.
-use Rattle.std.proofs.Common.{ℕ, suc, ◌≡◌, ◌+◌, ◌-◌, ◌*◌, ◌<◌, ◌≤◌, ◌^◌, true, false, List, [], ◌∷◌, length, drop, get_or, drop-cons, Some, None, ap, subst, arith}
+use Rattle.std.proofs.Common.{ℕ, suc, ◌≡◌, ◌+◌, ◌-◌, ◌*◌, ◌<◌, ◌≤◌, ◌^◌, List, [], ◌∷◌, length, drop, get_or, drop-cons, None, ap, subst, arith}
 use Rattle.std.proofs.lemmas.Bool.Decides.{nat_tests}
-use Rattle.lasso_lines.specs.Arguments.{all_digits, value_behind, number_of}
+use Rattle.lasso_lines.specs.Arguments.{value_behind, number_of}
 
 pub value_grows : (bytes : List ℕ) (value : ℕ) → value ≤ value_behind value bytes
 value_grows [] value = omega arith
@@ -13,18 +13,6 @@ value_grows (b ∷ bytes) value = omega (arith, value_grows bytes (value * 10 + 
 -- a value of 2 ^ 64 or more is no number
 pub too_great : (word : List ℕ) → 2 ^ 64 ≤ value_behind 0 word → number_of word ≡ None
 too_great word great = grind (arith, nat_tests)
-
-pub not_digits : (word : List ℕ) → all_digits word ≡ false → number_of word ≡ None
-not_digits word none = grind (arith, nat_tests)
-
-pub not_length : (word : List ℕ) → (length word ≡ 0) → number_of word ≡ None
-not_length word none = grind (arith, nat_tests)
-
-pub too_long : (word : List ℕ) → 20 < length word → number_of word ≡ None
-too_long word long = grind (arith, nat_tests)
-
-pub a_number : (word : List ℕ) (value : ℕ) → 0 < length word → length word ≤ 20 → all_digits word ≡ true → value_behind 0 word ≡ value → value < 2 ^ 64 → number_of word ≡ Some value
-a_number word value some short digits is fits = grind (arith, nat_tests)
 
 -- the next digit brings the value to 2 ^ 64 or more
 pub past_greatest : (word digits : List ℕ) (i value : ℕ) → digits ≡ word → i < length digits → value_behind value (drop i digits) ≡ value_behind 0 digits → 2 ^ 64 ≤ value * 10 + (get_or digits i 0 - 48) → number_of word ≡ None

@@ -87,15 +87,6 @@ module _ (before known after lines : List Text) (workers done : ℕ) (codes more
     coded = map_some_both (position_of after) gathered.texts its_lines codes more (codes_past before after gathered.texts codes begins gathered.coded) (codes_past known after its_lines more knows has.2);
   }
 
--- the codes are also those of a list that has grown
-pub gathered_past : (before after lines : List Text) (workers done : ℕ) (codes : List ℕ) → IsPrefix before after → Gathered before lines workers done codes → Gathered after lines workers done codes
-gathered_past before after lines workers done codes begins gathered = record {
-  texts = gathered.texts;
-  inside = gathered.inside;
-  reached = gathered.reached;
-  coded = codes_past before after gathered.texts codes begins gathered.coded;
-}
-
 -- all workers together have all lines
 pub gathered_all : (list lines : List Text) (workers done : ℕ) (codes : List ℕ) → 0 < workers → workers ≤ done → Gathered list lines workers done codes → AreCodesOf list lines codes
 gathered_all list lines workers done codes some all gathered = (

@@ -27,9 +27,6 @@ apart one other Greater e kept differ =
     let back : text_cmp other one ≡ Less = nat_list_cmp_total.antisymm other one ∙ ap ordering_reverse e in
     let is : is_lt (text_cmp other one) ≡ true = ap is_lt back in absurd (cc)
 
-higher_cmp : (x y : ℕ) → y < x → nat_cmp x y ≡ Greater
-higher_cmp x y low = grind (arith, nat_tests)
-
 lower_cmp : (x y : ℕ) → x < y → nat_cmp x y ≡ Less
 lower_cmp x y low = grind (arith, nat_tests)
 
@@ -48,9 +45,6 @@ before p q is is' kept differ (higher above) =
     let less : is_lt (fronted_cmp q p) ≡ true = ap is_lt here in absurd (cc)
 
 module _ (pairs : List (ℕ × Bor Text)) (sorted : IsSorted fronted_cmp pairs) (fronted : All IsFronted pairs) (distinct : IsDistinct (map (λ p. p.1.now) pairs)) (k : ℕ) (d : Text) (e : ℕ × Bor Text) (small : k + 1 < length pairs) where
-  now : ℕ × Bor Text → Text
-  now p = p.1.now
-
   here : get_or (map (λ (p : ℕ × Bor Text). p.1.now) pairs) k d ≡ (get_or pairs k e).1.now
   here = get_or-map (λ (p : ℕ × Bor Text). p.1.now) pairs k e d (omega arith)
 

@@ -3,9 +3,9 @@
 -- While the engine works, it holds the beginning of a line, and some bytes are left to read. Its invariant:
 -- if a run over the lines of the held and the remaining bytes may write a part and end with a result, then
 -- the run over the whole input may write the bytes written so far and then this part, and end with the same
--- result. It is true at the start, when all bytes are left. A stretch, of which some lines are answered and
--- the rest is held, keeps it true: what is proved of the stretch is true whatever bytes follow. At a return
--- only the remaining lines matter: none after the counts, or the line with the fault.
+-- result. At the start, when all bytes are left, it is plainly true. A stretch, of which some lines are
+-- answered and the rest is held, keeps it true: what is proved of the stretch is true whatever bytes
+-- follow. At a return only the remaining lines matter: none after the counts, or the line with the fault.
 use Rattle.std.proofs.Common.{ℕ, zero, suc, ◌≡◌, ◌+◌, ◌<◌, inl, inr, Bool, true, false, cond, List, [], ◌∷◌, ◌++◌, length, drop, Some, Result, Ok, Err, ap, sym, subst, ◌∙◌, refl, append_assoc, append-nil, arith}
 use Rattle.std.specs.Str.{is_utf8}
 use Rattle.lasso_parts.specs.Held.{Held}
@@ -171,9 +171,6 @@ all_shown buffer left begins = begins.1 ∙ ap (λ bs. buffer ++ bs) (sym (ap (�
 -- `part` in front
 pub record OnTheWay (input : List ℕ) (limit : ℕ) (held : Held) (number : ℕ) (begun left part : List ℕ) : Type 0 where
   pub ends : (more : List ℕ) (result : Result (Unit {0}) RunFault) → EndsFrom held number (lines_of (begun ++ left)) more result → Ends input limit (part ++ more) result
-
-pub way_starts : (input : List ℕ) (limit : ℕ) → OnTheWay input limit (new_held limit) 1 [] input []
-way_starts input limit = record { ends = λ more result e. e }
 
 -- some lines of a stretch are answered, and the rest of it is held
 way_leads : (input : List ℕ) (limit : ℕ) (held after : Held) (number number' : ℕ) (begun stretch begun' left part reply : List ℕ) → OnTheWay input limit held number begun (stretch ++ left) part → LeadsTo held number (begun ++ stretch) after number' begun' reply → OnTheWay input limit after number' begun' left (part ++ reply)
