@@ -1,7 +1,6 @@
 -- Words and their keys.
 --
--- A text keeps its position in a list that grows, so keys stand for their words in every longer list, and
--- those of two shares stand for the words of both there.
+-- A text keeps its position in a list that grows, so keys stand for their words in every longer list.
 use denote.Ref.{Bor}
 use Rattle.std.proofs.Common.{zero, suc, take, drop, get_or, ℕ, ◌≡◌, ◌+◌, ◌<◌, List, [], ◌∷◌, ◌++◌, length, map, Some, Result, Ok, Err, IfOk, sym, ap, ◌∙◌, arith}
 use Rattle.std.specs.Prelude.{Vec, slice_get}
@@ -28,15 +27,6 @@ module _ {K : Type 0} (number : K → ℕ) where
   -- a key more, and its word
   pub resolve_push : (list : List Text) (keys : List K) (words : List Text) (k : K) (word : Text) → Resolve number list keys words → slice_get list (number k) ≡ Some word → Resolve number list (keys ++ k ∷ []) (words ++ word ∷ [])
   resolve_push list keys words k word stand here = rw (map_push (λ (key : K). slice_get list (number key)) keys k, map_push Some words word) cc
-
-  -- the keys of two shares
-  pub resolve_both : (list : List Text) (keys more : List K) (words others : List Text) → Resolve number list keys words → Resolve number list more others → Resolve number list (keys ++ more) (words ++ others)
-  resolve_both list [] more [] others stand also = also
-  resolve_both list [] more (word ∷ words) others stand also = cc
-  resolve_both list (k ∷ keys) more [] others stand also = cc
-  resolve_both list (k ∷ keys) more (word ∷ words) others stand also =
-      let rest : Resolve number list (keys ++ more) (words ++ others) = resolve_both list keys more words others (cc) also in
-      cc
 
   -- what a pass has seen later
   pub resolve_seen : (of : InternerId) (before later : List NoteView) (keys : List K) (words : List Text) → IsPrefix before later → Resolve number (list_of of before) keys words → Resolve number (list_of of later) keys words
