@@ -204,6 +204,18 @@ fn the_limit_ends_a_reading(rt: HostRuntime) -> Result<(), Fail> {
     Ok(())
 }
 
+// The first bucket has one byte, whatever the limit.
+#[test]
+fn a_limit_of_zero_leaves_room_for_a_byte(rt: HostRuntime) -> Result<(), Fail> {
+    let limits = MemoryLimits::new(0);
+    let read: SpurRodeo = read_dictionary(rt.alloc(), limits, b"", &[0u32, 0])?;
+    has_texts(&rt, &read, &[""]);
+    let read: SpurRodeo = read_dictionary(rt.alloc(), limits, b"a", &[0u32, 1])?;
+    has_texts(&rt, &read, &["a"]);
+    let read: Result<SpurRodeo, ReadError> = read_dictionary(rt.alloc(), limits, b"ab", &[0u32, 2]);
+    limit_refuses(Some(refusal(read.err(), 0)?))
+}
+
 // The bytes of 256 different texts of two letters each.
 fn pairs(alloc: Global) -> Result<Vec<u8>, Fail> {
     let mut bytes = Vec::new(alloc);

@@ -29,4 +29,6 @@ mod shared;
 #[cfg(test)]
 mod shared_columns;
 #[cfg(test)]
+mod two_users;
+#[cfg(test)]
 mod uniform;

@@ -161,3 +161,22 @@ fn threads_encode_a_long_column(rt: HostRuntime) -> Result<(), Fail> {
     assert!(rt; codes.as_slice() == [0; 1000].as_slice());
     Ok(())
 }
+
+// The limit is far below the usage, but the first bucket has room for both texts.
+#[test]
+fn a_limit_below_the_usage_refuses_no_text_with_room(rt: HostRuntime) -> Result<(), Fail> {
+    let texts = ["a", "b", "a"];
+    for workers in [1, 2] {
+        let rodeo = shared_interner(&rt)?;
+        rodeo.set_memory_limits(&rt, MemoryLimits::new(0));
+        let mut codes = Vec::new(rt.alloc());
+        encode_shared(&rt, &rodeo, &texts, &mut codes, workers)?;
+        stand_for(&rt, &rodeo, &codes, &texts)?;
+        let mut again = Vec::new(rt.alloc());
+        encode_shared_as(&rt, &rodeo, &texts, &mut again, workers)?;
+        assert!(rt; again == codes);
+        assert!(rt; rodeo.len() == 2);
+        assert!(rt; rodeo.max_memory_usage(&rt) == 0);
+    }
+    Ok(())
+}

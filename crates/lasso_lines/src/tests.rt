@@ -218,16 +218,17 @@ fn bad_arguments(rt: HostRuntime) -> Result<(), Fail> {
     Ok(())
 }
 
+// The first bucket has 4096 bytes whatever the limit.
 #[test]
 fn words_set_the_limit(rt: HostRuntime) -> Result<(), Fail> {
-    let mut words = Vec::new(rt.alloc());
-    words.push("--limit".to_string(rt.alloc())?)?;
-    words.push("4096".to_string(rt.alloc())?)?;
-    let mut reader = MemoryReader::new(INPUT);
-    let mut writer = MemoryWriter::new(rt.alloc());
-    assert!(rt; run_words(&rt, &words, &mut reader, &mut writer) == Ok(()));
-    assert!(rt; writer.into_bytes().as_slice() == OUTPUT);
-    words.push("more".to_string(rt.alloc())?)?;
+    for limit in ["0", "1", "4095", "4096"] {
+        let words = owned_words(&rt, &["--limit", limit])?;
+        let mut reader = MemoryReader::new(INPUT);
+        let mut writer = MemoryWriter::new(rt.alloc());
+        assert!(rt; run_words(&rt, &words, &mut reader, &mut writer) == Ok(()));
+        assert!(rt; writer.into_bytes().as_slice() == OUTPUT);
+    }
+    let words = owned_words(&rt, &["--limit", "4096", "more"])?;
     let mut unread = MemoryReader::new(INPUT);
     let mut unwritten = MemoryWriter::new(rt.alloc());
     let ended = run_words(&rt, &words, &mut unread, &mut unwritten);

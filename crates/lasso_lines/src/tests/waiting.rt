@@ -1,10 +1,11 @@
 //! Runs for a user who types a line after seeing the answers to the lines before it.
 ghost use Rattle.std.specs.Prelude.{◌+◌, Some, None};
 
-use super::{OUTPUT, assert_fault, no_limit};
+use super::{OUTPUT, PAST_LIMIT, assert_fault, no_limit};
 use crate::engine::run;
 use crate::failures::Failures;
 use crate::stream::{ByteReader, ByteWriter, StreamError};
+use lasso::MemoryLimits;
 use std::cell::RefCell;
 use std::test::Fail;
 
@@ -145,6 +146,38 @@ fn no_line_is_read_behind_a_fault(rt: HostRuntime) -> Result<(), Fail> {
     assert_fault(&rt, result, "line 2: not UTF-8", 2)?;
     assert!(rt; reader.answered);
     assert!(rt; reader.looks == 2);
+    assert!(rt; reader.sees(b"0 a\n"));
+    Ok(())
+}
+
+// A line that no bucket of 4096 bytes has room for. Its line feed is typed next.
+const LONG: &[u8] = &[b'a'; 4097];
+
+#[test]
+fn no_line_is_read_after_a_refused_one(rt: HostRuntime) -> Result<(), Fail> {
+    let screen = RefCell::new(Vec::new(rt.alloc()));
+    let typed: [(&[u8], &[u8]); 4] = [
+        (b"a\n", b""),
+        (LONG, b"0 a\n"),
+        (b"\n", b"0 a\n"),
+        (b"b\n", b"0 a\n"),
+    ];
+    let mut reader = TypedReader {
+        at_hand: b"",
+        typed: &typed,
+        screen: &screen,
+        looks: 0,
+        answered: true,
+    };
+    let mut writer = ScreenWriter {
+        pending: Vec::new(rt.alloc()),
+        screen: &screen,
+        failures: Failures::none(),
+    };
+    let result = run(&rt, &mut reader, &mut writer, MemoryLimits::new(4096));
+    assert_fault(&rt, result, PAST_LIMIT[1], 1)?;
+    assert!(rt; reader.answered);
+    assert!(rt; reader.looks == 3);
     assert!(rt; reader.sees(b"0 a\n"));
     Ok(())
 }

@@ -137,25 +137,36 @@ fn no_comparison_sets_a_limit(rt: HostRuntime) -> Result<(), Fail> {
     Ok(())
 }
 
-// Interns a text of `length` bytes in each of two interners, which have bytes for two such texts, and
-// compares them in each way. Returns whether all are equal, and whether each interner then takes exactly one
-// more text and still has its limit.
-fn comparisons_leave_all<R: AllocGlobal + Wait>(rt: &R, length: usize) -> Result<bool, Fail> {
+// Interns a text of `length` bytes in each of two interners, which have bytes for two such texts: the same
+// text, or texts that differ in the last byte. Compares them in each way, and with an empty interner. Returns
+// whether all replies are right, and whether each interner then takes exactly one more text and still has its
+// limit.
+fn comparisons_leave_all<R: AllocGlobal + Wait>(
+    rt: &R,
+    length: usize,
+    same: bool,
+) -> Result<bool, Fail> {
     if length == 0 {
         return Ok(false);
     }
     let alloc = rt.alloc();
     let bytes = length.saturating_mul(2).max(length);
     let first = lettered(alloc, "a", length)?;
+    let last = if same {
+        lettered(alloc, "a", length)?
+    } else {
+        ended(alloc, "a", length)?
+    };
     let second = lettered(alloc, "b", length)?;
     let shared: Shared = limited(alloc, bytes, bytes)?;
     let other: Shared = limited(alloc, bytes, bytes)?;
     let mut all = copied(rt, &shared, first.as_str())? == 0;
-    all &= copied(rt, &other, first.as_str())? == 0;
-    all &= is_equal(rt, &shared, &other) && is_equal(rt, &other, &shared);
+    all &= copied(rt, &other, last.as_str())? == 0;
+    all &= is_equal(rt, &shared, &other) == same && is_equal(rt, &other, &shared) == same;
     let single = single_of_all(alloc, &[first.as_str()])?;
     all &= is_equal_to_forms(rt, &shared, &single)? == (true, true, true);
-    all &= is_equal_to_forms(rt, &other, &single)? == (true, true, true);
+    all &= is_equal_to_forms(rt, &other, &single)? == (same, same, same);
+    all &= differs_from_none(rt, alloc, &shared)? && differs_from_none(rt, alloc, &other)?;
     for one in [&shared, &other] {
         all &= answered(copied(rt, one, second.as_str())) == Ok(1);
         all &= answered(copied(rt, one, "z")) == Err(LassoErrorKind::MemoryLimitReached);
@@ -164,10 +175,22 @@ fn comparisons_leave_all<R: AllocGlobal + Wait>(rt: &R, length: usize) -> Result
     Ok(all)
 }
 
+// Whether the interner differs from an empty one in each form, and the empty one stays so.
+fn differs_from_none<R: Wait>(rt: &R, alloc: Global, shared: &Shared) -> Result<bool, Fail> {
+    let empty: Shared = limited(alloc, 1, 1)?;
+    let mut all = !is_equal(rt, shared, &empty) && !is_equal(rt, &empty, shared);
+    let none = single_of_all(alloc, &[])?;
+    all &= is_equal_to_forms(rt, shared, &none)? == (false, false, false);
+    all &= answered(copied(rt, &empty, "z")) == Ok(0) && limit(rt, &empty) == 1;
+    Ok(all && answered(copied(rt, &empty, "y")) == Err(LassoErrorKind::MemoryLimitReached))
+}
+
 #[test]
 fn no_comparison_takes_a_byte(rt: HostRuntime) -> Result<(), Fail> {
     for length in LENGTHS {
-        assert!(rt; comparisons_leave_all(&rt, length)?, "{length}");
+        for same in [true, false] {
+            assert!(rt; comparisons_leave_all(&rt, length, same)?, "{length}");
+        }
     }
     Ok(())
 }

@@ -1,11 +1,12 @@
 //! `allocated_bytes` of an interner that threads share, after each of many texts. It always uses the global
 //! allocator, which no test can replace by one that counts. So the expected numbers are worked out by hand.
-use crate::calls::{allocated, copied, kept, roomless, text_at, usage};
+use crate::calls::{Shared, allocated, copied, kept, made, roomless, text_at, usage};
 use crate::texts::numbered;
 use lasso_parts::keys::{Key, MicroSpur, Spur};
-use lasso_parts::util::Capacity;
+use lasso_parts::util::{Capacity, LassoResult};
 use lasso_shared::threaded::ThreadedRodeo;
 use lasso_testing::hashers::{FirstState, LowState, SameState};
+use std::alloc::Global;
 use std::hash::BuildHasher;
 use std::sync::Wait;
 use std::test::*;
@@ -70,6 +71,25 @@ fn bytes_of_list_and_index(rt: HostRuntime) -> Result<(), Fail> {
     assert!(rt; grows(&rt, &shared, 4)?);
     let shared: ThreadedRodeo<MicroSpur, SameState> = roomless(rt.alloc())?;
     assert!(rt; grows(&rt, &shared, 1)?);
+    Ok(())
+}
+
+// An interner with room for this number of texts, and ten bytes in its first bucket.
+fn roomy(alloc: Global, texts: usize) -> LassoResult<Shared> {
+    ThreadedRodeo::with_capacity(alloc, Capacity::new(texts, 10))
+}
+
+// Room for texts is made in cells alone, of which a chunk has 32, 32, 64, 128 and so on.
+#[test]
+fn bytes_of_room_for_texts(rt: HostRuntime) -> Result<(), Fail> {
+    let rooms: [(usize, usize); 6] = [(0, 0), (1, 32), (32, 32), (33, 64), (65, 128), (300, 512)];
+    for (texts, cells) in rooms {
+        let shared = roomy(rt.alloc(), texts)?;
+        let list = CELL.saturating_mul(cells);
+        assert!(rt; allocated(&rt, &shared) == list.saturating_add(10), "{texts}");
+    }
+    // the default is room for 50 texts, and 4096 bytes
+    assert!(rt; allocated(&rt, &made(rt.alloc())?) == 6144);
     Ok(())
 }
 

@@ -1,4 +1,4 @@
-//! Four threads that intern texts of their own, and texts that all of them intern.
+//! Threads that intern texts of their own, and texts that all of them intern.
 use crate::calls::{Shared, len, made, usage};
 use lasso_parts::keys::Spur;
 use lasso_parts::util::LassoResult;
@@ -91,6 +91,83 @@ fn both_intern<R: Threads + Wait + Sync>(
     );
     let (first, second) = (first?, second?);
     Ok(first && second)
+}
+
+// The calls without a pass that intern a text, besides `try_get_or_intern`.
+#[derive(Clone, Copy)]
+enum Way {
+    Copied,
+    TryStatic,
+    Static,
+}
+
+// Texts of the letter and a number, as static texts. They are never freed.
+fn leaked(alloc: Global, letter: &str) -> Result<Vec<&'static str>, Fail> {
+    let mut texts = Vec::new(alloc);
+    for number in 0..EACH {
+        let bytes: &'static [u8] = format!(in alloc; "{letter}{number}")?.into_bytes().leak();
+        texts.push(std::str::from_utf8(bytes).ok().ok_or("no text")?)?;
+    }
+    Ok(texts)
+}
+
+fn key_by<R: Wait>(
+    rt: &R,
+    shared: &Shared,
+    way: Way,
+    text: &'static str,
+) -> LassoResult<Spur> {
+    match way {
+        Way::Copied => shared.get_or_intern(rt, text),
+        Way::TryStatic => shared.try_get_or_intern_static(rt, text),
+        Way::Static => shared.get_or_intern_static(rt, text),
+    }
+}
+
+// Interns the texts by the call. Returns whether each key resolves to its text.
+fn interns_by<R: Wait>(
+    rt: &R,
+    shared: &Shared,
+    way: Way,
+    texts: &[&'static str],
+) -> LassoResult<bool> {
+    let mut all = true;
+    for text in texts.iter() {
+        let key = key_by(rt, shared, way, *text)?;
+        if !is_key_of(shared, key, *text) {
+            all = false;
+        }
+    }
+    Ok(all)
+}
+
+// Two threads intern a list each by the call. Returns whether each key resolves to its text.
+fn both_intern_by<R: Threads + Wait + Sync>(
+    rt: &R,
+    shared: &Shared,
+    way: Way,
+    one: &[&'static str],
+    other: &[&'static str],
+) -> LassoResult<bool> {
+    let (first, second) = join(
+        rt,
+        || interns_by(rt, shared, way, one),
+        || interns_by(rt, shared, way, other),
+    );
+    let (first, second) = (first?, second?);
+    Ok(first && second)
+}
+
+#[test]
+fn two_threads_intern_by_each_call(rt: HostRuntime) -> Result<(), Fail> {
+    let a = leaked(rt.alloc(), "a")?;
+    let b = leaked(rt.alloc(), "b")?;
+    for way in [Way::Copied, Way::TryStatic, Way::Static] {
+        let shared = made(rt.alloc())?;
+        assert!(rt; both_intern_by(&rt, &shared, way, &a, &b)?);
+        assert!(rt; len(&shared) == 20_000);
+    }
+    Ok(())
 }
 
 #[test]

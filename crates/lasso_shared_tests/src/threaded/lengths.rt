@@ -25,16 +25,27 @@ enum Way {
     StaticByPass,
 }
 
-// Each call, with a letter of its own.
-const WAYS: [(Way, &str); 7] = [
+const WAYS: [Way; 7] = [
+    Way::TryCopied,
+    Way::Copied,
+    Way::TryStatic,
+    Way::Static,
+    Way::Item,
+    Way::CopiedByPass,
+    Way::StaticByPass,
+];
+
+// The calls without a pass, each with a letter of its own.
+const PLAINLY: [(Way, &str); 5] = [
     (Way::TryCopied, "a"),
     (Way::Copied, "b"),
     (Way::TryStatic, "c"),
     (Way::Static, "d"),
     (Way::Item, "e"),
-    (Way::CopiedByPass, "f"),
-    (Way::StaticByPass, "g"),
 ];
+
+// The calls with a pass.
+const BY_PASS: [(Way, &str); 2] = [(Way::CopiedByPass, "a"), (Way::StaticByPass, "b")];
 
 // Interns the text by the call. Returns its number, which is looked up after `extend`.
 fn interned<K: Key, R: Wait>(
@@ -78,11 +89,12 @@ fn is_last(shared: &Shared, text: &str, number: usize) -> Result<bool, Fail> {
     Ok(there && past && keys && len(shared) == next && !shared.is_empty())
 }
 
-// Interns a new text by one call, and then by each. Returns whether it has the next number each time, and each reading finds it
+// Interns a new text by one call, and then by each of `ways`. Returns whether it has the next number each time, and each reading finds it
 // and no other text.
 fn is_interned_next<R: Wait>(
     rt: &R,
     shared: &Shared,
+    ways: &[(Way, &str)],
     way: Way,
     text: &'static str,
     absent: &str,
@@ -91,30 +103,69 @@ fn is_interned_next<R: Wait>(
     let mut all = !contains(rt, shared, text) && found(rt, shared, text).is_none();
     all &= interned(rt, shared, way, text)? == Some(number);
     all &= has_just_one(rt, shared, text, number, absent);
-    for (again, _) in WAYS {
-        all &= interned(rt, shared, again, text)? == Some(number);
+    for (again, _) in ways {
+        all &= interned(rt, shared, *again, text)? == Some(number);
     }
     all &= has_just_one(rt, shared, text, number, absent);
     Ok(all && is_last(shared, text, number)?)
 }
 
-#[test]
-fn a_text_of_each_length_is_found(rt: HostRuntime) -> Result<(), Fail> {
+// Interns a text of each length by each of these calls. Returns how many texts there are then.
+fn found_at_each_length<R: AllocGlobal + Wait + Abort>(
+    rt: &R,
+    ways: &[(Way, &str)],
+) -> Result<usize, Fail> {
     let shared = made(rt.alloc())?;
     let mut number: usize = 0;
     for length in LENGTHS {
-        for (way, letter) in WAYS {
+        for (way, letter) in ways {
             let text = lasting(rt.alloc(), letter, length)?;
             let absent = ended(rt.alloc(), letter, length)?;
             assert!(rt; len(&shared) == number);
             assert!(rt;
-                is_interned_next(&rt, &shared, way, text, absent.as_str())?,
+                is_interned_next(rt, &shared, ways, *way, text, absent.as_str())?,
                 "{letter} {length}"
             );
             number = number.saturating_add(1);
         }
     }
-    assert!(rt; number == 287);
+    Ok(number)
+}
+
+#[test]
+fn a_text_of_each_length_is_found(rt: HostRuntime) -> Result<(), Fail> {
+    assert!(rt; found_at_each_length(&rt, &PLAINLY)? == 205);
+    Ok(())
+}
+
+#[test]
+fn a_text_of_each_length_is_found_by_a_pass(rt: HostRuntime) -> Result<(), Fail> {
+    assert!(rt; found_at_each_length(&rt, &BY_PASS)? == 82);
+    Ok(())
+}
+
+// Interns the empty text by one call, and then by each, where the only bucket has one byte. Returns whether all replies are right, and
+// the byte and the limit are left.
+fn empty_text_takes_no_byte<R: AllocGlobal + Wait>(rt: &R, way: Way) -> Result<bool, Fail> {
+    let shared: Shared = limited(rt.alloc(), 1, 1)?;
+    let mut all = reads_all(rt, &shared, "") && has_sums(rt, &shared, 0, 1);
+    all &= interned(rt, &shared, way, "")? == Some(0);
+    all &= has_just_one(rt, &shared, "", 0, "a") && has_sums(rt, &shared, 1, 1);
+    for again in WAYS {
+        all &= interned(rt, &shared, again, "")? == Some(0);
+    }
+    all &= has_just_one(rt, &shared, "", 0, "a") && is_last(&shared, "", 0)?;
+    all &= reads_all(rt, &shared, "a") && has_sums(rt, &shared, 1, 1);
+    let fits = copied(rt, &shared, "z")? == 1;
+    let full = answered(copied(rt, &shared, "y")) == Err(LassoErrorKind::MemoryLimitReached);
+    Ok(all && fits && full && has_sums(rt, &shared, 2, 1))
+}
+
+#[test]
+fn the_empty_text_is_found(rt: HostRuntime) -> Result<(), Fail> {
+    for way in WAYS {
+        assert!(rt; empty_text_takes_no_byte(&rt, way)?);
+    }
     Ok(())
 }
 
@@ -186,7 +237,7 @@ fn refused_until_static<R: AllocGlobal + Wait>(
     let mut all = copied_so(rt, &shared, first.as_str())? == 0;
     all &= are_refused(rt, &shared, second) && has_sums(rt, &shared, 1, length);
     all &= interned(rt, &shared, way, second)? == Some(1);
-    for (again, _) in WAYS {
+    for again in WAYS {
         all &= interned(rt, &shared, again, second)? == Some(1);
     }
     all &= copied(rt, &shared, first.as_str())? == 0;
@@ -204,19 +255,20 @@ fn a_refused_text_leaves_nothing(rt: HostRuntime) -> Result<(), Fail> {
 }
 
 // Interns two texts of `length` bytes under the only two keys. Returns whether each call refuses a third text because no key is left,
-// and still gives the two their numbers.
+// still gives the two their numbers, and leaves the limit.
 fn keys_are_used_up<R: AllocGlobal + Wait>(rt: &R, length: usize) -> Result<bool, Fail> {
     let shared: ThreadedRodeo<BelowTwo, FixedState> = hashed(rt.alloc())?;
     let first = lasting(rt.alloc(), "a", length)?;
     let second = lasting(rt.alloc(), "b", length)?;
     let third = lasting(rt.alloc(), "c", length)?;
     let mut all = copied_so(rt, &shared, first)? == 0 && kept_so(rt, &shared, second)? == 1;
-    for (way, _) in WAYS {
+    for way in WAYS {
         let reply = answered(interned(rt, &shared, way, third));
         all &= reply == Err(LassoErrorKind::KeySpaceExhaustion);
         all &= interned(rt, &shared, way, first)? == Some(0);
         all &= interned(rt, &shared, way, second)? == Some(1);
         all &= !contains(rt, &shared, third) && len(&shared) == 2;
+        all &= limit(rt, &shared) == usize::MAX;
     }
     Ok(all)
 }

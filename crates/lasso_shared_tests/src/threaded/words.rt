@@ -31,6 +31,20 @@ fn words_have_the_lowest_keys(rt: HostRuntime) -> Result<(), Fail> {
     Ok(())
 }
 
+fn opened_with_none(alloc: Global) -> LassoResult<Shared> {
+    ThreadedRodeo::from_static(alloc, &[])
+}
+
+#[test]
+fn no_words_make_an_empty_interner(rt: HostRuntime) -> Result<(), Fail> {
+    let shared = opened_with_none(rt.alloc())?;
+    assert!(rt; len(&shared) == 0 && usage(&rt, &shared) == 4096);
+    assert!(rt; limit(&rt, &shared) == usize::MAX);
+    let name = shared.try_get_or_intern(&rt, "width")?;
+    assert!(rt; name.into_usize() == 0);
+    Ok(())
+}
+
 // The keywords and a later text, in the order of their keys.
 const TEXTS: [&str; 4] = [
     "if",
