@@ -6,7 +6,7 @@ use crate::interfaces::{
     static_texts_under_no_limit,
 };
 use lasso::interface::laws::{interns_as_one, reader_knows, resolver_knows};
-use lasso::interface::{IntoReader, IntoResolver};
+use lasso::interface::{Interner, IntoReader, IntoResolver};
 use lasso::{Capacity, LassoResult, MemoryLimits, Spur, SpurThreadedRodeo, ThreadedRodeo};
 use std::alloc::Global;
 use std::process::Abort;
@@ -142,6 +142,78 @@ fn two_threads_intern_through_references(rt: HostRuntime) -> Result<(), Fail> {
     assert!(rt; here?);
     assert!(rt; there?);
     assert!(rt; shared.len() == 2);
+    Ok(())
+}
+
+// The calls of `Interner`.
+#[derive(Clone, Copy)]
+enum Way {
+    TryCopied,
+    Copied,
+    TryStatic,
+    Static,
+}
+
+const WAYS: [Way; 4] = [Way::TryCopied, Way::Copied, Way::TryStatic, Way::Static];
+
+// How many texts each thread interns.
+const EACH: u32 = 3000;
+
+// Texts of the letter and a number, as static texts. They are never freed.
+fn leaked(alloc: Global, letter: &str) -> Result<Vec<&'static str>, Fail> {
+    let mut texts = Vec::new(alloc);
+    for number in 0..EACH {
+        let bytes: &'static [u8] = format!(in alloc; "{letter}{number}")?.into_bytes().leak();
+        texts.push(std::str::from_utf8(bytes).ok().ok_or("no text")?)?;
+    }
+    Ok(texts)
+}
+
+fn key_by<I: Interner<Spur>, R: Wait>(
+    rt: &R,
+    interner: &mut I,
+    way: Way,
+    text: &'static str,
+) -> LassoResult<Spur> {
+    match way {
+        Way::TryCopied => interner.try_get_or_intern(rt, text),
+        Way::Copied => interner.get_or_intern(rt, text),
+        Way::TryStatic => interner.try_get_or_intern_static(rt, text),
+        Way::Static => interner.get_or_intern_static(rt, text),
+    }
+}
+
+// Interns the texts through a reference. Returns whether each key resolves to its text.
+fn interns_by<R: Wait>(
+    rt: &R,
+    mut shared: &SpurThreadedRodeo,
+    way: Way,
+    texts: &[&'static str],
+) -> LassoResult<bool> {
+    let mut all = true;
+    for text in texts.iter() {
+        let key = key_by(rt, &mut shared, way, *text)?;
+        if shared.try_resolve(key) != Some(*text) {
+            all = false;
+        }
+    }
+    Ok(all)
+}
+
+#[test]
+fn two_threads_intern_many_through_references(rt: HostRuntime) -> Result<(), Fail> {
+    let (one, other) = (leaked(rt.alloc(), "a")?, leaked(rt.alloc(), "b")?);
+    for way in WAYS {
+        let shared = fresh(rt.alloc())?;
+        let (here, there) = join(
+            &rt,
+            || interns_by(&rt, &shared, way, &one),
+            || interns_by(&rt, &shared, way, &other),
+        );
+        assert!(rt; here?);
+        assert!(rt; there?);
+        assert!(rt; shared.len() == 6000);
+    }
     Ok(())
 }
 

@@ -22,6 +22,7 @@ mod makers;
 mod many;
 mod memory;
 mod passes;
+mod setters;
 mod showing;
 mod unseen;
 mod walking;

@@ -1,5 +1,5 @@
 //! An interner that threads share, compared with others and with the forms for one thread.
-use crate::calls::{Shared, answered, copied, limit, limited, made, set_limit};
+use crate::calls::{Shared, answered, copied, hashed, limit, limited, made, set_limit};
 use crate::texts::{LENGTHS, ended, lettered, numbered};
 use lasso_parts::keys::Spur;
 use lasso_parts::util::{FixedState, LassoErrorKind, LassoResult};
@@ -7,7 +7,9 @@ use lasso_shared::threaded::ThreadedRodeo;
 use lasso_single::reader::RodeoReader;
 use lasso_single::resolver::RodeoResolver;
 use lasso_single::rodeo::Rodeo;
+use lasso_testing::hashers::{FirstState, LowState, SameState};
 use std::alloc::{AllocError, Global};
+use std::hash::BuildHasher;
 use std::sync::Wait;
 use std::test::*;
 
@@ -106,6 +108,48 @@ fn a_longer_list_is_not_equal(rt: HostRuntime) -> Result<(), Fail> {
     assert!(rt; shorter == (false, false, false, false));
     let empty = single_of_all(rt.alloc(), &[])?;
     assert!(rt; is_equal_to_forms(&rt, &shared, &empty)? == (false, false, false));
+    Ok(())
+}
+
+// An interner of a, b and c whose indexes use such a hasher.
+fn letters_by<S: BuildHasher + Default + Drop, R: Wait>(
+    rt: &R,
+    alloc: Global,
+    last: &'static str,
+) -> Result<ThreadedRodeo<Spur, S>, Fail> {
+    let shared: ThreadedRodeo<Spur, S> = hashed(alloc)?;
+    for text in ["a", "b", last] {
+        copied(rt, &shared, text)?;
+    }
+    Ok(shared)
+}
+
+// Whether each of the two interners is equal to the other.
+fn are_equal<S: BuildHasher + Drop, T: BuildHasher + Drop, R: Wait>(
+    rt: &R,
+    one: &ThreadedRodeo<Spur, S>,
+    other: &ThreadedRodeo<Spur, T>,
+) -> bool {
+    one.eq_threaded(rt, other) && other.eq_threaded(rt, one)
+}
+
+// Whether interners with these two kinds of hashers are equal exactly where their lists are.
+fn are_equal_by_lists<S: BuildHasher + Default + Drop, T: BuildHasher + Default + Drop, R: Wait>(
+    rt: &R,
+    alloc: Global,
+) -> Result<bool, Fail> {
+    let one: ThreadedRodeo<Spur, S> = letters_by(rt, alloc, "c")?;
+    let same: ThreadedRodeo<Spur, T> = letters_by(rt, alloc, "c")?;
+    let other: ThreadedRodeo<Spur, T> = letters_by(rt, alloc, "d")?;
+    Ok(are_equal(rt, &one, &same) && !one.eq_threaded(rt, &other) && !other.eq_threaded(rt, &one))
+}
+
+#[test]
+fn no_hasher_makes_lists_unequal(rt: HostRuntime) -> Result<(), Fail> {
+    let alloc = rt.alloc();
+    assert!(rt; are_equal_by_lists::<FixedState, SameState, _>(&rt, alloc)?);
+    assert!(rt; are_equal_by_lists::<FirstState, FixedState, _>(&rt, alloc)?);
+    assert!(rt; are_equal_by_lists::<LowState, FirstState, _>(&rt, alloc)?);
     Ok(())
 }
 

@@ -15,7 +15,7 @@ use std::test::*;
 
 // A call that interns a text, with a pass of its own or without one.
 #[derive(Clone, Copy)]
-enum Way {
+pub(super) enum Way {
     TryCopied,
     Copied,
     TryStatic,
@@ -35,6 +35,14 @@ const WAYS: [Way; 7] = [
     Way::StaticByPass,
 ];
 
+// The calls that copy the text.
+pub(super) const COPYING: [Way; 4] = [
+    Way::TryCopied,
+    Way::Copied,
+    Way::Item,
+    Way::CopiedByPass,
+];
+
 // The calls without a pass, each with a letter of its own.
 const PLAINLY: [(Way, &str); 5] = [
     (Way::TryCopied, "a"),
@@ -48,7 +56,7 @@ const PLAINLY: [(Way, &str); 5] = [
 const BY_PASS: [(Way, &str); 2] = [(Way::CopiedByPass, "a"), (Way::StaticByPass, "b")];
 
 // Interns the text by the call. Returns its number, which is looked up after `extend`.
-fn interned<K: Key, R: Wait>(
+pub(super) fn interned<K: Key, R: Wait>(
     rt: &R,
     shared: &ThreadedRodeo<K, FixedState>,
     way: Way,
@@ -214,7 +222,7 @@ fn no_reading_takes_a_byte_of_a_text(rt: HostRuntime) -> Result<(), Fail> {
 // Whether each call that copies refuses the text by the limit, and the text stays absent.
 fn are_refused<R: Wait>(rt: &R, shared: &Shared, text: &'static str) -> bool {
     let mut all = true;
-    for way in [Way::TryCopied, Way::Copied, Way::Item, Way::CopiedByPass] {
+    for way in COPYING {
         all &= answered(interned(rt, shared, way, text)) == Err(LassoErrorKind::MemoryLimitReached);
         all &= !contains(rt, shared, text) && found(rt, shared, text).is_none();
     }
