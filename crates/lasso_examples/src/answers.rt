@@ -6,6 +6,9 @@ use std::process::Abort;
 /// The refusal by a memory limit.
 pub const LIMIT: LassoErrorKind = LassoErrorKind::MemoryLimitReached;
 
+/// The refusal because no key is left.
+pub const NO_KEY: LassoErrorKind = LassoErrorKind::KeySpaceExhaustion;
+
 /// The number of a key, or the refusal.
 pub type Answer = Result<usize, LassoErrorKind>;
 

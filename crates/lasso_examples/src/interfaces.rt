@@ -1,5 +1,5 @@
 //! Each call of the interfaces at each type that has it, and rows of answers through generic code.
-use crate::answers::{Answer, LIMIT, hello, is_answer, limited, of_four_bytes};
+use crate::answers::{Answer, LIMIT, NO_KEY, hello, is_answer, limited, of_four_bytes};
 use lasso::interface::holders::{
     boxed_rodeo_interns_as_one, lent_rodeo_interns_as_one, reader_finds_what_resolves,
     reader_of_boxed_rodeo_knows, reader_of_rodeo_knows, resolver_looks_up_alike,
@@ -122,6 +122,8 @@ pub fn static_texts_under_no_limit<K: Key, R: Abort + Wait, I: Interner<K>>(
     rt: &R,
     interner: &mut I,
 ) {
+    finds(rt, interner, "abc", Some(0));
+    finds(rt, interner, "defg", None);
     gets(rt, interner, "defg", Ok(1));
     tries(rt, interner, "0123456789", Err(LIMIT));
     gets(rt, interner, "0123456789", Err(LIMIT));
@@ -129,6 +131,15 @@ pub fn static_texts_under_no_limit<K: Key, R: Abort + Wait, I: Interner<K>>(
     tries_static(rt, interner, "0123456789", Ok(2));
     gets_static(rt, interner, "9876543210", Ok(3));
     has_so_many(rt, interner, 4);
+}
+
+/// What an interner with a text under each key answers for a new text.
+pub fn no_key_is_left<K: Key, R: Abort + Wait, I: Interner<K>>(rt: &R, interner: &mut I) {
+    tries(rt, interner, "new", Err(NO_KEY));
+    gets(rt, interner, "new", Err(NO_KEY));
+    tries_static(rt, interner, "new", Err(NO_KEY));
+    gets_static(rt, interner, "new", Err(NO_KEY));
+    finds(rt, interner, "new", None);
 }
 
 fn has_so_many<K: Key, R: Abort, T: Resolver<K>>(rt: &R, resolver: &T, wanted: usize) {

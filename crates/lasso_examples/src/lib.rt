@@ -32,4 +32,6 @@ mod shared_lists;
 #[cfg(test)]
 mod shared_plain;
 #[cfg(test)]
+mod shared_threads;
+#[cfg(test)]
 mod walks;

@@ -2,12 +2,15 @@
 //! list of its own, so the clauses of the interfaces leave it alone: that they answer as its own calls do,
 //! and refuse and copy no more than these, is tested here.
 use crate::interfaces::{
-    freezes, has_one_text, one_text, resolves_one_text, static_texts_take_no_bytes,
-    static_texts_under_no_limit,
+    freezes, has_one_text, no_key_is_left, one_text, resolves_one_text,
+    static_texts_take_no_bytes, static_texts_under_no_limit,
 };
 use lasso::interface::laws::{interns_as_one, reader_knows, resolver_knows};
-use lasso::interface::{Interner, IntoReader, IntoResolver};
-use lasso::{Capacity, LassoResult, MemoryLimits, Spur, SpurThreadedRodeo, ThreadedRodeo};
+use lasso::interface::{IntoReader, IntoResolver};
+use lasso::{
+    Capacity, FixedState, LassoResult, MemoryLimits, MicroSpur, Spur, SpurThreadedRodeo,
+    ThreadedRodeo,
+};
 use std::alloc::Global;
 use std::process::Abort;
 use std::sync::Wait;
@@ -131,6 +134,25 @@ fn static_texts_take_no_bytes_of_a_held_shared_interner(rt: HostRuntime) -> Resu
     Ok(())
 }
 
+// A shared interner with a text under each of the 255 keys.
+fn full(rt: &impl Wait, alloc: Global) -> Result<ThreadedRodeo<MicroSpur, FixedState>, Fail> {
+    let shared = ThreadedRodeo::default(alloc)?;
+    for number in 0..255u32 {
+        let text = format!(in alloc; "{number}")?;
+        shared.try_get_or_intern(rt, text.as_str())?;
+    }
+    Ok(shared)
+}
+
+#[test]
+fn no_key_is_left_in_a_shared_interner(rt: HostRuntime) -> Result<(), Fail> {
+    let mut rodeo = full(&rt, rt.alloc())?;
+    no_key_is_left::<MicroSpur, _, _>(&rt, &mut rodeo);
+    no_key_is_left::<MicroSpur, _, _>(&rt, &mut &rodeo);
+    assert!(rt; rodeo.len() == 255);
+    Ok(())
+}
+
 #[test]
 fn two_threads_intern_through_references(rt: HostRuntime) -> Result<(), Fail> {
     let shared: SpurThreadedRodeo = ThreadedRodeo::default(rt.alloc())?;
@@ -142,78 +164,6 @@ fn two_threads_intern_through_references(rt: HostRuntime) -> Result<(), Fail> {
     assert!(rt; here?);
     assert!(rt; there?);
     assert!(rt; shared.len() == 2);
-    Ok(())
-}
-
-// The calls of `Interner`.
-#[derive(Clone, Copy)]
-enum Way {
-    TryCopied,
-    Copied,
-    TryStatic,
-    Static,
-}
-
-const WAYS: [Way; 4] = [Way::TryCopied, Way::Copied, Way::TryStatic, Way::Static];
-
-// How many texts each thread interns.
-const EACH: u32 = 3000;
-
-// Texts of the letter and a number, as static texts. They are never freed.
-fn leaked(alloc: Global, letter: &str) -> Result<Vec<&'static str>, Fail> {
-    let mut texts = Vec::new(alloc);
-    for number in 0..EACH {
-        let bytes: &'static [u8] = format!(in alloc; "{letter}{number}")?.into_bytes().leak();
-        texts.push(std::str::from_utf8(bytes).ok().ok_or("no text")?)?;
-    }
-    Ok(texts)
-}
-
-fn key_by<I: Interner<Spur>, R: Wait>(
-    rt: &R,
-    interner: &mut I,
-    way: Way,
-    text: &'static str,
-) -> LassoResult<Spur> {
-    match way {
-        Way::TryCopied => interner.try_get_or_intern(rt, text),
-        Way::Copied => interner.get_or_intern(rt, text),
-        Way::TryStatic => interner.try_get_or_intern_static(rt, text),
-        Way::Static => interner.get_or_intern_static(rt, text),
-    }
-}
-
-// Interns the texts through a reference. Returns whether each key resolves to its text.
-fn interns_by<R: Wait>(
-    rt: &R,
-    mut shared: &SpurThreadedRodeo,
-    way: Way,
-    texts: &[&'static str],
-) -> LassoResult<bool> {
-    let mut all = true;
-    for text in texts.iter() {
-        let key = key_by(rt, &mut shared, way, *text)?;
-        if shared.try_resolve(key) != Some(*text) {
-            all = false;
-        }
-    }
-    Ok(all)
-}
-
-#[test]
-fn two_threads_intern_many_through_references(rt: HostRuntime) -> Result<(), Fail> {
-    let (one, other) = (leaked(rt.alloc(), "a")?, leaked(rt.alloc(), "b")?);
-    for way in WAYS {
-        let shared = fresh(rt.alloc())?;
-        let (here, there) = join(
-            &rt,
-            || interns_by(&rt, &shared, way, &one),
-            || interns_by(&rt, &shared, way, &other),
-        );
-        assert!(rt; here?);
-        assert!(rt; there?);
-        assert!(rt; shared.len() == 6000);
-    }
     Ok(())
 }
 

@@ -137,14 +137,17 @@ fn no_other_call_sets_a_limit(rt: HostRuntime) -> Result<(), Fail> {
     Ok(())
 }
 
-// Sets the limits 0 and 1 in turn until the other thread is done.
-fn alternates<R: Wait>(rt: &R, shared: &Shared, done: &AtomicBool) {
+// Sets the limits 0 and 1 in turn until the other thread is done. Returns whether each is read as it was set.
+fn alternates<R: Wait>(rt: &R, shared: &Shared, done: &AtomicBool) -> bool {
+    let mut all = true;
     for turn in 0..MOST {
         if done.load(Ordering::SeqCst) {
             break;
         }
         set_in_turn(rt, shared, turn / 2, turn % 2);
+        all &= limit(rt, shared) == turn % 2;
     }
+    all
 }
 
 // Whether the limit refuses each copy of the texts.
@@ -176,12 +179,12 @@ fn none_has_room<R: AllocGlobal + Threads + Wait + Sync>(
 ) -> Result<bool, Fail> {
     let shared: Shared = limited(rt.alloc(), 1, 1)?;
     let done = AtomicBool::new(false);
-    let (_, refused) = join(
+    let (set, refused) = join(
         rt,
         || alternates(rt, &shared, &done),
         || are_refused_until_done(rt, &shared, texts, &done),
     );
-    Ok(refused && len(&shared) == 0 && usage(rt, &shared) == 1)
+    Ok(set && refused && len(&shared) == 0 && usage(rt, &shared) == 1)
 }
 
 #[test]
