@@ -136,7 +136,7 @@ fn static_texts_take_no_bytes_of_a_held_shared_interner(rt: HostRuntime) -> Resu
 
 // A shared interner with a text under each of the 255 keys.
 fn full(rt: &impl Wait, alloc: Global) -> Result<ThreadedRodeo<MicroSpur, FixedState>, Fail> {
-    let shared = ThreadedRodeo::default(alloc)?;
+    let shared = ThreadedRodeo::with_hasher(alloc, FixedState::new())?;
     for number in 0..255u32 {
         let text = format!(in alloc; "{number}")?;
         shared.try_get_or_intern(rt, text.as_str())?;
