@@ -2,8 +2,8 @@
 //! list of its own, so the clauses of the interfaces leave it alone: that they answer as its own calls do,
 //! and refuse and copy no more than these, is tested here.
 use crate::interfaces::{
-    freezes, has_one_text, no_key_is_left, one_text, resolves_one_text,
-    static_texts_take_no_bytes, static_texts_under_no_limit,
+    freezes, has_one_text, no_key_is_left, one_text, resolves_one_text, static_texts_take_no_bytes,
+    static_texts_under_no_limit,
 };
 use lasso::interface::laws::{interns_as_one, reader_knows, resolver_knows};
 use lasso::interface::{IntoReader, IntoResolver};

@@ -86,7 +86,10 @@ fn bytes_of_room_for_texts(rt: HostRuntime) -> Result<(), Fail> {
     for (texts, cells) in rooms {
         let shared = roomy(rt.alloc(), texts)?;
         let list = CELL.saturating_mul(cells);
-        assert!(rt; allocated(&rt, &shared) == list.saturating_add(10), "{texts}");
+        assert!(rt;
+            allocated(&rt, &shared) == list.saturating_add(10),
+            "{texts}"
+        );
     }
     // the default is room for 50 texts, and 4096 bytes
     assert!(rt; allocated(&rt, &made(rt.alloc())?) == 6144);

@@ -111,12 +111,7 @@ fn leaked(alloc: Global, letter: &str) -> Result<Vec<&'static str>, Fail> {
     Ok(texts)
 }
 
-fn key_by<R: Wait>(
-    rt: &R,
-    shared: &Shared,
-    way: Way,
-    text: &'static str,
-) -> LassoResult<Spur> {
+fn key_by<R: Wait>(rt: &R, shared: &Shared, way: Way, text: &'static str) -> LassoResult<Spur> {
     match way {
         Way::Copied => shared.get_or_intern(rt, text),
         Way::TryStatic => shared.try_get_or_intern_static(rt, text),

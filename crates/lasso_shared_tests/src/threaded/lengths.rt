@@ -36,12 +36,7 @@ const WAYS: [Way; 7] = [
 ];
 
 // The calls that copy the text.
-pub(super) const COPYING: [Way; 4] = [
-    Way::TryCopied,
-    Way::Copied,
-    Way::Item,
-    Way::CopiedByPass,
-];
+pub(super) const COPYING: [Way; 4] = [Way::TryCopied, Way::Copied, Way::Item, Way::CopiedByPass];
 
 // The calls without a pass, each with a letter of its own.
 const PLAINLY: [(Way, &str); 5] = [
