@@ -74,7 +74,7 @@ $(LIBRARY): $(SOURCES) | toolchain
 
 #: make test                         the gate: make docs, then rt ci, which proves what did not pass on this machine before, and runs every test
 test: toolchain docs
-	rt ci
+	RT_JOBS=$${RT_JOBS-$$(.ci/jobs)} rt ci
 
 #: make docs                         checks the documents: links, names of files and clauses, lengths of lines;
 #:                                   and that each wrong body can be applied to the code as it is
