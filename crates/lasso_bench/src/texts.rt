@@ -20,24 +20,30 @@ impl Sample {
     /// `count` texts, and as many others. Each list is made on its own, so that a walk over it meets its
     /// texts side by side. The only error is out of memory.
     pub fn new(alloc: Global, count: u32) -> Result<Self, AllocError> {
-        let mut texts = Vec::new(alloc);
-        for number in 0..count {
-            texts.push(numbered_text(alloc, u64::from(number))?)?;
-        }
-        let mut again = Vec::new(alloc);
-        for number in 0..count {
-            again.push(numbered_text(alloc, jumped(number, count))?)?;
-        }
-        let mut missing = Vec::new(alloc);
-        for number in 0..count {
-            missing.push(numbered_text(alloc, u64::from(count) + u64::from(number))?)?;
-        }
         Ok(Sample {
-            texts,
-            again,
-            missing,
+            texts: numbered_texts(alloc, 0, count)?,
+            again: jumped_texts(alloc, count)?,
+            missing: numbered_texts(alloc, count, count)?,
         })
     }
+}
+
+// The texts of `count` numbers, from `first` on.
+fn numbered_texts(alloc: Global, first: u32, count: u32) -> Result<Vec<String>, AllocError> {
+    let mut texts = Vec::new(alloc);
+    for number in 0..count {
+        texts.push(numbered_text(alloc, u64::from(first) + u64::from(number))?)?;
+    }
+    Ok(texts)
+}
+
+// The texts of the numbers below `count`, in the other order.
+fn jumped_texts(alloc: Global, count: u32) -> Result<Vec<String>, AllocError> {
+    let mut texts = Vec::new(alloc);
+    for number in 0..count {
+        texts.push(numbered_text(alloc, jumped(number, count))?)?;
+    }
+    Ok(texts)
 }
 
 /// The text with this number: no other number has it.

@@ -2,10 +2,6 @@
 #![tactic(auto)]
 
 #[cfg(test)]
-mod calls;
-#[cfg(test)]
 mod shards;
-#[cfg(test)]
-mod texts;
 #[cfg(test)]
 mod threaded;

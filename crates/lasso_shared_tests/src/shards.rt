@@ -6,7 +6,6 @@ mod armed;
 mod copied;
 mod writers;
 
-use crate::calls::{answered, found, hashed, kept, len};
 use lasso_log::log::Opened;
 use lasso_parts::index::hash_text;
 use lasso_parts::keys::{Key, MicroSpur, Spur};
@@ -14,6 +13,7 @@ use lasso_parts::util::{FixedState, LassoErrorKind, LassoResult};
 use lasso_shared::shards::Shards;
 use lasso_shared::shards::tag::number_of;
 use lasso_shared::threaded::ThreadedRodeo;
+use lasso_shared_testing::calls::{answered, found, hashed, kept, len};
 use lasso_single::reader::RodeoReader;
 use lasso_testing::hashers::{FirstState, SameState};
 use std::alloc::Global;

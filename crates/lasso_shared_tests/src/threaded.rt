@@ -2,39 +2,26 @@
 ghost use Rattle.std.specs.Prelude.{◌≡◌};
 
 mod callers;
-mod collisions;
-mod comparing;
 mod copied;
 mod counted;
-mod counts;
-mod crowd;
 mod debug;
-mod every_call;
-mod falling;
 mod filling;
 mod freezing;
-mod gaps;
 mod json;
-mod lengths;
-mod limits;
 mod looking;
 mod makers;
-mod many;
 mod memory;
 mod passes;
-mod setters;
-mod showing;
-mod unseen;
 mod walking;
 mod words;
 
-use crate::calls::{
-    Shared, hashed, kept_as, len_as, made, pass_of, seen_by, stands_for, text_at_as,
-};
 use lasso_log::log::Pass;
 use lasso_parts::keys::{Key, Spur};
 use lasso_parts::util::{FixedState, LassoErrorKind, LassoResult};
 use lasso_shared::threaded::ThreadedRodeo;
+use lasso_shared_testing::calls::{
+    Shared, hashed, kept_as, len_as, made, pass_of, seen_by, stands_for, text_at_as,
+};
 use lasso_testing::keys::BelowTwo;
 use std::process::Abort;
 use std::sync::Wait;

@@ -2,11 +2,11 @@
 ghost use Rattle.std.specs.Prelude.{◌≢◌};
 
 use super::{TEXTS, kept_slots, takes_first};
-use crate::calls::answered;
 use lasso_log::log::Opened;
 use lasso_parts::keys::{Key, MicroSpur, Spur};
 use lasso_parts::util::{FixedState, LassoErrorKind, LassoResult};
 use lasso_shared::shards::Shards;
+use lasso_shared_testing::calls::answered;
 use std::alloc::Global;
 use std::sync::Wait;
 use std::test::*;

@@ -1,9 +1,9 @@
 //! Writers of two shards, which do not wait for each other.
-use crate::calls::{copied, kept, len};
 use crate::shards::armed::{ArmedState, Gate};
 use lasso_parts::keys::Spur;
 use lasso_parts::util::LassoResult;
 use lasso_shared::threaded::ThreadedRodeo;
+use lasso_shared_testing::calls::{copied, kept, len};
 use std::alloc::{AllocError, Global};
 use std::process::Abort;
 use std::sync::Wait;

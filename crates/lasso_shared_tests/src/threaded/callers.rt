@@ -2,7 +2,6 @@
 //! those of the calls, by the laws of `lasso_shared::laws`.
 ghost use Rattle.std.specs.Prelude.{◌≡◌, ◌≢◌, ◌↔◌, Some, IsTrue, IfOk, option_map};
 
-use crate::calls::{Shared, kept_as, made, pass_of, text_seen_by};
 use lasso_log::log::Pass;
 use lasso_parts::keys::{Key, Spur};
 use lasso_parts::util::{FixedState, LassoResult};
@@ -11,6 +10,7 @@ use lasso_shared::laws::{
     seen_texts_keep_keys,
 };
 use lasso_shared::threaded::ThreadedRodeo;
+use lasso_shared_testing::calls::{Shared, kept_as, made, pass_of, text_seen_by};
 use std::sync::Wait;
 use std::test::*;
 

@@ -1,11 +1,11 @@
 //! Copied texts: alone, together with static ones, and in two threads.
-use crate::calls::{
-    Shared, answered, copied, copied_as, copied_so, found, kept, kept_so, len, limit, limited,
-    made, number, pass_of, resolved, set_limit, stands_for, usage, with_bytes,
-};
 use lasso_parts::keys::{Key, MicroSpur, Spur};
 use lasso_parts::util::{Capacity, FixedState, LassoErrorKind, LassoResult, MemoryLimits};
 use lasso_shared::threaded::ThreadedRodeo;
+use lasso_shared_testing::calls::{
+    Shared, answered, copied, copied_as, copied_so, found, kept, kept_so, len, limit, limited,
+    made, number, pass_of, resolved, set_limit, stands_for, usage, with_bytes,
+};
 use lasso_testing::hashers::SameState;
 use std::alloc::Global;
 use std::hash::BuildHasher;

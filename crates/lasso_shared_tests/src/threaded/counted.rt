@@ -1,10 +1,12 @@
 //! `allocated_bytes` of an interner that threads share, after each of many texts. It always uses the global
 //! allocator, which no test can replace by one that counts. So the expected numbers are worked out by hand.
-use crate::calls::{Shared, allocated, copied, kept, made, roomless, text_at, usage};
-use crate::texts::numbered;
 use lasso_parts::keys::{Key, MicroSpur, Spur};
 use lasso_parts::util::{Capacity, LassoResult};
 use lasso_shared::threaded::ThreadedRodeo;
+use lasso_shared_testing::calls::{
+    Shared, allocated, copied, kept, made, roomless, text_at, usage,
+};
+use lasso_shared_testing::texts::numbered;
 use lasso_testing::hashers::{FirstState, LowState, SameState};
 use std::alloc::Global;
 use std::hash::BuildHasher;

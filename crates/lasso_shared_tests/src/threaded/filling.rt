@@ -1,8 +1,10 @@
 //! An interner that threads share, filled from items.
-use crate::calls::{Shared, answered, contains, found, len, limit, limited, made, resolved, usage};
-use crate::texts::numbered;
 use lasso_parts::util::{FixedState, LassoErrorKind, LassoResult};
 use lasso_shared::threaded::ThreadedRodeo;
+use lasso_shared_testing::calls::{
+    Shared, answered, contains, found, len, limit, limited, made, resolved, usage,
+};
+use lasso_shared_testing::texts::numbered;
 use lasso_testing::keys::BelowTwo;
 use std::alloc::Global;
 use std::sync::Wait;

@@ -1,11 +1,13 @@
 //! Frozen forms of an interner that threads share.
 ghost use Rattle.std.specs.Prelude.{◌≡◌};
 
-use crate::calls::{Reader, Shared, copied, kept_as, limited, made, number, pass_of, set_limit};
 use lasso_log::log::Pass;
 use lasso_parts::keys::{Key, Spur};
 use lasso_parts::util::{FixedState, LassoErrorKind, LassoResult};
 use lasso_shared::threaded::ThreadedRodeo;
+use lasso_shared_testing::calls::{
+    Reader, Shared, copied, kept_as, limited, made, number, pass_of, set_limit,
+};
 use lasso_single::reader::RodeoReader;
 use lasso_single::resolver::RodeoResolver;
 use lasso_testing::keys::WithoutTwo;

@@ -1,11 +1,11 @@
 //! Interners that threads share, read from JSON and written as JSON.
 mod kinds;
 
-use crate::calls::{Shared, contains, copied, found, len, limit, usage};
 use lasso_parts::json::JsonError;
 use lasso_parts::keys::{Key, MicroSpur, Spur};
 use lasso_parts::util::{FixedState, LassoResult};
 use lasso_shared::threaded::ThreadedRodeo;
+use lasso_shared_testing::calls::{Shared, contains, copied, found, len, limit, usage};
 use lasso_single::rodeo::Rodeo;
 use lasso_testing::hashers::{FirstState, SameState};
 use lasso_testing::keys::{WithoutTwo, WithoutZero};

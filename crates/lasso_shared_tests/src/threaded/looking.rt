@@ -1,12 +1,12 @@
 //! Calls that read, with a pass and without one.
 ghost use Rattle.std.specs.Prelude.{◌≡◌};
 
-use crate::calls::{
+use lasso_log::log::Pass;
+use lasso_parts::keys::Spur;
+use lasso_shared_testing::calls::{
     Shared, contains, found, found_as, is_key, is_key_as, kept, kept_so, key, len, made, pass_of,
     resolved, seen_by, text_at, text_seen_by,
 };
-use lasso_log::log::Pass;
-use lasso_parts::keys::Spur;
 use std::process::Abort;
 use std::sync::Wait;
 use std::test::*;

@@ -1,9 +1,9 @@
 //! What each maker makes: the usage, the limit and the number of cells.
 use super::FIRST;
-use crate::calls::{Shared, kept, limit, limited, usage};
 use lasso_parts::keys::{Key, MicroSpur, Spur};
 use lasso_parts::util::{Capacity, FixedState, LassoResult, MemoryLimits};
 use lasso_shared::threaded::ThreadedRodeo;
+use lasso_shared_testing::calls::{Shared, kept, limit, limited, usage};
 use std::alloc::Global;
 use std::sync::Wait;
 use std::test::*;

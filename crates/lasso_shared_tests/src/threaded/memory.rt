@@ -1,8 +1,10 @@
 //! Texts that are interned while memory is out. `bench/refused-tests` refuses the requests for memory. If
 //! none is refused, the first call interns each text.
 
-use crate::calls::{Shared, answered, contains, copied, kept, len, limited, text_at, usage};
 use lasso_parts::util::LassoErrorKind;
+use lasso_shared_testing::calls::{
+    Shared, answered, contains, copied, kept, len, limited, text_at, usage,
+};
 use std::sync::Wait;
 use std::test::*;
 

@@ -2,10 +2,12 @@
 ghost use Rattle.std.specs.Prelude.{◌≡◌};
 
 use super::FIRST;
-use crate::calls::{Shared, copied, kept, kept_as, limited, made, number, pass_of, set_limit};
 use lasso_log::log::Pass;
 use lasso_parts::keys::{Key, Spur};
 use lasso_shared::threaded::{Iter, Strings};
+use lasso_shared_testing::calls::{
+    Shared, copied, kept, kept_as, limited, made, number, pass_of, set_limit,
+};
 use std::process::Abort;
 use std::sync::Wait;
 use std::test::*;

@@ -1,8 +1,8 @@
 //! An interner that threads share, made from static words.
-use crate::calls::{Shared, found, len, limit, resolved, usage};
 use lasso_parts::keys::{Key, Spur};
 use lasso_parts::util::{FixedState, LassoErrorKind, LassoResult};
 use lasso_shared::threaded::ThreadedRodeo;
+use lasso_shared_testing::calls::{Shared, found, len, limit, resolved, usage};
 use lasso_single::rodeo::Rodeo;
 use lasso_testing::keys::BelowTwo;
 use std::alloc::Global;

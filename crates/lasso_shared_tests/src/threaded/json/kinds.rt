@@ -1,8 +1,8 @@
 //! JSON values of each kind in each role: alone, as an item, as the number of a text, and as its name.
 use super::{fault, read, wrong_with};
-use crate::calls::{Shared, len, usage};
 use lasso_parts::json::JsonError;
 use lasso_parts::keys::{Key, MicroSpur, MiniSpur, Spur};
+use lasso_shared_testing::calls::{Shared, len, usage};
 use serde_json::{Map, Number, Value};
 use std::alloc::Global;
 use std::test::*;
