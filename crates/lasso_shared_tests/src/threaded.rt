@@ -3,11 +3,6 @@ ghost use Rattle.std.specs.Prelude.{◌≡◌};
 
 mod callers;
 mod copied;
-mod counted;
-mod debug;
-mod filling;
-mod freezing;
-mod json;
 mod looking;
 mod makers;
 mod memory;

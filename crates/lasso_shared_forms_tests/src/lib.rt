@@ -1,0 +1,20 @@
+//! Tests of what is read off an interner that threads share: JSON, frozen forms, walks, counts, debug text and
+//! comparisons, over lists of many lengths.
+#![tactic(auto)]
+
+#[cfg(test)]
+mod comparing;
+#[cfg(test)]
+mod counts;
+#[cfg(test)]
+mod debug;
+#[cfg(test)]
+mod every_call;
+#[cfg(test)]
+mod freezing;
+#[cfg(test)]
+mod json;
+#[cfg(test)]
+mod many;
+#[cfg(test)]
+mod showing;
