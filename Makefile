@@ -23,7 +23,7 @@ define build
 	@rm -f crates/$(1)/out.log
 endef
 
-.PHONY: help try run codes c test docs clean input toolchain
+.PHONY: help try run codes c check test docs clean input crate toolchain
 
 #: make                              this list
 help:
@@ -72,6 +72,10 @@ $(LIBRARY): $(SOURCES) | toolchain
 	$(call build,lasso_c,lib)
 	@touch $(LIBRARY)
 
+#: make check CRATE=name             proves one crate, over the libraries below it, and runs its tests
+check: crate toolchain
+	@cd crates/$(CRATE) && rt check && if grep -rqF '#[test]' src; then rt test; fi
+
 #: make test                         the gate: make docs, then rt ci, which proves what did not pass on this machine before, and runs every test
 test: toolchain docs
 	RT_JOBS=$${RT_JOBS-$$(.ci/jobs)} rt ci
@@ -92,6 +96,9 @@ input:
 	@if [ ! -e "$$FILE" ]; then echo "FILE=$$FILE: there is no such file" >&2; exit 1; \
 	elif [ -d "$$FILE" ]; then echo "FILE=$$FILE: this is a folder; give a file of lines" >&2; exit 1; \
 	elif [ ! -r "$$FILE" ]; then echo "FILE=$$FILE: the file can't be read; see its permissions" >&2; exit 1; fi
+
+crate:
+	@[ -d "crates/$(or $(CRATE),?)/src" ] || { echo "CRATE=$(CRATE): name a crate of crates.txt, as in make check CRATE=lasso_single" >&2; exit 1; }
 
 toolchain:
 	@command -v rt > /dev/null || { echo "the toolchain's command rt is not in PATH: put the folder of rt there, and try again" >&2; exit 1; }
