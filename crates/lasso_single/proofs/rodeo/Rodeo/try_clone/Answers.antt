@@ -1,6 +1,8 @@
-use Rattle.std.proofs.Common.{◌≡◌, ◌≤◌, ap, ◌∙◌, arith}
-use Rattle.lasso_parts.specs.Account.{Account}
-use Rattle.lasso_single.specs.Copies.{bytes_of, clone_size}
+-- A clone begins with one bucket for just the bytes of the texts, which a `usize` counted; so only out of memory stops
+-- it, and its account is that of these texts stored in such a bucket.
+use Rattle.std.proofs.Common.{◌≡◌, ◌≤◌, ℕ, max, Some, subst, ap, ◌∙◌, arith}
+use Rattle.lasso_parts.specs.Account.{Account, fresh}
+use Rattle.lasso_single.specs.Copies.{bytes_of, clone_size, store_all}
 use Rattle.lasso_single.proofs.Copied.{clone_stops, bytes-le-clone_size, taken_at}
 use Rattle.lasso_single.proofs.rodeo.Rodeo.try_clone.Goals as goal
 
@@ -15,3 +17,34 @@ returns-in-Err-clause-refused g c =
     let fits : bytes_of texts ≤ made.room = omega (arith, room, bytes-le-clone_size texts) in
     let stopped = c.in-Err.ensures.stopped in
     clone_stops c.in_ok-copy.copy.first made texts stopped.0 c.in-Err.error c.copy_all.new.target.account fits stopped.1
+
+pub returns-in-Ok-clause-account : goal.returns-in-Ok-clause-account
+returns-in-Ok-clause-account g c =
+    let texts = c.args.self.now.texts in
+    let size = clone_size texts in
+    let limit = max c.args.self.now.account.limit size in
+    let stored = c.copy_all.new.target.account in
+    let first : c.in_ok-copy.copy.first ≡ size = c.in_ok-copy.ensures.made.0 ∙ c.in_ok-capacity.ensures.bytes in
+    let made : c.in_ok-copy.copy.account ≡ fresh size limit = grind (arith, c.in_ok-copy.ensures.account, c.new-limits.ensures, c.max-limit.ensures, c.max_memory_usage.ensures, c.bytes.ensures.value, c.in_ok-capacity.ensures.bytes, c.self.view_is) in
+    subst (λ (n : ℕ). store_all n (fresh size limit) texts ≡ Some stored) first (subst (λ (a : Account). store_all c.in_ok-copy.copy.first a texts ≡ Some stored) made c.in-Ok.ensures.account)
+
+pub returns-in-Ok-clause-made : goal.returns-in-Ok-clause-made
+returns-in-Ok-clause-made g c =
+    let made = c.in_ok-copy.ensures.made in
+    let origin = c.in-Ok.ensures.origin in
+    (origin.0 ∙ made.0 ∙ c.in_ok-capacity.ensures.bytes, omega (arith, c.in-Ok.ensures.copied, made.1), origin.1 ∙ made.2, origin.2 ∙ made.3)
+
+pub returns-in_err-hasher-clause-overflow : goal.returns-in_err-hasher-clause-overflow
+returns-in_err-hasher-clause-overflow g c too_many = absurd (omega (arith, too_many, c.in_ok-capacity.ensures.counted))
+
+pub returns-in_err-alloc-clause-overflow : goal.returns-in_err-alloc-clause-overflow
+returns-in_err-alloc-clause-overflow g c too_many = absurd (omega (arith, too_many, c.in_ok-capacity.ensures.counted))
+
+pub returns-in_err-copy-clause-overflow : goal.returns-in_err-copy-clause-overflow
+returns-in_err-copy-clause-overflow g c too_many = absurd (omega (arith, too_many, c.in_ok-capacity.ensures.counted))
+
+pub returns-in-Ok-clause-overflow : goal.returns-in-Ok-clause-overflow
+returns-in-Ok-clause-overflow g c too_many = absurd (omega (arith, too_many, c.in_ok-capacity.ensures.counted))
+
+pub returns-in-Err-clause-overflow : goal.returns-in-Err-clause-overflow
+returns-in-Err-clause-overflow g c too_many = absurd (omega (arith, too_many, c.in_ok-capacity.ensures.counted))
