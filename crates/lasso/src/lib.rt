@@ -65,7 +65,7 @@ pub use lasso_parts::util::{
     Capacity, FixedState, LassoError, LassoErrorKind, LassoResult, MemoryLimits,
 };
 pub use lasso_parts::{arena, bucket, entries, index, iter, json, keys, util};
-pub use lasso_shared::threaded::ThreadedRodeo;
+pub use lasso_shared::threaded::{SpurThreadedRodeo, ThreadedRodeo};
 pub use lasso_shared::{machine, shards, threaded};
 pub use lasso_single::commands::{Command, Reply, run_commands};
 pub use lasso_single::reader::RodeoReader;
@@ -83,6 +83,3 @@ pub type SpurRodeoReader = RodeoReader<Spur, FixedState, Global>;
 
 /// A `RodeoResolver` with `Spur` keys and the global allocator.
 pub type SpurRodeoResolver = RodeoResolver<Spur, Global>;
-
-/// A `ThreadedRodeo` with `Spur` keys and the hasher of fixed seed.
-pub type SpurThreadedRodeo = ThreadedRodeo<Spur, FixedState>;

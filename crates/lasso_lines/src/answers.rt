@@ -8,7 +8,9 @@ ghost use Rattle.lasso_lines.specs.declared.fault.RunFault.TheVariants.{WriteFai
 use crate::fault::RunFault;
 use crate::stream::ByteWriter;
 use itoa::{Buffer, write_digits};
-use lasso::{FixedState, Key, Rodeo, Spur};
+use lasso_parts::keys::{Key, Spur};
+use lasso_parts::util::FixedState;
+use lasso_single::rodeo::Rodeo;
 use std::alloc::Global;
 use std::str::{Utf8Error, from_utf8, from_utf8_unchecked};
 

@@ -9,7 +9,8 @@ use crate::answers::{LineRodeo, answer_counts, answer_line};
 use crate::fault::RunFault;
 use crate::stream::{ByteReader, ByteWriter};
 use crate::stretches::answer_stretch;
-use lasso::{Capacity, MemoryLimits, Rodeo};
+use lasso_parts::util::{Capacity, MemoryLimits};
+use lasso_single::rodeo::Rodeo;
 use std::sync::Wait;
 
 /// Reads lines to the end of the input and writes their report: for each line the position of its text and

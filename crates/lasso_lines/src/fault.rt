@@ -3,7 +3,7 @@ ghost use Rattle.std.specs.Prelude.{◌≡◌, Some};
 ghost use Rattle.lasso_lines.specs.Fault.{status_of, fault_text};
 ghost use Rattle.lasso_parts.specs.declared.util.LassoErrorKind.TheVariants.{FailedAllocation};
 
-use lasso::{LassoError, LassoErrorKind};
+use lasso_parts::util::{LassoError, LassoErrorKind};
 use std::fmt;
 
 /// Why a run ended before its report was complete. Lines are numbered from 1.

@@ -7,7 +7,7 @@ use crate::engine::run;
 use crate::failures::Failures;
 use crate::fault::RunFault;
 use crate::stream::{ByteReader, ByteWriter, StreamError, push_line};
-use lasso::MemoryLimits;
+use lasso_parts::util::MemoryLimits;
 use std::alloc::Global;
 use std::marker::Model;
 use std::sync::Wait;

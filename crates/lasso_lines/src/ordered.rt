@@ -13,8 +13,9 @@ use crate::engine::flush_all;
 use crate::fault::RunFault;
 use crate::sorting::{Fronted, front_of, sort};
 use crate::stream::ByteWriter;
-use lasso::log::Pass;
-use lasso::{Spur, SpurThreadedRodeo};
+use lasso_log::log::Pass;
+use lasso_parts::keys::Spur;
+use lasso_shared::threaded::SpurThreadedRodeo;
 use std::alloc::{AllocError, Global};
 use std::thread::Threads;
 

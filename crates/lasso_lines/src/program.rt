@@ -15,7 +15,7 @@ use crate::engine::run;
 use crate::fault::RunFault;
 use crate::stream::{ByteReader, ByteWriter};
 use crate::workers::{OpenGate, run_workers};
-use lasso::MemoryLimits;
+use lasso_parts::util::MemoryLimits;
 use std::sync::Wait;
 use std::thread::Threads;
 

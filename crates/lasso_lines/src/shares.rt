@@ -12,8 +12,10 @@ ghost use Rattle.lasso_parts.specs.declared.util.LassoErrorKind.TheVariants.{Fai
 
 use crate::fault::RunFault;
 use crate::workers::Gate;
-use lasso::log::{Pass, Snapshot};
-use lasso::{LassoError, LassoErrorKind, Spur, SpurThreadedRodeo};
+use lasso_log::log::{Pass, Snapshot};
+use lasso_parts::keys::Spur;
+use lasso_parts::util::{LassoError, LassoErrorKind};
+use lasso_shared::threaded::SpurThreadedRodeo;
 use std::sync::Wait;
 use std::thread::{Threads, map_indices};
 

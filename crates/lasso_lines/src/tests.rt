@@ -17,7 +17,7 @@ use crate::memory::{MemoryReader, MemoryWriter, report_of};
 use crate::program::run_words;
 use crate::standard::{StandardReader, StandardWriter};
 use failing::ShortReader;
-use lasso::MemoryLimits;
+use lasso_parts::util::MemoryLimits;
 use std::process::Abort;
 use std::test::Fail;
 

@@ -23,7 +23,8 @@ mod words;
 
 use crate::shards::Shards;
 use lasso_log::log::Pass;
-use lasso_parts::keys::Key;
+use lasso_parts::keys::{Key, Spur};
+use lasso_parts::util::FixedState;
 use std::hash::BuildHasher;
 use std::marker::Model;
 pub use walking::{Iter, Strings};
@@ -40,6 +41,9 @@ pub use walking::{Iter, Strings};
 pub struct ThreadedRodeo<K: Key, S: BuildHasher + Drop> {
     shards: Shards<K, S>,
 }
+
+/// A `ThreadedRodeo` with `Spur` keys and the hasher of fixed seed.
+pub type SpurThreadedRodeo = ThreadedRodeo<Spur, FixedState>;
 
 impl<K: Key, S: BuildHasher + Drop> Model for ThreadedRodeo<K, S> {
     ghost use Rattle.lasso_log.specs.Views.{InternerId, interner_id_coded};

@@ -1,7 +1,8 @@
 //! Workers that run one after another on one thread, in either order.
 use super::{NumberedError, add_codes, intern_share};
 use crate::workers::OpenGate;
-use lasso::{Capacity, LassoError, LassoErrorKind, MemoryLimits, SpurThreadedRodeo, ThreadedRodeo};
+use lasso_parts::util::{Capacity, LassoError, LassoErrorKind, MemoryLimits};
+use lasso_shared::threaded::{SpurThreadedRodeo, ThreadedRodeo};
 use std::sync::Wait;
 use std::test::Fail;
 

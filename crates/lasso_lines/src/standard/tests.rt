@@ -3,7 +3,7 @@ use super::{StandardReader, StandardWriter};
 use crate::engine::run;
 use crate::fault::RunFault;
 use crate::stream::{ByteReader, ByteWriter};
-use lasso::MemoryLimits;
+use lasso_parts::util::MemoryLimits;
 use std::alloc::Global;
 use std::io;
 use std::io::{Error, ErrorKind, Read, Write};

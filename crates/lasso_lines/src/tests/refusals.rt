@@ -5,7 +5,7 @@ use super::assert_fault;
 use super::many_lines::push_line;
 use super::workers::{run_over, with_line_of};
 use crate::fault::RunFault;
-use lasso::MemoryLimits;
+use lasso_parts::util::MemoryLimits;
 use std::test::Fail;
 
 const LIMIT: usize = 4096;

@@ -5,7 +5,7 @@ use super::{OUTPUT, PAST_LIMIT, assert_fault, no_limit};
 use crate::engine::run;
 use crate::failures::Failures;
 use crate::stream::{ByteReader, ByteWriter, StreamError};
-use lasso::MemoryLimits;
+use lasso_parts::util::MemoryLimits;
 use std::cell::RefCell;
 use std::test::Fail;
 

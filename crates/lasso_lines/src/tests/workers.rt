@@ -5,7 +5,7 @@ use crate::fault::RunFault;
 use crate::memory::{MemoryReader, MemoryWriter};
 use crate::program::run_words;
 use crate::workers::{Gate, OpenGate, run_workers};
-use lasso::MemoryLimits;
+use lasso_parts::util::MemoryLimits;
 use std::sync::Wait;
 use std::sync::atomic::{AtomicBool, AtomicUsize, Ordering};
 use std::test::Fail;
