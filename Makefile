@@ -49,6 +49,7 @@ run: input $(PROGRAM)
 	@$(PROGRAM) $(ARGS) < "$$FILE"
 
 $(PROGRAM): $(SOURCES) | input toolchain
+	@.ci/libraries >&2
 	$(call build,lasso_lines,run)
 	@touch $(PROGRAM)
 
