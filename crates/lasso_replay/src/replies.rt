@@ -71,10 +71,15 @@ pub fn write_text<W: Write>(out: &mut W, text: Option<&str>) -> io::Result<()> {
 pub fn write_list<K: Key, W: Write>(out: &mut W, texts: Strings<'_, K>) -> io::Result<()> {
     write!(out, "list")?;
     for text in texts {
-        write!(out, " ")?;
-        write_digits(out, text)?;
+        write_item(out, text)?;
     }
     writeln!(out)
+}
+
+// The text in hexadecimal digits after a space.
+fn write_item<W: Write>(out: &mut W, text: &str) -> io::Result<()> {
+    write!(out, " ")?;
+    write_digits(out, text)
 }
 
 /// `fault`, the kind of the error, and the position of the item that it is about. Out of memory is written as
