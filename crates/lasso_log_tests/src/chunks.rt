@@ -55,7 +55,7 @@ fn fill_each<R: Wait + Abort>(
     alloc: Global,
     chunks: &Chunks<&'static str>,
     cells: &[(u64, &'static str)],
-) -> Result<(), AllocError> {
+) -> Result<(), Fail> {
     for (position, text) in cells {
         is_so(rt, makes(alloc, chunks, *position)?, "a chunk is made");
         assert!(rt; fills(rt, chunks, *position, *text), "at {position}");
@@ -74,8 +74,7 @@ fn a_filled_cell_lends_its_text(rt: HostRuntime) -> Result<(), Fail> {
         (64, TEXTS[0]),
         (700, TEXTS[1]),
     ];
-    fill_each(&rt, rt.alloc(), &chunks, &cells)?;
-    Ok(())
+    fill_each(&rt, rt.alloc(), &chunks, &cells)
 }
 
 // Fills a cell and asks for the chunk of another position. Returns whether that was made, or else refused,
@@ -98,7 +97,7 @@ fn make_once<R: Wait + Abort>(
     rt: &R,
     alloc: Global,
     chunks: &Chunks<&'static str>,
-) -> Result<(), AllocError> {
+) -> Result<(), Fail> {
     is_so(rt, makes(alloc, chunks, 40)?, "the chunk is made");
     is_so(rt, keeps(rt, alloc, chunks, 40, 41, true), "the cell stays");
     is_so(rt, fills(rt, chunks, 41, "beside it"), "the next cell");
@@ -108,8 +107,7 @@ fn make_once<R: Wait + Abort>(
 #[test]
 fn a_chunk_is_made_once(rt: HostRuntime) -> Result<(), Fail> {
     let chunks = Chunks::new(rt.alloc(), "")?;
-    make_once(&rt, rt.alloc(), &chunks)?;
-    Ok(())
+    make_once(&rt, rt.alloc(), &chunks)
 }
 
 // Asks for chunks that are larger than all memory.
@@ -117,7 +115,7 @@ fn ask_too_much<R: Wait + Abort>(
     rt: &R,
     alloc: Global,
     chunks: &Chunks<&'static str>,
-) -> Result<(), AllocError> {
+) -> Result<(), Fail> {
     is_so(rt, makes(alloc, chunks, 5)?, "the chunk is made");
     let near = keeps(rt, alloc, chunks, 5, 1 << 62, false);
     is_so(rt, near, "at 2^62");
@@ -129,8 +127,7 @@ fn ask_too_much<R: Wait + Abort>(
 #[test]
 fn a_chunk_past_all_memory_is_refused(rt: HostRuntime) -> Result<(), Fail> {
     let chunks = Chunks::new(rt.alloc(), "")?;
-    ask_too_much(&rt, rt.alloc(), &chunks)?;
-    Ok(())
+    ask_too_much(&rt, rt.alloc(), &chunks)
 }
 
 // Fills every other one of 400 cells, and looks at what each holds then.
@@ -154,23 +151,22 @@ fn fill_every_other<R: Wait>(
 }
 
 // Has two threads fill the cells of even and of odd positions.
-fn fill_together<R: Threads + Wait + Sync>(
+fn fill_together<R: Abort + Threads + Wait + Sync>(
     rt: &R,
     alloc: Global,
     chunks: &Chunks<&'static str>,
-) -> Result<bool, AllocError> {
+) -> Result<(), Fail> {
     let (even, odd) = join(
         rt,
         || fill_every_other(rt, alloc, chunks, 0),
         || fill_every_other(rt, alloc, chunks, 1),
     );
-    Ok(even? && odd?)
+    is_so(rt, even? && odd?, "each cell has its text");
+    Ok(())
 }
 
 #[test]
 fn two_threads_fill_cells_of_the_same_chunks(rt: HostRuntime) -> Result<(), Fail> {
     let chunks = Chunks::new(rt.alloc(), "")?;
-    let are_filled = fill_together(&rt, rt.alloc(), &chunks)?;
-    is_so(&rt, are_filled, "each cell has its text");
-    Ok(())
+    fill_together(&rt, rt.alloc(), &chunks)
 }

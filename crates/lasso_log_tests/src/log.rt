@@ -144,7 +144,7 @@ fn append_each_length<R: Abort + Wait>(
     alloc: Global,
     log: &Log<Spur>,
     spine: &mut Spine<Spur>,
-) -> LassoResult<()>
+) -> Result<(), Fail>
     requires { (spine.old.of ≡ log.now) × (list_of log.now spine.old.notes ≡ []) }
 {
     let appended = append_all(rt, alloc, log, spine, &OF_EACH_LENGTH[..31]);
@@ -155,6 +155,7 @@ fn append_each_length<R: Abort + Wait>(
     let are_appended = append_ahead(rt, alloc, log, spine, last)?;
     is_so(rt, are_appended, "three slots, and two texts");
     is_so(rt, keeps_none(spine, 33), "33 texts and no slot");
+    reads(rt, log, &mut log.pass(), &OF_EACH_LENGTH);
     Ok(())
 }
 
@@ -165,7 +166,5 @@ fn slots_kept_ahead_have_their_chunks(rt: HostRuntime) -> Result<(), Fail> {
         limit: 10_000,
     };
     let (log, mut spine) = Log::open(rt.alloc(), opened)?;
-    append_each_length(&rt, rt.alloc(), &log, &mut spine)?;
-    reads(&rt, &log, &mut log.pass(), &OF_EACH_LENGTH);
-    Ok(())
+    append_each_length(&rt, rt.alloc(), &log, &mut spine)
 }

@@ -1,5 +1,5 @@
 //! Texts that are copied into buckets, put last, and read back.
-ghost use Rattle.std.specs.Prelude.{◌≡◌, ◌≢◌, ◌∷◌, ◌++◌, [], OnOk, codes, length};
+ghost use Rattle.std.specs.Prelude.{◌≡◌, ◌≢◌, ◌∷◌, ◌++◌, [], IfOk, OnOk, codes, length};
 ghost use Rattle.lasso_log.specs.History.{Lacks};
 ghost use Rattle.lasso_log.specs.SharedBuckets.{names_with_book};
 ghost use Rattle.lasso_log.specs.Views.{InternerId, PassView, SpineView, list_of};
@@ -50,7 +50,7 @@ fn add_two<R: Abort + Wait>(
     log: &Log<Spur>,
     list: &BucketList<Spur>,
     spine: &mut Spine<Spur>,
-) -> LassoResult<()>
+) -> Result<(), Fail>
     requires of { (spine.old.of ≡ log.now) × (list.now ≡ names_with_book log.now) }
     requires list { list_of log.now spine.old.notes ≡ codes "bc" ∷ [] ∷ [] }
 {
@@ -66,15 +66,19 @@ fn add_two<R: Abort + Wait>(
     Ok(())
 }
 
+// A log that opens with two texts, and its spine with the list of its buckets: one of 8 bytes, of which 2 are
+// taken.
+fn opens_listed(alloc: Global) -> LassoResult<(Log<Spur>, Spine<Spur>, BucketList<Spur>)>
+    ensures of { IfOk result (λ r. (r.1.of ≡ r.0) × (r.2 ≡ names_with_book r.0)) }
+    ensures list { IfOk result (λ r. list_of r.0 r.1.notes ≡ codes "bc" ∷ [] ∷ []) }
+{
+    let NewLog { log, spine, bucket } = opens(alloc)?;
+    let list = BucketList::new(alloc, &log, bucket)?;
+    Ok((log, spine, list))
+}
+
 #[test]
 fn copied_texts_are_put_last_and_read_back(rt: HostRuntime) -> Result<(), Fail> {
-    // a bucket of 8 bytes, 2 of them taken
-    let NewLog {
-        log,
-        mut spine,
-        bucket,
-    } = opens(rt.alloc())?;
-    let list = BucketList::new(rt.alloc(), &log, bucket)?;
-    add_two(&rt, rt.alloc(), &log, &list, &mut spine)?;
-    Ok(())
+    let (log, mut spine, list) = opens_listed(rt.alloc())?;
+    add_two(&rt, rt.alloc(), &log, &list, &mut spine)
 }

@@ -64,7 +64,7 @@ fn append_two<R: Abort + Wait>(
     alloc: Global,
     log: &Log<Spur>,
     spine: &mut Spine<Spur>,
-) -> LassoResult<()>
+) -> Result<(), Fail>
     requires { (spine.old.of ≡ log.now) × (list_of log.now spine.old.notes ≡ []) }
 {
     let mut pass = log.pass();
@@ -80,6 +80,5 @@ fn append_two<R: Abort + Wait>(
 #[test]
 fn slots_that_were_given_back_are_kept_again(rt: HostRuntime) -> Result<(), Fail> {
     let (log, mut spine) = Log::<Spur>::open(rt.alloc(), OPENED)?;
-    append_two(&rt, rt.alloc(), &log, &mut spine)?;
-    Ok(())
+    append_two(&rt, rt.alloc(), &log, &mut spine)
 }

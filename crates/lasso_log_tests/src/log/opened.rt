@@ -56,7 +56,7 @@ fn append_one<R: Abort + Wait>(
     log: &Log<Spur>,
     spine: &mut Spine<Spur>,
     bucket: &SharedBucket<Spur>,
-) -> LassoResult<()>
+) -> Result<(), Fail>
     requires of { (spine.old.of ≡ log.now) × (bucket.now.of ≡ log.now) }
     requires list { list_of log.now spine.old.notes ≡ codes "bc" ∷ [] ∷ [] }
 {
@@ -77,8 +77,7 @@ fn the_texts_of_an_opening_have_the_first_positions(rt: HostRuntime) -> Result<(
         mut spine,
         bucket,
     } = opens(rt.alloc())?;
-    append_one(&rt, rt.alloc(), &log, &mut spine, &bucket)?;
-    Ok(())
+    append_one(&rt, rt.alloc(), &log, &mut spine, &bucket)
 }
 
 // Whether the text fits the bucket, where it is put then.

@@ -14,6 +14,7 @@ use lasso_log::log::{Log, Spine};
 use lasso_parts::keys::Spur;
 use lasso_parts::util::LassoResult;
 use std::alloc::Global;
+use std::process::Abort;
 use std::sync::Wait;
 use std::test::*;
 use std::thread::{Threads, join};
@@ -132,14 +133,14 @@ fn walks_twenty<R: Wait>(rt: &R, log: &Log<Spur>, list: &BucketList<Spur>) -> u6
     copied
 }
 
-// Has a thread walk while another adds buckets, and returns how many bytes it copied.
-fn walk_beside_adding<R: Threads + Wait + Sync>(
+// Has a thread walk while another adds buckets. All bytes that they copied are then taken.
+fn walk_beside_adding<R: Abort + Threads + Wait + Sync>(
     rt: &R,
     alloc: Global,
     log: &Log<Spur>,
     list: &BucketList<Spur>,
     spine: &mut Spine<Spur>,
-) -> LassoResult<u64>
+) -> Result<(), Fail>
     requires { (spine.old.of ≡ log.now) × (list.now ≡ names_with_book log.now) }
 {
     let (stored, copied) = join(
@@ -148,14 +149,13 @@ fn walk_beside_adding<R: Threads + Wait + Sync>(
         || walks_twenty(rt, log, list),
     );
     stored?;
-    Ok(copied)
+    let are_taken = taken(rt, log, list) == copied.saturating_add(80);
+    is_so(rt, are_taken, "the bytes of both threads");
+    Ok(())
 }
 
 #[test]
 fn a_thread_walks_while_another_adds_buckets(rt: HostRuntime) -> Result<(), Fail> {
     let (log, mut spine, list) = opens(rt.alloc(), 4, u64::MAX)?;
-    let copied = walk_beside_adding(&rt, rt.alloc(), &log, &list, &mut spine)?;
-    let are_taken = taken(&rt, &log, &list) == copied.saturating_add(80);
-    is_so(&rt, are_taken, "the bytes of both threads");
-    Ok(())
+    walk_beside_adding(&rt, rt.alloc(), &log, &list, &mut spine)
 }
