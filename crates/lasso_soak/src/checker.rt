@@ -46,6 +46,15 @@ impl Round<'_> {
         let mosts = most_bounds(alloc, self.frozen, &setter, answers_of(found, thread))?;
         Ok(Snapshot { setter, mosts })
     }
+
+    // What is known of the pass of each thread.
+    fn known_of_all(&self, alloc: Global, found: &[Vec<Answer>]) -> Result<Vec<Snapshot>> {
+        let mut all = Vec::new(alloc);
+        for thread in 0..found.len() {
+            all.push(self.known(alloc, found, thread)?)?;
+        }
+        Ok(all)
+    }
 }
 
 // The answers of the thread.
@@ -59,10 +68,7 @@ fn answers_of(found: &[Vec<Answer>], thread: usize) -> &[Answer] {
 /// Fails with a message if the list does not explain an answer of a thread as one that comes after the
 /// earlier answers of the same pass and before the later ones.
 pub fn check<K: Key>(alloc: Global, round: &Round<'_>, found: &[Vec<Answer>]) -> Result<()> {
-    let mut all = Vec::new(alloc);
-    for thread in 0..found.len() {
-        all.push(round.known(alloc, found, thread)?)?;
-    }
+    let all = round.known_of_all(alloc, found)?;
     let reigns = reigns_of(alloc, round, &all, found)?;
     for (known, answers) in all.iter().zip(found) {
         check_pass::<K>(round, &reigns, known, answers.as_slice())?;

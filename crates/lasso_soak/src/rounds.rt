@@ -8,7 +8,7 @@ use crate::passes::{Found, THREADS, Work, by_all};
 use crate::texts::Texts;
 use anyhow::{Result, bail, ensure};
 use lasso::log::Pass;
-use lasso::{Capacity, FixedState, Key, MemoryLimits, MicroSpur, Spur, ThreadedRodeo};
+use lasso::{Capacity, FixedState, Key, MemoryLimits, MicroSpur, RodeoReader, Spur, ThreadedRodeo};
 use std::alloc::{AllocError, Global};
 use std::rt::Clock;
 use std::sync::Wait;
@@ -90,9 +90,7 @@ fn round<K: Key + Send + Sync, R: AllocGlobal + Threads + Wait + Sync>(
         Capacity::for_bytes(FIRST),
         MemoryLimits::new(limit),
     )?;
-    let mut pass = rodeo.pass();
-    let found = found_by_all(rt, &rodeo, &mut pass, work)?;
-    let frozen = freeze(rt, rodeo, &mut pass, work.texts)?;
+    let (found, frozen) = found_and_frozen(rt, rodeo, work)?;
     let round = Round {
         texts: work.texts,
         frozen: &frozen,
@@ -102,6 +100,18 @@ fn round<K: Key + Send + Sync, R: AllocGlobal + Threads + Wait + Sync>(
     };
     check::<K>(rt.alloc(), &round, found.as_slice())?;
     Ok(frozen.len())
+}
+
+// The answers of each thread, and the list that the interner ends with.
+fn found_and_frozen<K: Key + Send + Sync, R: AllocGlobal + Threads + Wait + Sync>(
+    rt: &R,
+    rodeo: ThreadedRodeo<K, FixedState>,
+    work: Work<'_>,
+) -> Result<(Vec<Vec<Answer>>, Frozen)> {
+    let mut pass = rodeo.pass();
+    let found = found_by_all(rt, &rodeo, &mut pass, work)?;
+    let frozen = freeze(rt, rodeo, &mut pass, work.texts)?;
+    Ok((found, frozen))
 }
 
 // The answers of each thread, and after them those of the pass that has seen what all had.
@@ -129,7 +139,16 @@ fn freeze<K: Key, R: AllocGlobal + Wait>(
     requires { pass.old.of ≡ rodeo }
 {
     let reader = rodeo.into_reader_as(rt, pass)?;
-    let mut frozen = Frozen::new(rt.alloc(), texts)?;
+    frozen_of(rt.alloc(), &reader, texts)
+}
+
+// The texts of the reader.
+fn frozen_of<K: Key>(
+    alloc: Global,
+    reader: &RodeoReader<K, FixedState, Global>,
+    texts: &Texts,
+) -> Result<Frozen> {
+    let mut frozen = Frozen::new(alloc, texts)?;
     for text in reader.strings() {
         frozen.push(texts, text)?;
     }
