@@ -1,4 +1,6 @@
 //! A bucket that is filled and cleared, and sizes that no region can have.
+ghost use Rattle.std.specs.Prelude.{◌<◌};
+
 use crate::checks::is_so;
 use lasso_parts::bucket::Bucket;
 use lasso_parts::bucket::region::{Region, RegionRight};
@@ -28,7 +30,9 @@ fn fills_and_is_cleared(rt: HostRuntime) -> Result<(), Fail> {
 }
 
 // Whether there is no memory for a bucket of so many bytes.
-fn is_too_large(alloc: Global, capacity: usize) -> bool {
+fn is_too_large(alloc: Global, capacity: usize) -> bool
+    requires { 0 < capacity }
+{
     match Bucket::with_capacity(alloc, capacity) {
         Ok(bucket) => {
             drop(bucket);

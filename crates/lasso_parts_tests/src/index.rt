@@ -102,65 +102,135 @@ impl<'a, S: BuildHasher + Drop> Entered<'a, S> {
 }
 
 impl<'a, S: BuildHasher + Drop> Entered<'a, S> {
-    // Enters each text.
-    fn enter_all(&mut self) -> LassoResult<()> {
-        for position in 0..self.texts.len() {
-            self.enter(position)?;
-        }
-        Ok(())
-    }
-
-    // Whether the text is found at the position, or not if that is `None`.
-    fn has(&self, text: &str, wanted: Option<usize>) -> bool {
-        self.find(text) == wanted
-    }
-
     // Whether a search finds the text as wanted, and reads so many texts.
     fn reads(&self, text: &str, wanted: Option<usize>, count: u64) -> bool {
         let read = Cell::new(0u64);
         self.find_counted(&read, text) == wanted && read.get() == count
     }
 
-    // Whether the text at this position of the list is found there.
-    fn has_own(&self, position: usize) -> bool {
-        match self.texts.get(position) {
-            Some(text) => self.has(text, Some(position)),
-            None => false,
+    // Whether the text at this position of the list is found there, or not found if it `is_new`.
+    fn has_own(&self, position: usize, is_new: bool) -> bool {
+        let Some(text) = self.texts.get(position) else {
+            return false;
+        };
+        let found = self.find(text);
+        if is_new {
+            found.is_none()
+        } else {
+            found == Some(position)
         }
     }
 
-    // Whether the text at this position of the list is not found.
-    fn lacks_own(&self, position: usize) -> bool {
-        match self.texts.get(position) {
-            Some(text) => self.has(text, None),
-            None => false,
-        }
-    }
-
-    // Checks that each text is found at its position.
-    fn finds_all(&self, rt: &impl Abort) {
+    // Whether each text is found at its position.
+    fn has_all(&self) -> bool {
         for position in 0..self.texts.len() {
-            assert!(rt; self.has_own(position), "text {position}");
+            if !self.has_own(position, false) {
+                return false;
+            }
+        }
+        true
+    }
+
+    // Enters each text. Returns whether none was found before.
+    fn enter_new(&mut self) -> LassoResult<bool> {
+        let mut are_new = true;
+        for position in 0..self.texts.len() {
+            if !self.has_own(position, true) {
+                are_new = false;
+            }
+            self.enter(position)?;
+        }
+        Ok(are_new)
+    }
+
+    // Enters each text in the slot where a search for it ends. Returns whether each is found then.
+    fn enter_located_all(&mut self) -> LassoResult<bool> {
+        let mut are_found = true;
+        for position in 0..self.texts.len() {
+            self.enter_located(position)?;
+            if !self.has_own(position, false) {
+                are_found = false;
+            }
+        }
+        Ok(are_found)
+    }
+
+    // Takes the step. Returns whether it went as it has to.
+    fn takes(&mut self, step: Step) -> LassoResult<bool> {
+        match step {
+            Step::Enters(position) => {
+                self.enter(position)?;
+                Ok(true)
+            }
+            Step::EntersNew => self.enter_new(),
+            Step::EntersLocated => self.enter_located_all(),
+            Step::Clears => {
+                self.clear();
+                Ok(true)
+            }
+            _ => Ok(self.shows(step)),
+        }
+    }
+
+    // Whether a search answers what the step says.
+    fn shows(&self, step: Step) -> bool {
+        match step {
+            Step::HasAll => self.has_all(),
+            Step::Has(text, wanted) => self.find(text) == wanted,
+            Step::HasHashed(text, wanted) => self.find_hashed(text) == wanted,
+            Step::Reads(text, wanted, count) => self.reads(text, wanted, count),
+            _ => false,
         }
     }
 }
 
-// An index without texts, and with no room for one.
-fn words_with<S: BuildHasher + Drop>(
+// What a test does with an index, and what it then has to find.
+#[derive(Clone, Copy)]
+enum Step {
+    // enters the text at this position
+    Enters(usize),
+    // enters each text, which is not found before
+    EntersNew,
+    // enters each text in the slot where a search for it ends, and finds it
+    EntersLocated,
+    Clears,
+    // each text is found at its position
+    HasAll,
+    // the text is found at the position, or not if that is `None`
+    Has(&'static str, Option<usize>),
+    // the same by its hash
+    HasHashed(&'static str, Option<usize>),
+    // the same, and the search reads so many texts
+    Reads(&'static str, Option<usize>, u64),
+}
+
+// Takes the steps with an index that has no room for a text.
+fn run_steps<S: BuildHasher + Drop>(
+    rt: &impl Abort,
     alloc: Global,
     hasher: S,
-    texts: &'static [&'static str],
-) -> Entered<'static, S> {
-    Entered::new(Index::new(alloc), hasher, texts)
+    texts: &[&str],
+    steps: &[Step],
+) -> Result<(), Fail> {
+    let mut words = Entered::new(Index::new(alloc), hasher, texts);
+    walk_steps(rt, &mut words, steps)
+}
+
+fn walk_steps<S: BuildHasher + Drop>(
+    rt: &impl Abort,
+    words: &mut Entered<'_, S>,
+    steps: &[Step],
+) -> Result<(), Fail> {
+    for (number, step) in steps.iter().enumerate() {
+        assert!(rt; words.takes(*step)?, "step {number}");
+    }
+    Ok(())
 }
 
 #[test]
 fn constant_hash(rt: HostRuntime) -> Result<(), Fail> {
-    let mut words = words_with(rt.alloc(), SameState::new(), WORDS.as_slice());
-    words.enter_all()?;
-    words.finds_all(&rt);
-    is_so(&rt, words.has("bbba", None), "an absent text");
-    Ok(())
+    let steps = [Step::EntersNew, Step::HasAll, Step::Has("bbba", None)];
+    run_steps(&rt, rt.alloc(), SameState::new(), WORDS.as_slice(), &steps)
 }
 
 // Texts that differ in one byte. Their lengths are compared in different ways.
@@ -188,13 +258,8 @@ static NEAR: [&str; 19] = [
 
 #[test]
 fn near_texts_are_told_apart(rt: HostRuntime) -> Result<(), Fail> {
-    let mut words = words_with(rt.alloc(), SameState::new(), NEAR.as_slice());
-    for n in 0..NEAR.len() {
-        assert!(rt; words.lacks_own(n), "text {n}");
-        words.enter(n)?;
-    }
-    words.finds_all(&rt);
-    Ok(())
+    let steps = [Step::EntersNew, Step::HasAll];
+    run_steps(&rt, rt.alloc(), SameState::new(), NEAR.as_slice(), &steps)
 }
 
 // How many texts are hashed when the text at the position is entered. The cell counts them.
@@ -223,27 +288,6 @@ fn hashed_again(rt: HostRuntime) -> Result<(), Fail> {
     Ok(())
 }
 
-// Enters a text, clears the index, and enters another.
-fn enter_two<S: BuildHasher + Drop>(
-    rt: &impl Abort,
-    words: &mut Entered<'_, S>,
-) -> LassoResult<()> {
-    words.enter(3)?;
-    is_so(rt, words.has("aa", Some(3)), "the first text");
-    is_so(
-        rt,
-        words.find_hashed("aa") == Some(3),
-        "the first text, hashed",
-    );
-    is_so(rt, words.has("ab", None), "the other text is absent");
-    words.clear();
-    is_so(rt, words.has("aa", None), "the first text after the clear");
-    words.enter(4)?;
-    is_so(rt, words.has("ab", Some(4)), "the other text");
-    is_so(rt, words.has("aa", None), "the first text stays absent");
-    Ok(())
-}
-
 // Whether there is no memory for an index of the greatest number of texts.
 fn is_too_large(alloc: Global) -> bool {
     let huge: LassoResult<Index<Spur, Global>> = Index::with_capacity(alloc, usize::MAX);
@@ -255,11 +299,21 @@ fn is_too_large(alloc: Global) -> bool {
 
 #[test]
 fn each_call(rt: HostRuntime) -> Result<(), Fail> {
+    let steps = [
+        Step::Enters(3),
+        Step::Has("aa", Some(3)),
+        Step::HasHashed("aa", Some(3)),
+        Step::Has("ab", None),
+        Step::Clears,
+        Step::Has("aa", None),
+        Step::Enters(4),
+        Step::Has("ab", Some(4)),
+        Step::Has("aa", None),
+    ];
+    is_so(&rt, is_too_large(rt.alloc()), "no such index");
     let index = Index::with_capacity(rt.alloc(), 7)?;
     let mut words = Entered::new(index, FixedState::new(), WORDS.as_slice());
-    enter_two(&rt, &mut words)?;
-    is_so(&rt, is_too_large(rt.alloc()), "no such index");
-    Ok(())
+    walk_steps(&rt, &mut words, &steps)
 }
 
 // Whether there are 130 slots, and of these only 64 and 129 have a key, or none if nothing `is_put`.
@@ -304,37 +358,28 @@ static LENGTHS: [&str; 4] = ["x", "xx", "xxx", "yy"];
 
 #[test]
 fn other_tags_are_passed_over(rt: HostRuntime) -> Result<(), Fail> {
-    let mut words = words_with(rt.alloc(), LengthState::new(), LENGTHS.as_slice());
-    words.enter_all()?;
-    let rows = [
-        ("xxx", Some(2), 1),
-        ("yy", Some(3), 2),
-        ("zz", None, 2),
-        ("zzzz", None, 0),
+    let steps = [
+        Step::EntersNew,
+        Step::Reads("xxx", Some(2), 1),
+        Step::Reads("yy", Some(3), 2),
+        Step::Reads("zz", None, 2),
+        Step::Reads("zzzz", None, 0),
     ];
-    for (text, wanted, count) in rows {
-        assert!(rt; words.reads(text, wanted, count), "{text}");
-    }
-    Ok(())
-}
-
-// Enters each text in the slot where a search for it ends, and finds it.
-fn enter_all_located<S: BuildHasher + Drop>(
-    rt: &impl Abort,
-    words: &mut Entered<'_, S>,
-) -> LassoResult<()> {
-    for n in 0..words.texts.len() {
-        words.enter_located(n)?;
-        assert!(rt; words.has_own(n), "text {n}");
-    }
-    Ok(())
+    run_steps(
+        &rt,
+        rt.alloc(),
+        LengthState::new(),
+        LENGTHS.as_slice(),
+        &steps,
+    )
 }
 
 #[test]
 fn entered_where_the_search_ended(rt: HostRuntime) -> Result<(), Fail> {
-    let mut words = words_with(rt.alloc(), FixedState::new(), WORDS.as_slice());
-    enter_all_located(&rt, &mut words)?;
-    enter_all_located(&rt, &mut words)?;
-    is_so(&rt, words.has("bbba", None), "an absent text");
-    Ok(())
+    let steps = [
+        Step::EntersLocated,
+        Step::EntersLocated,
+        Step::Has("bbba", None),
+    ];
+    run_steps(&rt, rt.alloc(), FixedState::new(), WORDS.as_slice(), &steps)
 }

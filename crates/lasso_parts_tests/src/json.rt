@@ -48,32 +48,34 @@ fn read_arrays<R: Abort + AllocGlobal>(
     Ok(())
 }
 
+static DISTINCT: [(&str, &str); 11] = [
+    ("[]", ""),
+    (r#"["b", "a"]"#, "b/a/"),
+    (r#"["a", "b", "a"]"#, "Doubled(2)"),
+    (r#"["a", 1]"#, "NotText(1)"),
+    (r#"{"a": 1}"#, "NotAnArray"),
+    ("null", "NotAnArray"),
+    (r#"["a", "a", null]"#, "Doubled(1)"),
+    (r#"["a", null, "a"]"#, "NotText(1)"),
+    (r#"["a", 1, "a"]"#, "NotText(1)"),
+    ("[[]]", "NotText(0)"),
+    (r#"["a", {}]"#, "NotText(1)"),
+];
+
 #[test]
 fn arrays_of_distinct_texts(rt: HostRuntime) -> Result<(), Fail> {
-    let rows = [
-        ("[]", ""),
-        (r#"["b", "a"]"#, "b/a/"),
-        (r#"["a", "b", "a"]"#, "Doubled(2)"),
-        (r#"["a", 1]"#, "NotText(1)"),
-        (r#"{"a": 1}"#, "NotAnArray"),
-        ("null", "NotAnArray"),
-        (r#"["a", "a", null]"#, "Doubled(1)"),
-        (r#"["a", null, "a"]"#, "NotText(1)"),
-        (r#"["a", 1, "a"]"#, "NotText(1)"),
-        ("[[]]", "NotText(0)"),
-        (r#"["a", {}]"#, "NotText(1)"),
-    ];
-    read_arrays(&rt, &rows, true)
+    read_arrays(&rt, &DISTINCT, true)
 }
+
+static EQUAL: [(&str, &str); 3] = [
+    (r#"["a", "b", "a"]"#, "a/b/a/"),
+    (r#"["a", "a", null]"#, "NotText(2)"),
+    (r#"["a", {}]"#, "NotText(1)"),
+];
 
 #[test]
 fn arrays_with_equal_texts(rt: HostRuntime) -> Result<(), Fail> {
-    let rows = [
-        (r#"["a", "b", "a"]"#, "a/b/a/"),
-        (r#"["a", "a", null]"#, "NotText(2)"),
-        (r#"["a", {}]"#, "NotText(1)"),
-    ];
-    read_arrays(&rt, &rows, false)
+    read_arrays(&rt, &EQUAL, false)
 }
 
 // Whether the value is written as this JSON text.
@@ -154,33 +156,34 @@ fn is_printed(alloc: Global, fault: JsonError, wanted: &str) -> Result<bool, Fai
     Ok(format!(in alloc; "{fault}")?.as_str() == wanted)
 }
 
+static FAULTS: [(JsonError, &str); 9] = [
+    (JsonError::NotAnArray, "The value is not an array"),
+    (JsonError::NotText(0), "Item 0 is not a text"),
+    (
+        JsonError::Doubled(2),
+        "Item 2 is the text of an earlier item",
+    ),
+    (
+        JsonError::TooMany(255),
+        "Item 255 has a position without a key",
+    ),
+    (JsonError::NotAnObject, "The value is not an object"),
+    (JsonError::NotAPosition(1), "Item 1 is not a position"),
+    (
+        JsonError::Taken(10),
+        "Item 10 is the position of an earlier item",
+    ),
+    (
+        JsonError::Lasso(LassoErrorKind::FailedAllocation),
+        "Lasso encountered an error: Failed to allocate memory",
+    ),
+    (JsonError::NotAKey, "The value is not a key"),
+];
+
 #[test]
 fn faults_print(rt: HostRuntime) -> Result<(), Fail> {
-    let rows = [
-        (JsonError::NotAnArray, "The value is not an array"),
-        (JsonError::NotText(0), "Item 0 is not a text"),
-        (
-            JsonError::Doubled(2),
-            "Item 2 is the text of an earlier item",
-        ),
-        (
-            JsonError::TooMany(255),
-            "Item 255 has a position without a key",
-        ),
-        (JsonError::NotAnObject, "The value is not an object"),
-        (JsonError::NotAPosition(1), "Item 1 is not a position"),
-        (
-            JsonError::Taken(10),
-            "Item 10 is the position of an earlier item",
-        ),
-        (
-            JsonError::Lasso(LassoErrorKind::FailedAllocation),
-            "Lasso encountered an error: Failed to allocate memory",
-        ),
-        (JsonError::NotAKey, "The value is not a key"),
-    ];
-    for (fault, wanted) in rows {
-        assert!(rt; is_printed(rt.alloc(), fault, wanted)?, "{wanted}");
+    for (fault, wanted) in &FAULTS {
+        assert!(rt; is_printed(rt.alloc(), *fault, wanted)?, "{wanted}");
     }
     let shown = format!(in rt.alloc(); "{:?}", JsonError::Doubled(2))?;
     is_so(&rt, shown.as_str() == "Doubled(2)", "a fault's debug text");

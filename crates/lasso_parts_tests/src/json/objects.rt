@@ -24,62 +24,65 @@ fn read_all<K: Key, R: Abort + AllocGlobal>(rt: &R, rows: &[(&str, &str)]) -> Re
     Ok(())
 }
 
+static READ: [(&str, &str); 7] = [
+    ("{}", ""),
+    (r#"{"": 1}"#, "/"),
+    (r#"{"a": 2, "b": 1}"#, "b/a/"),
+    (r#"{"b": 1, "a": 2}"#, "b/a/"),
+    (
+        r#"{"abc": 1, "defghijk": 2, "x": 3, "yz": 4}"#,
+        "abc/defghijk/x/yz/",
+    ),
+    (r#"{"c": 2, "": 4, "bb": 1, "b": 3}"#, "bb/c/b//"),
+    (r#"{"a": 1, "a": 1}"#, "a/"),
+];
+
 #[test]
 fn objects_are_read(rt: HostRuntime) -> Result<(), Fail> {
-    let rows = [
-        ("{}", ""),
-        (r#"{"": 1}"#, "/"),
-        (r#"{"a": 2, "b": 1}"#, "b/a/"),
-        (r#"{"b": 1, "a": 2}"#, "b/a/"),
-        (
-            r#"{"abc": 1, "defghijk": 2, "x": 3, "yz": 4}"#,
-            "abc/defghijk/x/yz/",
-        ),
-        (r#"{"c": 2, "": 4, "bb": 1, "b": 3}"#, "bb/c/b//"),
-        (r#"{"a": 1, "a": 1}"#, "a/"),
-    ];
-    read_all::<Spur, _>(&rt, &rows)
+    read_all::<Spur, _>(&rt, &READ)
 }
+
+static FAULTY: [(&str, &str); 21] = [
+    (r#"{"a": 1, "b": 3}"#, "NotAPosition(1)"),
+    (r#"{"a": 1, "b": 1}"#, "Taken(1)"),
+    (r#"{"a": "1"}"#, "NotAPosition(0)"),
+    (r#"{"a": 0}"#, "NotAPosition(0)"),
+    (r#"{"a": -1}"#, "NotAPosition(0)"),
+    (r#"{"a": 1.0}"#, "NotAPosition(0)"),
+    (r#"{"a": null}"#, "NotAPosition(0)"),
+    (r#"{"a": [1]}"#, "NotAPosition(0)"),
+    (r#"{"a": 18446744073709551615}"#, "NotAPosition(0)"),
+    (r#"{"a": 18446744073709551616}"#, "NotAPosition(0)"),
+    (r#"{"a": 2, "b": 2}"#, "Taken(1)"),
+    (r#"{"a": 3, "b": 1}"#, "NotAPosition(0)"),
+    (r#"{"b": 0, "a": 3}"#, "NotAPosition(0)"),
+    (r#"{"a": 1, "b": 2, "c": 1}"#, "Taken(2)"),
+    (r#"{"a": 1, "b": 1, "c": 0}"#, "Taken(1)"),
+    (r#"{"a": 1, "b": 0, "c": 1}"#, "NotAPosition(1)"),
+    ("null", "NotAnObject"),
+    ("1", "NotAnObject"),
+    (r#""a""#, "NotAnObject"),
+    ("[]", "NotAnObject"),
+    (r#"["b", "a"]"#, "NotAnObject"),
+];
 
 #[test]
 fn faulty_objects(rt: HostRuntime) -> Result<(), Fail> {
-    let rows = [
-        (r#"{"a": 1, "b": 3}"#, "NotAPosition(1)"),
-        (r#"{"a": 1, "b": 1}"#, "Taken(1)"),
-        (r#"{"a": "1"}"#, "NotAPosition(0)"),
-        (r#"{"a": 0}"#, "NotAPosition(0)"),
-        (r#"{"a": -1}"#, "NotAPosition(0)"),
-        (r#"{"a": 1.0}"#, "NotAPosition(0)"),
-        (r#"{"a": null}"#, "NotAPosition(0)"),
-        (r#"{"a": [1]}"#, "NotAPosition(0)"),
-        (r#"{"a": 18446744073709551615}"#, "NotAPosition(0)"),
-        (r#"{"a": 18446744073709551616}"#, "NotAPosition(0)"),
-        (r#"{"a": 2, "b": 2}"#, "Taken(1)"),
-        (r#"{"a": 3, "b": 1}"#, "NotAPosition(0)"),
-        (r#"{"b": 0, "a": 3}"#, "NotAPosition(0)"),
-        (r#"{"a": 1, "b": 2, "c": 1}"#, "Taken(2)"),
-        (r#"{"a": 1, "b": 1, "c": 0}"#, "Taken(1)"),
-        (r#"{"a": 1, "b": 0, "c": 1}"#, "NotAPosition(1)"),
-        ("null", "NotAnObject"),
-        ("1", "NotAnObject"),
-        (r#""a""#, "NotAnObject"),
-        ("[]", "NotAnObject"),
-        (r#"["b", "a"]"#, "NotAnObject"),
-    ];
-    read_all::<Spur, _>(&rt, &rows)
+    read_all::<Spur, _>(&rt, &FAULTY)
 }
+
+static WITHOUT_A_KEY: [(&str, &str); 6] = [
+    (r#"{"a": 2, "b": 1}"#, "b/a/"),
+    (r#"{"a": 2, "b": 1, "c": 3}"#, "TooMany(2)"),
+    (r#"{"a": 3, "b": 1, "c": 2}"#, "TooMany(0)"),
+    (r#"{"a": 1, "b": 3, "c": 3}"#, "TooMany(1)"),
+    (r#"{"a": 1, "b": 1, "c": 3}"#, "Taken(1)"),
+    (r#"{"a": 3, "b": 1}"#, "NotAPosition(0)"),
+];
 
 #[test]
 fn positions_without_a_key(rt: HostRuntime) -> Result<(), Fail> {
-    let rows = [
-        (r#"{"a": 2, "b": 1}"#, "b/a/"),
-        (r#"{"a": 2, "b": 1, "c": 3}"#, "TooMany(2)"),
-        (r#"{"a": 3, "b": 1, "c": 2}"#, "TooMany(0)"),
-        (r#"{"a": 1, "b": 3, "c": 3}"#, "TooMany(1)"),
-        (r#"{"a": 1, "b": 1, "c": 3}"#, "Taken(1)"),
-        (r#"{"a": 3, "b": 1}"#, "NotAPosition(0)"),
-    ];
-    read_all::<WithoutTwo, _>(&rt, &rows)
+    read_all::<WithoutTwo, _>(&rt, &WITHOUT_A_KEY)
 }
 
 // An object of `count` texts of three digits, from `000` on, each with its position plus one.
