@@ -215,17 +215,11 @@ fn time_merging<R: AllocGlobal + Clock>(
     lines: &[&str],
 ) -> Result<u64> {
     let mut half: SpurRodeo = Rodeo::default(rt.alloc())?;
-    intern_half(rt.alloc(), &mut half, lines)?;
+    let mut codes = Vec::new(rt.alloc());
+    encode(&mut half, &lines[..lines.len() / 2], &mut codes)?;
     let (merged, elapsed) = timed_merge(rt, &mut half, all)?;
     check_merged(rt.alloc(), half, &merged, all)?;
     Ok(tenths_a_call(elapsed, merged.len()))
-}
-
-// Interns the first half of the lines.
-fn intern_half(alloc: Global, rodeo: &mut SpurRodeo, lines: &[&str]) -> Result<()> {
-    let mut codes = Vec::new(alloc);
-    encode(rodeo, &lines[..lines.len() / 2], &mut codes)?;
-    Ok(())
 }
 
 // Merges the other dictionary into that of the interner. Returns its codes, and how long that took.
