@@ -71,6 +71,15 @@ impl Calls for Plain {
 /// It fails if a read does, and if a text is refused.
 pub fn fill<R: AllocGlobal + Wait, B: BufRead + Drop>(rt: &R, reader: B) -> Result<usize> {
     let rodeo = ThreadedRodeo::default(rt.alloc())?;
+    intern_lines(rt, &rodeo, reader)
+}
+
+// Interns each line of the reader as it comes, with one pass, and returns how many texts there are then.
+fn intern_lines<R: AllocGlobal + Wait, B: BufRead + Drop>(
+    rt: &R,
+    rodeo: &SpurThreadedRodeo,
+    reader: B,
+) -> Result<usize> {
     let mut pass = rodeo.pass();
     for line in reader.lines(rt.alloc()) {
         let line = line?;

@@ -1,6 +1,6 @@
 //! Texts that collide under the fixed seed, in an interner with the hasher of that seed and in one with a keyed hasher.
-use crate::timing::{sum_of_positions, tenths_a_call};
-use anyhow::{Result, ensure};
+use crate::timing::{ensure_so, sum_of_positions, tenths_a_call};
+use anyhow::Result;
 use lasso::{FixedState, Key, LassoResult, Rodeo, Spur};
 use lasso_examples::keyed::{colliding, keyed_by};
 use std::alloc::Global;
@@ -46,7 +46,7 @@ fn fill<S: BuildHasher + Drop, R: AllocGlobal + Clock>(
     let start = Instant::now(rt)?;
     let sum = intern_all(rt.alloc(), hasher, texts)?;
     let elapsed = start.elapsed(rt)?;
-    ensure!(sum == sum_of_positions(texts.len()), "a key is wrong");
+    ensure_so(sum == sum_of_positions(texts.len()), "a key is wrong")?;
     Ok(elapsed)
 }
 

@@ -4,12 +4,16 @@ ghost use Rattle.std.specs.Prelude.{◌≡◌, ◌<◌, ◌↔◌, ℕ, All, IfO
 use crate::pools::{RodeoPool, TextPool};
 use crate::positions::random_positions;
 use crate::texts::numbered_text;
-use crate::timing::{ROUNDS, intern_all, last_byte, tenths_a_call};
-use anyhow::{Result, ensure};
+use crate::timing::{ROUNDS, ensure_so, intern_all, last_byte, tenths_a_call};
+use anyhow::Result;
 use lasso::{FixedState, Key, RodeoReader, RodeoResolver, Spur};
 use std::alloc::{AllocError, Global};
 use std::rt::Clock;
-use std::time::Instant;
+use std::time::{Duration, Instant};
+
+type Reader = RodeoReader<Spur, FixedState, Global>;
+
+type Resolver = RodeoResolver<Spur, Global>;
 
 /// Texts that no longer change, read by keys that each stand for one of them.
 pub trait FrozenTexts: Drop {
@@ -26,7 +30,7 @@ pub trait FrozenTexts: Drop {
         ensures { slice_get (texts self.now) (⟦<Spur as Key>⟧.number key) ≡ Some result.now };
 }
 
-impl FrozenTexts for RodeoReader<Spur, FixedState, Global> {
+impl FrozenTexts for Reader {
     ghost texts = { λ reader. reader };
 
     fn contains_key(&self, key: Spur) -> bool {
@@ -38,7 +42,7 @@ impl FrozenTexts for RodeoReader<Spur, FixedState, Global> {
     }
 }
 
-impl FrozenTexts for RodeoResolver<Spur, Global> {
+impl FrozenTexts for Resolver {
     ghost texts = { λ resolver. resolver };
 
     fn contains_key(&self, key: Spur) -> bool {
@@ -131,13 +135,9 @@ pub fn frozen_round<R: AllocGlobal + Clock>(
 ) -> Result<FrozenTimings> {
     let mut pool = RodeoPool::new(rt.alloc())?;
     intern_all(&mut pool, &sample.texts)?;
-    let start = Instant::now(rt)?;
-    let reader = pool.into_rodeo().into_reader();
-    let into_reader = start.elapsed(rt)?;
+    let (reader, into_reader) = timed_reader(rt, pool)?;
     let reader_resolve = best_resolve(rt, &reader, sample)?;
-    let start = Instant::now(rt)?;
-    let resolver = reader.into_resolver();
-    let into_resolver = start.elapsed(rt)?;
+    let (resolver, into_resolver) = timed_resolver(rt, reader)?;
     let resolver_resolve = best_resolve(rt, &resolver, sample)?;
     Ok(FrozenTimings {
         into_reader: tenths_a_call(into_reader, 1),
@@ -147,6 +147,22 @@ pub fn frozen_round<R: AllocGlobal + Clock>(
     })
 }
 
+// Freezes the interner of the pool to a reader, and tells how long that took.
+fn timed_reader<R: Clock>(rt: &R, pool: RodeoPool) -> Result<(Reader, Duration)> {
+    let start = Instant::now(rt)?;
+    let reader = pool.into_rodeo().into_reader();
+    let elapsed = start.elapsed(rt)?;
+    Ok((reader, elapsed))
+}
+
+// Freezes the reader to a resolver, and tells how long that took.
+fn timed_resolver<R: Clock>(rt: &R, reader: Reader) -> Result<(Resolver, Duration)> {
+    let start = Instant::now(rt)?;
+    let resolver = reader.into_resolver();
+    let elapsed = start.elapsed(rt)?;
+    Ok((resolver, elapsed))
+}
+
 // The least that a call took in several passes over the sample's positions.
 fn best_resolve<T: FrozenTexts, R: AllocGlobal + Clock>(
     rt: &R,
@@ -154,16 +170,28 @@ fn best_resolve<T: FrozenTexts, R: AllocGlobal + Clock>(
     sample: &FrozenSample,
 ) -> Result<u64> {
     let keys = keys_at(rt.alloc(), texts, &sample.positions)?;
-    ensure!(keys.len() == sample.positions.len(), "a key is missing");
+    ensure_so(keys.len() == sample.positions.len(), "a key is missing")?;
     let mut best = u64::MAX;
     for _ in 0..ROUNDS {
-        let start = Instant::now(rt)?;
-        let sum = resolve_all(texts, &keys);
-        let elapsed = start.elapsed(rt)?;
-        ensure!(sum == sample.last_bytes, "a text is wrong");
-        best = best.min(tenths_a_call(elapsed, keys.len()));
+        best = best.min(time_resolve(rt, texts, &keys, sample.last_bytes)?);
     }
     Ok(best)
+}
+
+// What a call took in one pass over the keys, whose texts have this sum of their last bytes.
+fn time_resolve<T: FrozenTexts, R: Clock>(
+    rt: &R,
+    texts: &T,
+    keys: &[Spur],
+    last_bytes: usize,
+) -> Result<u64>
+    requires { All (λ key. ⟦<Spur as Key>⟧.number key < length (T.texts texts.now)) keys.now }
+{
+    let start = Instant::now(rt)?;
+    let sum = resolve_all(texts, keys);
+    let elapsed = start.elapsed(rt)?;
+    ensure_so(sum == last_bytes, "a text is wrong")?;
+    Ok(tenths_a_call(elapsed, keys.len()))
 }
 
 /// The keys of the texts at these positions; a position with no text has none.

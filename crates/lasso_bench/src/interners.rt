@@ -2,8 +2,8 @@
 use crate::calls::{Calls, WithPass};
 use crate::lines::Lines;
 use crate::threads::THREADS;
-use crate::timing::{sum_of_positions, tenths_a_call};
-use anyhow::{Result, bail, ensure};
+use crate::timing::{ensure_so, sum_of_positions, tenths_a_call};
+use anyhow::{Result, bail};
 use lasso::{Spur, SpurThreadedRodeo, ThreadedRodeo};
 use std::alloc::AllocError;
 use std::rt::Clock;
@@ -38,15 +38,25 @@ pub fn time_filled<C: Calls, R: AllocGlobal + Clock + Threads + Wait + Sync>(
 ) -> Result<FilledTimings> {
     let rodeo = ThreadedRodeo::default(rt.alloc())?;
     let filled = WithPass::intern_all(rt, &rodeo, &lines.distinct);
-    ensure!(filled.is_some(), "a text was refused");
+    ensure_so(filled.is_some(), "a text was refused")?;
     let keys = keys_of(rt, &rodeo, &lines.again)?;
+    time_calls::<C, R>(rt, &rodeo, &keys, lines)
+}
+
+// What each call of a filled interner took with each number of threads.
+fn time_calls<C: Calls, R: AllocGlobal + Clock + Threads + Wait + Sync>(
+    rt: &R,
+    rodeo: &SpurThreadedRodeo,
+    keys: &[Spur],
+    lines: &Lines,
+) -> Result<FilledTimings> {
     let mut timings = FilledTimings {
         present: [u64::MAX; 3],
         resolve: [u64::MAX; 3],
     };
     for at in 0..3usize {
-        timings.present[at] = time_present::<C, R>(rt, &rodeo, lines, THREADS[at])?;
-        timings.resolve[at] = time_resolve::<C, R>(rt, &rodeo, &keys, lines, THREADS[at])?;
+        timings.present[at] = time_present::<C, R>(rt, rodeo, lines, THREADS[at])?;
+        timings.resolve[at] = time_resolve::<C, R>(rt, rodeo, keys, lines, THREADS[at])?;
     }
     Ok(timings)
 }
@@ -97,10 +107,8 @@ fn time_present<C: Calls, R: AllocGlobal + Clock + Threads + Wait + Sync>(
         &|_| C::intern_all(rt, rodeo, &lines.again),
     )?;
     let elapsed = start.elapsed(rt)?;
-    ensure!(
-        sums.iter().all(|sum| *sum == Some(lines.positions)),
-        "a key is wrong"
-    );
+    let are_keys = sums.iter().all(|sum| *sum == Some(lines.positions));
+    ensure_so(are_keys, "a key is wrong")?;
     Ok(tenths_a_call(elapsed, lines.again.len()))
 }
 
@@ -115,10 +123,8 @@ fn time_resolve<C: Calls, R: AllocGlobal + Clock + Threads + Sync>(
     let start = Instant::now(rt)?;
     let sums = map_indices(rt, rt.alloc(), threads, &|_| C::resolve_all(rodeo, keys))?;
     let elapsed = start.elapsed(rt)?;
-    ensure!(
-        sums.iter().all(|sum| *sum == lines.lengths),
-        "a text is wrong"
-    );
+    let are_texts = sums.iter().all(|sum| *sum == lines.lengths);
+    ensure_so(are_texts, "a text is wrong")?;
     Ok(tenths_a_call(elapsed, keys.len()))
 }
 
@@ -130,10 +136,8 @@ fn time_new<R: AllocGlobal + Clock + Threads + Wait + Sync>(
 ) -> Result<u64> {
     let rodeo = ThreadedRodeo::default(rt.alloc())?;
     let (sum, tenths) = time_parts(rt, &rodeo, &lines.distinct, threads)?;
-    ensure!(
-        sum == sum_of_positions(lines.distinct.len()),
-        "a key is wrong"
-    );
+    let are_keys = sum == sum_of_positions(lines.distinct.len());
+    ensure_so(are_keys, "a key is wrong")?;
     Ok(tenths)
 }
 
@@ -145,7 +149,7 @@ fn time_intern<R: AllocGlobal + Clock + Threads + Wait + Sync>(
 ) -> Result<u64> {
     let rodeo = ThreadedRodeo::default(rt.alloc())?;
     let (_, tenths) = time_parts(rt, &rodeo, &lines.texts, threads)?;
-    ensure!(rodeo.len() == lines.distinct.len(), "a text is wrong");
+    ensure_so(rodeo.len() == lines.distinct.len(), "a text is wrong")?;
     Ok(tenths)
 }
 
@@ -167,12 +171,17 @@ fn time_parts<R: AllocGlobal + Clock + Threads + Wait + Sync>(
         &|_, part| WithPass::intern_all(rt, rodeo, part),
     )?;
     let elapsed = start.elapsed(rt)?;
+    Ok((sum_of_parts(&sums)?, tenths_a_call(elapsed, size)))
+}
+
+// The sum of the parts' sums. It fails if one was refused.
+fn sum_of_parts(parts: &[Option<usize>]) -> Result<usize> {
     let mut sum = 0usize;
-    for part in &sums {
+    for part in parts {
         let Some(part) = *part else {
             bail!("a text was refused");
         };
         sum = sum.wrapping_add(part);
     }
-    Ok((sum, tenths_a_call(elapsed, size)))
+    Ok(sum)
 }

@@ -24,14 +24,13 @@ impl Lines {
     /// The lines that the reader gives until it ends. It fails if a read does, when out of memory, if there
     /// is no line, and if there are more than a `u32` can count.
     pub fn read<B: BufRead + Drop>(alloc: Global, reader: B) -> Result<Lines> {
-        let mut texts = Vec::new(alloc);
-        for line in reader.lines(alloc) {
-            texts.push(line?)?;
-        }
-        let Ok(count) = u32::try_from(texts.len()) else {
-            bail!("too many lines");
-        };
-        ensure!(count > 0, "no line");
+        let texts = read_all(alloc, reader)?;
+        let count = count_of(&texts)?;
+        Ok(Lines::of(alloc, texts, count)?)
+    }
+
+    // The `count` lines.
+    fn of(alloc: Global, texts: Vec<String>, count: u32) -> Result<Lines, AllocError> {
         let again = in_other_order(alloc, &texts, count)?;
         let mut positions = MapPool::new(alloc)?;
         let distinct = distinct_texts(alloc, &mut positions, &texts)?;
@@ -43,6 +42,24 @@ impl Lines {
             distinct,
         })
     }
+}
+
+// The lines that the reader gives until it ends.
+fn read_all<B: BufRead + Drop>(alloc: Global, reader: B) -> Result<Vec<String>> {
+    let mut texts = Vec::new(alloc);
+    for line in reader.lines(alloc) {
+        texts.push(line?)?;
+    }
+    Ok(texts)
+}
+
+// How many lines there are.
+fn count_of(texts: &[String]) -> Result<u32> {
+    let Ok(count) = u32::try_from(texts.len()) else {
+        bail!("too many lines");
+    };
+    ensure!(count > 0, "no line");
+    Ok(count)
 }
 
 // Copies of these `count` texts in another order.

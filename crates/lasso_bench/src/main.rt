@@ -29,14 +29,14 @@ mod walks;
 use anyhow::{Result, bail};
 use calls::{Plain, WithPass, fill};
 use collide::time_collisions;
-use columns::{MOST_THREADS, WORKERS, time_columns};
+use columns::{ColumnTimings, MOST_THREADS, WORKERS, time_columns};
 use copying::{COPIES, best_copy_timings};
 use frozen::{FrozenSample, best_frozen_timings, frozen_round};
 use interners::{time_filled, time_filling};
 use lines::Lines;
 use pools::{MapPool, RodeoPool, SetPool};
 use refill::best_refill_timings;
-use shared::Shelf;
+use shared::{SharedTexts, Shelf};
 use small::print_small;
 use std::env;
 use std::io::{BufReader, Read};
@@ -46,7 +46,7 @@ use std::thread::Threads;
 use texts::Sample;
 use threads::{CALLS, THREADS, Walk, best_shared_timings};
 use timing::{Timings, best_timings, round};
-use walks::best_walk_timings;
+use walks::{WalkTimings, best_walk_timings};
 
 const TEXTS: u32 = 100_000;
 
@@ -63,35 +63,65 @@ fn main(rt: HostRuntime) -> Result<()> {
     let words: Vec<String> = words.collect(rt.alloc())?;
     match words.as_slice() {
         [] => Ok(()),
-        [word] if word.as_str() == "measure" => print_table(&rt),
-        [word] if word.as_str() == "round" => print_rounds(&rt),
-        [word] if word.as_str() == "refill" => print_refills(&rt),
-        [word] if word.as_str() == "collide" => print_collisions(&rt),
-        [word] if word.as_str() == "shared" => print_shared(&rt),
-        [word] if word.as_str() == "interners" => print_interners(&rt),
-        [word] if word.as_str() == "walks" => print_walks(&rt),
-        [word] if word.as_str() == "columns" => print_codes(&rt),
-        [word] if word.as_str() == "fill" => print_fill(&rt),
-        [word] if word.as_str() == "small" => print_small(&rt),
-        _ => bail!(
-            "usage: lasso_bench [measure|round|refill|collide|shared|interners|walks|columns|fill|small]"
-        ),
+        [word] => print_named(&rt, word.as_str()),
+        _ => fail_with_usage(),
     }
+}
+
+// Prints what the word names.
+fn print_named<R: AllocGlobal + Clock + Input + Print + Threads + Wait + Sync>(
+    rt: &R,
+    word: &str,
+) -> Result<()> {
+    match word {
+        "measure" => print_table(rt),
+        "round" => print_rounds(rt),
+        "refill" => print_refills(rt),
+        "collide" => print_collisions(rt),
+        "small" => print_small(rt),
+        _ => print_shared_named(rt, word),
+    }
+}
+
+// Prints what the word names of what threads share, or of the lines of standard input.
+fn print_shared_named<R: AllocGlobal + Clock + Input + Print + Threads + Wait + Sync>(
+    rt: &R,
+    word: &str,
+) -> Result<()> {
+    match word {
+        "shared" => print_shared(rt),
+        "interners" => print_interners(rt),
+        "walks" => print_walks(rt),
+        "columns" => print_codes(rt),
+        "fill" => print_fill(rt),
+        _ => fail_with_usage(),
+    }
+}
+
+fn fail_with_usage() -> Result<()> {
+    bail!(
+        "usage: lasso_bench [measure|round|refill|collide|shared|interners|walks|columns|fill|small]"
+    )
 }
 
 // Times each pool of texts, and prints a line for each operation.
 fn print_table<R: AllocGlobal + Clock + Print>(rt: &R) -> Result<()> {
     let sample = Sample::new(rt.alloc(), TEXTS)?;
-    println!(rt; "{:<18}{:<18}{:>9}", "name", "operation", "ns a call")?;
-    print_timings(rt, "Rodeo", best_timings::<RodeoPool, R>(rt, &sample)?)?;
+    print_head(rt, ["name", "operation", "ns a call"])?;
+    print_pools(rt, &sample)?;
+    print_frozen(rt, TEXTS)?;
+    print_frozen(rt, MANY_TEXTS)
+}
+
+// Times each pool of texts over the sample.
+fn print_pools<R: AllocGlobal + Clock + Print>(rt: &R, sample: &Sample) -> Result<()> {
+    print_timings(rt, "Rodeo", best_timings::<RodeoPool, R>(rt, sample)?)?;
     print_timings(
         rt,
         "HashMap and Vec",
-        best_timings::<MapPool, R>(rt, &sample)?,
+        best_timings::<MapPool, R>(rt, sample)?,
     )?;
-    print_timings(rt, "IndexSet", best_timings::<SetPool, R>(rt, &sample)?)?;
-    print_frozen(rt, TEXTS)?;
-    print_frozen(rt, MANY_TEXTS)
+    print_timings(rt, "IndexSet", best_timings::<SetPool, R>(rt, sample)?)
 }
 
 // Times one round of single calls for each count of texts.
@@ -119,10 +149,16 @@ fn print_round<R: AllocGlobal + Clock + Print>(rt: &R, count: u32) -> Result<()>
         ("resolver", frozen.resolver_resolve),
     ];
     for (call, tenths) in calls {
-        let whole = tenths / 10;
-        let tenth = tenths % 10;
-        println!(rt; "{count} {call} {whole}.{tenth}")?;
+        print_counted(rt, count, call, tenths)?;
     }
+    Ok(())
+}
+
+// Prints the time of a call over `count` texts, which is given in tenths of a nanosecond.
+fn print_counted(rt: &impl Print, count: u32, call: &str, tenths: u64) -> Result<()> {
+    let whole = tenths / 10;
+    let tenth = tenths % 10;
+    println!(rt; "{count} {call} {whole}.{tenth}")?;
     Ok(())
 }
 
@@ -131,17 +167,23 @@ fn print_round<R: AllocGlobal + Clock + Print>(rt: &R, count: u32) -> Result<()>
 fn print_refills<R: AllocGlobal + Clock + Print>(rt: &R) -> Result<()> {
     let sample = Sample::new(rt.alloc(), REFILLED_TEXTS)?;
     let timings = best_refill_timings(rt, &sample.texts, REFILLS)?;
-    let [first, second, last] = timings.usages;
     println!(rt; "{REFILLED_TEXTS} texts, {REFILLS} rounds")?;
-    println!(rt; "bytes after round 1, round 2 and the last: {first}, {second}, {last}")?;
-    println!(rt; "{:<18}{:<18}{:>9}", "name", "round", "ns a text")?;
+    print_usages(rt, timings.usages)?;
+    print_head(rt, ["name", "round", "ns a text"])?;
     print_line(rt, "Rodeo", "clear and fill", timings.refilled)?;
     print_line(rt, "Rodeo", "new and fill", timings.anew)
 }
 
+// Prints the bytes that an interner takes after three rounds.
+fn print_usages(rt: &impl Print, usages: [usize; 3]) -> Result<()> {
+    let [first, second, last] = usages;
+    println!(rt; "bytes after round 1, round 2 and the last: {first}, {second}, {last}")?;
+    Ok(())
+}
+
 // Times interners that are filled with texts which collide under the fixed seed, and prints a line for each hasher and count.
 fn print_collisions<R: AllocGlobal + Clock + Print>(rt: &R) -> Result<()> {
-    println!(rt; "{:<18}{:<18}{:>9}", "hasher", "texts", "ns a text")?;
+    print_head(rt, ["hasher", "texts", "ns a text"])?;
     for (count, name) in [(2500, "2500"), (5000, "5000"), (10_000, "10000")] {
         let timings = time_collisions(rt, count)?;
         print_line(rt, "fixed seed", name, timings.fixed)?;
@@ -166,23 +208,40 @@ fn print_frozen<R: AllocGlobal + Clock + Print>(rt: &R, count: u32) -> Result<()
 // Times the lists that threads share, and prints a line for each call, with a column for each number of threads.
 fn print_shared<R: AllocGlobal + Clock + Print + Threads + Wait + Sync>(rt: &R) -> Result<()> {
     let shelf = Shelf::new(rt, TEXTS)?;
+    print_shelf(rt, &shelf)
+}
+
+// Times the lists of the shelf.
+fn print_shelf<R: AllocGlobal + Clock + Print + Threads + Wait + Sync>(
+    rt: &R,
+    shelf: &Shelf,
+) -> Result<()> {
     let walk = Walk::new(rt.alloc(), TEXTS, CALLS)?;
     println!(rt; "{TEXTS} texts")?;
     println!(rt; "{:<26}{:<10}{:>9}{:>9}{:>9}", "name", "threads", 1, 2, 4)?;
-    let log = best_shared_timings(rt, &shelf.log, &walk)?;
-    print_columns(rt, "Log", "read", log.read)?;
-    print_columns(rt, "Log", "len", log.count)?;
-    let vector = best_shared_timings(rt, &shelf.vector, &walk)?;
-    print_columns(rt, "boxcar::Vec", "get", vector.read)?;
-    print_columns(rt, "boxcar::Vec", "count", vector.count)?;
+    print_list(rt, &shelf.log, &walk, ["Log", "read", "len"])?;
+    print_list(rt, &shelf.vector, &walk, ["boxcar::Vec", "get", "count"])?;
     print_copies(rt)
+}
+
+// Times a list that threads share, and prints a line for each of its two calls. The words are its name and theirs.
+fn print_list<T: SharedTexts, R: AllocGlobal + Clock + Print + Threads + Wait + Sync>(
+    rt: &R,
+    list: &T,
+    walk: &Walk,
+    words: [&str; 3],
+) -> Result<()> {
+    let timings = best_shared_timings(rt, list, walk)?;
+    let [name, read, count] = words;
+    print_columns(rt, name, read, timings.read)?;
+    print_columns(rt, name, count, timings.count)
 }
 
 // Times texts that are copied into a bucket that threads share, and passes, and prints a line for each.
 fn print_copies<R: AllocGlobal + Clock + Print + Wait>(rt: &R) -> Result<()> {
     let timings = best_copy_timings(rt)?;
     println!(rt; "{COPIES} texts of 16 bytes")?;
-    println!(rt; "{:<18}{:<18}{:>9}", "name", "operation", "ns a call")?;
+    print_head(rt, ["name", "operation", "ns a call"])?;
     print_line(rt, "SharedBucket", "reserve, fill", timings.copy)?;
     print_line(rt, "Log", "pass", timings.pass)
 }
@@ -191,11 +250,17 @@ fn print_copies<R: AllocGlobal + Clock + Print + Wait>(rt: &R) -> Result<()> {
 fn print_columns(rt: &impl Print, name: &str, call: &str, tenths: [u64; 3]) -> Result<()> {
     print!(rt; "{name:<26}{call:<10}")?;
     for time in tenths {
-        let whole = time / 10;
-        let tenth = time % 10;
-        print!(rt; "{whole:>7}.{tenth}")?;
+        print_column(rt, time)?;
     }
     println!(rt; "")?;
+    Ok(())
+}
+
+// Prints a time, which is given in tenths of a nanosecond.
+fn print_column(rt: &impl Print, tenths: u64) -> Result<()> {
+    let whole = tenths / 10;
+    let tenth = tenths % 10;
+    print!(rt; "{whole:>7}.{tenth}")?;
     Ok(())
 }
 
@@ -205,9 +270,17 @@ fn print_interners<R: AllocGlobal + Clock + Input + Print + Threads + Wait + Syn
     rt: &R,
 ) -> Result<()> {
     let lines = Lines::read(rt.alloc(), BufReader::new(rt.alloc(), rt.reader())?)?;
-    let filling = time_filling(rt, &lines)?;
-    let with_pass = time_filled::<WithPass, R>(rt, &lines)?;
-    let plain = time_filled::<Plain, R>(rt, &lines)?;
+    print_shared_calls(rt, &lines)
+}
+
+// Times one round of the interner over the lines.
+fn print_shared_calls<R: AllocGlobal + Clock + Print + Threads + Wait + Sync>(
+    rt: &R,
+    lines: &Lines,
+) -> Result<()> {
+    let filling = time_filling(rt, lines)?;
+    let with_pass = time_filled::<WithPass, R>(rt, lines)?;
+    let plain = time_filled::<Plain, R>(rt, lines)?;
     print_calls(rt, "present", with_pass.present)?;
     print_calls(rt, "plain_present", plain.present)?;
     print_calls(rt, "new", filling.new)?;
@@ -236,9 +309,13 @@ fn print_call(rt: &impl Print, call: &str, threads: usize, tenths: u64) -> Resul
 fn print_walks<R: AllocGlobal + Clock + Input + Print + Wait>(rt: &R) -> Result<()> {
     let lines = Lines::read(rt.alloc(), BufReader::new(rt.alloc(), rt.reader())?)?;
     let timings = best_walk_timings(rt, &lines)?;
-    let count = lines.distinct.len();
+    print_walk_timings(rt, lines.distinct.len(), timings)
+}
+
+// Prints the times of walks over `count` texts, and of freezing them.
+fn print_walk_timings(rt: &impl Print, count: usize, timings: WalkTimings) -> Result<()> {
     println!(rt; "{count} texts")?;
-    println!(rt; "{:<18}{:<18}{:>9}", "name", "operation", "ns a text")?;
+    print_head(rt, ["name", "operation", "ns a text"])?;
     print_line(rt, "ThreadedRodeo", "iter", timings.iter)?;
     print_line(rt, "ThreadedRodeo", "strings", timings.strings)?;
     print_line(rt, "ThreadedRodeo", "into_reader", timings.into_reader)
@@ -252,6 +329,14 @@ fn print_codes<R: AllocGlobal + Clock + Input + Print + Threads + Wait + Sync>(
     let mut bytes = Vec::new(rt.alloc());
     rt.reader().read_to_end(&mut bytes)?;
     let timings = time_columns(rt, &bytes)?;
+    print_column_calls(rt, &timings)?;
+    print_threads(rt, &timings)?;
+    print_call(rt, "private", 1, timings.private_alone)?;
+    print_call(rt, "private", MOST_THREADS, timings.private_together)
+}
+
+// Prints a line for each call that no threads share.
+fn print_column_calls(rt: &impl Print, timings: &ColumnTimings) -> Result<()> {
     let calls = [
         ("encode", timings.encode),
         ("encode_lines", timings.encode_lines),
@@ -260,28 +345,28 @@ fn print_codes<R: AllocGlobal + Clock + Input + Print + Threads + Wait + Sync>(
         ("encode_again", timings.encode_again),
     ];
     for (call, tenths) in calls {
-        let whole = tenths / 10;
-        let tenth = tenths % 10;
-        println!(rt; "{call} {whole}.{tenth}")?;
+        print_plain(rt, call, tenths)?;
     }
-    for before in 0..MOST_THREADS {
-        print_call(
-            rt,
-            "encode_shared",
-            before + 1,
-            timings.encode_shared[before],
-        )?;
+    Ok(())
+}
+
+// Prints the time of a call, which is given in tenths of a nanosecond.
+fn print_plain(rt: &impl Print, call: &str, tenths: u64) -> Result<()> {
+    let whole = tenths / 10;
+    let tenth = tenths % 10;
+    println!(rt; "{call} {whole}.{tenth}")?;
+    Ok(())
+}
+
+// Prints a line for each number of threads that encode together, and of workers.
+fn print_threads(rt: &impl Print, timings: &ColumnTimings) -> Result<()> {
+    for (before, tenths) in timings.encode_shared.iter().enumerate() {
+        print_call(rt, "encode_shared", before.saturating_add(1), *tenths)?;
     }
-    for at in 0..3usize {
-        print_call(
-            rt,
-            "encode_in_parts",
-            WORKERS[at],
-            timings.encode_in_parts[at],
-        )?;
+    for (workers, tenths) in WORKERS.iter().zip(&timings.encode_in_parts) {
+        print_call(rt, "encode_in_parts", *workers, *tenths)?;
     }
-    print_call(rt, "private", 1, timings.private_alone)?;
-    print_call(rt, "private", MOST_THREADS, timings.private_together)
+    Ok(())
 }
 
 // Interns the lines of standard input in an interner that threads share, and prints how many texts there are.
@@ -302,6 +387,13 @@ fn print_timings(rt: &impl Print, name: &str, timings: Timings) -> Result<()> {
     for (operation, tenths) in lines {
         print_line(rt, name, operation, tenths)?;
     }
+    Ok(())
+}
+
+// Prints the heads of three columns.
+fn print_head(rt: &impl Print, heads: [&str; 3]) -> Result<()> {
+    let [first, second, third] = heads;
+    println!(rt; "{first:<18}{second:<18}{third:>9}")?;
     Ok(())
 }
 

@@ -1,7 +1,7 @@
 //! An interner that is cleared and filled with the same texts round after round, beside a new one for each round.
 use crate::pools::{RodeoPool, TextPool};
-use crate::timing::{intern_all, sum_of_positions, tenths_a_call};
-use anyhow::{Result, ensure};
+use crate::timing::{ensure_so, intern_all, sum_of_positions, tenths_a_call};
+use anyhow::Result;
 use std::rt::Clock;
 use std::time::{Duration, Instant};
 
@@ -29,19 +29,22 @@ pub fn best_refill_timings<R: AllocGlobal + Clock>(
     let first_usage = kept.usage();
     let second = both_rounds(rt, &mut kept, texts)?;
     let second_usage = kept.usage();
-    let mut refilled = first.0.min(second.0);
-    let mut anew = first.1.min(second.1);
+    let mut best = least(first, second);
     for _ in 2..rounds {
-        let (again, other) = both_rounds(rt, &mut kept, texts)?;
-        ensure!(kept.usage() == second_usage, "a round took more memory");
-        refilled = refilled.min(again);
-        anew = anew.min(other);
+        best = least(best, both_rounds(rt, &mut kept, texts)?);
+        ensure_so(kept.usage() == second_usage, "a round took more memory")?;
     }
+    let (refilled, anew) = best;
     Ok(RefillTimings {
         usages: [first_usage, second_usage, kept.usage()],
         refilled: tenths_a_call(refilled, texts.len()),
         anew: tenths_a_call(anew, texts.len()),
     })
+}
+
+// The less of both, for the round of a kept interner and that of a new one.
+fn least(one: (Duration, Duration), other: (Duration, Duration)) -> (Duration, Duration) {
+    (one.0.min(other.0), one.1.min(other.1))
 }
 
 // A round of the kept interner, and then one of a new one.
@@ -61,7 +64,7 @@ fn refill<R: Clock>(rt: &R, kept: &mut RodeoPool, texts: &[String]) -> Result<Du
     kept.clear();
     let sum = intern_all(kept, texts)?;
     let elapsed = start.elapsed(rt)?;
-    ensure!(sum == sum_of_positions(texts.len()), "a key is wrong");
+    ensure_so(sum == sum_of_positions(texts.len()), "a key is wrong")?;
     Ok(elapsed)
 }
 
@@ -70,7 +73,7 @@ fn fill_anew<R: AllocGlobal + Clock>(rt: &R, texts: &[String]) -> Result<Duratio
     let start = Instant::now(rt)?;
     let sum = intern_all_anew(rt, texts)?;
     let elapsed = start.elapsed(rt)?;
-    ensure!(sum == sum_of_positions(texts.len()), "a key is wrong");
+    ensure_so(sum == sum_of_positions(texts.len()), "a key is wrong")?;
     Ok(elapsed)
 }
 

@@ -1,5 +1,5 @@
 //! Texts that threads read at once: the log of a shared interner, and a vector of `boxcar`.
-ghost use Rattle.std.specs.Prelude.{◌≡◌, [], IfOk};
+ghost use Rattle.std.specs.Prelude.{◌≡◌, [], IfOk, string_bytes};
 ghost use Rattle.lasso_log.specs.Views.{list_of};
 ghost use Rattle.lasso_bench.specs.Names.{named};
 
@@ -70,6 +70,13 @@ fn kept_text(alloc: Global, number: u32) -> Result<&'static str, AllocError>
     ensures { IfOk result (λ text. text.now ≡ named number) }
 {
     let text = numbered_text(alloc, u64::from(number))?;
+    leaked(text)
+}
+
+// The text, which is never freed.
+fn leaked(text: String) -> Result<&'static str, AllocError>
+    ensures { IfOk result (λ kept. kept.now ≡ string_bytes text) }
+{
     let bytes: &'static [u8] = text.into_bytes().leak();
     match std::str::from_utf8(bytes) {
         Ok(text) => Ok(text),

@@ -63,14 +63,22 @@ fn print_pools<R: AllocGlobal + Clock + Print>(rt: &R) -> Result<()> {
 // Prints what a new pool answers of a few texts.
 fn print_pool<P: TextPool, R: AllocGlobal + Print>(rt: &R, name: &str) -> Result<()> {
     let mut pool = P::new(rt.alloc())?;
+    print_interned(rt, &mut pool, name)
+}
+
+// Prints what the pool answers of two texts that it has, and of one that is missing.
+fn print_interned<P: TextPool, R: Print>(rt: &R, pool: &mut P, name: &str) -> Result<()> {
     let first = P::position(pool.intern("b")?);
     let key = pool.intern("a")?;
     let second = P::position(key);
     let again = P::position(pool.intern("b")?);
-    println!(rt;
-        "{name}: {first} {second} {again}, text {:?}",
-        pool.resolve(key)
-    )?;
+    let text = pool.resolve(key);
+    println!(rt; "{name}: {first} {second} {again}, text {text:?}")?;
+    print_found(rt, pool, name)
+}
+
+// Prints what the pool answers of a look-up of a text that it has, and of one that is missing.
+fn print_found<P: TextPool, R: Print>(rt: &R, pool: &P, name: &str) -> Result<()> {
     let found = pool.get("a").map(|key| P::position(key));
     let missing = pool.get("c").map(|key| P::position(key));
     println!(rt; "{name}: found {found:?}, missing {missing:?}")?;
@@ -112,9 +120,26 @@ fn print_resolved<T: FrozenTexts, R: AllocGlobal + Print>(
 // Prints what is known of a few lines.
 fn print_lines<R: AllocGlobal + Print>(rt: &R) -> Result<()> {
     let lines = Lines::read(rt.alloc(), LINES.as_bytes())?;
-    println!(rt; "distinct: {:?}", lines.distinct)?;
-    println!(rt; "again: {:?}", lines.again)?;
-    println!(rt; "positions {}, lengths {}", lines.positions, lines.lengths)?;
+    print_texts(rt, "distinct", &lines.distinct)?;
+    print_texts(rt, "again", &lines.again)?;
+    print_sums(rt, lines.positions, lines.lengths)?;
+    print_no_line(rt)
+}
+
+// Prints the texts, which have this name.
+fn print_texts(rt: &impl Print, name: &str, texts: &Vec<String>) -> Result<()> {
+    println!(rt; "{name}: {texts:?}")?;
+    Ok(())
+}
+
+// Prints the sums of positions and of lengths.
+fn print_sums(rt: &impl Print, positions: usize, lengths: usize) -> Result<()> {
+    println!(rt; "positions {positions}, lengths {lengths}")?;
+    Ok(())
+}
+
+// Prints whether an input without a line is an error.
+fn print_no_line<R: AllocGlobal + Print>(rt: &R) -> Result<()> {
     let none = Lines::read(rt.alloc(), "".as_bytes()).is_err();
     println!(rt; "no line is an error: {none}")?;
     Ok(())
@@ -123,17 +148,16 @@ fn print_lines<R: AllocGlobal + Print>(rt: &R) -> Result<()> {
 // Times the lists that threads share and a shared bucket, and prints what the lists answer of a few positions.
 fn print_lists<R: AllocGlobal + Clock + Print + Threads + Wait + Sync>(rt: &R) -> Result<()> {
     let shelf = Shelf::new(rt, COUNT)?;
-    let read = [7, 999, 10, 1000];
-    println!(rt;
-        "Log: read {}, counted {}",
-        shelf.log.read_all(&read),
-        shelf.log.count_all(3)
-    )?;
-    let read = shelf.vector.read_all(&read);
-    println!(rt;
-        "boxcar::Vec: read {read}, counted {}",
-        shelf.vector.count_all(3)
-    )?;
+    print_shelf(rt, &shelf)
+}
+
+// Times the lists of the shelf and a shared bucket, and prints what the lists answer of a few positions.
+fn print_shelf<R: AllocGlobal + Clock + Print + Threads + Wait + Sync>(
+    rt: &R,
+    shelf: &Shelf,
+) -> Result<()> {
+    print_list(rt, "Log", &shelf.log)?;
+    print_list(rt, "boxcar::Vec", &shelf.vector)?;
     let walk = Walk::new(rt.alloc(), COUNT, 5000)?;
     best_shared_timings(rt, &shelf.log, &walk)?;
     best_shared_timings(rt, &shelf.vector, &walk)?;
@@ -141,24 +165,52 @@ fn print_lists<R: AllocGlobal + Clock + Print + Threads + Wait + Sync>(rt: &R) -
     Ok(())
 }
 
+// Prints what the list answers of a few positions.
+fn print_list<T: SharedTexts, R: Print>(rt: &R, name: &str, list: &T) -> Result<()> {
+    let read = list.read_all(&[7, 999, 10, 1000]);
+    let counted = list.count_all(3);
+    println!(rt; "{name}: read {read}, counted {counted}")?;
+    Ok(())
+}
+
 // Times shared interners over a few lines, and prints what their calls answer.
 fn print_interners<R: AllocGlobal + Clock + Print + Threads + Wait + Sync>(rt: &R) -> Result<()> {
     let lines = Lines::read(rt.alloc(), LINES.as_bytes())?;
-    time_filling(rt, &lines)?;
-    time_filled::<WithPass, _>(rt, &lines)?;
-    time_filled::<Plain, _>(rt, &lines)?;
-    println!(rt; "filled: {} texts", fill(rt, LINES.as_bytes())?)?;
+    time_interners(rt, &lines)?;
+    let count = fill(rt, LINES.as_bytes())?;
+    println!(rt; "filled: {count} texts")?;
     print_calls::<WithPass, R>(rt, "with a pass")?;
     print_calls::<Plain, R>(rt, "plain")
+}
+
+// Times shared interners over the lines.
+fn time_interners<R: AllocGlobal + Clock + Threads + Wait + Sync>(
+    rt: &R,
+    lines: &Lines,
+) -> Result<()> {
+    time_filling(rt, lines)?;
+    time_filled::<WithPass, _>(rt, lines)?;
+    time_filled::<Plain, _>(rt, lines)?;
+    Ok(())
 }
 
 // Prints the sum of the positions that three lines are interned at, and of the lengths that a key is resolved to.
 fn print_calls<C: Calls, R: AllocGlobal + Print + Wait>(rt: &R, name: &str) -> Result<()> {
     let rodeo: SpurThreadedRodeo = ThreadedRodeo::default(rt.alloc())?;
     let lines = Lines::read(rt.alloc(), &b"b\nabc\nb\n"[..])?;
-    let positions = C::intern_all(rt, &rodeo, &lines.texts);
+    print_called::<C, R>(rt, &rodeo, &lines.texts, name)
+}
+
+// Prints the sum of the positions that the texts are interned at, and of the lengths that a key is resolved to.
+fn print_called<C: Calls, R: Print + Wait>(
+    rt: &R,
+    rodeo: &SpurThreadedRodeo,
+    texts: &[String],
+    name: &str,
+) -> Result<()> {
+    let positions = C::intern_all(rt, rodeo, texts);
     let key = rodeo.get(rt, "abc").context("abc is missing")?;
-    let lengths = C::resolve_all(&rodeo, &[key, key]);
+    let lengths = C::resolve_all(rodeo, &[key, key]);
     println!(rt; "{name}: positions {positions:?}, lengths {lengths}")?;
     Ok(())
 }
@@ -168,7 +220,14 @@ fn print_walks<R: AllocGlobal + Clock + Print + Wait>(rt: &R) -> Result<()> {
     let lines = Lines::read(rt.alloc(), &b"b\na\nb\nc\n"[..])?;
     best_walk_timings(rt, &lines)?;
     let rodeo: SpurThreadedRodeo = ThreadedRodeo::default(rt.alloc())?;
+    print_walked(rt, &rodeo)
+}
+
+// Prints what walks give of three texts.
+fn print_walked<R: Print + Wait>(rt: &R, rodeo: &SpurThreadedRodeo) -> Result<()> {
     rodeo.extend(rt, ["b", "a", "c"])?;
-    println!(rt; "walks: {:?}, {}", walk_entries(&rodeo), walk_texts(&rodeo))?;
+    let entries = walk_entries(rodeo);
+    let texts = walk_texts(rodeo);
+    println!(rt; "walks: {entries:?}, {texts}")?;
     Ok(())
 }

@@ -3,8 +3,8 @@ ghost use Rattle.std.specs.Prelude.{◌<◌};
 
 use crate::positions::random_positions;
 use crate::shared::{SharedTexts, Shelf};
-use crate::timing::{ROUNDS, tenths_a_call};
-use anyhow::{Result, ensure};
+use crate::timing::{ROUNDS, ensure_so, tenths_a_call};
+use anyhow::Result;
 use std::alloc::{AllocError, Global};
 use std::rt::Clock;
 use std::thread::{Threads, map_indices};
@@ -99,10 +99,8 @@ fn time_reads<T: SharedTexts, R: AllocGlobal + Clock + Threads + Sync>(
         &|_| texts.read_all(&walk.positions),
     )?;
     let elapsed = start.elapsed(rt)?;
-    ensure!(
-        sums.iter().all(|sum| *sum == walk.lengths),
-        "a text is wrong"
-    );
+    let are_texts = sums.iter().all(|sum| *sum == walk.lengths);
+    ensure_so(are_texts, "a text is wrong")?;
     Ok(tenths_a_call(elapsed, walk.positions.len()))
 }
 
@@ -118,6 +116,7 @@ fn time_counts<T: SharedTexts, R: AllocGlobal + Clock + Threads + Sync>(
     let sums = map_indices(rt, rt.alloc(), threads, &|_| texts.count_all(calls))?;
     let elapsed = start.elapsed(rt)?;
     let wanted = calls.wrapping_mul(walk.count as usize);
-    ensure!(sums.iter().all(|sum| *sum == wanted), "a count is wrong");
+    let are_counts = sums.iter().all(|sum| *sum == wanted);
+    ensure_so(are_counts, "a count is wrong")?;
     Ok(tenths_a_call(elapsed, calls))
 }

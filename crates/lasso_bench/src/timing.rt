@@ -58,38 +58,80 @@ pub fn best_timings<P: TextPool, R: AllocGlobal + Clock>(
 /// What each operation took once over all texts, in a pool of its own. It fails as `best_timings` does.
 pub fn round<P: TextPool, R: AllocGlobal + Clock>(rt: &R, sample: &Sample) -> Result<Timings> {
     let mut pool = P::new(rt.alloc())?;
-    let start = Instant::now(rt)?;
-    let interned = intern_all(&mut pool, &sample.texts)?;
-    let intern_new = start.elapsed(rt)?;
-    let start = Instant::now(rt)?;
-    let present = intern_all(&mut pool, &sample.again)?;
-    let intern_present = start.elapsed(rt)?;
-    let start = Instant::now(rt)?;
-    let missing = count_missing(&pool, &sample.missing);
-    let get_missing = start.elapsed(rt)?;
-    let keys = keys_of(rt, &pool, &sample.again)?;
-    let start = Instant::now(rt)?;
-    let last_bytes = resolve_all(&pool, &keys);
-    let resolve = start.elapsed(rt)?;
-    let positions = sum_of_positions(sample.texts.len());
-    ensure!(
-        interned == positions && present == positions,
-        "a key is wrong"
-    );
-    ensure!(
-        missing == sample.missing.len(),
-        "a text is there that should not be"
-    );
-    ensure!(
-        last_bytes == sum_of_last_bytes(&sample.again),
-        "a text is wrong"
-    );
+    time_pool(rt, &mut pool, sample)
+}
+
+// What each operation took once over all texts, in an empty pool.
+fn time_pool<P: TextPool, R: AllocGlobal + Clock>(
+    rt: &R,
+    pool: &mut P,
+    sample: &Sample,
+) -> Result<Timings> {
+    let new = timed_interns(rt, pool, &sample.texts)?;
+    let present = timed_interns(rt, pool, &sample.again)?;
+    let missing = timed_misses(rt, pool, &sample.missing)?;
+    let resolved = timed_resolves(rt, pool, &sample.again)?;
+    check_sums(sample, [new.sum, present.sum, missing.sum, resolved.sum])?;
     Ok(Timings {
-        intern_new: tenths_a_call(intern_new, sample.texts.len()),
-        intern_present: tenths_a_call(intern_present, sample.again.len()),
-        get_missing: tenths_a_call(get_missing, sample.missing.len()),
-        resolve: tenths_a_call(resolve, keys.len()),
+        intern_new: new.tenths,
+        intern_present: present.tenths,
+        get_missing: missing.tenths,
+        resolve: resolved.tenths,
     })
+}
+
+// What calls answered, summed up, and how long one took, in tenths of a nanosecond.
+#[derive(Clone, Copy)]
+struct Timed {
+    sum: usize,
+    tenths: u64,
+}
+
+// Interns the texts.
+fn timed_interns<P: TextPool, R: Clock>(rt: &R, pool: &mut P, texts: &[String]) -> Result<Timed> {
+    let start = Instant::now(rt)?;
+    let sum = intern_all(pool, texts)?;
+    let tenths = tenths_a_call(start.elapsed(rt)?, texts.len());
+    Ok(Timed { sum, tenths })
+}
+
+// Asks for texts that are not there.
+fn timed_misses<P: TextPool, R: Clock>(rt: &R, pool: &P, texts: &[String]) -> Result<Timed> {
+    let start = Instant::now(rt)?;
+    let sum = count_missing(pool, texts);
+    let tenths = tenths_a_call(start.elapsed(rt)?, texts.len());
+    Ok(Timed { sum, tenths })
+}
+
+// Resolves the keys of the texts that are there.
+fn timed_resolves<P: TextPool, R: AllocGlobal + Clock>(
+    rt: &R,
+    pool: &P,
+    texts: &[String],
+) -> Result<Timed> {
+    let keys = keys_of(rt, pool, texts)?;
+    let start = Instant::now(rt)?;
+    let sum = resolve_all(pool, &keys);
+    let tenths = tenths_a_call(start.elapsed(rt)?, keys.len());
+    Ok(Timed { sum, tenths })
+}
+
+// Compares what was summed up of new texts, of present ones, of missing ones and of keys with what it has to be.
+fn check_sums(sample: &Sample, sums: [usize; 4]) -> Result<()> {
+    let [interned, present, missing, last_bytes] = sums;
+    let positions = sum_of_positions(sample.texts.len());
+    let are_keys = interned == positions && present == positions;
+    ensure_so(are_keys, "a key is wrong")?;
+    let are_missing = missing == sample.missing.len();
+    ensure_so(are_missing, "a text is there that should not be")?;
+    let are_texts = last_bytes == sum_of_last_bytes(&sample.again);
+    ensure_so(are_texts, "a text is wrong")
+}
+
+/// Fails with the message unless it holds.
+pub fn ensure_so(holds: bool, message: &str) -> Result<()> {
+    ensure!(holds, "{message}");
+    Ok(())
 }
 
 /// The time of a call, in tenths of a nanosecond, if `calls` calls took `elapsed`; 0 if there were none.
@@ -149,8 +191,8 @@ fn resolve_all<P: KeyedTexts>(texts: &P, keys: &[P::Key]) -> usize {
     sum
 }
 
-// The sum of the texts' last bytes.
-fn sum_of_last_bytes(texts: &[String]) -> usize {
+/// The sum of the texts' last bytes.
+pub fn sum_of_last_bytes(texts: &[String]) -> usize {
     let mut sum = 0usize;
     for text in texts {
         sum = sum.wrapping_add(last_byte(text.as_str()));

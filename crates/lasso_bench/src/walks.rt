@@ -1,12 +1,14 @@
 //! Walks over an interner that threads share, and freezing it: how long they take a text.
 use crate::calls::{Calls, WithPass};
 use crate::lines::Lines;
-use crate::timing::{ROUNDS, last_byte, sum_of_positions, tenths_a_call};
-use anyhow::{Result, ensure};
+use crate::timing::{
+    ROUNDS, ensure_so, last_byte, sum_of_last_bytes, sum_of_positions, tenths_a_call,
+};
+use anyhow::Result;
 use lasso::{Key, SpurThreadedRodeo, ThreadedRodeo};
 use std::rt::Clock;
 use std::sync::Wait;
-use std::time::Instant;
+use std::time::{Duration, Instant};
 
 /// How long each takes a text, in tenths of a nanosecond.
 #[derive(Clone, Copy, Debug)]
@@ -44,31 +46,53 @@ fn round<R: AllocGlobal + Clock + Wait>(rt: &R, lines: &Lines) -> Result<WalkTim
     let count = lines.distinct.len();
     let rodeo = ThreadedRodeo::default(rt.alloc())?;
     let interned = WithPass::intern_all(rt, &rodeo, &lines.distinct);
-    ensure!(interned.is_some(), "a text was refused");
-    let mut last_bytes = 0usize;
-    for text in &lines.distinct {
-        last_bytes = last_bytes.wrapping_add(last_byte(text.as_str()));
-    }
-    let start = Instant::now(rt)?;
-    let walked = walk_entries(&rodeo);
-    let iter = start.elapsed(rt)?;
-    ensure!(
-        walked == (sum_of_positions(count), last_bytes),
-        "a key or a text is wrong"
-    );
-    let start = Instant::now(rt)?;
-    let walked = walk_texts(&rodeo);
-    let strings = start.elapsed(rt)?;
-    ensure!(walked == last_bytes, "a text is wrong");
-    let start = Instant::now(rt)?;
-    let reader = rodeo.into_reader(rt)?;
-    let into_reader = start.elapsed(rt)?;
-    ensure!(reader.len() == count, "a text is missing");
+    ensure_so(interned.is_some(), "a text was refused")?;
+    let last_bytes = sum_of_last_bytes(&lines.distinct);
+    let iter = time_entries(rt, &rodeo, count, last_bytes)?;
+    let strings = time_texts(rt, &rodeo, last_bytes)?;
+    let into_reader = time_freezing(rt, rodeo, count)?;
     Ok(WalkTimings {
         iter: tenths_a_call(iter, count),
         strings: tenths_a_call(strings, count),
         into_reader: tenths_a_call(into_reader, count),
     })
+}
+
+// Walks over the keys and texts of an interner, which has `count` texts with this sum of their last bytes.
+fn time_entries<R: Clock>(
+    rt: &R,
+    rodeo: &SpurThreadedRodeo,
+    count: usize,
+    last_bytes: usize,
+) -> Result<Duration> {
+    let start = Instant::now(rt)?;
+    let (positions, found) = walk_entries(rodeo);
+    let elapsed = start.elapsed(rt)?;
+    let is_right = positions == sum_of_positions(count) && found == last_bytes;
+    ensure_so(is_right, "a key or a text is wrong")?;
+    Ok(elapsed)
+}
+
+// Walks over the texts of an interner, which have this sum of their last bytes.
+fn time_texts<R: Clock>(rt: &R, rodeo: &SpurThreadedRodeo, last_bytes: usize) -> Result<Duration> {
+    let start = Instant::now(rt)?;
+    let found = walk_texts(rodeo);
+    let elapsed = start.elapsed(rt)?;
+    ensure_so(found == last_bytes, "a text is wrong")?;
+    Ok(elapsed)
+}
+
+// Freezes an interner of `count` texts.
+fn time_freezing<R: Clock + Wait>(
+    rt: &R,
+    rodeo: SpurThreadedRodeo,
+    count: usize,
+) -> Result<Duration> {
+    let start = Instant::now(rt)?;
+    let reader = rodeo.into_reader(rt)?;
+    let elapsed = start.elapsed(rt)?;
+    ensure_so(reader.len() == count, "a text is missing")?;
+    Ok(elapsed)
 }
 
 /// The sum of the positions that `iter` gives, and that of its texts' last bytes.

@@ -2,29 +2,34 @@
 
 ghost use Rattle.std.specs.Prelude.{◌<◌};
 
+use crate::checks::is_so;
 use lasso_log::chunks::{Chunks, chunk_and_offset};
 use std::alloc::{AllocError, Global};
+use std::process::Abort;
 use std::sync::Wait;
 use std::test::*;
-use std::thread::join;
+use std::thread::{Threads, join};
 
 const TEXTS: [&str; 4] = ["", "a", "Bär", "long enough to tell from the others"];
 
 #[test]
 fn positions_lie_in_chunks_that_double(rt: HostRuntime) {
     let worked = [
-        (0, (0, 0)),
-        (31, (0, 31)),
-        (32, (1, 0)),
-        (63, (1, 31)),
-        (64, (2, 0)),
-        (127, (2, 63)),
-        (128, (3, 0)),
-        (1_000_000, (15, 475_712)),
-        (u64::MAX, (59, 0x7fff_ffff_ffff_ffff)),
+        (0, 0, 0),
+        (31, 0, 31),
+        (32, 1, 0),
+        (63, 1, 31),
+        (64, 2, 0),
+        (127, 2, 63),
+        (128, 3, 0),
+        (1_000_000, 15, 475_712),
+        (u64::MAX, 59, 0x7fff_ffff_ffff_ffff),
     ];
-    for (position, cell) in worked {
-        assert!(rt; chunk_and_offset(position) == cell, "at {position}");
+    for (position, chunk, offset) in worked {
+        assert!(rt;
+            chunk_and_offset(position) == (chunk, offset),
+            "at {position}"
+        );
     }
 }
 
@@ -44,6 +49,20 @@ fn fills<R: Wait>(
     *chunks.value(position, &chunk, &item) == text
 }
 
+// Makes the chunk of each cell and fills the cell.
+fn fill_each<R: Wait + Abort>(
+    rt: &R,
+    alloc: Global,
+    chunks: &Chunks<&'static str>,
+    cells: &[(u64, &'static str)],
+) -> Result<(), Fail> {
+    for (position, text) in cells {
+        is_so(rt, makes(alloc, chunks, *position)?, "a chunk is made");
+        assert!(rt; fills(rt, chunks, *position, *text), "at {position}");
+    }
+    Ok(())
+}
+
 #[test]
 fn a_filled_cell_lends_its_text(rt: HostRuntime) -> Result<(), Fail> {
     let chunks = Chunks::new(rt.alloc(), "")?;
@@ -55,42 +74,60 @@ fn a_filled_cell_lends_its_text(rt: HostRuntime) -> Result<(), Fail> {
         (64, TEXTS[0]),
         (700, TEXTS[1]),
     ];
-    for (position, text) in cells {
-        assert!(rt; makes(rt.alloc(), &chunks, position)?);
-        assert!(rt; fills(&rt, &chunks, position, text), "at {position}");
-    }
-    Ok(())
+    fill_each(&rt, rt.alloc(), &chunks, &cells)
 }
 
-// Fills a cell, makes the chunk of another position, and looks at what the cell holds then.
+// Fills a cell and asks for the chunk of another position. Returns whether that was made, or else refused,
+// as wanted, and the cell holds its text then.
 fn keeps<R: Wait>(
     rt: &R,
     alloc: Global,
     chunks: &Chunks<&'static str>,
     filled: u64,
-    made: u64,
-) -> (bool, bool) {
+    asked: u64,
+    is_made: bool,
+) -> bool {
     let (chunk, item) = chunks.fill(rt, filled, "kept");
-    let is_made = chunks.make_chunk(alloc, made).is_ok();
-    (is_made, *chunks.value(filled, &chunk, &item) == "kept")
+    let answer = chunks.make_chunk(alloc, asked).is_ok();
+    answer == is_made && *chunks.value(filled, &chunk, &item) == "kept"
+}
+
+// Makes the chunk of cells 32 to 95 once.
+fn make_once<R: Wait + Abort>(
+    rt: &R,
+    alloc: Global,
+    chunks: &Chunks<&'static str>,
+) -> Result<(), Fail> {
+    is_so(rt, makes(alloc, chunks, 40)?, "the chunk is made");
+    is_so(rt, keeps(rt, alloc, chunks, 40, 41, true), "the cell stays");
+    is_so(rt, fills(rt, chunks, 41, "beside it"), "the next cell");
+    Ok(())
 }
 
 #[test]
 fn a_chunk_is_made_once(rt: HostRuntime) -> Result<(), Fail> {
     let chunks = Chunks::new(rt.alloc(), "")?;
-    assert!(rt; makes(rt.alloc(), &chunks, 40)?);
-    assert!(rt; keeps(&rt, rt.alloc(), &chunks, 40, 41) == (true, true));
-    assert!(rt; fills(&rt, &chunks, 41, "beside it"));
+    make_once(&rt, rt.alloc(), &chunks)
+}
+
+// Asks for chunks that are larger than all memory.
+fn ask_too_much<R: Wait + Abort>(
+    rt: &R,
+    alloc: Global,
+    chunks: &Chunks<&'static str>,
+) -> Result<(), Fail> {
+    is_so(rt, makes(alloc, chunks, 5)?, "the chunk is made");
+    let near = keeps(rt, alloc, chunks, 5, 1 << 62, false);
+    is_so(rt, near, "at 2^62");
+    let far = keeps(rt, alloc, chunks, 6, u64::MAX, false);
+    is_so(rt, far, "at the greatest position");
     Ok(())
 }
 
 #[test]
 fn a_chunk_past_all_memory_is_refused(rt: HostRuntime) -> Result<(), Fail> {
     let chunks = Chunks::new(rt.alloc(), "")?;
-    assert!(rt; makes(rt.alloc(), &chunks, 5)?);
-    assert!(rt; keeps(&rt, rt.alloc(), &chunks, 5, 1 << 62) == (false, true));
-    assert!(rt; keeps(&rt, rt.alloc(), &chunks, 6, u64::MAX) == (false, true));
-    Ok(())
+    ask_too_much(&rt, rt.alloc(), &chunks)
 }
 
 // Fills every other one of 400 cells, and looks at what each holds then.
@@ -113,15 +150,23 @@ fn fill_every_other<R: Wait>(
     Ok(good)
 }
 
+// Has two threads fill the cells of even and of odd positions.
+fn fill_together<R: Abort + Threads + Wait + Sync>(
+    rt: &R,
+    alloc: Global,
+    chunks: &Chunks<&'static str>,
+) -> Result<(), Fail> {
+    let (even, odd) = join(
+        rt,
+        || fill_every_other(rt, alloc, chunks, 0),
+        || fill_every_other(rt, alloc, chunks, 1),
+    );
+    is_so(rt, even? && odd?, "each cell has its text");
+    Ok(())
+}
+
 #[test]
 fn two_threads_fill_cells_of_the_same_chunks(rt: HostRuntime) -> Result<(), Fail> {
-    let alloc = rt.alloc();
-    let chunks = Chunks::new(alloc, "")?;
-    let (even, odd) = join(
-        &rt,
-        || fill_every_other(&rt, alloc, &chunks, 0),
-        || fill_every_other(&rt, alloc, &chunks, 1),
-    );
-    assert!(rt; even? && odd?);
-    Ok(())
+    let chunks = Chunks::new(rt.alloc(), "")?;
+    fill_together(&rt, rt.alloc(), &chunks)
 }

@@ -1,16 +1,18 @@
 //! Slots that a spine keeps ahead of its list.
-ghost use Rattle.std.specs.Prelude.{◌≡◌, ◌<◌, [], All, length};
-ghost use Rattle.lasso_log.specs.Views.{InternerId, PassView, list_of};
+ghost use Rattle.std.specs.Prelude.{◌≡◌, ◌<◌, [], All, IfOk, length};
+ghost use Rattle.lasso_log.specs.Views.{InternerId, IsSameSpine, PassView, list_of};
 
 mod copied;
 mod given_back;
 mod opened;
 
+use crate::checks::is_so;
 use lasso_log::log::{KeptSlot, Log, Opened, Pass, Spine};
 use lasso_parts::keys::{Key, Spur};
 use lasso_parts::util::LassoResult;
 use lasso_testing::texts::OF_EACH_LENGTH;
 use std::alloc::Global;
+use std::process::Abort;
 use std::sync::Wait;
 use std::test::*;
 
@@ -66,73 +68,95 @@ fn append_all<R: Wait>(
     appended
 }
 
-// Keeps three slots, gives one back, and appends both texts in the others. Returns how many slots were kept
-// at most, and how many texts were appended.
+// Keeps two slots, or none if one is refused.
+fn keep_two(
+    alloc: Global,
+    log: &Log<Spur>,
+    spine: &mut Spine<Spur>,
+) -> LassoResult<(KeptSlot<Spur>, KeptSlot<Spur>)>
+    requires { spine.old.of ≡ log.now }
+    ensures same { IsSameSpine spine.new spine.old }
+    ensures slots { IfOk result (λ r. (r.0 ≡ log.now) × (r.1 ≡ log.now)) }
+{
+    let one = log.reserve_next(alloc, spine)?;
+    match log.reserve_next(alloc, spine) {
+        Ok(other) => Ok((one, other)),
+        Err(error) => {
+            spine.give_back(one);
+            Err(error)
+        }
+    }
+}
+
+// Keeps three slots, gives one back, and appends both texts in the others. Returns whether three slots were
+// kept at most, and both texts appended.
 fn append_ahead<R: Wait>(
     rt: &R,
     alloc: Global,
     log: &Log<Spur>,
     spine: &mut Spine<Spur>,
     texts: [&'static str; 2],
-) -> LassoResult<(u64, u64)>
+) -> LassoResult<bool>
     requires of { spine.old.of ≡ log.now }
     requires short { All (λ t. length t < length (list_of log.now spine.old.notes)) (list_of log.now spine.old.notes) }
+    ensures { spine.new.of ≡ log.now }
 {
-    let mut pass = log.pass();
     let first = log.reserve_next(alloc, spine)?;
-    let second = match log.reserve_next(alloc, spine) {
-        Ok(slot) => slot,
-        Err(error) => {
-            spine.give_back(first);
-            return Err(error);
-        }
-    };
-    let third = match log.reserve_next(alloc, spine) {
-        Ok(slot) => slot,
-        Err(error) => {
-            spine.give_back(first);
-            spine.give_back(second);
-            return Err(error);
-        }
-    };
+    let others = keep_two(alloc, log, spine);
     let kept = spine.kept();
     spine.give_back(first);
+    let (second, third) = others?;
+    let mut pass = log.pass();
     let one = appends(rt, log, spine, &mut pass, second, texts[0]);
     let other = appends(rt, log, spine, &mut pass, third, texts[1]);
-    Ok((kept, u64::from(one) + u64::from(other)))
+    Ok(kept == 3 && one && other)
 }
 
-// How many of these texts the list has in their positions.
-fn read_all(log: &Log<Spur>, texts: &[&'static str]) -> usize {
-    let mut pass = log.pass();
-    let mut found: usize = 0;
+// Checks that the pass reads these texts in their positions, and none after them.
+fn reads<R: Abort>(rt: &R, log: &Log<Spur>, pass: &mut Pass<Spur>, texts: &[&'static str])
+    requires { pass.old.of ≡ log.now }
+    ensures { pass.new.of ≡ log.now }
+{
     for position in 0..texts.len() {
-        if log.read(position as u64, &mut pass) == Some(texts[position]) && found < texts.len() {
-            found += 1;
-        }
+        let text = log.read(position as u64, pass);
+        assert!(rt; text == Some(texts[position]), "at {position}");
     }
-    found
+    let next = log.read(texts.len() as u64, pass);
+    is_so(rt, next.is_none(), "no more texts");
 }
 
-// The text at the position.
-fn read_at<'a>(log: &'a Log<Spur>, pass: &mut Pass<Spur>, position: u64) -> Option<&'a str>
+// Whether the list has this length, by the spine and by the log.
+fn has_len(log: &Log<Spur>, spine: &Spine<Spur>, pass: &mut Pass<Spur>, len: u64) -> bool
     requires { pass.old.of ≡ log.now }
     ensures { pass.new.of ≡ log.now }
 {
-    log.read(position, pass)
+    spine.len() == len && log.len(pass) == len
 }
 
-// The length of the list, by the spine and by the log.
-fn lengths(log: &Log<Spur>, spine: &Spine<Spur>, pass: &mut Pass<Spur>) -> (u64, u64)
-    requires { pass.old.of ≡ log.now }
-    ensures { pass.new.of ≡ log.now }
+// Whether the list has this length by the spine, and no slot is kept.
+fn keeps_none(spine: &Spine<Spur>, len: u64) -> bool {
+    spine.len() == len && spine.kept() == 0
+}
+
+// Appends 31 texts in their turn, and two in slots that are kept ahead.
+fn append_each_length<R: Abort + Wait>(
+    rt: &R,
+    alloc: Global,
+    log: &Log<Spur>,
+    spine: &mut Spine<Spur>,
+) -> Result<(), Fail>
+    requires { (spine.old.of ≡ log.now) × (list_of log.now spine.old.notes ≡ []) }
 {
-    (spine.len(), log.len(pass))
-}
-
-// The list's length by the spine, and how many slots are kept.
-fn len_and_kept(spine: &Spine<Spur>) -> (u64, u64) {
-    (spine.len(), spine.kept())
+    let appended = append_all(rt, alloc, log, spine, &OF_EACH_LENGTH[..31]);
+    is_so(rt, appended == 31, "31 texts");
+    is_so(rt, keeps_none(spine, 31), "31 texts and no slot");
+    // the first chunk has 32 cells: of the slots of positions 31, 32 and 33 it has the first alone
+    let last = [OF_EACH_LENGTH[31], OF_EACH_LENGTH[32]];
+    let are_appended = append_ahead(rt, alloc, log, spine, last)?;
+    is_so(rt, are_appended, "three slots, and two texts");
+    is_so(rt, keeps_none(spine, 33), "33 texts and no slot");
+    reads(rt, log, &mut log.pass(), &OF_EACH_LENGTH);
+    Ok(())
 }
 
 #[test]
@@ -142,20 +166,5 @@ fn slots_kept_ahead_have_their_chunks(rt: HostRuntime) -> Result<(), Fail> {
         limit: 10_000,
     };
     let (log, mut spine) = Log::open(rt.alloc(), opened)?;
-    assert!(rt; append_all(&rt, rt.alloc(), &log, &mut spine, &OF_EACH_LENGTH[..31]) == 31);
-    assert!(rt; len_and_kept(&spine) == (31, 0));
-    // the first chunk has 32 cells: of the slots of positions 31, 32 and 33 it has the first alone
-    let (kept, appended) = append_ahead(
-        &rt,
-        rt.alloc(),
-        &log,
-        &mut spine,
-        [OF_EACH_LENGTH[31], OF_EACH_LENGTH[32]],
-    )?;
-    assert!(rt; (kept, appended) == (3, 2));
-    assert!(rt; len_and_kept(&spine) == (33, 0));
-    assert!(rt; read_all(&log, &OF_EACH_LENGTH) == 33);
-    let mut pass = log.pass();
-    assert!(rt; read_at(&log, &mut pass, 33) == None);
-    Ok(())
+    append_each_length(&rt, rt.alloc(), &log, &mut spine)
 }

@@ -4,20 +4,23 @@ mod charges;
 mod filling;
 mod lists;
 mod ranges;
-mod storing;
+mod steps;
+pub(super) mod storing;
 
+use crate::checks::is_so;
 use lasso_log::shared_arena::era::Era;
 use lasso_log::shared_arena::piece::Piece;
 use std::test::*;
 
+// Whether a piece of the text has it.
+fn is_shown(era: &Era, text: &'static str) -> bool {
+    Piece::from_static(text).text(era) == text
+}
+
 #[test]
 fn a_static_text_is_a_piece(rt: HostRuntime) {
     let era = Era::begin();
-    let (empty, piece) = (
-        Piece::from_static(""),
-        Piece::from_static("r\u{e9}sum\u{e9}"),
-    );
-    assert!(rt; piece.text(&era) == "r\u{e9}sum\u{e9}");
-    assert!(rt; empty.text(&era) == "");
+    is_so(&rt, is_shown(&era, "r\u{e9}sum\u{e9}"), "a text");
+    is_so(&rt, is_shown(&era, ""), "the empty text");
     drop(era.end());
 }

@@ -1,6 +1,10 @@
 //! What an arena stores, what it refuses, and the bytes that its regions then take.
+ghost use Rattle.std.specs.Prelude.{◌<◌};
+ghost use Rattle.lasso_parts.specs.Arena.{IsStored};
 
-use lasso_parts::arena::Arena;
+use crate::checks::is_so;
+use lasso_parts::arena::{Arena, Span};
+use lasso_parts::bucket::region::Region;
 use lasso_parts::entries::long::{LongText, is_vast};
 use lasso_parts::entries::short::ShortText;
 use lasso_parts::entries::{Entry, text_of};
@@ -16,102 +20,126 @@ enum Call {
     // the limit refuses the text
     Refuses(&'static str),
     SetsLimit(usize),
+    // the limit is this
+    Shows(usize),
     Clears,
 }
 
-use Call::{Clears, Refuses, SetsLimit, Stores};
+use Call::{Clears, Refuses, SetsLimit, Shows, Stores};
 
-// Makes each call, and checks the usage after it.
-fn run_row(rt: &impl Abort, arena: &mut Arena<Global>, row: &[(Call, usize)]) {
-    for (call, usage) in row {
-        match *call {
-            Stores(text) => {
-                assert!(rt; arena.admits(text.len()), "at {text}");
-                assert!(rt; store(rt, arena, text) == None, "at {text}");
-            }
-            Refuses(text) => {
-                assert!(rt; !arena.admits(text.len()), "at {text}");
-                assert!(rt;
-                    store(rt, arena, text) == Some(LassoErrorKind::MemoryLimitReached),
-                    "at {text}"
-                );
-            }
-            SetsLimit(limit) => arena.set_limit(limit),
-            Clears => arena.clear(),
-        }
-        assert!(rt; arena.memory_usage() == *usage, "at {call:?}");
+// Whether a text that is short is read from its entry.
+fn is_read_inside(regions: &[Region], text: &str) -> bool {
+    match ShortText::of(text) {
+        Some(short) => text_of(regions, &[], &Entry::inside(short)) == text,
+        None => true,
     }
 }
 
-// Stores a text and checks that it can be read, or returns why it is refused.
-fn store(rt: &impl Abort, arena: &mut Arena<Global>, text: &str) -> Option<LassoErrorKind> {
+// Whether a stored text that has fewer than 2^32 bytes is read from its entry.
+fn is_read_outside(regions: &[Region], span: Span, text: &str) -> bool
+    requires { IsStored regions.now span }
+{
+    if is_vast(span.len) {
+        return true;
+    }
+    let entry = Entry::outside(LongText::copied(regions, span));
+    text_of(regions, &[], &entry) == text
+}
+
+// Whether a stored text is read from a list beside the entries.
+fn is_read_listed(regions: &[Region], span: Span, text: &str) -> bool
+    requires { IsStored regions.now span }
+{
+    let vast = [LongText::copied(regions, span)];
+    text_of(regions, &vast, &Entry::listed(0)) == text
+}
+
+// Whether the text is stored, and can be read.
+fn is_stored(arena: &mut Arena<Global>, text: &str) -> bool {
+    let Ok(span) = arena.store_str(text) else {
+        return false;
+    };
+    let regions = arena.regions();
+    arena.text(span) == text
+        && is_read_inside(regions, text)
+        && is_read_outside(regions, span, text)
+        && is_read_listed(regions, span, text)
+}
+
+// Whether the limit refuses the text.
+fn is_refused(arena: &mut Arena<Global>, text: &str) -> bool {
     match arena.store_str(text) {
-        Ok(span) => {
-            let regions = arena.regions();
-            assert!(rt; arena.text(span) == text);
-            if let Some(short) = ShortText::of(text) {
-                assert!(rt; text_of(regions, &[], &Entry::inside(short)) == text);
-            }
-            if !is_vast(span.len) {
-                let entry = Entry::outside(LongText::copied(regions, span));
-                assert!(rt; text_of(regions, &[], &entry) == text);
-            }
-            let vast = [LongText::copied(regions, span)];
-            assert!(rt; text_of(regions, &vast, &Entry::listed(0)) == text);
-            None
-        }
-        Err(error) => Some(error.kind()),
+        Ok(_) => false,
+        Err(error) => error.kind() == LassoErrorKind::MemoryLimitReached,
     }
 }
 
-#[test]
-fn a_full_region_is_followed_by_twice_the_bytes(rt: HostRuntime) -> Result<(), Fail> {
-    let mut arena = Arena::new(rt.alloc(), 4, 12)?;
-    run_row(
-        &rt,
-        &mut arena,
-        &[
-            (Stores("qqqqqqqq"), 12),
-            (SetsLimit(100), 12),
-            (Stores("x"), 28),
-        ],
-    );
-    assert!(rt; arena.max_memory_usage() == 100);
+// Makes the call. Returns whether it went as it has to.
+fn is_made(arena: &mut Arena<Global>, call: Call) -> bool {
+    match call {
+        Stores(text) => arena.admits(text.len()) && is_stored(arena, text),
+        Refuses(text) => !arena.admits(text.len()) && is_refused(arena, text),
+        SetsLimit(limit) => {
+            arena.set_limit(limit);
+            true
+        }
+        Shows(limit) => arena.max_memory_usage() == limit,
+        Clears => {
+            arena.clear();
+            true
+        }
+    }
+}
+
+// Makes each call with an arena whose first region has `bytes` bytes, under the limit, and checks the usage
+// after it.
+fn run_row<R: Abort + AllocGlobal>(
+    rt: &R,
+    bytes: usize,
+    limit: usize,
+    row: &[(Call, usize)],
+) -> Result<(), Fail>
+    requires { 0 < bytes }
+{
+    let mut arena = Arena::new(rt.alloc(), bytes, limit)?;
+    for (call, usage) in row {
+        assert!(rt; is_made(&mut arena, *call), "at {call:?}");
+        assert!(rt; arena.memory_usage() == *usage, "the usage at {call:?}");
+    }
     Ok(())
 }
 
 #[test]
+fn a_full_region_is_followed_by_twice_the_bytes(rt: HostRuntime) -> Result<(), Fail> {
+    let row = [
+        (Stores("qqqqqqqq"), 12),
+        (SetsLimit(100), 12),
+        (Stores("x"), 28),
+        (Shows(100), 28),
+    ];
+    run_row(&rt, 4, 12, &row)
+}
+
+#[test]
 fn the_limit_refuses_past_a_full_region(rt: HostRuntime) -> Result<(), Fail> {
-    let mut arena = Arena::new(rt.alloc(), 10, 10)?;
     let row = [
         (Stores("0123456789"), 10),
         (Stores(""), 10),
         (Refuses("a"), 10),
         (Refuses("dfgsagdfgsdf"), 10),
     ];
-    run_row(&rt, &mut arena, &row);
-    Ok(())
+    run_row(&rt, 10, 10, &row)
 }
 
 #[test]
 fn a_long_text_gets_its_own_region(rt: HostRuntime) -> Result<(), Fail> {
     let letters = "abcdefghijklmnopqrstuvwxyz";
-    run_row(
-        &rt,
-        &mut Arena::new(rt.alloc(), 1, 10)?,
-        &[(Refuses(letters), 1)],
-    );
-    run_row(
-        &rt,
-        &mut Arena::new(rt.alloc(), 1, 1000)?,
-        &[(Stores(letters), 27)],
-    );
-    Ok(())
+    run_row(&rt, 1, 10, &[(Refuses(letters), 1)])?;
+    run_row(&rt, 1, 1000, &[(Stores(letters), 27)])
 }
 
 #[test]
 fn a_clear_gives_back_what_the_limit_left(rt: HostRuntime) -> Result<(), Fail> {
-    let mut arena = Arena::new(rt.alloc(), 10, 15)?;
     let row = [
         (Stores("0123456789"), 10),
         (Stores("abc"), 15),
@@ -119,8 +147,7 @@ fn a_clear_gives_back_what_the_limit_left(rt: HostRuntime) -> Result<(), Fail> {
         (Stores("hello"), 10),
         (Stores("x"), 10),
     ];
-    run_row(&rt, &mut arena, &row);
-    let mut again = Arena::new(rt.alloc(), 4, 7)?;
+    run_row(&rt, 10, 15, &row)?;
     let row = [
         (Stores("abcd"), 4),
         (Stores("xy"), 7),
@@ -128,13 +155,11 @@ fn a_clear_gives_back_what_the_limit_left(rt: HostRuntime) -> Result<(), Fail> {
         (Stores("abcd"), 4),
         (Stores("xyz"), 7),
     ];
-    run_row(&rt, &mut again, &row);
-    Ok(())
+    run_row(&rt, 4, 7, &row)
 }
 
 #[test]
 fn a_clear_keeps_doubled_regions_alone(rt: HostRuntime) -> Result<(), Fail> {
-    let mut arena = Arena::new(rt.alloc(), 4, usize::MAX)?;
     let row = [
         (Stores("abcd"), 4),
         (Stores("efghij"), 12),
@@ -143,13 +168,11 @@ fn a_clear_keeps_doubled_regions_alone(rt: HostRuntime) -> Result<(), Fail> {
         (Stores("abcdefg"), 12),
         (Stores("abcd"), 28),
     ];
-    run_row(&rt, &mut arena, &row);
-    Ok(())
+    run_row(&rt, 4, usize::MAX, &row)
 }
 
 #[test]
 fn the_smallest_spare_is_filled_once(rt: HostRuntime) -> Result<(), Fail> {
-    let mut arena = Arena::new(rt.alloc(), 4, usize::MAX)?;
     let row = [
         (Stores("abcd"), 4),
         (Stores("efgh"), 12),
@@ -161,13 +184,11 @@ fn the_smallest_spare_is_filled_once(rt: HostRuntime) -> Result<(), Fail> {
         (Clears, 60),
         (Stores("qqqqqqqqq"), 60),
     ];
-    run_row(&rt, &mut arena, &row);
-    Ok(())
+    run_row(&rt, 4, usize::MAX, &row)
 }
 
 #[test]
 fn a_spare_is_filled_at_the_limit(rt: HostRuntime) -> Result<(), Fail> {
-    let mut arena = Arena::new(rt.alloc(), 4, 12)?;
     let row = [
         (Stores("abcd"), 4),
         (Stores("efghij"), 12),
@@ -177,8 +198,18 @@ fn a_spare_is_filled_at_the_limit(rt: HostRuntime) -> Result<(), Fail> {
         (Stores("no"), 12),
         (Refuses("pqrstuv"), 12),
     ];
-    run_row(&rt, &mut arena, &row);
-    Ok(())
+    run_row(&rt, 4, 12, &row)
+}
+
+// Stores a text of `len` bytes. Returns whether it can be read, and all regions have `usage` bytes then.
+fn is_long_stored(
+    alloc: Global,
+    arena: &mut Arena<Global>,
+    len: usize,
+    usage: usize,
+) -> Result<bool, Fail> {
+    let text = "a".repeat(alloc, len)?;
+    Ok(is_stored(arena, text.as_str()) && arena.memory_usage() == usage)
 }
 
 #[test]
@@ -197,32 +228,56 @@ fn ten_texts_that_double(rt: HostRuntime) -> Result<(), Fail> {
         (2097152, 4190208),
     ];
     for (len, usage) in row {
-        let text = "a".repeat(rt.alloc(), len)?;
-        assert!(rt; store(&rt, &mut arena, text.as_str()) == None, "at {len}");
-        assert!(rt; arena.memory_usage() == usage, "at {len}");
+        assert!(rt;
+            is_long_stored(rt.alloc(), &mut arena, len, usage)?,
+            "at {len}"
+        );
     }
     Ok(())
 }
 
+// Whether there is no memory for a region of so many bytes.
+fn is_too_large(alloc: Global, bytes: usize) -> bool
+    requires { 0 < bytes }
+{
+    match Arena::new(alloc, bytes, usize::MAX) {
+        Ok(_arena) => false,
+        Err(error) => error.kind() == LassoErrorKind::FailedAllocation,
+    }
+}
+
 #[test]
 fn no_memory_has_the_greatest_number_of_bytes(rt: HostRuntime) {
-    match Arena::new(rt.alloc(), usize::MAX, usize::MAX) {
-        Ok(_arena) => panic!(rt; "there is no such region"),
-        Err(error) => assert!(rt; error.kind() == LassoErrorKind::FailedAllocation),
+    is_so(&rt, is_too_large(rt.alloc(), usize::MAX), "no such region");
+}
+
+// Stores the text in room alone. Returns whether it begins at this byte and can be read.
+fn is_put(arena: &mut Arena<Global>, text: &str, start: usize) -> bool {
+    match arena.store_in_room(text) {
+        Some(span) => span.start == start && arena.text(span) == text,
+        None => false,
     }
+}
+
+// Whether the text is stored in room alone.
+fn has_room(arena: &mut Arena<Global>, text: &str) -> bool {
+    arena.store_in_room(text).is_some()
+}
+
+// Stores texts of the ten bytes of a region of 12, and then asks for three bytes and for two.
+fn fill_room(rt: &impl Abort, arena: &mut Arena<Global>) {
+    is_so(rt, !has_room(arena, ""), "the empty text");
+    for (text, start) in [("a", 0), ("bc", 1), ("def", 3), ("ghij", 6)] {
+        assert!(rt; is_put(arena, text, start), "at {text}");
+    }
+    is_so(rt, !has_room(arena, "klm"), "three bytes");
+    is_so(rt, has_room(arena, "kl"), "two bytes");
+    is_so(rt, arena.memory_usage() == 12, "the usage");
 }
 
 #[test]
 fn a_text_is_stored_in_room_alone(rt: HostRuntime) -> Result<(), Fail> {
     let mut arena = Arena::new(rt.alloc(), 12, 100)?;
-    assert!(rt; arena.store_in_room("").is_none());
-    for (text, start) in [("a", 0), ("bc", 1), ("def", 3), ("ghij", 6)] {
-        let span = arena.store_in_room(text).ok_or("no room")?;
-        assert!(rt; span.start == start);
-        assert!(rt; arena.text(span) == text);
-    }
-    assert!(rt; arena.store_in_room("klm").is_none());
-    assert!(rt; arena.store_in_room("kl").is_some());
-    assert!(rt; arena.memory_usage() == 12);
+    fill_room(&rt, &mut arena);
     Ok(())
 }

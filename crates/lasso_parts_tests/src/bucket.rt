@@ -1,4 +1,7 @@
 //! A bucket that is filled and cleared, and sizes that no region can have.
+ghost use Rattle.std.specs.Prelude.{◌<◌};
+
+use crate::checks::is_so;
 use lasso_parts::bucket::Bucket;
 use lasso_parts::bucket::region::{Region, RegionRight};
 use lasso_parts::util::LassoErrorKind;
@@ -6,32 +9,43 @@ use std::alloc::Global;
 use std::marker::{Send, Sync};
 use std::test::Fail;
 
+// Whether so many bytes are left, and the bucket says that it is full if none is.
+fn has_room(bucket: &Bucket<Global>, bytes: usize) -> bool {
+    bucket.free_elements() == bytes && bucket.is_full() == (bytes == 0)
+}
+
 #[test]
 fn fills_and_is_cleared(rt: HostRuntime) -> Result<(), Fail> {
     let mut bucket = Bucket::with_capacity(rt.alloc(), 4)?;
-    assert!(rt; bucket.push_slice(b"ab") == 0);
-    assert!(rt; bucket.free_elements() == 2);
-    assert!(rt; !bucket.is_full());
-    assert!(rt; bucket.push_slice(b"cd") == 2);
-    assert!(rt; bucket.is_full());
-    assert!(rt; bucket.text(2, 2) == "cd");
+    is_so(&rt, bucket.push_slice(b"ab") == 0, "the first bytes");
+    is_so(&rt, has_room(&bucket, 2), "two bytes are left");
+    is_so(&rt, bucket.push_slice(b"cd") == 2, "the next bytes");
+    is_so(&rt, has_room(&bucket, 0), "no byte is left");
+    is_so(&rt, bucket.text(2, 2) == "cd", "the next bytes are read");
     bucket.clear();
-    assert!(rt; bucket.free_elements() == 4);
-    assert!(rt; bucket.push_slice(b"xyz") == 0);
-    assert!(rt; bucket.text(1, 2) == "yz");
+    is_so(&rt, has_room(&bucket, 4), "all bytes are left");
+    is_so(&rt, bucket.push_slice(b"xyz") == 0, "bytes after the clear");
+    is_so(&rt, bucket.text(1, 2) == "yz", "they are read");
     Ok(())
+}
+
+// Whether there is no memory for a bucket of so many bytes.
+fn is_too_large(alloc: Global, capacity: usize) -> bool
+    requires { 0 < capacity }
+{
+    match Bucket::with_capacity(alloc, capacity) {
+        Ok(bucket) => {
+            drop(bucket);
+            false
+        }
+        Err(error) => error.kind() == LassoErrorKind::FailedAllocation,
+    }
 }
 
 #[test]
 fn no_region_is_so_large(rt: HostRuntime) {
     for capacity in [usize::MAX, isize::MAX as usize + 1] {
-        match Bucket::with_capacity(rt.alloc(), capacity) {
-            Ok(bucket) => {
-                drop(bucket);
-                assert!(rt; false, "{capacity}");
-            }
-            Err(error) => assert!(rt; error.kind() == LassoErrorKind::FailedAllocation),
-        }
+        assert!(rt; is_too_large(rt.alloc(), capacity), "{capacity}");
     }
 }
 

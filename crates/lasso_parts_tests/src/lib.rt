@@ -7,6 +7,8 @@ mod arena;
 #[cfg(test)]
 mod bucket;
 #[cfg(test)]
+mod checks;
+#[cfg(test)]
 mod counted_texts;
 #[cfg(test)]
 mod index;

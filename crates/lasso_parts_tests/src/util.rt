@@ -1,7 +1,27 @@
 //! Printed errors, and the values of capacities and limits.
+use crate::checks::is_so;
 use lasso_parts::util::{Capacity, LassoError, LassoErrorKind, MemoryLimits};
+use std::alloc::Global;
 use std::cmp::Ordering;
+use std::process::Abort;
 use std::test::Fail;
+
+// Whether an error of the kind prints as the text.
+fn is_printed(alloc: Global, kind: LassoErrorKind, text: &str) -> Result<bool, Fail> {
+    Ok(LassoError::new(kind).to_string(alloc)?.as_str() == text)
+}
+
+// Whether an error of the kind, and its clone, say that they are of it and of no other.
+fn is_of_kind(kind: LassoErrorKind) -> Result<bool, Fail> {
+    let error = LassoError::new(kind);
+    Ok(
+        error.kind() == kind
+            && error == error.clone()?
+            && kind.is_memory_limit() == (kind == LassoErrorKind::MemoryLimitReached)
+            && kind.is_keyspace_exhaustion() == (kind == LassoErrorKind::KeySpaceExhaustion)
+            && kind.is_failed_alloc() == (kind == LassoErrorKind::FailedAllocation),
+    )
+}
 
 #[test]
 fn errors_print_their_kind(rt: HostRuntime) -> Result<(), Fail> {
@@ -20,15 +40,15 @@ fn errors_print_their_kind(rt: HostRuntime) -> Result<(), Fail> {
         ),
     ];
     for (kind, text) in rows {
-        let error = LassoError::new(kind);
-        assert!(rt; error.to_string(rt.alloc())?.as_str() == text);
-        assert!(rt; error.kind() == kind);
-        assert!(rt; error == error.clone()?);
-        assert!(rt; kind.is_memory_limit() == (kind == LassoErrorKind::MemoryLimitReached));
-        assert!(rt; kind.is_keyspace_exhaustion() == (kind == LassoErrorKind::KeySpaceExhaustion));
-        assert!(rt; kind.is_failed_alloc() == (kind == LassoErrorKind::FailedAllocation));
+        assert!(rt; is_printed(rt.alloc(), kind, text)?, "{text}");
+        assert!(rt; is_of_kind(kind)?, "{text}");
     }
     Ok(())
+}
+
+// Whether the capacity has room for so many texts and bytes.
+fn has_room(capacity: Capacity, strings: usize, bytes: usize) -> bool {
+    capacity.strings() == strings && capacity.bytes() == bytes
 }
 
 #[test]
@@ -41,13 +61,40 @@ fn capacities_and_limits(rt: HostRuntime) {
         (Capacity::new(3, 9), 3, 9),
     ];
     for (capacity, strings, bytes) in rows {
-        assert!(rt; capacity.strings() == strings);
-        assert!(rt; capacity.bytes() == bytes);
+        assert!(rt; has_room(capacity, strings, bytes), "{capacity:?}");
     }
-    assert!(rt; Capacity::new(1, 9).cmp(&Capacity::new(2, 1)) == Ordering::Less);
-    assert!(rt; Capacity::new(1, 9).cmp(&Capacity::new(1, 1)) == Ordering::Greater);
-    assert!(rt; MemoryLimits::default().max_memory_usage() == usize::MAX);
-    assert!(rt; MemoryLimits::new(12).max_memory_usage() == 12);
-    assert!(rt; MemoryLimits::for_memory_usage(13).max_memory_usage() == 13);
-    assert!(rt; MemoryLimits::new(12).cmp(&MemoryLimits::new(13)) == Ordering::Less);
+    compare(&rt);
+    limit(&rt);
+}
+
+// Compares capacities.
+fn compare(rt: &impl Abort) {
+    let low = Capacity::new(1, 9);
+    let more_texts = low.cmp(&Capacity::new(2, 1));
+    is_so(rt, more_texts == Ordering::Less, "more texts");
+    let fewer_bytes = low.cmp(&Capacity::new(1, 1));
+    is_so(rt, fewer_bytes == Ordering::Greater, "fewer bytes");
+}
+
+// Whether the limit is so many bytes.
+fn has_limit(limits: MemoryLimits, bytes: usize) -> bool {
+    limits.max_memory_usage() == bytes
+}
+
+// Looks at limits, and compares them.
+fn limit(rt: &impl Abort) {
+    let low = MemoryLimits::new(12);
+    is_so(
+        rt,
+        has_limit(MemoryLimits::default(), usize::MAX),
+        "default",
+    );
+    is_so(rt, has_limit(low, 12), "new");
+    is_so(
+        rt,
+        has_limit(MemoryLimits::for_memory_usage(13), 13),
+        "for_memory_usage",
+    );
+    let higher = low.cmp(&MemoryLimits::new(13));
+    is_so(rt, higher == Ordering::Less, "a higher limit");
 }

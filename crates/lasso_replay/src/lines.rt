@@ -3,11 +3,9 @@ ghost use Rattle.std.specs.Prelude.{◌<◌, IfSome};
 
 use std::alloc::{AllocError, Global};
 
-/// A call that each kind of interner has, with its arguments.
+/// A call that only reads, and that each kind of interner has, with its arguments.
 #[derive(Drop)]
-pub enum Call {
-    /// `try_get_or_intern` of a text.
-    Intern(String),
+pub enum Question {
     /// `get` of a text.
     Get(String),
     /// `contains` of a text.
@@ -22,6 +20,15 @@ pub enum Call {
     Usage,
     /// `max_memory_usage`.
     Max,
+}
+
+/// A call that each kind of interner has, with its arguments.
+#[derive(Drop)]
+pub enum Call {
+    /// A call that only reads.
+    Ask(Question),
+    /// `try_get_or_intern` of a text.
+    Intern(String),
     /// `set_memory_limits` to a number of bytes.
     Limit(usize),
     /// `try_get_or_intern` of each of the texts.
@@ -39,32 +46,62 @@ pub enum ScriptCommand {
     CloneFrom(Vec<String>),
 }
 
+// Parses the words of a line as a question of a text. `None` if they are none.
+fn parse_text_question(alloc: Global, words: &[&str]) -> Result<Option<Question>, AllocError> {
+    match words {
+        ["get", text] => Ok(parse_text(alloc, text)?.map(Question::Get)),
+        ["contains", text] => Ok(parse_text(alloc, text)?.map(Question::Contains)),
+        _ => Ok(None),
+    }
+}
+
+// Parses the words of a line as a question of a key. `None` if they are none.
+fn parse_key_question(words: &[&str]) -> Option<Question> {
+    match words {
+        ["has", number] => parse_number(number).map(Question::Has),
+        ["resolve", number] => parse_number(number).map(Question::Resolve),
+        _ => None,
+    }
+}
+
+// Parses the words of a line as a question without arguments. `None` if they are none.
+fn parse_plain_question(words: &[&str]) -> Option<Question> {
+    match words {
+        ["len"] => Some(Question::Len),
+        ["usage"] => Some(Question::Usage),
+        ["max"] => Some(Question::Max),
+        _ => None,
+    }
+}
+
+// Parses the words of a line as a question. `None` if they are none.
+fn parse_question(alloc: Global, words: &[&str]) -> Result<Option<Question>, AllocError> {
+    if let Some(question) = parse_plain_question(words) {
+        return Ok(Some(question));
+    }
+    if let Some(question) = parse_key_question(words) {
+        return Ok(Some(question));
+    }
+    parse_text_question(alloc, words)
+}
+
 /// Parses the words of a line as a call. `None` if they are not a call.
 pub fn parse_call(alloc: Global, words: &[&str]) -> Result<Option<Call>, AllocError> {
-    let call = match words {
-        ["intern", text] => parse_text(alloc, text)?.map(Call::Intern),
-        ["get", text] => parse_text(alloc, text)?.map(Call::Get),
-        ["contains", text] => parse_text(alloc, text)?.map(Call::Contains),
-        ["has", number] => parse_number(number).map(Call::Has),
-        ["resolve", number] => parse_number(number).map(Call::Resolve),
-        ["len"] => Some(Call::Len),
-        ["usage"] => Some(Call::Usage),
-        ["max"] => Some(Call::Max),
-        ["limit", bytes] => parse_limit(bytes).map(Call::Limit),
-        ["extend", texts @ ..] => parse_texts(alloc, texts)?.map(Call::Extend),
-        _ => None,
-    };
-    Ok(call)
+    match words {
+        ["intern", text] => Ok(parse_text(alloc, text)?.map(Call::Intern)),
+        ["limit", bytes] => Ok(parse_limit(bytes).map(Call::Limit)),
+        ["extend", texts @ ..] => Ok(parse_texts(alloc, texts)?.map(Call::Extend)),
+        _ => Ok(parse_question(alloc, words)?.map(Call::Ask)),
+    }
 }
 
 /// Parses the words of a line as a command. `None` if they are not a command.
 pub fn parse_command(alloc: Global, words: &[&str]) -> Result<Option<ScriptCommand>, AllocError> {
-    let command = match words {
-        ["clear"] => Some(ScriptCommand::Clear),
-        ["clonefrom", texts @ ..] => parse_texts(alloc, texts)?.map(ScriptCommand::CloneFrom),
-        _ => parse_call(alloc, words)?.map(ScriptCommand::Call),
-    };
-    Ok(command)
+    match words {
+        ["clear"] => Ok(Some(ScriptCommand::Clear)),
+        ["clonefrom", texts @ ..] => Ok(parse_texts(alloc, texts)?.map(ScriptCommand::CloneFrom)),
+        _ => Ok(parse_call(alloc, words)?.map(ScriptCommand::Call)),
+    }
 }
 
 /// Parses a number of bytes; `max` is the greatest.
@@ -98,23 +135,37 @@ fn parse_texts(alloc: Global, words: &[&str]) -> Result<Option<Vec<String>>, All
 
 /// Parses a text in hexadecimal digits, two for each byte; `-` is the empty text.
 pub fn parse_text(alloc: Global, word: &str) -> Result<Option<String>, AllocError> {
-    let mut bytes = Vec::new(alloc);
-    if word != "-" {
-        let digits = word.as_bytes();
-        if digits.is_empty() || digits.len() % 2 != 0 {
-            return Ok(None);
-        }
-        for pair in digits.chunks_exact(2) {
-            let [high, low] = pair else {
-                return Ok(None);
-            };
-            let (Some(high), Some(low)) = (parse_digit(*high), parse_digit(*low)) else {
-                return Ok(None);
-            };
-            bytes.push(high * 16 + low)?;
-        }
+    let bytes = if word == "-" {
+        Some(Vec::new(alloc))
+    } else {
+        parse_bytes(alloc, word.as_bytes())?
+    };
+    Ok(bytes.and_then(|bytes| String::from_utf8(bytes).ok()))
+}
+
+// Parses bytes, at least one, in hexadecimal digits, two for each.
+fn parse_bytes(alloc: Global, digits: &[u8]) -> Result<Option<Vec<u8>>, AllocError> {
+    if digits.is_empty() || digits.len() % 2 != 0 {
+        return Ok(None);
     }
-    Ok(String::from_utf8(bytes).ok())
+    let mut bytes = Vec::new(alloc);
+    for pair in digits.chunks_exact(2) {
+        let Some(byte) = parse_pair(pair) else {
+            return Ok(None);
+        };
+        bytes.push(byte)?;
+    }
+    Ok(Some(bytes))
+}
+
+// The byte of two hexadecimal digits.
+fn parse_pair(pair: &[u8]) -> Option<u8> {
+    let [high, low] = pair else {
+        return None;
+    };
+    let high = parse_digit(*high)?;
+    let low = parse_digit(*low)?;
+    Some(high * 16 + low)
 }
 
 // The value of a hexadecimal digit.

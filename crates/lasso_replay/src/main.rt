@@ -17,11 +17,12 @@ mod replies;
 mod scripts;
 
 use errors::InputError;
-use parts::parse_parts;
+use parts::{Part, parse_parts};
 use std::alloc::Global;
 use std::io;
 use std::io::{BufReader, BufWriter, Read, Write};
 use std::process::ExitCode;
+use std::sync::Wait;
 
 // The status of a bad input.
 const BAD_INPUT: u8 = 3;
@@ -35,13 +36,16 @@ fn main(rt: HostRuntime) -> io::Result<ExitCode> {
             eprintln!(rt; "line {line}: {reason}")?;
             Ok(ExitCode::from(BAD_INPUT))
         }
-        Ok(parts) => {
-            let mut out = BufWriter::new(alloc, io::writer(&rt))?;
-            for part in &parts {
-                part.replay(&rt, alloc, &mut out)?;
-            }
-            out.flush()?;
-            Ok(ExitCode::SUCCESS)
-        }
+        Ok(parts) => replay_all(&rt, &parts),
     }
+}
+
+// Replays the parts, and writes their replies.
+fn replay_all<R: AllocGlobal + Print + Wait>(rt: &R, parts: &[Part]) -> io::Result<ExitCode> {
+    let mut out = BufWriter::new(rt.alloc(), io::writer(rt))?;
+    for part in parts {
+        part.replay(rt, rt.alloc(), &mut out)?;
+    }
+    out.flush()?;
+    Ok(ExitCode::SUCCESS)
 }

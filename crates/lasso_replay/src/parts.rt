@@ -35,21 +35,26 @@ pub fn parse_parts(
     alloc: Global,
     input: &[u8],
 ) -> Result<Result<Vec<Part>, InputError>, AllocError> {
-    let text = match str::from_utf8(input) {
-        Ok(text) => text,
+    match str::from_utf8(input) {
+        Ok(text) => parse_lines(alloc, text),
         Err(error) => {
-            let valid = &input[..error.valid_up_to()];
-            let line = valid
-                .iter()
-                .filter(|byte| **byte == b'\n')
-                .count()
-                .saturating_add(1);
-            return Ok(Err(InputError {
+            let line = line_after(&input[..error.valid_up_to()]);
+            Ok(Err(InputError {
                 line,
                 reason: Reason::NotUtf8,
-            }));
+            }))
         }
-    };
+    }
+}
+
+// The number of the line that comes after these bytes.
+fn line_after(bytes: &[u8]) -> usize {
+    let feeds = bytes.iter().filter(|byte| **byte == b'\n').count();
+    feeds.saturating_add(1)
+}
+
+// Parses a text into its parts. The inner error is the first bad line.
+fn parse_lines(alloc: Global, text: &str) -> Result<Result<Vec<Part>, InputError>, AllocError> {
     let mut parts: Vec<Part> = Vec::new(alloc);
     let mut number: usize = 0;
     for line in text.lines() {
@@ -72,22 +77,36 @@ fn add_line(
     line: &str,
 ) -> Result<Option<Reason>, AllocError> {
     let words: Vec<&str> = line.split(' ').collect(alloc)?;
-    let part = match words.as_slice() {
-        ["script", others @ ..] => parse_header(alloc, others)?.map(Part::Script),
-        ["json", others @ ..] => parse_interner_line(alloc, others)?.map(Part::Interner),
-        ["key", others @ ..] => parse_key_line(alloc, others)?.map(Part::Key),
-        others => {
-            return match parts.last_mut() {
-                Some(Part::Script(script)) => script.add_command(alloc, others),
-                _ => Ok(Some(Reason::NoScript)),
-            };
-        }
-    };
-    match part {
-        Ok(part) => {
+    match parse_part(alloc, &words)? {
+        Some(Ok(part)) => {
             parts.push(part)?;
             Ok(None)
         }
-        Err(reason) => Ok(Some(reason)),
+        Some(Err(reason)) => Ok(Some(reason)),
+        None => add_command(alloc, parts, &words),
+    }
+}
+
+// Parses the words of a line as a part. `None` if their first word begins no part. The inner error says why
+// they are bad.
+fn parse_part(alloc: Global, words: &[&str]) -> Result<Option<Result<Part, Reason>>, AllocError> {
+    match words {
+        ["script", others @ ..] => Ok(Some(parse_header(alloc, others)?.map(Part::Script))),
+        ["json", others @ ..] => Ok(Some(parse_interner_line(alloc, others)?.map(Part::Interner))),
+        ["key", others @ ..] => Ok(Some(parse_key_line(alloc, others)?.map(Part::Key))),
+        _ => Ok(None),
+    }
+}
+
+// Adds the words of a line as a command of the last part if that is a script. Returns why they are bad, if
+// they are.
+fn add_command(
+    alloc: Global,
+    parts: &mut Vec<Part>,
+    words: &[&str],
+) -> Result<Option<Reason>, AllocError> {
+    match parts.last_mut() {
+        Some(Part::Script(script)) => script.add_command(alloc, words),
+        _ => Ok(Some(Reason::NoScript)),
     }
 }

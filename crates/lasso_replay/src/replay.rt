@@ -1,6 +1,6 @@
 //! Replays a script on a `Rodeo`.
 
-use crate::lines::{Call, ScriptCommand};
+use crate::lines::{Call, Question, ScriptCommand};
 use crate::replies::{
     write_flag, write_found, write_interned, write_number, write_outcome, write_text,
 };
@@ -37,26 +37,45 @@ fn replay_call<K: Key, W: Write>(
     out: &mut W,
 ) -> io::Result<()> {
     match call {
+        Call::Ask(question) => answer(rodeo, question, out),
         Call::Intern(text) => write_interned(out, rodeo.try_get_or_intern(text.as_str())),
-        Call::Get(text) => write_found(out, rodeo.get(text.as_str())),
-        Call::Contains(text) => write_flag(out, rodeo.contains(text.as_str())),
-        Call::Has(number) => {
-            let key = K::try_from_usize(*number);
-            write_flag(out, key.is_some_and(|key| rodeo.contains_key(key)))
-        }
-        Call::Resolve(number) => match K::try_from_usize(*number) {
-            Some(key) => write_text(out, rodeo.try_resolve(key)),
-            None => write_text(out, None),
-        },
-        Call::Len => write_number(out, rodeo.len()),
-        Call::Usage => write_number(out, rodeo.current_memory_usage()),
-        Call::Max => write_number(out, rodeo.max_memory_usage()),
         Call::Limit(bytes) => {
             rodeo.set_memory_limits(MemoryLimits::new(*bytes));
             write_outcome(out, Ok(()))
         }
         Call::Extend(texts) => write_outcome(out, intern_all(rodeo, texts)),
     }
+}
+
+// Writes the reply to a question.
+fn answer<K: Key, W: Write>(
+    rodeo: &Interner<K>,
+    question: &Question,
+    out: &mut W,
+) -> io::Result<()> {
+    match question {
+        Question::Get(text) => write_found(out, rodeo.get(text.as_str())),
+        Question::Contains(text) => write_flag(out, rodeo.contains(text.as_str())),
+        Question::Has(number) => write_flag(out, has_key(rodeo, *number)),
+        Question::Resolve(number) => write_text(out, text_of(rodeo, *number)),
+        Question::Len => write_number(out, rodeo.len()),
+        Question::Usage => write_number(out, rodeo.current_memory_usage()),
+        Question::Max => write_number(out, rodeo.max_memory_usage()),
+    }
+}
+
+// Whether the number has a key, and the key a text.
+fn has_key<K: Key>(rodeo: &Interner<K>, number: usize) -> bool {
+    match K::try_from_usize(number) {
+        Some(key) => rodeo.contains_key(key),
+        None => false,
+    }
+}
+
+// The text of the key with this number.
+fn text_of<K: Key>(rodeo: &Interner<K>, number: usize) -> Option<&str> {
+    let key = K::try_from_usize(number)?;
+    rodeo.try_resolve(key)
 }
 
 // Interns the texts in order, up to the first that is refused.

@@ -1,6 +1,6 @@
 //! Replays a script on a `ThreadedRodeo`, by one thread.
 
-use crate::lines::Call;
+use crate::lines::{Call, Question};
 use crate::replies::{
     write_flag, write_found, write_interned, write_number, write_outcome, write_text,
 };
@@ -19,26 +19,46 @@ pub fn replay_shared_call<R: Wait, K: Key, W: Write>(
     out: &mut W,
 ) -> io::Result<()> {
     match call {
+        Call::Ask(question) => answer(rt, interner, question, out),
         Call::Intern(text) => write_interned(out, interner.try_get_or_intern(rt, text.as_str())),
-        Call::Get(text) => write_found(out, interner.get(rt, text.as_str())),
-        Call::Contains(text) => write_flag(out, interner.contains(rt, text.as_str())),
-        Call::Has(number) => {
-            let key = K::try_from_usize(*number);
-            write_flag(out, key.is_some_and(|key| interner.contains_key(key)))
-        }
-        Call::Resolve(number) => match K::try_from_usize(*number) {
-            Some(key) => write_text(out, interner.try_resolve(key)),
-            None => write_text(out, None),
-        },
-        Call::Len => write_number(out, interner.len()),
-        Call::Usage => write_number(out, interner.current_memory_usage(rt)),
-        Call::Max => write_number(out, interner.max_memory_usage(rt)),
         Call::Limit(bytes) => {
             interner.set_memory_limits(rt, MemoryLimits::new(*bytes));
             write_outcome(out, Ok(()))
         }
         Call::Extend(texts) => write_outcome(out, intern_all(rt, interner, texts)),
     }
+}
+
+// Writes the reply to a question.
+fn answer<R: Wait, K: Key, W: Write>(
+    rt: &R,
+    interner: &Interner<K>,
+    question: &Question,
+    out: &mut W,
+) -> io::Result<()> {
+    match question {
+        Question::Get(text) => write_found(out, interner.get(rt, text.as_str())),
+        Question::Contains(text) => write_flag(out, interner.contains(rt, text.as_str())),
+        Question::Has(number) => write_flag(out, has_key(interner, *number)),
+        Question::Resolve(number) => write_text(out, text_of(interner, *number)),
+        Question::Len => write_number(out, interner.len()),
+        Question::Usage => write_number(out, interner.current_memory_usage(rt)),
+        Question::Max => write_number(out, interner.max_memory_usage(rt)),
+    }
+}
+
+// Whether the number has a key, and the key a text.
+fn has_key<K: Key>(interner: &Interner<K>, number: usize) -> bool {
+    match K::try_from_usize(number) {
+        Some(key) => interner.contains_key(key),
+        None => false,
+    }
+}
+
+// The text of the key with this number.
+fn text_of<K: Key>(interner: &Interner<K>, number: usize) -> Option<&str> {
+    let key = K::try_from_usize(number)?;
+    interner.try_resolve(key)
 }
 
 // Interns the texts in order, up to the first that is refused.

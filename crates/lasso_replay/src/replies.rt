@@ -71,25 +71,39 @@ pub fn write_text<W: Write>(out: &mut W, text: Option<&str>) -> io::Result<()> {
 pub fn write_list<K: Key, W: Write>(out: &mut W, texts: Strings<'_, K>) -> io::Result<()> {
     write!(out, "list")?;
     for text in texts {
-        write!(out, " ")?;
-        write_digits(out, text)?;
+        write_item(out, text)?;
     }
     writeln!(out)
+}
+
+// The text in hexadecimal digits after a space.
+fn write_item<W: Write>(out: &mut W, text: &str) -> io::Result<()> {
+    write!(out, " ")?;
+    write_digits(out, text)
 }
 
 /// `fault`, the kind of the error, and the position of the item that it is about. Out of memory is written as
 /// a refusal.
 pub fn write_json_error<W: Write>(out: &mut W, error: JsonError) -> io::Result<()> {
-    match error {
-        JsonError::NotAnArray => writeln!(out, "fault NotAnArray"),
-        JsonError::NotText(at) => writeln!(out, "fault NotText {at}"),
-        JsonError::Doubled(at) => writeln!(out, "fault Doubled {at}"),
-        JsonError::TooMany(at) => writeln!(out, "fault TooMany {at}"),
-        JsonError::NotAnObject => writeln!(out, "fault NotAnObject"),
-        JsonError::NotAPosition(at) => writeln!(out, "fault NotAPosition {at}"),
-        JsonError::Taken(at) => writeln!(out, "fault Taken {at}"),
-        JsonError::Lasso(kind) => write_refusal(out, kind),
-        JsonError::NotAKey => writeln!(out, "fault NotAKey"),
+    let (name, item) = match error {
+        JsonError::NotAnArray => ("NotAnArray", None),
+        JsonError::NotText(at) => ("NotText", Some(at)),
+        JsonError::Doubled(at) => ("Doubled", Some(at)),
+        JsonError::TooMany(at) => ("TooMany", Some(at)),
+        JsonError::NotAnObject => ("NotAnObject", None),
+        JsonError::NotAPosition(at) => ("NotAPosition", Some(at)),
+        JsonError::Taken(at) => ("Taken", Some(at)),
+        JsonError::Lasso(kind) => return write_refusal(out, kind),
+        JsonError::NotAKey => ("NotAKey", None),
+    };
+    write_fault(out, name, item)
+}
+
+// `fault`, the kind of the error, and the position of the item that it is about, if it is about one.
+fn write_fault<W: Write>(out: &mut W, name: &str, item: Option<usize>) -> io::Result<()> {
+    match item {
+        Some(at) => writeln!(out, "fault {name} {at}"),
+        None => writeln!(out, "fault {name}"),
     }
 }
 

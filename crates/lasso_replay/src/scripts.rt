@@ -33,31 +33,70 @@ pub fn parse_header(alloc: Global, words: &[&str]) -> Result<Result<Script, Reas
     let [name, kind, key_type, strings, bytes, limit] = words else {
         return Ok(Err(Reason::BadHeader));
     };
-    let commands = match *kind {
-        "rodeo" => Commands::OneThread(Vec::new(alloc)),
-        "threaded" => Commands::Shared(Vec::new(alloc)),
-        _ => return Ok(Err(Reason::UnknownKind)),
+    let Some(commands) = no_commands(alloc, kind) else {
+        return Ok(Err(Reason::UnknownKind));
     };
     let Some(key_type) = parse_key_type(key_type) else {
         return Ok(Err(Reason::UnknownKeyType));
     };
-    let (Some(strings), Some(bytes), Some(limit)) = (
-        parse_number(strings),
-        parse_number(bytes),
-        parse_limit(limit),
-    ) else {
-        return Ok(Err(Reason::BadHeader));
+    let (capacity, limits) = match parse_sizes(strings, bytes, limit) {
+        Ok(sizes) => sizes,
+        Err(reason) => return Ok(Err(reason)),
     };
-    if bytes == 0 {
-        return Ok(Err(Reason::NoBytes));
-    }
+    let name = String::from_str(alloc, name)?;
     Ok(Ok(Script {
-        name: String::from_str(alloc, name)?,
+        name,
         key_type,
-        capacity: Capacity::new(strings, bytes),
-        limits: MemoryLimits::new(limit),
+        capacity,
+        limits,
         commands,
     }))
+}
+
+// No commands for the kind of interner with this name.
+fn no_commands(alloc: Global, kind: &str) -> Option<Commands> {
+    match kind {
+        "rodeo" => Some(Commands::OneThread(Vec::new(alloc))),
+        "threaded" => Some(Commands::Shared(Vec::new(alloc))),
+        _ => None,
+    }
+}
+
+// Parses the capacity and the limit of an interner.
+fn parse_sizes(
+    strings: &str,
+    bytes: &str,
+    limit: &str,
+) -> Result<(Capacity, MemoryLimits), Reason> {
+    let strings = parse_number(strings).ok_or(Reason::BadHeader)?;
+    let bytes = parse_number(bytes).ok_or(Reason::BadHeader)?;
+    let limit = parse_limit(limit).ok_or(Reason::BadHeader)?;
+    if bytes == 0 {
+        return Err(Reason::NoBytes);
+    }
+    Ok((Capacity::new(strings, bytes), MemoryLimits::new(limit)))
+}
+
+// Parses the words of a line as a command for a `Rodeo`, and adds it. Returns whether they are one.
+fn add_script_command(
+    alloc: Global,
+    commands: &mut Vec<ScriptCommand>,
+    words: &[&str],
+) -> Result<bool, AllocError> {
+    let Some(command) = parse_command(alloc, words)? else {
+        return Ok(false);
+    };
+    commands.push(command)?;
+    Ok(true)
+}
+
+// Parses the words of a line as a call, and adds it. Returns whether they are one.
+fn add_call(alloc: Global, calls: &mut Vec<Call>, words: &[&str]) -> Result<bool, AllocError> {
+    let Some(call) = parse_call(alloc, words)? else {
+        return Ok(false);
+    };
+    calls.push(call)?;
+    Ok(true)
 }
 
 impl Script {
@@ -67,23 +106,11 @@ impl Script {
         alloc: Global,
         words: &[&str],
     ) -> Result<Option<Reason>, AllocError> {
-        let known = match &mut self.commands {
-            Commands::OneThread(commands) => match parse_command(alloc, words)? {
-                Some(command) => {
-                    commands.push(command)?;
-                    true
-                }
-                None => false,
-            },
-            Commands::Shared(calls) => match parse_call(alloc, words)? {
-                Some(call) => {
-                    calls.push(call)?;
-                    true
-                }
-                None => false,
-            },
+        let is_known = match &mut self.commands {
+            Commands::OneThread(commands) => add_script_command(alloc, commands, words)?,
+            Commands::Shared(calls) => add_call(alloc, calls, words)?,
         };
-        Ok(if known {
+        Ok(if is_known {
             None
         } else {
             Some(Reason::BadCommand)
@@ -122,18 +149,37 @@ impl Replayed for Script {
         writeln!(out, "script {name}")?;
         match &self.commands {
             Commands::OneThread(commands) => {
-                let mut rodeo = self.make_rodeo::<K>(alloc)?;
-                for command in commands {
-                    replay_command(alloc, &mut rodeo, command, out)?;
-                }
+                replay_commands(alloc, &mut self.make_rodeo::<K>(alloc)?, commands, out)
             }
             Commands::Shared(calls) => {
-                let interner = self.make_threaded::<K>(alloc)?;
-                for call in calls {
-                    replay_shared_call(rt, &interner, call, out)?;
-                }
+                replay_calls(rt, &self.make_threaded::<K>(alloc)?, calls, out)
             }
         }
-        Ok(())
     }
+}
+
+// Runs the commands, and writes their replies.
+fn replay_commands<K: Key, W: Write>(
+    alloc: Global,
+    rodeo: &mut Rodeo<K, FixedState, Global>,
+    commands: &[ScriptCommand],
+    out: &mut W,
+) -> io::Result<()> {
+    for command in commands {
+        replay_command(alloc, rodeo, command, out)?;
+    }
+    Ok(())
+}
+
+// Makes the calls, and writes their replies.
+fn replay_calls<R: Wait, K: Key, W: Write>(
+    rt: &R,
+    interner: &ThreadedRodeo<K, FixedState>,
+    calls: &[Call],
+    out: &mut W,
+) -> io::Result<()> {
+    for call in calls {
+        replay_shared_call(rt, interner, call, out)?;
+    }
+    Ok(())
 }

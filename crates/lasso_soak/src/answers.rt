@@ -67,6 +67,14 @@ impl Answer {
             _ => false,
         }
     }
+
+    /// Whether the usage was read.
+    pub fn is_usage(&self) -> bool {
+        match *self {
+            Answer::Used { .. } => true,
+            _ => false,
+        }
+    }
 }
 
 /// The limits that are set at random, in bytes: the least, and how many from there on.
@@ -116,14 +124,22 @@ pub fn answers<K: Key, R: AllocGlobal + Wait>(
             answers.push(used(rt, rodeo, pass))?;
             answers.push(allowed(rt, rodeo, pass))?;
         }
-        if let Answer::Used { bytes } = answer {
-            if draws.below(2) == 0 {
-                let limit = bytes.saturating_add(draws.below(LITTLE));
-                answers.push(limited(rt, rodeo, pass, limits.set, limit))?;
-            }
+        if let Some(limit) = limit_after(answer, &mut draws) {
+            answers.push(limited(rt, rodeo, pass, limits.set, limit))?;
         }
     }
     Ok(answers)
+}
+
+// A limit a little above the usage, every other time when that was read.
+fn limit_after(answer: Answer, draws: &mut Draws) -> Option<usize> {
+    let Answer::Used { bytes } = answer else {
+        return None;
+    };
+    if draws.below(2) != 0 {
+        return None;
+    }
+    Some(bytes.saturating_add(draws.below(LITTLE)))
 }
 
 /// How many texts there are, the usage and the limit in force.

@@ -102,54 +102,96 @@ impl Setter {
     }
 }
 
-/// What later answers are about at least.
-pub fn least_after(setter: &Setter, answer: &Answer, least: Bound) -> Bound {
-    let mut after = least;
+// How many texts the answer shows at least.
+fn least_texts(answer: &Answer) -> usize {
     match *answer {
-        Answer::Interned { position, .. } => after.texts = after
-            .texts
-            .max(position.saturating_add(1)),
+        Answer::Interned { position, .. } => position.saturating_add(1),
         Answer::Found {
             position: Some(position),
             ..
-        } => after.texts = after.texts.max(position.saturating_add(1)),
+        } => position.saturating_add(1),
         Answer::Resolved {
             position,
             there: true,
             ..
-        } => after.texts = after.texts.max(position.saturating_add(1)),
-        Answer::Counted { texts } => after.texts = after.texts.max(texts),
-        Answer::Walked { texts, .. } => after.texts = after.texts.max(texts),
-        Answer::Used { bytes } => after.usage = after.usage.max(bytes),
-        Answer::Allowed { bytes } => after.limits = setter.least(after.limits, bytes),
-        Answer::Limited { .. } => after.limits = after.limits.saturating_add(1),
-        _ => {}
+        } => position.saturating_add(1),
+        Answer::Counted { texts } => texts,
+        Answer::Walked { texts, .. } => texts,
+        _ => 0,
     }
-    after
 }
 
-// What the answer and earlier ones are about at most.
-fn most_before(frozen: &Frozen, setter: &Setter, answer: &Answer, most: Bound) -> Bound {
-    let mut before = most;
+/// How many texts the answer shows at most; the greatest number, where it shows nothing of them.
+pub fn most_texts(frozen: &Frozen, answer: &Answer) -> usize {
     match *answer {
-        Answer::Refused { text, .. } => before.texts = before.texts.min(frozen.position(text)),
+        Answer::Refused { text, .. } => frozen.position(text),
         Answer::Found {
             text,
             position: None,
-        } => before.texts = before.texts.min(frozen.position(text)),
+        } => frozen.position(text),
         Answer::Resolved {
             position,
             there: false,
             ..
-        } => before.texts = before.texts.min(position),
-        Answer::Counted { texts } => before.texts = before.texts.min(texts),
-        Answer::Walked { texts, .. } => before.texts = before.texts.min(texts),
-        Answer::Used { bytes } => before.usage = before.usage.min(bytes),
-        Answer::Allowed { bytes } => before.limits = setter.most(before.limits, bytes),
-        Answer::Limited { .. } => before.limits = before.limits.saturating_sub(1),
-        _ => {}
+        } => position,
+        Answer::Counted { texts } => texts,
+        Answer::Walked { texts, .. } => texts,
+        _ => usize::MAX,
     }
-    before
+}
+
+/// What later answers are about at least.
+pub fn least_after(setter: &Setter, answer: &Answer, least: Bound) -> Bound {
+    let Bound {
+        texts,
+        usage,
+        limits,
+    } = least;
+    match *answer {
+        Answer::Used { bytes } => Bound {
+            usage: usage.max(bytes),
+            ..least
+        },
+        Answer::Allowed { bytes } => Bound {
+            limits: setter.least(limits, bytes),
+            ..least
+        },
+        Answer::Limited { .. } => Bound {
+            limits: limits.saturating_add(1),
+            ..least
+        },
+        _ => Bound {
+            texts: texts.max(least_texts(answer)),
+            ..least
+        },
+    }
+}
+
+// What the answer and earlier ones are about at most.
+fn most_before(frozen: &Frozen, setter: &Setter, answer: &Answer, most: Bound) -> Bound {
+    let Bound {
+        texts,
+        usage,
+        limits,
+    } = most;
+    match *answer {
+        Answer::Used { bytes } => Bound {
+            usage: usage.min(bytes),
+            ..most
+        },
+        Answer::Allowed { bytes } => Bound {
+            limits: setter.most(limits, bytes),
+            ..most
+        },
+        Answer::Limited { .. } => Bound {
+            limits: limits.saturating_sub(1),
+            ..most
+        },
+        _ => Bound {
+            texts: texts.min(most_texts(frozen, answer)),
+            ..most
+        },
+    }
 }
 
 /// What each of the answers is about at most, that of the last one first. The only error is out of memory.

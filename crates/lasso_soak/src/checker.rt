@@ -3,13 +3,13 @@
 //! The answers of a pass are gone through from the first to the last. What earlier ones show is the least that a later one may be about,
 //! and what later ones show is the most. The limits that can have been in force are those of all threads, as far as their times may meet.
 use crate::answers::Answer;
-use crate::bounds::{Bound, Setter, least_after, most_bounds};
+use crate::bounds::{Bound, Setter, least_after, most_bounds, most_texts};
 use crate::frozen::Frozen;
 use crate::reigns::{Reign, ended, note_reigns};
 use crate::texts::Texts;
 use anyhow::{Error, Result, anyhow};
 use lasso::{Key, LassoErrorKind};
-use std::alloc::Global;
+use std::alloc::{AllocError, Global};
 
 /// A round: what it began with, in bytes, the list that it ended with, and the thread that alone set limits, where one did.
 #[derive(Clone, Copy)]
@@ -46,6 +46,15 @@ impl Round<'_> {
         let mosts = most_bounds(alloc, self.frozen, &setter, answers_of(found, thread))?;
         Ok(Snapshot { setter, mosts })
     }
+
+    // What is known of the pass of each thread.
+    fn known_of_all(&self, alloc: Global, found: &[Vec<Answer>]) -> Result<Vec<Snapshot>> {
+        let mut all = Vec::new(alloc);
+        for thread in 0..found.len() {
+            all.push(self.known(alloc, found, thread)?)?;
+        }
+        Ok(all)
+    }
 }
 
 // The answers of the thread.
@@ -59,26 +68,34 @@ fn answers_of(found: &[Vec<Answer>], thread: usize) -> &[Answer] {
 /// Fails with a message if the list does not explain an answer of a thread as one that comes after the
 /// earlier answers of the same pass and before the later ones.
 pub fn check<K: Key>(alloc: Global, round: &Round<'_>, found: &[Vec<Answer>]) -> Result<()> {
+    let all = round.known_of_all(alloc, found)?;
+    let reigns = reigns_of(alloc, round, &all, found)?;
+    for (known, answers) in all.iter().zip(found) {
+        check_pass::<K>(round, &reigns, known, answers.as_slice())?;
+    }
+    Ok(())
+}
+
+// The limits of the round: the first, and those that its threads set.
+fn reigns_of(
+    alloc: Global,
+    round: &Round<'_>,
+    all: &[Snapshot],
+    found: &[Vec<Answer>],
+) -> Result<Vec<Reign>, AllocError> {
     let mut reigns = Vec::new(alloc);
-    reigns.push(Reign::first(round.limit, round.first()))?;
-    let mut all = Vec::new(alloc);
-    for thread in 0..found.len() {
-        let known = round.known(alloc, found, thread)?;
-        let answers = answers_of(found, thread);
+    let first = round.first();
+    reigns.push(Reign::first(round.limit, first))?;
+    for (known, answers) in all.iter().zip(found) {
         note_reigns(
             &mut reigns,
             &known.setter,
-            answers,
-            round.first(),
+            answers.as_slice(),
+            first,
             known.mosts.as_slice(),
         )?;
-        all.push(known)?;
     }
-    let reigns = ended(alloc, reigns.as_slice())?;
-    for (known, answers) in all.iter().zip(found) {
-        check_pass::<K>(round, reigns.as_slice(), known, answers.as_slice())?;
-    }
-    Ok(())
+    ended(alloc, &reigns)
 }
 
 // Fails with a message where an answer of a pass is not explained.
@@ -98,7 +115,7 @@ fn check_pass<K: Key>(
             return Err(times.error().context(format_args!("{rule}: {answer:?}")));
         }
         least = least_after(setter, answer, least);
-        if let Answer::Used { .. } = answer {
+        if answer.is_usage() {
             since = least;
         }
     }
@@ -114,16 +131,18 @@ fn broken<K: Key>(
     times: Times,
 ) -> Option<&'static str> {
     if !is_true(round.frozen, answer) {
-        Some("not so in the list")
-    } else if !is_late(round.frozen, answer, times.least) {
-        Some("too late")
-    } else if !is_refused_rightly::<K>(round.texts, reigns, setter, answer, times) {
-        Some("no refusal")
-    } else if !is_within_limits(reigns, setter, answer, times) {
-        Some("no limit allows it")
-    } else {
-        None
+        return Some("not so in the list");
     }
+    if !is_late(round.frozen, answer, times.least) {
+        return Some("too late");
+    }
+    if !is_refused_rightly::<K>(round.texts, reigns, setter, answer, times) {
+        return Some("no refusal");
+    }
+    if !is_within_limits(reigns, setter, answer, times) {
+        return Some("no limit allows it");
+    }
+    None
 }
 
 // What an answer is about at least and at most, and what the last reading of the usage before it was about at least.
@@ -173,20 +192,8 @@ fn is_true(frozen: &Frozen, answer: &Answer) -> bool {
 // Whether the answer may come where the list and the usage are at least these.
 fn is_late(frozen: &Frozen, answer: &Answer, least: Bound) -> bool {
     match *answer {
-        Answer::Refused { text, .. } => least.texts <= frozen.position(text),
-        Answer::Found {
-            text,
-            position: None,
-        } => least.texts <= frozen.position(text),
-        Answer::Resolved {
-            position,
-            there: false,
-            ..
-        } => least.texts <= position,
-        Answer::Counted { texts } => least.texts <= texts,
-        Answer::Walked { texts, .. } => least.texts <= texts,
         Answer::Used { bytes } => least.usage <= bytes,
-        _ => true,
+        _ => least.texts <= most_texts(frozen, answer),
     }
 }
 
@@ -204,19 +211,25 @@ fn is_refused_rightly<K: Key>(
     let Answer::Refused { text, copied, kind } = *answer else {
         return true;
     };
-    let bytes = texts.text(text).len();
     match kind {
         LassoErrorKind::KeySpaceExhaustion => K::try_from_usize(times.most.texts).is_none(),
         LassoErrorKind::MemoryLimitReached => {
+            let bytes = texts.text(text).len();
             let past = times.most.usage.saturating_add(bytes);
-            copied
-                && bytes > 0
-                && reigns.iter().any(|reign| {
-                    reign.bytes < past && reign.may_be_at(setter, times.least, times.most)
-                })
+            copied && bytes > 0 && may_be_below(reigns, setter, past, times)
         }
-        _ => false,
+        LassoErrorKind::FailedAllocation => false,
     }
+}
+
+// Whether a limit of fewer bytes than these can have been in force.
+fn may_be_below(reigns: &[Reign], setter: &Setter, bytes: usize, times: Times) -> bool {
+    for reign in reigns {
+        if reign.bytes < bytes && reign.may_be_at(setter, times.least, times.most) {
+            return true;
+        }
+    }
+    false
 }
 
 // Whether a limit that was read can have been in force, and whether a usage that was read can have been reached. A step that raises the usage
@@ -225,14 +238,29 @@ fn is_refused_rightly<K: Key>(
 fn is_within_limits(reigns: &[Reign], setter: &Setter, answer: &Answer, times: Times) -> bool {
     match *answer {
         Answer::Used { bytes } => {
-            bytes == times.least.usage
-                || reigns.iter().any(|reign| {
-                    bytes <= reign.bytes && reign.may_be_at(setter, times.since, times.most)
-                })
+            bytes == times.least.usage || may_hold(reigns, setter, bytes, times)
         }
-        Answer::Allowed { bytes } => reigns.iter().any(|reign| {
-            reign.bytes == bytes && reign.may_be_at(setter, times.least, times.most)
-        }),
+        Answer::Allowed { bytes } => may_be(reigns, setter, bytes, times),
         _ => true,
     }
+}
+
+// Whether a limit of these bytes or more can have been in force since the last reading of the usage.
+fn may_hold(reigns: &[Reign], setter: &Setter, bytes: usize, times: Times) -> bool {
+    for reign in reigns {
+        if bytes <= reign.bytes && reign.may_be_at(setter, times.since, times.most) {
+            return true;
+        }
+    }
+    false
+}
+
+// Whether the limit of these bytes can have been in force.
+fn may_be(reigns: &[Reign], setter: &Setter, bytes: usize, times: Times) -> bool {
+    for reign in reigns {
+        if reign.bytes == bytes && reign.may_be_at(setter, times.least, times.most) {
+            return true;
+        }
+    }
+    false
 }

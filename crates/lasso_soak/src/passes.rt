@@ -6,7 +6,7 @@ use crate::answers::{Answer, Limits, answers};
 use crate::texts::Texts;
 use lasso::log::{Pass, Snapshot};
 use lasso::{FixedState, Key, ThreadedRodeo};
-use std::alloc::AllocError;
+use std::alloc::{AllocError, Global};
 use std::sync::Wait;
 use std::thread::{Threads, map_indices};
 
@@ -77,7 +77,12 @@ pub fn by_all<K: Key + Send + Sync, R: AllocGlobal + Threads + Wait + Sync>(
     for thread in 0..told.len() {
         pass.learn(&told[thread].known);
     }
-    let mut found = Vec::new(rt.alloc());
+    found_of(rt.alloc(), told)
+}
+
+// The answers of each thread.
+fn found_of<K: Key>(alloc: Global, told: Vec<Told<K>>) -> Result<Vec<Found>, AllocError> {
+    let mut found = Vec::new(alloc);
     for one in told {
         found.push(one.found)?;
     }

@@ -8,8 +8,8 @@ use crate::passes::{Found, THREADS, Work, by_all};
 use crate::texts::Texts;
 use anyhow::{Result, bail, ensure};
 use lasso::log::Pass;
-use lasso::{Capacity, FixedState, Key, MemoryLimits, MicroSpur, Spur, ThreadedRodeo};
-use std::alloc::Global;
+use lasso::{Capacity, FixedState, Key, MemoryLimits, MicroSpur, RodeoReader, Spur, ThreadedRodeo};
+use std::alloc::{AllocError, Global};
 use std::rt::Clock;
 use std::sync::Wait;
 use std::thread::Threads;
@@ -56,15 +56,10 @@ pub fn calls_in_round<R: AllocGlobal + Threads + Wait + Sync>(
         count: count * 8,
         set: true,
     };
-    let setter = if seed % 3 == 2 {
-        Some((seed / 3) as usize % THREADS)
-    } else {
-        None
-    };
     let work = Work {
         texts: &texts,
         limits,
-        setter,
+        setter: setter_of(seed),
         seed,
         calls,
     };
@@ -72,6 +67,15 @@ pub fn calls_in_round<R: AllocGlobal + Threads + Wait + Sync>(
         round::<Spur, R>(rt, work)
     } else {
         round::<MicroSpur, R>(rt, work)
+    }
+}
+
+// The thread that alone sets limits, in every third round.
+fn setter_of(seed: u64) -> Option<usize> {
+    if seed % 3 == 2 {
+        Some((seed / 3) as usize % THREADS)
+    } else {
+        None
     }
 }
 
@@ -86,10 +90,7 @@ fn round<K: Key + Send + Sync, R: AllocGlobal + Threads + Wait + Sync>(
         Capacity::for_bytes(FIRST),
         MemoryLimits::new(limit),
     )?;
-    let mut pass = rodeo.pass();
-    let found = by_all(rt, &rodeo, &mut pass, work)?;
-    let last = readings(rt, &rodeo, &mut pass);
-    let frozen = freeze(rt, rodeo, &mut pass, work.texts)?;
+    let (found, frozen) = found_and_frozen(rt, rodeo, work)?;
     let round = Round {
         texts: work.texts,
         frozen: &frozen,
@@ -97,9 +98,35 @@ fn round<K: Key + Send + Sync, R: AllocGlobal + Threads + Wait + Sync>(
         limit,
         alone: work.setter,
     };
-    let found = with_last(rt.alloc(), found, last)?;
     check::<K>(rt.alloc(), &round, found.as_slice())?;
     Ok(frozen.len())
+}
+
+// The answers of each thread, and the list that the interner ends with.
+fn found_and_frozen<K: Key + Send + Sync, R: AllocGlobal + Threads + Wait + Sync>(
+    rt: &R,
+    rodeo: ThreadedRodeo<K, FixedState>,
+    work: Work<'_>,
+) -> Result<(Vec<Vec<Answer>>, Frozen)> {
+    let mut pass = rodeo.pass();
+    let found = found_by_all(rt, &rodeo, &mut pass, work)?;
+    let frozen = freeze(rt, rodeo, &mut pass, work.texts)?;
+    Ok((found, frozen))
+}
+
+// The answers of each thread, and after them those of the pass that has seen what all had.
+fn found_by_all<K: Key + Send + Sync, R: AllocGlobal + Threads + Wait + Sync>(
+    rt: &R,
+    rodeo: &ThreadedRodeo<K, FixedState>,
+    pass: &mut Pass<K>,
+    work: Work<'_>,
+) -> Result<Vec<Vec<Answer>>>
+    requires { pass.old.of ≡ rodeo.now }
+    ensures { pass.new.of ≡ rodeo.now }
+{
+    let found = by_all(rt, rodeo, pass, work)?;
+    let last = readings(rt, rodeo, pass);
+    with_last(rt.alloc(), found, last)
 }
 
 // The texts of the interner, as the pass has then seen them.
@@ -112,24 +139,39 @@ fn freeze<K: Key, R: AllocGlobal + Wait>(
     requires { pass.old.of ≡ rodeo }
 {
     let reader = rodeo.into_reader_as(rt, pass)?;
-    let mut frozen = Frozen::new(rt.alloc(), texts)?;
+    frozen_of(rt.alloc(), &reader, texts)
+}
+
+// The texts of the reader.
+fn frozen_of<K: Key>(
+    alloc: Global,
+    reader: &RodeoReader<K, FixedState, Global>,
+    texts: &Texts,
+) -> Result<Frozen> {
+    let mut frozen = Frozen::new(alloc, texts)?;
     for text in reader.strings() {
         frozen.push(texts, text)?;
     }
     Ok(frozen)
 }
 
-// The answers of each thread, and after them those of the pass that has seen what all had.
+// The answers of each thread, and after them the last ones.
 fn with_last(alloc: Global, found: Vec<Found>, last: [Answer; 3]) -> Result<Vec<Vec<Answer>>> {
     let mut all = Vec::new(alloc);
     for answers in found {
-        let Ok(mut answers) = answers else {
+        let Ok(answers) = answers else {
             bail!("no memory for the answers");
         };
-        for answer in last {
-            answers.push(answer)?;
-        }
-        all.push(answers)?;
+        all.push(with_end(answers, last)?)?;
     }
     Ok(all)
+}
+
+// The answers, and after them the last ones.
+fn with_end(answers: Vec<Answer>, last: [Answer; 3]) -> Result<Vec<Answer>, AllocError> {
+    let mut answers = answers;
+    for answer in last {
+        answers.push(answer)?;
+    }
+    Ok(answers)
 }

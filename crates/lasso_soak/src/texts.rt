@@ -22,14 +22,7 @@ impl Texts {
     pub fn new(alloc: Global, count: usize) -> Result<Self, AllocError> {
         let mut texts = Vec::new(alloc);
         for number in 0..count {
-            let text = match STATIC.get(number) {
-                Some(text) => String::from_str(alloc, text)?,
-                None => {
-                    let tail = TAILS[number % 4];
-                    format!(in alloc; "{number}{tail}")?
-                }
-            };
-            texts.push(text)?;
+            texts.push(numbered_text(alloc, number)?)?;
         }
         Ok(Texts { texts })
     }
@@ -63,6 +56,15 @@ impl Texts {
             None
         }
     }
+}
+
+// The text with the number.
+fn numbered_text(alloc: Global, number: usize) -> Result<String, AllocError> {
+    if let Some(text) = STATIC.get(number) {
+        return String::from_str(alloc, text);
+    }
+    let tail = TAILS[number % 4];
+    format!(in alloc; "{number}{tail}")
 }
 
 /// How many texts can be interned as static ones: those with the first numbers.

@@ -3,11 +3,13 @@ ghost use Rattle.std.specs.Prelude.{◌≡◌, ◌-◌, ◌∷◌, ◌++◌, [],
 ghost use Rattle.lasso_log.specs.History.{Lacks};
 ghost use Rattle.lasso_log.specs.Views.{IsSameSpine, list_of};
 
-use crate::log::{len_and_kept, read_at};
+use crate::checks::is_so;
+use crate::log::{keeps_none, reads};
 use lasso_log::log::{Log, Opened, Pass, Spine};
 use lasso_parts::keys::{Key, Spur};
 use lasso_parts::util::{LassoError, LassoErrorKind, LassoResult};
 use std::alloc::Global;
+use std::process::Abort;
 use std::sync::Wait;
 use std::test::*;
 
@@ -56,17 +58,27 @@ pub(super) fn add<R: Wait>(
     Ok(())
 }
 
+// Appends two texts, after slots that were kept and given back.
+fn append_two<R: Abort + Wait>(
+    rt: &R,
+    alloc: Global,
+    log: &Log<Spur>,
+    spine: &mut Spine<Spur>,
+) -> Result<(), Fail>
+    requires { (spine.old.of ≡ log.now) × (list_of log.now spine.old.notes ≡ []) }
+{
+    let mut pass = log.pass();
+    keep_and_give_back(alloc, log, spine, 33)?;
+    add(rt, alloc, log, spine, &mut pass, "p")?;
+    keep_and_give_back(alloc, log, spine, 1)?;
+    add(rt, alloc, log, spine, &mut pass, "q")?;
+    is_so(rt, keeps_none(spine, 2), "two texts and no slot");
+    reads(rt, log, &mut pass, &["p", "q"]);
+    Ok(())
+}
+
 #[test]
 fn slots_that_were_given_back_are_kept_again(rt: HostRuntime) -> Result<(), Fail> {
     let (log, mut spine) = Log::<Spur>::open(rt.alloc(), OPENED)?;
-    let mut pass = log.pass();
-    keep_and_give_back(rt.alloc(), &log, &mut spine, 33)?;
-    add(&rt, rt.alloc(), &log, &mut spine, &mut pass, "p")?;
-    keep_and_give_back(rt.alloc(), &log, &mut spine, 1)?;
-    add(&rt, rt.alloc(), &log, &mut spine, &mut pass, "q")?;
-    assert!(rt; len_and_kept(&spine) == (2, 0));
-    assert!(rt; read_at(&log, &mut pass, 0) == Some("p"));
-    assert!(rt; read_at(&log, &mut pass, 1) == Some("q"));
-    assert!(rt; read_at(&log, &mut pass, 2) == None);
-    Ok(())
+    append_two(&rt, rt.alloc(), &log, &mut spine)
 }

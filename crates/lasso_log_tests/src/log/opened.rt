@@ -4,14 +4,17 @@ ghost use Rattle.lasso_log.specs.Openings.{OpeningView};
 ghost use Rattle.lasso_log.specs.SharedBuckets.{SharedView};
 ghost use Rattle.lasso_log.specs.Views.{InternerId, PassView, list_of};
 
+use crate::checks::is_so;
 use crate::log::given_back::add;
-use crate::log::{lengths, read_at};
+use crate::log::{has_len, reads};
 use lasso_log::log::bucket::SharedBucket;
-use lasso_log::log::{Log, NewLog, OpeningTexts, Pass};
+use lasso_log::log::{Log, NewLog, OpeningTexts, Pass, Spine};
 use lasso_log::shared_arena::piece::Piece;
 use lasso_parts::keys::Spur;
 use lasso_parts::util::{LassoError, LassoErrorKind, LassoResult};
 use std::alloc::Global;
+use std::process::Abort;
+use std::sync::Wait;
 use std::test::*;
 
 // Two texts for a log to open with, one of them empty. The other is copied into a bucket of 8 bytes.
@@ -38,12 +41,33 @@ pub(super) fn opens(alloc: Global) -> LassoResult<NewLog<Spur>>
     Ok(Log::open_with(texts, u64::MAX))
 }
 
-// The bytes of the bucket, and how many of them are taken.
-fn bytes_of(log: &Log<Spur>, bucket: &SharedBucket<Spur>, pass: &mut Pass<Spur>) -> (u64, u64)
+// Whether the bucket has 8 bytes, and two of them are taken.
+fn has_two_taken(log: &Log<Spur>, bucket: &SharedBucket<Spur>, pass: &mut Pass<Spur>) -> bool
     requires { (pass.old.of ≡ log.now) × (bucket.now.of ≡ log.now) }
     ensures { pass.new.of ≡ log.now }
 {
-    (bucket.capacity(), bucket.len(log, pass))
+    bucket.capacity() == 8 && bucket.len(log, pass) == 2
+}
+
+// Looks at the opening, appends a text, and looks again.
+fn append_one<R: Abort + Wait>(
+    rt: &R,
+    alloc: Global,
+    log: &Log<Spur>,
+    spine: &mut Spine<Spur>,
+    bucket: &SharedBucket<Spur>,
+) -> Result<(), Fail>
+    requires of { (spine.old.of ≡ log.now) × (bucket.now.of ≡ log.now) }
+    requires list { list_of log.now spine.old.notes ≡ codes "bc" ∷ [] ∷ [] }
+{
+    let mut pass = log.pass();
+    is_so(rt, has_len(log, spine, &mut pass, 2), "two texts");
+    reads(rt, log, &mut pass, &["bc", ""]);
+    is_so(rt, has_two_taken(log, bucket, &mut pass), "two bytes of 8");
+    add(rt, alloc, log, spine, &mut pass, "a")?;
+    is_so(rt, has_len(log, spine, &mut pass, 3), "three texts");
+    reads(rt, log, &mut pass, &["bc", "", "a"]);
+    Ok(())
 }
 
 #[test]
@@ -53,18 +77,7 @@ fn the_texts_of_an_opening_have_the_first_positions(rt: HostRuntime) -> Result<(
         mut spine,
         bucket,
     } = opens(rt.alloc())?;
-    let mut pass = log.pass();
-    assert!(rt; lengths(&log, &spine, &mut pass) == (2, 2));
-    assert!(rt; read_at(&log, &mut pass, 0) == Some("bc"));
-    assert!(rt; read_at(&log, &mut pass, 1) == Some(""));
-    assert!(rt; read_at(&log, &mut pass, 2) == None);
-    assert!(rt; bytes_of(&log, &bucket, &mut pass) == (8, 2));
-    add(&rt, rt.alloc(), &log, &mut spine, &mut pass, "a")?;
-    assert!(rt; lengths(&log, &spine, &mut pass) == (3, 3));
-    assert!(rt; read_at(&log, &mut pass, 0) == Some("bc"));
-    assert!(rt; read_at(&log, &mut pass, 2) == Some("a"));
-    assert!(rt; read_at(&log, &mut pass, 3) == None);
-    Ok(())
+    append_one(&rt, rt.alloc(), &log, &mut spine, &bucket)
 }
 
 // Whether the text fits the bucket, where it is put then.

@@ -7,10 +7,11 @@ ghost use Rattle.lasso_log.specs.Pieces.{PieceView};
 ghost use Rattle.lasso_log.specs.SharedBuckets.{SharedView};
 ghost use Rattle.lasso_log.specs.Views.{InternerId};
 
+use crate::checks::is_so;
 use crate::shared_arena::ranges::copies;
-use crate::shared_arena::storing::begins;
+use crate::shared_arena::storing::one_bucket;
 use lasso_log::log::bucket::SharedBucket;
-use lasso_log::log::{Log, NewLog, Pass};
+use lasso_log::log::{Log, Pass};
 use lasso_log::shared_arena::piece::Piece;
 use lasso_parts::keys::Spur;
 use lasso_parts::util::LassoResult;
@@ -150,23 +151,47 @@ fn filled_by(log: &Log<Spur>, filled: LassoResult<Vec<Piece>>, letters: &str) ->
     bytes_of(log, &pieces, letters)
 }
 
+// How many bytes two threads have filled.
+fn filled_by_two(log: &Log<Spur>, filled: Filled, letters: (&str, &str)) -> Option<u64>
+    requires first { IfOk filled.0 (λ v. All (λ p. p.until ≡ life (era_named log.now.chunks)) v.items) }
+    requires second { IfOk filled.1 (λ v. All (λ p. p.until ≡ life (era_named log.now.chunks)) v.items) }
+{
+    let (one, other) = filled;
+    let sum = filled_by(log, one, letters.0)?;
+    Some(sum.saturating_add(filled_by(log, other, letters.1)?))
+}
+
+// How many bytes four threads fill. Fails if a piece shows other letters, or a thread was out of memory.
+fn fill_with_four<R: Threads + Wait + Sync>(
+    rt: &R,
+    alloc: Global,
+    log: &Log<Spur>,
+    bucket: &SharedBucket<Spur>,
+) -> Option<u64>
+    requires { bucket.now.of ≡ log.now }
+{
+    let (two, others) = four_fill(rt, alloc, log, bucket);
+    let sum = filled_by_two(log, two, (LETTERS[0], LETTERS[1]))?;
+    Some(sum.saturating_add(filled_by_two(log, others, (LETTERS[2], LETTERS[3]))?))
+}
+
+// How many bytes of the bucket are taken.
+fn taken_of(log: &Log<Spur>, bucket: &SharedBucket<Spur>) -> u64
+    requires { bucket.now.of ≡ log.now }
+{
+    let mut pass = log.pass();
+    bucket.len(log, &mut pass)
+}
+
 #[test]
 fn four_threads_fill_a_bucket_side_by_side(rt: HostRuntime) -> Result<(), Fail> {
-    let NewLog {
-        log,
-        spine: _,
-        bucket,
-    } = begins(rt.alloc(), 65_536, u64::MAX)?;
-    let ((a, b), (c, d)) = four_fill(&rt, rt.alloc(), &log, &bucket);
-    let first = filled_by(&log, a, LETTERS[0]).ok_or("another text, or no memory")?;
-    let second = filled_by(&log, b, LETTERS[1]).ok_or("another text, or no memory")?;
-    let third = filled_by(&log, c, LETTERS[2]).ok_or("another text, or no memory")?;
-    let fourth = filled_by(&log, d, LETTERS[3]).ok_or("another text, or no memory")?;
-    let sum = first
-        .saturating_add(second)
-        .saturating_add(third)
-        .saturating_add(fourth);
-    let mut pass = log.pass();
-    assert!(rt; (sum, bucket.len(&log, &mut pass)) == (65_536, 65_536));
+    let (log, bucket) = one_bucket(rt.alloc(), 65_536)?;
+    let filled = fill_with_four(&rt, rt.alloc(), &log, &bucket);
+    is_so(&rt, filled == Some(65_536), "the bytes of all pieces");
+    is_so(
+        &rt,
+        taken_of(&log, &bucket) == 65_536,
+        "the bytes of the bucket",
+    );
     Ok(())
 }

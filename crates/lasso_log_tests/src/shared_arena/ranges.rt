@@ -6,14 +6,16 @@ ghost use Rattle.lasso_log.specs.Pieces.{PieceView};
 ghost use Rattle.lasso_log.specs.SharedBuckets.{SharedView};
 ghost use Rattle.lasso_log.specs.Views.{InternerId, PassView};
 
-use crate::shared_arena::storing::begins;
+use crate::checks::is_so;
+use crate::shared_arena::storing::one_bucket;
 use lasso_log::log::bucket::SharedBucket;
-use lasso_log::log::{Log, NewLog, Pass};
+use lasso_log::log::{Log, Pass};
 use lasso_log::shared_arena::piece::Piece;
 use lasso_parts::keys::Spur;
+use std::process::Abort;
 use std::sync::Wait;
 use std::test::*;
-use std::thread::join;
+use std::thread::{Threads, join};
 
 // Takes as many bytes as the text has, fills them, and gives the piece.
 pub(super) fn copies<R: Wait>(
@@ -58,46 +60,146 @@ fn shows(log: &Log<Spur>, piece: &Option<Piece>, text: &str) -> bool
     }
 }
 
+// What two threads have copied.
+type Copied = (Option<Piece>, Option<Piece>);
+
+// Has two threads copy a text each.
+fn two_copy<R: Threads + Wait + Sync>(
+    rt: &R,
+    log: &Log<Spur>,
+    bucket: &SharedBucket<Spur>,
+    texts: (&str, &str),
+) -> Copied
+    requires { bucket.now.of ≡ log.now }
+    ensures first { IfSome result.0 (λ p. p.until ≡ life (era_named log.now.chunks)) }
+    ensures second { IfSome result.1 (λ p. p.until ≡ life (era_named log.now.chunks)) }
+{
+    join(
+        rt,
+        || copies_once(rt, log, bucket, texts.0),
+        || copies_once(rt, log, bucket, texts.1),
+    )
+}
+
+// Whether both texts are there.
+fn are_both(log: &Log<Spur>, copied: &Copied) -> bool
+    requires first { IfSome copied.now.0 (λ p. p.until ≡ life (era_named log.now.chunks)) }
+    requires second { IfSome copied.now.1 (λ p. p.until ≡ life (era_named log.now.chunks)) }
+{
+    shows(log, &copied.0, "abcd") && shows(log, &copied.1, "wxyz")
+}
+
+// Whether one of the texts is there.
+fn is_one(log: &Log<Spur>, copied: &Copied) -> bool
+    requires first { IfSome copied.now.0 (λ p. p.until ≡ life (era_named log.now.chunks)) }
+    requires second { IfSome copied.now.1 (λ p. p.until ≡ life (era_named log.now.chunks)) }
+{
+    shows(log, &copied.0, "abcde") != shows(log, &copied.1, "vwxyz")
+}
+
+// Whether so many bytes of the bucket are taken.
+fn has_taken(
+    log: &Log<Spur>,
+    bucket: &SharedBucket<Spur>,
+    pass: &mut Pass<Spur>,
+    bytes: u64,
+) -> bool
+    requires { (pass.old.of ≡ log.now) × (bucket.now.of ≡ log.now) }
+    ensures { pass.new.of ≡ log.now }
+{
+    bucket.len(log, pass) == bytes
+}
+
+// Whether the bucket has no room for the text.
+fn is_refused<R: Wait>(
+    rt: &R,
+    log: &Log<Spur>,
+    bucket: &SharedBucket<Spur>,
+    pass: &mut Pass<Spur>,
+    text: &str,
+) -> bool
+    requires { (pass.old.of ≡ log.now) × (bucket.now.of ≡ log.now) }
+    ensures { pass.new.of ≡ log.now }
+{
+    !text.is_empty() && copies(rt, log, bucket, pass, text).is_none()
+}
+
+// Whether the text is copied, and its piece shows it.
+fn is_copied<R: Wait>(
+    rt: &R,
+    log: &Log<Spur>,
+    bucket: &SharedBucket<Spur>,
+    pass: &mut Pass<Spur>,
+    text: &str,
+) -> bool
+    requires { (pass.old.of ≡ log.now) × (bucket.now.of ≡ log.now) }
+    ensures { pass.new.of ≡ log.now }
+{
+    let piece = copies(rt, log, bucket, pass, text);
+    shows(log, &piece, text)
+}
+
+// Has two threads take four bytes each of a bucket of eight.
+fn take_halves<R: Abort + Threads + Wait + Sync>(
+    rt: &R,
+    log: &Log<Spur>,
+    bucket: &SharedBucket<Spur>,
+)
+    requires { bucket.now.of ≡ log.now }
+{
+    let copied = two_copy(rt, log, bucket, ("abcd", "wxyz"));
+    is_so(rt, are_both(log, &copied), "both texts");
+    let mut pass = log.pass();
+    is_so(
+        rt,
+        has_taken(log, bucket, &mut pass, 8),
+        "all bytes are taken",
+    );
+    is_so(
+        rt,
+        is_refused(rt, log, bucket, &mut pass, "e"),
+        "no room is left",
+    );
+    // in a bucket of 8 two texts of 4 that both stand begin at 0 and at 4
+    is_so(rt, are_both(log, &copied), "both texts stay");
+}
+
 #[test]
 fn two_threads_take_both_halves(rt: HostRuntime) -> Result<(), Fail> {
-    let NewLog {
-        log,
-        spine: _,
-        bucket,
-    } = begins(rt.alloc(), 8, u64::MAX)?;
-    let (a, b) = join(
-        &rt,
-        || copies_once(&rt, &log, &bucket, "abcd"),
-        || copies_once(&rt, &log, &bucket, "wxyz"),
-    );
-    assert!(rt; shows(&log, &a, "abcd") && shows(&log, &b, "wxyz"));
-    let mut pass = log.pass();
-    assert!(rt; bucket.len(&log, &mut pass) == 8);
-    assert!(rt; copies(&rt, &log, &bucket, &mut pass, "e").is_none());
-    // in a bucket of 8 two texts of 4 that both stand begin at 0 and at 4
-    assert!(rt; shows(&log, &a, "abcd") && shows(&log, &b, "wxyz"));
+    let (log, bucket) = one_bucket(rt.alloc(), 8)?;
+    take_halves(&rt, &log, &bucket);
     Ok(())
+}
+
+// Has two threads ask for five bytes each of a bucket of eight, where three are left then.
+fn take_five<R: Abort + Threads + Wait + Sync>(rt: &R, log: &Log<Spur>, bucket: &SharedBucket<Spur>)
+    requires { bucket.now.of ≡ log.now }
+{
+    let copied = two_copy(rt, log, bucket, ("abcde", "vwxyz"));
+    is_so(
+        rt,
+        copied.0.is_some() != copied.1.is_some(),
+        "one is copied",
+    );
+    let mut pass = log.pass();
+    is_so(rt, has_taken(log, bucket, &mut pass, 5), "five bytes");
+    is_so(
+        rt,
+        is_refused(rt, log, bucket, &mut pass, "1234"),
+        "no room for four",
+    );
+    is_so(
+        rt,
+        is_copied(rt, log, bucket, &mut pass, "123"),
+        "room for three",
+    );
+    is_so(rt, is_one(log, &copied), "one text stays");
+    is_so(rt, has_taken(log, bucket, &mut pass, 8), "eight bytes");
 }
 
 #[test]
 fn the_second_thread_finds_no_room(rt: HostRuntime) -> Result<(), Fail> {
-    let NewLog {
-        log,
-        spine: _,
-        bucket,
-    } = begins(rt.alloc(), 8, u64::MAX)?;
-    let (a, b) = join(
-        &rt,
-        || copies_once(&rt, &log, &bucket, "abcde"),
-        || copies_once(&rt, &log, &bucket, "vwxyz"),
-    );
-    assert!(rt; a.is_some() != b.is_some());
-    let mut pass = log.pass();
-    assert!(rt; bucket.len(&log, &mut pass) == 5);
-    assert!(rt; copies(&rt, &log, &bucket, &mut pass, "1234").is_none());
-    let last = copies(&rt, &log, &bucket, &mut pass, "123");
-    assert!(rt; shows(&log, &last, "123"));
-    assert!(rt; shows(&log, &a, "abcde") != shows(&log, &b, "vwxyz"));
-    assert!(rt; bucket.len(&log, &mut pass) == 8);
+    let (log, bucket) = one_bucket(rt.alloc(), 8)?;
+    take_five(&rt, &log, &bucket);
     Ok(())
 }

@@ -1,86 +1,88 @@
 //! Objects that are read as lists of texts, and lists of texts that are written as objects.
 use super::told;
+use crate::checks::is_so;
 use lasso_parts::json::{read_map, write_map};
 use lasso_parts::keys::{Key, MicroSpur, Spur};
 use lasso_testing::keys::WithoutTwo;
 use serde_json::Value;
 use std::alloc::Global;
+use std::process::Abort;
 use std::test::Fail;
 
-// The object that is read from the JSON text, as `told` shows it.
-fn reading<K: Key>(alloc: Global, text: &str) -> Result<String, Fail> {
+// Whether the object that is read from the JSON text, as `told` shows it, is the one wanted.
+fn is_read<K: Key>(alloc: Global, text: &str, wanted: &str) -> Result<bool, Fail> {
     let value = Value::from_str(alloc, text)?;
-    told(alloc, read_map::<K, Global>(alloc, &value))
+    let read = told(alloc, read_map::<K, Global>(alloc, &value))?;
+    Ok(read.as_str() == wanted)
 }
+
+// Reads each JSON text as an object.
+fn read_all<K: Key, R: Abort + AllocGlobal>(rt: &R, rows: &[(&str, &str)]) -> Result<(), Fail> {
+    for (text, wanted) in rows {
+        assert!(rt; is_read::<K>(rt.alloc(), text, wanted)?, "{text}");
+    }
+    Ok(())
+}
+
+static READ: [(&str, &str); 7] = [
+    ("{}", ""),
+    (r#"{"": 1}"#, "/"),
+    (r#"{"a": 2, "b": 1}"#, "b/a/"),
+    (r#"{"b": 1, "a": 2}"#, "b/a/"),
+    (
+        r#"{"abc": 1, "defghijk": 2, "x": 3, "yz": 4}"#,
+        "abc/defghijk/x/yz/",
+    ),
+    (r#"{"c": 2, "": 4, "bb": 1, "b": 3}"#, "bb/c/b//"),
+    (r#"{"a": 1, "a": 1}"#, "a/"),
+];
 
 #[test]
 fn objects_are_read(rt: HostRuntime) -> Result<(), Fail> {
-    let rows = [
-        ("{}", ""),
-        (r#"{"": 1}"#, "/"),
-        (r#"{"a": 2, "b": 1}"#, "b/a/"),
-        (r#"{"b": 1, "a": 2}"#, "b/a/"),
-        (
-            r#"{"abc": 1, "defghijk": 2, "x": 3, "yz": 4}"#,
-            "abc/defghijk/x/yz/",
-        ),
-        (r#"{"c": 2, "": 4, "bb": 1, "b": 3}"#, "bb/c/b//"),
-        (r#"{"a": 1, "a": 1}"#, "a/"),
-    ];
-    for (text, wanted) in rows {
-        let read = reading::<Spur>(rt.alloc(), text)?;
-        assert!(rt; read.as_str() == wanted, "{text}");
-    }
-    Ok(())
+    read_all::<Spur, _>(&rt, &READ)
 }
+
+static FAULTY: [(&str, &str); 21] = [
+    (r#"{"a": 1, "b": 3}"#, "NotAPosition(1)"),
+    (r#"{"a": 1, "b": 1}"#, "Taken(1)"),
+    (r#"{"a": "1"}"#, "NotAPosition(0)"),
+    (r#"{"a": 0}"#, "NotAPosition(0)"),
+    (r#"{"a": -1}"#, "NotAPosition(0)"),
+    (r#"{"a": 1.0}"#, "NotAPosition(0)"),
+    (r#"{"a": null}"#, "NotAPosition(0)"),
+    (r#"{"a": [1]}"#, "NotAPosition(0)"),
+    (r#"{"a": 18446744073709551615}"#, "NotAPosition(0)"),
+    (r#"{"a": 18446744073709551616}"#, "NotAPosition(0)"),
+    (r#"{"a": 2, "b": 2}"#, "Taken(1)"),
+    (r#"{"a": 3, "b": 1}"#, "NotAPosition(0)"),
+    (r#"{"b": 0, "a": 3}"#, "NotAPosition(0)"),
+    (r#"{"a": 1, "b": 2, "c": 1}"#, "Taken(2)"),
+    (r#"{"a": 1, "b": 1, "c": 0}"#, "Taken(1)"),
+    (r#"{"a": 1, "b": 0, "c": 1}"#, "NotAPosition(1)"),
+    ("null", "NotAnObject"),
+    ("1", "NotAnObject"),
+    (r#""a""#, "NotAnObject"),
+    ("[]", "NotAnObject"),
+    (r#"["b", "a"]"#, "NotAnObject"),
+];
 
 #[test]
 fn faulty_objects(rt: HostRuntime) -> Result<(), Fail> {
-    let rows = [
-        (r#"{"a": 1, "b": 3}"#, "NotAPosition(1)"),
-        (r#"{"a": 1, "b": 1}"#, "Taken(1)"),
-        (r#"{"a": "1"}"#, "NotAPosition(0)"),
-        (r#"{"a": 0}"#, "NotAPosition(0)"),
-        (r#"{"a": -1}"#, "NotAPosition(0)"),
-        (r#"{"a": 1.0}"#, "NotAPosition(0)"),
-        (r#"{"a": null}"#, "NotAPosition(0)"),
-        (r#"{"a": [1]}"#, "NotAPosition(0)"),
-        (r#"{"a": 18446744073709551615}"#, "NotAPosition(0)"),
-        (r#"{"a": 18446744073709551616}"#, "NotAPosition(0)"),
-        (r#"{"a": 2, "b": 2}"#, "Taken(1)"),
-        (r#"{"a": 3, "b": 1}"#, "NotAPosition(0)"),
-        (r#"{"b": 0, "a": 3}"#, "NotAPosition(0)"),
-        (r#"{"a": 1, "b": 2, "c": 1}"#, "Taken(2)"),
-        (r#"{"a": 1, "b": 1, "c": 0}"#, "Taken(1)"),
-        (r#"{"a": 1, "b": 0, "c": 1}"#, "NotAPosition(1)"),
-        ("null", "NotAnObject"),
-        ("1", "NotAnObject"),
-        (r#""a""#, "NotAnObject"),
-        ("[]", "NotAnObject"),
-        (r#"["b", "a"]"#, "NotAnObject"),
-    ];
-    for (text, wanted) in rows {
-        let read = reading::<Spur>(rt.alloc(), text)?;
-        assert!(rt; read.as_str() == wanted, "{text}");
-    }
-    Ok(())
+    read_all::<Spur, _>(&rt, &FAULTY)
 }
+
+static WITHOUT_A_KEY: [(&str, &str); 6] = [
+    (r#"{"a": 2, "b": 1}"#, "b/a/"),
+    (r#"{"a": 2, "b": 1, "c": 3}"#, "TooMany(2)"),
+    (r#"{"a": 3, "b": 1, "c": 2}"#, "TooMany(0)"),
+    (r#"{"a": 1, "b": 3, "c": 3}"#, "TooMany(1)"),
+    (r#"{"a": 1, "b": 1, "c": 3}"#, "Taken(1)"),
+    (r#"{"a": 3, "b": 1}"#, "NotAPosition(0)"),
+];
 
 #[test]
 fn positions_without_a_key(rt: HostRuntime) -> Result<(), Fail> {
-    let rows = [
-        (r#"{"a": 2, "b": 1}"#, "b/a/"),
-        (r#"{"a": 2, "b": 1, "c": 3}"#, "TooMany(2)"),
-        (r#"{"a": 3, "b": 1, "c": 2}"#, "TooMany(0)"),
-        (r#"{"a": 1, "b": 3, "c": 3}"#, "TooMany(1)"),
-        (r#"{"a": 1, "b": 1, "c": 3}"#, "Taken(1)"),
-        (r#"{"a": 3, "b": 1}"#, "NotAPosition(0)"),
-    ];
-    for (text, wanted) in rows {
-        let read = reading::<WithoutTwo>(rt.alloc(), text)?;
-        assert!(rt; read.as_str() == wanted, "{text}");
-    }
-    Ok(())
+    read_all::<WithoutTwo, _>(&rt, &WITHOUT_A_KEY)
 }
 
 // An object of `count` texts of three digits, from `000` on, each with its position plus one.
@@ -97,16 +99,31 @@ fn counted(alloc: Global, count: usize) -> Result<String, Fail> {
     Ok(all)
 }
 
+// Whether an object of 256 texts has too many for keys of 8 bits.
+fn is_past_the_last(alloc: Global) -> Result<bool, Fail> {
+    let text = counted(alloc, 256)?;
+    is_read::<MicroSpur>(alloc, text.as_str(), "TooMany(255)")
+}
+
+// Whether an object of 255 texts is read, and the last is `254`.
+fn has_each_key(alloc: Global) -> Result<bool, Fail> {
+    let text = counted(alloc, 255)?;
+    let value = Value::from_str(alloc, text.as_str())?;
+    let texts = read_map::<MicroSpur, Global>(alloc, &value)?;
+    Ok(texts.len() == 255 && texts.last() == Some(&"254"))
+}
+
 #[test]
 fn more_members_than_keys(rt: HostRuntime) -> Result<(), Fail> {
-    let text = counted(rt.alloc(), 256)?;
-    assert!(rt; reading::<MicroSpur>(rt.alloc(), text.as_str())?.as_str() == "TooMany(255)");
-    let text = counted(rt.alloc(), 255)?;
-    let value = Value::from_str(rt.alloc(), text.as_str())?;
-    let texts = read_map::<MicroSpur, Global>(rt.alloc(), &value)?;
-    assert!(rt; texts.len() == 255);
-    assert!(rt; texts[254] == "254");
+    is_so(&rt, is_past_the_last(rt.alloc())?, "one text too many");
+    is_so(&rt, has_each_key(rt.alloc())?, "a text for each key");
     Ok(())
+}
+
+// Whether the texts are written as this JSON text.
+fn is_written(alloc: Global, texts: &[&str], wanted: &str) -> Result<bool, Fail> {
+    let value = write_map(alloc, &texts, texts.len())?;
+    Ok(value.to_string(alloc)?.as_str() == wanted)
 }
 
 #[test]
@@ -123,8 +140,7 @@ fn written_objects(rt: HostRuntime) -> Result<(), Fail> {
         ),
     ];
     for (texts, wanted) in rows {
-        let value = write_map(rt.alloc(), &texts, texts.len())?;
-        assert!(rt; value.to_string(rt.alloc())?.as_str() == wanted);
+        assert!(rt; is_written(rt.alloc(), texts, wanted)?, "{wanted}");
     }
     Ok(())
 }

@@ -1,5 +1,5 @@
 use Rattle.std.proofs.Common.{◌≡◌}
-use Rattle.lasso_bench.proofs.calls.fill.Given as goal
+use Rattle.lasso_bench.proofs.calls.intern_lines.Given as goal
 
 -- the pass stays one of the interner
 abbrev pub invariant-loop-line : goal.invariant-loop-line

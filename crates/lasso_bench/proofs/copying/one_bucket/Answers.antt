@@ -2,7 +2,7 @@ use Rattle.std.proofs.Common.{◌≡◌, [], arith}
 use Rattle.std.specs.Str.{bytes_eq}
 use Rattle.std.proofs.lemmas.Map.Keys.{IsDistinct-from_apart}
 use Rattle.lasso_parts.specs.Texts.{IsDistinct}
-use Rattle.lasso_bench.proofs.copying.best_copy_timings.Goals as goal
+use Rattle.lasso_bench.proofs.copying.one_bucket.Goals as goal
 
 none_distinct : IsDistinct []
 none_distinct = IsDistinct-from_apart bytes_eq [] (λ i j d below inside. absurd (omega (arith, inside)))

@@ -1,6 +1,6 @@
 use Rattle.std.proofs.Common.{◌≡◌}
-use Rattle.lasso_log_tests.proofs.log.read_all.Given as goal
+use Rattle.lasso_log_tests.proofs.log.reads.Given as goal
 
 -- the pass stays one of the log
 abbrev pub invariant-loop-position : goal.invariant-loop-position
-invariant-loop-position l = l.pass.of ≡ l.log
+invariant-loop-position g l = l.pass.of ≡ l.log
