@@ -1,22 +1,46 @@
 //! A run of commands. A command that runs out of memory gets that as its reply, and the run goes on.
 use super::*;
+use crate::interners::takes;
 use lasso_single::commands::{Command, Reply, run_commands};
 use std::alloc::Allocator;
+
+fn key_word(alloc: Global, key: Spur) -> Result<String, Fail> {
+    Ok(format!(in alloc; "key {}", key.into_usize())?)
+}
+
+fn kind_word(alloc: Global, kind: LassoErrorKind) -> Result<String, Fail> {
+    Ok(format!(in alloc; "{kind:?}")?)
+}
+
+fn text_word(alloc: Global, text: &str) -> Result<String, Fail> {
+    Ok(format!(in alloc; "text {text}")?)
+}
+
+fn same_word(alloc: Global, word: &str) -> Result<String, Fail> {
+    Ok(String::from_str(alloc, word)?)
+}
+
+fn number_word(alloc: Global, number: usize) -> Result<String, Fail> {
+    Ok(number.to_string(alloc)?)
+}
+
+fn word(alloc: Global, reply: &Reply<Spur>) -> Result<String, Fail> {
+    match reply {
+        Reply::Key(key) => key_word(alloc, *key),
+        Reply::Refused(refusal) => kind_word(alloc, refusal.kind()),
+        Reply::Text(Some(text)) => text_word(alloc, text.as_str()),
+        Reply::Text(None) => same_word(alloc, "no text"),
+        Reply::Number(number) => number_word(alloc, *number),
+        Reply::Done => same_word(alloc, "done"),
+        _ => same_word(alloc, "a look-up"),
+    }
+}
 
 // The replies in words, each followed by a slash.
 fn words(alloc: Global, replies: &[Reply<Spur>]) -> Result<String, Fail> {
     let mut all = String::new(alloc);
     for reply in replies {
-        let word = match reply {
-            Reply::Key(key) => format!(in alloc; "key {}", key.into_usize())?,
-            Reply::Refused(refusal) => format!(in alloc; "{:?}", refusal.kind())?,
-            Reply::Text(Some(text)) => format!(in alloc; "text {text}")?,
-            Reply::Text(None) => String::from_str(alloc, "no text")?,
-            Reply::Number(number) => format!(in alloc; "{number}")?,
-            Reply::Done => String::from_str(alloc, "done")?,
-            _ => String::from_str(alloc, "a look-up")?,
-        };
-        all.push_str(word.as_str())?;
+        all.push_str(word(alloc, reply)?.as_str())?;
         all.push('/')?;
     }
     Ok(all)
@@ -49,21 +73,43 @@ fn replies<'m>(alloc: Global, rodeo: &mut Metered<'m, Spur>) -> LassoResult<Vec<
     run_commands(alloc, rodeo, commands.as_slice())
 }
 
-// The replies and the copy of the text use the global allocator, so `memory` refuses none of their requests.
-fn small_run<R: AllocGlobal + Abort>(rt: &R, memory: &Memory) -> Result<(), Fail> {
-    let Some(mut rodeo) = interner::<Spur>(rt, memory, 4, 4) else {
-        return Ok(());
-    };
-    let replies = replies(rt.alloc(), &mut rodeo)?;
-    let wanted = if memory.has_refused_anew() {
+// Checks the replies in words.
+fn are_words<R: AllocGlobal + Abort>(
+    rt: &R,
+    replies: &[Reply<Spur>],
+    wanted: &str,
+) -> Result<(), Fail> {
+    let found = words(rt.alloc(), replies)?;
+    is_so(rt, found.as_str() == wanted, wanted);
+    Ok(())
+}
+
+// The words of a run whose first command may have run out of memory.
+fn words_of_the_run(memory: &Memory) -> &'static str {
+    if memory.has_refused_anew() {
         WITHOUT_THE_FIRST
     } else {
         USUAL
-    };
-    let found = words(rt.alloc(), replies.as_slice())?;
-    assert!(rt; found.as_str() == wanted, "{wanted}");
-    holds(rt, &rodeo, &["e"], 4);
+    }
+}
+
+// The replies and the copy of the text use the global allocator, so `memory` refuses none of their requests.
+fn runs_small<'m, R: AllocGlobal + Abort>(
+    rt: &R,
+    memory: &Memory,
+    rodeo: &mut Metered<'m, Spur>,
+) -> Result<(), Fail> {
+    let replies = replies(rt.alloc(), rodeo)?;
+    are_words(rt, replies.as_slice(), words_of_the_run(memory))?;
+    is_in(rt, rodeo, (&["e"], 4));
     Ok(())
+}
+
+fn small_run<R: AllocGlobal + Abort>(rt: &R, memory: &Memory) -> Result<(), Fail> {
+    match interner::<Spur>(rt, memory, 4, 4) {
+        Some(mut rodeo) => runs_small(rt, memory, &mut rodeo),
+        None => Ok(()),
+    }
 }
 
 #[test]
@@ -71,28 +117,42 @@ fn runs_of_commands(rt: HostRuntime) -> Result<(), Fail> {
     each_refused(&rt, small_run)
 }
 
+type Plain = Rodeo<Spur, FixedState, Global>;
+
+fn plain(alloc: Global) -> Result<Plain, Fail> {
+    let (room, limits) = (Capacity::new(0, 4), MemoryLimits::new(4));
+    Ok(Rodeo::with_capacity_and_memory_limits(alloc, room, limits)?)
+}
+
+fn run_plain(alloc: Global, rodeo: &mut Plain) -> LassoResult<Vec<Reply<Spur>>> {
+    let commands = commands::<Global>();
+    run_commands(alloc, rodeo, commands.as_slice())
+}
+
+// Whether the replies are those of a run that does not run out of memory. Otherwise one command did.
+fn are_usual<R: AllocGlobal + Abort>(rt: &R, replies: &[Reply<Spur>]) -> Result<bool, Fail> {
+    let found = words(rt.alloc(), replies)?;
+    let found = found.as_str();
+    let is_refused = found == WITHOUT_THE_FIRST || found == WITHOUT_THE_COPY;
+    is_so(rt, is_refused || found == USUAL, found);
+    Ok(!is_refused)
+}
+
+// Checks an interner whose run was refused.
+fn is_untouched(rt: &impl Abort, rodeo: &Plain, kind: LassoErrorKind) {
+    is_so(rt, kind == MEMORY, "why the run was refused");
+    is_so(rt, rodeo.len() == 0, "no text");
+    is_so(rt, takes(rodeo, 4), "the usage");
+}
+
 // Whether the replies are those of a run that does not run out of memory. Here the interner, the replies and
 // the copy of the text have the same allocator.
 fn is_usual_run<R: AllocGlobal + Abort>(rt: &R) -> Result<bool, Fail> {
-    let (room, limits) = (Capacity::new(0, 4), MemoryLimits::new(4));
-    let mut rodeo: Rodeo<Spur, FixedState, Global> = Rodeo::with_capacity_and_memory_limits(
-        rt.alloc(),
-        room,
-        limits,
-    )?;
-    let commands = commands::<Global>();
-    match run_commands(rt.alloc(), &mut rodeo, commands.as_slice()) {
-        Ok(replies) => {
-            let found = words(rt.alloc(), replies.as_slice())?;
-            let found = found.as_str();
-            let is_refused = found == WITHOUT_THE_FIRST || found == WITHOUT_THE_COPY;
-            assert!(rt; is_refused || found == USUAL, "{found}");
-            Ok(!is_refused)
-        }
+    let mut rodeo = plain(rt.alloc())?;
+    match run_plain(rt.alloc(), &mut rodeo) {
+        Ok(replies) => are_usual(rt, replies.as_slice()),
         Err(refusal) => {
-            assert!(rt; refusal.kind() == MEMORY);
-            assert!(rt; rodeo.len() == 0);
-            assert!(rt; rodeo.current_memory_usage() == 4);
+            is_untouched(rt, &rodeo, refusal.kind());
             Ok(false)
         }
     }
@@ -103,6 +163,6 @@ fn is_usual_run<R: AllocGlobal + Abort>(rt: &R) -> Result<bool, Fail> {
 fn a_refused_command_does_not_end_the_run(rt: HostRuntime) -> Result<(), Fail> {
     let is_first_usual = is_usual_run(&rt)?;
     let is_second_usual = is_usual_run(&rt)?;
-    assert!(rt; is_first_usual || is_second_usual);
+    is_so(&rt, is_first_usual || is_second_usual, "one run of two");
     Ok(())
 }
