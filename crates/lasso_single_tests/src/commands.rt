@@ -1,9 +1,9 @@
 //! Runs of commands, with replies worked out by hand.
 
-use crate::checks::{is_so, is_so_at, key_at};
+use crate::checks::{LIMIT, MEMORY, is_so, is_so_at, key_at};
 use crate::interners::{Small, has_limit, holds, interner, of_texts};
 use lasso_parts::keys::{Key, Spur};
-use lasso_parts::util::{FixedState, MemoryLimits};
+use lasso_parts::util::{FixedState, LassoErrorKind, MemoryLimits};
 use lasso_single::commands::{Command, Reply, run_commands};
 use std::alloc::Global;
 use std::process::Abort;
@@ -13,9 +13,10 @@ type Call<'a> = Command<'a, Spur, FixedState, Global>;
 
 // A reply as worked out by hand.
 #[derive(Clone, Copy)]
-enum Wanted {
+pub enum Wanted {
     Key(usize),
     Limit,
+    Memory,
     Found(usize),
     Absent,
     Flag(bool),
@@ -31,9 +32,10 @@ fn is_key(reply: &Reply<Spur>, number: usize) -> bool {
     }
 }
 
-fn is_limit(reply: &Reply<Spur>) -> bool {
+// Whether the command was refused for this.
+fn is_refused(reply: &Reply<Spur>, kind: LassoErrorKind) -> bool {
     match reply {
-        Reply::Refused(error) => error.kind().is_memory_limit(),
+        Reply::Refused(error) => error.kind() == kind,
         _ => false,
     }
 }
@@ -69,7 +71,8 @@ fn is_count(reply: &Reply<Spur>, wanted: usize) -> bool {
 fn is_wanted(reply: &Reply<Spur>, wanted: Wanted) -> bool {
     match wanted {
         Wanted::Key(number) => is_key(reply, number),
-        Wanted::Limit => is_limit(reply),
+        Wanted::Limit => is_refused(reply, LIMIT),
+        Wanted::Memory => is_refused(reply, MEMORY),
         Wanted::Found(number) => is_found(reply, number),
         Wanted::Absent => matches!(reply, Reply::Found(None)),
         Wanted::Flag(flag) => is_flag(reply, flag),
@@ -77,6 +80,16 @@ fn is_wanted(reply: &Reply<Spur>, wanted: Wanted) -> bool {
         Wanted::Number(number) => is_count(reply, number),
         Wanted::Done => matches!(reply, Reply::Done),
     }
+}
+
+// Whether there is one reply for each wanted one, and it is as wanted.
+pub fn all_wanted(replies: &[Reply<Spur>], wanted: &[Wanted]) -> bool {
+    for (reply, wanted) in replies.iter().zip(wanted) {
+        if !is_wanted(reply, *wanted) {
+            return false;
+        }
+    }
+    replies.len() == wanted.len()
 }
 
 fn are_wanted(rt: &impl Abort, replies: &[Reply<Spur>], wanted: &[Wanted]) {

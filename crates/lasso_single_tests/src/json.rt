@@ -154,27 +154,36 @@ fn written(alloc: Global, value: Result<Value, JsonError>) -> Result<String, Fai
     Ok(value?.to_string(alloc)?)
 }
 
-fn is_b_and_a(alloc: Global, value: Result<Value, JsonError>) -> Result<bool, Fail> {
-    let text = written(alloc, value)?;
-    Ok(text.as_str() == r#"["b","a"]"#)
+fn prints_b_and_a(alloc: Global, value: &Value) -> bool {
+    match value.to_string(alloc) {
+        Ok(text) => text.as_str() == r#"["b","a"]"#,
+        Err(_refusal) => false,
+    }
 }
 
-fn forms_write<R: AllocGlobal + Abort>(rt: &R, rodeo: Small) -> Result<(), Fail> {
+fn is_b_and_a(alloc: Global, value: Result<Value, JsonError>) -> bool {
+    match value {
+        Ok(value) => prints_b_and_a(alloc, &value),
+        Err(_fault) => false,
+    }
+}
+
+fn forms_write<R: AllocGlobal + Abort>(rt: &R, rodeo: Small) {
     let value = rodeo.serialize(rt.alloc());
-    is_so(rt, is_b_and_a(rt.alloc(), value)?, "an interner");
+    is_so(rt, is_b_and_a(rt.alloc(), value), "an interner");
     let reader = frozen(rodeo);
     let value = reader.serialize(rt.alloc());
-    is_so(rt, is_b_and_a(rt.alloc(), value)?, "a reader");
+    is_so(rt, is_b_and_a(rt.alloc(), value), "a reader");
     let resolver = thawed(reader);
     let value = resolver.serialize(rt.alloc());
-    is_so(rt, is_b_and_a(rt.alloc(), value)?, "a resolver");
-    Ok(())
+    is_so(rt, is_b_and_a(rt.alloc(), value), "a resolver");
 }
 
 #[test]
 fn each_form_writes_its_texts(rt: HostRuntime) -> Result<(), Fail> {
     let rodeo = Small::from_iter(rt.alloc(), ["b", "a"])?;
-    forms_write(&rt, rodeo)
+    forms_write(&rt, rodeo);
+    Ok(())
 }
 
 // An array of `count` texts: the numbers below `count`, each modulo `different`.

@@ -194,12 +194,15 @@ fn is_no_array(alloc: Global) -> Result<bool, Fail> {
     Ok(is_wrong(alloc, &value, NO_ARRAY))
 }
 
+fn is_long_read(alloc: Global, value: &Value) -> Result<bool, Fail> {
+    let text = long_text(alloc)?;
+    Ok(takes_a_million(alloc, value) && is_read(alloc, value, text.as_str()))
+}
+
 #[test]
 fn texts_of_a_million_bytes(rt: HostRuntime) -> Result<(), Fail> {
     let one = long_texts(rt.alloc(), 1)?;
-    is_so(&rt, takes_a_million(rt.alloc(), &one), "the usage");
-    let text = long_text(rt.alloc())?;
-    is_so(&rt, is_read(rt.alloc(), &one, text.as_str()), "the text");
+    is_so(&rt, is_long_read(rt.alloc(), &one)?, "the text in an array");
     is_so(&rt, is_no_array(rt.alloc())?, "the text alone");
     Ok(())
 }

@@ -3,7 +3,7 @@ use super::*;
 use crate::checks::is_so_at;
 use lasso_parts::keys::{LargeSpur, MicroSpur, MiniSpur};
 
-const TEXTS: [&str; 10] = [
+static TEXTS: [&str; 10] = [
     "a",
     "b",
     "",
@@ -24,16 +24,16 @@ fn is_counted_so(rodeo: &Counted<'_>, memory: &Memory) -> bool {
 
 // Interns the texts, and checks the number after each.
 fn interns_counted(rt: &impl Abort, rodeo: &mut Counted<'_>, memory: &Memory) -> Result<(), Fail> {
-    for text in TEXTS {
-        rodeo.try_get_or_intern(text)?;
-        is_so(rt, is_counted_so(rodeo, memory), text);
+    for text in TEXTS.iter() {
+        rodeo.try_get_or_intern(*text)?;
+        is_so(rt, is_counted_so(rodeo, memory), *text);
     }
     Ok(())
 }
 
 // Fills the interner again after a clear, also with a static text.
 fn fill_again(rodeo: &mut Counted<'_>) -> Result<(), Fail> {
-    rodeo.extend(TEXTS)?;
+    rodeo.extend(TEXTS.iter().copied())?;
     rodeo.try_get_or_intern_static("a static text of many bytes")?;
     Ok(())
 }

@@ -54,12 +54,12 @@ fn is_made(rt: &impl Abort, memory: &Memory, maker: usize, usage: usize) -> Resu
     }
 }
 
+// The bytes that an interner by each maker takes.
+static USAGES: [usize; 8] = [4096, 4096, 10, 4096, 10, 4096, 10, 10];
+
 fn each_maker<R: AllocGlobal + Abort>(rt: &R, memory: &Memory) -> Result<(), Fail> {
-    for (maker, usage) in [4096usize, 4096, 10, 4096, 10, 4096, 10, 10]
-        .into_iter()
-        .enumerate()
-    {
-        is_made(rt, memory, maker, usage)?;
+    for (maker, usage) in USAGES.iter().enumerate() {
+        is_made(rt, memory, maker, *usage)?;
         is_so_at(rt, memory.bytes_out() == 0, maker);
     }
     Ok(())

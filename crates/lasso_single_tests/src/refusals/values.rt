@@ -48,27 +48,32 @@ fn reads(
     is_so(rt, memory.bytes_out() == 0, text);
 }
 
-// Checks what each form reads from the text.
-fn reads_text<R: AllocGlobal + Abort>(
-    rt: &R,
-    memory: &Memory,
-    text: &str,
-    wanted: [Result<usize, JsonError>; 3],
-) -> Result<(), Fail> {
-    let value = Value::from_str(rt.alloc(), text)?;
-    for (form, wanted) in wanted.into_iter().enumerate() {
-        reads(rt, memory, text, &value, form, wanted);
+type Read = Result<usize, JsonError>;
+
+const DOUBLED: Read = Err(JsonError::Doubled(2));
+
+const NO_TEXT: Read = Err(JsonError::NotText(1));
+
+// What an interner, a reader and a resolver read from the text.
+static FORMS: [(&str, [Read; 3]); 4] = [
+    (r#"["a","b","a"]"#, [DOUBLED, DOUBLED, Ok(3)]),
+    (r#"["a",1]"#, [NO_TEXT, NO_TEXT, NO_TEXT]),
+    ("[]", [Ok(0), Ok(0), Ok(0)]),
+    (r#"["a","bc"]"#, [Ok(2), Ok(2), Ok(2)]),
+];
+
+fn reads_each(rt: &impl Abort, memory: &Memory, text: &str, value: &Value, wanted: &[Read]) {
+    for (form, wanted) in wanted.iter().enumerate() {
+        reads(rt, memory, text, value, form, *wanted);
     }
-    Ok(())
 }
 
 fn each_form<R: AllocGlobal + Abort>(rt: &R, memory: &Memory) -> Result<(), Fail> {
-    let doubled = Err(JsonError::Doubled(2));
-    let no_text = Err(JsonError::NotText(1));
-    reads_text(rt, memory, r#"["a","b","a"]"#, [doubled, doubled, Ok(3)])?;
-    reads_text(rt, memory, r#"["a",1]"#, [no_text, no_text, no_text])?;
-    reads_text(rt, memory, "[]", [Ok(0), Ok(0), Ok(0)])?;
-    reads_text(rt, memory, r#"["a","bc"]"#, [Ok(2), Ok(2), Ok(2)])
+    for (text, wanted) in FORMS.iter() {
+        let value = Value::from_str(rt.alloc(), *text)?;
+        reads_each(rt, memory, *text, &value, wanted.as_slice());
+    }
+    Ok(())
 }
 
 // The value that was read. `None` if the call ran out of memory.

@@ -5,7 +5,7 @@ use crate::interners::{Small, has_count, stands_for, stands_for_nothing};
 use crate::steps::Step::{Gives, Keeps, Limits, Numbers};
 use crate::steps::{Step, runs, script};
 use lasso_parts::keys::{MicroSpur, Spur};
-use lasso_parts::util::{Capacity, FixedState, MemoryLimits};
+use lasso_parts::util::{Capacity, FixedState, LassoResult, MemoryLimits};
 use lasso_single::rodeo::Rodeo;
 use lasso_testing::hashers::SameState;
 use std::alloc::Global;
@@ -38,13 +38,13 @@ fn a_key_outlives_its_text(rt: HostRuntime) -> Result<(), Fail> {
 type Micro<S> = Rodeo<MicroSpur, S, Global>;
 
 // Its first bucket has 655 bytes, which are the limit.
-fn of_655_bytes<S: BuildHasher + Default + Drop>(alloc: Global) -> Result<Micro<S>, Fail> {
-    Ok(Rodeo::with_capacity_memory_limits_and_hasher(
+fn of_655_bytes<S: BuildHasher + Default + Drop>(alloc: Global) -> LassoResult<Micro<S>> {
+    Rodeo::with_capacity_memory_limits_and_hasher(
         alloc,
         Capacity::for_bytes(655),
         MemoryLimits::new(655),
         S::default(),
-    )?)
+    )
 }
 
 fn is_refused_static<S: BuildHasher>(rodeo: &mut Micro<S>, text: &'static str) -> bool {
@@ -53,25 +53,31 @@ fn is_refused_static<S: BuildHasher>(rodeo: &mut Micro<S>, text: &'static str) -
 
 // Interns the numbers below 255 in decimal, which use up the keys and all 655 bytes: 10 numbers have one
 // digit, 90 have two and 155 have three.
-fn uses_keys_up<S: BuildHasher, R: AllocGlobal + Abort>(rt: &R, rodeo: &mut Micro<S>) {
+fn uses_keys_up<S: BuildHasher + Drop, R: AllocGlobal + Abort>(
+    rt: &R,
+    made: LassoResult<Micro<S>>,
+) -> Result<(), Fail> {
     static STEPS: [Step; 4] = [
         Numbers(255, 655),
         Gives("x", Err(KEYS), 655),
         Gives("0", Ok(0), 655),
         Gives("", Err(KEYS), 655),
     ];
-    runs(rt, rodeo, &STEPS);
-    is_so(rt, is_refused_static(rodeo, "x"), "a static text");
-    is_so(rt, is_refused_static(rodeo, ""), "the empty static text");
+    let mut rodeo = made?;
+    runs(rt, &mut rodeo, &STEPS);
+    is_so(rt, is_refused_static(&mut rodeo, "x"), "a static text");
+    is_so(
+        rt,
+        is_refused_static(&mut rodeo, ""),
+        "the empty static text",
+    );
+    Ok(())
 }
 
 #[test]
 fn keys_used_up_refuse_new_texts_alone(rt: HostRuntime) -> Result<(), Fail> {
-    let mut fixed = of_655_bytes::<FixedState>(rt.alloc())?;
-    uses_keys_up(&rt, &mut fixed);
-    let mut same = of_655_bytes::<SameState>(rt.alloc())?;
-    uses_keys_up(&rt, &mut same);
-    Ok(())
+    uses_keys_up(&rt, of_655_bytes::<FixedState>(rt.alloc()))?;
+    uses_keys_up(&rt, of_655_bytes::<SameState>(rt.alloc()))
 }
 
 #[test]

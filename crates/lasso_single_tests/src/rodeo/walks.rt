@@ -17,25 +17,19 @@ enum Call {
     NthBack(usize),
 }
 
-// What a call has to give: the key of this number and this text, or no more.
+// A call of an iterator, and what it gives.
 #[derive(Clone, Copy)]
-enum Wanted {
-    Item(usize, &'static str),
-    End,
+enum Move {
+    // the key of this number and this text
+    Gives(Call, usize, &'static str),
+    // no more
+    Ends(Call),
+    // no call: this number of texts is left
+    Left(usize),
 }
 
-type Row = (Call, Wanted);
-
 use Call::{Next, NextBack, Nth, NthBack};
-use Wanted::End;
-
-const A: Wanted = Wanted::Item(0, "A");
-
-const B: Wanted = Wanted::Item(1, "B");
-
-const C: Wanted = Wanted::Item(2, "C");
-
-const D: Wanted = Wanted::Item(3, "D");
+use Move::{Ends, Gives, Left};
 
 fn four(alloc: Global) -> Result<Small, Fail> {
     of_texts(alloc, &["A", "B", "C", "D"])
@@ -57,10 +51,15 @@ fn gives(walk: &mut Iter<'_, Spur>, call: Call, number: usize, text: &str) -> bo
     }
 }
 
-fn is_given(walk: &mut Iter<'_, Spur>, call: Call, wanted: Wanted) -> bool {
-    match wanted {
-        Wanted::Item(number, text) => gives(walk, call, number, text),
-        Wanted::End => called(walk, call).is_none(),
+fn has_left(walk: &Iter<'_, Spur>, count: usize) -> bool {
+    walk.size_hint() == (count, Some(count)) && walk.len() == count
+}
+
+fn is_made(walk: &mut Iter<'_, Spur>, step: Move) -> bool {
+    match step {
+        Gives(call, number, text) => gives(walk, call, number, text),
+        Ends(call) => called(walk, call).is_none(),
+        Left(count) => has_left(walk, count),
     }
 }
 
@@ -73,74 +72,26 @@ fn called_strings<'a>(strings: &mut Strings<'a, Spur>, call: Call) -> Option<&'a
     }
 }
 
-fn is_given_string(strings: &mut Strings<'_, Spur>, call: Call, wanted: Wanted) -> bool {
-    match wanted {
-        Wanted::Item(_number, text) => is_text(called_strings(strings, call), text),
-        Wanted::End => called_strings(strings, call).is_none(),
+fn is_made_by_strings(strings: &mut Strings<'_, Spur>, step: Move) -> bool {
+    match step {
+        Gives(call, _number, text) => is_text(called_strings(strings, call), text),
+        Ends(call) => called_strings(strings, call).is_none(),
+        Left(count) => strings.len() == count,
     }
 }
 
-// Checks that each call in turn gives this key and text, or no more.
-fn walks(rt: &impl Abort, walk: &mut Iter<'_, Spur>, rows: &[Row]) {
-    for (row, (call, wanted)) in rows.iter().enumerate() {
-        is_so_at(rt, is_given(walk, *call, *wanted), row);
+// Makes the moves of a walk in turn, and checks each.
+fn walks(rt: &impl Abort, walk: &mut Iter<'_, Spur>, moves: &[Move]) {
+    for (row, step) in moves.iter().enumerate() {
+        is_so_at(rt, is_made(walk, *step), row);
     }
 }
 
-// Checks that each call in turn gives this text, or no more.
-fn walks_strings(rt: &impl Abort, strings: &mut Strings<'_, Spur>, rows: &[Row]) {
-    for (row, (call, wanted)) in rows.iter().enumerate() {
-        is_so_at(rt, is_given_string(strings, *call, *wanted), row);
+// The same for a walk over the texts alone.
+fn walks_strings(rt: &impl Abort, strings: &mut Strings<'_, Spur>, moves: &[Move]) {
+    for (row, step) in moves.iter().enumerate() {
+        is_so_at(rt, is_made_by_strings(strings, *step), row);
     }
-}
-
-fn has_left(walk: &Iter<'_, Spur>, count: usize) -> bool {
-    walk.size_hint() == (count, Some(count))
-}
-
-fn walks_from_both_ends(rt: &impl Abort, rodeo: &Small) {
-    static ROWS: [Row; 6] = [
-        (Next, A),
-        (NextBack, D),
-        (Next, B),
-        (NextBack, C),
-        (Next, End),
-        (NextBack, End),
-    ];
-    let mut walk = rodeo.iter();
-    walks(rt, &mut walk, &ROWS);
-    is_so(rt, has_left(&walk, 0), "none is left");
-}
-
-fn strings_from_both_ends(rt: &impl Abort, rodeo: &Small) {
-    static ROWS: [Row; 6] = [
-        (NextBack, D),
-        (Next, A),
-        (NextBack, C),
-        (NextBack, B),
-        (NextBack, End),
-        (Next, End),
-    ];
-    let mut strings = rodeo.strings();
-    walks_strings(rt, &mut strings, &ROWS);
-    is_so(rt, strings.len() == 0, "none is left");
-}
-
-#[test]
-fn a_walk_ends_where_its_ends_meet(rt: HostRuntime) -> Result<(), Fail> {
-    let rodeo = four(rt.alloc())?;
-    walks_from_both_ends(&rt, &rodeo);
-    strings_from_both_ends(&rt, &rodeo);
-    Ok(())
-}
-
-fn walks_from_the_front(rt: &impl Abort, rodeo: &Small) {
-    static ROWS: [Row; 5] = [(Next, A), (Next, B), (Next, C), (Next, D), (Next, End)];
-    let mut walk = rodeo.iter();
-    is_so(rt, has_left(&walk, 4), "four are left");
-    is_so(rt, walk.len() == 4, "how many are left");
-    walks(rt, &mut walk, &ROWS);
-    is_so(rt, has_left(&walk, 0), "none is left");
 }
 
 // Whether each key of a loop resolves to the text that comes with it.
@@ -153,57 +104,108 @@ fn loops_alike(rodeo: &Small) -> bool {
     true
 }
 
-#[test]
-fn a_walk_from_the_front(rt: HostRuntime) -> Result<(), Fail> {
-    let rodeo = four(rt.alloc())?;
-    walks_from_the_front(&rt, &rodeo);
-    is_so(&rt, loops_alike(&rodeo), "a loop");
+// Makes the moves of two walks over the interner, and of one over its texts alone.
+fn walks_over(
+    rt: &impl Abort,
+    made: Result<Small, Fail>,
+    moves: &[Move],
+    others: &[Move],
+    of_strings: &[Move],
+) -> Result<(), Fail> {
+    let rodeo = made?;
+    walks(rt, &mut rodeo.iter(), moves);
+    walks(rt, &mut rodeo.iter(), others);
+    walks_strings(rt, &mut rodeo.strings(), of_strings);
+    is_so(rt, loops_alike(&rodeo), "a loop");
     Ok(())
 }
 
-fn passes_over_from_the_back(rt: &impl Abort, rodeo: &Small) {
-    static ROWS: [Row; 3] = [(NthBack(1), C), (NthBack(2), End), (Next, End)];
-    let mut walk = rodeo.iter();
-    walks(rt, &mut walk, &ROWS);
-    is_so(rt, has_left(&walk, 0), "none is left");
+static NO_MOVE: [Move; 0] = [];
+
+#[test]
+fn a_walk_ends_where_its_ends_meet(rt: HostRuntime) -> Result<(), Fail> {
+    static MOVES: [Move; 7] = [
+        Gives(Next, 0, "A"),
+        Gives(NextBack, 3, "D"),
+        Gives(Next, 1, "B"),
+        Gives(NextBack, 2, "C"),
+        Ends(Next),
+        Ends(NextBack),
+        Left(0),
+    ];
+    static OF_STRINGS: [Move; 7] = [
+        Gives(NextBack, 3, "D"),
+        Gives(Next, 0, "A"),
+        Gives(NextBack, 2, "C"),
+        Gives(NextBack, 1, "B"),
+        Ends(NextBack),
+        Ends(Next),
+        Left(0),
+    ];
+    walks_over(&rt, four(rt.alloc()), &MOVES, &NO_MOVE, &OF_STRINGS)
 }
 
-fn passes_over_from_the_front(rt: &impl Abort, rodeo: &Small) {
-    static ROWS: [Row; 4] = [(Nth(1), B), (Nth(0), C), (Nth(1), End), (NextBack, End)];
-    let mut ahead = rodeo.iter();
-    walks(rt, &mut ahead, &ROWS);
-}
-
-fn passes_over_strings(rt: &impl Abort, rodeo: &Small) {
-    static ROWS: [Row; 3] = [(Nth(1), B), (NthBack(1), C), (NthBack(0), End)];
-    let mut strings = rodeo.strings();
-    walks_strings(rt, &mut strings, &ROWS);
+#[test]
+fn a_walk_from_the_front(rt: HostRuntime) -> Result<(), Fail> {
+    static MOVES: [Move; 7] = [
+        Left(4),
+        Gives(Next, 0, "A"),
+        Gives(Next, 1, "B"),
+        Gives(Next, 2, "C"),
+        Gives(Next, 3, "D"),
+        Ends(Next),
+        Left(0),
+    ];
+    walks_over(&rt, four(rt.alloc()), &MOVES, &NO_MOVE, &NO_MOVE)
 }
 
 #[test]
 fn a_walk_that_passes_over_more_than_is_left(rt: HostRuntime) -> Result<(), Fail> {
-    let rodeo = four(rt.alloc())?;
-    passes_over_from_the_back(&rt, &rodeo);
-    passes_over_from_the_front(&rt, &rodeo);
-    passes_over_strings(&rt, &rodeo);
-    Ok(())
+    static FROM_THE_BACK: [Move; 4] = [
+        Gives(NthBack(1), 2, "C"),
+        Ends(NthBack(2)),
+        Ends(Next),
+        Left(0),
+    ];
+    static FROM_THE_FRONT: [Move; 4] = [
+        Gives(Nth(1), 1, "B"),
+        Gives(Nth(0), 2, "C"),
+        Ends(Nth(1)),
+        Ends(NextBack),
+    ];
+    static OF_STRINGS: [Move; 3] = [
+        Gives(Nth(1), 1, "B"),
+        Gives(NthBack(1), 2, "C"),
+        Ends(NthBack(0)),
+    ];
+    walks_over(
+        &rt,
+        four(rt.alloc()),
+        &FROM_THE_BACK,
+        &FROM_THE_FRONT,
+        &OF_STRINGS,
+    )
 }
+
+static FIRST: [Move; 1] = [Gives(Next, 0, "A")];
+
+static SECOND: [Move; 1] = [Gives(Next, 1, "B")];
 
 fn clones_a_walk(rt: &impl Abort, rodeo: &Small) -> Result<(), Fail> {
     let mut walk = rodeo.iter();
-    walks(rt, &mut walk, &[(Next, A)]);
+    walks(rt, &mut walk, &FIRST);
     let mut copy = walk.clone()?;
-    walks(rt, &mut walk, &[(Next, B)]);
-    walks(rt, &mut copy, &[(Next, B)]);
+    walks(rt, &mut walk, &SECOND);
+    walks(rt, &mut copy, &SECOND);
     Ok(())
 }
 
 fn clones_strings(rt: &impl Abort, rodeo: &Small) -> Result<(), Fail> {
     let mut strings = rodeo.strings();
-    walks_strings(rt, &mut strings, &[(Next, A)]);
+    walks_strings(rt, &mut strings, &FIRST);
     let mut others = strings.clone()?;
-    walks_strings(rt, &mut strings, &[(Next, B)]);
-    walks_strings(rt, &mut others, &[(Next, B)]);
+    walks_strings(rt, &mut strings, &SECOND);
+    walks_strings(rt, &mut others, &SECOND);
     Ok(())
 }
 
