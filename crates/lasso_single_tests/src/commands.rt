@@ -1,38 +1,28 @@
 //! Runs of commands, with replies worked out by hand.
 
+use crate::checks::{LIMIT, MEMORY, is_so, is_so_at, key_at};
+use crate::interners::{Small, has_limit, holds, interner, of_texts};
 use lasso_parts::keys::{Key, Spur};
-use lasso_parts::util::{Capacity, FixedState, MemoryLimits};
+use lasso_parts::util::{FixedState, LassoErrorKind, MemoryLimits};
 use lasso_single::commands::{Command, Reply, run_commands};
-use lasso_single::rodeo::Rodeo;
 use std::alloc::Global;
 use std::process::Abort;
 use std::test::Fail;
 
-type Small = Rodeo<Spur, FixedState, Global>;
+type Call<'a> = Command<'a, Spur, FixedState, Global>;
 
-// An interner with a first bucket of 4 bytes, under this limit.
-fn of_four_bytes(alloc: Global, limit: usize) -> Result<Small, Fail> {
-    Ok(Rodeo::with_capacity_and_memory_limits(
-        alloc,
-        Capacity::for_bytes(4),
-        MemoryLimits::new(limit),
-    )?)
-}
-
-fn of_two_texts(alloc: Global) -> Result<Small, Fail> {
-    Ok(Rodeo::from_iter(alloc, ["one", "two"])?)
-}
-
-fn key_at(position: usize) -> Result<Spur, Fail> {
-    Ok(Spur::try_from_usize(position).ok_or("no key")?)
-}
-
-fn replies_to(
-    alloc: Global,
-    rodeo: &mut Small,
-    commands: &[Command<'_, Spur, FixedState, Global>],
-) -> Result<Vec<Reply<Spur>>, Fail> {
-    Ok(run_commands(alloc, rodeo, commands)?)
+// A reply as worked out by hand.
+#[derive(Clone, Copy)]
+pub enum Wanted {
+    Key(usize),
+    Limit,
+    Memory,
+    Found(usize),
+    Absent,
+    Flag(bool),
+    Text(&'static str),
+    Number(usize),
+    Done,
 }
 
 fn is_key(reply: &Reply<Spur>, number: usize) -> bool {
@@ -42,24 +32,24 @@ fn is_key(reply: &Reply<Spur>, number: usize) -> bool {
     }
 }
 
-fn is_limit(reply: &Reply<Spur>) -> bool {
+// Whether the command was refused for this.
+fn is_refused(reply: &Reply<Spur>, kind: LassoErrorKind) -> bool {
     match reply {
-        Reply::Refused(error) => error.kind().is_memory_limit(),
+        Reply::Refused(error) => error.kind() == kind,
         _ => false,
     }
 }
 
-fn is_text(reply: &Reply<Spur>, wanted: &str) -> bool {
+fn is_copy(reply: &Reply<Spur>, wanted: &str) -> bool {
     match reply {
         Reply::Text(Some(text)) => text.as_str() == wanted,
         _ => false,
     }
 }
 
-fn is_found(reply: &Reply<Spur>, wanted: Option<usize>) -> bool {
+fn is_found(reply: &Reply<Spur>, number: usize) -> bool {
     match reply {
-        Reply::Found(Some(key)) => wanted == Some(key.into_usize()),
-        Reply::Found(None) => wanted.is_none(),
+        Reply::Found(Some(key)) => key.into_usize() == number,
         _ => false,
     }
 }
@@ -71,18 +61,72 @@ fn is_flag(reply: &Reply<Spur>, wanted: bool) -> bool {
     }
 }
 
-fn is_number(reply: &Reply<Spur>, wanted: usize) -> bool {
+fn is_count(reply: &Reply<Spur>, wanted: usize) -> bool {
     match reply {
         Reply::Number(number) => *number == wanted,
         _ => false,
     }
 }
 
-#[test]
-fn a_refusal_does_not_end_the_run(rt: HostRuntime) -> Result<(), Fail> {
-    let mut rodeo = of_four_bytes(rt.alloc(), 4)?;
-    let first = key_at(0)?;
-    let commands = [
+fn is_wanted(reply: &Reply<Spur>, wanted: Wanted) -> bool {
+    match wanted {
+        Wanted::Key(number) => is_key(reply, number),
+        Wanted::Limit => is_refused(reply, LIMIT),
+        Wanted::Memory => is_refused(reply, MEMORY),
+        Wanted::Found(number) => is_found(reply, number),
+        Wanted::Absent => matches!(reply, Reply::Found(None)),
+        Wanted::Flag(flag) => is_flag(reply, flag),
+        Wanted::Text(text) => is_copy(reply, text),
+        Wanted::Number(number) => is_count(reply, number),
+        Wanted::Done => matches!(reply, Reply::Done),
+    }
+}
+
+// Whether there is one reply for each wanted one, and it is as wanted.
+pub fn all_wanted(replies: &[Reply<Spur>], wanted: &[Wanted]) -> bool {
+    for (reply, wanted) in replies.iter().zip(wanted) {
+        if !is_wanted(reply, *wanted) {
+            return false;
+        }
+    }
+    replies.len() == wanted.len()
+}
+
+fn are_wanted(rt: &impl Abort, replies: &[Reply<Spur>], wanted: &[Wanted]) {
+    is_so(
+        rt,
+        replies.len() == wanted.len(),
+        "one reply for each command",
+    );
+    for (row, (reply, wanted)) in replies.iter().zip(wanted).enumerate() {
+        is_so_at(rt, is_wanted(reply, *wanted), row);
+    }
+}
+
+// Runs the commands, and checks the replies.
+fn runs<R: AllocGlobal + Abort>(
+    rt: &R,
+    rodeo: &mut Small,
+    commands: &[Call<'_>],
+    wanted: &[Wanted],
+) -> Result<(), Fail> {
+    let replies = run_commands(rt.alloc(), rodeo, commands)?;
+    are_wanted(rt, replies.as_slice(), wanted);
+    Ok(())
+}
+
+// The same on an interner with a first bucket of 4 bytes, under a limit of 4 bytes.
+fn runs_on_four_bytes<R: AllocGlobal + Abort>(
+    rt: &R,
+    commands: &[Call<'_>],
+    wanted: &[Wanted],
+) -> Result<(), Fail> {
+    let mut rodeo = interner(rt.alloc(), 4, 4)?;
+    runs(rt, &mut rodeo, commands, wanted)
+}
+
+fn past_the_limit(first: Spur) -> [Call<'static>; 7] {
+    [
         Command::Intern("abcd"),
         Command::Intern("e"),
         Command::Clear,
@@ -90,32 +134,27 @@ fn a_refusal_does_not_end_the_run(rt: HostRuntime) -> Result<(), Fail> {
         Command::TryResolve(first),
         Command::Len,
         Command::Usage,
-    ];
-    let replies = replies_to(rt.alloc(), &mut rodeo, commands.as_slice())?;
-    match replies.as_slice() {
-        [first, refused, cleared, second, text, count, taken] => {
-            assert!(rt; is_key(first, 0));
-            assert!(rt; is_limit(refused));
-            assert!(rt; matches!(cleared, Reply::Done));
-            assert!(rt; is_key(second, 0));
-            assert!(rt; is_text(text, "e"));
-            assert!(rt; is_number(count, 1));
-            assert!(rt; is_number(taken, 4));
-        }
-        _ => assert!(rt; false, "not one reply for each command"),
-    }
-    Ok(())
+    ]
 }
 
-// The first bucket has 4 bytes, and the limit is 20. "abc" leaves room for 1 byte, so "defgh" takes a second
-// bucket, of 8 bytes, and the usage is 12. The clear keeps both buckets. The copy puts "one" into the first
-// and "two" into the second, where "three" then fits exactly.
+static PAST_THE_LIMIT: [Wanted; 7] = [
+    Wanted::Key(0),
+    Wanted::Limit,
+    Wanted::Done,
+    Wanted::Key(0),
+    Wanted::Text("e"),
+    Wanted::Number(1),
+    Wanted::Number(4),
+];
+
 #[test]
-fn each_command_in_one_run(rt: HostRuntime) -> Result<(), Fail> {
-    let source = of_two_texts(rt.alloc())?;
-    let mut rodeo = of_four_bytes(rt.alloc(), usize::MAX)?;
-    let second = key_at(1)?;
-    let commands = [
+fn a_refusal_does_not_end_the_run(rt: HostRuntime) -> Result<(), Fail> {
+    let commands = past_the_limit(key_at(0)?);
+    runs_on_four_bytes(&rt, commands.as_slice(), &PAST_THE_LIMIT)
+}
+
+fn each_command<'a>(source: &'a Small, second: Spur) -> [Call<'a>; 15] {
+    [
         Command::SetLimit(MemoryLimits::new(20)),
         Command::MaxUsage,
         Command::Intern("abc"),
@@ -128,100 +167,83 @@ fn each_command_in_one_run(rt: HostRuntime) -> Result<(), Fail> {
         Command::Intern("defgh"),
         Command::Usage,
         Command::Clear,
-        Command::CloneFrom(&source),
+        Command::CloneFrom(source),
         Command::Extend(&["two", "three"]),
         Command::InternStatic("four"),
-    ];
-    let replies = replies_to(rt.alloc(), &mut rodeo, commands.as_slice())?;
-    answers_as_worked(&rt, replies.as_slice());
+    ]
+}
+
+static OF_EACH_COMMAND: [Wanted; 15] = [
+    Wanted::Done,
+    Wanted::Number(20),
+    Wanted::Key(0),
+    Wanted::Key(1),
+    Wanted::Found(1),
+    Wanted::Flag(false),
+    Wanted::Flag(true),
+    Wanted::Text("a static text"),
+    Wanted::Number(2),
+    Wanted::Key(2),
+    Wanted::Number(12),
+    Wanted::Done,
+    Wanted::Done,
+    Wanted::Done,
+    Wanted::Key(3),
+];
+
+fn runs_each<R: AllocGlobal + Abort>(
+    rt: &R,
+    rodeo: &mut Small,
+    source: &Small,
+) -> Result<(), Fail> {
+    let commands = each_command(source, key_at(1)?);
+    runs(rt, rodeo, commands.as_slice(), &OF_EACH_COMMAND)
+}
+
+fn holds_as_worked(rt: &impl Abort, rodeo: &Small) {
+    holds(rt, rodeo, &["one", "two", "three", "four"], 12);
+    is_so(rt, has_limit(rodeo, 20), "the limit");
+}
+
+// The first bucket has 4 bytes, and the limit is 20. "abc" leaves room for 1 byte, so "defgh" takes a second
+// bucket, of 8 bytes, and the usage is 12. The clear keeps both buckets. The copy puts "one" into the first
+// and "two" into the second, where "three" then fits exactly.
+#[test]
+fn each_command_in_one_run(rt: HostRuntime) -> Result<(), Fail> {
+    let source = of_texts(rt.alloc(), &["one", "two"])?;
+    let mut rodeo = interner(rt.alloc(), 4, usize::MAX)?;
+    runs_each(&rt, &mut rodeo, &source)?;
     holds_as_worked(&rt, &rodeo);
     Ok(())
 }
 
-fn answers_as_worked(rt: &impl Abort, replies: &[Reply<Spur>]) {
-    match replies {
-        [
-            limit,
-            greatest,
-            copied,
-            lasting,
-            found,
-            absent,
-            there,
-            text,
-            count,
-            grown,
-            taken,
-            cleared,
-            cloned,
-            extended,
-            last,
-        ] => {
-            assert!(rt; matches!(limit, Reply::Done));
-            assert!(rt; is_number(greatest, 20));
-            assert!(rt; is_key(copied, 0));
-            assert!(rt; is_key(lasting, 1));
-            assert!(rt; is_found(found, Some(1)));
-            assert!(rt; is_flag(absent, false));
-            assert!(rt; is_flag(there, true));
-            assert!(rt; is_text(text, "a static text"));
-            assert!(rt; is_number(count, 2));
-            assert!(rt; is_key(grown, 2));
-            assert!(rt; is_number(taken, 12));
-            assert!(rt; matches!(cleared, Reply::Done));
-            assert!(rt; matches!(cloned, Reply::Done));
-            assert!(rt; matches!(extended, Reply::Done));
-            assert!(rt; is_key(last, 3));
-        }
-        _ => assert!(rt; false, "not one reply for each command"),
-    }
-}
-
-fn text_at(rodeo: &Small, position: usize) -> Option<&str> {
-    rodeo.strings().nth(position)
-}
-
-fn holds_as_worked(rt: &impl Abort, rodeo: &Small) {
-    assert!(rt; rodeo.len() == 4);
-    assert!(rt; text_at(rodeo, 0) == Some("one"));
-    assert!(rt; text_at(rodeo, 1) == Some("two"));
-    assert!(rt; text_at(rodeo, 2) == Some("three"));
-    assert!(rt; text_at(rodeo, 3) == Some("four"));
-    assert!(rt; rodeo.current_memory_usage() == 12);
-    assert!(rt; rodeo.max_memory_usage() == 20);
-}
-
-// The first bucket has 4 bytes, which are the limit. The copy stops at its second text and leaves none. The
-// extend keeps "two" and stops at "three". A static text takes no bytes.
-#[test]
-fn each_command_past_the_limit(rt: HostRuntime) -> Result<(), Fail> {
-    let source = of_two_texts(rt.alloc())?;
-    let mut rodeo = of_four_bytes(rt.alloc(), 4)?;
-    let commands = [
+fn copies_past_the_limit<'a>(source: &'a Small) -> [Call<'a>; 7] {
+    [
         Command::Intern("abc"),
-        Command::CloneFrom(&source),
+        Command::CloneFrom(source),
         Command::Len,
         Command::Extend(&["two", "three", "a"]),
         Command::Len,
         Command::InternStatic("three"),
         Command::Get("a"),
-    ];
-    let replies = replies_to(rt.alloc(), &mut rodeo, commands.as_slice())?;
-    answers_past_the_limit(&rt, replies.as_slice());
-    Ok(())
+    ]
 }
 
-fn answers_past_the_limit(rt: &impl Abort, replies: &[Reply<Spur>]) {
-    match replies {
-        [copied, cloned, none, extended, one, lasting, absent] => {
-            assert!(rt; is_key(copied, 0));
-            assert!(rt; is_limit(cloned));
-            assert!(rt; is_number(none, 0));
-            assert!(rt; is_limit(extended));
-            assert!(rt; is_number(one, 1));
-            assert!(rt; is_key(lasting, 1));
-            assert!(rt; is_found(absent, None));
-        }
-        _ => assert!(rt; false, "not one reply for each command"),
-    }
+static OF_COPIES_PAST_THE_LIMIT: [Wanted; 7] = [
+    Wanted::Key(0),
+    Wanted::Limit,
+    Wanted::Number(0),
+    Wanted::Limit,
+    Wanted::Number(1),
+    Wanted::Key(1),
+    Wanted::Absent,
+];
+
+// The first bucket has 4 bytes, which are the limit. The copy stops at its second text and leaves none. The
+// extend keeps "two" and stops at "three". A static text takes no bytes.
+#[test]
+fn each_command_past_the_limit(rt: HostRuntime) -> Result<(), Fail> {
+    let source = of_texts(rt.alloc(), &["one", "two"])?;
+    let commands = copies_past_the_limit(&source);
+    runs_on_four_bytes(&rt, commands.as_slice(), &OF_COPIES_PAST_THE_LIMIT)
 }

@@ -2,7 +2,11 @@
 #![tactic(auto)]
 
 #[cfg(test)]
+mod checks;
+#[cfg(test)]
 mod commands;
+#[cfg(test)]
+mod interners;
 #[cfg(test)]
 mod json;
 #[cfg(test)]
@@ -13,3 +17,5 @@ mod refusals;
 mod resolver;
 #[cfg(test)]
 mod rodeo;
+#[cfg(test)]
+mod steps;

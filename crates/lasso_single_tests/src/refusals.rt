@@ -11,6 +11,8 @@ mod runs;
 mod values;
 mod words;
 
+use crate::checks::{Answer, KEYS, MEMORY, is_answer, is_so, told};
+use crate::interners::holds;
 use lasso_parts::keys::{Key, Spur};
 use lasso_parts::util::{Capacity, FixedState, LassoErrorKind, LassoResult, MemoryLimits};
 use lasso_single::rodeo::Rodeo;
@@ -20,14 +22,6 @@ use std::alloc::Global;
 use std::process::Abort;
 use std::test::Fail;
 
-const LIMIT: LassoErrorKind = LassoErrorKind::MemoryLimitReached;
-
-const KEYS: LassoErrorKind = LassoErrorKind::KeySpaceExhaustion;
-
-const MEMORY: LassoErrorKind = LassoErrorKind::FailedAllocation;
-
-type Answer = Result<usize, LassoErrorKind>;
-
 type Memory = Refusing<Global>;
 
 type Metered<'a, K> = Rodeo<K, FixedState, &'a Memory>;
@@ -36,12 +30,12 @@ type Metered<'a, K> = Rodeo<K, FixedState, &'a Memory>;
 // (`rt try --test --fail-alloc N`).
 const REFUSALS: u8 = 2;
 
-// The value that was made. `None` if the call ran out of memory, which `is_refused` then checks.
+// The value that was made. `None` if the call ran out of memory, which `is_out_of_memory` then checks.
 fn made<T>(rt: &impl Abort, memory: &Memory, outcome: LassoResult<T>) -> Option<T> {
     match outcome {
         Ok(made) => Some(made),
         Err(refusal) => {
-            is_refused(rt, memory, refusal.kind());
+            is_out_of_memory(rt, memory, refusal.kind());
             None
         }
     }
@@ -49,9 +43,9 @@ fn made<T>(rt: &impl Abort, memory: &Memory, outcome: LassoResult<T>) -> Option<
 
 // Checks the error of a call that ran out of memory: it is `FailedAllocation`, and a request was refused
 // since the last such check.
-fn is_refused(rt: &impl Abort, memory: &Memory, kind: LassoErrorKind) {
-    assert!(rt; memory.has_refused_anew());
-    assert!(rt; kind == MEMORY);
+fn is_out_of_memory(rt: &impl Abort, memory: &Memory, kind: LassoErrorKind) {
+    is_so(rt, memory.has_refused_anew(), "a refused request");
+    is_so(rt, kind == MEMORY, "why a call was refused");
 }
 
 // An interner whose list and index have no room, so that interning a text allocates in both.
@@ -72,104 +66,132 @@ fn interner<'a, K: Key>(
     )
 }
 
-// Why the call was refused, if it was.
-fn refusal_of<T: Drop>(outcome: LassoResult<T>) -> Option<LassoErrorKind> {
-    match outcome {
-        Ok(_made) => None,
-        Err(refusal) => Some(refusal.kind()),
+// A call that is made again while a request of it is refused.
+#[derive(Clone, Copy)]
+enum Call {
+    Intern(&'static str),
+    InternStatic(&'static str),
+}
+
+use Call::{Intern, InternStatic};
+
+// The texts of an interner, in order, and the bytes that its buckets take.
+type State = (&'static [&'static str], usize);
+
+// A call, what it has to return, and the interner's state after it.
+type Row = (Call, Answer, State);
+
+fn called<K: Key>(rodeo: &mut Metered<'_, K>, call: Call) -> Answer {
+    match call {
+        Intern(text) => told(rodeo.try_get_or_intern(text)),
+        InternStatic(text) => told(rodeo.try_get_or_intern_static(text)),
     }
 }
 
-fn told<K: Key>(outcome: LassoResult<K>) -> Answer {
-    match outcome {
-        Ok(key) => Ok(key.into_usize()),
-        Err(refusal) => Err(refusal.kind()),
+fn has_text<K: Key>(rodeo: &Metered<'_, K>, call: Call) -> bool {
+    match call {
+        Intern(text) | InternStatic(text) => rodeo.contains(text),
     }
 }
 
-// Interns the text, again while a request of the call is refused. Each refused call has to return
-// `FailedAllocation` and change nothing.
+fn is_in<K: Key>(rt: &impl Abort, rodeo: &Metered<'_, K>, state: State) {
+    holds(rt, rodeo, state.0, state.1);
+}
+
+// Makes the call, again while a request of it is refused. Each refused call has to return `FailedAllocation`
+// and keep the interner's state, and the text is not there.
 fn gives<K: Key>(
     rt: &impl Abort,
     memory: &Memory,
     rodeo: &mut Metered<'_, K>,
-    text: &str,
-    wanted: Answer,
+    kept: State,
+    row: Row,
 ) {
-    let (len, usage) = (rodeo.len(), rodeo.current_memory_usage());
-    let mut answer = told(rodeo.try_get_or_intern(text));
+    let mut found = called(rodeo, row.0);
     for _refusal in 0..REFUSALS {
         if !memory.has_refused_anew() {
             break;
         }
-        assert!(rt; answer == Err(MEMORY), "{text}");
-        assert!(rt; rodeo.len() == len, "{text}");
-        assert!(rt; rodeo.current_memory_usage() == usage, "{text}");
-        assert!(rt; !rodeo.contains(text), "{text}");
-        answer = told(rodeo.try_get_or_intern(text));
+        is_so(rt, is_answer(found, Err(MEMORY)), "a call out of memory");
+        is_in(rt, rodeo, kept);
+        is_so(rt, !has_text(rodeo, row.0), "the text of a refused call");
+        found = called(rodeo, row.0);
     }
-    assert!(rt; answer == wanted, "{text}");
+    is_so(rt, is_answer(found, row.1), "a call");
+    is_in(rt, rodeo, row.2);
 }
 
-// Checks that the interner has exactly these texts, in this order, and that its buckets take `usage` bytes.
-fn holds<K: Key>(rt: &impl Abort, rodeo: &Metered<'_, K>, texts: &[&str], usage: usize) {
-    assert!(rt; rodeo.len() == texts.len());
-    let mut walk = rodeo.strings();
-    for text in texts {
-        assert!(rt; walk.next() == Some(*text));
-        assert!(rt; rodeo.contains(*text));
+// Makes the call of each row, as `gives` does, on an interner in this state.
+fn gives_each<K: Key>(
+    rt: &impl Abort,
+    memory: &Memory,
+    rodeo: &mut Metered<'_, K>,
+    state: State,
+    rows: &[Row],
+) {
+    let mut kept = state;
+    for row in rows {
+        gives(rt, memory, rodeo, kept, *row);
+        kept = row.2;
     }
-    assert!(rt; rodeo.current_memory_usage() == usage);
 }
 
-fn hello_twice<R: AllocGlobal + Abort>(rt: &R, memory: &Memory) -> Result<(), Fail> {
-    let Some(mut rodeo) = made(rt, memory, Rodeo::default(memory)) else {
-        return Ok(());
-    };
-    gives(rt, memory, &mut rodeo, "Hello, world!", Ok(0));
-    gives(rt, memory, &mut rodeo, "Hello, world!", Ok(0));
-    holds(rt, &rodeo, &["Hello, world!"], 4096);
-    Ok(())
+fn hello_twice(rt: &impl Abort, memory: &Memory) {
+    static ROWS: [Row; 2] = [
+        (Intern("Hello, world!"), Ok(0), (&["Hello, world!"], 4096)),
+        (Intern("Hello, world!"), Ok(0), (&["Hello, world!"], 4096)),
+    ];
+    if let Some(mut rodeo) = made(rt, memory, Metered::<Spur>::default(memory)) {
+        gives_each(rt, memory, &mut rodeo, (&[], 4096), &ROWS);
+    }
 }
 
 // The long text gets a bucket of its own, of 9 bytes. The last text gets one of 8 bytes.
-fn past_the_first_bucket<R: AllocGlobal + Abort>(rt: &R, memory: &Memory) -> Result<(), Fail> {
-    let Some(mut rodeo) = interner::<Spur>(rt, memory, 4, usize::MAX) else {
-        return Ok(());
-    };
-    for (text, number) in [("qqqqqqqqq", 0usize), ("wxyz", 1), ("n", 2)] {
-        gives(rt, memory, &mut rodeo, text, Ok(number));
+fn past_the_first_bucket(rt: &impl Abort, memory: &Memory) {
+    static ROWS: [Row; 3] = [
+        (Intern("qqqqqqqqq"), Ok(0), (&["qqqqqqqqq"], 13)),
+        (Intern("wxyz"), Ok(1), (&["qqqqqqqqq", "wxyz"], 13)),
+        (Intern("n"), Ok(2), (&["qqqqqqqqq", "wxyz", "n"], 21)),
+    ];
+    if let Some(mut rodeo) = interner::<Spur>(rt, memory, 4, usize::MAX) {
+        gives_each(rt, memory, &mut rodeo, (&[], 4), &ROWS);
     }
-    holds(rt, &rodeo, &["qqqqqqqqq", "wxyz", "n"], 21);
-    Ok(())
+}
+
+fn freezes_to_two(rt: &impl Abort, rodeo: Metered<'_, Gap<2>>) {
+    let reader = rodeo.into_reader();
+    is_so(rt, reader.len() == 2, "the texts of a reader");
+    is_so(
+        rt,
+        reader.into_resolver().len() == 2,
+        "the texts of a resolver",
+    );
 }
 
 // A text without a key takes no bytes, so the limit never refuses it.
-fn past_the_keys<R: AllocGlobal + Abort>(rt: &R, memory: &Memory) -> Result<(), Fail> {
-    let Some(mut rodeo) = interner::<Gap<2>>(rt, memory, 4, 4) else {
-        return Ok(());
-    };
-    let rows = [
-        ("p", Ok(0)),
-        ("q", Ok(1)),
-        ("r", Err(KEYS)),
-        ("r", Err(KEYS)),
-        ("r", Err(KEYS)),
-        ("q", Ok(1)),
+fn past_the_keys(rt: &impl Abort, memory: &Memory) {
+    static ROWS: [Row; 6] = [
+        (Intern("p"), Ok(0), (&["p"], 4)),
+        (Intern("q"), Ok(1), (&["p", "q"], 4)),
+        (Intern("r"), Err(KEYS), (&["p", "q"], 4)),
+        (Intern("r"), Err(KEYS), (&["p", "q"], 4)),
+        (Intern("r"), Err(KEYS), (&["p", "q"], 4)),
+        (Intern("q"), Ok(1), (&["p", "q"], 4)),
     ];
-    for (text, wanted) in rows {
-        gives(rt, memory, &mut rodeo, text, wanted);
+    if let Some(mut rodeo) = interner::<Gap<2>>(rt, memory, 4, 4) {
+        gives_each(rt, memory, &mut rodeo, (&[], 4), &ROWS);
+        freezes_to_two(rt, rodeo);
     }
-    holds(rt, &rodeo, &["p", "q"], 4);
-    let reader = rodeo.into_reader();
-    assert!(rt; reader.len() == 2);
-    assert!(rt; reader.into_resolver().len() == 2);
+}
+
+fn interns_texts<R: AllocGlobal + Abort>(rt: &R, memory: &Memory) -> Result<(), Fail> {
+    hello_twice(rt, memory);
+    past_the_first_bucket(rt, memory);
+    past_the_keys(rt, memory);
     Ok(())
 }
 
 #[test]
 fn interned_texts(rt: HostRuntime) -> Result<(), Fail> {
-    each_refused(&rt, hello_twice)?;
-    each_refused(&rt, past_the_first_bucket)?;
-    each_refused(&rt, past_the_keys)
+    each_refused(&rt, interns_texts)
 }

@@ -1,167 +1,253 @@
 //! `clone` and `clone_from`.
 use super::*;
+use crate::checks::{LIMIT, is_kind, refusal_of};
 
-// The clone copies the static text too. Its one bucket has 7 bytes, more than the source's limit of 5.
-fn cloned<R: AllocGlobal + Abort>(rt: &R, memory: &Memory) -> Result<(), Fail> {
-    let Some(mut rodeo) = interner::<Spur>(rt, memory, 10, 5) else {
-        return Ok(());
-    };
-    gives(rt, memory, &mut rodeo, "abc", Ok(0));
-    let mut answer = told(rodeo.try_get_or_intern_static("gdfg"));
+type Spurred<'a> = Metered<'a, Spur>;
+
+// By which of its two names a call is made.
+#[derive(Clone, Copy)]
+pub enum Name {
+    Plain,
+    Try,
+}
+
+fn cloned<'a>(rodeo: &Spurred<'a>, name: Name) -> LassoResult<Spurred<'a>> {
+    match name {
+        Name::Plain => rodeo.clone(),
+        Name::Try => rodeo.try_clone(),
+    }
+}
+
+// A clone of an interner in this state, made again if a request of the first is refused.
+pub fn clone_of<'a>(
+    rt: &impl Abort,
+    memory: &Memory,
+    rodeo: &Spurred<'a>,
+    name: Name,
+    state: State,
+) -> Result<Spurred<'a>, Fail> {
+    match cloned(rodeo, name) {
+        Ok(copy) => Ok(copy),
+        Err(refusal) => {
+            is_out_of_memory(rt, memory, refusal.kind());
+            is_in(rt, rodeo, state);
+            Ok(cloned(rodeo, name)?)
+        }
+    }
+}
+
+fn copy<'a>(target: &mut Spurred<'a>, source: &Spurred<'a>, name: Name) -> Option<LassoErrorKind> {
+    refusal_of(match name {
+        Name::Plain => target.clone_from(source),
+        Name::Try => target.try_clone_from(source),
+    })
+}
+
+// Copies the source over the target, again while a request of the copy is refused. Each refused copy leaves
+// no text, and only the first bucket, of `first` bytes. Returns why the last copy was refused, if it was.
+pub fn copies<'a>(
+    rt: &impl Abort,
+    memory: &Memory,
+    target: &mut Spurred<'a>,
+    source: &Spurred<'a>,
+    name: Name,
+    first: usize,
+) -> Option<LassoErrorKind> {
+    let mut refusal = copy(target, source, name);
     for _refusal in 0..REFUSALS {
         if !memory.has_refused_anew() {
             break;
         }
-        assert!(rt; answer == Err(MEMORY));
-        holds(rt, &rodeo, &["abc"], 10);
-        answer = told(rodeo.try_get_or_intern_static("gdfg"));
+        is_so(rt, is_kind(refusal, MEMORY), "a copy out of memory");
+        is_in(rt, target, (&[], first));
+        refusal = copy(target, source, name);
     }
-    assert!(rt; answer == Ok(1));
-    let mut copy = match rodeo.try_clone() {
-        Ok(copy) => copy,
-        Err(refusal) => {
-            is_refused(rt, memory, refusal.kind());
-            holds(rt, &rodeo, &["abc", "gdfg"], 10);
-            rodeo.try_clone()?
-        }
-    };
-    gives(rt, memory, &mut copy, "x", Err(LIMIT));
-    holds(rt, &copy, &["abc", "gdfg"], 7);
-    gives(rt, memory, &mut rodeo, "x", Ok(2));
-    holds(rt, &rodeo, &["abc", "gdfg", "x"], 10);
+    refusal
+}
+
+const ABC_GDFG: &[&str] = &["abc", "gdfg"];
+
+// The clone copies the static text too. Its one bucket has 7 bytes, more than the source's limit of 5.
+fn clones_static(rt: &impl Abort, memory: &Memory, rodeo: &mut Spurred<'_>) -> Result<(), Fail> {
+    static ROWS: [Row; 2] = [
+        (Intern("abc"), Ok(0), (&["abc"], 10)),
+        (InternStatic("gdfg"), Ok(1), (ABC_GDFG, 10)),
+    ];
+    static OF_COPY: [Row; 1] = [(Intern("x"), Err(LIMIT), (ABC_GDFG, 7))];
+    static OF_SOURCE: [Row; 1] = [(Intern("x"), Ok(2), (&["abc", "gdfg", "x"], 10))];
+    gives_each(rt, memory, rodeo, (&[], 10), &ROWS);
+    let mut copy = clone_of(rt, memory, rodeo, Name::Try, (ABC_GDFG, 10))?;
+    gives_each(rt, memory, &mut copy, (ABC_GDFG, 7), &OF_COPY);
+    gives_each(rt, memory, rodeo, (ABC_GDFG, 10), &OF_SOURCE);
     Ok(())
 }
 
+fn clones_at_last(rt: &impl Abort, memory: &Memory) -> Result<(), Fail> {
+    match interner::<Spur>(rt, memory, 10, 5) {
+        Some(mut rodeo) => clones_static(rt, memory, &mut rodeo),
+        None => Ok(()),
+    }
+}
+
+const ABC_DEFG: &[&str] = &["abc", "defg"];
+
 // A source of two texts in one bucket of 8 bytes.
-fn two<'a>(rt: &impl Abort, memory: &'a Memory) -> Option<Metered<'a, Spur>> {
+fn two<'a>(rt: &impl Abort, memory: &'a Memory) -> Option<Spurred<'a>> {
+    static ROWS: [Row; 2] = [
+        (Intern("abc"), Ok(0), (&["abc"], 8)),
+        (Intern("defg"), Ok(1), (ABC_DEFG, 8)),
+    ];
     let mut source = interner::<Spur>(rt, memory, 8, usize::MAX)?;
-    gives(rt, memory, &mut source, "abc", Ok(0));
-    gives(rt, memory, &mut source, "defg", Ok(1));
+    gives_each(rt, memory, &mut source, (&[], 8), &ROWS);
     Some(source)
 }
 
-// The limit refuses the copy, unless it runs out of memory first. Either way the target then has no text, and
-// only its first bucket, of 4 bytes. Before the copy it has one text, or none if `is_empty`.
-fn copied_past_the_limit(rt: &impl Abort, memory: &Memory, is_empty: bool) {
+// The limit of 4 bytes refuses the copy. The target then has no text, and only its first bucket, of 4 bytes.
+fn copies_past_the_limit<'a>(
+    rt: &impl Abort,
+    memory: &Memory,
+    target: &mut Spurred<'a>,
+    source: &Spurred<'a>,
+) {
+    static ROWS: [Row; 1] = [(Intern("wxyz"), Ok(0), (&["wxyz"], 4))];
+    let refusal = copies(rt, memory, target, source, Name::Try, 4);
+    is_so(rt, is_kind(refusal, LIMIT), "a copy past the limit");
+    is_in(rt, target, (&[], 4));
+    gives_each(rt, memory, target, (&[], 4), &ROWS);
+    is_in(rt, source, (ABC_DEFG, 8));
+}
+
+// Copies over an interner without a text, and over one with a text.
+fn over_no_text_and_one(rt: &impl Abort, memory: &Memory) {
+    static OLD: [Row; 1] = [(Intern("old"), Ok(0), (&["old"], 4))];
     let Some(source) = two(rt, memory) else {
         return;
     };
-    let Some(mut target) = interner::<Spur>(rt, memory, 4, 4) else {
-        return;
-    };
-    if !is_empty {
-        gives(rt, memory, &mut target, "old", Ok(0));
+    if let Some(mut target) = interner::<Spur>(rt, memory, 4, 4) {
+        copies_past_the_limit(rt, memory, &mut target, &source);
     }
-    let refusal = refusal_of(target.try_clone_from(&source));
-    let wanted = if memory.has_refused_anew() {
-        MEMORY
-    } else {
-        LIMIT
-    };
-    assert!(rt; refusal == Some(wanted));
-    holds(rt, &target, &[], 4);
-    gives(rt, memory, &mut target, "wxyz", Ok(0));
-    holds(rt, &target, &["wxyz"], 4);
-    holds(rt, &source, &["abc", "defg"], 8);
+    if let Some(mut target) = interner::<Spur>(rt, memory, 4, 4) {
+        gives_each(rt, memory, &mut target, (&[], 4), &OLD);
+        copies_past_the_limit(rt, memory, &mut target, &source);
+    }
 }
 
-fn over_one_text<R: AllocGlobal + Abort>(rt: &R, memory: &Memory) -> Result<(), Fail> {
-    copied_past_the_limit(rt, memory, false);
-    Ok(())
+fn extend(target: &mut Spurred<'_>) -> LassoResult<()> {
+    target.extend(["wxyz", "abc"])
 }
 
-fn over_no_text<R: AllocGlobal + Abort>(rt: &R, memory: &Memory) -> Result<(), Fail> {
-    copied_past_the_limit(rt, memory, true);
+// Adds "wxyz", again if a request of the first call is refused, which leaves the texts.
+fn extends_at_last(rt: &impl Abort, memory: &Memory, target: &mut Spurred<'_>) -> Result<(), Fail> {
+    if let Some(kind) = refusal_of(extend(target)) {
+        is_out_of_memory(rt, memory, kind);
+        is_in(rt, target, (ABC_DEFG, 12));
+        extend(target)?;
+    }
+    is_in(rt, target, (&["abc", "defg", "wxyz"], 12));
     Ok(())
 }
 
 // "abc" goes into the first bucket. "defg" takes a second one, of 8 bytes, where "wxyz" fits too.
-fn copied_into_a_new_bucket<R: AllocGlobal + Abort>(rt: &R, memory: &Memory) -> Result<(), Fail> {
+fn copies_into_a_new_bucket<'a>(
+    rt: &impl Abort,
+    memory: &Memory,
+    target: &mut Spurred<'a>,
+    source: &Spurred<'a>,
+) -> Result<(), Fail> {
+    let refusal = copies(rt, memory, target, source, Name::Try, 4);
+    is_so(rt, refusal.is_none(), "a copy into a new bucket");
+    is_in(rt, target, (ABC_DEFG, 12));
+    extends_at_last(rt, memory, target)?;
+    is_in(rt, source, (ABC_DEFG, 8));
+    Ok(())
+}
+
+fn into_a_new_bucket(rt: &impl Abort, memory: &Memory) -> Result<(), Fail> {
     let Some(source) = two(rt, memory) else {
         return Ok(());
     };
-    let Some(mut target) = interner::<Spur>(rt, memory, 4, usize::MAX) else {
-        return Ok(());
-    };
-    if let Err(refusal) = target.try_clone_from(&source) {
-        is_refused(rt, memory, refusal.kind());
-        holds(rt, &target, &[], 4);
-        target.try_clone_from(&source)?;
+    match interner::<Spur>(rt, memory, 4, usize::MAX) {
+        Some(mut target) => copies_into_a_new_bucket(rt, memory, &mut target, &source),
+        None => Ok(()),
     }
-    holds(rt, &target, &["abc", "defg"], 12);
-    if let Err(refusal) = target.extend(["wxyz", "abc"]) {
-        is_refused(rt, memory, refusal.kind());
-        holds(rt, &target, &["abc", "defg"], 12);
-        target.extend(["wxyz", "abc"])?;
-    }
-    holds(rt, &target, &["abc", "defg", "wxyz"], 12);
-    holds(rt, &source, &["abc", "defg"], 8);
-    Ok(())
+}
+
+fn copies_interners<R: AllocGlobal + Abort>(rt: &R, memory: &Memory) -> Result<(), Fail> {
+    clones_at_last(rt, memory)?;
+    over_no_text_and_one(rt, memory);
+    into_a_new_bucket(rt, memory)
 }
 
 // "abc" goes into the first bucket of 4 bytes, the nine bytes get a bucket of their own, and "defgh" gets one
 // of 8 bytes. These 21 bytes are the limit, which refuses "ijkl". Then the bucket of 8 bytes is kept, and
 // that of 9 bytes is freed. Nothing is allocated after the bucket of 8 bytes, so a copy that runs out of
 // memory leaves only the first bucket.
-fn copied_past_the_first_bucket<R: AllocGlobal + Abort>(
-    rt: &R,
+fn copies_past_the_first_bucket<'a>(
+    rt: &impl Abort,
     memory: &Memory,
-) -> Result<(), Fail> {
-    let texts = ["abc", "qqqqqqqqq", "defgh", "ijkl"];
-    let Some(source) = made(rt, memory, Metered::<Spur>::from_iter(memory, texts)) else {
+    target: &mut Spurred<'a>,
+    source: &Spurred<'a>,
+) {
+    static ROWS: [Row; 2] = [
+        (Intern("wxyz"), Ok(0), (&["wxyz"], 12)),
+        (Intern("ijklmnop"), Ok(1), (&["wxyz", "ijklmnop"], 12)),
+    ];
+    let refusal = copies(rt, memory, target, source, Name::Try, 4);
+    is_so(rt, is_kind(refusal, LIMIT), "a copy past the limit");
+    is_in(rt, target, (&[], 12));
+    gives_each(rt, memory, target, (&[], 12), &ROWS);
+}
+
+fn of_four_texts<'a>(memory: &'a Memory) -> LassoResult<Spurred<'a>> {
+    Spurred::from_iter(memory, ["abc", "qqqqqqqqq", "defgh", "ijkl"])
+}
+
+fn past_the_first_bucket<R: AllocGlobal + Abort>(rt: &R, memory: &Memory) -> Result<(), Fail> {
+    let Some(source) = made(rt, memory, of_four_texts(memory)) else {
         return Ok(());
     };
-    let Some(mut target) = interner::<Spur>(rt, memory, 4, 21) else {
-        return Ok(());
-    };
-    let mut refusal = target.try_clone_from(&source).err().ok_or("not refused")?;
-    for _refusal in 0..REFUSALS {
-        if !memory.has_refused_anew() {
-            break;
-        }
-        assert!(rt; refusal.kind() == MEMORY);
-        holds(rt, &target, &[], 4);
-        refusal = target.try_clone_from(&source).err().ok_or("not refused")?;
+    if let Some(mut target) = interner::<Spur>(rt, memory, 4, 21) {
+        copies_past_the_first_bucket(rt, memory, &mut target, &source);
     }
-    assert!(rt; refusal.kind() == LIMIT);
-    holds(rt, &target, &[], 12);
-    gives(rt, memory, &mut target, "wxyz", Ok(0));
-    gives(rt, memory, &mut target, "ijklmnop", Ok(1));
-    holds(rt, &target, &["wxyz", "ijklmnop"], 12);
     Ok(())
 }
 
-// The copy allocates its list, its index and its buckets from the target's allocator.
-fn copied_between<'a, R: AllocGlobal + Abort>(
-    rt: &R,
-    of_source: &'a Memory,
-    of_target: &'a Memory,
-) -> Result<(), Fail> {
-    let source = Metered::<'a, Spur>::from_iter(of_source, ["abc", "defg"])?;
-    let mut target = Metered::<'a, Spur>::from_iter(of_target, ["old"])?;
+// Whether a copy takes no bytes of the source's memory, and has two texts.
+fn is_copied<'a>(
+    target: &mut Spurred<'a>,
+    source: &Spurred<'a>,
+    of_source: &Memory,
+) -> LassoResult<bool> {
     let bytes = of_source.bytes_out();
-    target.try_clone_from(&source)?;
-    assert!(rt; of_source.bytes_out() == bytes);
-    assert!(rt; target.len() == 2);
-    Ok(())
+    target.try_clone_from(source)?;
+    Ok(of_source.bytes_out() == bytes && target.len() == 2)
+}
+
+// The copy allocates its list, its index and its buckets from the target's allocator.
+fn is_copied_between<'a>(of_source: &'a Memory, of_target: &'a Memory) -> LassoResult<bool> {
+    let source = Spurred::from_iter(of_source, ["abc", "defg"])?;
+    let mut target = Spurred::from_iter(of_target, ["old"])?;
+    is_copied(&mut target, &source, of_source)
 }
 
 #[test]
 fn a_copy_stays_in_the_memory_of_its_target(rt: HostRuntime) -> Result<(), Fail> {
     let of_source = Refusing::new(rt.alloc(), 0);
     let of_target = Refusing::new(rt.alloc(), 0);
-    copied_between(&rt, &of_source, &of_target)
+    is_so(
+        &rt,
+        is_copied_between(&of_source, &of_target)?,
+        "the source's memory",
+    );
+    Ok(())
 }
 
 #[test]
 fn a_copy_refused_past_the_first_bucket(rt: HostRuntime) -> Result<(), Fail> {
-    each_refused(&rt, copied_past_the_first_bucket)
+    each_refused(&rt, past_the_first_bucket)
 }
 
 #[test]
 fn copied_interners(rt: HostRuntime) -> Result<(), Fail> {
-    each_refused(&rt, cloned)?;
-    each_refused(&rt, over_one_text)?;
-    each_refused(&rt, over_no_text)?;
-    each_refused(&rt, copied_into_a_new_bucket)
+    each_refused(&rt, copies_interners)
 }

@@ -1,8 +1,9 @@
 //! `allocated_bytes` of an interner and of its frozen forms is what the allocator gave out.
 use super::*;
+use crate::checks::is_so_at;
 use lasso_parts::keys::{LargeSpur, MicroSpur, MiniSpur};
 
-const TEXTS: [&str; 10] = [
+static TEXTS: [&str; 10] = [
     "a",
     "b",
     "",
@@ -15,24 +16,63 @@ const TEXTS: [&str; 10] = [
     "rstuvwxyz0123456789",
 ];
 
-// Checks the number of a new interner, after each text, after a clear and a refill, and of both frozen forms.
-fn counted<R: AllocGlobal + Abort>(rt: &R, memory: &Memory) -> Result<(), Fail> {
-    let capacity = Capacity::new(2, 4);
-    let mut rodeo: Metered<'_, Spur> = Rodeo::with_capacity(memory, capacity)?;
-    assert!(rt; rodeo.allocated_bytes() == memory.bytes_out());
-    for text in TEXTS {
-        rodeo.try_get_or_intern(text)?;
-        assert!(rt; rodeo.allocated_bytes() == memory.bytes_out(), "{text}");
+type Counted<'a> = Metered<'a, Spur>;
+
+fn is_counted_so(rodeo: &Counted<'_>, memory: &Memory) -> bool {
+    rodeo.allocated_bytes() == memory.bytes_out()
+}
+
+// Interns the texts, and checks the number after each.
+fn interns_counted(rt: &impl Abort, rodeo: &mut Counted<'_>, memory: &Memory) -> Result<(), Fail> {
+    for text in TEXTS.iter() {
+        rodeo.try_get_or_intern(*text)?;
+        is_so(rt, is_counted_so(rodeo, memory), *text);
     }
-    rodeo.clear();
-    assert!(rt; rodeo.allocated_bytes() == memory.bytes_out());
-    rodeo.extend(TEXTS)?;
+    Ok(())
+}
+
+// Fills the interner again after a clear, also with a static text.
+fn fill_again(rodeo: &mut Counted<'_>) -> Result<(), Fail> {
+    rodeo.extend(TEXTS.iter().copied())?;
     rodeo.try_get_or_intern_static("a static text of many bytes")?;
-    assert!(rt; rodeo.allocated_bytes() == memory.bytes_out());
+    Ok(())
+}
+
+// Checks the number of a new interner, after each text, and after a clear and a refill.
+fn fills(rt: &impl Abort, rodeo: &mut Counted<'_>, memory: &Memory) -> Result<(), Fail> {
+    is_so(rt, is_counted_so(rodeo, memory), "a new interner");
+    interns_counted(rt, rodeo, memory)?;
+    rodeo.clear();
+    is_so(
+        rt,
+        is_counted_so(rodeo, memory),
+        "an interner after a clear",
+    );
+    fill_again(rodeo)?;
+    is_so(rt, is_counted_so(rodeo, memory), "an interner filled again");
+    Ok(())
+}
+
+// Checks the number of both frozen forms.
+fn freezes(rt: &impl Abort, rodeo: Counted<'_>, memory: &Memory) {
     let reader = rodeo.into_reader();
-    assert!(rt; reader.allocated_bytes() == memory.bytes_out());
+    is_so(
+        rt,
+        reader.allocated_bytes() == memory.bytes_out(),
+        "a reader",
+    );
     let resolver = reader.into_resolver();
-    assert!(rt; resolver.allocated_bytes() == memory.bytes_out());
+    is_so(
+        rt,
+        resolver.allocated_bytes() == memory.bytes_out(),
+        "a resolver",
+    );
+}
+
+fn counted(rt: &impl Abort, memory: &Memory) -> Result<(), Fail> {
+    let mut rodeo: Counted<'_> = Rodeo::with_capacity(memory, Capacity::new(2, 4))?;
+    fills(rt, &mut rodeo, memory)?;
+    freezes(rt, rodeo, memory);
     Ok(())
 }
 
@@ -40,14 +80,34 @@ fn counted<R: AllocGlobal + Abort>(rt: &R, memory: &Memory) -> Result<(), Fail> 
 fn allocated_bytes_are_those_given(rt: HostRuntime) -> Result<(), Fail> {
     let memory = Refusing::new(rt.alloc(), 0);
     counted(&rt, &memory)?;
-    assert!(rt; memory.bytes_out() == 0);
+    is_so(&rt, memory.bytes_out() == 0, "the bytes at the end");
     Ok(())
+}
+
+// A text of at least `number` times `step` bytes, which begins with the number.
+fn long_number(alloc: Global, number: usize, step: usize) -> Result<String, Fail> {
+    let rest = "-".repeat(alloc, number.saturating_mul(step))?;
+    let rest = rest.as_str();
+    Ok(format!(in alloc; "{number}{rest}")?)
+}
+
+// Interns a long number. Returns whether `allocated_bytes` is right after it.
+fn is_long_counted<K: Key>(
+    alloc: Global,
+    memory: &Memory,
+    rodeo: &mut Metered<'_, K>,
+    number: usize,
+    step: usize,
+) -> Result<bool, Fail> {
+    let text = long_number(alloc, number, step)?;
+    rodeo.try_get_or_intern(text.as_str())?;
+    Ok(rodeo.allocated_bytes() == memory.bytes_out())
 }
 
 // Interns `count` texts, each at least `step` bytes longer than the one before it. Returns whether
 // `allocated_bytes` is right after each.
-fn fills_counted<K: Key, R: AllocGlobal>(
-    rt: &R,
+fn fills_counted<K: Key>(
+    alloc: Global,
     memory: &Memory,
     rodeo: &mut Metered<'_, K>,
     count: usize,
@@ -55,62 +115,103 @@ fn fills_counted<K: Key, R: AllocGlobal>(
 ) -> Result<bool, Fail> {
     let mut all = rodeo.allocated_bytes() == memory.bytes_out();
     for number in 0..count {
-        let rest = "-".repeat(rt.alloc(), number.saturating_mul(step))?;
-        let rest = rest.as_str();
-        let text = format!(in rt.alloc(); "{number}{rest}")?;
-        rodeo.try_get_or_intern(text.as_str())?;
-        all &= rodeo.allocated_bytes() == memory.bytes_out();
+        all &= is_long_counted(alloc, memory, rodeo, number, step)?;
     }
     Ok(all)
 }
 
-// Whether `allocated_bytes` is right for an interner of `count` texts, for its clone and for its frozen
-// forms. The interner is cleared and filled again before it is frozen.
-fn is_counted<K: Key, R: AllocGlobal>(rt: &R, count: usize, step: usize) -> Result<bool, Fail> {
-    let memory = Refusing::new(rt.alloc(), 0);
-    let mut rodeo: Metered<'_, K> = Rodeo::new(&memory)?;
-    let mut all = fills_counted(rt, &memory, &mut rodeo, count, step)?;
+// Whether `allocated_bytes` is right for a clone of the interner, and for the clone's resolver.
+fn is_clone_counted<K: Key>(memory: &Memory, rodeo: &Metered<'_, K>) -> Result<bool, Fail> {
     let before = memory.bytes_out();
     let copy = rodeo.try_clone()?;
-    all &= copy.allocated_bytes() == memory.bytes_out().saturating_sub(before);
+    let is_counted = copy.allocated_bytes() == memory.bytes_out().saturating_sub(before);
     let resolver = copy.into_resolver();
-    all &= resolver.allocated_bytes() == memory.bytes_out().saturating_sub(before);
-    drop(resolver);
+    let is_frozen = resolver.allocated_bytes() == memory.bytes_out().saturating_sub(before);
+    Ok(is_counted && is_frozen)
+}
+
+fn is_reader_counted<K: Key>(memory: &Memory, rodeo: Metered<'_, K>) -> bool {
+    rodeo.into_reader().allocated_bytes() == memory.bytes_out()
+}
+
+// Whether `allocated_bytes` is right while the interner is filled, for its clone, and while it is filled again
+// after a clear.
+fn are_fills_counted<K: Key>(
+    alloc: Global,
+    memory: &Memory,
+    rodeo: &mut Metered<'_, K>,
+    count: usize,
+    step: usize,
+) -> Result<bool, Fail> {
+    let is_first = fills_counted(alloc, memory, rodeo, count, step)?;
+    let is_clone = is_clone_counted(memory, rodeo)?;
     rodeo.clear();
-    all &= fills_counted(rt, &memory, &mut rodeo, count, step)?;
-    let reader = rodeo.into_reader();
-    Ok(all && reader.allocated_bytes() == memory.bytes_out())
+    let is_second = fills_counted(alloc, memory, rodeo, count, step)?;
+    Ok(is_first && is_clone && is_second)
+}
+
+// Whether `allocated_bytes` is right for an interner of `count` texts, for its clone and for its frozen
+// forms. The interner is cleared and filled again before it is frozen.
+fn is_counted<K: Key>(alloc: Global, count: usize, step: usize) -> Result<bool, Fail> {
+    let memory = Refusing::new(alloc, 0);
+    let mut rodeo: Metered<'_, K> = Rodeo::new(&memory)?;
+    let are_fills = are_fills_counted(alloc, &memory, &mut rodeo, count, step)?;
+    Ok(are_fills && is_reader_counted(&memory, rodeo))
+}
+
+// The same for each type of key that has 255 keys.
+fn is_counted_by_each_key(alloc: Global, count: usize, step: usize) -> Result<bool, Fail> {
+    Ok(
+        is_counted::<MicroSpur>(alloc, count, step)?
+            && is_counted::<MiniSpur>(alloc, count, step)?
+            && is_counted::<Spur>(alloc, count, step)?
+            && is_counted::<LargeSpur>(alloc, count, step)?,
+    )
 }
 
 #[test]
 fn allocated_bytes_of_many_texts_are_those_given(rt: HostRuntime) -> Result<(), Fail> {
     for (count, step) in [(0, 0), (1, 5000), (51, 0), (60, 20), (255, 1)] {
-        assert!(rt; is_counted::<MicroSpur, _>(&rt, count, step)?, "{count}");
-        assert!(rt; is_counted::<MiniSpur, _>(&rt, count, step)?, "{count}");
-        assert!(rt; is_counted::<Spur, _>(&rt, count, step)?, "{count}");
-        assert!(rt; is_counted::<LargeSpur, _>(&rt, count, step)?, "{count}");
+        let is_right = is_counted_by_each_key(rt.alloc(), count, step)?;
+        is_so_at(&rt, is_right, count);
     }
-    assert!(rt; is_counted::<Spur, _>(&rt, 1000, 0)?);
+    is_so(&rt, is_counted::<Spur>(rt.alloc(), 1000, 0)?, "1000 texts");
     Ok(())
 }
 
-// Interns more than twice `strings` texts. Returns whether exactly the texts past `capacity()` change it,
-// whether each of these allocates, and whether list and index have at least a byte for each text of the
-// capacity.
-fn has_the_room_it_says<R: AllocGlobal>(rt: &R, strings: usize) -> Result<bool, Fail> {
-    let memory = Refusing::new(rt.alloc(), 0);
-    let room = Capacity::new(strings, 20_000);
-    let mut rodeo: Metered<'_, Spur> = Rodeo::with_capacity(&memory, room)?;
-    let mut all = rodeo.capacity() >= strings;
+// Whether a text that was just interned changed `capacity()` only if it came past it, and then allocated. List
+// and index have at least a byte for each text of the capacity.
+fn grows_past_its_room(rodeo: &Counted<'_>, memory: &Memory, said: usize, had: usize) -> bool {
     let bytes_beside_the_list: usize = 20_000;
+    let is_past = rodeo.len() > said;
+    let is_changed = rodeo.capacity() != said;
+    let has_allocated = memory.bytes_out() != had;
+    let is_large_enough = said <= had.saturating_sub(bytes_beside_the_list);
+    is_changed == is_past && (!is_past || has_allocated) && is_large_enough
+}
+
+// Interns the number in decimal. Returns whether the interner grows as its capacity says.
+fn has_room_for(
+    alloc: Global,
+    memory: &Memory,
+    rodeo: &mut Counted<'_>,
+    number: usize,
+) -> Result<bool, Fail> {
+    let (said, had) = (rodeo.capacity(), memory.bytes_out());
+    let text = number.to_string(alloc)?;
+    rodeo.try_get_or_intern(text.as_str())?;
+    Ok(grows_past_its_room(rodeo, memory, said, had))
+}
+
+// Interns more than twice `strings` texts. Returns whether `capacity()` is right before each, and at first at
+// least `strings`.
+fn has_the_room_it_says(alloc: Global, strings: usize) -> Result<bool, Fail> {
+    let memory = Refusing::new(alloc, 0);
+    let room = Capacity::new(strings, 20_000);
+    let mut rodeo: Counted<'_> = Rodeo::with_capacity(&memory, room)?;
+    let mut all = rodeo.capacity() >= strings;
     for number in 0..strings.saturating_mul(2).saturating_add(10) {
-        let (said, had) = (rodeo.capacity(), memory.bytes_out());
-        let text = format!(in rt.alloc(); "{number}")?;
-        rodeo.try_get_or_intern(text.as_str())?;
-        let is_past = rodeo.len() > said;
-        all &= (rodeo.capacity() != said) == is_past;
-        all &= !is_past || memory.bytes_out() != had;
-        all &= said <= had.saturating_sub(bytes_beside_the_list);
+        all &= has_room_for(alloc, &memory, &mut rodeo, number)?;
     }
     Ok(all)
 }
@@ -118,7 +219,8 @@ fn has_the_room_it_says<R: AllocGlobal>(rt: &R, strings: usize) -> Result<bool, 
 #[test]
 fn capacity_is_the_room_that_there_is(rt: HostRuntime) -> Result<(), Fail> {
     for strings in [0, 1, 2, 3, 7, 8, 49, 50, 51, 100, 128, 1000] {
-        assert!(rt; has_the_room_it_says(&rt, strings)?, "{strings}");
+        let is_right = has_the_room_it_says(rt.alloc(), strings)?;
+        is_so_at(&rt, is_right, strings);
     }
     Ok(())
 }

@@ -3,61 +3,81 @@
 ghost use Rattle.std.specs.Prelude.{◌<◌};
 
 use super::*;
+use crate::checks::{LIMIT, is_kind, is_text, refusal_of};
 
-// Why the extend was refused, and the item after the refused one.
-fn refused_filling(
-    rodeo: &mut Metered<'_, Spur>,
-) -> (Option<LassoErrorKind>, Option<&'static str>) {
+// Why a call was refused, and the item after the refused one.
+type Filled = (Option<LassoErrorKind>, Option<&'static str>);
+
+// Extends the interner. Returns why that was refused, and the item after the refused one.
+fn fill(rodeo: &mut Metered<'_, Spur>) -> Filled {
     let mut items = ["ab", "cd", "e", "f"].into_iter();
     let refusal = refusal_of(rodeo.extend(items.by_ref()));
     (refusal, items.next())
 }
 
+fn is_filled(filled: Filled, kind: LassoErrorKind, next: &str) -> bool {
+    is_kind(filled.0, kind) && is_text(filled.1, next)
+}
+
+// Checks an interner in which "ab" or "cd" ran out of memory: the next item is the one after it, and the items
+// before it stay.
+fn keeps_items(rt: &impl Abort, rodeo: &Metered<'_, Spur>, filled: Filled, bytes: usize) {
+    if is_filled(filled, MEMORY, "cd") {
+        holds(rt, rodeo, &[], bytes);
+    } else {
+        is_so(rt, is_filled(filled, MEMORY, "e"), "the second item");
+        holds(rt, rodeo, &["ab"], bytes);
+    }
+}
+
 // "ab" and "cd" use up the limit of 4 bytes, in one bucket of 4 bytes or in two of 2. If one of them runs out
-// of memory, the next item is the one after it, and the items before it stay.
-fn extended_to_the_limit(rt: &impl Abort, memory: &Memory, bytes: usize) -> Result<(), Fail>
-    requires { 0 < bytes }
-{
-    let Some(mut rodeo) = interner::<Spur>(rt, memory, bytes, 4) else {
-        return Ok(());
-    };
-    let mut answer = refused_filling(&mut rodeo);
+// of memory, the items are added again.
+fn extends_to_the_limit(
+    rt: &impl Abort,
+    memory: &Memory,
+    rodeo: &mut Metered<'_, Spur>,
+    bytes: usize,
+) {
+    let mut filled = fill(rodeo);
     for _refusal in 0..REFUSALS {
-        if !memory.has_refused_anew() || answer.0 == Some(LIMIT) {
+        if !memory.has_refused_anew() || is_kind(filled.0, LIMIT) {
             break;
         }
-        if answer == (Some(MEMORY), Some("cd")) {
-            holds(rt, &rodeo, &[], bytes);
-        } else {
-            assert!(rt; answer == (Some(MEMORY), Some("e")));
-            holds(rt, &rodeo, &["ab"], bytes);
-        }
-        answer = refused_filling(&mut rodeo);
+        keeps_items(rt, rodeo, filled, bytes);
+        filled = fill(rodeo);
     }
-    assert!(rt; answer == (Some(LIMIT), Some("f")));
-    holds(rt, &rodeo, &["ab", "cd"], 4);
-    Ok(())
+    is_so(rt, is_filled(filled, LIMIT, "f"), "the item past the limit");
+    holds(rt, rodeo, &["ab", "cd"], 4);
 }
 
-fn into_one_bucket<R: AllocGlobal + Abort>(rt: &R, memory: &Memory) -> Result<(), Fail> {
-    extended_to_the_limit(rt, memory, 4)
-}
-
-fn into_two_buckets<R: AllocGlobal + Abort>(rt: &R, memory: &Memory) -> Result<(), Fail> {
-    extended_to_the_limit(rt, memory, 2)
-}
-
-fn made_of_items<R: AllocGlobal + Abort>(rt: &R, memory: &Memory) -> Result<(), Fail> {
-    let texts = ["one string", "two string", "red string", "blue string"];
-    if let Some(rodeo) = made(rt, memory, Metered::<Spur>::from_iter(memory, texts)) {
-        holds(rt, &rodeo, &texts, 4096);
+fn extended_to_the_limit(rt: &impl Abort, memory: &Memory, bytes: usize)
+    requires { 0 < bytes }
+{
+    if let Some(mut rodeo) = interner::<Spur>(rt, memory, bytes, 4) {
+        extends_to_the_limit(rt, memory, &mut rodeo, bytes);
     }
+}
+
+const STRINGS: [&str; 4] = ["one string", "two string", "red string", "blue string"];
+
+fn of_strings<'a>(memory: &'a Memory) -> LassoResult<Metered<'a, Spur>> {
+    Metered::from_iter(memory, STRINGS)
+}
+
+fn made_of_items(rt: &impl Abort, memory: &Memory) {
+    if let Some(rodeo) = made(rt, memory, of_strings(memory)) {
+        holds(rt, &rodeo, &STRINGS, 4096);
+    }
+}
+
+fn fills_interners<R: AllocGlobal + Abort>(rt: &R, memory: &Memory) -> Result<(), Fail> {
+    extended_to_the_limit(rt, memory, 4);
+    extended_to_the_limit(rt, memory, 2);
+    made_of_items(rt, memory);
     Ok(())
 }
 
 #[test]
 fn interners_filled_from_items(rt: HostRuntime) -> Result<(), Fail> {
-    each_refused(&rt, into_one_bucket)?;
-    each_refused(&rt, into_two_buckets)?;
-    each_refused(&rt, made_of_items)
+    each_refused(&rt, fills_interners)
 }

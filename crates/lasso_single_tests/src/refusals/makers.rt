@@ -1,5 +1,9 @@
 //! Each maker of an empty interner, and copies of the interners.
+use super::copies::{Name, clone_of, copies};
 use super::*;
+use crate::checks::is_so_at;
+
+const A: &[&str] = &["a"];
 
 // Makes an interner by the maker of this number.
 fn by_maker<'a>(memory: &'a Memory, maker: usize) -> LassoResult<Metered<'a, Spur>> {
@@ -20,39 +24,43 @@ fn by_maker<'a>(memory: &'a Memory, maker: usize) -> LassoResult<Metered<'a, Spu
     }
 }
 
-// Checks an interner by the maker of this number: it takes `usage` bytes, and the copies of its only text, of
-// one byte, take one byte.
-fn copies(rt: &impl Abort, memory: &Memory, maker: usize, usage: usize) -> Result<(), Fail> {
-    let Some(mut rodeo) = made(rt, memory, by_maker(memory, maker)) else {
-        assert!(rt; memory.bytes_out() == 0);
-        return Ok(());
-    };
-    holds(rt, &rodeo, &[], usage);
-    gives(rt, memory, &mut rodeo, "a", Ok(0));
-    let mut copy = match rodeo.clone() {
-        Ok(copy) => copy,
-        Err(refusal) => {
-            is_refused(rt, memory, refusal.kind());
-            rodeo.clone()?
-        }
-    };
-    if let Err(refusal) = copy.clone_from(&rodeo) {
-        is_refused(rt, memory, refusal.kind());
-        holds(rt, &copy, &[], 1);
-        copy.clone_from(&rodeo)?;
-    }
-    holds(rt, &copy, &["a"], 1);
-    holds(rt, &rodeo, &["a"], usage);
+// Checks an empty interner: it takes `usage` bytes, and the copies of its only text, of one byte, take one
+// byte.
+fn copies_one_text(
+    rt: &impl Abort,
+    memory: &Memory,
+    rodeo: &mut Metered<'_, Spur>,
+    usage: usize,
+) -> Result<(), Fail> {
+    is_in(rt, rodeo, (&[], usage));
+    let row = (Intern("a"), Ok(0), (A, usage));
+    gives(rt, memory, rodeo, (&[], usage), row);
+    let mut copy = clone_of(rt, memory, rodeo, Name::Plain, (A, usage))?;
+    let refusal = copies(rt, memory, &mut copy, rodeo, Name::Plain, 1);
+    is_so(rt, refusal.is_none(), "a copy");
+    is_in(rt, &copy, (A, 1));
+    is_in(rt, rodeo, (A, usage));
     Ok(())
 }
 
+// Checks an interner by the maker of this number.
+fn is_made(rt: &impl Abort, memory: &Memory, maker: usize, usage: usize) -> Result<(), Fail> {
+    match made(rt, memory, by_maker(memory, maker)) {
+        Some(mut rodeo) => copies_one_text(rt, memory, &mut rodeo, usage),
+        None => {
+            is_so_at(rt, memory.bytes_out() == 0, maker);
+            Ok(())
+        }
+    }
+}
+
+// The bytes that an interner by each maker takes.
+static USAGES: [usize; 8] = [4096, 4096, 10, 4096, 10, 4096, 10, 10];
+
 fn each_maker<R: AllocGlobal + Abort>(rt: &R, memory: &Memory) -> Result<(), Fail> {
-    for (maker, usage) in [4096usize, 4096, 10, 4096, 10, 4096, 10, 10]
-        .into_iter()
-        .enumerate()
-    {
-        copies(rt, memory, maker, usage)?;
-        assert!(rt; memory.bytes_out() == 0, "{maker}");
+    for (maker, usage) in USAGES.iter().enumerate() {
+        is_made(rt, memory, maker, *usage)?;
+        is_so_at(rt, memory.bytes_out() == 0, maker);
     }
     Ok(())
 }

@@ -1,5 +1,6 @@
 //! Interners read from JSON, and written with the global allocator.
 use super::*;
+use crate::checks::is_text;
 use lasso_parts::json::{JsonError, JsonKey};
 use lasso_single::reader::RodeoReader;
 use lasso_single::resolver::RodeoResolver;
@@ -20,32 +21,57 @@ fn read(memory: &Memory, value: &Value, form: usize) -> Result<usize, JsonError>
     }
 }
 
-// A call that runs out of memory leaves nothing allocated, and the same call made again returns what the
-// first would have.
-fn each_form<R: AllocGlobal + Abort>(rt: &R, memory: &Memory) -> Result<(), Fail> {
-    let doubled = Err(JsonError::Doubled(2));
-    let no_text = Err(JsonError::NotText(1));
-    let rows = [
-        (r#"["a","b","a"]"#, [doubled, doubled, Ok(3)]),
-        (r#"["a",1]"#, [no_text, no_text, no_text]),
-        ("[]", [Ok(0), Ok(0), Ok(0)]),
-        (r#"["a","bc"]"#, [Ok(2), Ok(2), Ok(2)]),
-    ];
-    for (text, wanted) in rows {
-        let value = Value::from_str(rt.alloc(), text)?;
-        for (form, wanted) in wanted.into_iter().enumerate() {
-            let mut found = read(memory, &value, form);
-            for _refusal in 0..REFUSALS {
-                if !memory.has_refused_anew() {
-                    break;
-                }
-                assert!(rt; found == Err(WANTING), "{text}");
-                assert!(rt; memory.bytes_out() == 0, "{text}");
-                found = read(memory, &value, form);
-            }
-            assert!(rt; found == wanted, "{text}");
-            assert!(rt; memory.bytes_out() == 0, "{text}");
+fn is_read(found: Result<usize, JsonError>, wanted: Result<usize, JsonError>) -> bool {
+    found == wanted
+}
+
+// Checks that a form reads so from the value of the text. A call that runs out of memory leaves nothing
+// allocated, and the same call made again returns what the first would have.
+fn reads(
+    rt: &impl Abort,
+    memory: &Memory,
+    text: &str,
+    value: &Value,
+    form: usize,
+    wanted: Result<usize, JsonError>,
+) {
+    let mut found = read(memory, value, form);
+    for _refusal in 0..REFUSALS {
+        if !memory.has_refused_anew() {
+            break;
         }
+        is_so(rt, is_read(found, Err(WANTING)), text);
+        is_so(rt, memory.bytes_out() == 0, text);
+        found = read(memory, value, form);
+    }
+    is_so(rt, is_read(found, wanted), text);
+    is_so(rt, memory.bytes_out() == 0, text);
+}
+
+type Read = Result<usize, JsonError>;
+
+const DOUBLED: Read = Err(JsonError::Doubled(2));
+
+const NO_TEXT: Read = Err(JsonError::NotText(1));
+
+// What an interner, a reader and a resolver read from the text.
+static FORMS: [(&str, [Read; 3]); 4] = [
+    (r#"["a","b","a"]"#, [DOUBLED, DOUBLED, Ok(3)]),
+    (r#"["a",1]"#, [NO_TEXT, NO_TEXT, NO_TEXT]),
+    ("[]", [Ok(0), Ok(0), Ok(0)]),
+    (r#"["a","bc"]"#, [Ok(2), Ok(2), Ok(2)]),
+];
+
+fn reads_each(rt: &impl Abort, memory: &Memory, text: &str, value: &Value, wanted: &[Read]) {
+    for (form, wanted) in wanted.iter().enumerate() {
+        reads(rt, memory, text, value, form, *wanted);
+    }
+}
+
+fn each_form<R: AllocGlobal + Abort>(rt: &R, memory: &Memory) -> Result<(), Fail> {
+    for (text, wanted) in FORMS.iter() {
+        let value = Value::from_str(rt.alloc(), *text)?;
+        reads_each(rt, memory, *text, &value, wanted.as_slice());
     }
     Ok(())
 }
@@ -55,36 +81,59 @@ fn was_read<T>(rt: &impl Abort, memory: &Memory, outcome: Result<T, JsonError>) 
     match outcome {
         Ok(made) => Some(made),
         Err(fault) => {
-            assert!(rt; memory.has_refused_anew());
-            assert!(rt; fault == WANTING);
+            is_so(rt, memory.has_refused_anew(), "a refused request");
+            is_so(rt, fault == WANTING, "why nothing was read");
             None
         }
     }
 }
 
+// Whether the texts are exactly these, in this order.
+fn has_texts(resolver: &Resolver<'_>, texts: &[&str]) -> bool {
+    let mut walk = resolver.strings();
+    for text in texts {
+        if !is_text(walk.next(), text) {
+            return false;
+        }
+    }
+    walk.next().is_none()
+}
+
+fn reads_three(rt: &impl Abort, memory: &Memory, value: &Value) {
+    if let Some(resolver) = was_read(rt, memory, Resolver::deserialize(memory, value)) {
+        is_so(rt, has_texts(&resolver, &["a", "b", "a"]), "the texts");
+    }
+}
+
 fn three_texts<R: AllocGlobal + Abort>(rt: &R, memory: &Memory) -> Result<(), Fail> {
     let value = Value::from_str(rt.alloc(), r#"["a","b","a"]"#)?;
-    if let Some(resolver) = was_read(rt, memory, Resolver::deserialize(memory, &value)) {
-        let mut walk = resolver.strings();
-        for text in ["a", "b", "a"] {
-            assert!(rt; walk.next() == Some(text));
-        }
-        assert!(rt; walk.next() == None);
+    reads_three(rt, memory, &value);
+    Ok(())
+}
+
+// Reads an interner from the value, and checks its state.
+fn reads_value(rt: &impl Abort, memory: &Memory, value: &Value, state: State) {
+    if let Some(rodeo) = was_read(rt, memory, Metered::<Spur>::deserialize(memory, value)) {
+        is_in(rt, &rodeo, state);
     }
+}
+
+// The same from the value of the JSON text.
+fn reads_interner<R: AllocGlobal + Abort>(
+    rt: &R,
+    memory: &Memory,
+    text: &str,
+    state: State,
+) -> Result<(), Fail> {
+    let value = Value::from_str(rt.alloc(), text)?;
+    reads_value(rt, memory, &value, state);
     Ok(())
 }
 
 // Two texts of three bytes get a bucket of three bytes. Without texts the bucket has the usual 4096.
 fn read_interners<R: AllocGlobal + Abort>(rt: &R, memory: &Memory) -> Result<(), Fail> {
-    let value = Value::from_str(rt.alloc(), r#"["a","bc"]"#)?;
-    if let Some(rodeo) = was_read(rt, memory, Metered::<Spur>::deserialize(memory, &value)) {
-        holds(rt, &rodeo, &["a", "bc"], 3);
-    }
-    let value = Value::from_str(rt.alloc(), "[]")?;
-    if let Some(rodeo) = was_read(rt, memory, Metered::<Spur>::deserialize(memory, &value)) {
-        holds(rt, &rodeo, &[], 4096);
-    }
-    Ok(())
+    reads_interner(rt, memory, r#"["a","bc"]"#, (&["a", "bc"], 3))?;
+    reads_interner(rt, memory, "[]", (&[], 4096))
 }
 
 #[test]
@@ -92,10 +141,54 @@ fn values_that_are_read(rt: HostRuntime) -> Result<(), Fail> {
     each_refused(&rt, each_form)
 }
 
+fn reads_texts<R: AllocGlobal + Abort>(rt: &R, memory: &Memory) -> Result<(), Fail> {
+    three_texts(rt, memory)?;
+    read_interners(rt, memory)
+}
+
 #[test]
 fn what_was_read(rt: HostRuntime) -> Result<(), Fail> {
-    each_refused(&rt, three_texts)?;
-    each_refused(&rt, read_interners)
+    each_refused(&rt, reads_texts)
+}
+
+// The value of the interner, written again if the first call runs out of memory.
+fn value_of<R: AllocGlobal + Abort>(rt: &R, rodeo: &Metered<'_, Spur>) -> Result<Value, Fail> {
+    match rodeo.serialize(rt.alloc()) {
+        Ok(value) => Ok(value),
+        Err(fault) => {
+            is_so(rt, fault == WANTING, "why nothing was written");
+            holds(rt, rodeo, &["b", "a"], 4096);
+            Ok(rodeo.serialize(rt.alloc())?)
+        }
+    }
+}
+
+fn is_written(alloc: Global, value: &Value) -> Result<bool, Fail> {
+    let text = value.to_string(alloc)?;
+    Ok(text.as_str() == r#"["b","a"]"#)
+}
+
+fn is_one(alloc: Global, key: Spur) -> bool {
+    match key.key_to_json(alloc) {
+        Ok(number) => number.as_u64() == Some(1),
+        Err(_fault) => false,
+    }
+}
+
+// Whether the key of "b" is 1 in JSON, and still stands for the text.
+fn has_first_key(alloc: Global, rodeo: &Metered<'_, Spur>) -> bool {
+    match rodeo.get("b") {
+        Some(first) => is_one(alloc, first) && is_text(rodeo.try_resolve(first), "b"),
+        None => false,
+    }
+}
+
+fn writes<R: AllocGlobal + Abort>(rt: &R, rodeo: &Metered<'_, Spur>) -> Result<(), Fail> {
+    let value = value_of(rt, rodeo)?;
+    is_so(rt, is_written(rt.alloc(), &value)?, "the value");
+    holds(rt, rodeo, &["b", "a"], 4096);
+    is_so(rt, has_first_key(rt.alloc(), rodeo), "the first key");
+    Ok(())
 }
 
 // If writing runs out of memory (`rt try --test --fail-alloc N`), the interner is unchanged, and the same
@@ -104,18 +197,5 @@ fn what_was_read(rt: HostRuntime) -> Result<(), Fail> {
 fn what_is_written_changes_nothing(rt: HostRuntime) -> Result<(), Fail> {
     let memory = Refusing::new(rt.alloc(), 0);
     let rodeo = Metered::<Spur>::from_iter(&memory, ["b", "a"])?;
-    let value = match rodeo.serialize(rt.alloc()) {
-        Ok(value) => value,
-        Err(fault) => {
-            assert!(rt; fault == WANTING);
-            holds(&rt, &rodeo, &["b", "a"], 4096);
-            rodeo.serialize(rt.alloc())?
-        }
-    };
-    assert!(rt; value.to_string(rt.alloc())?.as_str() == r#"["b","a"]"#);
-    holds(&rt, &rodeo, &["b", "a"], 4096);
-    let first = rodeo.get("b").ok_or("not there")?;
-    assert!(rt; first.key_to_json(rt.alloc())?.as_u64() == Some(1));
-    assert!(rt; rodeo.try_resolve(first) == Some("b"));
-    Ok(())
+    writes(&rt, &rodeo)
 }

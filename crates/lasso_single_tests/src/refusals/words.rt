@@ -1,54 +1,85 @@
 //! Interners made from static words, and lists of texts interned by one call.
 use super::*;
+use crate::checks::{LIMIT, is_kind, refusal_of};
 
-const WORDS: [&str; 3] = ["if", "else", "a word of more bytes than an entry has"];
+const LONG: &str = "a word of more bytes than an entry has";
+
+const WORDS: [&str; 3] = ["if", "else", LONG];
+
+const WITH_WIDTH: [&str; 4] = ["if", "else", LONG, "width"];
 
 // A present word keeps its key, and a new text gets the key after the words.
-fn opened_with_words<R: AllocGlobal + Abort>(rt: &R, memory: &Memory) -> Result<(), Fail> {
-    let Some(mut rodeo) = made(rt, memory, Metered::<Spur>::from_static(memory, &WORDS)) else {
-        assert!(rt; memory.bytes_out() == 0);
-        return Ok(());
-    };
-    holds(rt, &rodeo, &WORDS, 4096);
-    gives(rt, memory, &mut rodeo, "else", Ok(1));
-    gives(rt, memory, &mut rodeo, "width", Ok(3));
-    Ok(())
+fn interns_after_words(rt: &impl Abort, memory: &Memory, rodeo: &mut Metered<'_, Spur>) {
+    static ROWS: [Row; 2] = [
+        (Intern("else"), Ok(1), (&WORDS, 4096)),
+        (Intern("width"), Ok(3), (&WITH_WIDTH, 4096)),
+    ];
+    is_in(rt, rodeo, (&WORDS, 4096));
+    gives_each(rt, memory, rodeo, (&WORDS, 4096), &ROWS);
 }
 
-// "ab" and "cd" use up the limit of 4 bytes. The list of keys allocates too, and that may be refused as well.
-fn listed<R: AllocGlobal + Abort>(rt: &R, memory: &Memory) -> Result<(), Fail> {
-    let Some(mut rodeo) = interner::<Spur>(rt, memory, 2, 4) else {
-        return Ok(());
-    };
-    let mut keys: Vec<Spur, &Memory> = Vec::new(memory);
+fn opened_with_words(rt: &impl Abort, memory: &Memory) {
+    match made(rt, memory, Metered::<Spur>::from_static(memory, &WORDS)) {
+        Some(mut rodeo) => interns_after_words(rt, memory, &mut rodeo),
+        None => is_so(rt, memory.bytes_out() == 0, "the bytes that are out"),
+    }
+}
+
+type Keys<'a> = Vec<Spur, &'a Memory>;
+
+fn intern_all<'a>(
+    rodeo: &mut Metered<'a, Spur>,
+    texts: &[&str],
+    keys: &mut Keys<'a>,
+) -> Option<LassoErrorKind> {
+    refusal_of(rodeo.try_get_or_intern_all(texts, keys))
+}
+
+// Interns the list from the text after the last key on, again while a request is refused, until the limit
+// refuses "e".
+fn lists<'a>(rt: &impl Abort, memory: &Memory, rodeo: &mut Metered<'a, Spur>, keys: &mut Keys<'a>) {
     let mut taken = 0;
     for _refusal in 0..REFUSALS {
         let Some(rest) = ["ab", "cd", "ab", "e"].get(taken..) else {
             break;
         };
-        let refusal = refusal_of(rodeo.try_get_or_intern_all(rest, &mut keys));
+        let refusal = intern_all(rodeo, rest, keys);
         taken = keys.len();
         if !memory.has_refused_anew() {
-            assert!(rt; refusal == Some(LIMIT));
+            is_so(rt, is_kind(refusal, LIMIT), "the text past the limit");
             break;
         }
-        assert!(rt; refusal == Some(MEMORY));
-        assert!(rt; rodeo.len() <= taken);
+        is_so(rt, is_kind(refusal, MEMORY), "a text out of memory");
+        is_so(rt, rodeo.len() <= taken, "the texts without a key");
     }
-    let refusal = refusal_of(rodeo.try_get_or_intern_all(&["ab", "cd", "e"], &mut keys));
-    assert!(rt;
-        refusal
-            == Some(if memory.has_refused_anew() {
-                MEMORY
-            } else {
-                LIMIT
-            })
-    );
+}
+
+// The error of a list that the limit refuses, unless a request is refused first.
+fn ends_list(memory: &Memory) -> LassoErrorKind {
+    if memory.has_refused_anew() {
+        MEMORY
+    } else {
+        LIMIT
+    }
+}
+
+// "ab" and "cd" use up the limit of 4 bytes. The list of keys allocates too, and that may be refused as well.
+fn listed(rt: &impl Abort, memory: &Memory) {
+    if let Some(mut rodeo) = interner::<Spur>(rt, memory, 2, 4) {
+        let mut keys: Keys<'_> = Vec::new(memory);
+        lists(rt, memory, &mut rodeo, &mut keys);
+        let refusal = intern_all(&mut rodeo, &["ab", "cd", "e"], &mut keys);
+        is_so(rt, is_kind(refusal, ends_list(memory)), "the last list");
+    }
+}
+
+fn interns_words_and_lists<R: AllocGlobal + Abort>(rt: &R, memory: &Memory) -> Result<(), Fail> {
+    opened_with_words(rt, memory);
+    listed(rt, memory);
     Ok(())
 }
 
 #[test]
 fn words_and_lists(rt: HostRuntime) -> Result<(), Fail> {
-    each_refused(&rt, opened_with_words)?;
-    each_refused(&rt, listed)
+    each_refused(&rt, interns_words_and_lists)
 }

@@ -1,86 +1,106 @@
 //! Keys after a clear, keys that are used up, and changed limits.
 
-use super::*;
-use lasso_parts::keys::MicroSpur;
+use crate::checks::{KEYS, LIMIT, is_refused, is_so};
+use crate::interners::{Small, has_count, stands_for, stands_for_nothing};
+use crate::steps::Step::{Gives, Keeps, Limits, Numbers};
+use crate::steps::{Step, runs, script};
+use lasso_parts::keys::{MicroSpur, Spur};
+use lasso_parts::util::{Capacity, FixedState, LassoResult, MemoryLimits};
+use lasso_single::rodeo::Rodeo;
+use lasso_testing::hashers::SameState;
+use std::alloc::Global;
 use std::hash::BuildHasher;
+use std::process::Abort;
+use std::test::Fail;
+
+const RAINBOW: &str = "Somewhere over the rainbow...";
+
+fn key_outlives(rt: &impl Abort, rodeo: &mut Small) -> Result<(), Fail> {
+    let key = rodeo.get_or_intern(RAINBOW)?;
+    is_so(rt, has_count(rodeo, 1), "one text");
+    is_so(rt, stands_for(rodeo, key, RAINBOW), "its key");
+    rodeo.clear();
+    is_so(rt, has_count(rodeo, 0), "no text");
+    is_so(
+        rt,
+        stands_for_nothing(rodeo, key),
+        "the key after the clear",
+    );
+    Ok(())
+}
 
 #[test]
 fn a_key_outlives_its_text(rt: HostRuntime) -> Result<(), Fail> {
-    let mut rodeo = Rodeo::default(rt.alloc())?;
-    let key = rodeo.get_or_intern("Somewhere over the rainbow...")?;
-    assert!(rt; rodeo.len() == 1);
-    if rodeo.contains_key(key) {
-        assert!(rt; rodeo.resolve_unchecked(key) == "Somewhere over the rainbow...");
-    } else {
-        assert!(rt; false, "the key stands for no text");
-    }
-    rodeo.clear();
-    assert!(rt; rodeo.len() == 0);
-    assert!(rt; rodeo.try_resolve(key) == None);
-    Ok(())
+    let mut rodeo: Small = Rodeo::default(rt.alloc())?;
+    key_outlives(&rt, &mut rodeo)
+}
+
+type Micro<S> = Rodeo<MicroSpur, S, Global>;
+
+// Its first bucket has 655 bytes, which are the limit.
+fn of_655_bytes<S: BuildHasher + Default + Drop>(alloc: Global) -> LassoResult<Micro<S>> {
+    Rodeo::with_capacity_memory_limits_and_hasher(
+        alloc,
+        Capacity::for_bytes(655),
+        MemoryLimits::new(655),
+        S::default(),
+    )
+}
+
+fn is_refused_static<S: BuildHasher>(rodeo: &mut Micro<S>, text: &'static str) -> bool {
+    is_refused(rodeo.get_or_intern_static(text), KEYS)
 }
 
 // Interns the numbers below 255 in decimal, which use up the keys and all 655 bytes: 10 numbers have one
 // digit, 90 have two and 155 have three.
-fn uses_keys_up<S: BuildHasher + Default + Drop, R: AllocGlobal + Abort>(
+fn uses_keys_up<S: BuildHasher + Drop, R: AllocGlobal + Abort>(
     rt: &R,
+    made: LassoResult<Micro<S>>,
 ) -> Result<(), Fail> {
-    let (room, limits) = (Capacity::for_bytes(655), MemoryLimits::new(655));
-    let mut rodeo: Rodeo<MicroSpur, S, Global> = Rodeo::with_capacity_memory_limits_and_hasher(
-        rt.alloc(),
-        room,
-        limits,
-        S::default(),
-    )?;
-    for number in 0..255usize {
-        let text = format!(in rt.alloc(); "{number}")?;
-        let key = rodeo.try_get_or_intern(text.as_str())?;
-        assert!(rt; key.into_usize() == number);
-    }
-    let rows = [("x", Err(KEYS)), ("0", Ok(0)), ("", Err(KEYS))];
-    gives(rt, &mut rodeo, &rows, 655);
-    for text in ["x", ""] {
-        let refusal = rodeo.get_or_intern_static(text).err().ok_or("not refused")?;
-        assert!(rt; refusal.kind() == KEYS);
-    }
+    static STEPS: [Step; 4] = [
+        Numbers(255, 655),
+        Gives("x", Err(KEYS), 655),
+        Gives("0", Ok(0), 655),
+        Gives("", Err(KEYS), 655),
+    ];
+    let mut rodeo = made?;
+    runs(rt, &mut rodeo, &STEPS);
+    is_so(rt, is_refused_static(&mut rodeo, "x"), "a static text");
+    is_so(
+        rt,
+        is_refused_static(&mut rodeo, ""),
+        "the empty static text",
+    );
     Ok(())
 }
 
 #[test]
 fn keys_used_up_refuse_new_texts_alone(rt: HostRuntime) -> Result<(), Fail> {
-    uses_keys_up::<FixedState, HostRuntime>(&rt)?;
-    uses_keys_up::<SameState, HostRuntime>(&rt)
+    uses_keys_up(&rt, of_655_bytes::<FixedState>(rt.alloc()))?;
+    uses_keys_up(&rt, of_655_bytes::<SameState>(rt.alloc()))
 }
 
 #[test]
 fn a_limit_of_nothing_keeps_the_room(rt: HostRuntime) -> Result<(), Fail> {
-    let mut rodeo = interner::<Spur>(rt.alloc(), 10, usize::MAX)?;
-    gives(&rt, &mut rodeo, &[("abc", Ok(0))], 10);
-    rodeo.set_memory_limits(MemoryLimits::new(0));
-    assert!(rt; rodeo.max_memory_usage() == 0);
-    let rows = [("defg", Ok(1)), ("0123456789", Err(LIMIT)), ("abc", Ok(0))];
-    gives(&rt, &mut rodeo, &rows, 10);
-    let key = rodeo.try_get_or_intern_static("0123456789")?;
-    assert!(rt; key.into_usize() == 2);
-    assert!(rt; rodeo.current_memory_usage() == 10);
-    Ok(())
+    static STEPS: [Step; 6] = [
+        Gives("abc", Ok(0), 10),
+        Limits(0),
+        Gives("defg", Ok(1), 10),
+        Gives("0123456789", Err(LIMIT), 10),
+        Gives("abc", Ok(0), 10),
+        Keeps("0123456789", Ok(2), 10),
+    ];
+    script::<Spur, _>(&rt, 10, usize::MAX, &STEPS)
 }
 
 #[test]
 fn a_raised_limit_is_used_up(rt: HostRuntime) -> Result<(), Fail> {
-    let mut rodeo = interner::<Spur>(rt.alloc(), 10, 10)?;
-    gives(
-        &rt,
-        &mut rodeo,
-        &[("0123456789", Ok(0)), ("a", Err(LIMIT))],
-        10,
-    );
-    rodeo.set_memory_limits(MemoryLimits::new(20));
-    gives(
-        &rt,
-        &mut rodeo,
-        &[("9876543210", Ok(1)), ("a", Err(LIMIT))],
-        20,
-    );
-    Ok(())
+    static STEPS: [Step; 5] = [
+        Gives("0123456789", Ok(0), 10),
+        Gives("a", Err(LIMIT), 10),
+        Limits(20),
+        Gives("9876543210", Ok(1), 20),
+        Gives("a", Err(LIMIT), 20),
+    ];
+    script::<Spur, _>(&rt, 10, 10, &STEPS)
 }

@@ -1,18 +1,43 @@
 //! Interners filled from items, also where the keys or the limit refuse one, or where the size hint is huge.
-use super::*;
+
+use crate::checks::{KEYS, LIMIT, is_refused, is_so, is_text};
+use crate::interners::{Small, has_count, interner};
+use crate::steps::Step::{Counts, Fills};
+use crate::steps::{Step, script};
+use lasso_parts::keys::{MicroSpur, Spur};
+use lasso_parts::util::{FixedState, LassoResult};
+use lasso_single::rodeo::Rodeo;
+use lasso_testing::keys::Gap;
+use std::alloc::Global;
 use std::iter::repeat_n;
+use std::test::Fail;
+
+type Micro = Rodeo<MicroSpur, FixedState, Global>;
+
+type Keyless = Rodeo<Gap<0>, FixedState, Global>;
+
+fn number_texts(alloc: Global, count: usize) -> Result<Vec<String>, Fail> {
+    let mut texts: Vec<String> = Vec::new(alloc);
+    for number in 0..count {
+        texts.push(format!(in alloc; "{number}")?)?;
+    }
+    Ok(texts)
+}
 
 #[test]
 fn items_past_the_keys(rt: HostRuntime) -> Result<(), Fail> {
-    let mut texts: Vec<String> = Vec::new(rt.alloc());
-    for number in 0..256usize {
-        texts.push(format!(in rt.alloc(); "{number}")?)?;
-    }
-    let refusal = Rodeo::<MicroSpur, FixedState, Global>::from_iter(rt.alloc(), texts)
-        .err()
-        .ok_or("not refused")?;
-    assert!(rt; refusal.kind() == KEYS);
+    let texts = number_texts(rt.alloc(), 256)?;
+    let made = Micro::from_iter(rt.alloc(), texts);
+    is_so(&rt, is_refused(made, KEYS), "256 texts for 255 keys");
     Ok(())
+}
+
+fn fill_without_end(rodeo: &mut Small) -> LassoResult<()> {
+    rodeo.extend(repeat_n("abcde", usize::MAX))
+}
+
+fn keyless_of_no_end(alloc: Global) -> LassoResult<Keyless> {
+    Keyless::from_iter(alloc, repeat_n("pp", usize::MAX))
 }
 
 // The size hint is more than memory can hold. That is no error: the error is that of the first item, which
@@ -20,37 +45,33 @@ fn items_past_the_keys(rt: HostRuntime) -> Result<(), Fail> {
 #[test]
 fn a_hint_past_all_memory(rt: HostRuntime) -> Result<(), Fail> {
     let mut rodeo = interner::<Spur>(rt.alloc(), 4, 4)?;
-    let refusal = rodeo
-        .extend(repeat_n("abcde", usize::MAX))
-        .err()
-        .ok_or("not refused")?;
-    assert!(rt; refusal.kind() == LIMIT);
-    assert!(rt; rodeo.len() == 0);
-    let refusal = Rodeo::<Gap<0>, FixedState, Global>::from_iter(
-        rt.alloc(),
-        repeat_n("pp", usize::MAX),
-    ).err()
-        .ok_or("not refused")?;
-    assert!(rt; refusal.kind() == KEYS);
+    is_so(
+        &rt,
+        is_refused(fill_without_end(&mut rodeo), LIMIT),
+        "the limit",
+    );
+    is_so(&rt, has_count(&rodeo, 0), "no text");
+    let made = keyless_of_no_end(rt.alloc());
+    is_so(&rt, is_refused(made, KEYS), "the key type");
     Ok(())
+}
+
+// The limit refuses "cde", which is taken from the items, and the next item is still there.
+fn is_filled_to_the_limit(rodeo: &mut Small) -> bool {
+    let mut items = ["ab", "cde", "f", "g"].into_iter();
+    is_refused(rodeo.extend(items.by_ref()), LIMIT) && is_text(items.next(), "f")
 }
 
 #[test]
 fn items_behind_a_refused_one_are_not_taken(rt: HostRuntime) -> Result<(), Fail> {
     let mut rodeo = interner::<Spur>(rt.alloc(), 4, 4)?;
-    let mut items = ["ab", "cde", "f", "g"].into_iter();
-    let refusal = rodeo.extend(items.by_ref()).err().ok_or("not refused")?;
-    assert!(rt; refusal.kind() == LIMIT);
-    assert!(rt; rodeo.len() == 1);
-    assert!(rt; items.next() == Some("f"));
+    is_so(&rt, is_filled_to_the_limit(&mut rodeo), "the next item");
+    is_so(&rt, has_count(&rodeo, 1), "one text");
     Ok(())
 }
 
 #[test]
 fn texts_of_a_lent_array(rt: HostRuntime) -> Result<(), Fail> {
-    let mut rodeo = interner::<Spur>(rt.alloc(), 4, 4)?;
-    let texts = ["ab", "c", "ab"];
-    rodeo.extend(texts.iter().copied())?;
-    assert!(rt; rodeo.len() == 2);
-    Ok(())
+    static STEPS: [Step; 2] = [Fills(&["ab", "c", "ab"], None), Counts(2)];
+    script::<Spur, _>(&rt, 4, 4, &STEPS)
 }

@@ -1,6 +1,18 @@
 //! Interners made from static words, and the checks of such words.
-use super::*;
+
+use crate::checks::{KEYS, is_refused, is_so};
+use crate::interners::{Small, takes};
+use crate::steps::Step::{At, Counts, Gives};
+use crate::steps::{Step, script_on};
+use lasso_parts::keys::MicroSpur;
+use lasso_parts::util::{FixedState, LassoResult};
+use lasso_single::rodeo::Rodeo;
 use lasso_single::words::{are_distinct, have_keys};
+use lasso_testing::keys::Gap;
+use std::alloc::Global;
+use std::test::Fail;
+
+type Sparse = Rodeo<Gap<2>, FixedState, Global>;
 
 const KEYWORDS: [&str; 4] = [
     "if",
@@ -9,59 +21,78 @@ const KEYWORDS: [&str; 4] = [
     "a word of more bytes than an entry has",
 ];
 
+fn of_keywords(alloc: Global) -> LassoResult<Small> {
+    Rodeo::from_static(alloc, &KEYWORDS)
+}
+
 #[test]
 fn words_have_the_lowest_keys(rt: HostRuntime) -> Result<(), Fail> {
-    let mut rodeo = Rodeo::<Spur, FixedState, Global>::from_static(rt.alloc(), &KEYWORDS)?;
-    assert!(rt; rodeo.len() == KEYWORDS.len());
-    for (position, word) in KEYWORDS.into_iter().enumerate() {
-        let key = rodeo.try_get_or_intern(word)?;
-        assert!(rt; key.into_usize() == position, "{word}");
-        assert!(rt; rodeo.try_resolve(key) == Some(word), "{word}");
-    }
-    let name = rodeo.try_get_or_intern("width")?;
-    assert!(rt; name.into_usize() == KEYWORDS.len());
-    assert!(rt; rodeo.current_memory_usage() == 4096);
+    const LONG: &str = "a word of more bytes than an entry has";
+    static STEPS: [Step; 10] = [
+        Counts(4),
+        Gives("if", Ok(0), 4096),
+        At(0, "if"),
+        Gives("else", Ok(1), 4096),
+        At(1, "else"),
+        Gives("while", Ok(2), 4096),
+        At(2, "while"),
+        Gives(LONG, Ok(3), 4096),
+        At(3, LONG),
+        Gives("width", Ok(4), 4096),
+    ];
+    script_on(&rt, of_keywords(rt.alloc()), &STEPS)
+}
+
+fn interns_4096_bytes(alloc: Global, rodeo: &mut Small) -> Result<(), Fail> {
+    let text = "a".repeat(alloc, 4096)?;
+    rodeo.try_get_or_intern(text.as_str())?;
     Ok(())
 }
 
 // A text of 4096 bytes still fits in the first bucket, so the words take no bytes of it.
 #[test]
 fn words_are_not_copied(rt: HostRuntime) -> Result<(), Fail> {
-    let mut rodeo = Rodeo::<Spur, FixedState, Global>::from_static(rt.alloc(), &KEYWORDS)?;
-    let text = "a".repeat(rt.alloc(), 4096)?;
-    rodeo.try_get_or_intern(text.as_str())?;
-    assert!(rt; rodeo.current_memory_usage() == 4096);
+    let mut rodeo = of_keywords(rt.alloc())?;
+    interns_4096_bytes(rt.alloc(), &mut rodeo)?;
+    is_so(&rt, takes(&rodeo, 4096), "the usage");
     Ok(())
+}
+
+// Its key type has numbers for two words before its gap.
+fn past_the_keys(alloc: Global) -> LassoResult<Sparse> {
+    Rodeo::from_static(alloc, &KEYWORDS)
 }
 
 #[test]
 fn no_words_and_words_past_the_keys(rt: HostRuntime) -> Result<(), Fail> {
-    let none = Rodeo::<Spur, FixedState, Global>::from_static(rt.alloc(), &[])?;
-    assert!(rt; none.is_empty());
-    let two = Rodeo::<Gap<2>, FixedState, Global>::from_static(rt.alloc(), &["p", "q"])?;
-    assert!(rt; two.len() == 2);
-    let refusal = Rodeo::<Gap<2>, FixedState, Global>::from_static(rt.alloc(), &KEYWORDS)
-        .err()
-        .ok_or("not refused")?;
-    assert!(rt; refusal.kind() == KEYS);
+    static NONE: [Step; 1] = [Counts(0)];
+    static TWO: [Step; 1] = [Counts(2)];
+    script_on(&rt, Small::from_static(rt.alloc(), &[]), &NONE)?;
+    script_on(&rt, Sparse::from_static(rt.alloc(), &["p", "q"]), &TWO)?;
+    let refused = is_refused(past_the_keys(rt.alloc()), KEYS);
+    is_so(&rt, refused, "words past the keys");
     Ok(())
 }
 
 #[test]
 fn words_that_come_twice(rt: HostRuntime) -> Result<(), Fail> {
-    assert!(rt; are_distinct(&[]));
-    assert!(rt; are_distinct(&["", "a", "aa"]));
-    assert!(rt; are_distinct(&KEYWORDS));
-    assert!(rt; !are_distinct(&["", ""]));
-    assert!(rt; !are_distinct(&["a", "b", "c", "a"]));
-    assert!(rt; !are_distinct(&["a", "b", "b"]));
+    is_so(&rt, are_distinct(&[]), "no word");
+    is_so(&rt, are_distinct(&["", "a", "aa"]), "three words");
+    is_so(&rt, are_distinct(&KEYWORDS), "the keywords");
+    is_so(&rt, !are_distinct(&["", ""]), "the empty word twice");
+    is_so(
+        &rt,
+        !are_distinct(&["a", "b", "c", "a"]),
+        "the first word twice",
+    );
+    is_so(&rt, !are_distinct(&["a", "b", "b"]), "the last word twice");
     Ok(())
 }
 
 #[test]
 fn keys_of_so_many_positions(rt: HostRuntime) {
-    assert!(rt; have_keys::<Gap<2>>(2));
-    assert!(rt; !have_keys::<Gap<2>>(3));
-    assert!(rt; have_keys::<MicroSpur>(255));
-    assert!(rt; !have_keys::<MicroSpur>(256));
+    is_so(&rt, have_keys::<Gap<2>>(2), "as many as come before a gap");
+    is_so(&rt, !have_keys::<Gap<2>>(3), "one more");
+    is_so(&rt, have_keys::<MicroSpur>(255), "as many as there are");
+    is_so(&rt, !have_keys::<MicroSpur>(256), "one more than there are");
 }

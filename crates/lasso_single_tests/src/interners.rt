@@ -1,0 +1,222 @@
+//! Interners for tests, and calls of them that tests share. None has a contract but the makers, so that a
+//! test which makes many is proved fast.
+ghost use Rattle.std.specs.Prelude.{◌<◌};
+
+use crate::checks::{Answer, is_answer, is_so, is_text, told};
+use lasso_parts::keys::{Key, Spur};
+use lasso_parts::util::{Capacity, FixedState, LassoResult, MemoryLimits};
+use lasso_single::reader::RodeoReader;
+use lasso_single::resolver::RodeoResolver;
+use lasso_single::rodeo::Rodeo;
+use std::alloc::{Allocator, Global};
+use std::hash::BuildHasher;
+use std::process::Abort;
+use std::test::Fail;
+
+pub type Small = Rodeo<Spur, FixedState, Global>;
+
+pub type SpurReader = RodeoReader<Spur, FixedState, Global>;
+
+pub type SpurResolver = RodeoResolver<Spur, Global>;
+
+// An interner with a first bucket of this number of bytes, under this limit.
+pub fn interner<K: Key>(
+    alloc: Global,
+    bytes: usize,
+    limit: usize,
+) -> LassoResult<Rodeo<K, FixedState, Global>>
+    requires { 0 < bytes }
+{
+    let capacity = Capacity::for_bytes(bytes);
+    Rodeo::with_capacity_and_memory_limits(alloc, capacity, MemoryLimits::new(limit))
+}
+
+pub fn of_texts(alloc: Global, texts: &[&str]) -> Result<Small, Fail> {
+    let mut rodeo = Rodeo::default(alloc)?;
+    rodeo.extend(texts.iter().copied())?;
+    Ok(rodeo)
+}
+
+pub fn copied(rodeo: &Small) -> Result<Small, Fail> {
+    Ok(rodeo.try_clone()?)
+}
+
+pub fn frozen(rodeo: Small) -> SpurReader {
+    rodeo.into_reader()
+}
+
+pub fn thawed(reader: SpurReader) -> SpurResolver {
+    reader.into_resolver()
+}
+
+pub fn resolving(rodeo: Small) -> SpurResolver {
+    rodeo.into_resolver()
+}
+
+pub fn are_equal(rodeo: &Small, other: &Small) -> bool {
+    rodeo == other
+}
+
+// Whether interning the text returns this.
+pub fn interns<K: Key, S: BuildHasher, A: Allocator + Clone>(
+    rodeo: &mut Rodeo<K, S, A>,
+    text: &str,
+    wanted: Answer,
+) -> bool {
+    is_answer(told(rodeo.try_get_or_intern(text)), wanted)
+}
+
+// Whether interning the static text returns this.
+pub fn interns_static<K: Key, S: BuildHasher, A: Allocator + Clone>(
+    rodeo: &mut Rodeo<K, S, A>,
+    text: &'static str,
+    wanted: Answer,
+) -> bool {
+    is_answer(told(rodeo.try_get_or_intern_static(text)), wanted)
+}
+
+// Whether the buckets take this number of bytes.
+pub fn takes<K: Key, S: BuildHasher, A: Allocator>(rodeo: &Rodeo<K, S, A>, usage: usize) -> bool {
+    rodeo.current_memory_usage() == usage
+}
+
+pub fn has_limit<K: Key, S: BuildHasher, A: Allocator>(
+    rodeo: &Rodeo<K, S, A>,
+    limit: usize,
+) -> bool {
+    rodeo.max_memory_usage() == limit
+}
+
+pub fn has_count<K: Key, S: BuildHasher, A: Allocator>(
+    rodeo: &Rodeo<K, S, A>,
+    count: usize,
+) -> bool {
+    rodeo.len() == count && rodeo.is_empty() == (count == 0)
+}
+
+// Whether the text is not there, by each call that looks for it.
+pub fn lacks<K: Key, S: BuildHasher, A: Allocator>(rodeo: &Rodeo<K, S, A>, text: &str) -> bool {
+    !rodeo.contains(text) && rodeo.get(text).is_none()
+}
+
+// Whether the key stands for the text, by each call that says so.
+pub fn stands_for<K: Key, S: BuildHasher, A: Allocator>(
+    rodeo: &Rodeo<K, S, A>,
+    key: K,
+    text: &str,
+) -> bool {
+    rodeo.contains_key(key)
+        && rodeo.resolve(key) == text
+        && rodeo.resolve_unchecked(key) == text
+        && is_text(rodeo.try_resolve(key), text)
+}
+
+pub fn stands_for_nothing<K: Key, S: BuildHasher, A: Allocator>(
+    rodeo: &Rodeo<K, S, A>,
+    key: K,
+) -> bool {
+    !rodeo.contains_key(key) && rodeo.try_resolve(key).is_none()
+}
+
+// Whether the key of this number stands for the text, and the text for the key.
+pub fn has_at<K: Key, S: BuildHasher, A: Allocator>(
+    rodeo: &Rodeo<K, S, A>,
+    position: usize,
+    text: &str,
+) -> bool {
+    match rodeo.get(text) {
+        Some(key) => key.into_usize() == position && stands_for(rodeo, key, text),
+        None => false,
+    }
+}
+
+// Whether there is a key of this number that stands for no text.
+pub fn has_nothing_at<K: Key, S: BuildHasher, A: Allocator>(
+    rodeo: &Rodeo<K, S, A>,
+    position: usize,
+) -> bool {
+    match K::try_from_usize(position) {
+        Some(key) => stands_for_nothing(rodeo, key),
+        None => false,
+    }
+}
+
+// Whether the texts are exactly these, in this order.
+pub fn has_texts<K: Key, S: BuildHasher, A: Allocator>(
+    rodeo: &Rodeo<K, S, A>,
+    texts: &[&str],
+) -> bool {
+    let mut walk = rodeo.strings();
+    for text in texts {
+        if !is_text(walk.next(), text) || !rodeo.contains(text) {
+            return false;
+        }
+    }
+    rodeo.len() == texts.len()
+}
+
+// Checks that the interner has exactly these texts, in this order, and that its buckets take `usage` bytes.
+pub fn holds<K: Key, S: BuildHasher, A: Allocator>(
+    rt: &impl Abort,
+    rodeo: &Rodeo<K, S, A>,
+    texts: &[&str],
+    usage: usize,
+) {
+    is_so(rt, has_texts(rodeo, texts), "the texts");
+    is_so(rt, takes(rodeo, usage), "the usage");
+}
+
+// Whether interning the number in decimal gives the key of this number, and the buckets then take `usage`
+// bytes.
+fn interns_number<K: Key, S: BuildHasher>(
+    alloc: Global,
+    rodeo: &mut Rodeo<K, S, Global>,
+    number: usize,
+    usage: usize,
+) -> bool {
+    match number.to_string(alloc) {
+        Ok(text) => interns(rodeo, text.as_str(), Ok(number)) && takes(rodeo, usage),
+        Err(_refusal) => false,
+    }
+}
+
+// The same for each of the numbers below `count`, in order.
+pub fn interns_numbers<K: Key, S: BuildHasher>(
+    alloc: Global,
+    rodeo: &mut Rodeo<K, S, Global>,
+    count: usize,
+    usage: usize,
+) -> bool {
+    for number in 0..count {
+        if !interns_number(alloc, rodeo, number, usage) {
+            return false;
+        }
+    }
+    true
+}
+
+// Whether the number in decimal and the key of this number stand for each other.
+fn finds_number<K: Key, S: BuildHasher>(
+    alloc: Global,
+    rodeo: &Rodeo<K, S, Global>,
+    number: usize,
+) -> bool {
+    match number.to_string(alloc) {
+        Ok(text) => has_at(rodeo, number, text.as_str()),
+        Err(_refusal) => false,
+    }
+}
+
+// The same for each of the numbers below `count`.
+pub fn finds_numbers<K: Key, S: BuildHasher>(
+    alloc: Global,
+    rodeo: &Rodeo<K, S, Global>,
+    count: usize,
+) -> bool {
+    for number in 0..count {
+        if !finds_number(alloc, rodeo, number) {
+            return false;
+        }
+    }
+    true
+}
