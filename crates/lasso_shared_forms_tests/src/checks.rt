@@ -44,3 +44,11 @@ pub(super) fn is_over_limit(reply: LassoResult<usize>) -> bool {
         Err(error) => error.kind() == LassoErrorKind::MemoryLimitReached,
     }
 }
+
+/// Whether the call returned `true`, and no error.
+pub(super) fn is_true(reply: LassoResult<bool>) -> bool {
+    match reply {
+        Ok(holds) => holds,
+        Err(_) => false,
+    }
+}

@@ -1,5 +1,5 @@
 //! What each plain call returns for few texts and for many.
-use super::checks::{is_given, is_so, is_so_at, is_text};
+use super::checks::{is_given, is_so, is_so_at, is_text, is_true};
 use super::forms::shared_of;
 use super::frozen::{is_read_as, is_resolved_as};
 use super::looking::{has_just, is_absent, is_found, reads, reads_none};
@@ -104,19 +104,15 @@ fn each_call_tells_of_each_count(rt: HostRuntime) -> Result<(), Fail> {
 
 /// Whether a reader and a resolver of these texts have exactly them.
 pub(super) fn are_frozen<R: Wait>(rt: &R, alloc: Global, texts: &[&str]) -> LassoResult<bool> {
-    let read = is_read_as(rt, shared_of(rt, alloc, texts)?, texts, ABSENT)?;
-    let resolved = is_resolved_as(rt, shared_of(rt, alloc, texts)?, texts)?;
-    Ok(read && resolved)
+    let read = is_read_as(rt, shared_of(rt, alloc, texts)?, texts, ABSENT);
+    Ok(is_resolved_as(rt, shared_of(rt, alloc, texts)?, texts) && read)
 }
 
 // The first texts have to be frozen, for each number of them in `STATES`.
 fn freeze_each<R: AllocGlobal + Wait + Abort>(rt: &R, texts: &[&str]) -> Result<(), Fail> {
     for (count, _) in STATES.iter() {
-        is_so_at(
-            rt,
-            are_frozen(rt, rt.alloc(), first_of(texts, *count)?)?,
-            *count,
-        );
+        let frozen = are_frozen(rt, rt.alloc(), first_of(texts, *count)?);
+        is_so_at(rt, is_true(frozen), *count);
     }
     Ok(())
 }
@@ -128,20 +124,18 @@ fn a_frozen_form_has_each_count_of_texts(rt: HostRuntime) -> Result<(), Fail> {
 }
 
 // Whether an interner of these texts is written as the JSON object and the debug text of them.
-fn is_written<R: Wait>(rt: &R, alloc: Global, texts: &[&str]) -> Result<bool, Fail> {
-    let shared = shared_of(rt, alloc, texts)?;
-    let written = are_written(alloc, &shared, texts)?;
-    Ok(written && are_printed(alloc, &shared, texts)?)
+fn is_written<R: Wait>(rt: &R, alloc: Global, texts: &[&str]) -> bool {
+    match shared_of(rt, alloc, texts) {
+        Ok(shared) => are_written(alloc, &shared, texts) && are_printed(alloc, &shared, texts),
+        Err(_) => false,
+    }
 }
 
 // The first texts have to be written, for each number of them in `STATES`.
 fn write_each<R: AllocGlobal + Wait + Abort>(rt: &R, texts: &[&str]) -> Result<(), Fail> {
     for (count, _) in STATES.iter() {
-        is_so_at(
-            rt,
-            is_written(rt, rt.alloc(), first_of(texts, *count)?)?,
-            *count,
-        );
+        let written = is_written(rt, rt.alloc(), first_of(texts, *count)?);
+        is_so_at(rt, written, *count);
     }
     Ok(())
 }
@@ -155,15 +149,12 @@ fn each_count_of_texts_is_written(rt: HostRuntime) -> Result<(), Fail> {
 // More texts than 16 bits count.
 const MANY: usize = 66_000;
 
-// Whether each call finds or resolves the text of this number, and interns it as this number.
-fn has_at<R: Wait>(rt: &R, alloc: Global, shared: &Shared, number: usize) -> Result<bool, Fail> {
-    let text = format!(in alloc; "{number:05}")?;
-    let text = text.as_str();
-    let read = is_found(rt, shared, text, number) && reads(shared, number, text);
-    Ok(
-        read && is_given(copied(rt, shared, text), number)
-            && is_given(copied_so(rt, shared, text), number),
-    )
+// Whether each call finds or resolves the text, and interns it as this number.
+fn has_at<R: Wait>(rt: &R, shared: &Shared, text: &str, number: usize) -> bool {
+    is_found(rt, shared, text, number)
+        && reads(shared, number, text)
+        && is_given(copied(rt, shared, text), number)
+        && is_given(copied_so(rt, shared, text), number)
 }
 
 // The text at the end of a walk over so many texts.
@@ -180,21 +171,34 @@ fn has_many<R: Abort>(rt: &R, shared: &Shared) {
     is_so(rt, is_text(last_walked(shared), "65999"), "last text");
 }
 
+// Numbers next to those that fill 8, 15 and 16 bits, and the last one, with their texts.
+static NUMBERS: [(usize, &str); 11] = [
+    (0, "00000"),
+    (1, "00001"),
+    (255, "00255"),
+    (256, "00256"),
+    (32_767, "32767"),
+    (32_768, "32768"),
+    (65_534, "65534"),
+    (65_535, "65535"),
+    (65_536, "65536"),
+    (65_537, "65537"),
+    (65_999, "65999"),
+];
+
 // Each call has to find, to resolve and to intern these texts.
-fn has_each<R: AllocGlobal + Wait + Abort>(rt: &R, shared: &Shared) -> Result<(), Fail> {
-    for number in [
-        0usize, 1, 255, 256, 32_767, 32_768, 65_534, 65_535, 65_536, 65_537, 65_999,
-    ] {
-        is_so_at(rt, has_at(rt, rt.alloc(), shared, number)?, number);
+fn has_each<R: Wait + Abort>(rt: &R, shared: &Shared) {
+    for (number, text) in NUMBERS.iter() {
+        is_so(rt, has_at(rt, shared, text, *number), text);
     }
-    Ok(())
 }
 
 // The interner of all these texts.
 fn has_all<R: AllocGlobal + Wait + Abort>(rt: &R, texts: &[&str]) -> Result<(), Fail> {
     let shared = shared_of(rt, rt.alloc(), texts)?;
     has_many(rt, &shared);
-    has_each(rt, &shared)
+    has_each(rt, &shared);
+    Ok(())
 }
 
 #[test]

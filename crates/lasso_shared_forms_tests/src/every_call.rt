@@ -5,8 +5,8 @@ mod passes;
 
 use self::interning::{WAYS, Way, interned, is_first, is_first_by_each};
 use self::passes::{has_just_as, has_none_as, has_sums_as, set_limit_by_pass};
-use super::checks::{is_given, is_over_limit, is_so};
-use super::forms::{equal_to_single_forms, is_equal};
+use super::checks::{is_given, is_over_limit, is_so, is_true};
+use super::forms::{equal_to_single_forms, is_equal, limited};
 use super::frozen::{is_read_as, is_read_as_by_pass, is_resolved_as};
 use super::looking::{has_just, has_len, is_absent, reads_none};
 use super::showing::are_read;
@@ -15,7 +15,7 @@ use super::writing::are_written;
 use lasso_parts::keys::{Key, LargeSpur, MicroSpur, MiniSpur, Spur};
 use lasso_parts::util::{FixedState, LassoResult};
 use lasso_shared::threaded::ThreadedRodeo;
-use lasso_shared_testing::calls::{allocated, copied, limit, limited_hashed, set_limit, usage};
+use lasso_shared_testing::calls::{allocated, copied, limit, set_limit, usage};
 use lasso_testing::hashers::SameState;
 use std::alloc::Global;
 use std::hash::BuildHasher;
@@ -88,17 +88,17 @@ fn is_compared<K: Key, S: BuildHasher + Default + Drop, R: Wait>(
     shared: &ThreadedRodeo<K, S>,
     text: &str,
     absent: &str,
-) -> LassoResult<bool> {
-    let same = equal_to_single_forms(rt, alloc, shared, &[text])?;
-    let other = equal_to_single_forms(rt, alloc, shared, &[absent])?;
-    Ok(same == 3 && other == 0 && is_equal(rt, shared, shared))
+) -> bool {
+    equal_to_single_forms(rt, alloc, shared, &[text]) == 3
+        && equal_to_single_forms(rt, alloc, shared, &[absent]) == 0
+        && is_equal(rt, shared, shared)
 }
 
 // An interner with 300 bytes in its first bucket and 777 as its limit.
 fn roomy<K: Key, S: BuildHasher + Default + Drop>(
     alloc: Global,
-) -> Result<ThreadedRodeo<K, S>, Fail> {
-    limited_hashed(alloc, 300, 777)
+) -> LassoResult<ThreadedRodeo<K, S>> {
+    limited(alloc, 300, 777)
 }
 
 // Interns the text by this call. Returns whether each reading shows it alone, and none showed it before.
@@ -135,11 +135,12 @@ fn is_shown<K: Key, S: BuildHasher + Default + Drop, R: Wait>(
     way: Way,
     text: &'static str,
     absent: &str,
-) -> Result<bool, Fail> {
-    let taken = is_new(rt, shared, way, text, absent) && is_kept(rt, shared, text, absent);
-    let compared = is_compared(rt, alloc, shared, text, absent)?;
-    let written = are_written(alloc, shared, &[text])?;
-    Ok(taken && compared && written && has_sums(rt, shared, 777, 300))
+) -> bool {
+    is_new(rt, shared, way, text, absent)
+        && is_kept(rt, shared, text, absent)
+        && is_compared(rt, alloc, shared, text, absent)
+        && are_written(alloc, shared, &[text])
+        && has_sums(rt, shared, 777, 300)
 }
 
 // Interns the text by this call in another interner. Returns whether it is equal to the first.
@@ -160,11 +161,10 @@ fn another_is_alike<K: Key, S: BuildHasher + Default + Drop, R: Wait>(
     shared: &ThreadedRodeo<K, S>,
     way: Way,
     text: &'static str,
-) -> Result<bool, Fail> {
+) -> LassoResult<bool> {
     let other: ThreadedRodeo<K, S> = roomy(alloc)?;
     let alike = is_alike(rt, shared, &other, way, text);
-    let read = is_read_as_by_pass(rt, other, &[text], "absent")?;
-    Ok(alike && read)
+    Ok(is_read_as_by_pass(rt, other, &[text], "absent") && alike)
 }
 
 // Interns the text by this call in another interner. Returns whether its resolver has the text alone.
@@ -173,40 +173,25 @@ fn is_resolved<K: Key, S: BuildHasher + Default + Drop, R: Wait>(
     alloc: Global,
     way: Way,
     text: &'static str,
-) -> Result<bool, Fail> {
+) -> LassoResult<bool> {
     let third: ThreadedRodeo<K, S> = roomy(alloc)?;
     let taken = is_first(rt, &third, way, text);
-    let resolved = is_resolved_as(rt, third, &[text])?;
-    Ok(taken && resolved)
+    Ok(is_resolved_as(rt, third, &[text]) && taken)
 }
 
-// Interns the text by this call and then by each. Returns whether each reading shows it alone, limit and usage
-// stay, and another interner of the text is alike.
-fn is_shown_and_alike<K: Key, S: BuildHasher + Default + Drop, R: Wait>(
-    rt: &R,
-    alloc: Global,
-    shared: &ThreadedRodeo<K, S>,
-    way: Way,
-    text: &'static str,
-    absent: &str,
-) -> Result<bool, Fail> {
-    let shown = is_shown(rt, alloc, shared, way, text, absent)?;
-    let alike = another_is_alike(rt, alloc, shared, way, text)?;
-    Ok(shown && alike)
-}
-
-// The same of a new interner. Its reader has to have the text alone too.
+// Interns the text by this call and then by each. Returns whether each reading and the reader show it alone,
+// limit and usage stay, and another interner of the text is alike.
 fn is_taken<K: Key, S: BuildHasher + Default + Drop, R: Wait>(
     rt: &R,
     alloc: Global,
     way: Way,
     text: &'static str,
     absent: &str,
-) -> Result<bool, Fail> {
+) -> LassoResult<bool> {
     let shared: ThreadedRodeo<K, S> = roomy(alloc)?;
-    let shown = is_shown_and_alike(rt, alloc, &shared, way, text, absent)?;
-    let read = is_read_as(rt, shared, &[text], "absent")?;
-    Ok(shown && read)
+    let shown = is_shown(rt, alloc, &shared, way, text, absent);
+    let alike = is_true(another_is_alike(rt, alloc, &shared, way, text));
+    Ok(is_read_as(rt, shared, &[text], "absent") && shown && alike)
 }
 
 // Whether the call refuses the text by the limit, and leaves all as it was.
@@ -255,8 +240,8 @@ fn is_refused_as_a_copy<K: Key, S: BuildHasher + Default + Drop, R: Wait>(
     way: Way,
     text: &'static str,
     absent: &str,
-) -> Result<bool, Fail> {
-    let shared: ThreadedRodeo<K, S> = limited_hashed(alloc, 1, 1)?;
+) -> LassoResult<bool> {
+    let shared: ThreadedRodeo<K, S> = limited(alloc, 1, 1)?;
     let refused = copies_are_refused(rt, &shared, text);
     Ok(refused && is_taken_as_static(rt, &shared, way, text, absent))
 }
@@ -286,16 +271,13 @@ fn takes<K: Key, S: BuildHasher + Default + Drop, R: AllocGlobal + Wait + Abort>
     rt: &R,
     text: &'static str,
     absent: &str,
-) -> Result<(), Fail> {
+) {
     for way in WAYS {
-        is_so(
-            rt,
-            is_taken::<K, S, R>(rt, rt.alloc(), way, text, absent)?,
-            text,
-        );
-        is_so(rt, is_resolved::<K, S, R>(rt, rt.alloc(), way, text)?, text);
+        let taken = is_taken::<K, S, R>(rt, rt.alloc(), way, text, absent);
+        is_so(rt, is_true(taken), text);
+        let resolved = is_resolved::<K, S, R>(rt, rt.alloc(), way, text);
+        is_so(rt, is_true(resolved), text);
     }
-    Ok(())
 }
 
 // Copies of the text have to be refused by the limit, and a static text not.
@@ -303,62 +285,45 @@ fn refuses_copies<K: Key, S: BuildHasher + Default + Drop, R: AllocGlobal + Wait
     rt: &R,
     text: &'static str,
     absent: &str,
-) -> Result<(), Fail> {
+) {
     for way in [Way::TryStatic, Way::Static, Way::StaticByPass] {
-        let refused = is_refused_as_a_copy::<K, S, R>(rt, rt.alloc(), way, text, absent)?;
-        is_so(rt, refused, text);
+        let refused = is_refused_as_a_copy::<K, S, R>(rt, rt.alloc(), way, text, absent);
+        is_so(rt, is_true(refused), text);
     }
-    Ok(())
 }
 
-// Each call has to take the text, copies have to be refused by the limit, and fillings and JSON to give
+// Each call has to take each text, copies have to be refused by the limit, and fillings and JSON to give
 // interners of the text alone.
-fn takes_text<K: Key, S: BuildHasher + Default + Drop, R: AllocGlobal + Wait + Abort>(
-    rt: &R,
-    text: &'static str,
-    absent: &str,
-) -> Result<(), Fail> {
-    takes::<K, S, R>(rt, text, absent)?;
-    refuses_copies::<K, S, R>(rt, text, absent)?;
-    is_so(
-        rt,
-        is_made_of::<K, S, R>(rt, rt.alloc(), text, absent)?,
-        text,
-    );
-    is_so(rt, are_read::<K, S, R>(rt, rt.alloc(), &[text])?, text);
-    Ok(())
-}
-
-// The same of each text.
-fn takes_each_text<K: Key, S: BuildHasher + Default + Drop, R: AllocGlobal + Wait + Abort>(
-    rt: &R,
-) -> Result<(), Fail> {
+fn takes_each_text<K: Key, S: BuildHasher + Default + Drop, R: AllocGlobal + Wait + Abort>(rt: &R) {
     for (text, absent) in TEXTS.iter() {
-        takes_text::<K, S, R>(rt, text, absent)?;
+        takes::<K, S, R>(rt, text, absent);
+        refuses_copies::<K, S, R>(rt, text, absent);
+        let made = is_made_of::<K, S, R>(rt, rt.alloc(), text, absent);
+        is_so(rt, is_true(made), text);
+        is_so(rt, are_read::<K, S, R>(rt, rt.alloc(), &[text]), text);
     }
-    Ok(())
 }
 
 #[test]
-fn keys_of_32_bits_take_each_text(rt: HostRuntime) -> Result<(), Fail> {
-    takes_each_text::<Spur, FixedState, HostRuntime>(&rt)?;
-    takes_each_text::<Spur, SameState, HostRuntime>(&rt)
+fn keys_of_32_bits_take_each_text(rt: HostRuntime) {
+    takes_each_text::<Spur, FixedState, HostRuntime>(&rt);
+    takes_each_text::<Spur, SameState, HostRuntime>(&rt);
 }
 
 #[test]
-fn keys_of_64_bits_take_each_text(rt: HostRuntime) -> Result<(), Fail> {
-    takes_each_text::<LargeSpur, FixedState, HostRuntime>(&rt)?;
-    takes_each_text::<LargeSpur, SameState, HostRuntime>(&rt)
+fn keys_of_64_bits_take_each_text(rt: HostRuntime) {
+    takes_each_text::<LargeSpur, FixedState, HostRuntime>(&rt);
+    takes_each_text::<LargeSpur, SameState, HostRuntime>(&rt);
 }
 
 #[test]
-fn keys_of_16_bits_take_each_text(rt: HostRuntime) -> Result<(), Fail> {
-    takes_each_text::<MiniSpur, FixedState, HostRuntime>(&rt)?;
-    takes_each_text::<MiniSpur, SameState, HostRuntime>(&rt)
+fn keys_of_16_bits_take_each_text(rt: HostRuntime) {
+    takes_each_text::<MiniSpur, FixedState, HostRuntime>(&rt);
+    takes_each_text::<MiniSpur, SameState, HostRuntime>(&rt);
 }
 
 #[test]
-fn keys_of_8_bits_take_each_text(rt: HostRuntime) -> Result<(), Fail> {
-    takes_each_text::<MicroSpur, FixedState, HostRuntime>(&rt)?;
-    takes_each_text::<MicroSpur, SameState, HostRuntime>(&rt)
+fn keys_of_8_bits_take_each_text(rt: HostRuntime) {
+    takes_each_text::<MicroSpur, FixedState, HostRuntime>(&rt);
+    takes_each_text::<MicroSpur, SameState, HostRuntime>(&rt);
 }

@@ -1,6 +1,6 @@
 //! How many of the comparisons of an interner that threads share with other forms of a list are true.
 use lasso_parts::keys::{Key, Spur};
-use lasso_parts::util::{FixedState, LassoResult};
+use lasso_parts::util::{Capacity, FixedState, LassoResult, MemoryLimits};
 use lasso_shared::threaded::ThreadedRodeo;
 use lasso_shared_testing::calls::Shared;
 use lasso_single::reader::RodeoReader;
@@ -15,6 +15,17 @@ pub(super) type Single = Rodeo<Spur, FixedState, Global>;
 /// An interner that threads share, of these texts.
 pub(super) fn shared_of<R: Wait>(rt: &R, alloc: Global, texts: &[&str]) -> LassoResult<Shared> {
     ThreadedRodeo::from_iter(alloc, rt, texts.iter().copied())
+}
+
+/// An interner with a first bucket of this many bytes, but at least one, and under this limit.
+pub(super) fn limited<K: Key, S: BuildHasher + Default + Drop>(
+    alloc: Global,
+    bytes: usize,
+    limit: usize,
+) -> LassoResult<ThreadedRodeo<K, S>> {
+    let room = Capacity::for_bytes(bytes.max(1));
+    let limits = MemoryLimits::new(limit);
+    ThreadedRodeo::with_capacity_memory_limits_and_hasher(alloc, room, limits, S::default())
 }
 
 /// Interns these texts too.
@@ -80,14 +91,17 @@ fn equal_to_three<K: Key, S: BuildHasher + Drop, R: Wait>(
     same.saturating_add(equal_to_frozen(rt, shared, rodeo.into_reader()))
 }
 
-/// The same with an interner for one thread of these texts.
+/// The same with an interner for one thread of these texts, or `usize::MAX` if memory runs out.
 pub(super) fn equal_to_single_forms<K: Key, S: BuildHasher + Default + Drop, R: Wait>(
     rt: &R,
     alloc: Global,
     shared: &ThreadedRodeo<K, S>,
     texts: &[&str],
-) -> LassoResult<usize> {
-    Ok(equal_to_three(rt, shared, single_of(alloc, texts)?))
+) -> usize {
+    match single_of(alloc, texts) {
+        Ok(rodeo) => equal_to_three(rt, shared, rodeo),
+        Err(_) => usize::MAX,
+    }
 }
 
 /// Compares two interners that threads share, each with the other. Returns how many of these two comparisons
@@ -101,15 +115,22 @@ pub(super) fn equal_both_ways<S: BuildHasher + Drop, T: BuildHasher + Drop, R: W
     here.saturating_add(counted(is_equal(rt, other, shared)))
 }
 
+// The same with an interner of these texts, or `usize::MAX` if memory runs out.
+fn equal_to_shared_form<R: Wait>(rt: &R, alloc: Global, shared: &Shared, texts: &[&str]) -> usize {
+    match shared_of(rt, alloc, texts) {
+        Ok(other) => equal_both_ways(rt, shared, &other),
+        Err(_) => usize::MAX,
+    }
+}
+
 /// Compares the interner with each of four forms of these texts, and the form that threads share with the
-/// interner. Returns how many of these five comparisons are true.
+/// interner. Returns how many of these five comparisons are true, or `usize::MAX` if memory runs out.
 pub(super) fn equal_forms<R: Wait>(
     rt: &R,
     alloc: Global,
     shared: &Shared,
     texts: &[&str],
-) -> LassoResult<usize> {
-    let single = equal_to_single_forms(rt, alloc, shared, texts)?;
-    let other = shared_of(rt, alloc, texts)?;
-    Ok(single.saturating_add(equal_both_ways(rt, shared, &other)))
+) -> usize {
+    let threaded = equal_to_shared_form(rt, alloc, shared, texts);
+    threaded.saturating_add(equal_to_single_forms(rt, alloc, shared, texts))
 }

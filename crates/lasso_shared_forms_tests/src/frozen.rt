@@ -100,8 +100,11 @@ pub(super) fn is_read_as<K: Key, S: BuildHasher + Drop, R: Wait>(
     shared: ThreadedRodeo<K, S>,
     texts: &[&str],
     absent: &str,
-) -> LassoResult<bool> {
-    Ok(reads_just(&shared.into_reader(rt)?, texts, absent))
+) -> bool {
+    match shared.into_reader(rt) {
+        Ok(reader) => reads_just(&reader, texts, absent),
+        Err(_) => false,
+    }
 }
 
 /// The same by a pass.
@@ -110,8 +113,11 @@ pub(super) fn is_read_as_by_pass<K: Key, S: BuildHasher + Drop, R: Wait>(
     shared: ThreadedRodeo<K, S>,
     texts: &[&str],
     absent: &str,
-) -> LassoResult<bool> {
-    Ok(reads_just(&reader_as(rt, shared)?, texts, absent))
+) -> bool {
+    match reader_as(rt, shared) {
+        Ok(reader) => reads_just(&reader, texts, absent),
+        Err(_) => false,
+    }
 }
 
 /// Freezes the interner to a resolver. Returns whether it has exactly these texts.
@@ -119,6 +125,9 @@ pub(super) fn is_resolved_as<K: Key, S: BuildHasher + Drop, R: Wait>(
     rt: &R,
     shared: ThreadedRodeo<K, S>,
     texts: &[&str],
-) -> LassoResult<bool> {
-    Ok(resolves_just(&shared.into_resolver(rt)?, texts))
+) -> bool {
+    match shared.into_resolver(rt) {
+        Ok(resolver) => resolves_just(&resolver, texts),
+        Err(_) => false,
+    }
 }

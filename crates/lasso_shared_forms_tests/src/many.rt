@@ -1,5 +1,5 @@
 //! Calls on many texts: the numbers of new texts, look-ups of absent ones, limits, fillings, frozen forms and comparisons.
-use super::checks::{is_given, is_over_limit, is_so, is_so_at};
+use super::checks::{is_given, is_over_limit, is_so, is_so_at, is_true};
 use super::counts::{are_frozen, none_past};
 use super::forms::{equal_forms, extend, shared_of};
 use super::looking::{is_absent, reads};
@@ -93,9 +93,11 @@ fn keep_limits<R: Wait>(rt: &R, shared: &Shared, long: &str) -> bool {
 }
 
 // The same with a text of 1,000,000 bytes, which no bucket here has room for.
-fn keeps_limits<R: Wait>(rt: &R, alloc: Global, shared: &Shared) -> Result<bool, Fail> {
-    let long = "x".repeat(alloc, 1_000_000)?;
-    Ok(keep_limits(rt, shared, long.as_str()))
+fn keeps_limits<R: Wait>(rt: &R, alloc: Global, shared: &Shared) -> bool {
+    match "x".repeat(alloc, 1_000_000) {
+        Ok(long) => keep_limits(rt, shared, long.as_str()),
+        Err(_) => false,
+    }
 }
 
 // Interns the texts from number `have` on, up to `count` texts. Each has to get the next number, and the interner
@@ -110,7 +112,7 @@ fn grow<R: AllocGlobal + Wait + Abort>(
         is_so_at(rt, is_next(rt, rt.alloc(), shared, number)?, number);
     }
     is_so_at(rt, lacks_others(rt, shared, count), count);
-    is_so_at(rt, keeps_limits(rt, rt.alloc(), shared)?, count);
+    is_so_at(rt, keeps_limits(rt, rt.alloc(), shared), count);
     Ok(())
 }
 
@@ -152,24 +154,25 @@ fn fill<R: AllocGlobal + Wait + Abort>(
     rt: &R,
     shared: &Shared,
     texts: &[&str],
+    rest: &[&str],
     from: usize,
-) -> Result<(), Fail> {
-    let last = texts.len();
-    extend(rt, shared, rest_of(texts, from)?)?;
-    is_so_at(rt, lacks_others(rt, shared, last), from);
+) {
+    is_so(rt, extend(rt, shared, rest).is_ok(), "the rest");
+    is_so_at(rt, lacks_others(rt, shared, texts.len()), from);
     is_so_at(rt, resolve_from(shared, texts, from), from);
-    extend(rt, shared, texts)?;
-    is_so_at(rt, is_given(copied(rt, shared, "new"), last), from);
-    is_so_at(rt, keeps_limits(rt, rt.alloc(), shared)?, from);
-    Ok(())
+    is_so(rt, extend(rt, shared, texts).is_ok(), "all texts");
+    is_so_at(rt, is_given(copied(rt, shared, "new"), texts.len()), from);
+    is_so_at(rt, keeps_limits(rt, rt.alloc(), shared), from);
 }
 
 // The same after the interner was made of the first `from` texts.
 fn go_on<R: AllocGlobal + Wait + Abort>(rt: &R, texts: &[&str], from: usize) -> Result<(), Fail> {
-    let shared = shared_of(rt, rt.alloc(), first_of(texts, from)?)?;
+    let (first, rest) = (first_of(texts, from)?, rest_of(texts, from)?);
+    let shared = shared_of(rt, rt.alloc(), first)?;
     is_so_at(rt, len(&shared) == from, from);
-    is_so_at(rt, keeps_limits(rt, rt.alloc(), &shared)?, from);
-    fill(rt, &shared, texts, from)
+    is_so_at(rt, keeps_limits(rt, rt.alloc(), &shared), from);
+    fill(rt, &shared, texts, rest, from);
+    Ok(())
 }
 
 // The same for three numbers of texts.
@@ -187,12 +190,9 @@ fn a_filling_goes_on_after_many(rt: HostRuntime) -> Result<(), Fail> {
 
 // The first texts have to be frozen, and all.
 fn freeze_both<R: AllocGlobal + Wait + Abort>(rt: &R, texts: &[&str]) -> Result<(), Fail> {
-    is_so(
-        rt,
-        are_frozen(rt, rt.alloc(), first_of(texts, 3000)?)?,
-        "3000",
-    );
-    is_so(rt, are_frozen(rt, rt.alloc(), texts)?, "70001");
+    let some = are_frozen(rt, rt.alloc(), first_of(texts, 3000)?);
+    is_so(rt, is_true(some), "3000");
+    is_so(rt, is_true(are_frozen(rt, rt.alloc(), texts)), "70001");
     Ok(())
 }
 
@@ -202,24 +202,27 @@ fn frozen_forms_of_many_have_just_these(rt: HostRuntime) -> Result<(), Fail> {
     freeze_both(&rt, &texts)
 }
 
-// How many of five comparisons are true with forms of the texts with this last one.
+// How many of five comparisons are true with forms of the texts with this last one, or `usize::MAX` if memory
+// runs out.
 fn equal_with_last<R: Wait>(
     rt: &R,
     alloc: Global,
     shared: &Shared,
     texts: &[&str],
     last: &str,
-) -> Result<usize, Fail> {
-    let other = with_one(alloc, texts, 70_000, last)?;
-    Ok(equal_forms(rt, alloc, shared, &other)?)
+) -> usize {
+    match with_one(alloc, texts, 70_000, last) {
+        Ok(other) => equal_forms(rt, alloc, shared, &other),
+        Err(_) => usize::MAX,
+    }
 }
 
 // An interner of these texts has to be equal to each form of them, and to none with another last text.
 fn equals_these_alone<R: AllocGlobal + Wait + Abort>(rt: &R, texts: &[&str]) -> Result<(), Fail> {
     let shared = shared_of(rt, rt.alloc(), texts)?;
-    let same = equal_with_last(rt, rt.alloc(), &shared, texts, "70000")?;
+    let same = equal_with_last(rt, rt.alloc(), &shared, texts, "70000");
     is_so(rt, same == 5, "the same texts");
-    let other = equal_with_last(rt, rt.alloc(), &shared, texts, "7000.")?;
+    let other = equal_with_last(rt, rt.alloc(), &shared, texts, "7000.");
     is_so(rt, other == 0, "another last text");
     Ok(())
 }

@@ -1,5 +1,6 @@
 //! Walks, JSON and frozen forms of texts of many lengths, ASCII and not, with two key types and two hashers.
-use super::checks::is_so_at;
+use super::checks::{is_so_at, is_true};
+use super::forms::limited;
 use super::frozen::{is_read_as, is_read_as_by_pass, is_resolved_as};
 use super::looking::has_just;
 use super::reading::read_from;
@@ -8,10 +9,10 @@ use super::writing::{are_written, array_of, object_of};
 use lasso_parts::keys::{Key, LargeSpur, Spur};
 use lasso_parts::util::{FixedState, LassoResult};
 use lasso_shared::threaded::ThreadedRodeo;
-use lasso_shared_testing::calls::{copied, kept, limit, limited_hashed, usage};
+use lasso_shared_testing::calls::{copied, kept, limit, usage};
 use lasso_shared_testing::texts::{LENGTHS, lasting, lettered};
 use lasso_testing::hashers::SameState;
-use std::alloc::Global;
+use std::alloc::{AllocError, Global};
 use std::hash::BuildHasher;
 use std::process::Abort;
 use std::sync::Wait;
@@ -36,35 +37,29 @@ fn has_sums<K: Key, S: BuildHasher + Drop, R: Wait>(
     limit(rt, shared) == most && usage(rt, shared) == used
 }
 
-// Whether the JSON text is read as exactly these texts, in one bucket of their size and without a limit.
+// Whether the interner has exactly these texts, in one bucket of their size and without a limit.
+fn has_read<K: Key, S: BuildHasher + Drop, R: Wait>(
+    rt: &R,
+    shared: &ThreadedRodeo<K, S>,
+    texts: &[&str],
+) -> bool {
+    has_just(rt, shared, texts) && has_sums(rt, shared, usize::MAX, bytes_of(texts))
+}
+
+// Whether the JSON text is read as such an interner.
 fn is_read<K: Key, S: BuildHasher + Default + Drop, R: Wait>(
     rt: &R,
     alloc: Global,
-    json: &str,
+    json: Result<String, AllocError>,
     texts: &[&str],
-) -> Result<bool, Fail> {
-    let shared: ThreadedRodeo<K, S> = read_from(alloc, json)?;
-    Ok(has_just(rt, &shared, texts) && has_sums(rt, &shared, usize::MAX, bytes_of(texts)))
-}
-
-// The same of the object of these texts.
-fn object_is_read<K: Key, S: BuildHasher + Default + Drop, R: Wait>(
-    rt: &R,
-    alloc: Global,
-    texts: &[&str],
-) -> Result<bool, Fail> {
-    let object = object_of(alloc, texts)?;
-    is_read::<K, S, R>(rt, alloc, object.as_str(), texts)
-}
-
-// The same of the array of these texts.
-fn array_is_read<K: Key, S: BuildHasher + Default + Drop, R: Wait>(
-    rt: &R,
-    alloc: Global,
-    texts: &[&str],
-) -> Result<bool, Fail> {
-    let array = array_of(alloc, texts)?;
-    is_read::<K, S, R>(rt, alloc, array.as_str(), texts)
+) -> bool {
+    match json {
+        Ok(json) => match read_from::<K, S>(alloc, json.as_str()) {
+            Some(shared) => has_read(rt, &shared, texts),
+            None => false,
+        },
+        Err(_) => false,
+    }
 }
 
 /// Whether the object and the array of these texts are read as exactly these texts, in one bucket of their
@@ -73,21 +68,9 @@ pub(super) fn are_read<K: Key, S: BuildHasher + Default + Drop, R: Wait>(
     rt: &R,
     alloc: Global,
     texts: &[&str],
-) -> Result<bool, Fail> {
-    let object = object_is_read::<K, S, R>(rt, alloc, texts)?;
-    Ok(object && array_is_read::<K, S, R>(rt, alloc, texts)?)
-}
-
-// Interns the first text as a copy, and the second as a static text.
-fn intern_pair<K: Key, S: BuildHasher + Drop, R: Wait>(
-    rt: &R,
-    shared: &ThreadedRodeo<K, S>,
-    first: &str,
-    second: &'static str,
-) -> LassoResult<()> {
-    copied(rt, shared, first)?;
-    kept(rt, shared, second)?;
-    Ok(())
+) -> bool {
+    is_read::<K, S, R>(rt, alloc, object_of(alloc, texts), texts)
+        && is_read::<K, S, R>(rt, alloc, array_of(alloc, texts), texts)
 }
 
 // An interner of a copied text and a static one. Its bucket and its limit are the bytes of the copied text.
@@ -96,10 +79,10 @@ fn pair<K: Key, S: BuildHasher + Default + Drop, R: Wait>(
     alloc: Global,
     first: &str,
     second: &'static str,
-) -> Result<ThreadedRodeo<K, S>, Fail> {
-    let bytes = first.len().max(1);
-    let shared = limited_hashed(alloc, bytes, bytes)?;
-    intern_pair(rt, &shared, first, second)?;
+) -> LassoResult<ThreadedRodeo<K, S>> {
+    let shared = limited(alloc, first.len(), first.len())?;
+    copied(rt, &shared, first)?;
+    kept(rt, &shared, second)?;
     Ok(shared)
 }
 
@@ -110,59 +93,52 @@ fn shows<K: Key, S: BuildHasher + Drop, R: Wait>(
     shared: &ThreadedRodeo<K, S>,
     texts: &[&str],
     bytes: usize,
-) -> Result<bool, Fail> {
-    let looked = has_just(rt, shared, texts) && are_walked(shared, texts);
-    let written = are_written(alloc, shared, texts)?;
-    Ok(looked && written && has_sums(rt, shared, bytes, bytes))
-}
-
-// The texts of a copied text and a static one, in the order of their bytes, and these two.
-type Pair<'a> = (&'a [&'a str], &'a str, &'static str);
-
-// Whether the reader of the two texts by a pass has exactly these.
-fn is_frozen_by_pass<K: Key, S: BuildHasher + Default + Drop, R: Wait>(
-    rt: &R,
-    alloc: Global,
-    texts: Pair<'_>,
-) -> Result<bool, Fail> {
-    let other: ThreadedRodeo<K, S> = pair(rt, alloc, texts.1, texts.2)?;
-    Ok(is_read_as_by_pass(rt, other, texts.0, "absent")?)
-}
-
-// Whether the resolver of the two texts has exactly these.
-fn is_resolved<K: Key, S: BuildHasher + Default + Drop, R: Wait>(
-    rt: &R,
-    alloc: Global,
-    texts: Pair<'_>,
-) -> Result<bool, Fail> {
-    let third: ThreadedRodeo<K, S> = pair(rt, alloc, texts.1, texts.2)?;
-    Ok(is_resolved_as(rt, third, texts.0)?)
+) -> bool {
+    has_just(rt, shared, texts)
+        && are_walked(shared, texts)
+        && are_written(alloc, shared, texts)
+        && has_sums(rt, shared, bytes, bytes)
 }
 
 // Whether look-ups, walks, JSON and the reader of the two texts show exactly these, and leave limit and usage as
-// they were.
+// they were. The texts are in the order of their bytes.
 fn is_shown<K: Key, S: BuildHasher + Default + Drop, R: Wait>(
     rt: &R,
     alloc: Global,
-    texts: Pair<'_>,
-) -> Result<bool, Fail> {
-    let shared: ThreadedRodeo<K, S> = pair(rt, alloc, texts.1, texts.2)?;
-    let shown = shows(rt, alloc, &shared, texts.0, texts.1.len())?;
-    let frozen = is_read_as(rt, shared, texts.0, "absent")?;
-    Ok(shown && frozen)
+    texts: &[&str],
+    first: &str,
+    second: &'static str,
+) -> LassoResult<bool> {
+    let shared: ThreadedRodeo<K, S> = pair(rt, alloc, first, second)?;
+    let shown = shows(rt, alloc, &shared, texts, first.len());
+    Ok(is_read_as(rt, shared, texts, "absent") && shown)
+}
+
+// Whether the reader of the two texts by a pass, and the resolver, have exactly these.
+fn are_frozen<K: Key, S: BuildHasher + Default + Drop, R: Wait>(
+    rt: &R,
+    alloc: Global,
+    texts: &[&str],
+    first: &str,
+    second: &'static str,
+) -> LassoResult<bool> {
+    let other: ThreadedRodeo<K, S> = pair(rt, alloc, first, second)?;
+    let read = is_read_as_by_pass(rt, other, texts, "absent");
+    let third: ThreadedRodeo<K, S> = pair(rt, alloc, first, second)?;
+    Ok(is_resolved_as(rt, third, texts) && read)
 }
 
 // Whether walks, JSON and frozen forms of the two texts show exactly these.
 fn are_shown<K: Key, S: BuildHasher + Default + Drop, R: Wait>(
     rt: &R,
     alloc: Global,
-    texts: Pair<'_>,
-) -> Result<bool, Fail> {
-    let shown = is_shown::<K, S, R>(rt, alloc, texts)?;
-    let read = are_read::<K, S, R>(rt, alloc, texts.0)?;
-    let by_pass = is_frozen_by_pass::<K, S, R>(rt, alloc, texts)?;
-    let resolved = is_resolved::<K, S, R>(rt, alloc, texts)?;
-    Ok(shown && read && by_pass && resolved)
+    texts: &[&str],
+    first: &str,
+    second: &'static str,
+) -> bool {
+    is_true(is_shown::<K, S, R>(rt, alloc, texts, first, second))
+        && is_true(are_frozen::<K, S, R>(rt, alloc, texts, first, second))
+        && are_read::<K, S, R>(rt, alloc, texts)
 }
 
 // The same of texts of `length` bytes where these letters have one byte each.
@@ -176,7 +152,7 @@ fn lettered_are_shown<K: Key, S: BuildHasher + Default + Drop, R: Wait>(
     let second = lettered(alloc, letters.1, length)?;
     let kept = lasting(alloc, letters.1, length)?;
     let texts = [first.as_str(), second.as_str()];
-    are_shown::<K, S, R>(rt, alloc, (&texts, first.as_str(), kept))
+    Ok(are_shown::<K, S, R>(rt, alloc, &texts, first.as_str(), kept))
 }
 
 // The first characters of the texts have 1 byte each, or 2 and 4. The texts are in the order of their bytes.

@@ -2,10 +2,10 @@
 use lasso_parts::keys::Key;
 use lasso_shared::threaded::ThreadedRodeo;
 use lasso_shared_testing::calls::pass_of;
+use serde_json::Value;
 use std::alloc::{AllocError, Global};
 use std::fmt::Debug;
 use std::hash::BuildHasher;
-use std::test::Fail;
 
 // Appends the text in quotation marks, after the separator unless it is the first one.
 fn push_quoted(
@@ -78,21 +78,37 @@ fn debug_of(alloc: Global, texts: &[&str]) -> Result<String, AllocError> {
     )
 }
 
-// The interner as JSON text.
-fn json_of<K: Key, S: BuildHasher + Drop>(
+// Whether the value is this JSON text.
+fn is_value(alloc: Global, value: &Value, json: &str) -> bool {
+    match value.to_string(alloc) {
+        Ok(text) => text.as_str() == json,
+        Err(_) => false,
+    }
+}
+
+// Whether the interner is written as this JSON text without a pass.
+fn is_plainly_written<K: Key, S: BuildHasher + Drop>(
     alloc: Global,
     shared: &ThreadedRodeo<K, S>,
-) -> Result<String, Fail> {
-    Ok(shared.serialize(alloc)?.to_string(alloc)?)
+    json: &str,
+) -> bool {
+    match shared.serialize(alloc) {
+        Ok(value) => is_value(alloc, &value, json),
+        Err(_) => false,
+    }
 }
 
 // The same by a new pass.
-fn json_by_pass<K: Key, S: BuildHasher + Drop>(
+fn is_written_by_pass<K: Key, S: BuildHasher + Drop>(
     alloc: Global,
     shared: &ThreadedRodeo<K, S>,
-) -> Result<String, Fail> {
+    json: &str,
+) -> bool {
     let mut pass = pass_of(shared);
-    Ok(shared.serialize_as(alloc, &mut pass)?.to_string(alloc)?)
+    match shared.serialize_as(alloc, &mut pass) {
+        Ok(value) => is_value(alloc, &value, json),
+        Err(_) => false,
+    }
 }
 
 /// Whether the interner is written as this JSON text, without a pass and with one.
@@ -100,10 +116,8 @@ pub(super) fn is_written_as<K: Key, S: BuildHasher + Drop>(
     alloc: Global,
     shared: &ThreadedRodeo<K, S>,
     json: &str,
-) -> Result<bool, Fail> {
-    let plainly = json_of(alloc, shared)?.as_str() == json;
-    let by_pass = json_by_pass(alloc, shared)?.as_str() == json;
-    Ok(plainly && by_pass)
+) -> bool {
+    is_plainly_written(alloc, shared, json) && is_written_by_pass(alloc, shared, json)
 }
 
 /// Whether the interner is written as the object of these texts, without a pass and with one. The texts must
@@ -112,14 +126,19 @@ pub(super) fn are_written<K: Key, S: BuildHasher + Drop>(
     alloc: Global,
     shared: &ThreadedRodeo<K, S>,
     texts: &[&str],
-) -> Result<bool, Fail> {
-    let object = object_of(alloc, texts)?;
-    is_written_as(alloc, shared, object.as_str())
+) -> bool {
+    match object_of(alloc, texts) {
+        Ok(object) => is_written_as(alloc, shared, object.as_str()),
+        Err(_) => false,
+    }
 }
 
 /// Whether this is the debug text of the value.
-pub(super) fn prints<T: Debug>(alloc: Global, value: &T, wanted: &str) -> Result<bool, AllocError> {
-    Ok(format!(in alloc; "{value:?}")?.as_str() == wanted)
+pub(super) fn prints<T: Debug>(alloc: Global, value: &T, wanted: &str) -> bool {
+    match format!(in alloc; "{value:?}") {
+        Ok(printed) => printed.as_str() == wanted,
+        Err(_) => false,
+    }
 }
 
 /// Whether the interner's debug text has exactly these texts.
@@ -127,7 +146,9 @@ pub(super) fn are_printed<K: Key, S: BuildHasher + Drop>(
     alloc: Global,
     shared: &ThreadedRodeo<K, S>,
     texts: &[&str],
-) -> Result<bool, AllocError> {
-    let wanted = debug_of(alloc, texts)?;
-    prints(alloc, shared, wanted.as_str())
+) -> bool {
+    match debug_of(alloc, texts) {
+        Ok(wanted) => prints(alloc, shared, wanted.as_str()),
+        Err(_) => false,
+    }
 }
