@@ -1,13 +1,14 @@
 //! What each plain call returns for few texts and for many.
-use lasso_parts::keys::{Key, Spur};
+use super::checks::{is_given, is_so, is_so_at, is_text, is_true};
+use super::forms::shared_of;
+use super::frozen::{is_read_as, is_resolved_as};
+use super::looking::{has_just, is_absent, is_found, reads, reads_none};
+use super::texts::{first_of, listed};
+use super::walking::{are_walked, have_left};
+use super::writing::{are_printed, are_written};
 use lasso_parts::util::LassoResult;
-use lasso_shared::threaded::{Iter, Strings, ThreadedRodeo};
-use lasso_shared_testing::calls::{
-    Reader, Shared, contains, copied, copied_so, found, is_key, len, resolved, roomless, text_at,
-};
-use lasso_shared_testing::texts::numbered;
-use lasso_single::resolver::RodeoResolver;
-use std::alloc::{AllocError, Global};
+use lasso_shared_testing::calls::{Shared, copied, copied_so, len, roomless};
+use std::alloc::Global;
 use std::process::Abort;
 use std::sync::Wait;
 use std::test::*;
@@ -16,7 +17,7 @@ use std::test::*;
 //
 // Each text needs the cells of sixteen positions, its own and the next ones. Cells come in chunks of 32, 32,
 // 64, 128 and so on, each as large as all earlier ones.
-const STATES: [(usize, usize); 18] = [
+static STATES: [(usize, usize); 18] = [
     (0, 0),
     (1, 32),
     (2, 32),
@@ -40,226 +41,168 @@ const STATES: [(usize, usize); 18] = [
 // An absent text, which begins and ends like a present one.
 const ABSENT: &str = "000000";
 
-// The next text of the walk, and its number.
-fn next<'a>(walk: &mut Iter<'a, Spur>) -> Option<(usize, &'a str)> {
-    match walk.next() {
-        Some((key, text)) => Some((key.into_usize(), text)),
-        None => None,
-    }
-}
-
-// Whether both walks have `left` texts left.
-fn have_left(walk: &Iter<'_, Spur>, strings: &Strings<'_, Spur>, left: usize) -> bool {
-    walk.len() == left && strings.len() == left
-}
-
-// Whether both walks yield exactly the first `count` texts, in order.
-fn are_walked(shared: &Shared, texts: &[String], count: usize) -> bool {
-    let mut walk = shared.iter();
-    let mut strings = shared.strings();
-    let mut all = have_left(&walk, &strings, count);
-    let mut position: usize = 0;
-    for text in texts.iter().take(count) {
-        all &= next(&mut walk) == Some((position, text.as_str()));
-        all &= strings.next() == Some(text.as_str());
-        position = position.saturating_add(1);
-    }
-    all && position == count && have_left(&walk, &strings, 0)
-}
-
-// Whether the first `count` texts are found and resolved, each by five calls.
-fn are_found<R: Wait>(
-    rt: &R,
-    shared: &Shared,
-    texts: &[String],
-    count: usize,
-) -> Result<bool, Fail> {
-    let mut all = true;
-    let mut position: usize = 0;
-    for text in texts.iter().take(count) {
-        let text = text.as_str();
-        all &= found(rt, shared, text) == Some(position) && contains(rt, shared, text);
-        all &= text_at(shared, position)? == Some(text)
-            && resolved(shared, position)? == Some(text);
-        all &= is_key(shared, position)?;
-        position = position.saturating_add(1);
-    }
-    Ok(all)
-}
-
-// Whether keys with numbers from `count` on stand for no text.
-pub(super) fn none_past(shared: &Shared, count: usize) -> Result<bool, Fail> {
+/// Whether keys with numbers from `count` on stand for no text.
+pub(super) fn none_past(shared: &Shared, count: usize) -> bool {
     let mut all = true;
     for more in [0usize, 1, 2, 15, 16, 17, 31, 32, 33, 1000, 70_000] {
-        let number = count.saturating_add(more);
-        all &= !is_key(shared, number)?;
-        all &= text_at(shared, number)?.is_none() && resolved(shared, number)?.is_none();
+        all &= reads_none(shared, count.saturating_add(more));
     }
-    Ok(all)
+    all
 }
 
-// Whether each call that reads shows exactly the first `count` texts.
-fn has_first<R: Wait>(
-    rt: &R,
-    shared: &Shared,
-    texts: &[String],
-    count: usize,
-) -> Result<bool, Fail> {
-    let sums = len(shared) == count && shared.is_empty() == (count == 0);
-    let gone = !contains(rt, shared, ABSENT) && found(rt, shared, ABSENT).is_none();
-    let walked = are_walked(shared, texts, count);
-    Ok(sums && gone && walked && none_past(shared, count)? && are_found(rt, shared, texts, count)?)
+// Whether each call that reads shows exactly these texts.
+fn shows_just<R: Wait>(rt: &R, shared: &Shared, texts: &[&str]) -> bool {
+    has_just(rt, shared, texts)
+        && is_absent(rt, shared, ABSENT)
+        && are_walked(shared, texts)
+        && none_past(shared, texts.len())
 }
 
 // Interns a new text by one call and again by the other. Returns whether both return this number.
-fn is_next<R: Wait>(rt: &R, shared: &Shared, text: &str, number: usize) -> LassoResult<bool> {
+fn is_taken_twice<R: Wait>(rt: &R, shared: &Shared, text: &str, number: usize) -> bool {
     if number % 2 == 0 {
-        Ok(copied(rt, shared, text)? == number && copied_so(rt, shared, text)? == number)
-    } else {
-        Ok(copied_so(rt, shared, text)? == number && copied(rt, shared, text)? == number)
+        return is_given(copied(rt, shared, text), number)
+            && is_given(copied_so(rt, shared, text), number);
     }
+    is_given(copied_so(rt, shared, text), number) && is_given(copied(rt, shared, text), number)
+}
+
+// The same with the text of this number.
+fn is_next<R: Wait>(rt: &R, shared: &Shared, texts: &[&str], number: usize) -> bool {
+    match texts.get(number) {
+        Some(text) => is_taken_twice(rt, shared, text, number),
+        None => false,
+    }
+}
+
+// Interns the texts from number `have` on, up to `count` texts. The interner then has to show exactly these, and
+// to have this number of cells.
+fn grow<R: Wait + Abort>(rt: &R, shared: &Shared, texts: &[&str], have: usize, cells: usize) {
+    for number in have..texts.len() {
+        is_so_at(rt, is_next(rt, shared, texts, number), number);
+    }
+    is_so_at(rt, shows_just(rt, shared, texts), texts.len());
+    is_so_at(rt, shared.capacity() == cells, texts.len());
+}
+
+// The same for each number of texts in `STATES`.
+fn grow_by_states<R: Wait + Abort>(rt: &R, shared: &Shared, texts: &[&str]) -> Result<(), Fail> {
+    let mut have: usize = 0;
+    for (count, cells) in STATES.iter() {
+        grow(rt, shared, first_of(texts, *count)?, have, *cells);
+        have = *count;
+    }
+    Ok(())
 }
 
 #[test]
 fn each_call_tells_of_each_count(rt: HostRuntime) -> Result<(), Fail> {
-    let texts = numbered(rt.alloc(), 3000)?;
+    let texts = listed(rt.alloc(), 3000)?;
     let shared: Shared = roomless(rt.alloc())?;
-    let mut rest = texts.iter();
-    let mut have: usize = 0;
-    for (count, cells) in STATES {
-        for number in have..count {
-            let text = rest.next().ok_or("no text")?;
-            assert!(rt; is_next(&rt, &shared, text.as_str(), number)?, "{text}");
-        }
-        have = count;
-        assert!(rt; has_first(&rt, &shared, &texts, count)?, "{count}");
-        assert!(rt; shared.capacity() == cells, "{count}");
+    grow_by_states(&rt, &shared, &texts)
+}
+
+/// Whether a reader and a resolver of these texts have exactly them.
+pub(super) fn are_frozen<R: Wait>(rt: &R, alloc: Global, texts: &[&str]) -> LassoResult<bool> {
+    let read = is_read_as(rt, shared_of(rt, alloc, texts)?, texts, ABSENT);
+    Ok(is_resolved_as(rt, shared_of(rt, alloc, texts)?, texts) && read)
+}
+
+// The first texts have to be frozen, for each number of them in `STATES`.
+fn freeze_each<R: AllocGlobal + Wait + Abort>(rt: &R, texts: &[&str]) -> Result<(), Fail> {
+    for (count, _) in STATES.iter() {
+        let frozen = are_frozen(rt, rt.alloc(), first_of(texts, *count)?);
+        is_so_at(rt, is_true(frozen), *count);
     }
     Ok(())
-}
-
-// An interner of the first `count` texts.
-pub(super) fn of_first<R: Wait>(
-    rt: &R,
-    alloc: Global,
-    texts: &[String],
-    count: usize,
-) -> Result<Shared, Fail> {
-    let mut items: Vec<&str> = Vec::new(alloc);
-    for text in texts.iter().take(count) {
-        items.push(text.as_str())?;
-    }
-    Ok(ThreadedRodeo::from_iter(alloc, rt, items.iter().copied())?)
-}
-
-// Whether the reader has exactly the first `count` texts.
-pub(super) fn reads_first(reader: &Reader, texts: &[String], count: usize) -> bool {
-    let mut all = reader.len() == count && reader.get(ABSENT).is_none();
-    let mut walk = reader.strings();
-    let mut position: usize = 0;
-    for text in texts.iter().take(count) {
-        all &= walk.next() == Some(text.as_str());
-        all &= match reader.get(text.as_str()) {
-            Some(key) => key.into_usize() == position,
-            None => false,
-        };
-        position = position.saturating_add(1);
-    }
-    all && walk.next().is_none()
-}
-
-// Whether the resolver has exactly the first `count` texts.
-pub(super) fn resolves_first(
-    resolver: &RodeoResolver<Spur, Global>,
-    texts: &[String],
-    count: usize,
-) -> bool {
-    let mut all = resolver.len() == count;
-    let mut walk = resolver.strings();
-    for text in texts.iter().take(count) {
-        all &= walk.next() == Some(text.as_str());
-    }
-    all && walk.next().is_none()
 }
 
 #[test]
 fn a_frozen_form_has_each_count_of_texts(rt: HostRuntime) -> Result<(), Fail> {
-    let texts = numbered(rt.alloc(), 3000)?;
-    for (count, _) in STATES {
-        let reader = of_first(&rt, rt.alloc(), &texts, count)?.into_reader(&rt)?;
-        assert!(rt; reads_first(&reader, &texts, count), "{count}");
-        let resolver = of_first(&rt, rt.alloc(), &texts, count)?.into_resolver(&rt)?;
-        assert!(rt; resolves_first(&resolver, &texts, count), "{count}");
+    let texts = listed(rt.alloc(), 3000)?;
+    freeze_each(&rt, &texts)
+}
+
+// Whether an interner of these texts is written as the JSON object and the debug text of them.
+fn is_written<R: Wait>(rt: &R, alloc: Global, texts: &[&str]) -> bool {
+    match shared_of(rt, alloc, texts) {
+        Ok(shared) => are_written(alloc, &shared, texts) && are_printed(alloc, &shared, texts),
+        Err(_) => false,
+    }
+}
+
+// The first texts have to be written, for each number of them in `STATES`.
+fn write_each<R: AllocGlobal + Wait + Abort>(rt: &R, texts: &[&str]) -> Result<(), Fail> {
+    for (count, _) in STATES.iter() {
+        let written = is_written(rt, rt.alloc(), first_of(texts, *count)?);
+        is_so_at(rt, written, *count);
     }
     Ok(())
-}
-
-// The first `count` texts as the members of a JSON object, each with its position plus one.
-fn members(alloc: Global, texts: &[String], count: usize) -> Result<String, AllocError> {
-    let mut json = String::new(alloc);
-    json.push_str("{")?;
-    let mut number: usize = 1;
-    for text in texts.iter().take(count) {
-        let comma = if number == 1 { "" } else { "," };
-        json.push_str(format!(in alloc; "{comma}\"{text}\":{number}")?.as_str())?;
-        number = number.saturating_add(1);
-    }
-    json.push_str("}")?;
-    Ok(json)
-}
-
-// The debug output of an interner of the first `count` texts.
-fn debug_text(alloc: Global, texts: &[String], count: usize) -> Result<String, AllocError> {
-    let mut printed = String::new(alloc);
-    printed.push_str("ThreadedRodeo { strings: [")?;
-    let mut number: usize = 0;
-    for text in texts.iter().take(count) {
-        let comma = if number == 0 { "" } else { ", " };
-        printed.push_str(format!(in alloc; "{comma}\"{text}\"")?.as_str())?;
-        number = number.saturating_add(1);
-    }
-    printed.push_str("], .. }")?;
-    Ok(printed)
 }
 
 #[test]
 fn each_count_of_texts_is_written(rt: HostRuntime) -> Result<(), Fail> {
-    let alloc = rt.alloc();
-    let texts = numbered(alloc, 3000)?;
-    for (count, _) in STATES {
-        let shared = of_first(&rt, alloc, &texts, count)?;
-        let written = shared.serialize(alloc)?.to_string(alloc)?;
-        assert!(rt; written == members(alloc, &texts, count)?, "{count}");
-        let printed = format!(in alloc; "{shared:?}")?;
-        assert!(rt; printed == debug_text(alloc, &texts, count)?, "{count}");
-    }
-    Ok(())
+    let texts = listed(rt.alloc(), 3000)?;
+    write_each(&rt, &texts)
 }
 
 // More texts than 16 bits count.
 const MANY: usize = 66_000;
 
+// Whether each call finds or resolves the text, and interns it as this number.
+fn has_at<R: Wait>(rt: &R, shared: &Shared, text: &str, number: usize) -> bool {
+    is_found(rt, shared, text, number)
+        && reads(shared, number, text)
+        && is_given(copied(rt, shared, text), number)
+        && is_given(copied_so(rt, shared, text), number)
+}
+
+// The text at the end of a walk over so many texts.
+fn last_walked(shared: &Shared) -> Option<&str> {
+    shared.strings().nth(65_999)
+}
+
+// The interner has to have so many texts.
+fn has_many<R: Abort>(rt: &R, shared: &Shared) {
+    is_so(rt, len(shared) == MANY, "length");
+    is_so(rt, shared.capacity() == 131_072, "capacity");
+    is_so(rt, have_left(shared, MANY), "lengths of walks");
+    is_so(rt, none_past(shared, MANY), "keys past the texts");
+    is_so(rt, is_text(last_walked(shared), "65999"), "last text");
+}
+
+// Numbers next to those that fill 8, 15 and 16 bits, and the last one, with their texts.
+static NUMBERS: [(usize, &str); 11] = [
+    (0, "00000"),
+    (1, "00001"),
+    (255, "00255"),
+    (256, "00256"),
+    (32_767, "32767"),
+    (32_768, "32768"),
+    (65_534, "65534"),
+    (65_535, "65535"),
+    (65_536, "65536"),
+    (65_537, "65537"),
+    (65_999, "65999"),
+];
+
+// Each call has to find, to resolve and to intern these texts.
+fn has_each<R: Wait + Abort>(rt: &R, shared: &Shared) {
+    for (number, text) in NUMBERS.iter() {
+        is_so(rt, has_at(rt, shared, text, *number), text);
+    }
+}
+
+// The interner of all these texts.
+fn has_all<R: AllocGlobal + Wait + Abort>(rt: &R, texts: &[&str]) -> Result<(), Fail> {
+    let shared = shared_of(rt, rt.alloc(), texts)?;
+    has_many(rt, &shared);
+    has_each(rt, &shared);
+    Ok(())
+}
+
 #[test]
 fn more_texts_than_16_bits_count(rt: HostRuntime) -> Result<(), Fail> {
-    let texts = numbered(rt.alloc(), MANY)?;
-    let shared = of_first(&rt, rt.alloc(), &texts, MANY)?;
-    assert!(rt; len(&shared) == MANY && shared.capacity() == 131_072);
-    assert!(rt; have_left(&shared.iter(), &shared.strings(), MANY) && none_past(&shared, MANY)?);
-    assert!(rt; shared.strings().nth(65_999) == Some("65999"));
-    for number in [
-        0usize, 1, 255, 256, 32_767, 32_768, 65_534, 65_535, 65_536, 65_537, 65_999,
-    ] {
-        let text = format!(in rt.alloc(); "{number:05}")?;
-        let text = text.as_str();
-        assert!(rt; found(&rt, &shared, text) == Some(number), "{number}");
-        assert!(rt;
-            contains(&rt, &shared, text) && is_key(&shared, number)?,
-            "{number}"
-        );
-        assert!(rt; text_at(&shared, number)? == Some(text), "{number}");
-        assert!(rt; resolved(&shared, number)? == Some(text), "{number}");
-        assert!(rt; copied(&rt, &shared, text)? == number, "{number}");
-        assert!(rt; copied_so(&rt, &shared, text)? == number, "{number}");
-    }
-    Ok(())
+    let texts = listed(rt.alloc(), MANY)?;
+    has_all(&rt, &texts)
 }

@@ -1,15 +1,21 @@
 //! Texts that are not ASCII through each call, without a pass and with one, for key types of each size and
 //! two hashers.
-use super::showing::{are_frozen, are_read, are_walked, are_written};
+mod interning;
+mod passes;
+
+use self::interning::{WAYS, Way, interned, is_first, is_first_by_each};
+use self::passes::{has_just_as, has_none_as, has_sums_as, set_limit_by_pass};
+use super::checks::{is_given, is_over_limit, is_so, is_true};
+use super::forms::{equal_to_single_forms, is_equal, limited};
+use super::frozen::{is_read_as, is_read_as_by_pass, is_resolved_as};
+use super::looking::{has_just, has_len, is_absent, reads_none};
+use super::showing::are_read;
+use super::walking::are_walked;
+use super::writing::are_written;
 use lasso_parts::keys::{Key, LargeSpur, MicroSpur, MiniSpur, Spur};
-use lasso_parts::util::{FixedState, LassoErrorKind, LassoResult};
+use lasso_parts::util::{FixedState, LassoResult};
 use lasso_shared::threaded::ThreadedRodeo;
-use lasso_shared_testing::calls::{
-    allocated, answered, contains, copied, copied_as, copied_so, found, found_as, is_key,
-    is_key_as, kept, kept_as, kept_so, len, limit, limited_hashed, pass_of, resolved, seen_by,
-    set_limit, set_limit_as, sums_as, text_at, text_seen_by, usage,
-};
-use lasso_single::rodeo::Rodeo;
+use lasso_shared_testing::calls::{allocated, copied, limit, set_limit, usage};
 use lasso_testing::hashers::SameState;
 use std::alloc::Global;
 use std::hash::BuildHasher;
@@ -17,60 +23,15 @@ use std::process::Abort;
 use std::sync::Wait;
 use std::test::*;
 
-// A call that interns a text, with a pass or without one.
-#[derive(Clone, Copy)]
-enum Way {
-    TryCopied,
-    Copied,
-    CopiedByPass,
-    Item,
-    TryStatic,
-    Static,
-    StaticByPass,
-}
-
-// The first four copy.
-const WAYS: [Way; 7] = [
-    Way::TryCopied,
-    Way::Copied,
-    Way::CopiedByPass,
-    Way::Item,
-    Way::TryStatic,
-    Way::Static,
-    Way::StaticByPass,
-];
-
 // A text and one that differs from it in its last byte alone. Their characters have 2, 3, 4, and 1 to 4
 // bytes; the last texts have 54.
-const TEXTS: [(&str, &str); 5] = [
+static TEXTS: [(&str, &str); 5] = [
     ("é", "è"),
     ("€", "₭"),
     ("😀", "😁"),
     ("aé€😀", "aé€😁"),
     ("é€😀é€😀é€😀é€😀é€😀é€😀", "é€😀é€😀é€😀é€😀é€😀é€😁"),
 ];
-
-// The number of the text, looked up after `extend`.
-fn interned<K: Key, S: BuildHasher + Drop, R: Wait>(
-    rt: &R,
-    shared: &ThreadedRodeo<K, S>,
-    way: Way,
-    text: &'static str,
-) -> LassoResult<Option<usize>> {
-    let mut pass = pass_of(shared);
-    match way {
-        Way::TryCopied => Ok(Some(copied(rt, shared, text)?)),
-        Way::Copied => Ok(Some(copied_so(rt, shared, text)?)),
-        Way::CopiedByPass => Ok(Some(copied_as(rt, shared, &mut pass, text)?.into_usize())),
-        Way::Item => {
-            shared.extend(rt, [text])?;
-            Ok(found(rt, shared, text))
-        }
-        Way::TryStatic => Ok(Some(kept(rt, shared, text)?)),
-        Way::Static => Ok(Some(kept_so(rt, shared, text)?)),
-        Way::StaticByPass => Ok(Some(kept_as(rt, shared, &mut pass, text)?.into_usize())),
-    }
-}
 
 // Whether limit and usage are these, read without a pass and with one.
 fn has_sums<K: Key, S: BuildHasher + Drop, R: Wait>(
@@ -79,57 +40,29 @@ fn has_sums<K: Key, S: BuildHasher + Drop, R: Wait>(
     most: usize,
     used: usize,
 ) -> bool {
-    let mut pass = pass_of(shared);
-    let plainly = limit(rt, shared) == most && usage(rt, shared) == used;
-    plainly && sums_as(rt, shared, &mut pass) == (most, used)
+    limit(rt, shared) == most && usage(rt, shared) == used && has_sums_as(rt, shared, most, used)
 }
 
-// Whether each reading without a pass shows no text at all.
+// Whether each reading shows no text at all.
 fn has_none<K: Key, S: BuildHasher + Drop, R: Wait>(
     rt: &R,
     shared: &ThreadedRodeo<K, S>,
     absent: &str,
-) -> Result<bool, Fail> {
-    let mut pass = pass_of(shared);
-    let gone = found(rt, shared, absent).is_none() && !contains(rt, shared, absent);
-    let by_pass = found_as(rt, shared, &mut pass, absent).is_none();
-    let counts = len(shared) == 0 && shared.is_empty() && seen_by(shared, &mut pass) == 0;
-    Ok(gone && by_pass && counts && !is_key(shared, 0)? && text_at(shared, 0)?.is_none())
+) -> bool {
+    is_absent(rt, shared, absent)
+        && has_none_as(rt, shared, absent)
+        && has_len(shared, 0)
+        && reads_none(shared, 0)
 }
 
 // Whether each reading without a pass shows the text alone.
-fn has_just<K: Key, S: BuildHasher + Drop, R: Wait>(
+fn has_one<K: Key, S: BuildHasher + Drop, R: Wait>(
     rt: &R,
     shared: &ThreadedRodeo<K, S>,
     text: &str,
     absent: &str,
-) -> Result<bool, Fail> {
-    let there = found(rt, shared, text) == Some(0) && contains(rt, shared, text);
-    let gone = found(rt, shared, absent).is_none() && !contains(rt, shared, absent);
-    let reads = text_at(shared, 0)? == Some(text) && resolved(shared, 0)? == Some(text);
-    let past = text_at(shared, 1)?.is_none() && resolved(shared, 1)?.is_none();
-    let keys = is_key(shared, 0)? && !is_key(shared, 1)?;
-    Ok(there && gone && reads && past && keys && len(shared) == 1 && !shared.is_empty())
-}
-
-// Whether each reading with a pass shows the text alone, also to a pass that has interned it.
-fn has_just_as<K: Key, S: BuildHasher + Drop, R: Wait>(
-    rt: &R,
-    shared: &ThreadedRodeo<K, S>,
-    text: &'static str,
-    absent: &str,
-) -> Result<bool, Fail> {
-    let mut pass = pass_of(shared);
-    let there = found_as(rt, shared, &mut pass, text) == Some(0);
-    let gone = found_as(rt, shared, &mut pass, absent).is_none();
-    let again = copied_as(rt, shared, &mut pass, text)?.into_usize() == 0;
-    let kept = kept_as(rt, shared, &mut pass, text)?.into_usize() == 0;
-    let still = found_as(rt, shared, &mut pass, text) == Some(0);
-    let reads = text_seen_by(shared, &mut pass, 0)? == Some(text);
-    let past = text_seen_by(shared, &mut pass, 1)?.is_none();
-    let keys = is_key_as(shared, &mut pass, 0)? && !is_key_as(shared, &mut pass, 1)?;
-    let all = there && gone && again && kept && still && reads && past && keys;
-    Ok(all && seen_by(shared, &mut pass) == 1)
+) -> bool {
+    has_just(rt, shared, &[text]) && is_absent(rt, shared, absent)
 }
 
 // Sets limits without a pass and with one. Returns whether each reading gives what was set last, and the
@@ -139,144 +72,258 @@ fn keeps_limits<K: Key, S: BuildHasher + Drop, R: Wait>(
     shared: &ThreadedRodeo<K, S>,
     used: usize,
 ) -> bool {
-    let mut pass = pass_of(shared);
     set_limit(rt, shared, 0x0123_4567_89ab_cdef);
     let plainly = has_sums(rt, shared, 0x0123_4567_89ab_cdef, used);
-    set_limit_as(rt, shared, &mut pass, 9_876_543_210);
+    set_limit_by_pass(rt, shared, 9_876_543_210);
     let by_pass = has_sums(rt, shared, 9_876_543_210, used);
     set_limit(rt, shared, 777);
     plainly && by_pass && has_sums(rt, shared, 777, used)
 }
 
-// How many of three comparisons say that the interner has this text alone: with an interner for one thread,
-// its reader and its resolver.
-fn equal_forms<K: Key, S: BuildHasher + Default + Drop, R: AllocGlobal + Wait>(
+// Whether the interner is equal to itself and to each form of the text, and differs from each form of the
+// other text.
+fn is_compared<K: Key, S: BuildHasher + Default + Drop, R: Wait>(
     rt: &R,
+    alloc: Global,
     shared: &ThreadedRodeo<K, S>,
     text: &str,
-) -> LassoResult<usize> {
-    let rodeo: Rodeo<K, S, Global> = Rodeo::from_iter(rt.alloc(), [text])?;
-    let first = shared.eq_rodeo(rt, &rodeo);
-    let reader = rodeo.into_reader();
-    let second = shared.eq_reader(rt, &reader);
-    let third = shared.eq_resolver(rt, &reader.into_resolver());
-    let mut count: usize = 0;
-    for same in [first, second, third] {
-        if same {
-            count = count.saturating_add(1);
-        }
-    }
-    Ok(count)
+    absent: &str,
+) -> bool {
+    equal_to_single_forms(rt, alloc, shared, &[text]) == 3
+        && equal_to_single_forms(rt, alloc, shared, &[absent]) == 0
+        && is_equal(rt, shared, shared)
 }
 
 // An interner with 300 bytes in its first bucket and 777 as its limit.
 fn roomy<K: Key, S: BuildHasher + Default + Drop>(
     alloc: Global,
-) -> Result<ThreadedRodeo<K, S>, Fail> {
-    limited_hashed(alloc, 300, 777)
+) -> LassoResult<ThreadedRodeo<K, S>> {
+    limited(alloc, 300, 777)
+}
+
+// Interns the text by this call. Returns whether each reading shows it alone, and none showed it before.
+fn is_new<K: Key, S: BuildHasher + Drop, R: Wait>(
+    rt: &R,
+    shared: &ThreadedRodeo<K, S>,
+    way: Way,
+    text: &'static str,
+    absent: &str,
+) -> bool {
+    let none = has_none(rt, shared, text) && has_sums(rt, shared, 777, 300);
+    let taken = is_first(rt, shared, way, text);
+    none && taken && has_one(rt, shared, text, absent) && has_just_as(rt, shared, text, absent)
+}
+
+// Interns the text by each call again. Returns whether each reading shows it alone, and limit and usage stay.
+fn is_kept<K: Key, S: BuildHasher + Drop, R: Wait>(
+    rt: &R,
+    shared: &ThreadedRodeo<K, S>,
+    text: &'static str,
+    absent: &str,
+) -> bool {
+    let again = is_first_by_each(rt, shared, text) && has_one(rt, shared, text, absent);
+    let sums = has_sums(rt, shared, 777, 300) && keeps_limits(rt, shared, 300);
+    again && sums && allocated(rt, shared) > 300 && are_walked(shared, &[text])
 }
 
 // Interns the text by this call and then by each. Returns whether each reading shows it alone, and limit
 // and usage stay.
-fn is_taken<K: Key, S: BuildHasher + Default + Drop, R: AllocGlobal + Wait>(
+fn is_shown<K: Key, S: BuildHasher + Default + Drop, R: Wait>(
     rt: &R,
+    alloc: Global,
+    shared: &ThreadedRodeo<K, S>,
     way: Way,
     text: &'static str,
     absent: &str,
-) -> Result<bool, Fail> {
-    let shared: ThreadedRodeo<K, S> = roomy(rt.alloc())?;
-    let mut all = has_none(rt, &shared, text)? && has_sums(rt, &shared, 777, 300);
-    all &= interned(rt, &shared, way, text)? == Some(0);
-    all &= has_just(rt, &shared, text, absent)? && has_just_as(rt, &shared, text, absent)?;
-    for again in WAYS {
-        all &= interned(rt, &shared, again, text)? == Some(0);
-    }
-    all &= has_just(rt, &shared, text, absent)? && has_sums(rt, &shared, 777, 300);
-    all &= keeps_limits(rt, &shared, 300) && allocated(rt, &shared) > 300;
-    all &= shared.eq_threaded(rt, &shared) && are_walked(&shared, &[text]);
-    all &= equal_forms(rt, &shared, text)? == 3 && equal_forms(rt, &shared, absent)? == 0;
-    all &= are_written(rt.alloc(), &shared, &[text])? && has_sums(rt, &shared, 777, 300);
-    let (other, third): (ThreadedRodeo<K, S>, ThreadedRodeo<K, S>) = (
-        roomy(rt.alloc())?,
-        roomy(rt.alloc())?,
-    );
-    all &= interned(rt, &other, way, text)? == Some(0);
-    all &= interned(rt, &third, way, text)? == Some(0);
-    all &= shared.eq_threaded(rt, &other);
-    Ok(all && are_frozen(rt, (shared, other, third), &[text])?)
+) -> bool {
+    is_new(rt, shared, way, text, absent)
+        && is_kept(rt, shared, text, absent)
+        && is_compared(rt, alloc, shared, text, absent)
+        && are_written(alloc, shared, &[text])
+        && has_sums(rt, shared, 777, 300)
 }
 
-// Fills the only bucket. Returns whether each call that copies refuses the text by the limit and leaves all
-// as it was, and each call that keeps it takes it then without a byte.
-fn is_refused_as_a_copy<K: Key, S: BuildHasher + Default + Drop, R: AllocGlobal + Wait>(
+// Interns the text by this call in another interner. Returns whether it is equal to the first.
+fn is_alike<K: Key, S: BuildHasher + Drop, R: Wait>(
     rt: &R,
+    shared: &ThreadedRodeo<K, S>,
+    other: &ThreadedRodeo<K, S>,
+    way: Way,
+    text: &'static str,
+) -> bool {
+    is_first(rt, other, way, text) && is_equal(rt, shared, other)
+}
+
+// The same of a new interner. Its reader by a pass has to have the text alone too.
+fn another_is_alike<K: Key, S: BuildHasher + Default + Drop, R: Wait>(
+    rt: &R,
+    alloc: Global,
+    shared: &ThreadedRodeo<K, S>,
+    way: Way,
+    text: &'static str,
+) -> LassoResult<bool> {
+    let other: ThreadedRodeo<K, S> = roomy(alloc)?;
+    let alike = is_alike(rt, shared, &other, way, text);
+    Ok(is_read_as_by_pass(rt, other, &[text], "absent") && alike)
+}
+
+// Interns the text by this call in another interner. Returns whether its resolver has the text alone.
+fn is_resolved<K: Key, S: BuildHasher + Default + Drop, R: Wait>(
+    rt: &R,
+    alloc: Global,
+    way: Way,
+    text: &'static str,
+) -> LassoResult<bool> {
+    let third: ThreadedRodeo<K, S> = roomy(alloc)?;
+    let taken = is_first(rt, &third, way, text);
+    Ok(is_resolved_as(rt, third, &[text]) && taken)
+}
+
+// Interns the text by this call and then by each. Returns whether each reading and the reader show it alone,
+// limit and usage stay, and another interner of the text is alike.
+fn is_taken<K: Key, S: BuildHasher + Default + Drop, R: Wait>(
+    rt: &R,
+    alloc: Global,
+    way: Way,
     text: &'static str,
     absent: &str,
-) -> Result<bool, Fail> {
+) -> LassoResult<bool> {
+    let shared: ThreadedRodeo<K, S> = roomy(alloc)?;
+    let shown = is_shown(rt, alloc, &shared, way, text, absent);
+    let alike = is_true(another_is_alike(rt, alloc, &shared, way, text));
+    Ok(is_read_as(rt, shared, &[text], "absent") && shown && alike)
+}
+
+// Whether the call refuses the text by the limit, and leaves all as it was.
+fn is_refused<K: Key, S: BuildHasher + Drop, R: Wait>(
+    rt: &R,
+    shared: &ThreadedRodeo<K, S>,
+    copy: Way,
+    text: &'static str,
+) -> bool {
+    is_over_limit(interned(rt, shared, copy, text))
+        && has_none(rt, shared, text)
+        && has_sums(rt, shared, 1, 1)
+}
+
+// Whether each call that copies refuses the text by the limit, and leaves all as it was.
+fn copies_are_refused<K: Key, S: BuildHasher + Drop, R: Wait>(
+    rt: &R,
+    shared: &ThreadedRodeo<K, S>,
+    text: &'static str,
+) -> bool {
     let mut all = true;
-    for way in [Way::TryStatic, Way::Static, Way::StaticByPass] {
-        let shared: ThreadedRodeo<K, S> = limited_hashed(rt.alloc(), 1, 1)?;
-        for copy in [Way::TryCopied, Way::Copied, Way::CopiedByPass, Way::Item] {
-            let reply = answered(interned(rt, &shared, copy, text));
-            all &= reply == Err(LassoErrorKind::MemoryLimitReached);
-            all &= has_none(rt, &shared, text)? && has_sums(rt, &shared, 1, 1);
-        }
-        all &= interned(rt, &shared, way, text)? == Some(0);
-        all &= has_just(rt, &shared, text, absent)? && has_sums(rt, &shared, 1, 1);
-        all &= copied(rt, &shared, "z")? == 1 && has_sums(rt, &shared, 1, 1);
+    for copy in [Way::TryCopied, Way::Copied, Way::CopiedByPass, Way::Item] {
+        all &= is_refused(rt, shared, copy, text);
     }
-    Ok(all)
+    all
+}
+
+// Whether the call takes the text without a byte, and one byte is free then.
+fn is_taken_as_static<K: Key, S: BuildHasher + Drop, R: Wait>(
+    rt: &R,
+    shared: &ThreadedRodeo<K, S>,
+    way: Way,
+    text: &'static str,
+    absent: &str,
+) -> bool {
+    let taken = is_first(rt, shared, way, text) && has_one(rt, shared, text, absent);
+    let sums = has_sums(rt, shared, 1, 1);
+    taken && sums && is_given(copied(rt, shared, "z"), 1) && has_sums(rt, shared, 1, 1)
+}
+
+// Makes an interner of one byte. Returns whether each call that copies refuses the text by the limit and leaves
+// all as it was, and the call that keeps it takes it then without a byte.
+fn is_refused_as_a_copy<K: Key, S: BuildHasher + Default + Drop, R: Wait>(
+    rt: &R,
+    alloc: Global,
+    way: Way,
+    text: &'static str,
+    absent: &str,
+) -> LassoResult<bool> {
+    let shared: ThreadedRodeo<K, S> = limited(alloc, 1, 1)?;
+    let refused = copies_are_refused(rt, &shared, text);
+    Ok(refused && is_taken_as_static(rt, &shared, way, text, absent))
+}
+
+// An interner that is made of the text as an item, twice.
+fn made_of<K: Key, S: BuildHasher + Default + Drop, R: Wait>(
+    rt: &R,
+    alloc: Global,
+    text: &'static str,
+) -> LassoResult<ThreadedRodeo<K, S>> {
+    ThreadedRodeo::from_iter(alloc, rt, [text, text])
 }
 
 // Whether an interner that is made of the items has the text alone, in the first bucket and under no limit.
-fn is_made_of<K: Key, S: BuildHasher + Default + Drop, R: AllocGlobal + Wait>(
+fn is_made_of<K: Key, S: BuildHasher + Default + Drop, R: Wait>(
+    rt: &R,
+    alloc: Global,
+    text: &'static str,
+    absent: &str,
+) -> LassoResult<bool> {
+    let shared: ThreadedRodeo<K, S> = made_of(rt, alloc, text)?;
+    Ok(has_one(rt, &shared, text, absent) && has_sums(rt, &shared, usize::MAX, 4096))
+}
+
+// Each call has to take the text.
+fn takes<K: Key, S: BuildHasher + Default + Drop, R: AllocGlobal + Wait + Abort>(
     rt: &R,
     text: &'static str,
     absent: &str,
-) -> Result<bool, Fail> {
-    let shared: ThreadedRodeo<K, S> = ThreadedRodeo::from_iter(rt.alloc(), rt, [text, text])?;
-    Ok(has_just(rt, &shared, text, absent)? && has_sums(rt, &shared, usize::MAX, 4096))
-}
-
-// Each call takes each text, copies are refused by the limit, and fillings and JSON give interners of the
-// text alone.
-fn takes_each_text<K: Key, S: BuildHasher + Default + Drop, R: AllocGlobal + Wait + Abort>(
-    rt: &R,
-) -> Result<(), Fail> {
-    for (text, absent) in TEXTS {
-        for way in WAYS {
-            assert!(rt; is_taken::<K, S, R>(rt, way, text, absent)?, "{text}");
-        }
-        assert!(rt;
-            is_refused_as_a_copy::<K, S, R>(rt, text, absent)?,
-            "{text}"
-        );
-        assert!(rt; is_made_of::<K, S, R>(rt, text, absent)?, "{text}");
-        assert!(rt; are_read::<K, S, R>(rt, &[text])?, "{text}");
+) {
+    for way in WAYS {
+        let taken = is_taken::<K, S, R>(rt, rt.alloc(), way, text, absent);
+        is_so(rt, is_true(taken), text);
+        let resolved = is_resolved::<K, S, R>(rt, rt.alloc(), way, text);
+        is_so(rt, is_true(resolved), text);
     }
-    Ok(())
+}
+
+// Copies of the text have to be refused by the limit, and a static text not.
+fn refuses_copies<K: Key, S: BuildHasher + Default + Drop, R: AllocGlobal + Wait + Abort>(
+    rt: &R,
+    text: &'static str,
+    absent: &str,
+) {
+    for way in [Way::TryStatic, Way::Static, Way::StaticByPass] {
+        let refused = is_refused_as_a_copy::<K, S, R>(rt, rt.alloc(), way, text, absent);
+        is_so(rt, is_true(refused), text);
+    }
+}
+
+// Each call has to take each text, copies have to be refused by the limit, and fillings and JSON to give
+// interners of the text alone.
+fn takes_each_text<K: Key, S: BuildHasher + Default + Drop, R: AllocGlobal + Wait + Abort>(rt: &R) {
+    for (text, absent) in TEXTS.iter() {
+        takes::<K, S, R>(rt, text, absent);
+        refuses_copies::<K, S, R>(rt, text, absent);
+        let made = is_made_of::<K, S, R>(rt, rt.alloc(), text, absent);
+        is_so(rt, is_true(made), text);
+        is_so(rt, are_read::<K, S, R>(rt, rt.alloc(), &[text]), text);
+    }
 }
 
 #[test]
-fn keys_of_32_bits_take_each_text(rt: HostRuntime) -> Result<(), Fail> {
-    takes_each_text::<Spur, FixedState, HostRuntime>(&rt)?;
-    takes_each_text::<Spur, SameState, HostRuntime>(&rt)
+fn keys_of_32_bits_take_each_text(rt: HostRuntime) {
+    takes_each_text::<Spur, FixedState, HostRuntime>(&rt);
+    takes_each_text::<Spur, SameState, HostRuntime>(&rt);
 }
 
 #[test]
-fn keys_of_64_bits_take_each_text(rt: HostRuntime) -> Result<(), Fail> {
-    takes_each_text::<LargeSpur, FixedState, HostRuntime>(&rt)?;
-    takes_each_text::<LargeSpur, SameState, HostRuntime>(&rt)
+fn keys_of_64_bits_take_each_text(rt: HostRuntime) {
+    takes_each_text::<LargeSpur, FixedState, HostRuntime>(&rt);
+    takes_each_text::<LargeSpur, SameState, HostRuntime>(&rt);
 }
 
 #[test]
-fn keys_of_16_bits_take_each_text(rt: HostRuntime) -> Result<(), Fail> {
-    takes_each_text::<MiniSpur, FixedState, HostRuntime>(&rt)?;
-    takes_each_text::<MiniSpur, SameState, HostRuntime>(&rt)
+fn keys_of_16_bits_take_each_text(rt: HostRuntime) {
+    takes_each_text::<MiniSpur, FixedState, HostRuntime>(&rt);
+    takes_each_text::<MiniSpur, SameState, HostRuntime>(&rt);
 }
 
 #[test]
-fn keys_of_8_bits_take_each_text(rt: HostRuntime) -> Result<(), Fail> {
-    takes_each_text::<MicroSpur, FixedState, HostRuntime>(&rt)?;
-    takes_each_text::<MicroSpur, SameState, HostRuntime>(&rt)
+fn keys_of_8_bits_take_each_text(rt: HostRuntime) {
+    takes_each_text::<MicroSpur, FixedState, HostRuntime>(&rt);
+    takes_each_text::<MicroSpur, SameState, HostRuntime>(&rt);
 }

@@ -3,6 +3,8 @@
 #![tactic(auto)]
 
 #[cfg(test)]
+mod checks;
+#[cfg(test)]
 mod comparing;
 #[cfg(test)]
 mod counts;
@@ -11,10 +13,24 @@ mod debug;
 #[cfg(test)]
 mod every_call;
 #[cfg(test)]
+mod forms;
+#[cfg(test)]
 mod freezing;
+#[cfg(test)]
+mod frozen;
 #[cfg(test)]
 mod json;
 #[cfg(test)]
+mod looking;
+#[cfg(test)]
 mod many;
 #[cfg(test)]
+mod reading;
+#[cfg(test)]
 mod showing;
+#[cfg(test)]
+mod texts;
+#[cfg(test)]
+mod walking;
+#[cfg(test)]
+mod writing;
