@@ -1,11 +1,13 @@
 //! Whole lists of interners that threads share: walked, written, frozen, and compared with other forms.
 
-ghost use Rattle.std.specs.Prelude.{◌<◌};
-
-use crate::json::check_written;
-use crate::retried::{Refused, retried};
-use crate::scenarios::{Interner, Scenario, State, Step, Way, shows};
-use lasso::{FixedState, Key, LassoErrorKind, MemoryLimits, Rodeo, Spur, ThreadedRodeo};
+use crate::calls::{extend_once, read_once, single_of, threaded_of};
+use crate::json::write;
+use crate::retried::{Refused, is_so, retried, second_value};
+use crate::scenarios::{Interner, Scenario, State, Step, Way, position_of, shows};
+use lasso::{
+    FixedState, Key, LassoErrorKind, MemoryLimits, Rodeo, RodeoReader, RodeoResolver, Spur,
+    ThreadedRodeo,
+};
 use std::alloc::Global;
 use std::process::Abort;
 use std::sync::Wait;
@@ -43,49 +45,78 @@ const FOUR: State = State {
     usage: 14,
 };
 
+const LIMITED: Scenario<'static> = Scenario {
+    bytes: 4,
+    limit: 12,
+    way: Way::Copied,
+    list: &LIST,
+    steps: &UP_TO_LIMIT,
+};
+
+const RAISED: Scenario<'static> = Scenario {
+    bytes: 4,
+    limit: 14,
+    way: Way::Copied,
+    list: &LIST,
+    steps: &[("yz", Ok(3), FOUR)],
+};
+
 #[test]
 fn four_texts_are_seen(rt: HostRuntime) -> Result<(), Fail> {
     let mut refused = Refused::none();
     let interner = four_texts(&rt, &mut refused)?;
-    let last = interner.get(&rt, "yz").map(|key| key.into_usize());
-    assert!(rt; last == Some(3));
-    assert!(rt; iter_gives_all(&interner));
-    assert!(rt; strings_give_all(&interner));
-    check_last(&rt, &interner, true);
-    assert!(rt; interner.max_memory_usage(&rt) == 14);
+    are_seen(&rt, &interner);
     refused.end()
+}
+
+fn are_seen<R: Wait + Abort>(rt: &R, interner: &Interner<Spur>) {
+    is_so(
+        rt,
+        position_of(rt, interner, "yz") == Some(3),
+        "the last text",
+    );
+    is_so(rt, iter_gives_all(interner), "the keys and texts");
+    is_so(rt, strings_give_all(interner), "the texts");
+    check_last(rt, interner, true);
+    is_so(rt, interner.max_memory_usage(rt) == 14, "the limit");
 }
 
 #[test]
 fn four_texts_are_written(rt: HostRuntime) -> Result<(), Fail> {
     let mut refused = Refused::none();
     let interner = four_texts(&rt, &mut refused)?;
-    let written = retried!(
-        &rt,
-        refused,
-        "serialize",
-        interner.serialize(rt.alloc()),
-        shows(&rt, &interner, &LIST, FOUR)
-    );
-    check_written(&rt, &mut refused, &written, OBJECT)?;
+    write(&rt, &mut refused, &interner, &LIST, FOUR, OBJECT)?;
+    refused.end()
+}
+
+#[test]
+fn four_texts_are_frozen(rt: HostRuntime) -> Result<(), Fail> {
+    let mut refused = Refused::none();
+    let reader = freeze_four(&rt, &mut refused)?;
+    is_so(&rt, reader.len() == 4, "four texts");
+    is_so(&rt, has_last(&reader), "the last text");
     refused.end()
 }
 
 // A call that runs out of memory drops the interner, so the retry freezes a new one.
-#[test]
-fn four_texts_are_frozen(rt: HostRuntime) -> Result<(), Fail> {
-    let mut refused = Refused::none();
-    let reader = retried!(
-        &rt,
+fn freeze_four<R: AllocGlobal + Wait + Abort>(
+    rt: &R,
+    refused: &mut Refused,
+) -> Result<RodeoReader<Spur, FixedState, Global>, Fail> {
+    retried!(
+        rt,
         refused,
         "into_reader",
-        four_texts(&rt, &mut refused)?.into_reader(&rt),
-        true
-    );
-    let last = reader.get("yz").map(|key| key.into_usize());
-    assert!(rt; reader.len() == 4);
-    assert!(rt; last == Some(3));
-    refused.end()
+        read_once(rt, four_texts(rt, refused)?)
+    )
+}
+
+// Whether the reader has the last text at position 3.
+fn has_last(reader: &RodeoReader<Spur, FixedState, Global>) -> bool {
+    match reader.get("yz") {
+        Some(key) => key.into_usize() == 3,
+        None => false,
+    }
 }
 
 // An interner of four texts. The last is interned after the limit is raised.
@@ -93,32 +124,26 @@ fn four_texts<R: AllocGlobal + Wait + Abort>(
     rt: &R,
     refused: &mut Refused,
 ) -> Result<Interner<Spur>, Fail> {
-    let limited = Scenario {
-        bytes: 4,
-        limit: 12,
-        way: Way::Copied,
-        list: &LIST,
-        steps: &UP_TO_LIMIT,
-    };
-    let interner = limited.build::<R, Spur>(rt, refused)?;
+    let interner = LIMITED.build::<R, Spur>(rt, refused)?;
     check_last(rt, &interner, false);
     interner.set_memory_limits(rt, MemoryLimits::new(14));
-    let raised = Scenario {
-        bytes: 4,
-        limit: 14,
-        way: Way::Copied,
-        list: &LIST,
-        steps: &[("yz", Ok(3), FOUR)],
-    };
-    raised.intern_steps(rt, refused, &interner, THREE);
+    RAISED.intern_steps(rt, refused, &interner, THREE);
     Ok(interner)
 }
 
 // Checks that the last text and its key are both present, or both absent.
 fn check_last<R: Wait + Abort>(rt: &R, interner: &Interner<Spur>, is_present: bool) {
-    assert!(rt; interner.contains(rt, "yz") == is_present);
-    assert!(rt; has_fourth_key(interner) == Some(is_present));
-    assert!(rt; !interner.is_empty());
+    is_so(
+        rt,
+        interner.contains(rt, "yz") == is_present,
+        "the last text",
+    );
+    is_so(
+        rt,
+        has_fourth_key(interner) == Some(is_present),
+        "the last key",
+    );
+    is_so(rt, !interner.is_empty(), "the first texts");
 }
 
 // Whether the interner has the key of number 3.
@@ -160,44 +185,52 @@ fn strings_give_all(interner: &Interner<Spur>) -> bool {
 fn three_texts_are_compared(rt: HostRuntime) -> Result<(), Fail> {
     let mut refused = Refused::none();
     let interner = three_texts(&rt, &mut refused)?;
-    check_comparisons(&rt, &mut refused, &interner, ["a", "b", "c"], true)?;
-    check_comparisons(&rt, &mut refused, &interner, ["a", "c", "b"], false)?;
+    check_comparisons(&rt, &mut refused, &interner, &ABC, true)?;
+    check_comparisons(&rt, &mut refused, &interner, &["a", "c", "b"], false)?;
     refused.end()
 }
 
-// An interner made of two texts, which is then filled with one of them and a new one. If memory runs out for
-// the new one, the first two are present.
+const ABC: [&str; 3] = ["a", "b", "c"];
+
+const FIRST_TWO: State = State {
+    texts: 2,
+    usage: 4096,
+};
+
+const ALL_THREE: State = State {
+    texts: 3,
+    usage: 4096,
+};
+
+// An interner made of two texts, which is then filled with one of them and a new one.
 fn three_texts<R: AllocGlobal + Wait + Abort>(
     rt: &R,
     refused: &mut Refused,
 ) -> Result<Interner<Spur>, Fail> {
-    let list = ["a", "b", "c"];
-    let interner: Interner<Spur> = retried!(
+    let interner = threaded_of(rt, refused, &["a", "b"])?;
+    fill(rt, refused, &interner)?;
+    is_so(
         rt,
-        refused,
-        "from_iter",
-        ThreadedRodeo::from_iter(rt.alloc(), rt, ["a", "b"]),
-        true
+        position_of(rt, &interner, "c") == Some(2),
+        "the last text",
     );
-    let two = State {
-        texts: 2,
-        usage: 4096,
-    };
-    let three = State {
-        texts: 3,
-        usage: 4096,
-    };
+    is_so(rt, shows(rt, &interner, &ABC, ALL_THREE), "three texts");
+    Ok(interner)
+}
+
+// If memory runs out for the new text, the first two are present.
+fn fill<R: Wait + Abort>(
+    rt: &R,
+    refused: &mut Refused,
+    interner: &Interner<Spur>,
+) -> Result<(), Fail> {
     retried!(
         rt,
         refused,
         "extend",
-        interner.extend(rt, ["b", "c"]),
-        shows(rt, &interner, &list, two)
-    );
-    let last = interner.get(rt, "c").map(|key| key.into_usize());
-    assert!(rt; last == Some(2));
-    assert!(rt; shows(rt, &interner, &list, three));
-    Ok(interner)
+        extend_once(rt, interner, &["b", "c"]),
+        shows(rt, interner, &ABC, FIRST_TWO)
+    )
 }
 
 // Checks what the comparisons of the interner with each of four forms of this list return.
@@ -205,28 +238,37 @@ fn check_comparisons<R: AllocGlobal + Wait + Abort>(
     rt: &R,
     refused: &mut Refused,
     interner: &Interner<Spur>,
-    list: [&'static str; 3],
+    list: &[&'static str],
     is_equal: bool,
 ) -> Result<(), Fail> {
-    let threaded: Interner<Spur> = retried!(
+    let threaded = threaded_of(rt, refused, list)?;
+    is_so(
         rt,
-        refused,
-        "from_iter",
-        ThreadedRodeo::from_iter(rt.alloc(), rt, list),
-        true
+        interner.eq_threaded(rt, &threaded) == is_equal,
+        "a ThreadedRodeo",
     );
-    assert!(rt; interner.eq_threaded(rt, &threaded) == is_equal);
-    let rodeo: Rodeo<Spur, FixedState, Global> = retried!(
-        rt,
-        refused,
-        "from_iter of a Rodeo",
-        Rodeo::from_iter(rt.alloc(), list),
-        true
-    );
-    assert!(rt; interner.eq_rodeo(rt, &rodeo) == is_equal);
-    let reader = rodeo.into_reader();
-    assert!(rt; interner.eq_reader(rt, &reader) == is_equal);
-    let resolver = reader.into_resolver();
-    assert!(rt; interner.eq_resolver(rt, &resolver) == is_equal);
+    let rodeo = single_of(rt, refused, "from_iter of a Rodeo", list)?;
+    is_so(rt, interner.eq_rodeo(rt, &rodeo) == is_equal, "a Rodeo");
+    check_frozen(rt, interner, rodeo.into_reader(), is_equal);
     Ok(())
+}
+
+// The same with the frozen forms.
+fn check_frozen<R: Wait + Abort>(
+    rt: &R,
+    interner: &Interner<Spur>,
+    reader: RodeoReader<Spur, FixedState, Global>,
+    is_equal: bool,
+) {
+    is_so(
+        rt,
+        interner.eq_reader(rt, &reader) == is_equal,
+        "a RodeoReader",
+    );
+    let resolver: RodeoResolver<Spur, Global> = reader.into_resolver();
+    is_so(
+        rt,
+        interner.eq_resolver(rt, &resolver) == is_equal,
+        "a RodeoResolver",
+    );
 }

@@ -1,9 +1,11 @@
 //! Each maker of an interner that threads share.
 
-use crate::retried::{Refused, retried};
+use crate::retried::{Refused, is_so, retried, second_value};
 use crate::scenarios::{Interner, Scenario, State, Way};
 use lasso::{Capacity, FixedState, LassoResult, MemoryLimits, Spur, ThreadedRodeo};
 use std::alloc::Global;
+use std::process::Abort;
+use std::sync::Wait;
 use std::test::Fail;
 
 // The makers, by what they take.
@@ -39,48 +41,75 @@ const MAKERS: [(Maker, &str, usize); 8] = [
 fn a_text_is_interned_after_each_maker(rt: HostRuntime) -> Result<(), Fail> {
     let mut refused = Refused::none();
     for (maker, name, usage) in MAKERS {
-        let interner = retried!(&rt, refused, name, make(rt.alloc(), maker), true);
-        let after = State { texts: 1, usage };
-        let scenario = Scenario {
-            bytes: usage,
-            limit: usize::MAX,
-            way: Way::Copied,
-            list: &["a"],
-            steps: &[("a", Ok(0), after)],
-        };
-        let start = State { texts: 0, usage };
-        scenario.intern_steps(&rt, &mut refused, &interner, start);
+        let interner = retry(&rt, &mut refused, maker, name)?;
+        intern_first(&rt, &mut refused, &interner, usage);
     }
     refused.end()
 }
 
+fn retry<R: AllocGlobal + Abort>(
+    rt: &R,
+    refused: &mut Refused,
+    maker: Maker,
+    name: &'static str,
+) -> Result<Interner<Spur>, Fail> {
+    retried!(rt, refused, name, make(rt.alloc(), maker))
+}
+
+// Interns a text in an empty interner whose first bucket has these bytes.
+fn intern_first<R: Wait + Abort>(
+    rt: &R,
+    refused: &mut Refused,
+    interner: &Interner<Spur>,
+    usage: usize,
+) {
+    let after = State { texts: 1, usage };
+    let scenario = Scenario {
+        bytes: usage,
+        limit: usize::MAX,
+        way: Way::Copied,
+        list: &["a"],
+        steps: &[("a", Ok(0), after)],
+    };
+    scenario.intern_steps(rt, refused, interner, State { texts: 0, usage });
+}
+
+const TWO: State = State {
+    texts: 2,
+    usage: 4096,
+};
+
+const THREE: State = State {
+    texts: 3,
+    usage: 4096,
+};
+
+const AFTER_WORDS: Scenario<'static> = Scenario {
+    bytes: 4096,
+    limit: usize::MAX,
+    way: Way::Copied,
+    list: &["if", "else", "a"],
+    steps: &[("else", Ok(1), TWO), ("a", Ok(2), THREE)],
+};
+
 #[test]
 fn two_words_take_no_bytes(rt: HostRuntime) -> Result<(), Fail> {
     let mut refused = Refused::none();
-    let interner: Interner<Spur> = retried!(
-        &rt,
+    let interner = two_words(&rt, &mut refused)?;
+    AFTER_WORDS.intern_steps(&rt, &mut refused, &interner, TWO);
+    refused.end()
+}
+
+fn two_words<R: AllocGlobal + Abort>(
+    rt: &R,
+    refused: &mut Refused,
+) -> Result<Interner<Spur>, Fail> {
+    retried!(
+        rt,
         refused,
         "from_static",
-        ThreadedRodeo::from_static(rt.alloc(), &["if", "else"]),
-        true
-    );
-    let two = State {
-        texts: 2,
-        usage: 4096,
-    };
-    let three = State {
-        texts: 3,
-        usage: 4096,
-    };
-    let scenario = Scenario {
-        bytes: 4096,
-        limit: usize::MAX,
-        way: Way::Copied,
-        list: &["if", "else", "a"],
-        steps: &[("else", Ok(1), two), ("a", Ok(2), three)],
-    };
-    scenario.intern_steps(&rt, &mut refused, &interner, two);
-    refused.end()
+        ThreadedRodeo::from_static(rt.alloc(), &["if", "else"])
+    )
 }
 
 fn make(alloc: Global, maker: Maker) -> LassoResult<Interner<Spur>> {

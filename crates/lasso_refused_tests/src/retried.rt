@@ -2,6 +2,7 @@
 
 use lasso::{JsonError, LassoError, LassoErrorKind};
 use std::alloc::AllocError;
+use std::fmt::Debug;
 use std::process::Abort;
 use std::test::Fail;
 
@@ -49,14 +50,25 @@ impl Refused {
 
     /// Notes that this call ran out of memory. It has to be the first one of the test.
     pub fn note(&mut self, rt: &impl Abort, call: &'static str) {
-        assert!(rt; self.call.is_none(), "{call}");
+        is_so(rt, self.call.is_none(), call);
         self.call = Some(call);
     }
 
-    /// Notes that this call returned the error, which has to say that it ran out of memory.
-    pub fn note_error(&mut self, rt: &impl Abort, call: &'static str, error: &impl CallError) {
-        assert!(rt; error.is_out_of_memory(), "{call}");
-        self.note(rt, call);
+    /// The value of a call. If there is none, the call has to have run out of memory, which is noted.
+    pub fn value<T, E: CallError + Drop>(
+        &mut self,
+        rt: &impl Abort,
+        call: &'static str,
+        reply: Result<T, E>,
+    ) -> Option<T> {
+        match reply {
+            Ok(value) => Some(value),
+            Err(error) => {
+                is_so(rt, error.is_out_of_memory(), call);
+                self.note(rt, call);
+                None
+            }
+        }
     }
 
     /// Ends a test whose checks all hold. If a call ran out of memory, it returns an error that names the
@@ -69,19 +81,48 @@ impl Refused {
     }
 }
 
+/// Ends the test if this does not hold.
+pub fn is_so(rt: &impl Abort, holds: bool, what: &str) {
+    assert!(rt; holds, "{what}");
+}
+
+/// The value of a call that is made again, which has to succeed.
+pub fn second_value<T, E: Debug + Drop>(
+    rt: &impl Abort,
+    call: &'static str,
+    reply: Result<T, E>,
+) -> Result<T, Fail> {
+    match reply {
+        Ok(value) => Ok(value),
+        Err(error) => {
+            is_so(rt, false, call);
+            Err(Fail::from(error))
+        }
+    }
+}
+
 /// The value of a call. If it runs out of memory, the condition has to hold, and the call is made again.
 macro_rules! retried {
     ($rt:expr, $refused:expr, $name:expr, $call:expr, $unchanged:expr) => {{
         let name = $name;
         let first = $call;
-        match first {
-            Ok(value) => value,
-            Err(error) => {
-                $refused.note_error($rt, name, &error);
-                assert!($rt; $unchanged, "{name}");
+        match $refused.value($rt, name, first) {
+            Some(value) => Ok(value),
+            None => {
+                is_so($rt, $unchanged, name);
                 let second = $call;
-                assert!($rt; second.is_ok(), "{name}");
-                second?
+                second_value($rt, name, second)
+            }
+        }
+    }};
+    ($rt:expr, $refused:expr, $name:expr, $call:expr) => {{
+        let name = $name;
+        let first = $call;
+        match $refused.value($rt, name, first) {
+            Some(value) => Ok(value),
+            None => {
+                let second = $call;
+                second_value($rt, name, second)
             }
         }
     }};

@@ -1,9 +1,8 @@
 //! Texts that are interned in order in an interner that threads share, and what it shows after each.
 
-ghost use Rattle.std.specs.Prelude.{◌<◌};
-
-use crate::retried::{Refused, retried};
+use crate::retried::{Refused, is_so, retried, second_value};
 use lasso::{Capacity, FixedState, Key, LassoErrorKind, LassoResult, MemoryLimits, ThreadedRodeo};
+use std::alloc::Global;
 use std::process::Abort;
 use std::sync::Wait;
 use std::test::Fail;
@@ -48,24 +47,29 @@ impl Scenario<'_> {
         &self,
         rt: &R,
         refused: &mut Refused,
-    ) -> Result<Interner<K>, Fail>
-        requires { 0 < self.now.bytes }
-    {
-        let capacity = Capacity::new(1, self.bytes);
-        let limits = MemoryLimits::new(self.limit);
-        let interner: Interner<K> = retried!(
-            rt,
-            refused,
-            "with_capacity_and_memory_limits",
-            ThreadedRodeo::with_capacity_and_memory_limits(rt.alloc(), capacity, limits),
-            true
-        );
+    ) -> Result<Interner<K>, Fail> {
+        let interner = self.make(rt, refused)?;
         let start = State {
             texts: 0,
             usage: self.bytes,
         };
         self.intern_steps(rt, refused, &interner, start);
         Ok(interner)
+    }
+
+    fn make<R: AllocGlobal + Abort, K: Key>(
+        &self,
+        rt: &R,
+        refused: &mut Refused,
+    ) -> Result<Interner<K>, Fail> {
+        let name = "with_capacity_and_memory_limits";
+        retried!(rt, refused, name, self.make_once(rt.alloc()))
+    }
+
+    fn make_once<K: Key>(&self, alloc: Global) -> LassoResult<Interner<K>> {
+        let capacity = Capacity::new(1, self.bytes.max(1));
+        let limits = MemoryLimits::new(self.limit);
+        ThreadedRodeo::with_capacity_and_memory_limits(alloc, capacity, limits)
     }
 
     /// Interns the texts in an interner that shows `start`. If a call runs out of memory, the interner has to
@@ -79,17 +83,29 @@ impl Scenario<'_> {
     ) {
         let mut before = start;
         for (text, wanted, after) in self.steps {
-            let text = *text;
-            let mut reply = self.way.intern(rt, interner, text);
-            if reply == Err(LassoErrorKind::FailedAllocation) {
-                refused.note(rt, text);
-                assert!(rt; shows(rt, interner, self.list, before), "{text}");
-                reply = self.way.intern(rt, interner, text);
-            }
-            assert!(rt; reply == *wanted, "{text}");
+            let reply = self.intern(rt, refused, interner, *text, before);
+            is_so(rt, reply == *wanted, text);
+            is_so(rt, shows(rt, interner, self.list, *after), text);
             before = *after;
-            assert!(rt; shows(rt, interner, self.list, before), "{text}");
         }
+    }
+
+    // The reply of the text, which is interned once more if memory runs out.
+    fn intern<R: Wait + Abort, K: Key>(
+        &self,
+        rt: &R,
+        refused: &mut Refused,
+        interner: &Interner<K>,
+        text: &'static str,
+        before: State,
+    ) -> Reply {
+        let reply = self.way.intern(rt, interner, text);
+        if reply != Err(LassoErrorKind::FailedAllocation) {
+            return reply;
+        }
+        refused.note(rt, text);
+        is_so(rt, shows(rt, interner, self.list, before), text);
+        self.way.intern(rt, interner, text)
     }
 }
 
@@ -117,25 +133,47 @@ pub fn shows<R: Wait, K: Key>(
     list: &[&'static str],
     state: State,
 ) -> bool {
-    let mut position = 0usize;
-    for text in list {
-        let found = interner.get(rt, *text).map(|key| key.into_usize());
-        let wanted = if position < state.texts {
+    has_first(rt, interner, list, state.texts)
+        && is_listed(interner, list)
+        && interner.len() == state.texts
+        && interner.strings().len() == state.texts
+        && interner.current_memory_usage(rt) == state.usage
+}
+
+// Whether the interner has exactly the first `texts` texts of the list, each with the key of its position.
+fn has_first<R: Wait, K: Key>(
+    rt: &R,
+    interner: &Interner<K>,
+    list: &[&'static str],
+    texts: usize,
+) -> bool {
+    for (position, text) in list.iter().enumerate() {
+        let wanted = if position < texts {
             Some(position)
         } else {
             None
         };
-        if found != wanted {
+        if position_of(rt, interner, *text) != wanted {
             return false;
         }
-        position = position.saturating_add(1);
     }
+    true
+}
+
+/// The number of the text's key, if the text is present.
+pub fn position_of<R: Wait, K: Key>(rt: &R, interner: &Interner<K>, text: &str) -> Option<usize> {
+    match interner.get(rt, text) {
+        Some(key) => Some(key.into_usize()),
+        None => None,
+    }
+}
+
+// Whether each text of the interner is that of its key's position in the list.
+fn is_listed<K: Key>(interner: &Interner<K>, list: &[&'static str]) -> bool {
     for (key, text) in interner.iter() {
         if list.get(key.into_usize()) != Some(&text) {
             return false;
         }
     }
-    interner.len() == state.texts
-        && interner.strings().len() == state.texts
-        && interner.current_memory_usage(rt) == state.usage
+    true
 }

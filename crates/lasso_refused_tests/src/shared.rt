@@ -1,8 +1,7 @@
 //! An interner that threads share: interning texts, freezing, and filling from an iterator.
 
-ghost use Rattle.std.specs.Prelude.{◌<◌};
-
-use crate::retried::{Refused, retried};
+use crate::calls::{extend_once, read_once, resolve_once, threaded_of};
+use crate::retried::{Refused, is_so, retried, second_value};
 use crate::scenarios::{Interner, Reply, Scenario, State, Step, Way, shows};
 use lasso::{FixedState, Key, LassoErrorKind, RodeoReader, RodeoResolver, Spur, ThreadedRodeo};
 use lasso_testing::keys::WithoutTwo;
@@ -70,89 +69,124 @@ const FOUR_STRINGS: State = State {
     usage: 4096,
 };
 
+const GREETED_TWICE: Scenario<'static> = Scenario {
+    bytes: 4096,
+    limit: usize::MAX,
+    way: Way::Copied,
+    list: &["Hello, world!"],
+    steps: &GREETING,
+};
+
+const STATIC_TEXTS: Scenario<'static> = Scenario {
+    bytes: 4,
+    limit: 4,
+    way: Way::Static,
+    list: &["abc", "defghijk"],
+    steps: &STATIC,
+};
+
+const TWO_BUCKETS: Scenario<'static> = Scenario {
+    bytes: 4,
+    limit: usize::MAX,
+    way: Way::Copied,
+    list: &["abc", "defghijk", "x"],
+    steps: &BUCKETS,
+};
+
+const MISSING_KEY: Scenario<'static> = Scenario {
+    bytes: 4,
+    limit: 4,
+    way: Way::Copied,
+    list: &["p", "q", "r"],
+    steps: &GAP,
+};
+
 #[test]
 fn a_copied_text_is_interned_twice(rt: HostRuntime) -> Result<(), Fail> {
     let mut refused = Refused::none();
-    let scenario = Scenario {
-        bytes: 4096,
-        limit: usize::MAX,
-        way: Way::Copied,
-        list: &["Hello, world!"],
-        steps: &GREETING,
-    };
-    scenario.build::<_, Spur>(&rt, &mut refused)?;
+    GREETED_TWICE.build::<_, Spur>(&rt, &mut refused)?;
     refused.end()
 }
 
 #[test]
 fn static_texts_take_no_bytes(rt: HostRuntime) -> Result<(), Fail> {
     let mut refused = Refused::none();
-    let scenario = Scenario {
-        bytes: 4,
-        limit: 4,
-        way: Way::Static,
-        list: &["abc", "defghijk"],
-        steps: &STATIC,
-    };
-    scenario.build::<_, Spur>(&rt, &mut refused)?;
+    STATIC_TEXTS.build::<_, Spur>(&rt, &mut refused)?;
     refused.end()
 }
 
 #[test]
 fn texts_in_two_buckets_are_frozen(rt: HostRuntime) -> Result<(), Fail> {
     let mut refused = Refused::none();
-    let scenario = Scenario {
-        bytes: 4,
-        limit: usize::MAX,
-        way: Way::Copied,
-        list: &["abc", "defghijk", "x"],
-        steps: &BUCKETS,
-    };
-    freeze::<_, Spur>(&rt, &mut refused, scenario, 3)?;
+    freeze::<_, Spur>(&rt, &mut refused, TWO_BUCKETS, 3)?;
     refused.end()
 }
 
 #[test]
 fn texts_before_a_missing_key_are_frozen(rt: HostRuntime) -> Result<(), Fail> {
     let mut refused = Refused::none();
-    let scenario = Scenario {
-        bytes: 4,
-        limit: 4,
-        way: Way::Copied,
-        list: &["p", "q", "r"],
-        steps: &GAP,
-    };
-    freeze::<_, WithoutTwo>(&rt, &mut refused, scenario, 2)?;
+    freeze::<_, WithoutTwo>(&rt, &mut refused, MISSING_KEY, 2)?;
     refused.end()
 }
 
 // Builds the scenario's interner, freezes it to each form, and checks that this has exactly the first `texts`
-// texts. A call that runs out of memory drops the interner, so the retry freezes a new one.
+// texts.
 fn freeze<R: AllocGlobal + Wait + Abort, K: Key>(
     rt: &R,
     refused: &mut Refused,
     scenario: Scenario<'_>,
     texts: usize,
-) -> Result<(), Fail>
-    requires { 0 < scenario.bytes }
-{
-    let reader = retried!(
+) -> Result<(), Fail> {
+    check_reader::<R, K>(rt, refused, scenario, texts)?;
+    let resolver = resolve_frozen::<R, K>(rt, refused, scenario)?;
+    is_so(
+        rt,
+        resolver_shows(&resolver, scenario.list, texts),
+        "the resolver",
+    );
+    Ok(())
+}
+
+fn check_reader<R: AllocGlobal + Wait + Abort, K: Key>(
+    rt: &R,
+    refused: &mut Refused,
+    scenario: Scenario<'_>,
+    texts: usize,
+) -> Result<(), Fail> {
+    let reader = read_frozen::<R, K>(rt, refused, scenario)?;
+    is_so(
+        rt,
+        reader_shows(&reader, scenario.list, texts),
+        "the reader",
+    );
+    Ok(())
+}
+
+// A call that runs out of memory drops the interner, so the retry freezes a new one.
+fn read_frozen<R: AllocGlobal + Wait + Abort, K: Key>(
+    rt: &R,
+    refused: &mut Refused,
+    scenario: Scenario<'_>,
+) -> Result<RodeoReader<K, FixedState, Global>, Fail> {
+    retried!(
         rt,
         refused,
         "into_reader",
-        scenario.build::<R, K>(rt, refused)?.into_reader(rt),
-        true
-    );
-    assert!(rt; reader_shows(&reader, scenario.list, texts));
-    let resolver = retried!(
+        read_once(rt, scenario.build::<R, K>(rt, refused)?)
+    )
+}
+
+fn resolve_frozen<R: AllocGlobal + Wait + Abort, K: Key>(
+    rt: &R,
+    refused: &mut Refused,
+    scenario: Scenario<'_>,
+) -> Result<RodeoResolver<K, Global>, Fail> {
+    retried!(
         rt,
         refused,
         "into_resolver",
-        scenario.build::<R, K>(rt, refused)?.into_resolver(rt),
-        true
-    );
-    assert!(rt; resolver_shows(&resolver, scenario.list, texts));
-    Ok(())
+        resolve_once(rt, scenario.build::<R, K>(rt, refused)?)
+    )
 }
 
 // Whether the reader has exactly the first `texts` texts of the list, each with the key of its position.
@@ -161,18 +195,24 @@ fn reader_shows<K: Key>(
     list: &[&'static str],
     texts: usize,
 ) -> bool {
-    let mut position = 0usize;
-    for text in list {
-        let is_present = match reader.get(*text) {
-            Some(key) => key.into_usize() == position && reader.try_resolve(key) == Some(*text),
-            None => false,
-        };
-        if is_present != (position < texts) {
+    for (position, text) in list.iter().enumerate() {
+        if reader_has(reader, position, *text) != (position < texts) {
             return false;
         }
-        position = position.saturating_add(1);
     }
     reader.len() == texts
+}
+
+// Whether the reader has the text, with the key of this position.
+fn reader_has<K: Key>(
+    reader: &RodeoReader<K, FixedState, Global>,
+    position: usize,
+    text: &str,
+) -> bool {
+    match reader.get(text) {
+        Some(key) => key.into_usize() == position && reader.try_resolve(key) == Some(text),
+        None => false,
+    }
 }
 
 // Whether the resolver has exactly the first `texts` texts of the list, each with the key of its position.
@@ -181,53 +221,62 @@ fn resolver_shows<K: Key>(
     list: &[&'static str],
     texts: usize,
 ) -> bool {
-    let mut position = 0usize;
-    for text in list {
-        let found = K::try_from_usize(position).and_then(|key| resolver.try_resolve(key));
+    for (position, text) in list.iter().enumerate() {
         let wanted = if position < texts { Some(*text) } else { None };
-        if found != wanted {
+        if text_at(resolver, position) != wanted {
             return false;
         }
-        position = position.saturating_add(1);
     }
     resolver.len() == texts
+}
+
+// The text of this position's key.
+fn text_at<K: Key>(resolver: &RodeoResolver<K, Global>, position: usize) -> Option<&str> {
+    match K::try_from_usize(position) {
+        Some(key) => resolver.try_resolve(key),
+        None => None,
+    }
 }
 
 // A call that runs out of memory leaves no interner.
 #[test]
 fn an_interner_of_an_iterator(rt: HostRuntime) -> Result<(), Fail> {
     let mut refused = Refused::none();
-    let made: Interner<Spur> = retried!(
-        &rt,
-        refused,
-        "from_iter",
-        ThreadedRodeo::from_iter(rt.alloc(), &rt, STRINGS),
-        true
-    );
-    assert!(rt; shows(&rt, &made, &STRINGS, FOUR_STRINGS));
+    let made = threaded_of(&rt, &mut refused, &STRINGS)?;
+    is_so(&rt, shows(&rt, &made, &STRINGS, FOUR_STRINGS), "four texts");
     refused.end()
 }
 
-// A call that runs out of memory leaves the texts before the refused one.
 #[test]
 fn an_interner_filled_by_an_iterator(rt: HostRuntime) -> Result<(), Fail> {
     let mut refused = Refused::none();
-    let filled: Interner<Spur> = retried!(
+    let filled = empty(&rt, &mut refused)?;
+    fill(&rt, &mut refused, &filled)?;
+    is_so(
         &rt,
-        refused,
-        "new",
-        ThreadedRodeo::new(rt.alloc()),
-        true
+        shows(&rt, &filled, &STRINGS, FOUR_STRINGS),
+        "four texts",
     );
+    refused.end()
+}
+
+fn empty<R: AllocGlobal + Abort>(rt: &R, refused: &mut Refused) -> Result<Interner<Spur>, Fail> {
+    retried!(rt, refused, "new", ThreadedRodeo::new(rt.alloc()))
+}
+
+// A call that runs out of memory leaves the texts before the refused one.
+fn fill<R: Wait + Abort>(
+    rt: &R,
+    refused: &mut Refused,
+    filled: &Interner<Spur>,
+) -> Result<(), Fail> {
     retried!(
-        &rt,
+        rt,
         refused,
         "extend",
-        filled.extend(&rt, STRINGS),
-        has_first_strings(&rt, &filled)
-    );
-    assert!(rt; shows(&rt, &filled, &STRINGS, FOUR_STRINGS));
-    refused.end()
+        extend_once(rt, filled, &STRINGS),
+        has_first_strings(rt, filled)
+    )
 }
 
 // Whether the interner has the first of the texts, and lacks the last.
