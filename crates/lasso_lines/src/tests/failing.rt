@@ -1,25 +1,29 @@
 //! Runs over a writer and a reader that take and give few bytes a call, and fail at each call in turn.
 ghost use Rattle.std.specs.Prelude.{◌≡◌, ◌+◌, ◌<◌, ◌++◌, [], Some};
 
-use super::{INPUT, OUTPUT, assert_fault, no_limit};
-use crate::engine::run;
+use super::checks::{End, NO_LIMIT, Ran, ends, is_done, is_fault, is_so, ran_into, run_lines};
+use super::{INPUT, OUTPUT};
 use crate::failures::Failures;
+use crate::fault::RunFault;
 use crate::memory::{MemoryReader, MemoryWriter};
 use crate::stream::{ByteReader, ByteWriter, StreamError};
 use std::alloc::Global;
+use std::process::Abort;
+use std::sync::Wait;
 use std::test::Fail;
+use std::thread::Threads;
 
 // A writer that takes at most three bytes a call. It fails at every call after the first `calls`.
 #[derive(Drop)]
-pub(super) struct ShortWriter {
-    pub(super) taken: Vec<u8>,
+pub struct ShortWriter {
+    pub taken: Vec<u8>,
     calls: u64,
-    pub(super) tries: u64,
+    pub tries: u64,
     failures: Failures,
 }
 
 impl ShortWriter {
-    pub(super) fn new(alloc: Global, calls: u64) -> Self {
+    pub fn new(alloc: Global, calls: u64) -> Self {
         ShortWriter {
             taken: Vec::new(alloc),
             calls,
@@ -69,42 +73,93 @@ impl ByteWriter for ShortWriter {
     }
 }
 
+// What a run writes before its write fails, after `calls` calls, and how it ends.
+fn run_to_a_failure<R: AllocGlobal + Threads + Wait + Sync>(
+    rt: &R,
+    input: &[u8],
+    workers: Option<usize>,
+    calls: u64,
+) -> (ShortWriter, Result<(), RunFault>) {
+    let mut reader = MemoryReader::new(input);
+    let mut writer = ShortWriter::new(rt.alloc(), calls);
+    let ended = run_lines(rt, &mut reader, &mut writer, NO_LIMIT, workers);
+    (writer, ended)
+}
+
+// Whether the writer took the whole output by calls that went well.
+fn took_all(writer: &ShortWriter, output: &[u8]) -> bool {
+    writer.taken.as_slice() == output && writer.tries == 0
+}
+
+// Whether the run ended at the first failed write.
+fn stopped_writing(
+    alloc: Global,
+    writer: &ShortWriter,
+    ended: &Result<(), RunFault>,
+) -> Result<bool, Fail> {
+    Ok(writer.tries == 1 && is_fault(alloc, ended, "write failed", 4)?)
+}
+
+// Whether the run with this many calls of the writer that go well is whole. If not, it ends at the first failed write.
+fn is_whole_run<R: AllocGlobal + Abort>(
+    rt: &R,
+    writer: &ShortWriter,
+    ended: &Result<(), RunFault>,
+    output: &[u8],
+) -> Result<bool, Fail> {
+    is_so(
+        rt,
+        output.starts_with(&writer.taken),
+        "a beginning of the output",
+    );
+    if is_done(ended) {
+        is_so(rt, took_all(writer, output), "the whole output");
+        return Ok(true);
+    }
+    is_so(
+        rt,
+        stopped_writing(rt.alloc(), writer, ended)?,
+        "one failed write",
+    );
+    Ok(false)
+}
+
+// Each write of the run fails in turn, until one run is whole.
+pub fn fails_at_each_write<R: AllocGlobal + Threads + Wait + Sync + Abort>(
+    rt: &R,
+    input: &[u8],
+    workers: Option<usize>,
+    output: &[u8],
+) -> Result<(), Fail> {
+    for calls in 0..100 {
+        let (writer, ended) = run_to_a_failure(rt, input, workers, calls);
+        if is_whole_run(rt, &writer, &ended, output)? {
+            return Ok(());
+        }
+    }
+    Err(Fail::from("no run is whole"))
+}
+
 #[test]
 fn each_write_fails_in_turn(rt: HostRuntime) -> Result<(), Fail> {
-    let mut whole = false;
-    for calls in 0..100 {
-        let mut reader = MemoryReader::new(INPUT);
-        let mut writer = ShortWriter::new(rt.alloc(), calls);
-        let result = run(&rt, &mut reader, &mut writer, no_limit());
-        assert!(rt; OUTPUT.starts_with(&writer.taken));
-        if result.is_ok() {
-            whole = true;
-            assert!(rt; writer.taken.as_slice() == OUTPUT);
-            assert!(rt; writer.tries == 0);
-            break;
-        }
-        assert!(rt; writer.tries == 1);
-        assert_fault(&rt, result, "write failed", 4)?;
-    }
-    assert!(rt; whole);
-    Ok(())
+    fails_at_each_write(&rt, INPUT, None, OUTPUT)
 }
 
 // A reader that has at most `most` bytes in its buffer. It fails at every call after the first `calls`.
 #[derive(Drop)]
-pub(super) struct ShortReader<'a> {
+pub struct ShortReader<'a> {
     at_hand: &'a [u8],
     later: &'a [u8],
     most: usize,
     calls: u64,
-    pub(super) tries: u64,
+    pub tries: u64,
     failures: Failures,
     ghost shows_some: { 0 < most },
 }
 
 impl<'a> ShortReader<'a> {
     // A reader of this input with at most three bytes in its buffer.
-    pub(super) fn new(input: &'a [u8], calls: u64) -> Self {
+    pub fn new(input: &'a [u8], calls: u64) -> Self {
         ShortReader {
             at_hand: b"",
             later: input,
@@ -116,7 +171,7 @@ impl<'a> ShortReader<'a> {
     }
 
     // A reader of this input with at most one byte in its buffer, which does not fail.
-    pub(super) fn one_by_one(input: &'a [u8]) -> Self {
+    pub fn one_by_one(input: &'a [u8]) -> Self {
         ShortReader {
             at_hand: b"",
             later: input,
@@ -159,47 +214,92 @@ impl ByteReader for ShortReader<'_> {
     }
 }
 
-// What is written before each read of three bytes. The first line ends in the first read, and the second
-// line in the second. The third read finds the end.
+// What a run writes if the reader fails after `calls` calls, how it ends, and how many calls failed.
+fn run_from<R: AllocGlobal + Threads + Wait + Sync>(
+    rt: &R,
+    input: &[u8],
+    workers: Option<usize>,
+    calls: u64,
+) -> (Ran, u64) {
+    let mut reader = ShortReader::new(input, calls);
+    let mut writer = MemoryWriter::new(rt.alloc());
+    let ended = run_lines(rt, &mut reader, &mut writer, NO_LIMIT, workers);
+    (ran_into(writer, ended), reader.tries)
+}
+
+// Whether the run makes this many calls of the reader that go well, and ends so. A failed read is not tried again.
+pub fn reads<R: AllocGlobal + Threads + Wait + Sync>(
+    rt: &R,
+    input: &[u8],
+    workers: Option<usize>,
+    calls: u64,
+    (output, end): (&[u8], End<'_>),
+) -> Result<bool, Fail> {
+    let (ran, tries) = run_from(rt, input, workers, calls);
+    let failed = if is_done(&ran.ended) { 0 } else { 1 };
+    Ok(ends(rt.alloc(), ran, output, end)? && tries == failed)
+}
+
+// The end of a run with a failed read.
+pub const READ_FAILED: End<'static> = End::Fault("read failed", 4);
+
+// How many calls go well, what is written by then, and how the run ends. The first line ends in the first read of
+// three bytes, and the second line in the second. The third read finds the end.
+const READS: [(u64, &[u8], End<'static>); 4] = [
+    (0, b"", READ_FAILED),
+    (1, b"0 b\n", READ_FAILED),
+    (2, b"0 b\n1 a\n", READ_FAILED),
+    (3, OUTPUT, End::Well),
+];
+
 #[test]
 fn each_read_fails_in_turn(rt: HostRuntime) -> Result<(), Fail> {
-    let rows: [(u64, &[u8]); 3] = [(0, b""), (1, b"0 b\n"), (2, b"0 b\n1 a\n")];
-    for (calls, answers) in rows {
-        let mut reader = ShortReader::new(INPUT, calls);
-        let mut writer = MemoryWriter::new(rt.alloc());
-        let result = run(&rt, &mut reader, &mut writer, no_limit());
-        assert!(rt; writer.into_bytes().as_slice() == answers);
-        assert!(rt; reader.tries == 1);
-        assert_fault(&rt, result, "read failed", 4)?;
+    for (calls, output, end) in &READS {
+        is_so(
+            &rt,
+            reads(&rt, INPUT, None, *calls, (output, *end))?,
+            "a failed read",
+        );
     }
-    let mut reader = ShortReader::new(INPUT, 3);
-    let mut writer = MemoryWriter::new(rt.alloc());
-    assert!(rt; run(&rt, &mut reader, &mut writer, no_limit()) == Ok(()));
-    assert!(rt; writer.into_bytes().as_slice() == OUTPUT);
-    assert!(rt; reader.tries == 0);
     Ok(())
 }
+
+const LETTERS: &str = "a\né\né\né";
+
+const LETTERS_OUTPUT: &str = "0 a\n1 é\n1 é\n1 é\n2 texts, 4096 bytes\n";
 
 // Each read but the last ends within a character of two bytes.
 #[test]
 fn letters_cut_by_stretches(rt: HostRuntime) -> Result<(), Fail> {
-    let mut reader = ShortReader::new("a\né\né\né".as_bytes(), 100);
-    let mut writer = MemoryWriter::new(rt.alloc());
-    assert!(rt; run(&rt, &mut reader, &mut writer, no_limit()) == Ok(()));
-    let output = "0 a\n1 é\n1 é\n1 é\n2 texts, 4096 bytes\n";
-    assert!(rt; writer.into_bytes().as_slice() == output.as_bytes());
+    let told = (LETTERS_OUTPUT.as_bytes(), End::Well);
+    is_so(
+        &rt,
+        reads(&rt, LETTERS.as_bytes(), None, 100, told)?,
+        "letters of two bytes",
+    );
     Ok(())
+}
+
+const FAULTY: &[u8] = b"a\n\xff\nb\n";
+
+// Whether a faulty line is refused, and nothing of what is shown is used up.
+fn stays_shown<R: AllocGlobal + Threads + Wait + Sync>(rt: &R) -> Result<bool, Fail> {
+    let mut reader = MemoryReader::new(FAULTY);
+    let mut writer = MemoryWriter::new(rt.alloc());
+    let ended = run_lines(rt, &mut reader, &mut writer, NO_LIMIT, None);
+    let ran = ran_into(writer, ended);
+    let is_refused = ends(
+        rt.alloc(),
+        ran,
+        b"0 a\n",
+        End::Fault("line 2: not UTF-8", 2),
+    )?;
+    Ok(is_refused && reader.buffer() == FAULTY)
 }
 
 // The buffer is consumed as a whole, after the answers to all of its lines, and not if one is faulty.
 #[test]
 fn a_faulty_line_leaves_what_is_shown(rt: HostRuntime) -> Result<(), Fail> {
-    let input = b"a\n\xff\nb\n".as_slice();
-    let mut reader = MemoryReader::new(input);
-    let mut writer = MemoryWriter::new(rt.alloc());
-    let result = run(&rt, &mut reader, &mut writer, no_limit());
-    assert_fault(&rt, result, "line 2: not UTF-8", 2)?;
-    assert!(rt; reader.buffer() == input);
-    assert!(rt; writer.into_bytes().as_slice() == b"0 a\n".as_slice());
+    is_so(&rt, stays_shown(&rt)?, "a faulty line");
     Ok(())
 }

@@ -1,13 +1,12 @@
 //! Runs over streams that give and take a limited number of bytes a call, as files, pipes and terminals do.
+use super::cases::{Text, bytes_of};
+use super::checks::{NO_LIMIT, is_done, is_so, run_lines};
 use super::many_lines::push_line;
-use super::no_limit;
-use crate::engine::run;
-use crate::fault::RunFault;
 use crate::standard::{StandardReader, StandardWriter};
-use crate::workers::{OpenGate, run_workers};
 use std::alloc::Global;
 use std::io;
 use std::io::{Read, Write};
+use std::process::Abort;
 use std::sync::Wait;
 use std::test::Fail;
 use std::thread::Threads;
@@ -49,47 +48,44 @@ impl Write for Taking {
     }
 }
 
-// Runs over the input by calls of at most `most` bytes, on one thread if `workers` is 0. Returns what was
-// written, whether all of it was flushed, and how the run ended.
-fn run_by<R: AllocGlobal + Threads + Wait + Sync>(
-    rt: &R,
-    input: &[u8],
-    most: usize,
-    workers: usize,
-) -> Result<(Vec<u8>, bool, Result<(), RunFault>), Fail> {
-    let source = Giving { left: input, most };
-    let sink = Taking {
-        taken: Vec::new(rt.alloc()),
+fn sink_of(alloc: Global, most: usize) -> Taking {
+    Taking {
+        taken: Vec::new(alloc),
         flushed: 0,
         most,
-    };
-    let mut reader = StandardReader::new(rt.alloc(), source)?;
-    let mut writer = StandardWriter::new(rt.alloc(), sink)?;
-    let ended = if workers == 0 {
-        run(rt, &mut reader, &mut writer, no_limit())
-    } else {
-        run_workers(rt, &mut reader, &mut writer, no_limit(), workers, &OpenGate)
-    };
-    let Taking { taken, flushed, .. } = writer.into_inner();
-    let is_flushed = flushed == taken.len();
-    Ok((taken, is_flushed, ended))
-}
-
-// `count` lines of 11 bytes with their line feeds, all distinct and in order.
-fn lines_of(alloc: Global, count: usize) -> Result<Vec<u8>, Fail> {
-    let mut input = Vec::new(alloc);
-    for number in 0..count {
-        push_line(&mut input, number)?;
     }
-    Ok(input)
 }
 
-// The report of these lines by one thread, if the buckets have `bytes` bytes.
+// Whether a run over the input by calls of at most `most` bytes ends well, writes the output and flushes it.
+fn writes_by<R: AllocGlobal + Threads + Wait + Sync>(
+    rt: &R,
+    most: usize,
+    workers: Option<usize>,
+    input: &[u8],
+    output: &[u8],
+) -> Result<bool, Fail> {
+    let mut reader = StandardReader::new(rt.alloc(), Giving { left: input, most })?;
+    let mut writer = StandardWriter::new(rt.alloc(), sink_of(rt.alloc(), most))?;
+    let ended = run_lines(rt, &mut reader, &mut writer, NO_LIMIT, workers);
+    Ok(is_done(&ended) && has_all(&writer.into_inner(), output))
+}
+
+// Whether the writer has taken and flushed these bytes.
+fn has_all(sink: &Taking, output: &[u8]) -> bool {
+    sink.taken.as_slice() == output && sink.flushed == sink.taken.len()
+}
+
+// Appends the answer to the line of this number, which is new: the number, and the line.
+fn push_answer(alloc: Global, output: &mut Vec<u8>, number: usize) -> Result<(), Fail> {
+    output.extend_from_slice(format!(in alloc; "{number} ")?.as_bytes())?;
+    push_line(output, number)
+}
+
+// The report of the first lines by one thread, if the buckets have `bytes` bytes.
 fn report_of_lines(alloc: Global, count: usize, bytes: usize) -> Result<Vec<u8>, Fail> {
     let mut output = Vec::new(alloc);
     for number in 0..count {
-        output.extend_from_slice(format!(in alloc; "{number} ")?.as_bytes())?;
-        push_line(&mut output, number)?;
+        push_answer(alloc, &mut output, number)?;
     }
     output.extend_from_slice(format!(in alloc; "{count} texts, {bytes} bytes\n")?.as_bytes())?;
     Ok(output)
@@ -108,19 +104,35 @@ const CASES: [(usize, usize); 8] = [
     (6142, 61_440),
 ];
 
+const SIZES: [usize; 6] = [100, 700, 5000, 20_000, 50_000, 1_000_000];
+
+// One thread writes the report of the lines, and three workers the lines, by calls of each size.
+fn write_all<R: AllocGlobal + Threads + Wait + Sync + Abort>(
+    rt: &R,
+    lines: &[u8],
+    report: &[u8],
+) -> Result<(), Fail> {
+    for most in &SIZES {
+        is_so(
+            rt,
+            writes_by(rt, *most, None, lines, report)?,
+            "the report by one thread",
+        );
+        is_so(
+            rt,
+            writes_by(rt, *most, Some(3), lines, lines)?,
+            "the lines by three workers",
+        );
+    }
+    Ok(())
+}
+
 #[test]
 fn calls_of_each_size_lose_nothing(rt: HostRuntime) -> Result<(), Fail> {
-    for (count, bytes) in CASES {
-        let input = lines_of(rt.alloc(), count)?;
-        let report = report_of_lines(rt.alloc(), count, bytes)?;
-        for most in [100usize, 700, 5000, 20_000, 50_000, 1_000_000] {
-            let (text, is_flushed, ended) = run_by(&rt, &input, most, 0)?;
-            assert!(rt; ended == Ok(()) && is_flushed);
-            assert!(rt; text == report);
-            let (text, is_flushed, ended) = run_by(&rt, &input, most, 3)?;
-            assert!(rt; ended == Ok(()) && is_flushed);
-            assert!(rt; text == input);
-        }
+    for (count, bytes) in &CASES {
+        let lines = bytes_of(rt.alloc(), &Text::Numbered(*count))?;
+        let report = report_of_lines(rt.alloc(), *count, *bytes)?;
+        write_all(&rt, &lines, &report)?;
     }
     Ok(())
 }

@@ -1,13 +1,15 @@
 //! Runs for a user who types a line after seeing the answers to the lines before it.
 ghost use Rattle.std.specs.Prelude.{◌+◌, Some, None};
 
-use super::{OUTPUT, PAST_LIMIT, assert_fault, no_limit};
-use crate::engine::run;
+use super::checks::{End, NO_LIMIT, is_end, is_so, run_lines};
+use super::{OUTPUT, SECOND_PAST};
 use crate::failures::Failures;
 use crate::stream::{ByteReader, ByteWriter, StreamError};
-use lasso_parts::util::MemoryLimits;
+use std::alloc::Global;
 use std::cell::RefCell;
+use std::sync::Wait;
 use std::test::Fail;
+use std::thread::Threads;
 
 // A writer to a screen, which shows what was flushed.
 #[derive(Drop)]
@@ -52,12 +54,14 @@ impl ByteWriter for ScreenWriter<'_> {
     }
 }
 
-// A user who types one line at a time, and looks at the screen before each. `typed` has each line, and what
-// the screen has to show before it.
+// A line that a user types, and what the screen has to show before it.
+type Typed<'a> = (&'a [u8], &'a [u8]);
+
+// A user who types one line at a time, and looks at the screen before each.
 #[derive(Drop)]
 struct TypedReader<'a> {
     at_hand: &'a [u8],
-    typed: &'a [(&'a [u8], &'a [u8])],
+    typed: &'a [Typed<'a>],
     screen: &'a RefCell<Vec<u8>>,
     looks: usize,
     answered: bool,
@@ -98,86 +102,95 @@ impl ByteReader for TypedReader<'_> {
     }
 }
 
-#[test]
-fn each_answer_is_seen_before_the_next_line(rt: HostRuntime) -> Result<(), Fail> {
+fn typing<'a>(typed: &'a [Typed<'a>], screen: &'a RefCell<Vec<u8>>) -> TypedReader<'a> {
+    TypedReader {
+        at_hand: b"",
+        typed,
+        screen,
+        looks: 0,
+        answered: true,
+    }
+}
+
+fn showing<'a>(alloc: Global, screen: &'a RefCell<Vec<u8>>) -> ScreenWriter<'a> {
+    ScreenWriter {
+        pending: Vec::new(alloc),
+        screen,
+        failures: Failures::none(),
+    }
+}
+
+// Whether the user looked this often, each time saw what the screen had to show, and now sees this.
+fn has_seen(reader: &TypedReader<'_>, looks: usize, shown: &[u8]) -> bool {
+    reader.answered && reader.looks == looks && reader.sees(shown)
+}
+
+// What a user types, under which limit, how the run ends, how often the user looks, and what the screen shows then.
+type Session<'a> = (&'a [Typed<'a>], usize, End<'a>, usize, &'a [u8]);
+
+// Whether the session goes so.
+fn goes<R: AllocGlobal + Threads + Wait + Sync>(
+    rt: &R,
+    (typed, limit, end, looks, shown): &Session<'_>,
+) -> Result<bool, Fail> {
     let screen = RefCell::new(Vec::new(rt.alloc()));
-    let typed: [(&[u8], &[u8]); 4] = [
+    let mut reader = typing(typed, &screen);
+    let mut writer = showing(rt.alloc(), &screen);
+    let ended = run_lines(rt, &mut reader, &mut writer, *limit, None);
+    Ok(is_end(rt.alloc(), &ended, *end)? && has_seen(&reader, *looks, shown))
+}
+
+const TWO_TEXTS: Session<'static> = (
+    &[
         (b"b\n", b""),
         (b"a\n", b"0 b\n"),
         (b"b", b"0 b\n1 a\n"),
         (b"", b"0 b\n1 a\n"),
-    ];
-    let mut reader = TypedReader {
-        at_hand: b"",
-        typed: &typed,
-        screen: &screen,
-        looks: 0,
-        answered: true,
-    };
-    let mut writer = ScreenWriter {
-        pending: Vec::new(rt.alloc()),
-        screen: &screen,
-        failures: Failures::none(),
-    };
-    assert!(rt; run(&rt, &mut reader, &mut writer, no_limit()) == Ok(()));
-    assert!(rt; reader.answered);
-    assert!(rt; reader.looks == 4);
-    assert!(rt; reader.sees(OUTPUT));
+    ],
+    NO_LIMIT,
+    End::Well,
+    4,
+    OUTPUT,
+);
+
+#[test]
+fn each_answer_is_seen_before_the_next_line(rt: HostRuntime) -> Result<(), Fail> {
+    is_so(&rt, goes(&rt, &TWO_TEXTS)?, "three answers");
     Ok(())
 }
 
+const FAULTY: Session<'static> = (
+    &[(b"a\n", b""), (b"\xff\n", b"0 a\n"), (b"b\n", b"0 a\n")],
+    NO_LIMIT,
+    End::Fault("line 2: not UTF-8", 2),
+    2,
+    b"0 a\n",
+);
+
 #[test]
 fn no_line_is_read_behind_a_fault(rt: HostRuntime) -> Result<(), Fail> {
-    let screen = RefCell::new(Vec::new(rt.alloc()));
-    let typed: [(&[u8], &[u8]); 3] = [(b"a\n", b""), (b"\xff\n", b"0 a\n"), (b"b\n", b"0 a\n")];
-    let mut reader = TypedReader {
-        at_hand: b"",
-        typed: &typed,
-        screen: &screen,
-        looks: 0,
-        answered: true,
-    };
-    let mut writer = ScreenWriter {
-        pending: Vec::new(rt.alloc()),
-        screen: &screen,
-        failures: Failures::none(),
-    };
-    let result = run(&rt, &mut reader, &mut writer, no_limit());
-    assert_fault(&rt, result, "line 2: not UTF-8", 2)?;
-    assert!(rt; reader.answered);
-    assert!(rt; reader.looks == 2);
-    assert!(rt; reader.sees(b"0 a\n"));
+    is_so(&rt, goes(&rt, &FAULTY)?, "a faulty line");
     Ok(())
 }
 
 // A line that no bucket of 4096 bytes has room for. Its line feed is typed next.
 const LONG: &[u8] = &[b'a'; 4097];
 
-#[test]
-fn no_line_is_read_after_a_refused_one(rt: HostRuntime) -> Result<(), Fail> {
-    let screen = RefCell::new(Vec::new(rt.alloc()));
-    let typed: [(&[u8], &[u8]); 4] = [
+const REFUSED: Session<'static> = (
+    &[
         (b"a\n", b""),
         (LONG, b"0 a\n"),
         (b"\n", b"0 a\n"),
         (b"b\n", b"0 a\n"),
-    ];
-    let mut reader = TypedReader {
-        at_hand: b"",
-        typed: &typed,
-        screen: &screen,
-        looks: 0,
-        answered: true,
-    };
-    let mut writer = ScreenWriter {
-        pending: Vec::new(rt.alloc()),
-        screen: &screen,
-        failures: Failures::none(),
-    };
-    let result = run(&rt, &mut reader, &mut writer, MemoryLimits::new(4096));
-    assert_fault(&rt, result, PAST_LIMIT[1], 1)?;
-    assert!(rt; reader.answered);
-    assert!(rt; reader.looks == 3);
-    assert!(rt; reader.sees(b"0 a\n"));
+    ],
+    4096,
+    SECOND_PAST,
+    3,
+    b"0 a\n",
+);
+
+#[test]
+fn no_line_is_read_after_a_refused_one(rt: HostRuntime) -> Result<(), Fail> {
+    is_so(&rt, goes(&rt, &REFUSED)?, "a refused line");
     Ok(())
 }

@@ -1,11 +1,9 @@
 //! Runs with workers.
-use super::failing::{ShortReader, ShortWriter};
-use super::{assert_fault, no_limit, owned_words};
-use crate::fault::RunFault;
-use crate::memory::{MemoryReader, MemoryWriter};
-use crate::program::run_words;
-use crate::workers::{Gate, OpenGate, run_workers};
-use lasso_parts::util::MemoryLimits;
+use super::SECOND_PAST;
+use super::cases::{Case, Text, Way, bytes_of, hold, workers_end};
+use super::checks::{End, NO_LIMIT, ends, is_done, is_so, run_through};
+use super::failing::{READ_FAILED, fails_at_each_write, reads};
+use crate::workers::Gate;
 use std::sync::Wait;
 use std::sync::atomic::{AtomicBool, AtomicUsize, Ordering};
 use std::test::Fail;
@@ -15,178 +13,200 @@ const INPUT: &[u8] = b"b\na\nb\n";
 
 const OUTPUT: &[u8] = b"a\nb\n";
 
-const SECOND_REFUSED: &str =
-    "line 2: Lasso encountered an error: The configured memory limit was reached";
-
-// A line of 4097 bytes, more than the first bucket has, between others.
-fn with_long_line<R: AllocGlobal>(rt: &R, before: &[u8], behind: &[u8]) -> Result<Vec<u8>, Fail> {
-    with_line_of(rt, 4097, before, behind)
-}
-
-// A line of `bytes` bytes between others.
-pub(super) fn with_line_of<R: AllocGlobal>(
-    rt: &R,
-    bytes: usize,
-    before: &[u8],
-    behind: &[u8],
-) -> Result<Vec<u8>, Fail> {
-    let mut input = before.to_vec(rt.alloc())?;
-    let long = vec![in rt.alloc(); b'a'; bytes]?;
-    input.extend_from_slice(&long)?;
-    input.extend_from_slice(behind)?;
-    Ok(input)
-}
-
-// Runs over the input with `workers` workers. Returns what was written and how the run ended.
-pub(super) fn run_over<R: AllocGlobal + Threads + Wait + Sync>(
-    rt: &R,
-    input: &[u8],
-    limits: MemoryLimits,
-    workers: usize,
-) -> (Vec<u8>, Result<(), RunFault>) {
-    let mut reader = MemoryReader::new(input);
-    let mut writer = MemoryWriter::new(rt.alloc());
-    let ended = run_workers(rt, &mut reader, &mut writer, limits, workers, &OpenGate);
-    (writer.into_bytes(), ended)
-}
+const BY_TWO: [Case<'static>; 1] = [(
+    Way::Words(&[&["--workers", "2"]]),
+    Text::Of(INPUT),
+    Text::Of(OUTPUT),
+    End::Well,
+)];
 
 #[test]
 fn words_set_workers(rt: HostRuntime) -> Result<(), Fail> {
-    let words = owned_words(&rt, &["--workers", "2"])?;
-    let mut reader = MemoryReader::new(INPUT);
-    let mut writer = MemoryWriter::new(rt.alloc());
-    assert!(rt; run_words(&rt, &words, &mut reader, &mut writer) == Ok(()));
-    assert!(rt; writer.into_bytes().as_slice() == OUTPUT);
-    Ok(())
+    hold(&rt, &BY_TWO)
 }
 
 // The second line does not fit in the first bucket, and the limit leaves no room for another.
-#[test]
-fn words_set_the_limit_of_workers(rt: HostRuntime) -> Result<(), Fail> {
-    let input = with_long_line(&rt, b"a\n", b"\nb\n")?;
-    let orders: [&[&str]; 2] = [
+const LIMITED: [Case<'static>; 1] = [(
+    Way::Words(&[
         &["--workers", "2", "--limit", "4096"],
         &["--limit", "4096", "--workers", "2"],
-    ];
-    for order in orders {
-        let words = owned_words(&rt, order)?;
-        let mut reader = MemoryReader::new(&input);
-        let mut writer = MemoryWriter::new(rt.alloc());
-        let ended = run_words(&rt, &words, &mut reader, &mut writer);
-        assert_fault(&rt, ended, SECOND_REFUSED, 1)?;
-        assert!(rt; writer.into_bytes().is_empty());
-    }
-    Ok(())
+    ]),
+    Text::Long(b"a\n", 4097, b"\nb\n"),
+    Text::Of(b""),
+    SECOND_PAST,
+)];
+
+#[test]
+fn words_set_the_limit_of_workers(rt: HostRuntime) -> Result<(), Fail> {
+    hold(&rt, &LIMITED)
 }
 
 // The first bucket is always allocated. None of these limits leaves 4097 bytes for the second line.
+const LIMITS: [&[&str]; 25] = [
+    &["--workers", "1", "--limit", "0"],
+    &["--workers", "1", "--limit", "1"],
+    &["--workers", "1", "--limit", "4095"],
+    &["--workers", "1", "--limit", "4096"],
+    &["--workers", "1", "--limit", "8192"],
+    &["--workers", "2", "--limit", "0"],
+    &["--workers", "2", "--limit", "1"],
+    &["--workers", "2", "--limit", "4095"],
+    &["--workers", "2", "--limit", "4096"],
+    &["--workers", "2", "--limit", "8192"],
+    &["--workers", "3", "--limit", "0"],
+    &["--workers", "3", "--limit", "1"],
+    &["--workers", "3", "--limit", "4095"],
+    &["--workers", "3", "--limit", "4096"],
+    &["--workers", "3", "--limit", "8192"],
+    &["--workers", "4", "--limit", "0"],
+    &["--workers", "4", "--limit", "1"],
+    &["--workers", "4", "--limit", "4095"],
+    &["--workers", "4", "--limit", "4096"],
+    &["--workers", "4", "--limit", "8192"],
+    &["--workers", "64", "--limit", "0"],
+    &["--workers", "64", "--limit", "1"],
+    &["--workers", "64", "--limit", "4095"],
+    &["--workers", "64", "--limit", "4096"],
+    &["--workers", "64", "--limit", "8192"],
+];
+
+const LIMITED_ANYHOW: [Case<'static>; 2] = [
+    (
+        Way::Words(&LIMITS),
+        Text::Long(b"a\n", 4097, b"\nb\n"),
+        Text::Of(b""),
+        SECOND_PAST,
+    ),
+    (
+        Way::Words(&LIMITS),
+        Text::Of(INPUT),
+        Text::Of(OUTPUT),
+        End::Well,
+    ),
+];
+
 #[test]
 fn words_set_the_limit_of_any_number_of_workers(rt: HostRuntime) -> Result<(), Fail> {
-    let input = with_long_line(&rt, b"a\n", b"\nb\n")?;
-    for workers in ["1", "2", "3", "4", "64"] {
-        for limit in ["0", "1", "4095", "4096", "8192"] {
-            let words = owned_words(&rt, &["--workers", workers, "--limit", limit])?;
-            let mut reader = MemoryReader::new(&input);
-            let mut writer = MemoryWriter::new(rt.alloc());
-            let ended = run_words(&rt, &words, &mut reader, &mut writer);
-            assert_fault(&rt, ended, SECOND_REFUSED, 1)?;
-            assert!(rt; writer.into_bytes().is_empty());
-            let mut reader = MemoryReader::new(INPUT);
-            let mut writer = MemoryWriter::new(rt.alloc());
-            assert!(rt; run_words(&rt, &words, &mut reader, &mut writer) == Ok(()));
-            assert!(rt; writer.into_bytes().as_slice() == OUTPUT);
-        }
-    }
-    Ok(())
+    hold(&rt, &LIMITED_ANYHOW)
 }
 
 // After the first bucket, this limit leaves exactly the second line's 4097 bytes. One less is too few.
+const JUST_ENOUGH: [Case<'static>; 2] = [
+    (
+        Way::Words(&[&["--workers", "2", "--limit", "8193"]]),
+        Text::Long(b"b\n", 4097, b"\n"),
+        Text::Long(b"", 4097, b"\nb\n"),
+        End::Well,
+    ),
+    (
+        Way::Words(&[&["--workers", "2", "--limit", "8192"]]),
+        Text::Long(b"b\n", 4097, b"\n"),
+        Text::Of(b""),
+        SECOND_PAST,
+    ),
+];
+
 #[test]
 fn a_limit_leaves_room_for_another_bucket(rt: HostRuntime) -> Result<(), Fail> {
-    let input = with_long_line(&rt, b"b\n", b"\n")?;
-    let output = with_long_line(&rt, b"", b"\nb\n")?;
-    let words = owned_words(&rt, &["--workers", "2", "--limit", "8193"])?;
-    let mut reader = MemoryReader::new(&input);
-    let mut writer = MemoryWriter::new(rt.alloc());
-    assert!(rt; run_words(&rt, &words, &mut reader, &mut writer) == Ok(()));
-    assert!(rt; writer.into_bytes() == output);
-    let words = owned_words(&rt, &["--workers", "2", "--limit", "8192"])?;
-    let mut reader = MemoryReader::new(&input);
-    let mut writer = MemoryWriter::new(rt.alloc());
-    let ended = run_words(&rt, &words, &mut reader, &mut writer);
-    assert_fault(&rt, ended, SECOND_REFUSED, 1)?;
-    assert!(rt; writer.into_bytes().is_empty());
-    Ok(())
+    hold(&rt, &JUST_ENOUGH)
 }
 
 // A line of more than 8192 bytes gets a bucket of exactly its size, after the first one of 4096.
 // 4096 + 995,904 = 1,000,000, and 4096 + 1,044,480 = 1,048,576.
+const GREAT_LIMITS: [Case<'static>; 4] = [
+    (
+        Way::Words(&[&["--workers", "2", "--limit", "1000000"]]),
+        Text::Long(b"b\n", 995_904, b"\n"),
+        Text::Long(b"", 995_904, b"\nb\n"),
+        End::Well,
+    ),
+    (
+        Way::Words(&[&["--workers", "2", "--limit", "1000000"]]),
+        Text::Long(b"b\n", 995_905, b"\n"),
+        Text::Of(b""),
+        SECOND_PAST,
+    ),
+    (
+        Way::Words(&[&["--workers", "2", "--limit", "1048576"]]),
+        Text::Long(b"b\n", 1_044_480, b"\n"),
+        Text::Long(b"", 1_044_480, b"\nb\n"),
+        End::Well,
+    ),
+    (
+        Way::Words(&[&["--workers", "2", "--limit", "1048576"]]),
+        Text::Long(b"b\n", 1_044_481, b"\n"),
+        Text::Of(b""),
+        SECOND_PAST,
+    ),
+];
+
 #[test]
 fn a_great_limit_is_met_and_missed(rt: HostRuntime) -> Result<(), Fail> {
-    let cases: [(&str, usize); 2] = [("1000000", 995_904), ("1048576", 1_044_480)];
-    for (limit, most) in cases {
-        let words = owned_words(&rt, &["--workers", "2", "--limit", limit])?;
-        let input = with_line_of(&rt, most, b"b\n", b"\n")?;
-        let output = with_line_of(&rt, most, b"", b"\nb\n")?;
-        let mut reader = MemoryReader::new(&input);
-        let mut writer = MemoryWriter::new(rt.alloc());
-        assert!(rt; run_words(&rt, &words, &mut reader, &mut writer) == Ok(()));
-        assert!(rt; writer.into_bytes() == output);
-        let input = with_line_of(&rt, most.saturating_add(1), b"b\n", b"\n")?;
-        let mut reader = MemoryReader::new(&input);
-        let mut writer = MemoryWriter::new(rt.alloc());
-        let ended = run_words(&rt, &words, &mut reader, &mut writer);
-        assert_fault(&rt, ended, SECOND_REFUSED, 1)?;
-        assert!(rt; writer.into_bytes().is_empty());
-    }
-    Ok(())
+    hold(&rt, &GREAT_LIMITS)
 }
 
 // In the four cases, the refused line is its worker's second, third, third and first line.
+const TOLD: [Case<'static>; 4] = [
+    (
+        Way::Workers(4096, &[2]),
+        Text::Long(b"a\nb\n", 4097, b"\nc\n"),
+        Text::Of(b""),
+        End::Told("line 3: "),
+    ),
+    (
+        Way::Workers(4096, &[2]),
+        Text::Long(b"a\nb\na\nb\na\n", 4097, b"\nc\n"),
+        Text::Of(b""),
+        End::Told("line 6: "),
+    ),
+    (
+        Way::Workers(4096, &[3]),
+        Text::Long(b"a\nb\na\nb\na\nb\na\n", 4097, b"\nc\n"),
+        Text::Of(b""),
+        End::Told("line 8: "),
+    ),
+    (
+        Way::Workers(4096, &[3]),
+        Text::Long(b"a\nb\n", 4097, b"\nc\n"),
+        Text::Of(b""),
+        End::Told("line 3: "),
+    ),
+];
+
 #[test]
 fn a_refused_line_is_told_by_its_number(rt: HostRuntime) -> Result<(), Fail> {
-    let cases: [(&[u8], usize, &str); 4] = [
-        (b"a\nb\n", 2, "line 3: "),
-        (b"a\nb\na\nb\na\n", 2, "line 6: "),
-        (b"a\nb\na\nb\na\nb\na\n", 3, "line 8: "),
-        (b"a\nb\n", 3, "line 3: "),
-    ];
-    for (before, workers, told) in cases {
-        let input = with_long_line(&rt, before, b"\nc\n")?;
-        let (output, ended) = run_over(&rt, &input, MemoryLimits::new(4096), workers);
-        assert!(rt; output.is_empty());
-        let Err(fault) = ended else {
-            return Err(Fail::from("no line was refused"));
-        };
-        assert!(rt; format!(in rt.alloc(); "{fault}")?.starts_with(told));
-    }
-    Ok(())
+    hold(&rt, &TOLD)
+}
+
+// Inputs, and their distinct lines in order.
+const ORDERED: [(&str, &str); 8] = [
+    ("b\na\nb\n", "a\nb\n"),
+    ("", ""),
+    ("b\na\nb", "a\nb\n"),
+    ("\n", "\n"),
+    ("a\r\na\n\n", "\na\na\r\n"),
+    (
+        "a\0\na\nabcdefgh\nabcdefgha\nabcdefgg\n",
+        "a\na\0\nabcdefgg\nabcdefgh\nabcdefgha\n",
+    ),
+    ("\u{e9}\nz\n\u{ff}\na", "a\nz\n\u{e9}\n\u{ff}\n"),
+    ("g\nf\ne\nd\nc\nb\na\ng\na\n", "a\nb\nc\nd\ne\nf\ng\n"),
+];
+
+// Whether each of these numbers of workers writes the lines in order. 0 workers count as one.
+fn are_ordered<R: AllocGlobal + Threads + Wait + Sync>(
+    rt: &R,
+    input: &str,
+    output: &str,
+) -> Result<bool, Fail> {
+    let lines = (input.as_bytes(), output.as_bytes());
+    workers_end(rt, NO_LIMIT, &[0, 1, 2, 3, 64], lines, End::Well)
 }
 
 #[test]
 fn distinct_lines_in_order(rt: HostRuntime) -> Result<(), Fail> {
-    let cases: [(&[u8], &[u8]); 8] = [
-        (INPUT, OUTPUT),
-        (b"", b""),
-        (b"b\na\nb", OUTPUT),
-        (b"\n", b"\n"),
-        (b"a\r\na\n\n", b"\na\na\r\n"),
-        (
-            b"a\0\na\nabcdefgh\nabcdefgha\nabcdefgg\n",
-            b"a\na\0\nabcdefgg\nabcdefgh\nabcdefgha\n",
-        ),
-        (
-            "\u{e9}\nz\n\u{ff}\na".as_bytes(),
-            "a\nz\n\u{e9}\n\u{ff}\n".as_bytes(),
-        ),
-        (b"g\nf\ne\nd\nc\nb\na\ng\na\n", b"a\nb\nc\nd\ne\nf\ng\n"),
-    ];
-    for (input, output) in cases {
-        for workers in [0usize, 1, 2, 3, 64] {
-            let (text, ended) = run_over(&rt, input, no_limit(), workers);
-            assert!(rt; ended == Ok(()));
-            assert!(rt; text.as_slice() == output);
-        }
+    for (input, output) in &ORDERED {
+        is_so(&rt, are_ordered(&rt, input, output)?, input);
     }
     Ok(())
 }
@@ -196,6 +216,20 @@ fn distinct_lines_in_order(rt: HostRuntime) -> Result<(), Fail> {
 struct Meeting {
     there: [AtomicBool; 2],
     met: [AtomicBool; 2],
+}
+
+impl Meeting {
+    fn new() -> Self {
+        Meeting {
+            there: [AtomicBool::new(false), AtomicBool::new(false)],
+            met: [AtomicBool::new(false), AtomicBool::new(false)],
+        }
+    }
+
+    // Whether each worker has met the other.
+    fn is_met(&self) -> bool {
+        self.met[0].load(Ordering::SeqCst) && self.met[1].load(Ordering::SeqCst)
+    }
 }
 
 impl Gate for Meeting {
@@ -214,18 +248,11 @@ impl Gate for Meeting {
 }
 
 #[test]
-fn workers_meet(rt: HostRuntime) -> Result<(), Fail> {
-    let meeting = Meeting {
-        there: [AtomicBool::new(false), AtomicBool::new(false)],
-        met: [AtomicBool::new(false), AtomicBool::new(false)],
-    };
-    let mut reader = MemoryReader::new(b"a\nb\n");
-    let mut writer = MemoryWriter::new(rt.alloc());
-    let ended = run_workers(&rt, &mut reader, &mut writer, no_limit(), 2, &meeting);
-    assert!(rt; ended == Ok(()));
-    assert!(rt; meeting.met[0].load(Ordering::SeqCst));
-    assert!(rt; meeting.met[1].load(Ordering::SeqCst));
-    Ok(())
+fn workers_meet(rt: HostRuntime) {
+    let meeting = Meeting::new();
+    let ran = run_through(&rt, b"a\nb\n", NO_LIMIT, 2, &meeting);
+    is_so(&rt, is_done(&ran.ended), "two lines");
+    is_so(&rt, meeting.is_met(), "both workers");
 }
 
 // A gate that counts how often each of three workers enters.
@@ -245,13 +272,11 @@ impl Turnstile {
         }
     }
 
-    // How often each worker has entered.
-    fn counts(&self) -> [usize; 3] {
-        [
-            self.entered[0].load(Ordering::SeqCst),
-            self.entered[1].load(Ordering::SeqCst),
-            self.entered[2].load(Ordering::SeqCst),
-        ]
+    // Whether the workers have entered this often.
+    fn counted(&self, counts: [usize; 3]) -> bool {
+        self.entered[0].load(Ordering::SeqCst) == counts[0]
+            && self.entered[1].load(Ordering::SeqCst) == counts[1]
+            && self.entered[2].load(Ordering::SeqCst) == counts[2]
     }
 }
 
@@ -264,14 +289,11 @@ impl Gate for Turnstile {
 }
 
 #[test]
-fn lines_go_to_workers_in_turn(rt: HostRuntime) -> Result<(), Fail> {
+fn lines_go_to_workers_in_turn(rt: HostRuntime) {
     let turnstile = Turnstile::new();
-    let mut reader = MemoryReader::new(b"a\nb\na\nb\na");
-    let mut writer = MemoryWriter::new(rt.alloc());
-    let ended = run_workers(&rt, &mut reader, &mut writer, no_limit(), 3, &turnstile);
-    assert!(rt; ended == Ok(()));
-    assert!(rt; turnstile.counts() == [2, 2, 1]);
-    Ok(())
+    let ran = run_through(&rt, b"a\nb\na\nb\na", NO_LIMIT, 3, &turnstile);
+    is_so(&rt, is_done(&ran.ended), "five lines");
+    is_so(&rt, turnstile.counted([2, 2, 1]), "lines of three workers");
 }
 
 // A gate that keeps the greatest number of a worker that entered, plus one.
@@ -287,120 +309,128 @@ impl Gate for Highest {
     }
 }
 
+// Whether each of this many workers has one of 64 lines.
+fn all_enter<R: AllocGlobal + Threads + Wait + Sync>(rt: &R, workers: usize) -> bool {
+    let highest = Highest {
+        count: AtomicUsize::new(0),
+    };
+    let ran = run_through(rt, &[b'\n'; 64], NO_LIMIT, workers, &highest);
+    is_done(&ran.ended) && highest.count.load(Ordering::SeqCst) == workers
+}
+
 #[test]
-fn each_of_many_workers_has_a_line(rt: HostRuntime) -> Result<(), Fail> {
-    let input = [b'\n'; 64];
+fn each_of_many_workers_has_a_line(rt: HostRuntime) {
     for workers in [1usize, 4, 64] {
-        let highest = Highest {
-            count: AtomicUsize::new(0),
-        };
-        let mut reader = MemoryReader::new(&input);
-        let mut writer = MemoryWriter::new(rt.alloc());
-        let ended = run_workers(&rt, &mut reader, &mut writer, no_limit(), workers, &highest);
-        assert!(rt; ended == Ok(()));
-        assert!(rt; highest.count.load(Ordering::SeqCst) == workers);
+        is_so(&rt, all_enter(&rt, workers), "64 lines");
     }
-    Ok(())
+}
+
+// Whether this many workers end so and write nothing, after each entered this often.
+fn enter<R: AllocGlobal + Threads + Wait + Sync>(
+    rt: &R,
+    (limit, input): (usize, &[u8]),
+    workers: usize,
+    end: End<'_>,
+    counts: [usize; 3],
+) -> Result<bool, Fail> {
+    let turnstile = Turnstile::new();
+    let ran = run_through(rt, input, limit, workers, &turnstile);
+    Ok(ends(rt.alloc(), ran, b"", end)? && turnstile.counted(counts))
 }
 
 // The second worker enters for line 2, which is refused, and never for line 4. The first worker enters for
 // lines 1 and 3.
 #[test]
 fn the_second_line_goes_to_the_second_worker(rt: HostRuntime) -> Result<(), Fail> {
-    let turnstile = Turnstile::new();
-    let input = with_long_line(&rt, b"a\n", b"\nb\nc\n")?;
-    let mut reader = MemoryReader::new(&input);
-    let mut writer = MemoryWriter::new(rt.alloc());
-    let limits = MemoryLimits::new(4096);
-    let ended = run_workers(&rt, &mut reader, &mut writer, limits, 2, &turnstile);
-    assert_fault(&rt, ended, SECOND_REFUSED, 1)?;
-    assert!(rt; turnstile.counts() == [2, 1, 0]);
+    let input = bytes_of(rt.alloc(), &Text::Long(b"a\n", 4097, b"\nb\nc\n"))?;
+    is_so(
+        &rt,
+        enter(&rt, (4096, &input), 2, SECOND_PAST, [2, 1, 0])?,
+        "the second line",
+    );
     Ok(())
 }
 
+const NOT_TEXT: &[u8] = b"\x61\x0a\xff\x0a\x62";
+
+const SECOND_NOT_TEXT: End<'static> = End::Fault("line 2: not UTF-8", 2);
+
+// Inputs of two workers with a line that is not UTF-8.
+const NOT_TEXTS: [Case<'static>; 4] = [
+    (
+        Way::Workers(NO_LIMIT, &[2]),
+        Text::Of(b"\n\na\n\xff\n"),
+        Text::Of(b""),
+        End::Fault("line 4: not UTF-8", 2),
+    ),
+    (
+        Way::Workers(NO_LIMIT, &[2]),
+        Text::Of(b"\xff\n\xfe"),
+        Text::Of(b""),
+        End::Fault("line 1: not UTF-8", 2),
+    ),
+    (
+        Way::Workers(NO_LIMIT, &[2]),
+        Text::Of(b"a\n\xff"),
+        Text::Of(b""),
+        End::Fault("line 2: not UTF-8", 2),
+    ),
+    (
+        Way::Workers(NO_LIMIT, &[2]),
+        Text::Of(b"a\nb\nc\xc3"),
+        Text::Of(b""),
+        End::Fault("line 3: not UTF-8", 2),
+    ),
+];
+
+// No worker starts.
 #[test]
 fn a_line_that_is_not_text_decides(rt: HostRuntime) -> Result<(), Fail> {
-    let turnstile = Turnstile::new();
     for workers in [1usize, 2, 3] {
-        let mut reader = MemoryReader::new(b"\x61\x0a\xff\x0a\x62");
-        let mut writer = MemoryWriter::new(rt.alloc());
-        let ended = run_workers(
+        let is_told = enter(
             &rt,
-            &mut reader,
-            &mut writer,
-            no_limit(),
+            (NO_LIMIT, NOT_TEXT),
             workers,
-            &turnstile,
-        );
-        assert_fault(&rt, ended, "line 2: not UTF-8", 2)?;
-        assert!(rt; writer.into_bytes().is_empty());
-        assert!(rt; turnstile.counts() == [0, 0, 0]);
+            SECOND_NOT_TEXT,
+            [0, 0, 0],
+        )?;
+        is_so(&rt, is_told, "no worker starts");
     }
-    let rows: [(&[u8], &str); 4] = [
-        (b"\n\na\n\xff\n", "line 4: not UTF-8"),
-        (b"\xff\n\xfe", "line 1: not UTF-8"),
-        (b"a\n\xff", "line 2: not UTF-8"),
-        (b"a\nb\nc\xc3", "line 3: not UTF-8"),
-    ];
-    for (input, wanted) in rows {
-        let (text, ended) = run_over(&rt, input, no_limit(), 2);
-        assert_fault(&rt, ended, wanted, 2)?;
-        assert!(rt; text.is_empty());
-    }
-    Ok(())
+    hold(&rt, &NOT_TEXTS)
 }
 
 // Neither of the two long lines fits in the first bucket, and the limit leaves no room for another.
 #[test]
 fn the_lowest_refused_line_is_told(rt: HostRuntime) -> Result<(), Fail> {
-    let mut input = with_long_line(&rt, b"a\n", b"\n")?;
-    let longer = vec![in rt.alloc(); b'b'; 4098]?;
+    let longer = b"b".repeat(rt.alloc(), 4098)?;
+    let mut input = bytes_of(rt.alloc(), &Text::Long(b"a\n", 4097, b"\n"))?;
     input.extend_from_slice(&longer)?;
-    for workers in [1usize, 2, 3] {
-        let (text, ended) = run_over(&rt, &input, MemoryLimits::new(4096), workers);
-        assert_fault(&rt, ended, SECOND_REFUSED, 1)?;
-        assert!(rt; text.is_empty());
-    }
+    let is_told = workers_end(&rt, 4096, &[1, 2, 3], (&input, b""), SECOND_PAST)?;
+    is_so(&rt, is_told, "the second line");
     Ok(())
 }
 
 #[test]
 fn each_write_fails_in_turn(rt: HostRuntime) -> Result<(), Fail> {
-    let mut whole = false;
-    for calls in 0..100 {
-        let mut reader = MemoryReader::new(INPUT);
-        let mut writer = ShortWriter::new(rt.alloc(), calls);
-        let ended = run_workers(&rt, &mut reader, &mut writer, no_limit(), 2, &OpenGate);
-        assert!(rt; OUTPUT.starts_with(&writer.taken));
-        if ended.is_ok() {
-            whole = true;
-            assert!(rt; writer.taken.as_slice() == OUTPUT);
-            assert!(rt; writer.tries == 0);
-            break;
-        }
-        assert!(rt; writer.tries == 1);
-        assert_fault(&rt, ended, "write failed", 4)?;
-    }
-    assert!(rt; whole);
-    Ok(())
+    fails_at_each_write(&rt, INPUT, Some(2), OUTPUT)
 }
 
 // The first two reads give three bytes each, and the third finds the end. No more are made.
+const READS: [(u64, &[u8], End<'static>); 4] = [
+    (0, b"", READ_FAILED),
+    (1, b"", READ_FAILED),
+    (2, b"", READ_FAILED),
+    (3, OUTPUT, End::Well),
+];
+
 #[test]
 fn each_read_fails_in_turn(rt: HostRuntime) -> Result<(), Fail> {
-    for calls in 0..3 {
-        let mut reader = ShortReader::new(INPUT, calls);
-        let mut writer = MemoryWriter::new(rt.alloc());
-        let ended = run_workers(&rt, &mut reader, &mut writer, no_limit(), 2, &OpenGate);
-        assert!(rt; writer.into_bytes().is_empty());
-        assert!(rt; reader.tries == 1);
-        assert_fault(&rt, ended, "read failed", 4)?;
+    for (calls, output, end) in &READS {
+        is_so(
+            &rt,
+            reads(&rt, INPUT, Some(2), *calls, (output, *end))?,
+            "a failed read",
+        );
     }
-    let mut reader = ShortReader::new(INPUT, 3);
-    let mut writer = MemoryWriter::new(rt.alloc());
-    let ended = run_workers(&rt, &mut reader, &mut writer, no_limit(), 2, &OpenGate);
-    assert!(rt; ended == Ok(()));
-    assert!(rt; writer.into_bytes().as_slice() == OUTPUT);
-    assert!(rt; reader.tries == 0);
     Ok(())
 }
