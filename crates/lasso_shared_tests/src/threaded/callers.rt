@@ -2,6 +2,8 @@
 //! those of the calls, by the laws of `lasso_shared::laws`.
 ghost use Rattle.std.specs.Prelude.{◌≡◌, ◌≢◌, ◌↔◌, Some, IsTrue, IfOk, option_map};
 
+use super::keeps_each;
+use crate::checks::is_so;
 use lasso_log::log::Pass;
 use lasso_parts::keys::{Key, Spur};
 use lasso_parts::util::{FixedState, LassoResult};
@@ -10,7 +12,7 @@ use lasso_shared::laws::{
     seen_texts_keep_keys,
 };
 use lasso_shared::threaded::ThreadedRodeo;
-use lasso_shared_testing::calls::{Shared, kept_as, made, pass_of, text_seen_by};
+use lasso_shared_testing::calls::{Shared, made, pass_of, text_seen_by};
 use std::sync::Wait;
 use std::test::*;
 
@@ -138,28 +140,50 @@ fn one_key<R: Wait>(
     have_one_key(rt, shared, one, other, text, word)
 }
 
+// Whether each pass relies on what the other interned.
+fn rely_on_each_other<R: Wait>(
+    rt: &R,
+    shared: &Shared,
+    one: &mut Pass<Spur>,
+    other: &mut Pass<Spur>,
+) -> LassoResult<bool>
+    requires of { (one.old.of ≡ shared.now) × (other.old.of ≡ shared.now) }
+{
+    let read = resolves(rt, shared, one, other, "p")?;
+    let numbered = number_by_both(rt, shared, other, one, "q")? == Some(1);
+    let same = one_key(rt, shared, one, other, "r", "r")?;
+    Ok(read && numbered && same && !one_key(rt, shared, other, one, "r", "s")?)
+}
+
 #[test]
 fn two_passes_rely_on_each_other(rt: HostRuntime) -> Result<(), Fail> {
     let shared = made(rt.alloc())?;
     let mut one = pass_of(&shared);
     let mut other = pass_of(&shared);
     numbers_differ(&shared, &mut one, &mut other);
-    assert!(rt; resolves(&rt, &shared, &mut one, &mut other, "p")?);
-    assert!(rt; number_by_both(&rt, &shared, &mut other, &mut one, "q")? == Some(1));
-    assert!(rt; one_key(&rt, &shared, &mut one, &mut other, "r", "r")?);
-    assert!(rt; !one_key(&rt, &shared, &mut other, &mut one, "r", "s")?);
+    is_so(&rt, rely_on_each_other(&rt, &shared, &mut one, &mut other)?, "the replies");
     Ok(())
+}
+
+// Whether the pass reads these texts at positions 2 and 3.
+fn reads_past(
+    shared: &Shared,
+    pass: &mut Pass<Spur>,
+    third: Option<&str>,
+    fourth: Option<&str>,
+) -> Result<bool, Fail>
+    requires { pass.old.of ≡ shared.now }
+{
+    let same = text_seen_by(shared, pass, 2)? == third;
+    Ok(same && text_seen_by(shared, pass, 3)? == fourth)
 }
 
 #[test]
 fn the_position_after_the_last_text_is_empty(rt: HostRuntime) -> Result<(), Fail> {
     let shared = made(rt.alloc())?;
     let mut pass = pass_of(&shared);
-    for text in ["p", "q", "p", "", "q"] {
-        kept_as(&rt, &shared, &mut pass, text)?;
-    }
+    keeps_each(&rt, &shared, &mut pass, &["p", "q", "p", "", "q"])?;
     // three of the five texts are distinct
-    assert!(rt; text_seen_by(&shared, &mut pass, 2)? == Some(""));
-    assert!(rt; text_seen_by(&shared, &mut pass, 3)? == None);
+    is_so(&rt, reads_past(&shared, &mut pass, Some(""), None)?, "positions 2 and 3");
     Ok(())
 }
