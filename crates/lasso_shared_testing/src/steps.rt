@@ -1,7 +1,7 @@
 //! Calls of an interner as rows, each with what it has to return. One function makes the calls of all rows, so
 //! a test that is a list of rows is proved as fast as one of a single call.
 use crate::calls::{
-    contains, copied, copied_as, copied_so, found, is_key, kept, kept_as, kept_so, len, limit,
+    contains, copied, copied_as, copied_so, found, found_as, is_key, kept, kept_as, kept_so, len, limit,
     number, pass_of, resolved, set_limit, text_at, usage,
 };
 use lasso_parts::keys::Key;
@@ -114,6 +114,17 @@ pub fn finds<K: Key, S: BuildHasher + Drop, R: Wait>(
     number: Option<usize>,
 ) -> bool {
     found(rt, shared, text) == number && contains(rt, shared, text) == number.is_some()
+}
+
+/// Whether `get_as` with a new pass finds the text under this number, or not at all.
+pub fn finds_by_pass<K: Key, S: BuildHasher + Drop, R: Wait>(
+    rt: &R,
+    shared: &ThreadedRodeo<K, S>,
+    text: &str,
+    number: Option<usize>,
+) -> bool {
+    let mut pass = pass_of(shared);
+    found_as(rt, shared, &mut pass, text) == number
 }
 
 /// Whether the key with this number stands for the text, or for none, by each call without a pass.
