@@ -18,12 +18,7 @@ const FEW: [&str; 16] = [
 ];
 
 // Interns a copied text by the pass. Returns its number, if it was not refused.
-fn number_as<R: Wait>(
-    rt: &R,
-    shared: &Shared,
-    pass: &mut Pass<Spur>,
-    text: &str,
-) -> Option<usize>
+fn number_as<R: Wait>(rt: &R, shared: &Shared, pass: &mut Pass<Spur>, text: &str) -> Option<usize>
     requires { pass.old.of ≡ shared.now }
     ensures { pass.new.of ≡ pass.old.of }
 {

@@ -192,7 +192,11 @@ fn copies<R: Wait>(
 #[test]
 fn bytes_of_buckets(rt: HostRuntime) -> Result<(), Fail> {
     let shared: ThreadedRodeo<Spur, SameState> = roomless(rt.alloc())?;
-    is_so(&rt, copies(&rt, &shared, "nine byte", 1074)?, "the first text");
+    is_so(
+        &rt,
+        copies(&rt, &shared, "nine byte", 1074)?,
+        "the first text",
+    );
     is_so(&rt, copies(&rt, &shared, "two", 1094)?, "the next text");
     runs(&rt, &shared, &[Step::Uses(30), Step::Reads(1, Some("two"))])
 }
@@ -238,7 +242,12 @@ fn bytes_of_more_texts(rt: HostRuntime) -> Result<(), Fail> {
     let texts = numbered(rt.alloc(), 300)?;
     for (count, cells, slots) in MORE_STATES {
         let first = texts.get(..count).ok_or("no texts")?;
-        is_so_at(&rt, copies_count(&rt, &shared, first, cells, slots)?, "texts", count);
+        is_so_at(
+            &rt,
+            copies_count(&rt, &shared, first, cells, slots)?,
+            "texts",
+            count,
+        );
     }
     Ok(())
 }

@@ -158,8 +158,16 @@ fn two_threads_intern_by_each_call(rt: HostRuntime) -> Result<(), Fail> {
     let a = lettered_static(rt.alloc(), "a", EACH)?;
     let b = lettered_static(rt.alloc(), "b", EACH)?;
     is_so(&rt, fill_by(&rt, Way::Copied, &a, &b)?, "get_or_intern");
-    is_so(&rt, fill_by(&rt, Way::TryStatic, &a, &b)?, "try_get_or_intern_static");
-    is_so(&rt, fill_by(&rt, Way::Static, &a, &b)?, "get_or_intern_static");
+    is_so(
+        &rt,
+        fill_by(&rt, Way::TryStatic, &a, &b)?,
+        "try_get_or_intern_static",
+    );
+    is_so(
+        &rt,
+        fill_by(&rt, Way::Static, &a, &b)?,
+        "get_or_intern_static",
+    );
     Ok(())
 }
 

@@ -40,10 +40,16 @@ fn takes_next<R: Wait>(
     let next = position.saturating_add(1);
     match copied_as(rt, shared, pass, text) {
         Ok(key) if key.into_usize() == position && taken == position => {
-            Some(Taken { position: next, taken: next })
+            Some(Taken {
+                position: next,
+                taken: next,
+            })
         }
         Err(error) if error.kind() == LassoErrorKind::MemoryLimitReached => {
-            Some(Taken { position: next, taken })
+            Some(Taken {
+                position: next,
+                taken,
+            })
         }
         _ => None,
     }
@@ -53,7 +59,10 @@ fn takes_next<R: Wait>(
 // limit refused all texts after these.
 fn keys_before_refusals<R: Wait>(rt: &R, shared: &Shared, texts: &[String]) -> Option<usize> {
     let mut pass = pass_of(shared);
-    let mut seen = Taken { position: 0, taken: 0 };
+    let mut seen = Taken {
+        position: 0,
+        taken: 0,
+    };
     for text in texts.iter() {
         seen = takes_next(rt, shared, &mut pass, text.as_str(), seen)?;
     }
@@ -114,7 +123,11 @@ fn taken_before_fall<R: Threads + Wait + Sync>(
         || keys_before_refusals(rt, shared, texts),
         || usage_after_fall(rt, shared, awaited),
     );
-    if usage(rt, shared) == bytes { taken } else { None }
+    if usage(rt, shared) == bytes {
+        taken
+    } else {
+        None
+    }
 }
 
 // Lets the limit fall after `awaited` texts. Returns whether the keys, the count, the usage and the frozen

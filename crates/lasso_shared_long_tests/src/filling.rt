@@ -114,7 +114,11 @@ fn refuses_one<R: Wait>(rt: &R, shared: &Shared, items: [&'static str; 4]) -> bo
 #[test]
 fn a_refused_item_ends_the_filling(rt: HostRuntime) -> Result<(), Fail> {
     let shared: Shared = limited(rt.alloc(), 4, 4)?;
-    is_so(&rt, refuses_one(&rt, &shared, ["ab", "cd", "e", ""]), "the refusal");
+    is_so(
+        &rt,
+        refuses_one(&rt, &shared, ["ab", "cd", "e", ""]),
+        "the refusal",
+    );
     let refused = [
         // the empty text takes no bytes, but it comes after the refused item
         Step::Counts(2),
@@ -213,12 +217,7 @@ fn has_one_bucket<R: Wait>(rt: &R, shared: &Shared, count: usize) -> bool {
 
 // Interns the first items again, and then all, one by one. Returns whether they are in one bucket, and whether
 // one more byte takes a bucket of 8192 bytes.
-fn fills_up<R: Wait>(
-    rt: &R,
-    shared: &Shared,
-    first: &[&str],
-    items: &[&str],
-) -> LassoResult<bool> {
+fn fills_up<R: Wait>(rt: &R, shared: &Shared, first: &[&str], items: &[&str]) -> LassoResult<bool> {
     extend_by_all(rt, shared, first)?;
     extend_by_each(rt, shared, items)?;
     let full = has_one_bucket(rt, shared, items.len());
@@ -244,7 +243,12 @@ fn fill_the_first_bucket<R: AllocGlobal + Wait>(
 #[test]
 fn a_new_interner_takes_the_bytes_of_its_items_alone(rt: HostRuntime) -> Result<(), Fail> {
     for (count, length) in FULL {
-        is_so_at(&rt, fill_the_first_bucket(&rt, count, length)?, "length", length);
+        is_so_at(
+            &rt,
+            fill_the_first_bucket(&rt, count, length)?,
+            "length",
+            length,
+        );
     }
     Ok(())
 }

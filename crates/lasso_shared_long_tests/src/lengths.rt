@@ -3,8 +3,8 @@ use crate::checks::{is_so, is_so_at};
 use lasso_parts::util::{FixedState, LassoErrorKind, LassoResult};
 use lasso_shared::threaded::ThreadedRodeo;
 use lasso_shared_testing::calls::{
-    Shared, allocated, answered, contains, copied, copied_so, found_as, hashed, kept_so, len, limit,
-    limited, made, pass_of, set_limit, usage,
+    Shared, allocated, answered, contains, copied, copied_so, found_as, hashed, kept_so, len,
+    limit, limited, made, pass_of, set_limit, usage,
 };
 use lasso_shared_testing::steps::{Way, finds, finds_by_pass, has_len, interned, interns, reads};
 use lasso_shared_testing::texts::{LENGTHS, ended, lasting, lettered};
@@ -48,10 +48,9 @@ fn has_just_one<R: Wait>(rt: &R, shared: &Shared, text: &str, number: usize, abs
 }
 
 // Whether each reading shows the text as the last one, under this number.
-fn is_last(shared: &Shared, text: &str, number: usize) -> Result<bool, Fail> {
+fn is_last(shared: &Shared, text: &str, number: usize) -> bool {
     let next = number.saturating_add(1);
-    let both = reads(shared, number, Some(text))? && reads(shared, next, None)?;
-    Ok(both && has_len(shared, next))
+    reads(shared, number, Some(text)) && reads(shared, next, None) && has_len(shared, next)
 }
 
 // Interns the text by the call. Returns whether that gives this number.
@@ -65,8 +64,8 @@ fn is_interned<R: Wait>(
     interns(rt, shared, way, text, Ok(number))
 }
 
-// Interns a new text by one call, and then by each of `ways`. Returns whether it has the next number each time, and each reading finds it
-// and no other text.
+// Interns a new text by one call, and then by each of `ways`. Returns whether it has the next number each time,
+// and each reading finds it and no other text.
 fn is_interned_next<R: Wait>(
     rt: &R,
     shared: &Shared,
@@ -83,7 +82,7 @@ fn is_interned_next<R: Wait>(
         all &= is_interned(rt, shared, *again, text, number)?;
     }
     all &= has_just_one(rt, shared, text, number, absent);
-    Ok(all && is_last(shared, text, number)?)
+    Ok(all && is_last(shared, text, number))
 }
 
 // Interns a text of the letter and this length by the call, and then by each of `ways`. Returns whether all
@@ -111,7 +110,12 @@ fn found_at_each_length<R: AllocGlobal + Wait + Abort>(
     for length in LENGTHS {
         for (way, letter) in ways {
             is_so_at(rt, len(shared) == number, *letter, length);
-            is_so_at(rt, finds_new(rt, shared, ways, *way, *letter, length)?, *letter, length);
+            is_so_at(
+                rt,
+                finds_new(rt, shared, ways, *way, *letter, length)?,
+                *letter,
+                length,
+            );
             number = number.saturating_add(1);
         }
     }
@@ -121,14 +125,22 @@ fn found_at_each_length<R: AllocGlobal + Wait + Abort>(
 #[test]
 fn a_text_of_each_length_is_found(rt: HostRuntime) -> Result<(), Fail> {
     let shared = made(rt.alloc())?;
-    is_so(&rt, found_at_each_length(&rt, &shared, &PLAINLY)? == 205, "the count");
+    is_so(
+        &rt,
+        found_at_each_length(&rt, &shared, &PLAINLY)? == 205,
+        "the count",
+    );
     Ok(())
 }
 
 #[test]
 fn a_text_of_each_length_is_found_by_a_pass(rt: HostRuntime) -> Result<(), Fail> {
     let shared = made(rt.alloc())?;
-    is_so(&rt, found_at_each_length(&rt, &shared, &BY_PASS)? == 82, "the count");
+    is_so(
+        &rt,
+        found_at_each_length(&rt, &shared, &BY_PASS)? == 82,
+        "the count",
+    );
     Ok(())
 }
 
@@ -147,17 +159,12 @@ fn all_intern<R: Wait>(
 }
 
 // Interns a copy. Returns whether the limit refuses it.
-fn is_refused<R: Wait>(rt: &R, shared: &Shared, text: &str) -> bool {
+pub(super) fn is_refused<R: Wait>(rt: &R, shared: &Shared, text: &str) -> bool {
     answered(copied(rt, shared, text)) == Err(LassoErrorKind::MemoryLimitReached)
 }
 
 // Interns a copy. Returns whether that gives this number.
-fn is_copied<R: Wait>(
-    rt: &R,
-    shared: &Shared,
-    text: &str,
-    number: usize,
-) -> LassoResult<bool> {
+fn is_copied<R: Wait>(rt: &R, shared: &Shared, text: &str, number: usize) -> LassoResult<bool> {
     Ok(copied(rt, shared, text)? == number)
 }
 
@@ -168,7 +175,7 @@ fn has_the_empty_text<R: Wait>(rt: &R, shared: &Shared, way: Way) -> Result<bool
     all &= is_interned(rt, shared, way, "", 0)?;
     all &= has_just_one(rt, shared, "", 0, "a") && has_sums(rt, shared, 1, 1);
     all &= all_intern(rt, shared, "", 0)?;
-    all &= has_just_one(rt, shared, "", 0, "a") && is_last(shared, "", 0)?;
+    all &= has_just_one(rt, shared, "", 0, "a") && is_last(shared, "", 0);
     Ok(all && reads_all(rt, shared, "a") && has_sums(rt, shared, 1, 1))
 }
 
@@ -193,8 +200,8 @@ fn has_sums<R: Wait>(rt: &R, shared: &Shared, count: usize, bytes: usize) -> boo
     len(shared) == count && usage(rt, shared) == bytes && limit(rt, shared) == bytes
 }
 
-// Looks an absent text up in each way, reads the bytes that are allocated, and compares the interner with itself. Returns
-// whether all replies are right.
+// Looks an absent text up in each way, reads the bytes that are allocated, and compares the interner with
+// itself. Returns whether all replies are right.
 fn reads_all<R: Wait>(rt: &R, shared: &Shared, absent: &str) -> bool {
     finds(rt, shared, absent, None)
         && finds_by_pass(rt, shared, absent, None)
@@ -287,7 +294,12 @@ fn refused_until_static<R: AllocGlobal + Wait>(
 fn a_refused_text_leaves_nothing(rt: HostRuntime) -> Result<(), Fail> {
     for length in LENGTHS {
         for way in [Way::TryStatic, Way::Static, Way::StaticByPass] {
-            is_so_at(&rt, refused_until_static(&rt, way, length)?, "length", length);
+            is_so_at(
+                &rt,
+                refused_until_static(&rt, way, length)?,
+                "length",
+                length,
+            );
         }
     }
     Ok(())
@@ -312,8 +324,8 @@ fn gives_both<R: Wait>(
     Ok(interns(rt, shared, way, second, Ok(1))? && both)
 }
 
-// Interns two texts under the only two keys. Returns whether each call refuses a third text because no key is left,
-// still gives the two their numbers, and leaves the limit.
+// Interns two texts under the only two keys. Returns whether each call refuses a third text because no key is
+// left, still gives the two their numbers, and leaves the limit.
 fn are_all_keys<R: Wait>(
     rt: &R,
     shared: &TwoKeys,
@@ -336,7 +348,13 @@ fn keys_are_used_up<R: AllocGlobal + Wait>(rt: &R, length: usize) -> Result<bool
     let shared: TwoKeys = hashed(rt.alloc())?;
     let first = lasting(rt.alloc(), "a", length)?;
     let second = lasting(rt.alloc(), "b", length)?;
-    are_all_keys(rt, &shared, first, second, lasting(rt.alloc(), "c", length)?)
+    are_all_keys(
+        rt,
+        &shared,
+        first,
+        second,
+        lasting(rt.alloc(), "c", length)?,
+    )
 }
 
 #[test]

@@ -1,10 +1,11 @@
 //! Setting and reading limits.
 ghost use Rattle.std.specs.Prelude.{◌≡◌};
 
+use super::lengths::is_refused;
 use crate::checks::{is_so, is_so_at, runs};
 use lasso_log::log::Pass;
 use lasso_parts::keys::{Key, Spur};
-use lasso_parts::util::{LassoErrorKind, LassoResult, MemoryLimits};
+use lasso_parts::util::{LassoResult, MemoryLimits};
 use lasso_shared_testing::calls::{
     Shared, answered, copied, kept, kept_as, kept_so, limit, limited, made, pass_of, set_limit,
     set_limit_as, stands_for, sums_as, usage,
@@ -62,10 +63,22 @@ fn a_limit_is_what_was_set_last(rt: HostRuntime) -> Result<(), Fail> {
     let shared: Shared = limited(rt.alloc(), 4, 12)?;
     let mut pass = pass_of(&shared);
     let mut other = pass_of(&shared);
-    is_so(&rt, falls_to_0(&rt, &shared, &mut pass, &mut other), "the limits");
+    is_so(
+        &rt,
+        falls_to_0(&rt, &shared, &mut pass, &mut other),
+        "the limits",
+    );
     // no limit refuses a static text
-    is_so(&rt, lifts_limit(&rt, &shared, &mut pass, &mut other)?, "the text");
-    runs(&rt, &shared, &[Step::IsLimited(usize::MAX), Step::Uses(4), Step::Counts(1)])
+    is_so(
+        &rt,
+        lifts_limit(&rt, &shared, &mut pass, &mut other)?,
+        "the text",
+    );
+    runs(
+        &rt,
+        &shared,
+        &[Step::IsLimited(usize::MAX), Step::Uses(4), Step::Counts(1)],
+    )
 }
 
 // Whether the limit is this one, read by the pass and without one.
@@ -181,7 +194,7 @@ fn copies_fill<R: AllocGlobal + Wait>(
 {
     let first = is_copied(rt, shared, "d", length, 3)?;
     let second = is_copied(rt, shared, "e", length, 4)?;
-    let full = answered(copied(rt, shared, "z")) == Err(LassoErrorKind::MemoryLimitReached);
+    let full = is_refused(rt, shared, "z");
     Ok(first && second && full && sums_as(rt, shared, pass) == (bytes, bytes))
 }
 

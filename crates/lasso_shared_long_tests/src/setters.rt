@@ -2,13 +2,14 @@
 //! these sets a limit, and no limit is in force that was never set.
 ghost use Rattle.std.specs.Prelude.{◌≡◌};
 
+use super::lengths::is_refused;
 use crate::checks::{is_so, runs};
 use lasso_log::log::Pass;
 use lasso_parts::keys::{Key, Spur};
-use lasso_parts::util::{FixedState, LassoErrorKind, LassoResult};
+use lasso_parts::util::{FixedState, LassoResult};
 use lasso_shared_testing::calls::{
-    Reader, Shared, allocated, answered, copied, copied_as, copied_so, found_as, kept, kept_as,
-    kept_so, len, limited, pass_of, sums_as, usage,
+    Reader, Shared, allocated, copied, copied_as, copied_so, found_as, kept, kept_as, kept_so, len,
+    limited, pass_of, sums_as, usage,
 };
 use lasso_shared_testing::limits::reads_what_it_sets;
 use lasso_shared_testing::steps::{Step, extended, finds};
@@ -165,11 +166,6 @@ fn no_other_call_sets_a_limit(rt: HostRuntime) -> Result<(), Fail> {
     Ok(())
 }
 
-// Whether the limit refuses a copy of the text.
-fn is_refused<R: Wait>(rt: &R, shared: &Shared, text: &str) -> bool {
-    answered(copied(rt, shared, text)) == Err(LassoErrorKind::MemoryLimitReached)
-}
-
 // Whether the limit refuses each copy of the texts.
 fn are_refused<R: Wait>(rt: &R, shared: &Shared, texts: &[String]) -> bool {
     let mut all = true;
@@ -191,8 +187,8 @@ fn are_refused_until_done<R: Wait>(
     all
 }
 
-// Sets the limits 0 and 1 in turn in one thread, and interns the texts in another. Returns whether each limit is
-// read as it was set, and each text is refused.
+// Sets the limits 0 and 1 in turn in one thread, and interns the texts in another. Returns whether each limit
+// is read as it was set, and each text is refused.
 fn sets_beside_copies<R: Threads + Wait + Sync>(rt: &R, shared: &Shared, texts: &[String]) -> bool {
     let done = AtomicBool::new(false);
     let (set, refused) = join(

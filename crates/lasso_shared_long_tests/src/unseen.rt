@@ -10,7 +10,7 @@ use lasso_shared_testing::calls::{
     Shared, allocated, copied, copied_as, copied_so, found_as, len, limit, limited, number,
     pass_of, seen_by, set_limit, set_limit_as, sums_as, text_at, text_seen_by, usage,
 };
-use lasso_shared_testing::steps::{Step, extended, finds};
+use lasso_shared_testing::steps::{Step, Way, extended, finds, interned};
 use lasso_shared_testing::texts::{LENGTHS, lasting};
 use std::alloc::{AllocError, Global};
 use std::sync::Wait;
@@ -128,52 +128,23 @@ fn interns_in_each_way<R: Wait>(
     Ok(by_pass && plainly && copied_so(rt, shared, text)? == wanted)
 }
 
-// Interns the text by `try_get_or_intern`, and then in each way. Returns whether all give this number.
-fn first_tried<R: Wait>(
+// Interns the text by the call, and then in each way. Returns whether all give this number.
+fn first_by<R: Wait>(
     rt: &R,
     shared: &Shared,
     pass: &mut Pass<Spur>,
-    text: &str,
+    way: Way,
+    text: &'static str,
     wanted: usize,
 ) -> LassoResult<bool>
     requires { pass.old.of ≡ shared.now }
     ensures { pass.new.of ≡ pass.old.of }
 {
-    let first = copied(rt, shared, text)? == wanted;
+    let first = interned(rt, shared, way, text)? == wanted;
     Ok(interns_in_each_way(rt, shared, pass, text, wanted)? && first)
 }
 
-// The same with `get_or_intern` first.
-fn first_got<R: Wait>(
-    rt: &R,
-    shared: &Shared,
-    pass: &mut Pass<Spur>,
-    text: &str,
-    wanted: usize,
-) -> LassoResult<bool>
-    requires { pass.old.of ≡ shared.now }
-    ensures { pass.new.of ≡ pass.old.of }
-{
-    let first = copied_so(rt, shared, text)? == wanted;
-    Ok(interns_in_each_way(rt, shared, pass, text, wanted)? && first)
-}
-
-// The same with `extend` first.
-fn first_extended<R: Wait>(
-    rt: &R,
-    shared: &Shared,
-    pass: &mut Pass<Spur>,
-    text: &str,
-    wanted: usize,
-) -> LassoResult<bool>
-    requires { pass.old.of ≡ shared.now }
-    ensures { pass.new.of ≡ pass.old.of }
-{
-    extended(rt, shared, text)?;
-    interns_in_each_way(rt, shared, pass, text, wanted)
-}
-
-// The same with the call by the pass first.
+// The same with `try_get_or_intern_as` by this pass first.
 fn first_by_pass<R: Wait>(
     rt: &R,
     shared: &Shared,
@@ -211,9 +182,9 @@ fn take_in_each_way<R: AllocGlobal + Wait>(
     ensures { pass.new.of ≡ pass.old.of }
 {
     let [a, b, c, d] = four(rt.alloc(), length)?;
-    let mut all = first_tried(rt, shared, pass, a, 0)?;
-    all &= first_got(rt, shared, pass, b, 1)?;
-    all &= first_extended(rt, shared, pass, c, 2)?;
+    let mut all = first_by(rt, shared, pass, Way::TryCopied, a, 0)?;
+    all &= first_by(rt, shared, pass, Way::Copied, b, 1)?;
+    all &= first_by(rt, shared, pass, Way::Item, c, 2)?;
     set_limit(rt, shared, bytes);
     all &= allocated(rt, shared) > bytes;
     Ok(first_by_pass(rt, shared, pass, d, 3)? && all)
@@ -273,12 +244,7 @@ fn await_raise<R: Wait>(rt: &R, shared: &Shared, pass: &mut Pass<Spur>)
 }
 
 // Interns the text by the pass. Returns whether the limit refuses it. `None` if it is refused otherwise.
-fn is_refused<R: Wait>(
-    rt: &R,
-    shared: &Shared,
-    pass: &mut Pass<Spur>,
-    text: &str,
-) -> Option<bool>
+fn is_refused<R: Wait>(rt: &R, shared: &Shared, pass: &mut Pass<Spur>, text: &str) -> Option<bool>
     requires { pass.old.of ≡ shared.now }
     ensures { pass.new.of ≡ pass.old.of }
 {

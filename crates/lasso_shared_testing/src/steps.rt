@@ -1,8 +1,8 @@
 //! Calls of an interner as rows, each with what it has to return. One function makes the calls of all rows, so
 //! a test that is a list of rows is proved as fast as one of a single call.
 use crate::calls::{
-    contains, copied, copied_as, copied_so, found, found_as, is_key, kept, kept_as, kept_so, len, limit,
-    number, pass_of, resolved, set_limit, text_at, usage,
+    contains, copied, copied_as, copied_so, found, found_as, kept, kept_as, kept_so, len, limit,
+    number, pass_of, set_limit, usage,
 };
 use lasso_parts::keys::Key;
 use lasso_parts::util::{LassoErrorKind, LassoResult};
@@ -23,32 +23,33 @@ pub enum Way {
     StaticByPass,
 }
 
-/// Interns the text by the call. Returns its number, which is looked up after `extend`.
+/// Interns the text by the call. Returns its number, which is looked up after `extend`: `usize::MAX`, which no
+/// text has, if it is absent then.
 pub fn interned<K: Key, S: BuildHasher + Drop, R: Wait>(
     rt: &R,
     shared: &ThreadedRodeo<K, S>,
     way: Way,
     text: &'static str,
-) -> LassoResult<Option<usize>> {
+) -> LassoResult<usize> {
     match way {
-        Way::TryCopied => Ok(Some(copied(rt, shared, text)?)),
-        Way::Copied => Ok(Some(copied_so(rt, shared, text)?)),
-        Way::TryStatic => Ok(Some(kept(rt, shared, text)?)),
-        Way::Static => Ok(Some(kept_so(rt, shared, text)?)),
+        Way::TryCopied => copied(rt, shared, text),
+        Way::Copied => copied_so(rt, shared, text),
+        Way::TryStatic => kept(rt, shared, text),
+        Way::Static => kept_so(rt, shared, text),
         Way::Item => item_number(rt, shared, text),
-        Way::CopiedByPass => Ok(Some(copied_by_pass(rt, shared, text)?)),
-        Way::StaticByPass => Ok(Some(kept_by_pass(rt, shared, text)?)),
+        Way::CopiedByPass => copied_by_pass(rt, shared, text),
+        Way::StaticByPass => kept_by_pass(rt, shared, text),
     }
 }
 
-// Interns the text as the one item of `extend`. Returns its number.
+// Interns the text as the one item of `extend`. Returns its number, or `usize::MAX` if it is absent then.
 fn item_number<K: Key, S: BuildHasher + Drop, R: Wait>(
     rt: &R,
     shared: &ThreadedRodeo<K, S>,
     text: &str,
-) -> LassoResult<Option<usize>> {
+) -> LassoResult<usize> {
     extended(rt, shared, text)?;
-    Ok(found(rt, shared, text))
+    Ok(found(rt, shared, text).unwrap_or(usize::MAX))
 }
 
 /// Interns the text as the one item of `extend`.
@@ -127,14 +128,28 @@ pub fn finds_by_pass<K: Key, S: BuildHasher + Drop, R: Wait>(
     found_as(rt, shared, &mut pass, text) == number
 }
 
-/// Whether the key with this number stands for the text, or for none, by each call without a pass.
+// Whether the key stands for the text, or for none, by each call without a pass.
+fn is_key_of<K: Key, S: BuildHasher + Drop>(
+    shared: &ThreadedRodeo<K, S>,
+    key: K,
+    text: Option<&str>,
+) -> bool {
+    shared.contains_key(key) == text.is_some()
+        && shared.try_resolve(key) == text
+        && shared.resolve(key) == text
+}
+
+/// Whether the key with this number stands for the text, or for none, by each call without a pass. `false` if
+/// there is no such key.
 pub fn reads<K: Key, S: BuildHasher + Drop>(
     shared: &ThreadedRodeo<K, S>,
     number: usize,
     text: Option<&str>,
-) -> Result<bool, Fail> {
-    let same = text_at(shared, number)? == text && resolved(shared, number)? == text;
-    Ok(same && is_key(shared, number)? == text.is_some())
+) -> bool {
+    match K::try_from_usize(number) {
+        Some(key) => is_key_of(shared, key, text),
+        None => false,
+    }
 }
 
 /// Interns the text by the call. Returns whether it then has this number, or is refused so. Out of memory is an
@@ -147,8 +162,7 @@ pub fn interns<K: Key, S: BuildHasher + Drop, R: Wait>(
     wanted: Result<usize, LassoErrorKind>,
 ) -> Result<bool, Fail> {
     match interned(rt, shared, way, text) {
-        Ok(Some(number)) => Ok(wanted == Ok(number)),
-        Ok(None) => Ok(false),
+        Ok(number) => Ok(wanted == Ok(number)),
         Err(error) if error.kind().is_failed_alloc() => Err(Fail::from(error)),
         Err(error) => Ok(wanted == Err(error.kind())),
     }
@@ -164,7 +178,7 @@ fn holds<K: Key, S: BuildHasher + Drop, R: Wait>(
         Step::Interns(way, text, wanted) => interns(rt, shared, way, text, wanted),
         Step::Takes(text, wanted) => Ok(number(rt, shared, text) == wanted),
         Step::Finds(text, number) => Ok(finds(rt, shared, text, number)),
-        Step::Reads(number, text) => reads(shared, number, text),
+        Step::Reads(number, text) => Ok(reads(shared, number, text)),
         Step::Counts(count) => Ok(has_len(shared, count)),
         Step::Uses(bytes) => Ok(usage(rt, shared) == bytes),
         Step::Limits(bytes) => {

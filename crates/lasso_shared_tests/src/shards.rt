@@ -130,7 +130,11 @@ fn shards_apart(rt: HostRuntime) -> Result<(), Fail> {
     is_so(&rt, shard_of(&hasher, "0") == 3, "the shard of 0");
     is_so(&rt, shard_of(&hasher, "a") == 6, "the shard of a");
     let shards = opened(rt.alloc(), hasher)?;
-    is_so(&rt, is_set_beside_a_writer(&rt, &shards, 3, "a"), "the flag");
+    is_so(
+        &rt,
+        is_set_beside_a_writer(&rt, &shards, 3, "a"),
+        "the flag",
+    );
     Ok(())
 }
 
@@ -174,7 +178,11 @@ fn is_set_beside_a_reader<S: BuildHasher + Drop, R: Threads + Wait + Sync>(
 fn a_text_that_is_there_is_found_beside_readers(rt: HostRuntime) -> Result<(), Fail> {
     let shards = opened(rt.alloc(), FirstState::new())?;
     intern_static(&rt, &shards, "0")?;
-    is_so(&rt, is_set_beside_a_reader(&rt, &shards, 3, "0"), "the flag");
+    is_so(
+        &rt,
+        is_set_beside_a_reader(&rt, &shards, 3, "0"),
+        "the flag",
+    );
     Ok(())
 }
 

@@ -202,7 +202,11 @@ fn keys_used_up_refuse_new_texts_alone(rt: HostRuntime) -> Result<(), Fail> {
         ("p", Ok(0)),
     ];
     let mut pass = pass_of(&shared);
-    is_so(&rt, have_numbers(&rt, &shared, &mut pass, &rows), "the numbers");
+    is_so(
+        &rt,
+        have_numbers(&rt, &shared, &mut pass, &rows),
+        "the numbers",
+    );
     Ok(())
 }
 

@@ -101,7 +101,11 @@ fn takes_rows<K: Key, R: Wait + Abort>(rt: &R, shards: &Shards<K, FixedState>, r
 fn bytes_are_taken_where_a_bucket_has_room(rt: HostRuntime) -> Result<(), Fail> {
     let shards: Shards<Spur, FixedState> = opens(rt.alloc(), 4, u64::MAX)?;
     // the third text takes the last byte of the first bucket
-    takes_rows(&rt, &shards, &[("abc", Ok(0), 4), ("defghijk", Ok(1), 12), ("x", Ok(2), 12)]);
+    takes_rows(
+        &rt,
+        &shards,
+        &[("abc", Ok(0), 4), ("defghijk", Ok(1), 12), ("x", Ok(2), 12)],
+    );
     is_so(&rt, kept_slots(&rt, &shards) == 0, "the slots");
     Ok(())
 }
@@ -133,7 +137,11 @@ fn limit_and_keys_are_used_up_together(rt: HostRuntime) -> Result<(), Fail> {
     let full = ("x", Err(LassoErrorKind::MemoryLimitReached), 765);
     takes_rows(&rt, &shards, &[full, ("000", Ok(0), 765)]);
     // neither a static text nor the empty one takes bytes
-    is_so(&rt, super::number(&rt, &shards, "x") == no_key, "a static text");
+    is_so(
+        &rt,
+        super::number(&rt, &shards, "x") == no_key,
+        "a static text",
+    );
     takes_rows(&rt, &shards, &[("", no_key, 765)]);
     is_so(&rt, kept_slots(&rt, &shards) == 0, "the slots");
     Ok(())

@@ -161,7 +161,11 @@ fn two_passes_rely_on_each_other(rt: HostRuntime) -> Result<(), Fail> {
     let mut one = pass_of(&shared);
     let mut other = pass_of(&shared);
     numbers_differ(&shared, &mut one, &mut other);
-    is_so(&rt, rely_on_each_other(&rt, &shared, &mut one, &mut other)?, "the replies");
+    is_so(
+        &rt,
+        rely_on_each_other(&rt, &shared, &mut one, &mut other)?,
+        "the replies",
+    );
     Ok(())
 }
 
@@ -184,6 +188,10 @@ fn the_position_after_the_last_text_is_empty(rt: HostRuntime) -> Result<(), Fail
     let mut pass = pass_of(&shared);
     keeps_each(&rt, &shared, &mut pass, &["p", "q", "p", "", "q"])?;
     // three of the five texts are distinct
-    is_so(&rt, reads_past(&shared, &mut pass, Some(""), None)?, "positions 2 and 3");
+    is_so(
+        &rt,
+        reads_past(&shared, &mut pass, Some(""), None)?,
+        "positions 2 and 3",
+    );
     Ok(())
 }

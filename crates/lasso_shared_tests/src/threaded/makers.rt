@@ -37,7 +37,11 @@ fn by_new<R: Wait>(rt: &R, alloc: Global, wanted: (usize, usize, usize)) -> Lass
 #[test]
 fn makers_open_with_defaults(rt: HostRuntime) -> Result<(), Fail> {
     // chunks of 32 and 32 cells for 50 texts
-    is_so(&rt, by_default(&rt, rt.alloc(), (4096, usize::MAX, 64))?, "default");
+    is_so(
+        &rt,
+        by_default(&rt, rt.alloc(), (4096, usize::MAX, 64))?,
+        "default",
+    );
     is_so(&rt, by_new(&rt, rt.alloc(), (4096, usize::MAX, 64))?, "new");
     Ok(())
 }
@@ -77,11 +81,23 @@ fn by_both<R: Wait>(
 #[test]
 fn makers_open_with_capacity_and_limit(rt: HostRuntime) -> Result<(), Fail> {
     let (room, limits) = (Capacity::new(1000, 65536), MemoryLimits::new(10000));
-    is_so(&rt, by_capacity(&rt, rt.alloc(), room, (65536, usize::MAX, 1024))?, "a capacity");
-    is_so(&rt, by_limit(&rt, rt.alloc(), limits, (4096, 10000, 64))?, "a limit");
+    is_so(
+        &rt,
+        by_capacity(&rt, rt.alloc(), room, (65536, usize::MAX, 1024))?,
+        "a capacity",
+    );
+    is_so(
+        &rt,
+        by_limit(&rt, rt.alloc(), limits, (4096, 10000, 64))?,
+        "a limit",
+    );
     // chunks of 32, 32 and 64 cells
     let (room, limits) = (Capacity::new(70, 4), MemoryLimits::new(12));
-    is_so(&rt, by_both(&rt, rt.alloc(), room, limits, (4, 12, 128))?, "both");
+    is_so(
+        &rt,
+        by_both(&rt, rt.alloc(), room, limits, (4, 12, 128))?,
+        "both",
+    );
     Ok(())
 }
 
@@ -120,7 +136,16 @@ fn have_room<R: Wait>(
     }
     let room = Capacity::new(strings, bytes);
     let plain = by_capacity(rt, alloc, room, (bytes, usize::MAX, cells))?;
-    Ok(plain && by_both(rt, alloc, room, MemoryLimits::new(limit), (bytes, limit, cells))?)
+    Ok(
+        plain
+            && by_both(
+                rt,
+                alloc,
+                room,
+                MemoryLimits::new(limit),
+                (bytes, limit, cells),
+            )?,
+    )
 }
 
 #[test]
@@ -161,10 +186,18 @@ fn by_all<R: Wait>(
 #[test]
 fn makers_take_a_hasher(rt: HostRuntime) -> Result<(), Fail> {
     let room = Capacity::for_bytes(7);
-    is_so(&rt, by_hasher(&rt, rt.alloc(), room, (7, usize::MAX, 64))?, "a hasher");
+    is_so(
+        &rt,
+        by_hasher(&rt, rt.alloc(), room, (7, usize::MAX, 64))?,
+        "a hasher",
+    );
     // the first bucket is larger than the limit, and is made anyway
     let (room, limits) = (Capacity::new(0, 10), MemoryLimits::new(5));
-    is_so(&rt, by_all(&rt, rt.alloc(), room, limits, (10, 5, 0))?, "all");
+    is_so(
+        &rt,
+        by_all(&rt, rt.alloc(), room, limits, (10, 5, 0))?,
+        "all",
+    );
     Ok(())
 }
 
@@ -189,16 +222,28 @@ fn is_filled<R: Wait>(
 #[test]
 fn capacity_is_room_for_texts(rt: HostRuntime) -> Result<(), Fail> {
     let shared = with(rt.alloc(), Capacity::for_strings(70))?;
-    is_so(&rt, is_filled(&rt, &shared, &FIRST, (4096, 128))?, "room for 70");
+    is_so(
+        &rt,
+        is_filled(&rt, &shared, &FIRST, (4096, 128))?,
+        "room for 70",
+    );
     let shared = with(rt.alloc(), Capacity::minimal())?;
-    is_so(&rt, is_filled(&rt, &shared, &["p"], (1, 32))?, "the least room");
+    is_so(
+        &rt,
+        is_filled(&rt, &shared, &["p"], (1, 32))?,
+        "the least room",
+    );
     Ok(())
 }
 
 #[test]
 fn no_limit_refuses_a_static_text(rt: HostRuntime) -> Result<(), Fail> {
     let shared: Shared = limited(rt.alloc(), 10, 5)?;
-    is_so(&rt, is_filled(&rt, &shared, &["0123456789ab"], (10, 64))?, "the sums");
+    is_so(
+        &rt,
+        is_filled(&rt, &shared, &["0123456789ab"], (10, 64))?,
+        "the sums",
+    );
     Ok(())
 }
 
@@ -211,6 +256,14 @@ fn is_refused(alloc: Global, capacity: Capacity) -> bool {
 
 #[test]
 fn sizes_that_no_memory_has(rt: HostRuntime) {
-    is_so(&rt, is_refused(rt.alloc(), Capacity::for_bytes(usize::MAX)), "bytes");
-    is_so(&rt, is_refused(rt.alloc(), Capacity::for_strings(usize::MAX)), "texts");
+    is_so(
+        &rt,
+        is_refused(rt.alloc(), Capacity::for_bytes(usize::MAX)),
+        "bytes",
+    );
+    is_so(
+        &rt,
+        is_refused(rt.alloc(), Capacity::for_strings(usize::MAX)),
+        "texts",
+    );
 }

@@ -18,13 +18,7 @@ const TEXTS: [&str; 40] = [
 ];
 
 // Whether the text is absent, and the length and the usage are these.
-fn is_unchanged<R: Wait>(
-    rt: &R,
-    shared: &Shared,
-    text: &str,
-    length: usize,
-    bytes: usize,
-) -> bool {
+fn is_unchanged<R: Wait>(rt: &R, shared: &Shared, text: &str, length: usize, bytes: usize) -> bool {
     !contains(rt, shared, text) && len(shared) == length && usage(rt, shared) == bytes
 }
 
@@ -39,7 +33,7 @@ fn interned_at_last<R: Wait>(
     let (length, bytes) = (len(shared), usage(rt, shared));
     for _ in 0..TRIES {
         match answered(interned(rt, shared, way, text)) {
-            Ok(number) => return number,
+            Ok(number) => return Some(number),
             Err(LassoErrorKind::FailedAllocation) => {}
             Err(_) => return None,
         }
@@ -74,7 +68,11 @@ fn all_are_interned<R: Wait>(rt: &R, shared: &Shared, way: Way) -> Result<bool, 
 fn a_copied_text_out_of_memory_leaves_nothing(rt: HostRuntime) -> Result<(), Fail> {
     // the texts need more buckets than this one
     let shared: Shared = limited(rt.alloc(), 4, usize::MAX)?;
-    is_so(&rt, all_are_interned(&rt, &shared, Way::TryCopied)?, "the texts");
+    is_so(
+        &rt,
+        all_are_interned(&rt, &shared, Way::TryCopied)?,
+        "the texts",
+    );
     is_so(&rt, len(&shared) == 40, "the count");
     Ok(())
 }
@@ -82,7 +80,11 @@ fn a_copied_text_out_of_memory_leaves_nothing(rt: HostRuntime) -> Result<(), Fai
 #[test]
 fn a_static_text_out_of_memory_leaves_nothing(rt: HostRuntime) -> Result<(), Fail> {
     let shared: Shared = limited(rt.alloc(), 4, usize::MAX)?;
-    is_so(&rt, all_are_interned(&rt, &shared, Way::TryStatic)?, "the texts");
+    is_so(
+        &rt,
+        all_are_interned(&rt, &shared, Way::TryStatic)?,
+        "the texts",
+    );
     is_so(&rt, usage(&rt, &shared) == 4, "the usage");
     Ok(())
 }

@@ -119,7 +119,11 @@ fn a_pass_that_meets_another_has_seen_its_texts(rt: HostRuntime) -> Result<(), F
     let mut behind = pass_of(&shards);
     keep_three(&rt, &shards, &mut behind, &mut ahead)?;
     is_so(&rt, meet(&shards, &mut behind, &mut ahead), "the texts");
-    is_so(&rt, still_intern(&rt, &shards, &mut behind, &mut ahead)?, "the numbers");
+    is_so(
+        &rt,
+        still_intern(&rt, &shards, &mut behind, &mut ahead)?,
+        "the numbers",
+    );
     Ok(())
 }
 
@@ -173,6 +177,10 @@ fn passes_have_seen_the_same_text_at_a_position(rt: HostRuntime) -> Result<(), F
     let shards = opened(rt.alloc())?;
     let mut one = pass_of(&shards);
     let mut other = pass_of(&shards);
-    is_so(&rt, lend_alike(&rt, &shards, &mut one, &mut other)?, "the texts");
+    is_so(
+        &rt,
+        lend_alike(&rt, &shards, &mut one, &mut other)?,
+        "the texts",
+    );
     Ok(())
 }

@@ -107,7 +107,11 @@ fn walks_give_the_texts_in_the_order_of_their_keys(rt: HostRuntime) -> Result<()
     ];
     runs(&rt, &shared, &steps)?;
     let texts = ["abc", "defghijk", "x", "yz"];
-    is_so(&rt, give(walk_of(&shared), strings_of(&shared), &texts), "the walks");
+    is_so(
+        &rt,
+        give(walk_of(&shared), strings_of(&shared), &texts),
+        "the walks",
+    );
     Ok(())
 }
 
@@ -152,7 +156,11 @@ fn a_walk_has_the_texts_of_its_making(rt: HostRuntime) -> Result<(), Fail> {
     ];
     runs(&rt, &shared, &steps)?;
     let mut pass = pass_of(&shared);
-    is_so(&rt, yield_two(&rt, &shared, &mut pass)?, "the walks made before");
+    is_so(
+        &rt,
+        yield_two(&rt, &shared, &mut pass)?,
+        "the walks made before",
+    );
     is_so(&rt, yield_three(&shared, &mut pass), "the walks made now");
     Ok(())
 }
@@ -227,8 +235,16 @@ fn walks_beside_a_writer<R: Threads + Wait + Sync>(rt: &R, shared: &Shared) -> L
 #[test]
 fn a_walk_beside_a_writer_gives_a_beginning_of_the_list(rt: HostRuntime) -> Result<(), Fail> {
     let shared = made(rt.alloc())?;
-    is_so(&rt, walks_beside_a_writer(&rt, &shared)? == 1000, "the walks beside it");
-    is_so(&rt, begins(strings_of(&shared), &FIRST), "the texts at the end");
+    is_so(
+        &rt,
+        walks_beside_a_writer(&rt, &shared)? == 1000,
+        "the walks beside it",
+    );
+    is_so(
+        &rt,
+        begins(strings_of(&shared), &FIRST),
+        "the texts at the end",
+    );
     is_so(&rt, left_of(&strings_of(&shared)) == 100, "the count");
     Ok(())
 }

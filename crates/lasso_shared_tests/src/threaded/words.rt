@@ -98,8 +98,16 @@ fn compares_with<R: Wait>(
 #[test]
 fn a_later_text_is_compared_with_the_words(rt: HostRuntime) -> Result<(), Fail> {
     let shared = grown(&rt, rt.alloc())?;
-    is_so(&rt, compares_with(&rt, rt.alloc(), &shared, &TEXTS, true)?, "all texts");
-    is_so(&rt, compares_with(&rt, rt.alloc(), &shared, &KEYWORDS, false)?, "the words alone");
+    is_so(
+        &rt,
+        compares_with(&rt, rt.alloc(), &shared, &TEXTS, true)?,
+        "all texts",
+    );
+    is_so(
+        &rt,
+        compares_with(&rt, rt.alloc(), &shared, &KEYWORDS, false)?,
+        "the words alone",
+    );
     Ok(())
 }
 
