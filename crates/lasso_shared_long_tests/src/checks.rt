@@ -17,19 +17,23 @@ pub fn is_so_at(rt: &impl Abort, holds: bool, what: &str, number: usize) {
     assert!(rt; holds, "{what} {number}");
 }
 
-// Fails if one of the steps was wrong.
-fn is_none(rt: &impl Abort, step: Option<usize>) {
-    if let Some(number) = step {
-        is_so_at(rt, false, "step", number);
-    }
-}
-
 // Makes the calls in order. Fails unless each returns what it has to.
 pub fn runs<K: Key, S: BuildHasher + Drop, R: Wait + Abort>(
     rt: &R,
     shared: &ThreadedRodeo<K, S>,
     steps: &[Step],
 ) -> Result<(), Fail> {
-    is_none(rt, first_wrong(rt, shared, steps)?);
+    let right = first_wrong(rt, shared, steps)?;
+    is_so_at(rt, right == steps.len(), "step", right);
     Ok(())
+}
+
+// The same on an interner that was just made.
+pub fn runs_on<K: Key, S: BuildHasher + Drop, R: Wait + Abort>(
+    rt: &R,
+    made: Result<ThreadedRodeo<K, S>, Fail>,
+    steps: &[Step],
+) -> Result<(), Fail> {
+    let shared = made?;
+    runs(rt, &shared, steps)
 }

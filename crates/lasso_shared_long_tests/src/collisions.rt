@@ -1,4 +1,6 @@
 //! Threads that intern the same few texts, and threads that call two interners alternately.
+ghost use Rattle.std.specs.Prelude.{◌≡◌};
+
 use crate::checks::{is_so, runs};
 use lasso_log::log::Pass;
 use lasso_parts::keys::{Key, Spur};
@@ -8,6 +10,7 @@ use lasso_shared_testing::calls::{
 };
 use lasso_shared_testing::steps::Step;
 use std::alloc::{AllocError, Global};
+use std::process::Abort;
 use std::sync::Wait;
 use std::test::*;
 use std::thread::{Threads, join, map_indices};
@@ -182,12 +185,21 @@ fn are_filled<R: AllocGlobal + Threads + Wait + Sync>(
     Ok(all && has_just(rt, one, &here) && has_just(rt, other, &there))
 }
 
+// Fills the interners, of which one has room for exactly its 1000 texts of 4 bytes. Fails unless both have
+// their texts and limits.
+fn fill_both<R: AllocGlobal + Threads + Wait + Sync + Abort>(
+    rt: &R,
+    one: &Shared,
+    other: &Shared,
+) -> Result<(), Fail> {
+    is_so(rt, are_filled(rt, one, other)?, "the texts");
+    runs(rt, one, &[Step::Uses(4000), Step::IsLimited(4000)])?;
+    runs(rt, other, &[Step::IsLimited(usize::MAX)])
+}
+
 #[test]
 fn two_interners(rt: HostRuntime) -> Result<(), Fail> {
-    // one interner has room for exactly its 1000 texts of 4 bytes
-    let one: Shared = limited(rt.alloc(), 4000, 4000)?;
+    let one = limited(rt.alloc(), 4000, 4000)?;
     let other = made(rt.alloc())?;
-    is_so(&rt, are_filled(&rt, &one, &other)?, "the texts");
-    runs(&rt, &one, &[Step::Uses(4000), Step::IsLimited(4000)])?;
-    runs(&rt, &other, &[Step::IsLimited(usize::MAX)])
+    fill_both(&rt, &one, &other)
 }

@@ -12,6 +12,7 @@ use lasso_shared_testing::texts::numbered;
 use lasso_testing::hashers::{FirstState, LowState, SameState};
 use std::alloc::Global;
 use std::hash::BuildHasher;
+use std::process::Abort;
 use std::sync::Wait;
 use std::test::*;
 
@@ -104,12 +105,27 @@ fn grows<K: Key, S: BuildHasher + Drop, R: Wait>(
     Ok(all)
 }
 
+// The same of a new interner of these keys.
+fn grows_from_nothing<K: Key, R: AllocGlobal + Wait>(
+    rt: &R,
+    key_bytes: usize,
+) -> Result<bool, Fail> {
+    let shared: ThreadedRodeo<K, SameState> = roomless(rt.alloc())?;
+    Ok(grows(rt, &shared, key_bytes)?)
+}
+
 #[test]
 fn bytes_of_list_and_index(rt: HostRuntime) -> Result<(), Fail> {
-    let shared: ThreadedRodeo<Spur, SameState> = roomless(rt.alloc())?;
-    is_so(&rt, grows(&rt, &shared, 4)?, "keys of four bytes");
-    let shared: ThreadedRodeo<MicroSpur, SameState> = roomless(rt.alloc())?;
-    is_so(&rt, grows(&rt, &shared, 1)?, "keys of one byte");
+    is_so(
+        &rt,
+        grows_from_nothing::<Spur, _>(&rt, 4)?,
+        "keys of four bytes",
+    );
+    is_so(
+        &rt,
+        grows_from_nothing::<MicroSpur, _>(&rt, 1)?,
+        "keys of one byte",
+    );
     Ok(())
 }
 
@@ -132,7 +148,8 @@ fn bytes_of_room_for_texts(rt: HostRuntime) -> Result<(), Fail> {
         is_so_at(&rt, has_cells(&rt, texts, cells)?, "room for", texts);
     }
     // the default is room for 50 texts, and 4096 bytes
-    is_so(&rt, allocated(&rt, &made(rt.alloc())?) == 6144, "default");
+    let shared = made(rt.alloc())?;
+    is_so(&rt, allocated(&rt, &shared) == 6144, "default");
     Ok(())
 }
 
@@ -147,13 +164,23 @@ fn takes<S: BuildHasher + Drop, R: Wait>(
     Ok(allocated(rt, shared) == bytes)
 }
 
+// Interns the static texts of the rows. Fails unless this many bytes are allocated after each.
+fn takes_rows<S: BuildHasher + Drop, R: Wait + Abort>(
+    rt: &R,
+    shared: &ThreadedRodeo<Spur, S>,
+    rows: &[(&'static str, usize)],
+) -> LassoResult<()> {
+    for (text, bytes) in rows.iter() {
+        is_so(rt, takes(rt, shared, *text, *bytes)?, *text);
+    }
+    Ok(())
+}
+
 // Texts with different first bytes are in two shards, each with an index of 8 slots.
 #[test]
 fn bytes_of_each_index(rt: HostRuntime) -> Result<(), Fail> {
     let shared: ThreadedRodeo<Spur, FirstState> = roomless(rt.alloc())?;
-    for (text, bytes) in [("0", 1074), ("a", 1114), ("0", 1114)] {
-        is_so(&rt, takes(&rt, &shared, text, bytes)?, text);
-    }
+    takes_rows(&rt, &shared, &[("0", 1074), ("a", 1114), ("0", 1114)])?;
     Ok(())
 }
 
@@ -162,18 +189,27 @@ const OF_EACH_SHARD: [&str; 16] = [
     "p", "a", "b", "c", "d", "e", "f", "g", "h", "i", "j", "k", "l", "m", "n", "o",
 ];
 
+// Interns a text of each shard. Fails unless each takes 40 bytes, after the 1034 of list and bucket.
+fn takes_each_index<R: Wait + Abort>(
+    rt: &R,
+    shared: &ThreadedRodeo<Spur, LowState>,
+) -> LassoResult<()> {
+    let mut bytes: usize = 1034;
+    for text in OF_EACH_SHARD {
+        bytes = bytes.saturating_add(40);
+        is_so(rt, takes(rt, shared, text, bytes)?, text);
+    }
+    is_so(rt, bytes == 1674, "the sum");
+    Ok(())
+}
+
 // The first text makes 32 cells of 32 bytes, which are enough for all texts. The first bucket has ten bytes.
 // Each text makes an index of 8 slots of 5 bytes: four for the key, and one for the tag.
 #[test]
 fn bytes_of_the_index_of_each_shard(rt: HostRuntime) -> Result<(), Fail> {
     let shared: ThreadedRodeo<Spur, LowState> = roomless(rt.alloc())?;
     is_so(&rt, allocated(&rt, &shared) == 10, "no text");
-    let mut bytes: usize = 1034;
-    for text in OF_EACH_SHARD {
-        bytes = bytes.saturating_add(40);
-        is_so(&rt, takes(&rt, &shared, text, bytes)?, text);
-    }
-    is_so(&rt, bytes == 1674, "the sum");
+    takes_each_index(&rt, &shared)?;
     Ok(())
 }
 
@@ -188,17 +224,21 @@ fn copies<R: Wait>(
     Ok(allocated(rt, shared) == bytes)
 }
 
+// Interns copies of two texts. Fails unless the second takes a bucket of its own.
+fn takes_two_buckets<R: Wait + Abort>(
+    rt: &R,
+    shared: &ThreadedRodeo<Spur, SameState>,
+) -> Result<(), Fail> {
+    is_so(rt, copies(rt, shared, "nine byte", 1074)?, "the first text");
+    is_so(rt, copies(rt, shared, "two", 1094)?, "the next text");
+    runs(rt, shared, &[Step::Uses(30), Step::Reads(1, Some("two"))])
+}
+
 // The first text fits in the first bucket, of ten bytes. The next text takes a bucket of twice its size.
 #[test]
 fn bytes_of_buckets(rt: HostRuntime) -> Result<(), Fail> {
-    let shared: ThreadedRodeo<Spur, SameState> = roomless(rt.alloc())?;
-    is_so(
-        &rt,
-        copies(&rt, &shared, "nine byte", 1074)?,
-        "the first text",
-    );
-    is_so(&rt, copies(&rt, &shared, "two", 1094)?, "the next text");
-    runs(&rt, &shared, &[Step::Uses(30), Step::Reads(1, Some("two"))])
+    let shared = roomless(rt.alloc())?;
+    takes_two_buckets(&rt, &shared)
 }
 
 // The same as `STATES`, for more texts.
@@ -234,20 +274,29 @@ fn copies_count<R: Wait>(
     Ok(counts(rt, shared, cells, slots, 5, 2000))
 }
 
-// The copies of 300 texts of five bytes fit in the one bucket of 2000 bytes. A slot has four bytes for the
-// key, and one for the tag.
-#[test]
-fn bytes_of_more_texts(rt: HostRuntime) -> Result<(), Fail> {
-    let shared = with_bucket(rt.alloc(), 2000)?;
-    let texts = numbered(rt.alloc(), 300)?;
+// Interns copies of the texts, of more and more of them. Fails unless each state is as it has to be.
+fn takes_more<R: Wait + Abort>(
+    rt: &R,
+    shared: &ThreadedRodeo<Spur, SameState>,
+    texts: &[String],
+) -> Result<(), Fail> {
     for (count, cells, slots) in MORE_STATES {
         let first = texts.get(..count).ok_or("no texts")?;
         is_so_at(
-            &rt,
-            copies_count(&rt, &shared, first, cells, slots)?,
+            rt,
+            copies_count(rt, shared, first, cells, slots)?,
             "texts",
             count,
         );
     }
     Ok(())
+}
+
+// The copies of 300 texts of five bytes fit in the one bucket of 2000 bytes. A slot has four bytes for the
+// key, and one for the tag.
+#[test]
+fn bytes_of_more_texts(rt: HostRuntime) -> Result<(), Fail> {
+    let texts = numbered(rt.alloc(), 300)?;
+    let shared = with_bucket(rt.alloc(), 2000)?;
+    takes_more(&rt, &shared, &texts)
 }

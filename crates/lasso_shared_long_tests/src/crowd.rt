@@ -5,6 +5,7 @@ use lasso_parts::util::LassoResult;
 use lasso_shared_testing::calls::{Shared, len, made, usage};
 use lasso_testing::texts::{lettered, lettered_static};
 use std::alloc::Global;
+use std::process::Abort;
 use std::sync::Wait;
 use std::test::*;
 use std::thread::{Threads, join};
@@ -216,16 +217,26 @@ fn bytes_of_all(lists: &[Vec<String>]) -> usize {
     bytes
 }
 
+// Fills the interner with the lists in four threads. Fails unless it has each text once.
+fn share_half<R: Threads + Wait + Sync + Abort>(
+    rt: &R,
+    shared: &Shared,
+    lists: &[Vec<String>],
+) -> LassoResult<()> {
+    is_so(rt, all_intern(rt, shared, lists)?, "the keys");
+    // five lists of 10000 texts, each text once
+    is_so(rt, len(shared) == 50_000, "the count");
+    is_so(rt, all_are_there(rt, shared, lists), "the texts");
+    // each list has 38890 digits and 10000 letters
+    is_so(rt, bytes_of_all(lists) == 244_450, "their bytes");
+    is_so(rt, usage(rt, shared) <= 4096 + 4 * 244_450, "the usage");
+    Ok(())
+}
+
 #[test]
 fn four_threads_share_half_of_their_texts(rt: HostRuntime) -> Result<(), Fail> {
-    let shared = made(rt.alloc())?;
     let lists = lists(rt.alloc())?;
-    is_so(&rt, all_intern(&rt, &shared, &lists)?, "the keys");
-    // five lists of 10000 texts, each text once
-    is_so(&rt, len(&shared) == 50_000, "the count");
-    is_so(&rt, all_are_there(&rt, &shared, &lists), "the texts");
-    // each list has 38890 digits and 10000 letters
-    is_so(&rt, bytes_of_all(&lists) == 244_450, "their bytes");
-    is_so(&rt, usage(&rt, &shared) <= 4096 + 4 * 244_450, "the usage");
+    let shared = made(rt.alloc())?;
+    share_half(&rt, &shared, &lists)?;
     Ok(())
 }

@@ -9,6 +9,7 @@ use lasso_shared_testing::steps::{Step, extended};
 use lasso_shared_testing::texts::numbered;
 use lasso_testing::keys::BelowTwo;
 use std::alloc::{AllocError, Global};
+use std::process::Abort;
 use std::sync::Wait;
 use std::test::*;
 use std::thread::{Threads, join};
@@ -73,14 +74,23 @@ fn makes_of_all<R: AllocGlobal + Wait>(rt: &R, items: &[&str]) -> Result<bool, F
     stand_in_order(&whole, items)
 }
 
+// Interns items of all texts. Fails unless they stand in order, and in a new interner too.
+fn take_all_items<R: AllocGlobal + Wait + Abort>(
+    rt: &R,
+    shared: &Shared,
+    texts: &[String],
+) -> Result<(), Fail> {
+    let items = items_of(rt.alloc(), texts)?;
+    is_so(rt, extends_by_all(rt, shared, &items)?, "extend");
+    is_so(rt, makes_of_all(rt, &items)?, "from_iter");
+    Ok(())
+}
+
 #[test]
 fn no_item_of_many_is_dropped(rt: HostRuntime) -> Result<(), Fail> {
     let texts = numbered(rt.alloc(), 5000)?;
-    let items = items_of(rt.alloc(), &texts)?;
     let shared = made(rt.alloc())?;
-    is_so(&rt, extends_by_all(&rt, &shared, &items)?, "extend");
-    is_so(&rt, makes_of_all(&rt, &items)?, "from_iter");
-    Ok(())
+    take_all_items(&rt, &shared, &texts)
 }
 
 // An interner of `a` and `b`.
@@ -88,22 +98,27 @@ fn two_items<R: Wait>(rt: &R, alloc: Global) -> LassoResult<Shared> {
     ThreadedRodeo::from_iter(alloc, rt, ["a", "b"])
 }
 
-#[test]
-fn items_are_interned_in_order(rt: HostRuntime) -> Result<(), Fail> {
-    let shared = two_items(&rt, rt.alloc())?;
+// Fails unless the interner of `a` and `b` has them, in one bucket and without a limit, and takes later items.
+fn takes_later_items<R: Wait + Abort>(rt: &R, shared: &Shared) -> Result<(), Fail> {
     let made = [
         Step::Counts(2),
         Step::Uses(4096),
         Step::IsLimited(usize::MAX),
     ];
-    runs(&rt, &shared, &made)?;
-    extend_by_two(&rt, &shared, ["b", "c"])?;
+    runs(rt, shared, &made)?;
+    extend_by_two(rt, shared, ["b", "c"])?;
     let filled = [
         Step::Counts(3),
         Step::Finds("c", Some(2)),
         Step::Reads(2, Some("c")),
     ];
-    runs(&rt, &shared, &filled)
+    runs(rt, shared, &filled)
+}
+
+#[test]
+fn items_are_interned_in_order(rt: HostRuntime) -> Result<(), Fail> {
+    let shared = two_items(&rt, rt.alloc())?;
+    takes_later_items(&rt, &shared)
 }
 
 // Whether the limit refuses one of the items.
@@ -111,12 +126,11 @@ fn refuses_one<R: Wait>(rt: &R, shared: &Shared, items: [&'static str; 4]) -> bo
     answered(extend_by_four(rt, shared, items)) == Err(LassoErrorKind::MemoryLimitReached)
 }
 
-#[test]
-fn a_refused_item_ends_the_filling(rt: HostRuntime) -> Result<(), Fail> {
-    let shared: Shared = limited(rt.alloc(), 4, 4)?;
+// Fails unless a refused item ends the filling, where the only bucket has four bytes.
+fn ends_at_the_refused<R: Wait + Abort>(rt: &R, shared: &Shared) -> Result<(), Fail> {
     is_so(
-        &rt,
-        refuses_one(&rt, &shared, ["ab", "cd", "e", ""]),
+        rt,
+        refuses_one(rt, shared, ["ab", "cd", "e", ""]),
         "the refusal",
     );
     let refused = [
@@ -127,9 +141,15 @@ fn a_refused_item_ends_the_filling(rt: HostRuntime) -> Result<(), Fail> {
         Step::Uses(4),
         Step::IsLimited(4),
     ];
-    runs(&rt, &shared, &refused)?;
-    extend_by_two(&rt, &shared, ["cd", ""])?;
-    runs(&rt, &shared, &[Step::Counts(3), Step::IsLimited(4)])
+    runs(rt, shared, &refused)?;
+    extend_by_two(rt, shared, ["cd", ""])?;
+    runs(rt, shared, &[Step::Counts(3), Step::IsLimited(4)])
+}
+
+#[test]
+fn a_refused_item_ends_the_filling(rt: HostRuntime) -> Result<(), Fail> {
+    let shared = limited(rt.alloc(), 4, 4)?;
+    ends_at_the_refused(&rt, &shared)
 }
 
 type TwoKeys = ThreadedRodeo<BelowTwo, FixedState>;
@@ -177,14 +197,20 @@ fn both_extend<R: Threads + Wait + Sync>(rt: &R, shared: &Shared) -> LassoResult
     second
 }
 
+// Fills the interner in two threads. Fails unless it has each item once.
+fn has_both<R: Threads + Wait + Sync + Abort>(rt: &R, shared: &Shared) -> LassoResult<()> {
+    both_extend(rt, shared)?;
+    is_so(rt, len(shared) == 4, "the count");
+    for text in ["x", "a", "b", "y"] {
+        is_so(rt, contains(rt, shared, text), text);
+    }
+    Ok(())
+}
+
 #[test]
 fn two_threads_fill_one_interner(rt: HostRuntime) -> Result<(), Fail> {
     let shared = made(rt.alloc())?;
-    both_extend(&rt, &shared)?;
-    is_so(&rt, len(&shared) == 4, "the count");
-    for text in ["x", "a", "b", "y"] {
-        is_so(&rt, contains(&rt, &shared, text), text);
-    }
+    has_both(&rt, &shared)?;
     Ok(())
 }
 

@@ -1,9 +1,8 @@
 //! Key types that lack one number but have the next.
 use super::lengths::COPYING;
-use crate::checks::{is_so, runs};
+use crate::checks::{is_so, runs_on};
 use lasso_parts::keys::Key;
 use lasso_parts::util::{FixedState, LassoErrorKind};
-use lasso_shared::threaded::ThreadedRodeo;
 use lasso_shared_testing::calls::limited;
 use lasso_shared_testing::steps::{Step, Way};
 use lasso_testing::keys::{WithoutTwo, WithoutZero};
@@ -13,7 +12,6 @@ use std::test::*;
 
 // Interns texts by the call in an interner whose key type lacks number 2.
 fn passes_over_none<R: AllocGlobal + Wait + Abort>(rt: &R, way: Way) -> Result<(), Fail> {
-    let shared: ThreadedRodeo<WithoutTwo, FixedState> = limited(rt.alloc(), 4, 4)?;
     let steps = [
         Step::Interns(way, "p", Ok(0)),
         Step::Interns(way, "q", Ok(1)),
@@ -25,7 +23,7 @@ fn passes_over_none<R: AllocGlobal + Wait + Abort>(rt: &R, way: Way) -> Result<(
         Step::Counts(2),
         Step::Uses(4),
     ];
-    runs(rt, &shared, &steps)
+    runs_on::<WithoutTwo, FixedState, _>(rt, limited(rt.alloc(), 4, 4), &steps)
 }
 
 // Whether the key type has this number.
@@ -45,7 +43,6 @@ fn no_text_passes_over_a_number_without_a_key(rt: HostRuntime) -> Result<(), Fai
 // Interns a text by the call, three times, in an interner whose key type lacks number 0. Each of the first two
 // calls takes two of the four bytes, though the text has no key.
 fn has_none<R: AllocGlobal + Wait + Abort>(rt: &R, way: Way) -> Result<(), Fail> {
-    let shared: ThreadedRodeo<WithoutZero, FixedState> = limited(rt.alloc(), 4, 4)?;
     let steps = [
         Step::Interns(way, "pp", Err(LassoErrorKind::KeySpaceExhaustion)),
         Step::Uses(4),
@@ -57,7 +54,7 @@ fn has_none<R: AllocGlobal + Wait + Abort>(rt: &R, way: Way) -> Result<(), Fail>
         Step::Uses(4),
         Step::Counts(0),
     ];
-    runs(rt, &shared, &steps)
+    runs_on::<WithoutZero, FixedState, _>(rt, limited(rt.alloc(), 4, 4), &steps)
 }
 
 #[test]

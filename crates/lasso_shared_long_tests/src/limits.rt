@@ -12,7 +12,7 @@ use lasso_shared_testing::calls::{
 };
 use lasso_shared_testing::steps::Step;
 use lasso_shared_testing::texts::{LENGTHS, lasting, lettered};
-use std::alloc::Global;
+use std::process::Abort;
 use std::sync::Wait;
 use std::test::*;
 use std::thread::{Threads, join};
@@ -58,27 +58,32 @@ fn lifts_limit<R: Wait>(
     Ok(stands_for(shared, other, key, "0123456789"))
 }
 
-#[test]
-fn a_limit_is_what_was_set_last(rt: HostRuntime) -> Result<(), Fail> {
-    let shared: Shared = limited(rt.alloc(), 4, 12)?;
-    let mut pass = pass_of(&shared);
-    let mut other = pass_of(&shared);
+// Sets limits by two passes. Fails unless each reads what was set last.
+fn read_what_was_set<R: Wait + Abort>(rt: &R, shared: &Shared) -> Result<(), Fail> {
+    let mut pass = pass_of(shared);
+    let mut other = pass_of(shared);
     is_so(
-        &rt,
-        falls_to_0(&rt, &shared, &mut pass, &mut other),
+        rt,
+        falls_to_0(rt, shared, &mut pass, &mut other),
         "the limits",
     );
     // no limit refuses a static text
     is_so(
-        &rt,
-        lifts_limit(&rt, &shared, &mut pass, &mut other)?,
+        rt,
+        lifts_limit(rt, shared, &mut pass, &mut other)?,
         "the text",
     );
     runs(
-        &rt,
-        &shared,
+        rt,
+        shared,
         &[Step::IsLimited(usize::MAX), Step::Uses(4), Step::Counts(1)],
     )
+}
+
+#[test]
+fn a_limit_is_what_was_set_last(rt: HostRuntime) -> Result<(), Fail> {
+    let shared = limited(rt.alloc(), 4, 12)?;
+    read_what_was_set(&rt, &shared)
 }
 
 // Whether the limit is this one, read by the pass and without one.
@@ -142,22 +147,23 @@ fn limits_of_each_size_are_kept(rt: HostRuntime) -> Result<(), Fail> {
     runs(&rt, &shared, &[last, Step::Uses(4096), Step::Counts(0)])
 }
 
-// Interns three static texts, each by another call. Returns whether they get the numbers from `first` on.
-fn keeps_three<R: Wait>(
+// Interns three static texts of `length` bytes, each by another call. Returns whether they get numbers 0 to 2.
+fn keeps_three<R: AllocGlobal + Wait>(
     rt: &R,
     shared: &Shared,
     pass: &mut Pass<Spur>,
-    texts: [&'static str; 3],
-    first: usize,
-) -> LassoResult<bool>
+    length: usize,
+) -> Result<bool, Fail>
     requires { pass.old.of ≡ shared.now }
     ensures { pass.new.of ≡ pass.old.of }
 {
-    let one = kept_as(rt, shared, pass, texts[0])?.into_usize();
-    let two = kept(rt, shared, texts[1])?;
-    let three = kept_so(rt, shared, texts[2])?;
-    let wanted = (first, first.saturating_add(1), first.saturating_add(2));
-    Ok((one, two, three) == wanted)
+    let (a, b) = (
+        lasting(rt.alloc(), "a", length)?,
+        lasting(rt.alloc(), "b", length)?,
+    );
+    let c = lasting(rt.alloc(), "c", length)?;
+    let first = kept_as(rt, shared, pass, a)?.into_usize() == 0;
+    Ok(kept(rt, shared, b)? == 1 && kept_so(rt, shared, c)? == 2 && first)
 }
 
 // Interns a copy of the text of the letter and this length. Returns whether that gives this number.
@@ -170,15 +176,6 @@ fn is_copied<R: AllocGlobal + Wait>(
 ) -> Result<bool, Fail> {
     let text = lettered(rt.alloc(), letter, length)?;
     Ok(answered(copied(rt, shared, text.as_str())) == Ok(number))
-}
-
-// The static texts of three letters, of `length` bytes each.
-fn three(alloc: Global, length: usize) -> Result<[&'static str; 3], Fail> {
-    Ok([
-        lasting(alloc, "a", length)?,
-        lasting(alloc, "b", length)?,
-        lasting(alloc, "c", length)?,
-    ])
 }
 
 // Whether two copied texts of this length get numbers 3 and 4 and fill the only bucket of `bytes` bytes, which
@@ -206,9 +203,8 @@ fn leave_all_bytes<R: AllocGlobal + Wait>(rt: &R, length: usize) -> Result<bool,
     }
     let bytes = length.saturating_mul(2).max(length);
     let shared: Shared = limited(rt.alloc(), bytes, bytes)?;
-    let texts = three(rt.alloc(), length)?;
     let mut pass = pass_of(&shared);
-    let new = keeps_three(rt, &shared, &mut pass, texts, 0)?;
+    let new = keeps_three(rt, &shared, &mut pass, length)?;
     Ok(copies_fill(rt, &shared, &mut pass, length, bytes)? && new)
 }
 
@@ -220,23 +216,23 @@ fn a_static_text_takes_no_bytes(rt: HostRuntime) -> Result<(), Fail> {
     Ok(())
 }
 
-// Interns three static texts, each by another call. Returns whether the limit stays at `bytes`, and the usage
-// at the one byte of the first bucket.
-fn keep_the_limit<R: Wait>(
+// Interns three static texts of `length` bytes, each by another call. Returns whether the limit stays at
+// `bytes`, and the usage at the one byte of the first bucket.
+fn keep_the_limit<R: AllocGlobal + Wait>(
     rt: &R,
     shared: &Shared,
     pass: &mut Pass<Spur>,
-    texts: [&'static str; 3],
+    length: usize,
     bytes: usize,
-) -> LassoResult<bool>
+) -> Result<bool, Fail>
     requires { pass.old.of ≡ shared.now }
     ensures { pass.new.of ≡ pass.old.of }
 {
-    kept_as(rt, shared, pass, texts[0])?;
+    kept_as(rt, shared, pass, lasting(rt.alloc(), "a", length)?)?;
     let first = is_limit(rt, shared, pass, bytes);
-    kept(rt, shared, texts[1])?;
+    kept(rt, shared, lasting(rt.alloc(), "b", length)?)?;
     let second = is_limit(rt, shared, pass, bytes);
-    kept_so(rt, shared, texts[2])?;
+    kept_so(rt, shared, lasting(rt.alloc(), "c", length)?)?;
     Ok(sums_as(rt, shared, pass) == (bytes, 1) && first && second)
 }
 
@@ -246,9 +242,8 @@ fn keep_the_limit<R: Wait>(
 fn leave_the_limit<R: AllocGlobal + Wait>(rt: &R, length: usize) -> Result<bool, Fail> {
     let bytes = length.saturating_add(1);
     let shared: Shared = limited(rt.alloc(), 1, bytes)?;
-    let texts = three(rt.alloc(), length)?;
     let mut pass = pass_of(&shared);
-    let kept = keep_the_limit(rt, &shared, &mut pass, texts, bytes)?;
+    let kept = keep_the_limit(rt, &shared, &mut pass, length, bytes)?;
     let copy = is_copied(rt, &shared, "d", length, 3)?;
     let taken = if length == 1 { 1 } else { bytes };
     Ok(kept && copy && sums_as(rt, &shared, &mut pass) == (bytes, taken))

@@ -16,6 +16,7 @@ use lasso_shared_testing::steps::{Step, extended, finds};
 use lasso_shared_testing::texts::numbered;
 use lasso_single::rodeo::Rodeo;
 use std::alloc::Global;
+use std::process::Abort;
 use std::sync::Wait;
 use std::sync::atomic::{AtomicBool, Ordering};
 use std::test::*;
@@ -199,11 +200,20 @@ fn sets_beside_copies<R: Threads + Wait + Sync>(rt: &R, shared: &Shared, texts: 
     set && refused
 }
 
+// The same. Fails unless no text is interned.
+fn refuses_all<R: Threads + Wait + Sync + Abort>(
+    rt: &R,
+    shared: &Shared,
+    texts: &[String],
+) -> Result<(), Fail> {
+    is_so(rt, sets_beside_copies(rt, shared, texts), "the replies");
+    runs(rt, shared, &[Step::Counts(0), Step::Uses(1)])
+}
+
 // No limit that is set leaves room for a text of five bytes besides the first bucket, of one byte.
 #[test]
 fn no_limit_is_lifted_for_a_moment(rt: HostRuntime) -> Result<(), Fail> {
     let texts = numbered(rt.alloc(), 1000)?;
-    let shared: Shared = limited(rt.alloc(), 1, 1)?;
-    is_so(&rt, sets_beside_copies(&rt, &shared, &texts), "the replies");
-    runs(&rt, &shared, &[Step::Counts(0), Step::Uses(1)])
+    let shared = limited(rt.alloc(), 1, 1)?;
+    refuses_all(&rt, &shared, &texts)
 }

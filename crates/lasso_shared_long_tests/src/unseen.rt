@@ -159,16 +159,6 @@ fn first_by_pass<R: Wait>(
     Ok(interns_in_each_way(rt, shared, pass, text, wanted)? && first)
 }
 
-// The texts of four letters, of `length` bytes each. They are never freed.
-fn four(alloc: Global, length: usize) -> Result<[&'static str; 4], Fail> {
-    Ok([
-        lasting(alloc, "a", length)?,
-        lasting(alloc, "b", length)?,
-        lasting(alloc, "c", length)?,
-        lasting(alloc, "d", length)?,
-    ])
-}
-
 // Interns four texts of `length` bytes, each first by another call and then by all, and sets the limit to
 // `bytes` before the last. Returns whether all replies are right.
 fn take_in_each_way<R: AllocGlobal + Wait>(
@@ -181,7 +171,9 @@ fn take_in_each_way<R: AllocGlobal + Wait>(
     requires { pass.old.of ≡ shared.now }
     ensures { pass.new.of ≡ pass.old.of }
 {
-    let [a, b, c, d] = four(rt.alloc(), length)?;
+    let alloc = rt.alloc();
+    let (a, b) = (lasting(alloc, "a", length)?, lasting(alloc, "b", length)?);
+    let (c, d) = (lasting(alloc, "c", length)?, lasting(alloc, "d", length)?);
     let mut all = first_by(rt, shared, pass, Way::TryCopied, a, 0)?;
     all &= first_by(rt, shared, pass, Way::Copied, b, 1)?;
     all &= first_by(rt, shared, pass, Way::Item, c, 2)?;

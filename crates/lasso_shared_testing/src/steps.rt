@@ -189,16 +189,17 @@ fn holds<K: Key, S: BuildHasher + Drop, R: Wait>(
     }
 }
 
-/// Makes the calls in order. Returns the index of the first that returned something else, if any.
+/// Makes the calls in order, up to the first that returns something else. Returns how many returned what they
+/// have to.
 pub fn first_wrong<K: Key, S: BuildHasher + Drop, R: Wait>(
     rt: &R,
     shared: &ThreadedRodeo<K, S>,
     steps: &[Step],
-) -> Result<Option<usize>, Fail> {
-    for (index, step) in steps.iter().enumerate() {
-        if !holds(rt, shared, *step)? {
-            return Ok(Some(index));
+) -> Result<usize, Fail> {
+    for index in 0..steps.len() {
+        if !holds(rt, shared, steps[index])? {
+            return Ok(index);
         }
     }
-    Ok(None)
+    Ok(steps.len())
 }

@@ -20,6 +20,7 @@ use lasso_single::reader::RodeoReader;
 use lasso_testing::hashers::{FirstState, SameState};
 use std::alloc::Global;
 use std::hash::BuildHasher;
+use std::process::Abort;
 use std::sync::Wait;
 use std::sync::atomic::{AtomicU64, Ordering};
 use std::test::*;
@@ -124,12 +125,16 @@ fn shard_of(hasher: &FirstState, text: &str) -> usize {
     number_of(hash_text(hasher, text))
 }
 
+// Whether `0` and `a` are texts of shards 3 and 6.
+fn are_of_two_shards() -> bool {
+    let hasher = FirstState::new();
+    shard_of(&hasher, "0") == 3 && shard_of(&hasher, "a") == 6
+}
+
 #[test]
 fn shards_apart(rt: HostRuntime) -> Result<(), Fail> {
-    let hasher = FirstState::new();
-    is_so(&rt, shard_of(&hasher, "0") == 3, "the shard of 0");
-    is_so(&rt, shard_of(&hasher, "a") == 6, "the shard of a");
-    let shards = opened(rt.alloc(), hasher)?;
+    is_so(&rt, are_of_two_shards(), "the shards");
+    let shards = opened(rt.alloc(), FirstState::new())?;
     is_so(
         &rt,
         is_set_beside_a_writer(&rt, &shards, 3, "a"),
@@ -174,16 +179,20 @@ fn is_set_beside_a_reader<S: BuildHasher + Drop, R: Threads + Wait + Sync>(
     seen
 }
 
+// Interns `0`. Fails unless it is found and interned while its shard is locked for reading.
+fn finds_beside_a_reader<R: Threads + Wait + Sync + Abort>(
+    rt: &R,
+    shards: &Shards<Spur, FirstState>,
+) -> Result<(), Fail> {
+    intern_static(rt, shards, "0")?;
+    is_so(rt, is_set_beside_a_reader(rt, shards, 3, "0"), "the flag");
+    Ok(())
+}
+
 #[test]
 fn a_text_that_is_there_is_found_beside_readers(rt: HostRuntime) -> Result<(), Fail> {
     let shards = opened(rt.alloc(), FirstState::new())?;
-    intern_static(&rt, &shards, "0")?;
-    is_so(
-        &rt,
-        is_set_beside_a_reader(&rt, &shards, 3, "0"),
-        "the flag",
-    );
-    Ok(())
+    finds_beside_a_reader(&rt, &shards)
 }
 
 // Interns the static text. Returns whether it gets this number.
@@ -248,11 +257,21 @@ fn frozen<S: BuildHasher + Drop, R: Wait>(
     shared.into_reader(rt)
 }
 
+// Interns the texts. Fails unless each gets its position as its number, and is found there, and the other text
+// is absent.
+fn takes_texts<S: BuildHasher + Drop, R: Wait + Abort>(
+    rt: &R,
+    shared: &ThreadedRodeo<Spur, S>,
+    other: &'static str,
+) -> Result<(), Fail> {
+    is_so(rt, in_order(rt, shared, &TEXTS)?, "the numbers");
+    runs(rt, shared, &[Step::Finds(other, None), Step::Counts(300)])
+}
+
 #[test]
 fn constant_hash(rt: HostRuntime) -> Result<(), Fail> {
     let shared: ThreadedRodeo<Spur, SameState> = hashed(rt.alloc())?;
-    is_so(&rt, in_order(&rt, &shared, &TEXTS)?, "the numbers");
-    runs(&rt, &shared, &[Step::Finds("300", None), Step::Counts(300)])?;
+    takes_texts(&rt, &shared, "300")?;
     let reader = frozen(&rt, shared)?;
     is_so(&rt, has_just(&reader, &TEXTS, "300"), "the reader");
     Ok(())
@@ -261,9 +280,8 @@ fn constant_hash(rt: HostRuntime) -> Result<(), Fail> {
 #[test]
 fn texts_of_one_shard_and_of_others(rt: HostRuntime) -> Result<(), Fail> {
     let shared: ThreadedRodeo<Spur, FirstState> = hashed(rt.alloc())?;
-    is_so(&rt, in_order(&rt, &shared, &TEXTS)?, "the numbers");
-    is_so(&rt, in_order(&rt, &shared, &TEXTS)?, "the numbers again");
-    runs(&rt, &shared, &[Step::Finds("a", None), Step::Counts(300)])
+    takes_texts(&rt, &shared, "a")?;
+    takes_texts(&rt, &shared, "a")
 }
 
 // How many slots the spine keeps for texts to come.
@@ -288,16 +306,18 @@ fn number<K: Key, R: Wait>(
     }
 }
 
-// Interns the first `count` texts. Returns whether each gets its position as its number.
-fn takes_first<K: Key, R: Wait>(rt: &R, shards: &Shards<K, FixedState>, count: usize) -> bool {
-    let mut position: usize = 0;
-    for text in TEXTS.iter().take(count) {
-        if number(rt, shards, *text) != Ok(position) {
+// Interns the texts. Returns whether each gets its position as its number.
+fn takes_all<K: Key, R: Wait>(
+    rt: &R,
+    shards: &Shards<K, FixedState>,
+    texts: &[&'static str],
+) -> bool {
+    for position in 0..texts.len() {
+        if number(rt, shards, texts[position]) != Ok(position) {
             return false;
         }
-        position = position.saturating_add(1);
     }
-    position == count
+    true
 }
 
 // Interns the text. Returns whether no slot is then kept, and its number is this one, or it is refused so.
@@ -310,16 +330,21 @@ fn answers<K: Key, R: Wait>(
     number(rt, shards, text) == wanted && kept_slots(rt, shards) == 0
 }
 
+// Uses all 255 keys up. Fails unless no refused text keeps a slot.
+fn gives_slots_back<R: Wait + Abort>(rt: &R, shards: &Shards<MicroSpur, FixedState>) {
+    let no_key = Err(LassoErrorKind::KeySpaceExhaustion);
+    is_so(rt, takes_all(rt, shards, &TEXTS[..255]), "255 texts");
+    is_so(rt, kept_slots(rt, shards) == 0, "the slots");
+    // no key is left for another text, nor for the empty one
+    is_so(rt, answers(rt, shards, "255", no_key), "another text");
+    is_so(rt, answers(rt, shards, "", no_key), "the empty text");
+    // present texts keep theirs
+    is_so(rt, number(rt, shards, "000") == Ok(0), "a present text");
+}
+
 #[test]
 fn a_refused_text_gives_its_slot_back(rt: HostRuntime) -> Result<(), Fail> {
-    let shards: Shards<MicroSpur, FixedState> = opened(rt.alloc(), FixedState::new())?;
-    let no_key = Err(LassoErrorKind::KeySpaceExhaustion);
-    is_so(&rt, takes_first(&rt, &shards, 255), "255 texts");
-    is_so(&rt, kept_slots(&rt, &shards) == 0, "the slots");
-    // no key is left for another text, nor for the empty one
-    is_so(&rt, answers(&rt, &shards, "255", no_key), "another text");
-    is_so(&rt, answers(&rt, &shards, "", no_key), "the empty text");
-    // present texts keep theirs
-    is_so(&rt, number(&rt, &shards, "000") == Ok(0), "a present text");
+    let shards = opened(rt.alloc(), FixedState::new())?;
+    gives_slots_back(&rt, &shards);
     Ok(())
 }

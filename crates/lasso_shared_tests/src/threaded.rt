@@ -19,6 +19,7 @@ use lasso_shared_testing::calls::{
     Shared, copied_as, hashed, kept_as, len_as, made, pass_of, seen_by, stands_for, text_at_as,
 };
 use lasso_testing::keys::BelowTwo;
+use std::process::Abort;
 use std::sync::Wait;
 use std::test::*;
 use std::thread::{Threads, join};
@@ -123,16 +124,20 @@ fn is_free(shared: &Shared, number: usize) -> Result<bool, Fail> {
     Ok(text_at_as(shared, number)?.is_none())
 }
 
+// Interns 100 texts of each thread. Fails unless each is present once, in its thread's order, at 200 positions.
+fn append_both<R: Threads + Wait + Sync + Abort>(rt: &R, shared: &Shared) -> Result<(), Fail> {
+    both_fill(rt, shared)?;
+    is_so(rt, len_as(shared) == 200, "the count");
+    is_so(rt, in_order(shared, &FIRST) == 100, "the first list");
+    is_so(rt, in_order(shared, &SECOND) == 100, "the second list");
+    is_so(rt, is_free(shared, 200)?, "the position after the last");
+    Ok(())
+}
+
 #[test]
 fn two_threads_append(rt: HostRuntime) -> Result<(), Fail> {
     let shared = made(rt.alloc())?;
-    both_fill(&rt, &shared)?;
-    is_so(&rt, len_as(&shared) == 200, "the count");
-    // 100 texts of each thread at 200 positions: each is present once, in its thread's order
-    is_so(&rt, in_order(&shared, &FIRST) == 100, "the first list");
-    is_so(&rt, in_order(&shared, &SECOND) == 100, "the second list");
-    is_so(&rt, is_free(&shared, 200)?, "the position after the last");
-    Ok(())
+    append_both(&rt, &shared)
 }
 
 // Interns the text, again if its first call runs out of memory and left the list as it was. Returns whether
@@ -174,18 +179,16 @@ fn a_text_that_was_refused_once_is_taken_later(rt: HostRuntime) -> Result<(), Fa
     Ok(())
 }
 
-// Interns static texts by the pass. Returns whether each call returns the number that stands beside the text,
+// Interns static texts by a new pass. Returns whether each call returns the number that stands beside the text,
 // or refuses it so.
 fn have_numbers<K: Key, R: Wait>(
     rt: &R,
     shared: &ThreadedRodeo<K, FixedState>,
-    pass: &mut Pass<K>,
     rows: &[(&'static str, Result<usize, LassoErrorKind>)],
-) -> bool
-    requires { pass.old.of ≡ shared.now }
-{
+) -> bool {
+    let mut pass = pass_of(shared);
     for (text, wanted) in rows.iter() {
-        if number(rt, shared, pass, *text) != *wanted {
+        if number(rt, shared, &mut pass, *text) != *wanted {
             return false;
         }
     }
@@ -201,12 +204,7 @@ fn keys_used_up_refuse_new_texts_alone(rt: HostRuntime) -> Result<(), Fail> {
         ("r", Err(LassoErrorKind::KeySpaceExhaustion)),
         ("p", Ok(0)),
     ];
-    let mut pass = pass_of(&shared);
-    is_so(
-        &rt,
-        have_numbers(&rt, &shared, &mut pass, &rows),
-        "the numbers",
-    );
+    is_so(&rt, have_numbers(&rt, &shared, &rows), "the numbers");
     Ok(())
 }
 

@@ -52,8 +52,8 @@ fn passes<R: Wait>(rt: &R, shared: &Armed<'_>, gate: &Gate, way: Way) -> LassoRe
     Ok(there)
 }
 
-// Two threads intern texts of two shards. Returns whether one came to the gate, and the other was done while
-// it waited there.
+// Two threads intern a thousand texts of one shard and two of another. Returns whether one came to the gate,
+// the other was done while it waited there, and each text is there once.
 fn meet_at_gate<R: Threads + Wait + Sync>(
     rt: &R,
     shared: &Armed<'_>,
@@ -67,27 +67,41 @@ fn meet_at_gate<R: Threads + Wait + Sync>(
         || passes(rt, shared, gate, way),
     );
     filled?;
-    Ok(there? && gate.is_met())
+    Ok(there? && gate.is_met() && len(shared) == 1002)
 }
 
-// Interns a thousand texts of one shard and a text of another in two threads, by this call. Returns whether
-// neither waited for the other, and each text is there once.
-fn are_apart<R: AllocGlobal + Threads + Wait + Sync>(rt: &R, way: Way) -> Result<bool, Fail> {
-    let texts = four_digits(rt.alloc())?;
-    let gate = Gate::new();
-    let shared = armed(rt.alloc(), &gate)?;
-    let met = meet_at_gate(rt, &shared, &gate, way, &texts)?;
-    Ok(met && len(&shared) == 1002)
+// Two threads intern in a new interner by this call. Returns whether neither waited for the other, and each
+// text is there once.
+fn are_apart<R: AllocGlobal + Threads + Wait + Sync>(
+    rt: &R,
+    gate: &Gate,
+    way: Way,
+    texts: &[&'static str],
+) -> LassoResult<bool> {
+    let shared = armed(rt.alloc(), gate)?;
+    meet_at_gate(rt, &shared, gate, way, texts)
 }
 
 #[test]
 fn writers_of_copies_apart(rt: HostRuntime) -> Result<(), Fail> {
-    is_so(&rt, are_apart(&rt, Way::TryCopied)?, "copied texts");
+    let texts = four_digits(rt.alloc())?;
+    let gate = Gate::new();
+    is_so(
+        &rt,
+        are_apart(&rt, &gate, Way::TryCopied, &texts)?,
+        "copied texts",
+    );
     Ok(())
 }
 
 #[test]
 fn writers_apart(rt: HostRuntime) -> Result<(), Fail> {
-    is_so(&rt, are_apart(&rt, Way::TryStatic)?, "static texts");
+    let texts = four_digits(rt.alloc())?;
+    let gate = Gate::new();
+    is_so(
+        &rt,
+        are_apart(&rt, &gate, Way::TryStatic, &texts)?,
+        "static texts",
+    );
     Ok(())
 }

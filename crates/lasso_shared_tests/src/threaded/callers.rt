@@ -13,6 +13,7 @@ use lasso_shared::laws::{
 };
 use lasso_shared::threaded::ThreadedRodeo;
 use lasso_shared_testing::calls::{Shared, made, pass_of, text_seen_by};
+use std::process::Abort;
 use std::sync::Wait;
 use std::test::*;
 
@@ -140,8 +141,22 @@ fn one_key<R: Wait>(
     have_one_key(rt, shared, one, other, text, word)
 }
 
-// Whether each pass relies on what the other interned.
-fn rely_on_each_other<R: Wait>(
+// Whether each pass finds what the other interned.
+fn find_each_other<R: Wait>(
+    rt: &R,
+    shared: &Shared,
+    one: &mut Pass<Spur>,
+    other: &mut Pass<Spur>,
+) -> LassoResult<bool>
+    requires of { (one.old.of ≡ shared.now) × (other.old.of ≡ shared.now) }
+    ensures of { (one.new.of ≡ shared.now) × (other.new.of ≡ shared.now) }
+{
+    let read = resolves(rt, shared, one, other, "p")?;
+    Ok(number_by_both(rt, shared, other, one, "q")? == Some(1) && read)
+}
+
+// Whether two passes give one text one key, and two texts two.
+fn have_their_keys<R: Wait>(
     rt: &R,
     shared: &Shared,
     one: &mut Pass<Spur>,
@@ -149,23 +164,32 @@ fn rely_on_each_other<R: Wait>(
 ) -> LassoResult<bool>
     requires of { (one.old.of ≡ shared.now) × (other.old.of ≡ shared.now) }
 {
-    let read = resolves(rt, shared, one, other, "p")?;
-    let numbered = number_by_both(rt, shared, other, one, "q")? == Some(1);
     let same = one_key(rt, shared, one, other, "r", "r")?;
-    Ok(read && numbered && same && !one_key(rt, shared, other, one, "r", "s")?)
+    Ok(!one_key(rt, shared, other, one, "r", "s")? && same)
+}
+
+// Makes two passes. Fails unless they rely on each other.
+fn rely_on_each_other<R: Wait + Abort>(rt: &R, shared: &Shared) -> LassoResult<()> {
+    let mut one = pass_of(shared);
+    let mut other = pass_of(shared);
+    numbers_differ(shared, &mut one, &mut other);
+    is_so(
+        rt,
+        find_each_other(rt, shared, &mut one, &mut other)?,
+        "the texts",
+    );
+    is_so(
+        rt,
+        have_their_keys(rt, shared, &mut one, &mut other)?,
+        "the keys",
+    );
+    Ok(())
 }
 
 #[test]
 fn two_passes_rely_on_each_other(rt: HostRuntime) -> Result<(), Fail> {
     let shared = made(rt.alloc())?;
-    let mut one = pass_of(&shared);
-    let mut other = pass_of(&shared);
-    numbers_differ(&shared, &mut one, &mut other);
-    is_so(
-        &rt,
-        rely_on_each_other(&rt, &shared, &mut one, &mut other)?,
-        "the replies",
-    );
+    rely_on_each_other(&rt, &shared)?;
     Ok(())
 }
 
@@ -182,16 +206,16 @@ fn reads_past(
     Ok(same && text_seen_by(shared, pass, 3)? == fourth)
 }
 
+// Interns five texts, three of them distinct. Returns whether the position after the last is empty.
+fn ends_at_three<R: Wait>(rt: &R, shared: &Shared) -> Result<bool, Fail> {
+    let mut pass = pass_of(shared);
+    keeps_each(rt, shared, &mut pass, &["p", "q", "p", "", "q"])?;
+    reads_past(shared, &mut pass, Some(""), None)
+}
+
 #[test]
 fn the_position_after_the_last_text_is_empty(rt: HostRuntime) -> Result<(), Fail> {
     let shared = made(rt.alloc())?;
-    let mut pass = pass_of(&shared);
-    keeps_each(&rt, &shared, &mut pass, &["p", "q", "p", "", "q"])?;
-    // three of the five texts are distinct
-    is_so(
-        &rt,
-        reads_past(&shared, &mut pass, Some(""), None)?,
-        "positions 2 and 3",
-    );
+    is_so(&rt, ends_at_three(&rt, &shared)?, "positions 2 and 3");
     Ok(())
 }

@@ -1,7 +1,7 @@
 //! Copied texts: alone, together with static ones, and in two threads.
 use super::{Form, both_meet};
-use crate::checks::{is_so, runs};
-use lasso_parts::keys::MicroSpur;
+use crate::checks::{is_so, runs, runs_on};
+use lasso_parts::keys::{MicroSpur, Spur};
 use lasso_parts::util::{FixedState, LassoErrorKind, LassoResult};
 use lasso_shared::threaded::ThreadedRodeo;
 use lasso_shared_testing::calls::{
@@ -18,7 +18,6 @@ use std::thread::{Threads, join};
 
 #[test]
 fn usage_grows_by_whole_buckets(rt: HostRuntime) -> Result<(), Fail> {
-    let shared: Shared = with_bytes(rt.alloc(), 4)?;
     // the third text takes the last byte of the first bucket
     let steps = [
         Step::Takes("abc", Ok(0)),
@@ -28,12 +27,11 @@ fn usage_grows_by_whole_buckets(rt: HostRuntime) -> Result<(), Fail> {
         Step::Takes("x", Ok(2)),
         Step::Uses(12),
     ];
-    runs(&rt, &shared, &steps)
+    runs_on::<Spur, FixedState, _>(&rt, with_bytes(rt.alloc(), 4), &steps)
 }
 
 #[test]
 fn a_raised_limit_lets_a_text_in(rt: HostRuntime) -> Result<(), Fail> {
-    let shared: Shared = limited(rt.alloc(), 4, 12)?;
     let steps = [
         Step::Takes("abc", Ok(0)),
         Step::Uses(4),
@@ -50,7 +48,7 @@ fn a_raised_limit_lets_a_text_in(rt: HostRuntime) -> Result<(), Fail> {
         Step::IsLimited(14),
         Step::Counts(4),
     ];
-    runs(&rt, &shared, &steps)
+    runs_on::<Spur, FixedState, _>(&rt, limited(rt.alloc(), 4, 12), &steps)
 }
 
 // Interns the number as a copied text. Returns whether it gets its own value as its number.
@@ -102,7 +100,6 @@ fn the_limit_answers_before_the_key_type(rt: HostRuntime) -> Result<(), Fail> {
 
 #[test]
 fn a_copied_and_a_static_text_have_one_key(rt: HostRuntime) -> Result<(), Fail> {
-    let shared = made(rt.alloc())?;
     let steps = [
         Step::Interns(Way::TryCopied, "p", Ok(0)),
         Step::Interns(Way::TryStatic, "p", Ok(0)),
@@ -114,7 +111,7 @@ fn a_copied_and_a_static_text_have_one_key(rt: HostRuntime) -> Result<(), Fail> 
         Step::Reads(0, Some("p")),
         Step::Reads(2, Some("")),
     ];
-    runs(&rt, &shared, &steps)
+    runs_on(&rt, made(rt.alloc()), &steps)
 }
 
 // The bytes as a text.
@@ -132,15 +129,23 @@ fn lacks_bytes<R: Wait>(rt: &R, shared: &Shared, bytes: &[u8]) -> Result<bool, F
     Ok(found(rt, shared, text_of(bytes)?).is_none())
 }
 
+// Interns bytes as a copied text, and changes them. Fails unless the text stays.
+fn stays<R: Wait + Abort>(rt: &R, shared: &Shared) -> Result<(), Fail> {
+    let mut bytes = [97u8, 98u8];
+    is_so(rt, copies_bytes(rt, shared, &bytes)? == 0, "the number");
+    bytes[0] = 122;
+    is_so(rt, lacks_bytes(rt, shared, &bytes)?, "the changed text");
+    runs(
+        rt,
+        shared,
+        &[Step::Reads(0, Some("ab")), Step::Finds("ab", Some(0))],
+    )
+}
+
 #[test]
 fn a_copy_stays_where_its_source_changes(rt: HostRuntime) -> Result<(), Fail> {
     let shared = made(rt.alloc())?;
-    let mut bytes = [97u8, 98u8];
-    is_so(&rt, copies_bytes(&rt, &shared, &bytes)? == 0, "the number");
-    bytes[0] = 122;
-    runs(&rt, &shared, &[Step::Reads(0, Some("ab"))])?;
-    is_so(&rt, lacks_bytes(&rt, &shared, &bytes)?, "the changed text");
-    runs(&rt, &shared, &[Step::Finds("ab", Some(0))])
+    stays(&rt, &shared)
 }
 
 #[test]

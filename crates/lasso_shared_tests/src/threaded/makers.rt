@@ -1,10 +1,10 @@
 //! What each maker makes: the usage, the limit and the number of cells.
-use super::FIRST;
+use super::{FIRST, fill};
 use crate::checks::{is_so, is_so_at};
 use lasso_parts::keys::{Key, MicroSpur, Spur};
 use lasso_parts::util::{Capacity, FixedState, LassoResult, MemoryLimits};
 use lasso_shared::threaded::ThreadedRodeo;
-use lasso_shared_testing::calls::{Shared, kept, limit, limited, usage};
+use lasso_shared_testing::calls::{Shared, limit, usage};
 use std::alloc::Global;
 use std::sync::Wait;
 use std::test::*;
@@ -206,42 +206,47 @@ fn with(alloc: Global, room: Capacity) -> LassoResult<Shared> {
     ThreadedRodeo::with_capacity(alloc, room)
 }
 
-// Interns static texts. Returns whether the usage and the number of cells are then these.
+// Interns static texts in the new interner. Returns whether the usage and the number of cells are then these.
 fn is_filled<R: Wait>(
     rt: &R,
-    shared: &Shared,
+    made: LassoResult<Shared>,
     texts: &[&'static str],
     wanted: (usize, usize),
 ) -> LassoResult<bool> {
-    for text in texts.iter() {
-        kept(rt, shared, *text)?;
-    }
-    Ok((usage(rt, shared), cells(shared)) == wanted)
+    let shared = made?;
+    fill(rt, &shared, texts)?;
+    Ok((usage(rt, &shared), cells(&shared)) == wanted)
 }
 
 #[test]
 fn capacity_is_room_for_texts(rt: HostRuntime) -> Result<(), Fail> {
-    let shared = with(rt.alloc(), Capacity::for_strings(70))?;
+    let made = with(rt.alloc(), Capacity::for_strings(70));
     is_so(
         &rt,
-        is_filled(&rt, &shared, &FIRST, (4096, 128))?,
+        is_filled(&rt, made, &FIRST, (4096, 128))?,
         "room for 70",
     );
-    let shared = with(rt.alloc(), Capacity::minimal())?;
+    let made = with(rt.alloc(), Capacity::minimal());
     is_so(
         &rt,
-        is_filled(&rt, &shared, &["p"], (1, 32))?,
+        is_filled(&rt, made, &["p"], (1, 32))?,
         "the least room",
     );
     Ok(())
 }
 
+// An interner with a first bucket of 10 bytes, under a limit of 5.
+fn over_limit(alloc: Global) -> LassoResult<Shared> {
+    let (room, limits) = (Capacity::for_bytes(10), MemoryLimits::new(5));
+    ThreadedRodeo::with_capacity_and_memory_limits(alloc, room, limits)
+}
+
 #[test]
 fn no_limit_refuses_a_static_text(rt: HostRuntime) -> Result<(), Fail> {
-    let shared: Shared = limited(rt.alloc(), 10, 5)?;
+    let made = over_limit(rt.alloc());
     is_so(
         &rt,
-        is_filled(&rt, &shared, &["0123456789ab"], (10, 64))?,
+        is_filled(&rt, made, &["0123456789ab"], (10, 64))?,
         "the sums",
     );
     Ok(())

@@ -9,6 +9,7 @@ use lasso_parts::keys::{Key, Spur};
 use lasso_parts::util::{FixedState, LassoResult};
 use lasso_shared::shards::Shards;
 use std::alloc::Global;
+use std::process::Abort;
 use std::sync::Wait;
 use std::test::*;
 
@@ -112,19 +113,24 @@ fn still_intern<R: Wait>(
     Ok(kept(rt, shards, behind, "r")? == 3 && kept(rt, shards, ahead, "p")? == 0)
 }
 
-#[test]
-fn a_pass_that_meets_another_has_seen_its_texts(rt: HostRuntime) -> Result<(), Fail> {
-    let shards = opened(rt.alloc())?;
-    let mut ahead = pass_of(&shards);
-    let mut behind = pass_of(&shards);
-    keep_three(&rt, &shards, &mut behind, &mut ahead)?;
-    is_so(&rt, meet(&shards, &mut behind, &mut ahead), "the texts");
+// Lets two passes meet. Fails unless they read the same texts, and can still intern.
+fn meet_and_intern<R: Wait + Abort>(rt: &R, shards: &SpurShards) -> Result<(), Fail> {
+    let mut ahead = pass_of(shards);
+    let mut behind = pass_of(shards);
+    keep_three(rt, shards, &mut behind, &mut ahead)?;
+    is_so(rt, meet(shards, &mut behind, &mut ahead), "the texts");
     is_so(
-        &rt,
-        still_intern(&rt, &shards, &mut behind, &mut ahead)?,
+        rt,
+        still_intern(rt, shards, &mut behind, &mut ahead)?,
         "the numbers",
     );
     Ok(())
+}
+
+#[test]
+fn a_pass_that_meets_another_has_seen_its_texts(rt: HostRuntime) -> Result<(), Fail> {
+    let shards = opened(rt.alloc())?;
+    meet_and_intern(&rt, &shards)
 }
 
 // Whether each pass reads this text at the position. The contract says that both results are the same.
@@ -172,15 +178,16 @@ fn lend_alike<R: Wait>(
     Ok(first && both_lend(shards, other, one, 0, "q") == (false, false))
 }
 
+// The same of two new passes.
+fn new_passes_lend_alike<R: Wait>(rt: &R, shards: &SpurShards) -> LassoResult<bool> {
+    let mut one = pass_of(shards);
+    let mut other = pass_of(shards);
+    lend_alike(rt, shards, &mut one, &mut other)
+}
+
 #[test]
 fn passes_have_seen_the_same_text_at_a_position(rt: HostRuntime) -> Result<(), Fail> {
     let shards = opened(rt.alloc())?;
-    let mut one = pass_of(&shards);
-    let mut other = pass_of(&shards);
-    is_so(
-        &rt,
-        lend_alike(&rt, &shards, &mut one, &mut other)?,
-        "the texts",
-    );
+    is_so(&rt, new_passes_lend_alike(&rt, &shards)?, "the texts");
     Ok(())
 }

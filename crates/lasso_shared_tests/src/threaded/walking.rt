@@ -8,7 +8,8 @@ use lasso_parts::keys::{Key, Spur};
 use lasso_parts::util::LassoResult;
 use lasso_shared::threaded::{Iter, Strings};
 use lasso_shared_testing::calls::{Shared, copied, kept, kept_as, limited, made, pass_of};
-use lasso_shared_testing::steps::{Step, Way};
+use lasso_shared_testing::steps::Step;
+use std::process::Abort;
 use std::sync::Wait;
 use std::test::*;
 use std::thread::{Threads, join};
@@ -95,9 +96,13 @@ fn give(mut walk: Iter<'_, Spur>, mut strings: Strings<'_, Spur>, texts: &[&str]
     all && are_past(&mut walk, &mut strings)
 }
 
-#[test]
-fn walks_give_the_texts_in_the_order_of_their_keys(rt: HostRuntime) -> Result<(), Fail> {
-    let shared: Shared = limited(rt.alloc(), 4, 12)?;
+// Whether new walks yield exactly these texts.
+fn give_all(shared: &Shared, texts: &[&str]) -> bool {
+    give(walk_of(shared), strings_of(shared), texts)
+}
+
+// Interns four texts. Fails unless new walks yield them.
+fn give_four<R: Wait + Abort>(rt: &R, shared: &Shared) -> Result<(), Fail> {
     let steps = [
         Step::Takes("abc", Ok(0)),
         Step::Takes("defghijk", Ok(1)),
@@ -105,14 +110,19 @@ fn walks_give_the_texts_in_the_order_of_their_keys(rt: HostRuntime) -> Result<()
         Step::Limits(14),
         Step::Takes("yz", Ok(3)),
     ];
-    runs(&rt, &shared, &steps)?;
-    let texts = ["abc", "defghijk", "x", "yz"];
+    runs(rt, shared, &steps)?;
     is_so(
-        &rt,
-        give(walk_of(&shared), strings_of(&shared), &texts),
+        rt,
+        give_all(shared, &["abc", "defghijk", "x", "yz"]),
         "the walks",
     );
     Ok(())
+}
+
+#[test]
+fn walks_give_the_texts_in_the_order_of_their_keys(rt: HostRuntime) -> Result<(), Fail> {
+    let shared = limited(rt.alloc(), 4, 12)?;
+    give_four(&rt, &shared)
 }
 
 // Whether both walks are at their end, and stay there.
@@ -124,6 +134,11 @@ fn are_at_end(walk: &mut Iter<'_, Spur>, strings: &mut Strings<'_, Spur>) -> boo
     all
 }
 
+// Whether both walks have just `q` left.
+fn yield_q(walk: &mut Iter<'_, Spur>, strings: &mut Strings<'_, Spur>) -> bool {
+    have_left(walk, strings, 1) && give_next(walk, strings, 1, "q") && are_at_end(walk, strings)
+}
+
 // Makes two walks over `p` and `q`, and interns another text after their first. Returns whether they yield `p`
 // and `q` alone.
 fn yield_two<R: Wait>(rt: &R, shared: &Shared, pass: &mut Pass<Spur>) -> LassoResult<bool>
@@ -133,9 +148,12 @@ fn yield_two<R: Wait>(rt: &R, shared: &Shared, pass: &mut Pass<Spur>) -> LassoRe
     let mut walk = walk_as(shared, pass);
     let mut strings = strings_as(shared, pass);
     let first = give_next(&mut walk, &mut strings, 0, "p");
-    kept_as(rt, shared, pass, "r")?;
-    let second = have_left(&walk, &strings, 1) && give_next(&mut walk, &mut strings, 1, "q");
-    Ok(first && second && are_at_end(&mut walk, &mut strings))
+    let added = kept_as(rt, shared, pass, "r");
+    let rest = yield_q(&mut walk, &mut strings);
+    match added {
+        Ok(_key) => Ok(first && rest),
+        Err(error) => Err(error),
+    }
 }
 
 // Whether new walks have the later text too.
@@ -147,21 +165,24 @@ fn yield_three(shared: &Shared, pass: &mut Pass<Spur>) -> bool
         && have_left(&walk_of(shared), &strings_of(shared), 3)
 }
 
+// Makes walks before and after a text is interned. Fails unless each yields the texts that were there.
+fn yield_as_made<R: Wait + Abort>(rt: &R, shared: &Shared) -> LassoResult<()> {
+    is_so(rt, kept(rt, shared, "p")? == 0, "the number of p");
+    is_so(rt, copied(rt, shared, "q")? == 1, "the number of q");
+    let mut pass = pass_of(shared);
+    is_so(
+        rt,
+        yield_two(rt, shared, &mut pass)?,
+        "the walks made before",
+    );
+    is_so(rt, yield_three(shared, &mut pass), "the walks made now");
+    Ok(())
+}
+
 #[test]
 fn a_walk_has_the_texts_of_its_making(rt: HostRuntime) -> Result<(), Fail> {
     let shared = made(rt.alloc())?;
-    let steps = [
-        Step::Interns(Way::TryStatic, "p", Ok(0)),
-        Step::Interns(Way::TryCopied, "q", Ok(1)),
-    ];
-    runs(&rt, &shared, &steps)?;
-    let mut pass = pass_of(&shared);
-    is_so(
-        &rt,
-        yield_two(&rt, &shared, &mut pass)?,
-        "the walks made before",
-    );
-    is_so(&rt, yield_three(&shared, &mut pass), "the walks made now");
+    yield_as_made(&rt, &shared)?;
     Ok(())
 }
 
@@ -170,8 +191,12 @@ fn stay_empty<R: Wait>(rt: &R, shared: &Shared) -> LassoResult<bool> {
     let mut walk = walk_of(shared);
     let mut strings = strings_of(shared);
     let none = have_left(&walk, &strings, 0);
-    kept(rt, shared, "p")?;
-    Ok(none && are_at_end(&mut walk, &mut strings))
+    let added = kept(rt, shared, "p");
+    let end = are_at_end(&mut walk, &mut strings);
+    match added {
+        Ok(_number) => Ok(none && end),
+        Err(error) => Err(error),
+    }
 }
 
 #[test]
@@ -232,6 +257,11 @@ fn walks_beside_a_writer<R: Threads + Wait + Sync>(rt: &R, shared: &Shared) -> L
     Ok(walked)
 }
 
+// Whether a new walk yields exactly these texts.
+fn yields_all(shared: &Shared, texts: &[&str]) -> bool {
+    left_of(&strings_of(shared)) == texts.len() && begins(strings_of(shared), texts)
+}
+
 #[test]
 fn a_walk_beside_a_writer_gives_a_beginning_of_the_list(rt: HostRuntime) -> Result<(), Fail> {
     let shared = made(rt.alloc())?;
@@ -240,11 +270,6 @@ fn a_walk_beside_a_writer_gives_a_beginning_of_the_list(rt: HostRuntime) -> Resu
         walks_beside_a_writer(&rt, &shared)? == 1000,
         "the walks beside it",
     );
-    is_so(
-        &rt,
-        begins(strings_of(&shared), &FIRST),
-        "the texts at the end",
-    );
-    is_so(&rt, left_of(&strings_of(&shared)) == 100, "the count");
+    is_so(&rt, yields_all(&shared, &FIRST), "the walk at the end");
     Ok(())
 }

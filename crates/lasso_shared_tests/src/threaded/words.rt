@@ -1,5 +1,5 @@
 //! An interner that threads share, made from static words.
-use crate::checks::{is_so, runs};
+use crate::checks::{is_so, runs_on};
 use lasso_parts::keys::{Key, Spur};
 use lasso_parts::util::{FixedState, LassoErrorKind, LassoResult};
 use lasso_shared::threaded::ThreadedRodeo;
@@ -9,6 +9,7 @@ use lasso_single::resolver::RodeoResolver;
 use lasso_single::rodeo::Rodeo;
 use lasso_testing::keys::BelowTwo;
 use std::alloc::Global;
+use std::process::Abort;
 use std::sync::Wait;
 use std::test::*;
 
@@ -17,13 +18,12 @@ type Resolver = RodeoResolver<Spur, Global>;
 const KEYWORDS: [&str; 3] = ["if", "else", "a word of more bytes than an entry has"];
 
 // An interner made from the keywords.
-fn opened(alloc: Global) -> LassoResult<Shared> {
-    ThreadedRodeo::from_static(alloc, &KEYWORDS)
+fn opened(alloc: Global) -> Result<Shared, Fail> {
+    Ok(ThreadedRodeo::from_static(alloc, &KEYWORDS)?)
 }
 
 #[test]
 fn words_have_the_lowest_keys(rt: HostRuntime) -> Result<(), Fail> {
-    let shared = opened(rt.alloc())?;
     let steps = [
         Step::Counts(3),
         Step::Finds(KEYWORDS[0], Some(0)),
@@ -36,23 +36,22 @@ fn words_have_the_lowest_keys(rt: HostRuntime) -> Result<(), Fail> {
         Step::IsLimited(usize::MAX),
         Step::Interns(Way::TryCopied, "width", Ok(3)),
     ];
-    runs(&rt, &shared, &steps)
+    runs_on(&rt, opened(rt.alloc()), &steps)
 }
 
-fn opened_with_none(alloc: Global) -> LassoResult<Shared> {
-    ThreadedRodeo::from_static(alloc, &[])
+fn opened_with_none(alloc: Global) -> Result<Shared, Fail> {
+    Ok(ThreadedRodeo::from_static(alloc, &[])?)
 }
 
 #[test]
 fn no_words_make_an_empty_interner(rt: HostRuntime) -> Result<(), Fail> {
-    let shared = opened_with_none(rt.alloc())?;
     let steps = [
         Step::Counts(0),
         Step::Uses(4096),
         Step::IsLimited(usize::MAX),
         Step::Interns(Way::TryCopied, "width", Ok(0)),
     ];
-    runs(&rt, &shared, &steps)
+    runs_on(&rt, opened_with_none(rt.alloc()), &steps)
 }
 
 // The keywords and a later text, in the order of their keys.
@@ -64,7 +63,7 @@ const TEXTS: [&str; 4] = [
 ];
 
 // An interner made from the keywords, with the later text.
-fn grown<R: Wait>(rt: &R, alloc: Global) -> LassoResult<Shared> {
+fn grown<R: Wait>(rt: &R, alloc: Global) -> Result<Shared, Fail> {
     let shared = opened(alloc)?;
     shared.try_get_or_intern(rt, TEXTS[3])?;
     Ok(shared)
@@ -95,58 +94,82 @@ fn compares_with<R: Wait>(
     Ok(compares(rt, shared, single.into_reader(), equal) && same)
 }
 
-#[test]
-fn a_later_text_is_compared_with_the_words(rt: HostRuntime) -> Result<(), Fail> {
-    let shared = grown(&rt, rt.alloc())?;
+// Fails unless the interner is equal to the forms of all texts, and to none of the words alone.
+fn compares_with_both<R: AllocGlobal + Wait + Abort>(rt: &R, shared: &Shared) -> LassoResult<()> {
     is_so(
-        &rt,
-        compares_with(&rt, rt.alloc(), &shared, &TEXTS, true)?,
+        rt,
+        compares_with(rt, rt.alloc(), shared, &TEXTS, true)?,
         "all texts",
     );
     is_so(
-        &rt,
-        compares_with(&rt, rt.alloc(), &shared, &KEYWORDS, false)?,
+        rt,
+        compares_with(rt, rt.alloc(), shared, &KEYWORDS, false)?,
         "the words alone",
     );
     Ok(())
 }
 
+#[test]
+fn a_later_text_is_compared_with_the_words(rt: HostRuntime) -> Result<(), Fail> {
+    let shared = grown(&rt, rt.alloc())?;
+    compares_with_both(&rt, &shared)?;
+    Ok(())
+}
+
 // Whether the key with this number and the text stand for each other in the reader.
-fn is_in_reader(reader: &Reader, position: usize, text: &str) -> Result<bool, Fail> {
-    let key = Spur::try_from_usize(position).ok_or("no key")?;
-    Ok(reader.get(text) == Some(key) && reader.try_resolve(key) == Some(text))
+fn is_in_reader(reader: &Reader, position: usize, text: &str) -> bool {
+    match reader.get(text) {
+        Some(key) => key.into_usize() == position && reader.try_resolve(key) == Some(text),
+        None => false,
+    }
 }
 
 // Whether the reader has exactly the texts.
-fn has_texts(reader: &Reader) -> Result<bool, Fail> {
+fn has_texts(reader: &Reader) -> bool {
     let mut all = reader.len() == TEXTS.len();
-    for (position, text) in TEXTS.into_iter().enumerate() {
-        all &= is_in_reader(reader, position, text)?;
+    for position in 0..TEXTS.len() {
+        all &= is_in_reader(reader, position, TEXTS[position]);
     }
-    Ok(all)
+    all
 }
 
 // Whether the resolver has the text under this number.
-fn is_in_resolver(resolver: &Resolver, position: usize, text: &str) -> Result<bool, Fail> {
-    let key = Spur::try_from_usize(position).ok_or("no key")?;
-    Ok(resolver.try_resolve(key) == Some(text))
+fn is_in_resolver(resolver: &Resolver, position: usize, text: &str) -> bool {
+    match Spur::try_from_usize(position) {
+        Some(key) => resolver.try_resolve(key) == Some(text),
+        None => false,
+    }
 }
 
 // Whether the resolver has exactly the texts.
-fn resolves_texts(resolver: &Resolver) -> Result<bool, Fail> {
+fn resolves_texts(resolver: &Resolver) -> bool {
     let mut all = resolver.len() == TEXTS.len();
-    for (position, text) in TEXTS.into_iter().enumerate() {
-        all &= is_in_resolver(resolver, position, text)?;
+    for position in 0..TEXTS.len() {
+        all &= is_in_resolver(resolver, position, TEXTS[position]);
     }
-    Ok(all)
+    all
+}
+
+// Whether the reader of the interner has exactly the texts.
+fn freezes<R: Wait>(rt: &R, shared: Shared) -> Result<bool, Fail> {
+    let reader = shared.into_reader(rt)?;
+    Ok(has_texts(&reader))
+}
+
+// Whether the resolver of the interner has exactly the texts.
+fn freezes_to_resolver<R: Wait>(rt: &R, shared: Shared) -> Result<bool, Fail> {
+    let resolver = shared.into_resolver(rt)?;
+    Ok(resolves_texts(&resolver))
 }
 
 #[test]
 fn a_later_text_is_frozen_with_the_words(rt: HostRuntime) -> Result<(), Fail> {
-    let reader = grown(&rt, rt.alloc())?.into_reader(&rt)?;
-    is_so(&rt, has_texts(&reader)?, "the reader");
-    let resolver = grown(&rt, rt.alloc())?.into_resolver(&rt)?;
-    is_so(&rt, resolves_texts(&resolver)?, "the resolver");
+    is_so(&rt, freezes(&rt, grown(&rt, rt.alloc())?)?, "the reader");
+    is_so(
+        &rt,
+        freezes_to_resolver(&rt, grown(&rt, rt.alloc())?)?,
+        "the resolver",
+    );
     Ok(())
 }
 
