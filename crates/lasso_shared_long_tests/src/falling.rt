@@ -1,13 +1,14 @@
 //! A limit that falls to 0 while another thread interns.
 ghost use Rattle.std.specs.Prelude.{◌≡◌};
 
+use crate::checks::is_so_at;
 use lasso_log::log::Pass;
 use lasso_parts::keys::{Key, Spur};
 use lasso_parts::util::{LassoErrorKind, LassoResult, MemoryLimits};
 use lasso_shared_testing::calls::{
     Reader, Shared, copied_as, len, pass_of, seen_by, usage, with_bytes,
 };
-use std::alloc::{AllocError, Global};
+use lasso_testing::texts::lettered;
 use std::sync::Wait;
 use std::test::*;
 use std::thread::{Threads, join};
@@ -15,32 +16,57 @@ use std::thread::{Threads, join};
 // How many texts the thread has to intern.
 const EACH: u32 = 1000;
 
-// The texts `t0`, `t1` and so on. None is shorter than an earlier one.
-fn numbered(alloc: Global) -> Result<Vec<String>, AllocError> {
-    let mut texts = Vec::new(alloc);
-    for number in 0..EACH {
-        texts.push(format!(in alloc; "t{number}")?)?;
+// What a thread has seen of its texts: how many got their position as their number, before the limit refused
+// the rest.
+#[derive(Clone, Copy)]
+struct Taken {
+    position: usize,
+    taken: usize,
+}
+
+// Interns the next text. `None` if it got another number than its position, came after a refused text, or was
+// refused otherwise than by the limit.
+fn takes_next<R: Wait>(
+    rt: &R,
+    shared: &Shared,
+    pass: &mut Pass<Spur>,
+    text: &str,
+    before: Taken,
+) -> Option<Taken>
+    requires { pass.old.of ≡ shared.now }
+    ensures { pass.new.of ≡ pass.old.of }
+{
+    let Taken { position, taken } = before;
+    let next = position.saturating_add(1);
+    match copied_as(rt, shared, pass, text) {
+        Ok(key) if key.into_usize() == position && taken == position => {
+            Some(Taken {
+                position: next,
+                taken: next,
+            })
+        }
+        Err(error) if error.kind() == LassoErrorKind::MemoryLimitReached => {
+            Some(Taken {
+                position: next,
+                taken,
+            })
+        }
+        _ => None,
     }
-    Ok(texts)
 }
 
 // Interns the texts in order, and returns how many got their position as their number. `None` unless the
 // limit refused all texts after these.
 fn keys_before_refusals<R: Wait>(rt: &R, shared: &Shared, texts: &[String]) -> Option<usize> {
     let mut pass = pass_of(shared);
-    let mut position: usize = 0;
-    let mut taken: usize = 0;
+    let mut seen = Taken {
+        position: 0,
+        taken: 0,
+    };
     for text in texts.iter() {
-        match copied_as(rt, shared, &mut pass, text.as_str()) {
-            Ok(key) if key.into_usize() == position && taken == position => {
-                taken = position.saturating_add(1);
-            }
-            Err(error) if error.kind() == LassoErrorKind::MemoryLimitReached => {}
-            _ => return None,
-        }
-        position = position.saturating_add(1);
+        seen = takes_next(rt, shared, &mut pass, text.as_str(), seen)?;
     }
-    Some(taken)
+    Some(seen.taken)
 }
 
 // Sets the limit to 0, and returns the usage then.
@@ -84,6 +110,26 @@ fn freezes_first<R: Wait>(
     Ok(has_first(&reader, texts, count))
 }
 
+// Interns the texts in one thread, and lets the limit fall in another after `awaited` texts. Returns how many
+// texts got a key, if all replies are right and the usage stays.
+fn taken_before_fall<R: Threads + Wait + Sync>(
+    rt: &R,
+    shared: &Shared,
+    texts: &[String],
+    awaited: usize,
+) -> Option<usize> {
+    let (taken, bytes) = join(
+        rt,
+        || keys_before_refusals(rt, shared, texts),
+        || usage_after_fall(rt, shared, awaited),
+    );
+    if usage(rt, shared) == bytes {
+        taken
+    } else {
+        None
+    }
+}
+
 // Lets the limit fall after `awaited` texts. Returns whether the keys, the count, the usage and the frozen
 // list are right.
 fn falls_after<R: AllocGlobal + Threads + Wait + Sync>(
@@ -92,23 +138,19 @@ fn falls_after<R: AllocGlobal + Threads + Wait + Sync>(
     awaited: usize,
 ) -> Result<bool, Fail> {
     let shared: Shared = with_bytes(rt.alloc(), 16)?;
-    let (taken, bytes) = join(
-        rt,
-        || keys_before_refusals(rt, &shared, texts),
-        || usage_after_fall(rt, &shared, awaited),
-    );
-    let Some(taken) = taken else {
+    let Some(taken) = taken_before_fall(rt, &shared, texts, awaited) else {
         return Ok(false);
     };
-    let alike = len(&shared) == taken && usage(rt, &shared) == bytes;
-    Ok(alike && freezes_first(rt, shared, texts, taken)?)
+    let same = len(&shared) == taken;
+    Ok(freezes_first(rt, shared, texts, taken)? && same)
 }
 
+// None of the texts `t0`, `t1` and so on is shorter than an earlier one.
 #[test]
 fn limit_falls(rt: HostRuntime) -> Result<(), Fail> {
-    let texts = numbered(rt.alloc())?;
+    let texts = lettered(rt.alloc(), "t", EACH)?;
     for awaited in [0usize, 1, 2, 5, 20, 100, 300, 600, 900, 1000] {
-        assert!(rt; falls_after(&rt, &texts, awaited)?, "at {awaited}");
+        is_so_at(&rt, falls_after(&rt, &texts, awaited)?, "at", awaited);
     }
     Ok(())
 }

@@ -1,13 +1,16 @@
 //! Setting and reading limits.
 ghost use Rattle.std.specs.Prelude.{◌≡◌};
 
+use super::lengths::is_refused;
+use crate::checks::{is_so, is_so_at, runs};
 use lasso_log::log::Pass;
 use lasso_parts::keys::{Key, Spur};
-use lasso_parts::util::{LassoErrorKind, LassoResult, MemoryLimits};
+use lasso_parts::util::{LassoResult, MemoryLimits};
 use lasso_shared_testing::calls::{
-    Shared, answered, copied, kept, kept_as, kept_so, len, limit, limited, made, pass_of,
-    set_limit, set_limit_as, stands_for, sums_as, usage,
+    Shared, answered, copied, kept, kept_as, kept_so, limit, limited, made, pass_of, set_limit,
+    set_limit_as, stands_for, sums_as, usage,
 };
+use lasso_shared_testing::steps::Step;
 use lasso_shared_testing::texts::{LENGTHS, lasting, lettered};
 use std::process::Abort;
 use std::sync::Wait;
@@ -22,24 +25,65 @@ fn lift_limit_as<R: Wait>(rt: &R, shared: &Shared, pass: &mut Pass<Spur>)
     shared.set_memory_limits_as(rt, pass, MemoryLimits::default());
 }
 
+// Sets the limit to 14 by one pass, and then to 0. Returns whether another pass reads 14, and the first 0, and
+// both read a usage of 4.
+fn falls_to_0<R: Wait>(
+    rt: &R,
+    shared: &Shared,
+    pass: &mut Pass<Spur>,
+    other: &mut Pass<Spur>,
+) -> bool
+    requires of { (pass.old.of ≡ shared.now) × (other.old.of ≡ shared.now) }
+    ensures of { (pass.new.of ≡ shared.now) × (other.new.of ≡ shared.now) }
+{
+    set_limit_as(rt, shared, pass, 14);
+    let set = sums_as(rt, shared, other) == (14, 4);
+    set_limit(rt, shared, 0);
+    sums_as(rt, shared, pass) == (0, 4) && set
+}
+
+// Interns a static text by one pass, and lifts the limit by the other, twice. Returns whether the other
+// resolves the key.
+fn lifts_limit<R: Wait>(
+    rt: &R,
+    shared: &Shared,
+    pass: &mut Pass<Spur>,
+    other: &mut Pass<Spur>,
+) -> LassoResult<bool>
+    requires of { (pass.old.of ≡ shared.now) × (other.old.of ≡ shared.now) }
+{
+    let key = kept_as(rt, shared, pass, "0123456789")?;
+    lift_limit_as(rt, shared, other);
+    lift_limit_as(rt, shared, other);
+    Ok(stands_for(shared, other, key, "0123456789"))
+}
+
+// Sets limits by two passes. Fails unless each reads what was set last.
+fn read_what_was_set<R: Wait + Abort>(rt: &R, shared: &Shared) -> Result<(), Fail> {
+    let mut pass = pass_of(shared);
+    let mut other = pass_of(shared);
+    is_so(
+        rt,
+        falls_to_0(rt, shared, &mut pass, &mut other),
+        "the limits",
+    );
+    // no limit refuses a static text
+    is_so(
+        rt,
+        lifts_limit(rt, shared, &mut pass, &mut other)?,
+        "the text",
+    );
+    runs(
+        rt,
+        shared,
+        &[Step::IsLimited(usize::MAX), Step::Uses(4), Step::Counts(1)],
+    )
+}
+
 #[test]
 fn a_limit_is_what_was_set_last(rt: HostRuntime) -> Result<(), Fail> {
-    let shared: Shared = limited(rt.alloc(), 4, 12)?;
-    let mut pass = pass_of(&shared);
-    let mut other = pass_of(&shared);
-    set_limit_as(&rt, &shared, &mut pass, 14);
-    assert!(rt; sums_as(&rt, &shared, &mut other) == (14, 4));
-    set_limit(&rt, &shared, 0);
-    assert!(rt; sums_as(&rt, &shared, &mut pass) == (0, 4));
-    // no limit refuses a static text
-    let key = kept_as(&rt, &shared, &mut pass, "0123456789")?;
-    lift_limit_as(&rt, &shared, &mut other);
-    lift_limit_as(&rt, &shared, &mut other);
-    assert!(rt; limit(&rt, &shared) == usize::MAX);
-    assert!(rt; usage(&rt, &shared) == 4);
-    assert!(rt; stands_for(&shared, &mut other, key, "0123456789"));
-    assert!(rt; len(&shared) == 1);
-    Ok(())
+    let shared = limited(rt.alloc(), 4, 12)?;
+    read_what_was_set(&rt, &shared)
 }
 
 // Whether the limit is this one, read by the pass and without one.
@@ -97,30 +141,58 @@ fn keeps_each_limit<R: Wait>(rt: &R, shared: &Shared) -> bool {
 #[test]
 fn limits_of_each_size_are_kept(rt: HostRuntime) -> Result<(), Fail> {
     let shared = made(rt.alloc())?;
-    assert!(rt; keeps_each_limit(&rt, &shared));
+    is_so(&rt, keeps_each_limit(&rt, &shared), "the limits");
     // the last limit is the complement of 0, as `ODD` was shifted to nothing
-    assert!(rt; limit(&rt, &shared) == 18_446_744_073_709_551_615);
-    assert!(rt; usage(&rt, &shared) == 4096);
-    assert!(rt; len(&shared) == 0);
-    Ok(())
+    let last = Step::IsLimited(18_446_744_073_709_551_615);
+    runs(&rt, &shared, &[last, Step::Uses(4096), Step::Counts(0)])
 }
 
-// Interns three static texts, each by another call. Returns whether they get the numbers from `first` on.
-fn keeps_three<R: Wait>(
+// Interns three static texts of `length` bytes, each by another call. Returns whether they get numbers 0 to 2.
+fn keeps_three<R: AllocGlobal + Wait>(
     rt: &R,
     shared: &Shared,
     pass: &mut Pass<Spur>,
-    texts: [&'static str; 3],
-    first: usize,
-) -> LassoResult<bool>
+    length: usize,
+) -> Result<bool, Fail>
     requires { pass.old.of ≡ shared.now }
     ensures { pass.new.of ≡ pass.old.of }
 {
-    let one = kept_as(rt, shared, pass, texts[0])?.into_usize();
-    let two = kept(rt, shared, texts[1])?;
-    let three = kept_so(rt, shared, texts[2])?;
-    let wanted = (first, first.saturating_add(1), first.saturating_add(2));
-    Ok((one, two, three) == wanted)
+    let (a, b) = (
+        lasting(rt.alloc(), "a", length)?,
+        lasting(rt.alloc(), "b", length)?,
+    );
+    let c = lasting(rt.alloc(), "c", length)?;
+    let first = kept_as(rt, shared, pass, a)?.into_usize() == 0;
+    Ok(kept(rt, shared, b)? == 1 && kept_so(rt, shared, c)? == 2 && first)
+}
+
+// Interns a copy of the text of the letter and this length. Returns whether that gives this number.
+fn is_copied<R: AllocGlobal + Wait>(
+    rt: &R,
+    shared: &Shared,
+    letter: &str,
+    length: usize,
+    number: usize,
+) -> Result<bool, Fail> {
+    let text = lettered(rt.alloc(), letter, length)?;
+    Ok(answered(copied(rt, shared, text.as_str())) == Ok(number))
+}
+
+// Whether two copied texts of this length get numbers 3 and 4 and fill the only bucket of `bytes` bytes, which
+// is also the limit.
+fn copies_fill<R: AllocGlobal + Wait>(
+    rt: &R,
+    shared: &Shared,
+    pass: &mut Pass<Spur>,
+    length: usize,
+    bytes: usize,
+) -> Result<bool, Fail>
+    requires { pass.old.of ≡ shared.now }
+{
+    let first = is_copied(rt, shared, "d", length, 3)?;
+    let second = is_copied(rt, shared, "e", length, 4)?;
+    let full = is_refused(rt, shared, "z");
+    Ok(first && second && full && sums_as(rt, shared, pass) == (bytes, bytes))
 }
 
 // Interns three static texts of `length` bytes. The only bucket has room for two. Returns whether two copied
@@ -129,53 +201,58 @@ fn leave_all_bytes<R: AllocGlobal + Wait>(rt: &R, length: usize) -> Result<bool,
     if length == 0 {
         return Ok(false);
     }
-    let alloc = rt.alloc();
     let bytes = length.saturating_mul(2).max(length);
-    let shared: Shared = limited(alloc, bytes, bytes)?;
+    let shared: Shared = limited(rt.alloc(), bytes, bytes)?;
     let mut pass = pass_of(&shared);
-    let texts = [
-        lasting(alloc, "a", length)?,
-        lasting(alloc, "b", length)?,
-        lasting(alloc, "c", length)?,
-    ];
-    let new = keeps_three(rt, &shared, &mut pass, texts, 0)?;
-    let first = answered(copied(rt, &shared, lettered(alloc, "d", length)?.as_str())) == Ok(3);
-    let second = answered(copied(rt, &shared, lettered(alloc, "e", length)?.as_str())) == Ok(4);
-    let full = answered(copied(rt, &shared, "z")) == Err(LassoErrorKind::MemoryLimitReached);
-    Ok(new && first && second && full && sums_as(rt, &shared, &mut pass) == (bytes, bytes))
+    let new = keeps_three(rt, &shared, &mut pass, length)?;
+    Ok(copies_fill(rt, &shared, &mut pass, length, bytes)? && new)
 }
 
 #[test]
 fn a_static_text_takes_no_bytes(rt: HostRuntime) -> Result<(), Fail> {
     for length in LENGTHS {
-        assert!(rt; leave_all_bytes(&rt, length)?, "{length}");
+        is_so_at(&rt, leave_all_bytes(&rt, length)?, "length", length);
     }
     Ok(())
+}
+
+// Interns three static texts of `length` bytes, each by another call. Returns whether the limit stays at
+// `bytes`, and the usage at the one byte of the first bucket.
+fn keep_the_limit<R: AllocGlobal + Wait>(
+    rt: &R,
+    shared: &Shared,
+    pass: &mut Pass<Spur>,
+    length: usize,
+    bytes: usize,
+) -> Result<bool, Fail>
+    requires { pass.old.of ≡ shared.now }
+    ensures { pass.new.of ≡ pass.old.of }
+{
+    kept_as(rt, shared, pass, lasting(rt.alloc(), "a", length)?)?;
+    let first = is_limit(rt, shared, pass, bytes);
+    kept(rt, shared, lasting(rt.alloc(), "b", length)?)?;
+    let second = is_limit(rt, shared, pass, bytes);
+    kept_so(rt, shared, lasting(rt.alloc(), "c", length)?)?;
+    Ok(sums_as(rt, shared, pass) == (bytes, 1) && first && second)
 }
 
 // Interns three static texts of `length` bytes, each by another call, and then a copied one. The first bucket
 // has one byte, and the limit leaves `length` bytes for another. Returns whether the limit stays the same,
 // and whether a copied text of two bytes or more takes that other bucket.
 fn leave_the_limit<R: AllocGlobal + Wait>(rt: &R, length: usize) -> Result<bool, Fail> {
-    let alloc = rt.alloc();
     let bytes = length.saturating_add(1);
-    let shared: Shared = limited(alloc, 1, bytes)?;
+    let shared: Shared = limited(rt.alloc(), 1, bytes)?;
     let mut pass = pass_of(&shared);
-    kept_as(rt, &shared, &mut pass, lasting(alloc, "a", length)?)?;
-    let first = is_limit(rt, &shared, &mut pass, bytes);
-    kept(rt, &shared, lasting(alloc, "b", length)?)?;
-    let second = is_limit(rt, &shared, &mut pass, bytes);
-    kept_so(rt, &shared, lasting(alloc, "c", length)?)?;
-    let third = sums_as(rt, &shared, &mut pass) == (bytes, 1);
-    let copy = answered(copied(rt, &shared, lettered(alloc, "d", length)?.as_str())) == Ok(3);
+    let kept = keep_the_limit(rt, &shared, &mut pass, length, bytes)?;
+    let copy = is_copied(rt, &shared, "d", length, 3)?;
     let taken = if length == 1 { 1 } else { bytes };
-    Ok(first && second && third && copy && sums_as(rt, &shared, &mut pass) == (bytes, taken))
+    Ok(kept && copy && sums_as(rt, &shared, &mut pass) == (bytes, taken))
 }
 
 #[test]
 fn no_static_text_sets_a_limit(rt: HostRuntime) -> Result<(), Fail> {
     for length in LENGTHS {
-        assert!(rt; leave_the_limit(&rt, length)?, "{length}");
+        is_so_at(&rt, leave_the_limit(&rt, length)?, "length", length);
     }
     Ok(())
 }
@@ -190,20 +267,30 @@ fn set_often<R: Wait>(rt: &R, shared: &Shared, last: usize) -> usize {
     sums_as(rt, shared, &mut pass).0
 }
 
+// Whether a thread that set `own` last read its own limit, or one that the other thread set later, the last of
+// them being `other`.
+fn is_own_or_later(read: usize, own: usize, other: usize) -> bool {
+    read == own || read == other || read < 100
+}
+
+// Two threads set limits. Returns whether each reads a limit that was set, and one of them the last.
+fn both_set<R: Threads + Wait + Sync>(rt: &R, shared: &Shared) -> bool {
+    let (a, b) = join(
+        rt,
+        || set_often(rt, shared, 1000),
+        || set_often(rt, shared, 2000),
+    );
+    let last = limit(rt, shared);
+    is_own_or_later(a, 1000, 2000)
+        && is_own_or_later(b, 2000, 1000)
+        && (last == 1000 || last == 2000)
+        && (a == last || b == last)
+}
+
 #[test]
 fn two_threads_set_limits(rt: HostRuntime) -> Result<(), Fail> {
     let shared = made(rt.alloc())?;
-    let (a, b) = join(
-        &rt,
-        || set_often(&rt, &shared, 1000),
-        || set_often(&rt, &shared, 2000),
-    );
-    // each thread reads its own limit, or one that the other thread set later
-    assert!(rt; a == 1000 || a == 2000 || a < 100);
-    assert!(rt; b == 1000 || b == 2000 || b < 100);
-    let last = limit(&rt, &shared);
-    assert!(rt; last == 1000 || last == 2000);
-    assert!(rt; a == last || b == last);
-    assert!(rt; usage(&rt, &shared) == 4096);
+    is_so(&rt, both_set(&rt, &shared), "the limits");
+    is_so(&rt, usage(&rt, &shared) == 4096, "the usage");
     Ok(())
 }

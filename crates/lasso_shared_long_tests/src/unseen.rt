@@ -2,17 +2,17 @@
 //! interns takes only the bytes of its text, and one that raises the limit never lowers it on the way.
 ghost use Rattle.std.specs.Prelude.{◌≡◌};
 
+use crate::checks::{is_so, is_so_at, runs};
 use lasso_log::log::Pass;
 use lasso_parts::keys::{Key, Spur};
-use lasso_parts::util::{LassoErrorKind, LassoResult, MemoryLimits};
+use lasso_parts::util::{LassoErrorKind, LassoResult};
 use lasso_shared_testing::calls::{
-    Shared, allocated, answered, contains, copied, copied_as, copied_so, found, found_as, len,
-    limit, limited, number, pass_of, seen_by, set_limit, stands_for, sums_as, text_at,
-    text_seen_by, usage,
+    Shared, allocated, copied, copied_as, copied_so, found_as, len, limit, limited, number,
+    pass_of, seen_by, set_limit, set_limit_as, sums_as, text_at, text_seen_by, usage,
 };
-use lasso_shared_testing::texts::{LENGTHS, lettered};
+use lasso_shared_testing::steps::{Step, Way, extended, finds, interned};
+use lasso_shared_testing::texts::{LENGTHS, lasting};
 use std::alloc::{AllocError, Global};
-use std::process::Abort;
 use std::sync::Wait;
 use std::test::*;
 use std::thread::{Threads, join};
@@ -23,18 +23,37 @@ const TEXTS: [&str; 16] = [
     "mmmm", "nnnn", "oooo", "pppp",
 ];
 
+// Whether each call without a pass finds this text last, under the number before `count`.
+fn is_last<R: Wait>(rt: &R, shared: &Shared, text: &str, count: usize) -> Result<bool, Fail> {
+    let last = count.saturating_sub(1);
+    Ok(finds(rt, shared, text, Some(last)) && text_at(shared, last)? == Some(text))
+}
+
 // Reads an interner of `count` texts by each call without a pass. Returns whether all replies are right, for
 // an absent text and for the last one, if any.
 fn reads_plainly<R: Wait>(rt: &R, shared: &Shared, count: usize) -> Result<bool, Fail> {
-    let absent = !contains(rt, shared, "absent") && found(rt, shared, "absent").is_none();
+    let absent = finds(rt, shared, "absent", None) && text_at(shared, count)?.is_none();
     let sums = len(shared) == count && usage(rt, shared) == 64 && limit(rt, shared) == 64;
-    let past = text_at(shared, count)?.is_none();
     if count == 0 || count > TEXTS.len() {
-        return Ok(absent && sums && past);
+        return Ok(absent && sums);
     }
-    let last = TEXTS[count - 1];
-    let present = contains(rt, shared, last) && found(rt, shared, last) == Some(count - 1);
-    Ok(absent && sums && past && present && text_at(shared, count - 1)? == Some(last))
+    Ok(is_last(rt, shared, TEXTS[count - 1], count)? && absent && sums)
+}
+
+// Whether the pass finds this text last, under the number before `count`.
+fn is_last_as<R: Wait>(
+    rt: &R,
+    shared: &Shared,
+    pass: &mut Pass<Spur>,
+    text: &str,
+    count: usize,
+) -> Result<bool, Fail>
+    requires { pass.old.of ≡ shared.now }
+    ensures { pass.new.of ≡ pass.old.of }
+{
+    let last = count.saturating_sub(1);
+    let present = found_as(rt, shared, pass, text) == Some(last);
+    Ok(text_seen_by(shared, pass, last)? == Some(text) && present)
 }
 
 // The same by the pass.
@@ -53,39 +72,43 @@ fn reads_as<R: Wait>(
     if count == 0 || count > TEXTS.len() {
         return Ok(absent && sums && past);
     }
-    let last = TEXTS[count - 1];
-    let present = found_as(rt, shared, pass, last) == Some(count - 1);
-    let text = text_seen_by(shared, pass, count - 1)?;
-    Ok(absent && sums && past && present && text == Some(last))
+    Ok(is_last_as(rt, shared, pass, TEXTS[count - 1], count)? && absent && sums && past)
+}
+
+// Reads an interner of `count` texts by each call. Returns whether all replies are right.
+fn reads_all<R: Wait>(
+    rt: &R,
+    shared: &Shared,
+    pass: &mut Pass<Spur>,
+    count: usize,
+) -> Result<bool, Fail>
+    requires { pass.old.of ≡ shared.now }
+    ensures { pass.new.of ≡ pass.old.of }
+{
+    Ok(reads_plainly(rt, shared, count)? && reads_as(rt, shared, pass, count)?)
 }
 
 // Interns the texts, and reads in each way before each and at the end. Returns whether all replies are right.
 fn fills_between_readings<R: Wait>(rt: &R, shared: &Shared) -> Result<bool, Fail> {
     let mut pass = pass_of(shared);
     for position in 0..TEXTS.len() {
-        if !reads_plainly(rt, shared, position)? || !reads_as(rt, shared, &mut pass, position)? {
+        if !reads_all(rt, shared, &mut pass, position)? {
             return Ok(false);
         }
         if number(rt, shared, TEXTS[position]) != Ok(position) {
             return Ok(false);
         }
     }
-    Ok(reads_plainly(rt, shared, TEXTS.len())? && reads_as(rt, shared, &mut pass, TEXTS.len())?)
+    reads_all(rt, shared, &mut pass, TEXTS.len())
 }
 
 #[test]
 fn look_ups_take_no_byte(rt: HostRuntime) -> Result<(), Fail> {
     let shared: Shared = limited(rt.alloc(), 64, 64)?;
-    assert!(rt; fills_between_readings(&rt, &shared)?);
+    is_so(&rt, fills_between_readings(&rt, &shared)?, "the readings");
     // no byte is left
-    assert!(rt; number(&rt, &shared, "z") == Err(LassoErrorKind::MemoryLimitReached));
-    assert!(rt; len(&shared) == 16);
-    Ok(())
-}
-
-// Interns the text by `extend`.
-fn extend_by_one<R: Wait>(rt: &R, shared: &Shared, text: &str) -> LassoResult<()> {
-    shared.extend(rt, [text])
+    let full = Step::Takes("z", Err(LassoErrorKind::MemoryLimitReached));
+    runs(&rt, &shared, &[full, Step::Counts(16)])
 }
 
 // Interns the text by each of four calls. Returns whether the three that return a key return this number.
@@ -101,8 +124,62 @@ fn interns_in_each_way<R: Wait>(
 {
     let by_pass = copied_as(rt, shared, pass, text)?.into_usize() == wanted;
     let plainly = copied(rt, shared, text)? == wanted;
-    extend_by_one(rt, shared, text)?;
+    extended(rt, shared, text)?;
     Ok(by_pass && plainly && copied_so(rt, shared, text)? == wanted)
+}
+
+// Interns the text by the call, and then in each way. Returns whether all give this number.
+fn first_by<R: Wait>(
+    rt: &R,
+    shared: &Shared,
+    pass: &mut Pass<Spur>,
+    way: Way,
+    text: &'static str,
+    wanted: usize,
+) -> LassoResult<bool>
+    requires { pass.old.of ≡ shared.now }
+    ensures { pass.new.of ≡ pass.old.of }
+{
+    let first = interned(rt, shared, way, text)? == wanted;
+    Ok(interns_in_each_way(rt, shared, pass, text, wanted)? && first)
+}
+
+// The same with `try_get_or_intern_as` by this pass first.
+fn first_by_pass<R: Wait>(
+    rt: &R,
+    shared: &Shared,
+    pass: &mut Pass<Spur>,
+    text: &str,
+    wanted: usize,
+) -> LassoResult<bool>
+    requires { pass.old.of ≡ shared.now }
+    ensures { pass.new.of ≡ pass.old.of }
+{
+    let first = copied_as(rt, shared, pass, text)?.into_usize() == wanted;
+    Ok(interns_in_each_way(rt, shared, pass, text, wanted)? && first)
+}
+
+// Interns four texts of `length` bytes, each first by another call and then by all, and sets the limit to
+// `bytes` before the last. Returns whether all replies are right.
+fn take_in_each_way<R: AllocGlobal + Wait>(
+    rt: &R,
+    shared: &Shared,
+    pass: &mut Pass<Spur>,
+    length: usize,
+    bytes: usize,
+) -> Result<bool, Fail>
+    requires { pass.old.of ≡ shared.now }
+    ensures { pass.new.of ≡ pass.old.of }
+{
+    let alloc = rt.alloc();
+    let (a, b) = (lasting(alloc, "a", length)?, lasting(alloc, "b", length)?);
+    let (c, d) = (lasting(alloc, "c", length)?, lasting(alloc, "d", length)?);
+    let mut all = first_by(rt, shared, pass, Way::TryCopied, a, 0)?;
+    all &= first_by(rt, shared, pass, Way::Copied, b, 1)?;
+    all &= first_by(rt, shared, pass, Way::Item, c, 2)?;
+    set_limit(rt, shared, bytes);
+    all &= allocated(rt, shared) > bytes;
+    Ok(first_by_pass(rt, shared, pass, d, 3)? && all)
 }
 
 // Interns four texts of `length` bytes, each first by another call and then by all. The only bucket has
@@ -111,22 +188,10 @@ fn take_their_bytes_alone<R: AllocGlobal + Wait>(rt: &R, length: usize) -> Resul
     if length == 0 {
         return Ok(false);
     }
-    let alloc = rt.alloc();
     let bytes = length.saturating_mul(4).max(length);
-    let shared: Shared = limited(alloc, bytes, bytes)?;
+    let shared: Shared = limited(rt.alloc(), bytes, bytes)?;
     let mut pass = pass_of(&shared);
-    let (a, b) = (lettered(alloc, "a", length)?, lettered(alloc, "b", length)?);
-    let (c, d) = (lettered(alloc, "c", length)?, lettered(alloc, "d", length)?);
-    let mut all = copied(rt, &shared, a.as_str())? == 0;
-    all &= interns_in_each_way(rt, &shared, &mut pass, a.as_str(), 0)?;
-    all &= copied_so(rt, &shared, b.as_str())? == 1;
-    all &= interns_in_each_way(rt, &shared, &mut pass, b.as_str(), 1)?;
-    extend_by_one(rt, &shared, c.as_str())?;
-    all &= interns_in_each_way(rt, &shared, &mut pass, c.as_str(), 2)?;
-    set_limit(rt, &shared, bytes);
-    all &= allocated(rt, &shared) > bytes;
-    all &= copied_as(rt, &shared, &mut pass, d.as_str())?.into_usize() == 3;
-    all &= interns_in_each_way(rt, &shared, &mut pass, d.as_str(), 3)?;
+    let all = take_in_each_way(rt, &shared, &mut pass, length, bytes)?;
     let full = number(rt, &shared, "z") == Err(LassoErrorKind::MemoryLimitReached);
     Ok(all && full && sums_as(rt, &shared, &mut pass) == (bytes, bytes))
 }
@@ -134,7 +199,7 @@ fn take_their_bytes_alone<R: AllocGlobal + Wait>(rt: &R, length: usize) -> Resul
 #[test]
 fn an_intern_takes_the_bytes_of_its_text_alone(rt: HostRuntime) -> Result<(), Fail> {
     for length in LENGTHS {
-        assert!(rt; take_their_bytes_alone(&rt, length)?, "{length}");
+        is_so_at(&rt, take_their_bytes_alone(&rt, length)?, "length", length);
     }
     Ok(())
 }
@@ -170,6 +235,18 @@ fn await_raise<R: Wait>(rt: &R, shared: &Shared, pass: &mut Pass<Spur>)
     }
 }
 
+// Interns the text by the pass. Returns whether the limit refuses it. `None` if it is refused otherwise.
+fn is_refused<R: Wait>(rt: &R, shared: &Shared, pass: &mut Pass<Spur>, text: &str) -> Option<bool>
+    requires { pass.old.of ≡ shared.now }
+    ensures { pass.new.of ≡ pass.old.of }
+{
+    match copied_as(rt, shared, pass, text) {
+        Ok(_key) => Some(false),
+        Err(error) if error.kind() == LassoErrorKind::MemoryLimitReached => Some(true),
+        Err(_) => None,
+    }
+}
+
 // Waits until the limit is raised, interns the texts, and returns how many the limit refused. `None` if one
 // failed otherwise.
 fn refused_of<R: Wait>(rt: &R, shared: &Shared, texts: &[String]) -> Option<usize> {
@@ -177,12 +254,8 @@ fn refused_of<R: Wait>(rt: &R, shared: &Shared, texts: &[String]) -> Option<usiz
     await_raise(rt, shared, &mut pass);
     let mut refused: usize = 0;
     for text in texts.iter() {
-        match copied_as(rt, shared, &mut pass, text.as_str()) {
-            Ok(_key) => {}
-            Err(error) if error.kind() == LassoErrorKind::MemoryLimitReached => {
-                refused = refused.saturating_add(1);
-            }
-            Err(_) => return None,
+        if is_refused(rt, shared, &mut pass, text.as_str())? {
+            refused = refused.saturating_add(1);
         }
     }
     Some(refused)
@@ -196,7 +269,7 @@ fn raise<R: Wait>(rt: &R, shared: &Shared, pass: &mut Pass<Spur>, bytes: usize, 
     if plainly {
         set_limit(rt, shared, bytes);
     } else {
-        shared.set_memory_limits_as(rt, pass, MemoryLimits::new(bytes));
+        set_limit_as(rt, shared, pass, bytes);
     }
 }
 
@@ -207,15 +280,27 @@ fn raised<R: Wait>(rt: &R, shared: &Shared, plainly: bool) -> usize {
         if seen_by(shared, &mut pass) >= EACH as usize {
             return raised;
         }
-        raise(
-            rt,
-            shared,
-            &mut pass,
-            NEEDED.saturating_add(raised),
-            plainly,
-        );
+        let bytes = NEEDED.saturating_add(raised);
+        raise(rt, shared, &mut pass, bytes, plainly);
     }
     TURNS
+}
+
+// Interns the texts in one thread, and raises the limit in another. Returns whether none is refused, and the
+// limit is what was set last.
+fn rises_beside<R: Threads + Wait + Sync>(
+    rt: &R,
+    shared: &Shared,
+    texts: &[String],
+    plainly: bool,
+) -> bool {
+    let (refused, raised) = join(
+        rt,
+        || refused_of(rt, shared, texts),
+        || raised(rt, shared, plainly),
+    );
+    let last = NEEDED.saturating_add(raised.saturating_sub(1));
+    refused == Some(0) && limit(rt, shared) == last
 }
 
 // Whether no text is refused while the limit rises. It begins at what all texts need.
@@ -225,25 +310,16 @@ fn refuses_nothing<R: AllocGlobal + Threads + Wait + Sync>(
     plainly: bool,
 ) -> Result<bool, Fail> {
     let shared: Shared = limited(rt.alloc(), 1, NEEDED)?;
-    let (refused, raised) = join(
-        rt,
-        || refused_of(rt, &shared, texts),
-        || raised(rt, &shared, plainly),
-    );
-    let all = len(&shared) == EACH as usize && usage(rt, &shared) == NEEDED;
-    let last = limit(rt, &shared) == NEEDED.saturating_add(raised.saturating_sub(1));
-    Ok(refused == Some(0) && all && last)
+    let none = rises_beside(rt, &shared, texts, plainly);
+    Ok(none && len(&shared) == EACH as usize && usage(rt, &shared) == NEEDED)
 }
 
 #[test]
 fn a_limit_that_rises_refuses_nothing(rt: HostRuntime) -> Result<(), Fail> {
     let texts = eights(rt.alloc())?;
-    for round in 0..20u32 {
-        let plainly = round % 2 == 1;
-        assert!(rt;
-            refuses_nothing(&rt, &texts, plainly)?,
-            "without a pass: {plainly}"
-        );
+    for _ in 0..10u32 {
+        is_so(&rt, refuses_nothing(&rt, &texts, false)?, "with a pass");
+        is_so(&rt, refuses_nothing(&rt, &texts, true)?, "without a pass");
     }
     Ok(())
 }

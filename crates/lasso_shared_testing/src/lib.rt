@@ -1,6 +1,8 @@
-//! What the tests of the interner that threads share have in common: its calls, each in a function of its own,
-//! and lists of texts.
+//! What the tests of the interner that threads share have in common: its calls, each in a function of its own
+//! or as a row, a thread that sets limits, and lists of texts.
 #![tactic(auto)]
 
 pub mod calls;
+pub mod limits;
+pub mod steps;
 pub mod texts;

@@ -6,6 +6,7 @@ mod armed;
 mod copied;
 mod writers;
 
+use crate::checks::{is_so, runs};
 use lasso_log::log::Opened;
 use lasso_parts::index::hash_text;
 use lasso_parts::keys::{Key, MicroSpur, Spur};
@@ -13,7 +14,8 @@ use lasso_parts::util::{FixedState, LassoErrorKind, LassoResult};
 use lasso_shared::shards::Shards;
 use lasso_shared::shards::tag::number_of;
 use lasso_shared::threaded::ThreadedRodeo;
-use lasso_shared_testing::calls::{answered, found, hashed, kept, len};
+use lasso_shared_testing::calls::{answered, found, hashed, kept};
+use lasso_shared_testing::steps::Step;
 use lasso_single::reader::RodeoReader;
 use lasso_testing::hashers::{FirstState, SameState};
 use std::alloc::Global;
@@ -123,13 +125,21 @@ fn shard_of(hasher: &FirstState, text: &str) -> usize {
     number_of(hash_text(hasher, text))
 }
 
+// Whether `0` and `a` are texts of shards 3 and 6.
+fn are_of_two_shards() -> bool {
+    let hasher = FirstState::new();
+    shard_of(&hasher, "0") == 3 && shard_of(&hasher, "a") == 6
+}
+
 #[test]
 fn shards_apart(rt: HostRuntime) -> Result<(), Fail> {
-    let hasher = FirstState::new();
-    assert!(rt; shard_of(&hasher, "0") == 3);
-    assert!(rt; shard_of(&hasher, "a") == 6);
-    let shards = opened(rt.alloc(), hasher)?;
-    assert!(rt; is_set_beside_a_writer(&rt, &shards, 3, "a"));
+    is_so(&rt, are_of_two_shards(), "the shards");
+    let shards = opened(rt.alloc(), FirstState::new())?;
+    is_so(
+        &rt,
+        is_set_beside_a_writer(&rt, &shards, 3, "a"),
+        "the flag",
+    );
     Ok(())
 }
 
@@ -169,12 +179,30 @@ fn is_set_beside_a_reader<S: BuildHasher + Drop, R: Threads + Wait + Sync>(
     seen
 }
 
+// Interns `0`. Fails unless it is found and interned while its shard is locked for reading.
+fn finds_beside_a_reader<R: Threads + Wait + Sync + Abort>(
+    rt: &R,
+    shards: &Shards<Spur, FirstState>,
+) -> Result<(), Fail> {
+    intern_static(rt, shards, "0")?;
+    is_so(rt, is_set_beside_a_reader(rt, shards, 3, "0"), "the flag");
+    Ok(())
+}
+
 #[test]
 fn a_text_that_is_there_is_found_beside_readers(rt: HostRuntime) -> Result<(), Fail> {
     let shards = opened(rt.alloc(), FirstState::new())?;
-    intern_static(&rt, &shards, "0")?;
-    assert!(rt; is_set_beside_a_reader(&rt, &shards, 3, "0"));
-    Ok(())
+    finds_beside_a_reader(&rt, &shards)
+}
+
+// Interns the static text. Returns whether it gets this number.
+fn is_kept<S: BuildHasher + Drop, R: Wait>(
+    rt: &R,
+    shared: &ThreadedRodeo<Spur, S>,
+    text: &'static str,
+    number: usize,
+) -> LassoResult<bool> {
+    Ok(kept(rt, shared, text)? == number)
 }
 
 // Interns the texts. Returns whether each gets its position as its number, and is found there.
@@ -182,19 +210,30 @@ fn in_order<S: BuildHasher + Drop, R: Wait>(
     rt: &R,
     shared: &ThreadedRodeo<Spur, S>,
     texts: &[&'static str],
-) -> bool {
+) -> LassoResult<bool> {
     for position in 0..texts.len() {
-        match kept(rt, shared, texts[position]) {
-            Ok(number) if number == position => {}
-            _ => return false,
+        if !is_kept(rt, shared, texts[position], position)? {
+            return Ok(false);
         }
     }
     for position in 0..texts.len() {
         if found(rt, shared, texts[position]) != Some(position) {
-            return false;
+            return Ok(false);
         }
     }
-    true
+    Ok(true)
+}
+
+// Whether the reader has the text under this number.
+fn is_read<S: BuildHasher + Drop>(
+    reader: &RodeoReader<Spur, S, Global>,
+    text: &str,
+    number: usize,
+) -> bool {
+    match reader.get(text) {
+        Some(key) => key.into_usize() == number,
+        None => false,
+    }
 }
 
 // Whether the reader has exactly these texts, each at its position, and lacks the other.
@@ -204,9 +243,8 @@ fn has_just<S: BuildHasher + Drop>(
     other: &str,
 ) -> bool {
     for position in 0..texts.len() {
-        match reader.get(texts[position]) {
-            Some(key) if key.into_usize() == position => {}
-            _ => return false,
+        if !is_read(reader, texts[position], position) {
+            return false;
         }
     }
     reader.len() == texts.len() && reader.get(other).is_none()
@@ -219,25 +257,31 @@ fn frozen<S: BuildHasher + Drop, R: Wait>(
     shared.into_reader(rt)
 }
 
+// Interns the texts. Fails unless each gets its position as its number, and is found there, and the other text
+// is absent.
+fn takes_texts<S: BuildHasher + Drop, R: Wait + Abort>(
+    rt: &R,
+    shared: &ThreadedRodeo<Spur, S>,
+    other: &'static str,
+) -> Result<(), Fail> {
+    is_so(rt, in_order(rt, shared, &TEXTS)?, "the numbers");
+    runs(rt, shared, &[Step::Finds(other, None), Step::Counts(300)])
+}
+
 #[test]
 fn constant_hash(rt: HostRuntime) -> Result<(), Fail> {
     let shared: ThreadedRodeo<Spur, SameState> = hashed(rt.alloc())?;
-    assert!(rt; in_order(&rt, &shared, &TEXTS));
-    assert!(rt; found(&rt, &shared, "300") == None);
-    assert!(rt; len(&shared) == 300);
+    takes_texts(&rt, &shared, "300")?;
     let reader = frozen(&rt, shared)?;
-    assert!(rt; has_just(&reader, &TEXTS, "300"));
+    is_so(&rt, has_just(&reader, &TEXTS, "300"), "the reader");
     Ok(())
 }
 
 #[test]
 fn texts_of_one_shard_and_of_others(rt: HostRuntime) -> Result<(), Fail> {
     let shared: ThreadedRodeo<Spur, FirstState> = hashed(rt.alloc())?;
-    assert!(rt; in_order(&rt, &shared, &TEXTS));
-    assert!(rt; in_order(&rt, &shared, &TEXTS));
-    assert!(rt; found(&rt, &shared, "a") == None);
-    assert!(rt; len(&shared) == 300);
-    Ok(())
+    takes_texts(&rt, &shared, "a")?;
+    takes_texts(&rt, &shared, "a")
 }
 
 // How many slots the spine keeps for texts to come.
@@ -262,29 +306,45 @@ fn number<K: Key, R: Wait>(
     }
 }
 
-// Interns the first `count` texts. Returns whether each gets its position as its number.
-fn takes_first<K: Key, R: Wait>(rt: &R, shards: &Shards<K, FixedState>, count: usize) -> bool {
-    let mut position: usize = 0;
-    for text in TEXTS.iter().take(count) {
-        if number(rt, shards, *text) != Ok(position) {
+// Interns the texts. Returns whether each gets its position as its number.
+fn takes_all<K: Key, R: Wait>(
+    rt: &R,
+    shards: &Shards<K, FixedState>,
+    texts: &[&'static str],
+) -> bool {
+    for position in 0..texts.len() {
+        if number(rt, shards, texts[position]) != Ok(position) {
             return false;
         }
-        position = position.saturating_add(1);
     }
-    position == count
+    true
+}
+
+// Interns the text. Returns whether no slot is then kept, and its number is this one, or it is refused so.
+fn answers<K: Key, R: Wait>(
+    rt: &R,
+    shards: &Shards<K, FixedState>,
+    text: &'static str,
+    wanted: Result<usize, LassoErrorKind>,
+) -> bool {
+    number(rt, shards, text) == wanted && kept_slots(rt, shards) == 0
+}
+
+// Uses all 255 keys up. Fails unless no refused text keeps a slot.
+fn gives_slots_back<R: Wait + Abort>(rt: &R, shards: &Shards<MicroSpur, FixedState>) {
+    let no_key = Err(LassoErrorKind::KeySpaceExhaustion);
+    is_so(rt, takes_all(rt, shards, &TEXTS[..255]), "255 texts");
+    is_so(rt, kept_slots(rt, shards) == 0, "the slots");
+    // no key is left for another text, nor for the empty one
+    is_so(rt, answers(rt, shards, "255", no_key), "another text");
+    is_so(rt, answers(rt, shards, "", no_key), "the empty text");
+    // present texts keep theirs
+    is_so(rt, number(rt, shards, "000") == Ok(0), "a present text");
 }
 
 #[test]
 fn a_refused_text_gives_its_slot_back(rt: HostRuntime) -> Result<(), Fail> {
-    let shards: Shards<MicroSpur, FixedState> = opened(rt.alloc(), FixedState::new())?;
-    assert!(rt; takes_first(&rt, &shards, 255));
-    assert!(rt; kept_slots(&rt, &shards) == 0);
-    // no key is left for another text, nor for the empty one
-    for text in ["255", ""] {
-        assert!(rt; number(&rt, &shards, text) == Err(LassoErrorKind::KeySpaceExhaustion));
-        assert!(rt; kept_slots(&rt, &shards) == 0);
-    }
-    // present texts keep theirs
-    assert!(rt; number(&rt, &shards, "000") == Ok(0));
+    let shards = opened(rt.alloc(), FixedState::new())?;
+    gives_slots_back(&rt, &shards);
     Ok(())
 }

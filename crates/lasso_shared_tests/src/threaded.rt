@@ -10,12 +10,13 @@ mod passes;
 mod walking;
 mod words;
 
+use crate::checks::is_so;
 use lasso_log::log::Pass;
 use lasso_parts::keys::{Key, Spur};
 use lasso_parts::util::{FixedState, LassoErrorKind, LassoResult};
 use lasso_shared::threaded::ThreadedRodeo;
 use lasso_shared_testing::calls::{
-    Shared, hashed, kept_as, len_as, made, pass_of, seen_by, stands_for, text_at_as,
+    Shared, copied_as, hashed, kept_as, len_as, made, pass_of, seen_by, stands_for, text_at_as,
 };
 use lasso_testing::keys::BelowTwo;
 use std::process::Abort;
@@ -45,16 +46,37 @@ const SECOND: [&str; 100] = [
     "b91", "b92", "b93", "b94", "b95", "b96", "b97", "b98", "b99",
 ];
 
-// Interns the texts. Returns whether none was refused.
-fn fill<R: Wait>(rt: &R, shared: &Shared, texts: &[&'static str]) -> bool {
-    let mut pass = pass_of(shared);
-    let mut all = true;
+// Interns the static texts by the pass.
+fn keeps_each<R: Wait>(
+    rt: &R,
+    shared: &Shared,
+    pass: &mut Pass<Spur>,
+    texts: &[&'static str],
+) -> LassoResult<()>
+    requires { pass.old.of ≡ shared.now }
+    ensures { pass.new.of ≡ pass.old.of }
+{
     for text in texts.iter() {
-        if kept_as(rt, shared, &mut pass, *text).is_err() {
-            all = false;
-        }
+        kept_as(rt, shared, pass, *text)?;
     }
-    all
+    Ok(())
+}
+
+// Interns the static texts by a new pass.
+fn fill<R: Wait>(rt: &R, shared: &Shared, texts: &[&'static str]) -> LassoResult<()> {
+    let mut pass = pass_of(shared);
+    keeps_each(rt, shared, &mut pass, texts)
+}
+
+// Two threads intern a list each.
+fn both_fill<R: Threads + Wait + Sync>(rt: &R, shared: &Shared) -> LassoResult<()> {
+    let (one, other) = join(
+        rt,
+        || fill(rt, shared, &FIRST),
+        || fill(rt, shared, &SECOND),
+    );
+    one?;
+    other
 }
 
 // Interns the text. Returns its number, or why it was refused.
@@ -73,37 +95,68 @@ fn number<K: Key, R: Wait>(
     }
 }
 
+// Whether the key with this number stands for the text by the pass.
+fn is_at(shared: &Shared, pass: &mut Pass<Spur>, number: usize, text: &str) -> bool
+    requires { pass.old.of ≡ shared.now }
+    ensures { pass.new.of ≡ pass.old.of }
+{
+    match Spur::try_from_usize(number) {
+        Some(key) => stands_for(shared, pass, key, text),
+        None => false,
+    }
+}
+
 // How many of the texts, from the first on, are in this order at positions below 200, with or without other
 // texts in between.
 fn in_order(shared: &Shared, texts: &[&str]) -> usize {
     let mut pass = pass_of(shared);
     let mut found: usize = 0;
     for position in 0..200usize {
-        if let Some(key) = Spur::try_from_usize(position)
-            && found < texts.len()
-            && stands_for(shared, &mut pass, key, texts[found])
-        {
+        if found < texts.len() && is_at(shared, &mut pass, position, texts[found]) {
             found += 1;
         }
     }
     found
 }
 
+// Whether no key with this number stands for a text.
+fn is_free(shared: &Shared, number: usize) -> Result<bool, Fail> {
+    Ok(text_at_as(shared, number)?.is_none())
+}
+
+// Interns 100 texts of each thread. Fails unless each is present once, in its thread's order, at 200 positions.
+fn append_both<R: Threads + Wait + Sync + Abort>(rt: &R, shared: &Shared) -> Result<(), Fail> {
+    both_fill(rt, shared)?;
+    is_so(rt, len_as(shared) == 200, "the count");
+    is_so(rt, in_order(shared, &FIRST) == 100, "the first list");
+    is_so(rt, in_order(shared, &SECOND) == 100, "the second list");
+    is_so(rt, is_free(shared, 200)?, "the position after the last");
+    Ok(())
+}
+
 #[test]
 fn two_threads_append(rt: HostRuntime) -> Result<(), Fail> {
     let shared = made(rt.alloc())?;
-    let (a, b) = join(
-        &rt,
-        || fill(&rt, &shared, &FIRST),
-        || fill(&rt, &shared, &SECOND),
-    );
-    assert!(rt; a && b);
-    assert!(rt; len_as(&shared) == 200);
-    // 100 texts of each thread at 200 positions: each is present once, in its thread's order
-    assert!(rt; in_order(&shared, &FIRST) == 100);
-    assert!(rt; in_order(&shared, &SECOND) == 100);
-    assert!(rt; text_at_as(&shared, 200)? == None);
-    Ok(())
+    append_both(&rt, &shared)
+}
+
+// Interns the text, again if its first call runs out of memory and left the list as it was. Returns whether
+// the text got this number.
+fn takes_next<R: Wait>(
+    rt: &R,
+    shared: &Shared,
+    pass: &mut Pass<Spur>,
+    text: &'static str,
+    position: usize,
+) -> bool
+    requires { pass.old.of ≡ shared.now }
+    ensures { pass.new.of ≡ pass.old.of }
+{
+    let found = number(rt, shared, pass, text);
+    if found != Err(LassoErrorKind::FailedAllocation) {
+        return found == Ok(position);
+    }
+    seen_by(shared, pass) == position && number(rt, shared, pass, text) == Ok(position)
 }
 
 // Interns the texts, and again each whose first call runs out of memory. Returns whether such a call left the
@@ -111,14 +164,7 @@ fn two_threads_append(rt: HostRuntime) -> Result<(), Fail> {
 fn takes_all<R: Wait>(rt: &R, shared: &Shared, texts: &[&'static str]) -> bool {
     let mut pass = pass_of(shared);
     for position in 0..texts.len() {
-        let mut found = number(rt, shared, &mut pass, texts[position]);
-        if found == Err(LassoErrorKind::FailedAllocation) {
-            if seen_by(shared, &mut pass) != position {
-                return false;
-            }
-            found = number(rt, shared, &mut pass, texts[position]);
-        }
-        if found != Ok(position) {
+        if !takes_next(rt, shared, &mut pass, texts[position], position) {
             return false;
         }
     }
@@ -128,42 +174,93 @@ fn takes_all<R: Wait>(rt: &R, shared: &Shared, texts: &[&'static str]) -> bool {
 #[test]
 fn a_text_that_was_refused_once_is_taken_later(rt: HostRuntime) -> Result<(), Fail> {
     let shared = made(rt.alloc())?;
-    assert!(rt; takes_all(&rt, &shared, &FIRST));
-    assert!(rt; in_order(&shared, &FIRST) == 100);
+    is_so(&rt, takes_all(&rt, &shared, &FIRST), "the numbers");
+    is_so(&rt, in_order(&shared, &FIRST) == 100, "the order");
     Ok(())
+}
+
+// Interns static texts by a new pass. Returns whether each call returns the number that stands beside the text,
+// or refuses it so.
+fn have_numbers<K: Key, R: Wait>(
+    rt: &R,
+    shared: &ThreadedRodeo<K, FixedState>,
+    rows: &[(&'static str, Result<usize, LassoErrorKind>)],
+) -> bool {
+    let mut pass = pass_of(shared);
+    for (text, wanted) in rows.iter() {
+        if number(rt, shared, &mut pass, *text) != *wanted {
+            return false;
+        }
+    }
+    true
 }
 
 #[test]
 fn keys_used_up_refuse_new_texts_alone(rt: HostRuntime) -> Result<(), Fail> {
     let shared: ThreadedRodeo<BelowTwo, FixedState> = hashed(rt.alloc())?;
-    let mut pass = pass_of(&shared);
-    assert!(rt; number(&rt, &shared, &mut pass, "p") == Ok(0));
-    assert!(rt; number(&rt, &shared, &mut pass, "q") == Ok(1));
-    assert!(rt; number(&rt, &shared, &mut pass, "r") == Err(LassoErrorKind::KeySpaceExhaustion));
-    assert!(rt; number(&rt, &shared, &mut pass, "p") == Ok(0));
+    let rows = [
+        ("p", Ok(0)),
+        ("q", Ok(1)),
+        ("r", Err(LassoErrorKind::KeySpaceExhaustion)),
+        ("p", Ok(0)),
+    ];
+    is_so(&rt, have_numbers(&rt, &shared, &rows), "the numbers");
     Ok(())
 }
 
+// How a text is interned.
+#[derive(Clone, Copy)]
+enum Form {
+    Copied,
+    Static,
+}
+
+// Interns the text by the pass.
+fn key_as<R: Wait>(
+    rt: &R,
+    shared: &Shared,
+    pass: &mut Pass<Spur>,
+    form: Form,
+    text: &'static str,
+) -> LassoResult<Spur>
+    requires { pass.old.of ≡ shared.now }
+    ensures { pass.new.of ≡ pass.old.of }
+{
+    match form {
+        Form::Copied => copied_as(rt, shared, pass, text),
+        Form::Static => kept_as(rt, shared, pass, text),
+    }
+}
+
 // Interns `x` and the text `own`. Returns the number of `x` if both keys resolve to their texts.
-fn meets<R: Wait>(rt: &R, shared: &Shared, own: &'static str) -> LassoResult<Option<usize>> {
+fn meets<R: Wait>(
+    rt: &R,
+    shared: &Shared,
+    form: Form,
+    own: &'static str,
+) -> LassoResult<Option<usize>> {
     let mut pass = pass_of(shared);
-    let x = kept_as(rt, shared, &mut pass, "x")?;
-    let mine = kept_as(rt, shared, &mut pass, own)?;
+    let x = key_as(rt, shared, &mut pass, form, "x")?;
+    let mine = key_as(rt, shared, &mut pass, form, own)?;
     let both = stands_for(shared, &mut pass, x, "x") && stands_for(shared, &mut pass, mine, own);
     Ok(if both { Some(x.into_usize()) } else { None })
+}
+
+// Two threads intern `x` and a text of their own. Returns whether all keys resolve, and `x` has one.
+fn both_meet<R: Threads + Wait + Sync>(rt: &R, shared: &Shared, form: Form) -> LassoResult<bool> {
+    let (one, other) = join(
+        rt,
+        || meets(rt, shared, form, "a"),
+        || meets(rt, shared, form, "b"),
+    );
+    let (one, other) = (one?, other?);
+    Ok(one.is_some() && one == other)
 }
 
 #[test]
 fn a_text_of_two_threads_has_one_key(rt: HostRuntime) -> Result<(), Fail> {
     let shared = made(rt.alloc())?;
-    let (a, b) = join(
-        &rt,
-        || meets(&rt, &shared, "a"),
-        || meets(&rt, &shared, "b"),
-    );
-    let (a, b) = (a?, b?);
-    assert!(rt; a.is_some());
-    assert!(rt; a == b);
-    assert!(rt; len_as(&shared) == 3);
+    is_so(&rt, both_meet(&rt, &shared, Form::Static)?, "one key");
+    is_so(&rt, len_as(&shared) == 3, "the count");
     Ok(())
 }

@@ -1,23 +1,22 @@
 //! Writers of two shards, which do not wait for each other.
+use crate::checks::is_so;
 use crate::shards::armed::{ArmedState, Gate};
 use lasso_parts::keys::Spur;
 use lasso_parts::util::LassoResult;
 use lasso_shared::threaded::ThreadedRodeo;
-use lasso_shared_testing::calls::{copied, kept, len};
-use std::alloc::{AllocError, Global};
-use std::process::Abort;
+use lasso_shared_testing::calls::len;
+use lasso_shared_testing::steps::{Way, interned};
+use lasso_testing::texts::leaked;
+use std::alloc::Global;
 use std::sync::Wait;
 use std::test::*;
 use std::thread::{Threads, join};
 
 // The texts `0000` to `0999`. They are never freed.
-fn four_digits(alloc: Global) -> Result<Vec<&'static str>, AllocError> {
+fn four_digits(alloc: Global) -> Result<Vec<&'static str>, Fail> {
     let mut texts = Vec::with_capacity(alloc, 1000)?;
     for number in 0..1000u32 {
-        let bytes: &'static [u8] = format!(in alloc; "{number:04}")?.into_bytes().leak();
-        if let Ok(text) = std::str::from_utf8(bytes) {
-            texts.push(text)?;
-        }
+        texts.push(leaked(format!(in alloc; "{number:04}")?)?)?;
     }
     Ok(texts)
 }
@@ -25,8 +24,8 @@ fn four_digits(alloc: Global) -> Result<Vec<&'static str>, AllocError> {
 type Armed<'a> = ThreadedRodeo<Spur, ArmedState<'a>>;
 
 // An interner whose hasher stops at the gate.
-fn armed<'a>(alloc: Global, gate: &'a Gate) -> Result<Armed<'a>, Fail> {
-    Ok(ThreadedRodeo::with_hasher(alloc, ArmedState::new(gate))?)
+fn armed<'a>(alloc: Global, gate: &'a Gate) -> LassoResult<Armed<'a>> {
+    ThreadedRodeo::with_hasher(alloc, ArmedState::new(gate))
 }
 
 // Interns `00`, arms the gate, and interns the texts.
@@ -34,61 +33,64 @@ fn fills<R: Wait>(
     rt: &R,
     shared: &Armed<'_>,
     gate: &Gate,
+    way: Way,
     texts: &[&'static str],
 ) -> LassoResult<()> {
-    kept(rt, shared, "00")?;
+    interned(rt, shared, way, "00")?;
     gate.arm();
     for text in texts.iter() {
-        kept(rt, shared, *text)?;
+        interned(rt, shared, way, *text)?;
     }
     Ok(())
 }
 
 // Waits for the other writer at the gate, interns `a`, and lets that writer go on. Returns whether it came.
-fn passes<R: Wait>(rt: &R, shared: &Armed<'_>, gate: &Gate) -> LassoResult<bool> {
+fn passes<R: Wait>(rt: &R, shared: &Armed<'_>, gate: &Gate, way: Way) -> LassoResult<bool> {
     let there = gate.is_first_there();
-    kept(rt, shared, "a")?;
+    interned(rt, shared, way, "a")?;
     gate.pass();
     Ok(there)
 }
 
-// The same as `fills`, with copied texts.
-fn fills_copies<R: Wait>(
+// Two threads intern a thousand texts of one shard and two of another. Returns whether one came to the gate,
+// the other was done while it waited there, and each text is there once.
+fn meet_at_gate<R: Threads + Wait + Sync>(
     rt: &R,
     shared: &Armed<'_>,
     gate: &Gate,
+    way: Way,
     texts: &[&'static str],
-) -> LassoResult<()> {
-    copied(rt, shared, "00")?;
-    gate.arm();
-    for text in texts.iter() {
-        copied(rt, shared, *text)?;
-    }
-    Ok(())
+) -> LassoResult<bool> {
+    let (filled, there) = join(
+        rt,
+        || fills(rt, shared, gate, way, texts),
+        || passes(rt, shared, gate, way),
+    );
+    filled?;
+    Ok(there? && gate.is_met() && len(shared) == 1002)
 }
 
-// The same as `passes`, with a copied text.
-fn passes_with_a_copy<R: Wait>(rt: &R, shared: &Armed<'_>, gate: &Gate) -> LassoResult<bool> {
-    let there = gate.is_first_there();
-    copied(rt, shared, "a")?;
-    gate.pass();
-    Ok(there)
+// Two threads intern in a new interner by this call. Returns whether neither waited for the other, and each
+// text is there once.
+fn are_apart<R: AllocGlobal + Threads + Wait + Sync>(
+    rt: &R,
+    gate: &Gate,
+    way: Way,
+    texts: &[&'static str],
+) -> LassoResult<bool> {
+    let shared = armed(rt.alloc(), gate)?;
+    meet_at_gate(rt, &shared, gate, way, texts)
 }
 
 #[test]
 fn writers_of_copies_apart(rt: HostRuntime) -> Result<(), Fail> {
     let texts = four_digits(rt.alloc())?;
     let gate = Gate::new();
-    let shared = armed(rt.alloc(), &gate)?;
-    let (filled, there) = join(
+    is_so(
         &rt,
-        || fills_copies(&rt, &shared, &gate, &texts),
-        || passes_with_a_copy(&rt, &shared, &gate),
+        are_apart(&rt, &gate, Way::TryCopied, &texts)?,
+        "copied texts",
     );
-    filled?;
-    assert!(rt; there?);
-    assert!(rt; gate.is_met());
-    assert!(rt; len(&shared) == 1002);
     Ok(())
 }
 
@@ -96,15 +98,10 @@ fn writers_of_copies_apart(rt: HostRuntime) -> Result<(), Fail> {
 fn writers_apart(rt: HostRuntime) -> Result<(), Fail> {
     let texts = four_digits(rt.alloc())?;
     let gate = Gate::new();
-    let shared = armed(rt.alloc(), &gate)?;
-    let (filled, there) = join(
+    is_so(
         &rt,
-        || fills(&rt, &shared, &gate, &texts),
-        || passes(&rt, &shared, &gate),
+        are_apart(&rt, &gate, Way::TryStatic, &texts)?,
+        "static texts",
     );
-    filled?;
-    assert!(rt; there?);
-    assert!(rt; gate.is_met());
-    assert!(rt; len(&shared) == 1002);
     Ok(())
 }

@@ -2,6 +2,8 @@
 //! those of the calls, by the laws of `lasso_shared::laws`.
 ghost use Rattle.std.specs.Prelude.{◌≡◌, ◌≢◌, ◌↔◌, Some, IsTrue, IfOk, option_map};
 
+use super::keeps_each;
+use crate::checks::is_so;
 use lasso_log::log::Pass;
 use lasso_parts::keys::{Key, Spur};
 use lasso_parts::util::{FixedState, LassoResult};
@@ -10,7 +12,8 @@ use lasso_shared::laws::{
     seen_texts_keep_keys,
 };
 use lasso_shared::threaded::ThreadedRodeo;
-use lasso_shared_testing::calls::{Shared, kept_as, made, pass_of, text_seen_by};
+use lasso_shared_testing::calls::{Shared, made, pass_of, text_seen_by};
+use std::process::Abort;
 use std::sync::Wait;
 use std::test::*;
 
@@ -138,28 +141,81 @@ fn one_key<R: Wait>(
     have_one_key(rt, shared, one, other, text, word)
 }
 
+// Whether each pass finds what the other interned.
+fn find_each_other<R: Wait>(
+    rt: &R,
+    shared: &Shared,
+    one: &mut Pass<Spur>,
+    other: &mut Pass<Spur>,
+) -> LassoResult<bool>
+    requires of { (one.old.of ≡ shared.now) × (other.old.of ≡ shared.now) }
+    ensures of { (one.new.of ≡ shared.now) × (other.new.of ≡ shared.now) }
+{
+    let read = resolves(rt, shared, one, other, "p")?;
+    Ok(number_by_both(rt, shared, other, one, "q")? == Some(1) && read)
+}
+
+// Whether two passes give one text one key, and two texts two.
+fn have_their_keys<R: Wait>(
+    rt: &R,
+    shared: &Shared,
+    one: &mut Pass<Spur>,
+    other: &mut Pass<Spur>,
+) -> LassoResult<bool>
+    requires of { (one.old.of ≡ shared.now) × (other.old.of ≡ shared.now) }
+{
+    let same = one_key(rt, shared, one, other, "r", "r")?;
+    Ok(!one_key(rt, shared, other, one, "r", "s")? && same)
+}
+
+// Makes two passes. Fails unless they rely on each other.
+fn rely_on_each_other<R: Wait + Abort>(rt: &R, shared: &Shared) -> LassoResult<()> {
+    let mut one = pass_of(shared);
+    let mut other = pass_of(shared);
+    numbers_differ(shared, &mut one, &mut other);
+    is_so(
+        rt,
+        find_each_other(rt, shared, &mut one, &mut other)?,
+        "the texts",
+    );
+    is_so(
+        rt,
+        have_their_keys(rt, shared, &mut one, &mut other)?,
+        "the keys",
+    );
+    Ok(())
+}
+
 #[test]
 fn two_passes_rely_on_each_other(rt: HostRuntime) -> Result<(), Fail> {
     let shared = made(rt.alloc())?;
-    let mut one = pass_of(&shared);
-    let mut other = pass_of(&shared);
-    numbers_differ(&shared, &mut one, &mut other);
-    assert!(rt; resolves(&rt, &shared, &mut one, &mut other, "p")?);
-    assert!(rt; number_by_both(&rt, &shared, &mut other, &mut one, "q")? == Some(1));
-    assert!(rt; one_key(&rt, &shared, &mut one, &mut other, "r", "r")?);
-    assert!(rt; !one_key(&rt, &shared, &mut other, &mut one, "r", "s")?);
+    rely_on_each_other(&rt, &shared)?;
     Ok(())
+}
+
+// Whether the pass reads these texts at positions 2 and 3.
+fn reads_past(
+    shared: &Shared,
+    pass: &mut Pass<Spur>,
+    third: Option<&str>,
+    fourth: Option<&str>,
+) -> Result<bool, Fail>
+    requires { pass.old.of ≡ shared.now }
+{
+    let same = text_seen_by(shared, pass, 2)? == third;
+    Ok(same && text_seen_by(shared, pass, 3)? == fourth)
+}
+
+// Interns five texts, three of them distinct. Returns whether the position after the last is empty.
+fn ends_at_three<R: Wait>(rt: &R, shared: &Shared) -> Result<bool, Fail> {
+    let mut pass = pass_of(shared);
+    keeps_each(rt, shared, &mut pass, &["p", "q", "p", "", "q"])?;
+    reads_past(shared, &mut pass, Some(""), None)
 }
 
 #[test]
 fn the_position_after_the_last_text_is_empty(rt: HostRuntime) -> Result<(), Fail> {
     let shared = made(rt.alloc())?;
-    let mut pass = pass_of(&shared);
-    for text in ["p", "q", "p", "", "q"] {
-        kept_as(&rt, &shared, &mut pass, text)?;
-    }
-    // three of the five texts are distinct
-    assert!(rt; text_seen_by(&shared, &mut pass, 2)? == Some(""));
-    assert!(rt; text_seen_by(&shared, &mut pass, 3)? == None);
+    is_so(&rt, ends_at_three(&rt, &shared)?, "positions 2 and 3");
     Ok(())
 }

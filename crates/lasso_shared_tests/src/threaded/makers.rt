@@ -1,9 +1,10 @@
 //! What each maker makes: the usage, the limit and the number of cells.
-use super::FIRST;
+use super::{FIRST, fill};
+use crate::checks::{is_so, is_so_at};
 use lasso_parts::keys::{Key, MicroSpur, Spur};
 use lasso_parts::util::{Capacity, FixedState, LassoResult, MemoryLimits};
 use lasso_shared::threaded::ThreadedRodeo;
-use lasso_shared_testing::calls::{Shared, kept, limit, limited, usage};
+use lasso_shared_testing::calls::{Shared, limit, usage};
 use std::alloc::Global;
 use std::sync::Wait;
 use std::test::*;
@@ -36,8 +37,12 @@ fn by_new<R: Wait>(rt: &R, alloc: Global, wanted: (usize, usize, usize)) -> Lass
 #[test]
 fn makers_open_with_defaults(rt: HostRuntime) -> Result<(), Fail> {
     // chunks of 32 and 32 cells for 50 texts
-    assert!(rt; by_default(&rt, rt.alloc(), (4096, usize::MAX, 64))?);
-    assert!(rt; by_new(&rt, rt.alloc(), (4096, usize::MAX, 64))?);
+    is_so(
+        &rt,
+        by_default(&rt, rt.alloc(), (4096, usize::MAX, 64))?,
+        "default",
+    );
+    is_so(&rt, by_new(&rt, rt.alloc(), (4096, usize::MAX, 64))?, "new");
     Ok(())
 }
 
@@ -76,11 +81,23 @@ fn by_both<R: Wait>(
 #[test]
 fn makers_open_with_capacity_and_limit(rt: HostRuntime) -> Result<(), Fail> {
     let (room, limits) = (Capacity::new(1000, 65536), MemoryLimits::new(10000));
-    assert!(rt; by_capacity(&rt, rt.alloc(), room, (65536, usize::MAX, 1024))?);
-    assert!(rt; by_limit(&rt, rt.alloc(), limits, (4096, 10000, 64))?);
+    is_so(
+        &rt,
+        by_capacity(&rt, rt.alloc(), room, (65536, usize::MAX, 1024))?,
+        "a capacity",
+    );
+    is_so(
+        &rt,
+        by_limit(&rt, rt.alloc(), limits, (4096, 10000, 64))?,
+        "a limit",
+    );
     // chunks of 32, 32 and 64 cells
     let (room, limits) = (Capacity::new(70, 4), MemoryLimits::new(12));
-    assert!(rt; by_both(&rt, rt.alloc(), room, limits, (4, 12, 128))?);
+    is_so(
+        &rt,
+        by_both(&rt, rt.alloc(), room, limits, (4, 12, 128))?,
+        "both",
+    );
     Ok(())
 }
 
@@ -105,21 +122,38 @@ const ROOMS: [(usize, usize, usize); 16] = [
     (100_000, 16_777_217, 131_072),
 ];
 
+// Whether interners with room for these texts and bytes have it, without a limit and with this one.
+fn have_room<R: Wait>(
+    rt: &R,
+    alloc: Global,
+    strings: usize,
+    bytes: usize,
+    cells: usize,
+    limit: usize,
+) -> LassoResult<bool> {
+    if bytes == 0 {
+        return Ok(false);
+    }
+    let room = Capacity::new(strings, bytes);
+    let plain = by_capacity(rt, alloc, room, (bytes, usize::MAX, cells))?;
+    Ok(
+        plain
+            && by_both(
+                rt,
+                alloc,
+                room,
+                MemoryLimits::new(limit),
+                (bytes, limit, cells),
+            )?,
+    )
+}
+
 #[test]
 fn makers_open_with_each_size(rt: HostRuntime) -> Result<(), Fail> {
     for (strings, bytes, cells) in ROOMS {
-        assert!(rt; bytes > 0);
-        let room = Capacity::new(strings, bytes);
-        assert!(rt;
-            by_capacity(&rt, rt.alloc(), room, (bytes, usize::MAX, cells))?,
-            "{bytes}"
-        );
         for limit in [bytes, bytes.saturating_mul(3), 0x0123_4567_89ab_cdef] {
-            let limits = MemoryLimits::new(limit);
-            assert!(rt;
-                by_both(&rt, rt.alloc(), room, limits, (bytes, limit, cells))?,
-                "{bytes}"
-            );
+            let all = have_room(&rt, rt.alloc(), strings, bytes, cells, limit)?;
+            is_so_at(&rt, all, bytes);
         }
     }
     Ok(())
@@ -152,24 +186,19 @@ fn by_all<R: Wait>(
 #[test]
 fn makers_take_a_hasher(rt: HostRuntime) -> Result<(), Fail> {
     let room = Capacity::for_bytes(7);
-    assert!(rt; by_hasher(&rt, rt.alloc(), room, (7, usize::MAX, 64))?);
+    is_so(
+        &rt,
+        by_hasher(&rt, rt.alloc(), room, (7, usize::MAX, 64))?,
+        "a hasher",
+    );
     // the first bucket is larger than the limit, and is made anyway
     let (room, limits) = (Capacity::new(0, 10), MemoryLimits::new(5));
-    assert!(rt; by_all(&rt, rt.alloc(), room, limits, (10, 5, 0))?);
+    is_so(
+        &rt,
+        by_all(&rt, rt.alloc(), room, limits, (10, 5, 0))?,
+        "all",
+    );
     Ok(())
-}
-
-// Interns static texts. Returns the usage and the number of cells then.
-fn filled<R: Wait>(
-    rt: &R,
-    made: LassoResult<Shared>,
-    texts: &[&'static str],
-) -> LassoResult<(usize, usize)> {
-    let shared = made?;
-    for text in texts.iter() {
-        kept(rt, &shared, *text)?;
-    }
-    Ok((usage(rt, &shared), cells(&shared)))
 }
 
 // An interner with this capacity.
@@ -177,19 +206,49 @@ fn with(alloc: Global, room: Capacity) -> LassoResult<Shared> {
     ThreadedRodeo::with_capacity(alloc, room)
 }
 
+// Interns static texts in the new interner. Returns whether the usage and the number of cells are then these.
+fn is_filled<R: Wait>(
+    rt: &R,
+    made: LassoResult<Shared>,
+    texts: &[&'static str],
+    wanted: (usize, usize),
+) -> LassoResult<bool> {
+    let shared = made?;
+    fill(rt, &shared, texts)?;
+    Ok((usage(rt, &shared), cells(&shared)) == wanted)
+}
+
 #[test]
 fn capacity_is_room_for_texts(rt: HostRuntime) -> Result<(), Fail> {
     let made = with(rt.alloc(), Capacity::for_strings(70));
-    assert!(rt; filled(&rt, made, &FIRST)? == (4096, 128));
+    is_so(
+        &rt,
+        is_filled(&rt, made, &FIRST, (4096, 128))?,
+        "room for 70",
+    );
     let made = with(rt.alloc(), Capacity::minimal());
-    assert!(rt; filled(&rt, made, &["p"])? == (1, 32));
+    is_so(
+        &rt,
+        is_filled(&rt, made, &["p"], (1, 32))?,
+        "the least room",
+    );
     Ok(())
+}
+
+// An interner with a first bucket of 10 bytes, under a limit of 5.
+fn over_limit(alloc: Global) -> LassoResult<Shared> {
+    let (room, limits) = (Capacity::for_bytes(10), MemoryLimits::new(5));
+    ThreadedRodeo::with_capacity_and_memory_limits(alloc, room, limits)
 }
 
 #[test]
 fn no_limit_refuses_a_static_text(rt: HostRuntime) -> Result<(), Fail> {
-    let shared: Shared = limited(rt.alloc(), 10, 5)?;
-    assert!(rt; filled(&rt, Ok(shared), &["0123456789ab"])? == (10, 64));
+    let made = over_limit(rt.alloc());
+    is_so(
+        &rt,
+        is_filled(&rt, made, &["0123456789ab"], (10, 64))?,
+        "the sums",
+    );
     Ok(())
 }
 
@@ -202,6 +261,14 @@ fn is_refused(alloc: Global, capacity: Capacity) -> bool {
 
 #[test]
 fn sizes_that_no_memory_has(rt: HostRuntime) {
-    assert!(rt; is_refused(rt.alloc(), Capacity::for_bytes(usize::MAX)));
-    assert!(rt; is_refused(rt.alloc(), Capacity::for_strings(usize::MAX)));
+    is_so(
+        &rt,
+        is_refused(rt.alloc(), Capacity::for_bytes(usize::MAX)),
+        "bytes",
+    );
+    is_so(
+        &rt,
+        is_refused(rt.alloc(), Capacity::for_strings(usize::MAX)),
+        "texts",
+    );
 }

@@ -1,10 +1,9 @@
 //! Texts that are interned while memory is out. `bench/refused-tests` refuses the requests for memory. If
 //! none is refused, the first call interns each text.
-
+use crate::checks::is_so;
 use lasso_parts::util::LassoErrorKind;
-use lasso_shared_testing::calls::{
-    Shared, answered, contains, copied, kept, len, limited, text_at, usage,
-};
+use lasso_shared_testing::calls::{Shared, answered, contains, len, limited, text_at, usage};
+use lasso_shared_testing::steps::{Way, interned};
 use std::sync::Wait;
 use std::test::*;
 
@@ -18,11 +17,9 @@ const TEXTS: [&str; 40] = [
     "aa", "bbb", "cccc", "ddddd", "e", "ff", "ggg", "hhhh", "iiiii", "j", "kk", "lll", "mmmm",
 ];
 
-// How a text is interned.
-#[derive(Clone, Copy)]
-enum Way {
-    Copied,
-    Static,
+// Whether the text is absent, and the length and the usage are these.
+fn is_unchanged<R: Wait>(rt: &R, shared: &Shared, text: &str, length: usize, bytes: usize) -> bool {
+    !contains(rt, shared, text) && len(shared) == length && usage(rt, shared) == bytes
 }
 
 // Interns an absent text, again and again while memory is out, and returns its number. `None` if a call
@@ -33,22 +30,23 @@ fn interned_at_last<R: Wait>(
     way: Way,
     text: &'static str,
 ) -> Option<usize> {
-    let before = (len(shared), usage(rt, shared));
+    let (length, bytes) = (len(shared), usage(rt, shared));
     for _ in 0..TRIES {
-        let reply = match way {
-            Way::Copied => copied(rt, shared, text),
-            Way::Static => kept(rt, shared, text),
-        };
-        match answered(reply) {
+        match answered(interned(rt, shared, way, text)) {
             Ok(number) => return Some(number),
             Err(LassoErrorKind::FailedAllocation) => {}
             Err(_) => return None,
         }
-        if contains(rt, shared, text) || (len(shared), usage(rt, shared)) != before {
+        if !is_unchanged(rt, shared, text, length, bytes) {
             return None;
         }
     }
     None
+}
+
+// Whether the key with this number stands for the text.
+fn is_at(shared: &Shared, number: usize, text: &str) -> Result<bool, Fail> {
+    Ok(text_at(shared, number)? == Some(text))
 }
 
 // Whether each text gets the next number, and has it at the end.
@@ -59,7 +57,7 @@ fn all_are_interned<R: Wait>(rt: &R, shared: &Shared, way: Way) -> Result<bool, 
         }
     }
     for position in 0..TEXTS.len() {
-        if text_at(shared, position)? != Some(TEXTS[position]) {
+        if !is_at(shared, position, TEXTS[position])? {
             return Ok(false);
         }
     }
@@ -70,15 +68,23 @@ fn all_are_interned<R: Wait>(rt: &R, shared: &Shared, way: Way) -> Result<bool, 
 fn a_copied_text_out_of_memory_leaves_nothing(rt: HostRuntime) -> Result<(), Fail> {
     // the texts need more buckets than this one
     let shared: Shared = limited(rt.alloc(), 4, usize::MAX)?;
-    assert!(rt; all_are_interned(&rt, &shared, Way::Copied)?);
-    assert!(rt; len(&shared) == 40);
+    is_so(
+        &rt,
+        all_are_interned(&rt, &shared, Way::TryCopied)?,
+        "the texts",
+    );
+    is_so(&rt, len(&shared) == 40, "the count");
     Ok(())
 }
 
 #[test]
 fn a_static_text_out_of_memory_leaves_nothing(rt: HostRuntime) -> Result<(), Fail> {
     let shared: Shared = limited(rt.alloc(), 4, usize::MAX)?;
-    assert!(rt; all_are_interned(&rt, &shared, Way::Static)?);
-    assert!(rt; usage(&rt, &shared) == 4);
+    is_so(
+        &rt,
+        all_are_interned(&rt, &shared, Way::TryStatic)?,
+        "the texts",
+    );
+    is_so(&rt, usage(&rt, &shared) == 4, "the usage");
     Ok(())
 }

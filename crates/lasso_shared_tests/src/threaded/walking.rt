@@ -2,12 +2,13 @@
 ghost use Rattle.std.specs.Prelude.{◌≡◌};
 
 use super::FIRST;
+use crate::checks::{is_so, runs};
 use lasso_log::log::Pass;
 use lasso_parts::keys::{Key, Spur};
+use lasso_parts::util::LassoResult;
 use lasso_shared::threaded::{Iter, Strings};
-use lasso_shared_testing::calls::{
-    Shared, copied, kept, kept_as, limited, made, number, pass_of, set_limit,
-};
+use lasso_shared_testing::calls::{Shared, copied, kept, kept_as, limited, made, pass_of};
+use lasso_shared_testing::steps::Step;
 use std::process::Abort;
 use std::sync::Wait;
 use std::test::*;
@@ -47,11 +48,11 @@ fn have_left(walk: &Iter<'_, Spur>, strings: &Strings<'_, Spur>, left: usize) ->
         && strings.size_hint() == hint
 }
 
-// The next text of the walk and its number.
-fn next<'a>(walk: &mut Iter<'a, Spur>) -> Option<(usize, &'a str)> {
+// Whether the walk yields this text next, with the key of this number.
+fn is_next(walk: &mut Iter<'_, Spur>, number: usize, text: &str) -> bool {
     match walk.next() {
-        Some((key, text)) => Some((key.into_usize(), text)),
-        None => None,
+        Some((key, found)) => key.into_usize() == number && found == text,
+        None => false,
     }
 }
 
@@ -60,44 +61,14 @@ fn next_text<'a>(strings: &mut Strings<'a, Spur>) -> Option<&'a str> {
     strings.next()
 }
 
-// The third text of the walk and its number.
-fn third<'a>(mut walk: Iter<'a, Spur>) -> Option<(usize, &'a str)> {
+// Whether the third text of both walks is this one.
+fn are_third(mut walk: Iter<'_, Spur>, mut strings: Strings<'_, Spur>, text: &str) -> bool {
     match walk.nth(2) {
-        Some((key, text)) => Some((key.into_usize(), text)),
-        None => None,
-    }
-}
-
-// The third text of the walk.
-fn third_text<'a>(mut strings: Strings<'a, Spur>) -> Option<&'a str> {
-    strings.nth(2)
-}
-
-// Whether both walks yield exactly these texts, and say before each how many are left.
-fn give(mut walk: Iter<'_, Spur>, mut strings: Strings<'_, Spur>, texts: &[&str]) -> bool {
-    let mut all = true;
-    for position in 0..texts.len() {
-        if !have_left(&walk, &strings, texts.len() - position)
-            || next(&mut walk) != Some((position, texts[position]))
-            || next_text(&mut strings) != Some(texts[position])
-        {
-            all = false;
+        Some((key, found)) => {
+            key.into_usize() == 2 && found == text && strings.nth(2) == Some(text)
         }
+        None => false,
     }
-    all && next(&mut walk) == None && next_text(&mut strings) == None
-}
-
-#[test]
-fn walks_give_the_texts_in_the_order_of_their_keys(rt: HostRuntime) -> Result<(), Fail> {
-    let shared: Shared = limited(rt.alloc(), 4, 12)?;
-    for (text, wanted) in [("abc", 0), ("defghijk", 1), ("x", 2)] {
-        assert!(rt; number(&rt, &shared, text) == Ok(wanted), "{text}");
-    }
-    set_limit(&rt, &shared, 14);
-    assert!(rt; number(&rt, &shared, "yz") == Ok(3));
-    let texts = ["abc", "defghijk", "x", "yz"];
-    assert!(rt; give(walk_of(&shared), strings_of(&shared), &texts));
-    Ok(())
 }
 
 // Whether both walks yield this text next.
@@ -107,60 +78,140 @@ fn give_next(
     number: usize,
     text: &str,
 ) -> bool {
-    next(walk) == Some((number, text)) && next_text(strings) == Some(text)
+    is_next(walk, number, text) && next_text(strings) == Some(text)
+}
+
+// Whether both walks are at their end.
+fn are_past(walk: &mut Iter<'_, Spur>, strings: &mut Strings<'_, Spur>) -> bool {
+    walk.next().is_none() && next_text(strings).is_none()
+}
+
+// Whether both walks yield exactly these texts, and say before each how many are left.
+fn give(mut walk: Iter<'_, Spur>, mut strings: Strings<'_, Spur>, texts: &[&str]) -> bool {
+    let mut all = true;
+    for position in 0..texts.len() {
+        all &= have_left(&walk, &strings, texts.len() - position);
+        all &= give_next(&mut walk, &mut strings, position, texts[position]);
+    }
+    all && are_past(&mut walk, &mut strings)
+}
+
+// Whether new walks yield exactly these texts.
+fn give_all(shared: &Shared, texts: &[&str]) -> bool {
+    give(walk_of(shared), strings_of(shared), texts)
+}
+
+// Interns four texts. Fails unless new walks yield them.
+fn give_four<R: Wait + Abort>(rt: &R, shared: &Shared) -> Result<(), Fail> {
+    let steps = [
+        Step::Takes("abc", Ok(0)),
+        Step::Takes("defghijk", Ok(1)),
+        Step::Takes("x", Ok(2)),
+        Step::Limits(14),
+        Step::Takes("yz", Ok(3)),
+    ];
+    runs(rt, shared, &steps)?;
+    is_so(
+        rt,
+        give_all(shared, &["abc", "defghijk", "x", "yz"]),
+        "the walks",
+    );
+    Ok(())
+}
+
+#[test]
+fn walks_give_the_texts_in_the_order_of_their_keys(rt: HostRuntime) -> Result<(), Fail> {
+    let shared = limited(rt.alloc(), 4, 12)?;
+    give_four(&rt, &shared)
 }
 
 // Whether both walks are at their end, and stay there.
 fn are_at_end(walk: &mut Iter<'_, Spur>, strings: &mut Strings<'_, Spur>) -> bool {
     let mut all = true;
     for _ in 0..3usize {
-        if next(walk) != None || next_text(strings) != None || !have_left(walk, strings, 0) {
-            all = false;
-        }
+        all &= are_past(walk, strings) && have_left(walk, strings, 0);
     }
     all
+}
+
+// Whether both walks have just `q` left.
+fn yield_q(walk: &mut Iter<'_, Spur>, strings: &mut Strings<'_, Spur>) -> bool {
+    have_left(walk, strings, 1) && give_next(walk, strings, 1, "q") && are_at_end(walk, strings)
+}
+
+// Makes two walks over `p` and `q`, and interns another text after their first. Returns whether they yield `p`
+// and `q` alone.
+fn yield_two<R: Wait>(rt: &R, shared: &Shared, pass: &mut Pass<Spur>) -> LassoResult<bool>
+    requires { pass.old.of ≡ shared.now }
+    ensures { pass.new.of ≡ pass.old.of }
+{
+    let mut walk = walk_as(shared, pass);
+    let mut strings = strings_as(shared, pass);
+    let first = give_next(&mut walk, &mut strings, 0, "p");
+    let added = kept_as(rt, shared, pass, "r");
+    let rest = yield_q(&mut walk, &mut strings);
+    match added {
+        Ok(_key) => Ok(first && rest),
+        Err(error) => Err(error),
+    }
+}
+
+// Whether new walks have the later text too.
+fn yield_three(shared: &Shared, pass: &mut Pass<Spur>) -> bool
+    requires { pass.old.of ≡ shared.now }
+{
+    let walk = walk_as(shared, pass);
+    are_third(walk, strings_as(shared, pass), "r")
+        && have_left(&walk_of(shared), &strings_of(shared), 3)
+}
+
+// Makes walks before and after a text is interned. Fails unless each yields the texts that were there.
+fn yield_as_made<R: Wait + Abort>(rt: &R, shared: &Shared) -> LassoResult<()> {
+    is_so(rt, kept(rt, shared, "p")? == 0, "the number of p");
+    is_so(rt, copied(rt, shared, "q")? == 1, "the number of q");
+    let mut pass = pass_of(shared);
+    is_so(
+        rt,
+        yield_two(rt, shared, &mut pass)?,
+        "the walks made before",
+    );
+    is_so(rt, yield_three(shared, &mut pass), "the walks made now");
+    Ok(())
 }
 
 #[test]
 fn a_walk_has_the_texts_of_its_making(rt: HostRuntime) -> Result<(), Fail> {
     let shared = made(rt.alloc())?;
-    assert!(rt; kept(&rt, &shared, "p")? == 0);
-    assert!(rt; copied(&rt, &shared, "q")? == 1);
-    let mut pass = pass_of(&shared);
-    let mut walk = walk_as(&shared, &mut pass);
-    let mut strings = strings_as(&shared, &mut pass);
-    assert!(rt; give_next(&mut walk, &mut strings, 0, "p"));
-    kept_as(&rt, &shared, &mut pass, "r")?;
-    assert!(rt; have_left(&walk, &strings, 1));
-    assert!(rt; give_next(&mut walk, &mut strings, 1, "q"));
-    assert!(rt; are_at_end(&mut walk, &mut strings));
-    // walks made now have the later text too
-    assert!(rt; third(walk_as(&shared, &mut pass)) == Some((2, "r")));
-    assert!(rt; third_text(strings_as(&shared, &mut pass)) == Some("r"));
-    assert!(rt; have_left(&walk_of(&shared), &strings_of(&shared), 3));
+    yield_as_made(&rt, &shared)?;
     Ok(())
+}
+
+// Makes walks over the empty interner, and interns a text. Returns whether they are at their end.
+fn stay_empty<R: Wait>(rt: &R, shared: &Shared) -> LassoResult<bool> {
+    let mut walk = walk_of(shared);
+    let mut strings = strings_of(shared);
+    let none = have_left(&walk, &strings, 0);
+    let added = kept(rt, shared, "p");
+    let end = are_at_end(&mut walk, &mut strings);
+    match added {
+        Ok(_number) => Ok(none && end),
+        Err(error) => Err(error),
+    }
 }
 
 #[test]
 fn walks_of_an_empty_interner_are_at_their_end(rt: HostRuntime) -> Result<(), Fail> {
     let shared = made(rt.alloc())?;
-    let mut walk = walk_of(&shared);
-    let mut strings = strings_of(&shared);
-    assert!(rt; have_left(&walk, &strings, 0));
-    kept(&rt, &shared, "p")?;
-    assert!(rt; are_at_end(&mut walk, &mut strings));
+    is_so(&rt, stay_empty(&rt, &shared)?, "the walks");
     Ok(())
 }
 
-// Interns copies of the texts. Returns whether none was refused.
-fn copies<R: Wait>(rt: &R, shared: &Shared, texts: &[&str]) -> bool {
-    let mut all = true;
+// Interns copies of the texts.
+fn copies<R: Wait>(rt: &R, shared: &Shared, texts: &[&str]) -> LassoResult<()> {
     for text in texts.iter() {
-        if copied(rt, shared, *text).is_err() {
-            all = false;
-        }
+        copied(rt, shared, *text)?;
     }
-    all
+    Ok(())
 }
 
 // Whether the walk yields a prefix of the texts.
@@ -195,17 +246,30 @@ fn walks(shared: &Shared, texts: &[&str], times: usize) -> usize {
     times
 }
 
+// Walks 1000 times over the texts while another thread interns them. Returns how many walks were right.
+fn walks_beside_a_writer<R: Threads + Wait + Sync>(rt: &R, shared: &Shared) -> LassoResult<usize> {
+    let (copied, walked) = join(
+        rt,
+        || copies(rt, shared, &FIRST),
+        || walks(shared, &FIRST, 1000),
+    );
+    copied?;
+    Ok(walked)
+}
+
+// Whether a new walk yields exactly these texts.
+fn yields_all(shared: &Shared, texts: &[&str]) -> bool {
+    left_of(&strings_of(shared)) == texts.len() && begins(strings_of(shared), texts)
+}
+
 #[test]
 fn a_walk_beside_a_writer_gives_a_beginning_of_the_list(rt: HostRuntime) -> Result<(), Fail> {
     let shared = made(rt.alloc())?;
-    let (all, walked) = join(
+    is_so(
         &rt,
-        || copies(&rt, &shared, &FIRST),
-        || walks(&shared, &FIRST, 1000),
+        walks_beside_a_writer(&rt, &shared)? == 1000,
+        "the walks beside it",
     );
-    assert!(rt; all);
-    assert!(rt; walked == 1000);
-    assert!(rt; begins(strings_of(&shared), &FIRST));
-    assert!(rt; left_of(&strings_of(&shared)) == 100);
+    is_so(&rt, yields_all(&shared, &FIRST), "the walk at the end");
     Ok(())
 }

@@ -1,5 +1,5 @@
 use Rattle.std.proofs.Common.{◌≡◌}
-use Rattle.lasso_shared_tests.proofs.threaded.callers.the_position_after_the_last_text_is_empty.Given as goal
+use Rattle.lasso_shared_tests.proofs.threaded.have_numbers.Given as goal
 
 -- the pass stays a pass of this interner
 abbrev pub invariant-loop-text : goal.invariant-loop-text
