@@ -150,8 +150,8 @@ fn is_reader_counted<K: Key, A: Allocator + Clone>(memory: &Memory, rodeo: Meter
     rodeo.into_reader().allocated_bytes() == memory.bytes_out()
 }
 
-// Whether `allocated_bytes` is right while the interner is filled, for its clone, and while it is filled again
-// after a clear.
+// Whether `allocated_bytes` is right while the interner is filled, for its clone, and while it is filled
+// again after a clear.
 fn are_fills_counted<K: Key, A: Allocator + Clone>(
     alloc: Global,
     memory: &Memory,
@@ -212,8 +212,8 @@ fn allocated_bytes_of_many_texts_are_those_given(rt: HostRuntime) -> Result<(), 
     Ok(())
 }
 
-// Whether a text that was just interned changed `capacity()` only if it came past it, and then allocated. List
-// and index have at least a byte for each text of the capacity.
+// Whether a text that was just interned changed `capacity()` only if it came past it, and then allocated.
+// List and index have at least a byte for each text of the capacity.
 fn grows_past_its_room<A: Allocator + Clone>(
     rodeo: &Counted<A>,
     memory: &Memory,

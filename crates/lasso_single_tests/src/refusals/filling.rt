@@ -19,8 +19,8 @@ fn is_filled(filled: Filled, kind: LassoErrorKind, next: &str) -> bool {
     is_kind(filled.0, kind) && is_text(filled.1, next)
 }
 
-// Checks an interner in which "ab" or "cd" ran out of memory: the next item is the one after it, and the items
-// before it stay.
+// Checks an interner in which "ab" or "cd" ran out of memory: the next item is the one after it, and the
+// items before it stay.
 fn keeps_items<A: Allocator + Clone>(
     rt: &impl Abort,
     rodeo: &Metered<Spur, A>,
