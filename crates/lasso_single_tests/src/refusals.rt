@@ -18,13 +18,13 @@ use lasso_parts::util::{Capacity, FixedState, LassoErrorKind, LassoResult, Memor
 use lasso_single::rodeo::Rodeo;
 use lasso_testing::keys::Gap;
 use lasso_testing::refusing::{Refusing, each_refused};
-use std::alloc::Global;
+use std::alloc::{Allocator, Global};
 use std::process::Abort;
 use std::test::Fail;
 
 type Memory = Refusing<Global>;
 
-type Metered<'a, K> = Rodeo<K, FixedState, &'a Memory>;
+type Metered<K, A> = Rodeo<K, FixedState, A>;
 
 // In each run `Refusing` refuses at most one request, and the allocator below it at most one more
 // (`rt try --test --fail-alloc N`).
@@ -49,12 +49,13 @@ fn is_out_of_memory(rt: &impl Abort, memory: &Memory, kind: LassoErrorKind) {
 }
 
 // An interner whose list and index have no room, so that interning a text allocates in both.
-fn interner<'a, K: Key>(
+fn interner<K: Key, A: Allocator + Clone>(
     rt: &impl Abort,
-    memory: &'a Memory,
+    memory: &Memory,
+    alloc: A,
     bytes: usize,
     limit: usize,
-) -> Option<Metered<'a, K>>
+) -> Option<Metered<K, A>>
     requires { 0 < bytes }
 {
     let capacity = Capacity::new(0, bytes);
@@ -62,7 +63,7 @@ fn interner<'a, K: Key>(
     made(
         rt,
         memory,
-        Rodeo::with_capacity_and_memory_limits(memory, capacity, limits),
+        Rodeo::with_capacity_and_memory_limits(alloc, capacity, limits),
     )
 }
 
@@ -81,29 +82,29 @@ type State = (&'static [&'static str], usize);
 // A call, what it has to return, and the interner's state after it.
 type Row = (Call, Answer, State);
 
-fn called<K: Key>(rodeo: &mut Metered<'_, K>, call: Call) -> Answer {
+fn called<K: Key, A: Allocator + Clone>(rodeo: &mut Metered<K, A>, call: Call) -> Answer {
     match call {
         Intern(text) => told(rodeo.try_get_or_intern(text)),
         InternStatic(text) => told(rodeo.try_get_or_intern_static(text)),
     }
 }
 
-fn has_text<K: Key>(rodeo: &Metered<'_, K>, call: Call) -> bool {
+fn has_text<K: Key, A: Allocator + Clone>(rodeo: &Metered<K, A>, call: Call) -> bool {
     match call {
         Intern(text) | InternStatic(text) => rodeo.contains(text),
     }
 }
 
-fn is_in<K: Key>(rt: &impl Abort, rodeo: &Metered<'_, K>, state: State) {
+fn is_in<K: Key, A: Allocator + Clone>(rt: &impl Abort, rodeo: &Metered<K, A>, state: State) {
     holds(rt, rodeo, state.0, state.1);
 }
 
 // Makes the call, again while a request of it is refused. Each refused call has to return `FailedAllocation`
 // and keep the interner's state, and the text is not there.
-fn gives<K: Key>(
+fn gives<K: Key, A: Allocator + Clone>(
     rt: &impl Abort,
     memory: &Memory,
-    rodeo: &mut Metered<'_, K>,
+    rodeo: &mut Metered<K, A>,
     kept: State,
     row: Row,
 ) {
@@ -122,10 +123,10 @@ fn gives<K: Key>(
 }
 
 // Makes the call of each row, as `gives` does, on an interner in this state.
-fn gives_each<K: Key>(
+fn gives_each<K: Key, A: Allocator + Clone>(
     rt: &impl Abort,
     memory: &Memory,
-    rodeo: &mut Metered<'_, K>,
+    rodeo: &mut Metered<K, A>,
     state: State,
     rows: &[Row],
 ) {
@@ -136,29 +137,29 @@ fn gives_each<K: Key>(
     }
 }
 
-fn hello_twice(rt: &impl Abort, memory: &Memory) {
+fn hello_twice<A: Allocator + Clone>(rt: &impl Abort, memory: &Memory, alloc: A) {
     static ROWS: [Row; 2] = [
         (Intern("Hello, world!"), Ok(0), (&["Hello, world!"], 4096)),
         (Intern("Hello, world!"), Ok(0), (&["Hello, world!"], 4096)),
     ];
-    if let Some(mut rodeo) = made(rt, memory, Metered::<Spur>::default(memory)) {
+    if let Some(mut rodeo) = made(rt, memory, Metered::<Spur, A>::default(alloc)) {
         gives_each(rt, memory, &mut rodeo, (&[], 4096), &ROWS);
     }
 }
 
 // The long text gets a bucket of its own, of 9 bytes. The last text gets one of 8 bytes.
-fn past_the_first_bucket(rt: &impl Abort, memory: &Memory) {
+fn past_the_first_bucket<A: Allocator + Clone>(rt: &impl Abort, memory: &Memory, alloc: A) {
     static ROWS: [Row; 3] = [
         (Intern("qqqqqqqqq"), Ok(0), (&["qqqqqqqqq"], 13)),
         (Intern("wxyz"), Ok(1), (&["qqqqqqqqq", "wxyz"], 13)),
         (Intern("n"), Ok(2), (&["qqqqqqqqq", "wxyz", "n"], 21)),
     ];
-    if let Some(mut rodeo) = interner::<Spur>(rt, memory, 4, usize::MAX) {
+    if let Some(mut rodeo) = interner::<Spur, A>(rt, memory, alloc, 4, usize::MAX) {
         gives_each(rt, memory, &mut rodeo, (&[], 4), &ROWS);
     }
 }
 
-fn freezes_to_two(rt: &impl Abort, rodeo: Metered<'_, Gap<2>>) {
+fn freezes_to_two<A: Allocator + Clone>(rt: &impl Abort, rodeo: Metered<Gap<2>, A>) {
     let reader = rodeo.into_reader();
     is_so(rt, reader.len() == 2, "the texts of a reader");
     is_so(
@@ -169,7 +170,7 @@ fn freezes_to_two(rt: &impl Abort, rodeo: Metered<'_, Gap<2>>) {
 }
 
 // A text without a key takes no bytes, so the limit never refuses it.
-fn past_the_keys(rt: &impl Abort, memory: &Memory) {
+fn past_the_keys<A: Allocator + Clone>(rt: &impl Abort, memory: &Memory, alloc: A) {
     static ROWS: [Row; 6] = [
         (Intern("p"), Ok(0), (&["p"], 4)),
         (Intern("q"), Ok(1), (&["p", "q"], 4)),
@@ -178,16 +179,16 @@ fn past_the_keys(rt: &impl Abort, memory: &Memory) {
         (Intern("r"), Err(KEYS), (&["p", "q"], 4)),
         (Intern("q"), Ok(1), (&["p", "q"], 4)),
     ];
-    if let Some(mut rodeo) = interner::<Gap<2>>(rt, memory, 4, 4) {
+    if let Some(mut rodeo) = interner::<Gap<2>, A>(rt, memory, alloc, 4, 4) {
         gives_each(rt, memory, &mut rodeo, (&[], 4), &ROWS);
         freezes_to_two(rt, rodeo);
     }
 }
 
 fn interns_texts<R: AllocGlobal + Abort>(rt: &R, memory: &Memory) -> Result<(), Fail> {
-    hello_twice(rt, memory);
-    past_the_first_bucket(rt, memory);
-    past_the_keys(rt, memory);
+    hello_twice(rt, memory, memory);
+    past_the_first_bucket(rt, memory, memory);
+    past_the_keys(rt, memory, memory);
     Ok(())
 }
 

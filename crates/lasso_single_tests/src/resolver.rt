@@ -64,7 +64,7 @@ fn of_items(alloc: Global) -> Result<Small, Fail> {
     Ok(Rodeo::from_iter(alloc, ITEMS)?)
 }
 
-// Whether the key of a walk is of this number, and the text that comes with it is this one, which it stands for.
+// Whether a walk's key has this number and stands for this text, which came with it.
 fn is_item(resolver: &SpurResolver, key: Spur, found: &str, position: usize, text: &str) -> bool {
     key.into_usize() == position && found == text && is_text(resolver.try_resolve(key), text)
 }

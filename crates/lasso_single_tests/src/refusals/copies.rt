@@ -2,7 +2,7 @@
 use super::*;
 use crate::checks::{LIMIT, is_kind, refusal_of};
 
-type Spurred<'a> = Metered<'a, Spur>;
+type Spurred<A> = Metered<Spur, A>;
 
 // By which of its two names a call is made.
 #[derive(Clone, Copy)]
@@ -11,7 +11,7 @@ pub enum Name {
     Try,
 }
 
-fn cloned<'a>(rodeo: &Spurred<'a>, name: Name) -> LassoResult<Spurred<'a>> {
+fn cloned<A: Allocator + Clone>(rodeo: &Spurred<A>, name: Name) -> LassoResult<Spurred<A>> {
     match name {
         Name::Plain => rodeo.clone(),
         Name::Try => rodeo.try_clone(),
@@ -19,13 +19,13 @@ fn cloned<'a>(rodeo: &Spurred<'a>, name: Name) -> LassoResult<Spurred<'a>> {
 }
 
 // A clone of an interner in this state, made again if a request of the first is refused.
-pub fn clone_of<'a>(
+pub fn clone_of<A: Allocator + Clone>(
     rt: &impl Abort,
     memory: &Memory,
-    rodeo: &Spurred<'a>,
+    rodeo: &Spurred<A>,
     name: Name,
     state: State,
-) -> Result<Spurred<'a>, Fail> {
+) -> Result<Spurred<A>, Fail> {
     match cloned(rodeo, name) {
         Ok(copy) => Ok(copy),
         Err(refusal) => {
@@ -36,7 +36,11 @@ pub fn clone_of<'a>(
     }
 }
 
-fn copy<'a>(target: &mut Spurred<'a>, source: &Spurred<'a>, name: Name) -> Option<LassoErrorKind> {
+fn copy<A: Allocator + Clone>(
+    target: &mut Spurred<A>,
+    source: &Spurred<A>,
+    name: Name,
+) -> Option<LassoErrorKind> {
     refusal_of(match name {
         Name::Plain => target.clone_from(source),
         Name::Try => target.try_clone_from(source),
@@ -45,11 +49,11 @@ fn copy<'a>(target: &mut Spurred<'a>, source: &Spurred<'a>, name: Name) -> Optio
 
 // Copies the source over the target, again while a request of the copy is refused. Each refused copy leaves
 // no text, and only the first bucket, of `first` bytes. Returns why the last copy was refused, if it was.
-pub fn copies<'a>(
+pub fn copies<A: Allocator + Clone>(
     rt: &impl Abort,
     memory: &Memory,
-    target: &mut Spurred<'a>,
-    source: &Spurred<'a>,
+    target: &mut Spurred<A>,
+    source: &Spurred<A>,
     name: Name,
     first: usize,
 ) -> Option<LassoErrorKind> {
@@ -68,7 +72,11 @@ pub fn copies<'a>(
 const ABC_GDFG: &[&str] = &["abc", "gdfg"];
 
 // The clone copies the static text too. Its one bucket has 7 bytes, more than the source's limit of 5.
-fn clones_static(rt: &impl Abort, memory: &Memory, rodeo: &mut Spurred<'_>) -> Result<(), Fail> {
+fn clones_static<A: Allocator + Clone>(
+    rt: &impl Abort,
+    memory: &Memory,
+    rodeo: &mut Spurred<A>,
+) -> Result<(), Fail> {
     static ROWS: [Row; 2] = [
         (Intern("abc"), Ok(0), (&["abc"], 10)),
         (InternStatic("gdfg"), Ok(1), (ABC_GDFG, 10)),
@@ -82,8 +90,12 @@ fn clones_static(rt: &impl Abort, memory: &Memory, rodeo: &mut Spurred<'_>) -> R
     Ok(())
 }
 
-fn clones_at_last(rt: &impl Abort, memory: &Memory) -> Result<(), Fail> {
-    match interner::<Spur>(rt, memory, 10, 5) {
+fn clones_at_last<A: Allocator + Clone>(
+    rt: &impl Abort,
+    memory: &Memory,
+    alloc: A,
+) -> Result<(), Fail> {
+    match interner::<Spur, A>(rt, memory, alloc, 10, 5) {
         Some(mut rodeo) => clones_static(rt, memory, &mut rodeo),
         None => Ok(()),
     }
@@ -92,22 +104,22 @@ fn clones_at_last(rt: &impl Abort, memory: &Memory) -> Result<(), Fail> {
 const ABC_DEFG: &[&str] = &["abc", "defg"];
 
 // A source of two texts in one bucket of 8 bytes.
-fn two<'a>(rt: &impl Abort, memory: &'a Memory) -> Option<Spurred<'a>> {
+fn two<A: Allocator + Clone>(rt: &impl Abort, memory: &Memory, alloc: A) -> Option<Spurred<A>> {
     static ROWS: [Row; 2] = [
         (Intern("abc"), Ok(0), (&["abc"], 8)),
         (Intern("defg"), Ok(1), (ABC_DEFG, 8)),
     ];
-    let mut source = interner::<Spur>(rt, memory, 8, usize::MAX)?;
+    let mut source = interner::<Spur, A>(rt, memory, alloc, 8, usize::MAX)?;
     gives_each(rt, memory, &mut source, (&[], 8), &ROWS);
     Some(source)
 }
 
 // The limit of 4 bytes refuses the copy. The target then has no text, and only its first bucket, of 4 bytes.
-fn copies_past_the_limit<'a>(
+fn copies_past_the_limit<A: Allocator + Clone>(
     rt: &impl Abort,
     memory: &Memory,
-    target: &mut Spurred<'a>,
-    source: &Spurred<'a>,
+    target: &mut Spurred<A>,
+    source: &Spurred<A>,
 ) {
     static ROWS: [Row; 1] = [(Intern("wxyz"), Ok(0), (&["wxyz"], 4))];
     let refusal = copies(rt, memory, target, source, Name::Try, 4);
@@ -118,26 +130,30 @@ fn copies_past_the_limit<'a>(
 }
 
 // Copies over an interner without a text, and over one with a text.
-fn over_no_text_and_one(rt: &impl Abort, memory: &Memory) {
+fn over_no_text_and_one<A: Allocator + Clone + Copy>(rt: &impl Abort, memory: &Memory, alloc: A) {
     static OLD: [Row; 1] = [(Intern("old"), Ok(0), (&["old"], 4))];
-    let Some(source) = two(rt, memory) else {
+    let Some(source) = two(rt, memory, alloc) else {
         return;
     };
-    if let Some(mut target) = interner::<Spur>(rt, memory, 4, 4) {
+    if let Some(mut target) = interner::<Spur, A>(rt, memory, alloc, 4, 4) {
         copies_past_the_limit(rt, memory, &mut target, &source);
     }
-    if let Some(mut target) = interner::<Spur>(rt, memory, 4, 4) {
+    if let Some(mut target) = interner::<Spur, A>(rt, memory, alloc, 4, 4) {
         gives_each(rt, memory, &mut target, (&[], 4), &OLD);
         copies_past_the_limit(rt, memory, &mut target, &source);
     }
 }
 
-fn extend(target: &mut Spurred<'_>) -> LassoResult<()> {
+fn extend<A: Allocator + Clone>(target: &mut Spurred<A>) -> LassoResult<()> {
     target.extend(["wxyz", "abc"])
 }
 
 // Adds "wxyz", again if a request of the first call is refused, which leaves the texts.
-fn extends_at_last(rt: &impl Abort, memory: &Memory, target: &mut Spurred<'_>) -> Result<(), Fail> {
+fn extends_at_last<A: Allocator + Clone>(
+    rt: &impl Abort,
+    memory: &Memory,
+    target: &mut Spurred<A>,
+) -> Result<(), Fail> {
     if let Some(kind) = refusal_of(extend(target)) {
         is_out_of_memory(rt, memory, kind);
         is_in(rt, target, (ABC_DEFG, 12));
@@ -148,11 +164,11 @@ fn extends_at_last(rt: &impl Abort, memory: &Memory, target: &mut Spurred<'_>) -
 }
 
 // "abc" goes into the first bucket. "defg" takes a second one, of 8 bytes, where "wxyz" fits too.
-fn copies_into_a_new_bucket<'a>(
+fn copies_into_a_new_bucket<A: Allocator + Clone>(
     rt: &impl Abort,
     memory: &Memory,
-    target: &mut Spurred<'a>,
-    source: &Spurred<'a>,
+    target: &mut Spurred<A>,
+    source: &Spurred<A>,
 ) -> Result<(), Fail> {
     let refusal = copies(rt, memory, target, source, Name::Try, 4);
     is_so(rt, refusal.is_none(), "a copy into a new bucket");
@@ -162,31 +178,35 @@ fn copies_into_a_new_bucket<'a>(
     Ok(())
 }
 
-fn into_a_new_bucket(rt: &impl Abort, memory: &Memory) -> Result<(), Fail> {
-    let Some(source) = two(rt, memory) else {
+fn into_a_new_bucket<A: Allocator + Clone + Copy>(
+    rt: &impl Abort,
+    memory: &Memory,
+    alloc: A,
+) -> Result<(), Fail> {
+    let Some(source) = two(rt, memory, alloc) else {
         return Ok(());
     };
-    match interner::<Spur>(rt, memory, 4, usize::MAX) {
+    match interner::<Spur, A>(rt, memory, alloc, 4, usize::MAX) {
         Some(mut target) => copies_into_a_new_bucket(rt, memory, &mut target, &source),
         None => Ok(()),
     }
 }
 
 fn copies_interners<R: AllocGlobal + Abort>(rt: &R, memory: &Memory) -> Result<(), Fail> {
-    clones_at_last(rt, memory)?;
-    over_no_text_and_one(rt, memory);
-    into_a_new_bucket(rt, memory)
+    clones_at_last(rt, memory, memory)?;
+    over_no_text_and_one(rt, memory, memory);
+    into_a_new_bucket(rt, memory, memory)
 }
 
 // "abc" goes into the first bucket of 4 bytes, the nine bytes get a bucket of their own, and "defgh" gets one
 // of 8 bytes. These 21 bytes are the limit, which refuses "ijkl". Then the bucket of 8 bytes is kept, and
 // that of 9 bytes is freed. Nothing is allocated after the bucket of 8 bytes, so a copy that runs out of
 // memory leaves only the first bucket.
-fn copies_past_the_first_bucket<'a>(
+fn copies_past_the_first_bucket<A: Allocator + Clone>(
     rt: &impl Abort,
     memory: &Memory,
-    target: &mut Spurred<'a>,
-    source: &Spurred<'a>,
+    target: &mut Spurred<A>,
+    source: &Spurred<A>,
 ) {
     static ROWS: [Row; 2] = [
         (Intern("wxyz"), Ok(0), (&["wxyz"], 12)),
@@ -198,24 +218,28 @@ fn copies_past_the_first_bucket<'a>(
     gives_each(rt, memory, target, (&[], 12), &ROWS);
 }
 
-fn of_four_texts<'a>(memory: &'a Memory) -> LassoResult<Spurred<'a>> {
-    Spurred::from_iter(memory, ["abc", "qqqqqqqqq", "defgh", "ijkl"])
+fn of_four_texts<A: Allocator + Clone>(alloc: A) -> LassoResult<Spurred<A>> {
+    Spurred::from_iter(alloc, ["abc", "qqqqqqqqq", "defgh", "ijkl"])
+}
+
+fn copies_four_texts<A: Allocator + Clone + Copy>(rt: &impl Abort, memory: &Memory, alloc: A) {
+    let Some(source) = made(rt, memory, of_four_texts(alloc)) else {
+        return;
+    };
+    if let Some(mut target) = interner::<Spur, A>(rt, memory, alloc, 4, 21) {
+        copies_past_the_first_bucket(rt, memory, &mut target, &source);
+    }
 }
 
 fn past_the_first_bucket<R: AllocGlobal + Abort>(rt: &R, memory: &Memory) -> Result<(), Fail> {
-    let Some(source) = made(rt, memory, of_four_texts(memory)) else {
-        return Ok(());
-    };
-    if let Some(mut target) = interner::<Spur>(rt, memory, 4, 21) {
-        copies_past_the_first_bucket(rt, memory, &mut target, &source);
-    }
+    copies_four_texts(rt, memory, memory);
     Ok(())
 }
 
 // Whether a copy takes no bytes of the source's memory, and has two texts.
-fn is_copied<'a>(
-    target: &mut Spurred<'a>,
-    source: &Spurred<'a>,
+fn is_copied<A: Allocator + Clone>(
+    target: &mut Spurred<A>,
+    source: &Spurred<A>,
     of_source: &Memory,
 ) -> LassoResult<bool> {
     let bytes = of_source.bytes_out();
@@ -224,9 +248,13 @@ fn is_copied<'a>(
 }
 
 // The copy allocates its list, its index and its buckets from the target's allocator.
-fn is_copied_between<'a>(of_source: &'a Memory, of_target: &'a Memory) -> LassoResult<bool> {
-    let source = Spurred::from_iter(of_source, ["abc", "defg"])?;
-    let mut target = Spurred::from_iter(of_target, ["old"])?;
+fn is_copied_between<A: Allocator + Clone>(
+    of_source: &Memory,
+    for_source: A,
+    for_target: A,
+) -> LassoResult<bool> {
+    let source = Spurred::from_iter(for_source, ["abc", "defg"])?;
+    let mut target = Spurred::from_iter(for_target, ["old"])?;
     is_copied(&mut target, &source, of_source)
 }
 
@@ -236,7 +264,7 @@ fn a_copy_stays_in_the_memory_of_its_target(rt: HostRuntime) -> Result<(), Fail>
     let of_target = Refusing::new(rt.alloc(), 0);
     is_so(
         &rt,
-        is_copied_between(&of_source, &of_target)?,
+        is_copied_between(&of_source, &of_source, &of_target)?,
         "the source's memory",
     );
     Ok(())

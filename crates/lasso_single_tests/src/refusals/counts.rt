@@ -16,14 +16,18 @@ static TEXTS: [&str; 10] = [
     "rstuvwxyz0123456789",
 ];
 
-type Counted<'a> = Metered<'a, Spur>;
+type Counted<A> = Metered<Spur, A>;
 
-fn is_counted_so(rodeo: &Counted<'_>, memory: &Memory) -> bool {
+fn is_counted_so<A: Allocator + Clone>(rodeo: &Counted<A>, memory: &Memory) -> bool {
     rodeo.allocated_bytes() == memory.bytes_out()
 }
 
 // Interns the texts, and checks the number after each.
-fn interns_counted(rt: &impl Abort, rodeo: &mut Counted<'_>, memory: &Memory) -> Result<(), Fail> {
+fn interns_counted<A: Allocator + Clone>(
+    rt: &impl Abort,
+    rodeo: &mut Counted<A>,
+    memory: &Memory,
+) -> Result<(), Fail> {
     for text in TEXTS.iter() {
         rodeo.try_get_or_intern(*text)?;
         is_so(rt, is_counted_so(rodeo, memory), *text);
@@ -32,14 +36,18 @@ fn interns_counted(rt: &impl Abort, rodeo: &mut Counted<'_>, memory: &Memory) ->
 }
 
 // Fills the interner again after a clear, also with a static text.
-fn fill_again(rodeo: &mut Counted<'_>) -> Result<(), Fail> {
+fn fill_again<A: Allocator + Clone>(rodeo: &mut Counted<A>) -> Result<(), Fail> {
     rodeo.extend(TEXTS.iter().copied())?;
     rodeo.try_get_or_intern_static("a static text of many bytes")?;
     Ok(())
 }
 
 // Checks the number of a new interner, after each text, and after a clear and a refill.
-fn fills(rt: &impl Abort, rodeo: &mut Counted<'_>, memory: &Memory) -> Result<(), Fail> {
+fn fills<A: Allocator + Clone>(
+    rt: &impl Abort,
+    rodeo: &mut Counted<A>,
+    memory: &Memory,
+) -> Result<(), Fail> {
     is_so(rt, is_counted_so(rodeo, memory), "a new interner");
     interns_counted(rt, rodeo, memory)?;
     rodeo.clear();
@@ -54,7 +62,7 @@ fn fills(rt: &impl Abort, rodeo: &mut Counted<'_>, memory: &Memory) -> Result<()
 }
 
 // Checks the number of both frozen forms.
-fn freezes(rt: &impl Abort, rodeo: Counted<'_>, memory: &Memory) {
+fn freezes<A: Allocator + Clone>(rt: &impl Abort, rodeo: Counted<A>, memory: &Memory) {
     let reader = rodeo.into_reader();
     is_so(
         rt,
@@ -69,8 +77,12 @@ fn freezes(rt: &impl Abort, rodeo: Counted<'_>, memory: &Memory) {
     );
 }
 
-fn counted(rt: &impl Abort, memory: &Memory) -> Result<(), Fail> {
-    let mut rodeo: Counted<'_> = Rodeo::with_capacity(memory, Capacity::new(2, 4))?;
+fn counted<A: Allocator + Clone>(
+    rt: &impl Abort,
+    memory: &Memory,
+    made: LassoResult<Counted<A>>,
+) -> Result<(), Fail> {
+    let mut rodeo = made?;
     fills(rt, &mut rodeo, memory)?;
     freezes(rt, rodeo, memory);
     Ok(())
@@ -79,7 +91,8 @@ fn counted(rt: &impl Abort, memory: &Memory) -> Result<(), Fail> {
 #[test]
 fn allocated_bytes_are_those_given(rt: HostRuntime) -> Result<(), Fail> {
     let memory = Refusing::new(rt.alloc(), 0);
-    counted(&rt, &memory)?;
+    let made = Counted::<&Memory>::with_capacity(&memory, Capacity::new(2, 4));
+    counted(&rt, &memory, made)?;
     is_so(&rt, memory.bytes_out() == 0, "the bytes at the end");
     Ok(())
 }
@@ -92,10 +105,10 @@ fn long_number(alloc: Global, number: usize, step: usize) -> Result<String, Fail
 }
 
 // Interns a long number. Returns whether `allocated_bytes` is right after it.
-fn is_long_counted<K: Key>(
+fn is_long_counted<K: Key, A: Allocator + Clone>(
     alloc: Global,
     memory: &Memory,
-    rodeo: &mut Metered<'_, K>,
+    rodeo: &mut Metered<K, A>,
     number: usize,
     step: usize,
 ) -> Result<bool, Fail> {
@@ -106,10 +119,10 @@ fn is_long_counted<K: Key>(
 
 // Interns `count` texts, each at least `step` bytes longer than the one before it. Returns whether
 // `allocated_bytes` is right after each.
-fn fills_counted<K: Key>(
+fn fills_counted<K: Key, A: Allocator + Clone>(
     alloc: Global,
     memory: &Memory,
-    rodeo: &mut Metered<'_, K>,
+    rodeo: &mut Metered<K, A>,
     count: usize,
     step: usize,
 ) -> Result<bool, Fail> {
@@ -121,7 +134,10 @@ fn fills_counted<K: Key>(
 }
 
 // Whether `allocated_bytes` is right for a clone of the interner, and for the clone's resolver.
-fn is_clone_counted<K: Key>(memory: &Memory, rodeo: &Metered<'_, K>) -> Result<bool, Fail> {
+fn is_clone_counted<K: Key, A: Allocator + Clone>(
+    memory: &Memory,
+    rodeo: &Metered<K, A>,
+) -> Result<bool, Fail> {
     let before = memory.bytes_out();
     let copy = rodeo.try_clone()?;
     let is_counted = copy.allocated_bytes() == memory.bytes_out().saturating_sub(before);
@@ -130,16 +146,16 @@ fn is_clone_counted<K: Key>(memory: &Memory, rodeo: &Metered<'_, K>) -> Result<b
     Ok(is_counted && is_frozen)
 }
 
-fn is_reader_counted<K: Key>(memory: &Memory, rodeo: Metered<'_, K>) -> bool {
+fn is_reader_counted<K: Key, A: Allocator + Clone>(memory: &Memory, rodeo: Metered<K, A>) -> bool {
     rodeo.into_reader().allocated_bytes() == memory.bytes_out()
 }
 
-// Whether `allocated_bytes` is right while the interner is filled, for its clone, and while it is filled again
-// after a clear.
-fn are_fills_counted<K: Key>(
+// Whether `allocated_bytes` is right while the interner is filled, for its clone, and while it is filled
+// again after a clear.
+fn are_fills_counted<K: Key, A: Allocator + Clone>(
     alloc: Global,
     memory: &Memory,
-    rodeo: &mut Metered<'_, K>,
+    rodeo: &mut Metered<K, A>,
     count: usize,
     step: usize,
 ) -> Result<bool, Fail> {
@@ -150,13 +166,30 @@ fn are_fills_counted<K: Key>(
     Ok(is_first && is_clone && is_second)
 }
 
+// The same for the interner that was made, and its reader.
+fn is_made_counted<K: Key, A: Allocator + Clone>(
+    alloc: Global,
+    memory: &Memory,
+    made: LassoResult<Metered<K, A>>,
+    count: usize,
+    step: usize,
+) -> Result<bool, Fail> {
+    let mut rodeo = made?;
+    let are_fills = are_fills_counted(alloc, memory, &mut rodeo, count, step)?;
+    Ok(are_fills && is_reader_counted(memory, rodeo))
+}
+
 // Whether `allocated_bytes` is right for an interner of `count` texts, for its clone and for its frozen
 // forms. The interner is cleared and filled again before it is frozen.
 fn is_counted<K: Key>(alloc: Global, count: usize, step: usize) -> Result<bool, Fail> {
     let memory = Refusing::new(alloc, 0);
-    let mut rodeo: Metered<'_, K> = Rodeo::new(&memory)?;
-    let are_fills = are_fills_counted(alloc, &memory, &mut rodeo, count, step)?;
-    Ok(are_fills && is_reader_counted(&memory, rodeo))
+    is_made_counted(
+        alloc,
+        &memory,
+        Metered::<K, &Memory>::new(&memory),
+        count,
+        step,
+    )
 }
 
 // The same for each type of key that has 255 keys.
@@ -179,9 +212,14 @@ fn allocated_bytes_of_many_texts_are_those_given(rt: HostRuntime) -> Result<(), 
     Ok(())
 }
 
-// Whether a text that was just interned changed `capacity()` only if it came past it, and then allocated. List
-// and index have at least a byte for each text of the capacity.
-fn grows_past_its_room(rodeo: &Counted<'_>, memory: &Memory, said: usize, had: usize) -> bool {
+// Whether a text that was just interned changed `capacity()` only if it came past it, and then allocated.
+// List and index have at least a byte for each text of the capacity.
+fn grows_past_its_room<A: Allocator + Clone>(
+    rodeo: &Counted<A>,
+    memory: &Memory,
+    said: usize,
+    had: usize,
+) -> bool {
     let bytes_beside_the_list: usize = 20_000;
     let is_past = rodeo.len() > said;
     let is_changed = rodeo.capacity() != said;
@@ -191,10 +229,10 @@ fn grows_past_its_room(rodeo: &Counted<'_>, memory: &Memory, said: usize, had: u
 }
 
 // Interns the number in decimal. Returns whether the interner grows as its capacity says.
-fn has_room_for(
+fn has_room_for<A: Allocator + Clone>(
     alloc: Global,
     memory: &Memory,
-    rodeo: &mut Counted<'_>,
+    rodeo: &mut Counted<A>,
     number: usize,
 ) -> Result<bool, Fail> {
     let (said, had) = (rodeo.capacity(), memory.bytes_out());
@@ -205,15 +243,25 @@ fn has_room_for(
 
 // Interns more than twice `strings` texts. Returns whether `capacity()` is right before each, and at first at
 // least `strings`.
+fn has_its_room<A: Allocator + Clone>(
+    alloc: Global,
+    memory: &Memory,
+    made: LassoResult<Counted<A>>,
+    strings: usize,
+) -> Result<bool, Fail> {
+    let mut rodeo = made?;
+    let mut all = rodeo.capacity() >= strings;
+    for number in 0..strings.saturating_mul(2).saturating_add(10) {
+        all &= has_room_for(alloc, memory, &mut rodeo, number)?;
+    }
+    Ok(all)
+}
+
 fn has_the_room_it_says(alloc: Global, strings: usize) -> Result<bool, Fail> {
     let memory = Refusing::new(alloc, 0);
     let room = Capacity::new(strings, 20_000);
-    let mut rodeo: Counted<'_> = Rodeo::with_capacity(&memory, room)?;
-    let mut all = rodeo.capacity() >= strings;
-    for number in 0..strings.saturating_mul(2).saturating_add(10) {
-        all &= has_room_for(alloc, &memory, &mut rodeo, number)?;
-    }
-    Ok(all)
+    let made = Counted::<&Memory>::with_capacity(&memory, room);
+    has_its_room(alloc, &memory, made, strings)
 }
 
 #[test]

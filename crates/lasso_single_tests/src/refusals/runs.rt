@@ -3,7 +3,6 @@ use super::*;
 use crate::commands::{Wanted, all_wanted};
 use crate::interners::{Small, takes};
 use lasso_single::commands::{Command, Reply, run_commands};
-use std::alloc::Allocator;
 
 // Under a limit of 4 bytes the second text does not fit after the first. After the clear it does.
 fn commands<'a, A: Allocator + 'a>() -> [Command<'a, Spur, FixedState, A>; 7] {
@@ -51,7 +50,10 @@ static WITHOUT_THE_COPY: [Wanted; 7] = [
     Wanted::Number(4),
 ];
 
-fn replies<'m>(alloc: Global, rodeo: &mut Metered<'m, Spur>) -> LassoResult<Vec<Reply<Spur>>> {
+fn replies<'m>(
+    alloc: Global,
+    rodeo: &mut Metered<Spur, &'m Memory>,
+) -> LassoResult<Vec<Reply<Spur>>> {
     let commands = commands::<'m, &'m Memory>();
     run_commands(alloc, rodeo, commands.as_slice())
 }
@@ -69,7 +71,7 @@ fn wanted_of(memory: &Memory) -> &'static [Wanted] {
 fn runs_small<R: AllocGlobal + Abort>(
     rt: &R,
     memory: &Memory,
-    rodeo: &mut Metered<'_, Spur>,
+    rodeo: &mut Metered<Spur, &Memory>,
 ) -> Result<(), Fail> {
     let replies = replies(rt.alloc(), rodeo)?;
     is_so(
@@ -82,7 +84,7 @@ fn runs_small<R: AllocGlobal + Abort>(
 }
 
 fn small_run<R: AllocGlobal + Abort>(rt: &R, memory: &Memory) -> Result<(), Fail> {
-    match interner::<Spur>(rt, memory, 4, 4) {
+    match interner::<Spur, &Memory>(rt, memory, memory, 4, 4) {
         Some(mut rodeo) => runs_small(rt, memory, &mut rodeo),
         None => Ok(()),
     }

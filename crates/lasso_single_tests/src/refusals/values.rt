@@ -6,18 +6,18 @@ use lasso_single::reader::RodeoReader;
 use lasso_single::resolver::RodeoResolver;
 use serde_json::Value;
 
-type Reader<'a> = RodeoReader<Spur, FixedState, &'a Memory>;
+type Reader<A> = RodeoReader<Spur, FixedState, A>;
 
-type Resolver<'a> = RodeoResolver<Spur, &'a Memory>;
+type Resolver<A> = RodeoResolver<Spur, A>;
 
 const WANTING: JsonError = JsonError::Lasso(LassoErrorKind::FailedAllocation);
 
 // How many texts a form reads from the value, or its error. 0 is an interner, 1 a reader, and 2 a resolver.
-fn read(memory: &Memory, value: &Value, form: usize) -> Result<usize, JsonError> {
+fn read<A: Allocator + Clone>(alloc: A, value: &Value, form: usize) -> Result<usize, JsonError> {
     match form {
-        0 => Ok(Metered::<Spur>::deserialize(memory, value)?.len()),
-        1 => Ok(Reader::deserialize(memory, value)?.len()),
-        _ => Ok(Resolver::deserialize(memory, value)?.len()),
+        0 => Ok(Metered::<Spur, A>::deserialize(alloc, value)?.len()),
+        1 => Ok(Reader::<A>::deserialize(alloc, value)?.len()),
+        _ => Ok(Resolver::<A>::deserialize(alloc, value)?.len()),
     }
 }
 
@@ -27,22 +27,23 @@ fn is_read(found: Result<usize, JsonError>, wanted: Result<usize, JsonError>) ->
 
 // Checks that a form reads so from the value of the text. A call that runs out of memory leaves nothing
 // allocated, and the same call made again returns what the first would have.
-fn reads(
+fn reads<A: Allocator + Clone + Copy>(
     rt: &impl Abort,
     memory: &Memory,
+    alloc: A,
     text: &str,
     value: &Value,
     form: usize,
     wanted: Result<usize, JsonError>,
 ) {
-    let mut found = read(memory, value, form);
+    let mut found = read(alloc, value, form);
     for _refusal in 0..REFUSALS {
         if !memory.has_refused_anew() {
             break;
         }
         is_so(rt, is_read(found, Err(WANTING)), text);
         is_so(rt, memory.bytes_out() == 0, text);
-        found = read(memory, value, form);
+        found = read(alloc, value, form);
     }
     is_so(rt, is_read(found, wanted), text);
     is_so(rt, memory.bytes_out() == 0, text);
@@ -64,7 +65,7 @@ static FORMS: [(&str, [Read; 3]); 4] = [
 
 fn reads_each(rt: &impl Abort, memory: &Memory, text: &str, value: &Value, wanted: &[Read]) {
     for (form, wanted) in wanted.iter().enumerate() {
-        reads(rt, memory, text, value, form, *wanted);
+        reads(rt, memory, memory, text, value, form, *wanted);
     }
 }
 
@@ -89,7 +90,7 @@ fn was_read<T>(rt: &impl Abort, memory: &Memory, outcome: Result<T, JsonError>) 
 }
 
 // Whether the texts are exactly these, in this order.
-fn has_texts(resolver: &Resolver<'_>, texts: &[&str]) -> bool {
+fn has_texts<A: Allocator + Clone>(resolver: &Resolver<A>, texts: &[&str]) -> bool {
     let mut walk = resolver.strings();
     for text in texts {
         if !is_text(walk.next(), text) {
@@ -99,21 +100,27 @@ fn has_texts(resolver: &Resolver<'_>, texts: &[&str]) -> bool {
     walk.next().is_none()
 }
 
-fn reads_three(rt: &impl Abort, memory: &Memory, value: &Value) {
-    if let Some(resolver) = was_read(rt, memory, Resolver::deserialize(memory, value)) {
+fn reads_three<A: Allocator + Clone>(rt: &impl Abort, memory: &Memory, alloc: A, value: &Value) {
+    if let Some(resolver) = was_read(rt, memory, Resolver::<A>::deserialize(alloc, value)) {
         is_so(rt, has_texts(&resolver, &["a", "b", "a"]), "the texts");
     }
 }
 
 fn three_texts<R: AllocGlobal + Abort>(rt: &R, memory: &Memory) -> Result<(), Fail> {
     let value = Value::from_str(rt.alloc(), r#"["a","b","a"]"#)?;
-    reads_three(rt, memory, &value);
+    reads_three(rt, memory, memory, &value);
     Ok(())
 }
 
 // Reads an interner from the value, and checks its state.
-fn reads_value(rt: &impl Abort, memory: &Memory, value: &Value, state: State) {
-    if let Some(rodeo) = was_read(rt, memory, Metered::<Spur>::deserialize(memory, value)) {
+fn reads_value<A: Allocator + Clone>(
+    rt: &impl Abort,
+    memory: &Memory,
+    alloc: A,
+    value: &Value,
+    state: State,
+) {
+    if let Some(rodeo) = was_read(rt, memory, Metered::<Spur, A>::deserialize(alloc, value)) {
         is_in(rt, &rodeo, state);
     }
 }
@@ -126,7 +133,7 @@ fn reads_interner<R: AllocGlobal + Abort>(
     state: State,
 ) -> Result<(), Fail> {
     let value = Value::from_str(rt.alloc(), text)?;
-    reads_value(rt, memory, &value, state);
+    reads_value(rt, memory, memory, &value, state);
     Ok(())
 }
 
@@ -152,7 +159,10 @@ fn what_was_read(rt: HostRuntime) -> Result<(), Fail> {
 }
 
 // The value of the interner, written again if the first call runs out of memory.
-fn value_of<R: AllocGlobal + Abort>(rt: &R, rodeo: &Metered<'_, Spur>) -> Result<Value, Fail> {
+fn value_of<A: Allocator + Clone, R: AllocGlobal + Abort>(
+    rt: &R,
+    rodeo: &Metered<Spur, A>,
+) -> Result<Value, Fail> {
     match rodeo.serialize(rt.alloc()) {
         Ok(value) => Ok(value),
         Err(fault) => {
@@ -176,14 +186,17 @@ fn is_one(alloc: Global, key: Spur) -> bool {
 }
 
 // Whether the key of "b" is 1 in JSON, and still stands for the text.
-fn has_first_key(alloc: Global, rodeo: &Metered<'_, Spur>) -> bool {
+fn has_first_key<A: Allocator + Clone>(alloc: Global, rodeo: &Metered<Spur, A>) -> bool {
     match rodeo.get("b") {
         Some(first) => is_one(alloc, first) && is_text(rodeo.try_resolve(first), "b"),
         None => false,
     }
 }
 
-fn writes<R: AllocGlobal + Abort>(rt: &R, rodeo: &Metered<'_, Spur>) -> Result<(), Fail> {
+fn writes<A: Allocator + Clone, R: AllocGlobal + Abort>(
+    rt: &R,
+    rodeo: &Metered<Spur, A>,
+) -> Result<(), Fail> {
     let value = value_of(rt, rodeo)?;
     is_so(rt, is_written(rt.alloc(), &value)?, "the value");
     holds(rt, rodeo, &["b", "a"], 4096);
@@ -196,6 +209,6 @@ fn writes<R: AllocGlobal + Abort>(rt: &R, rodeo: &Metered<'_, Spur>) -> Result<(
 #[test]
 fn what_is_written_changes_nothing(rt: HostRuntime) -> Result<(), Fail> {
     let memory = Refusing::new(rt.alloc(), 0);
-    let rodeo = Metered::<Spur>::from_iter(&memory, ["b", "a"])?;
+    let rodeo = Metered::<Spur, &Memory>::from_iter(&memory, ["b", "a"])?;
     writes(&rt, &rodeo)
 }

@@ -9,7 +9,11 @@ const WORDS: [&str; 3] = ["if", "else", LONG];
 const WITH_WIDTH: [&str; 4] = ["if", "else", LONG, "width"];
 
 // A present word keeps its key, and a new text gets the key after the words.
-fn interns_after_words(rt: &impl Abort, memory: &Memory, rodeo: &mut Metered<'_, Spur>) {
+fn interns_after_words<A: Allocator + Clone>(
+    rt: &impl Abort,
+    memory: &Memory,
+    rodeo: &mut Metered<Spur, A>,
+) {
     static ROWS: [Row; 2] = [
         (Intern("else"), Ok(1), (&WORDS, 4096)),
         (Intern("width"), Ok(3), (&WITH_WIDTH, 4096)),
@@ -18,29 +22,36 @@ fn interns_after_words(rt: &impl Abort, memory: &Memory, rodeo: &mut Metered<'_,
     gives_each(rt, memory, rodeo, (&WORDS, 4096), &ROWS);
 }
 
-fn opened_with_words(rt: &impl Abort, memory: &Memory) {
-    match made(rt, memory, Metered::<Spur>::from_static(memory, &WORDS)) {
+fn opened_with_words<A: Allocator + Clone>(rt: &impl Abort, memory: &Memory, alloc: A) {
+    match made(rt, memory, Metered::<Spur, A>::from_static(alloc, &WORDS)) {
         Some(mut rodeo) => interns_after_words(rt, memory, &mut rodeo),
         None => is_so(rt, memory.bytes_out() == 0, "the bytes that are out"),
     }
 }
 
-type Keys<'a> = Vec<Spur, &'a Memory>;
+static LIST: [&str; 4] = ["ab", "cd", "ab", "e"];
 
-fn intern_all<'a>(
-    rodeo: &mut Metered<'a, Spur>,
+type Keys<A> = Vec<Spur, A>;
+
+fn intern_all<A: Allocator + Clone>(
+    rodeo: &mut Metered<Spur, A>,
     texts: &[&str],
-    keys: &mut Keys<'a>,
+    keys: &mut Keys<A>,
 ) -> Option<LassoErrorKind> {
     refusal_of(rodeo.try_get_or_intern_all(texts, keys))
 }
 
 // Interns the list from the text after the last key on, again while a request is refused, until the limit
 // refuses "e".
-fn lists<'a>(rt: &impl Abort, memory: &Memory, rodeo: &mut Metered<'a, Spur>, keys: &mut Keys<'a>) {
+fn lists<A: Allocator + Clone>(
+    rt: &impl Abort,
+    memory: &Memory,
+    rodeo: &mut Metered<Spur, A>,
+    keys: &mut Keys<A>,
+) {
     let mut taken = 0;
     for _refusal in 0..REFUSALS {
-        let Some(rest) = ["ab", "cd", "ab", "e"].get(taken..) else {
+        let Some(rest) = LIST.get(taken..) else {
             break;
         };
         let refusal = intern_all(rodeo, rest, keys);
@@ -64,9 +75,9 @@ fn ends_list(memory: &Memory) -> LassoErrorKind {
 }
 
 // "ab" and "cd" use up the limit of 4 bytes. The list of keys allocates too, and that may be refused as well.
-fn listed(rt: &impl Abort, memory: &Memory) {
-    if let Some(mut rodeo) = interner::<Spur>(rt, memory, 2, 4) {
-        let mut keys: Keys<'_> = Vec::new(memory);
+fn listed<A: Allocator + Clone + Copy>(rt: &impl Abort, memory: &Memory, alloc: A) {
+    if let Some(mut rodeo) = interner::<Spur, A>(rt, memory, alloc, 2, 4) {
+        let mut keys: Keys<A> = Vec::new(alloc);
         lists(rt, memory, &mut rodeo, &mut keys);
         let refusal = intern_all(&mut rodeo, &["ab", "cd", "e"], &mut keys);
         is_so(rt, is_kind(refusal, ends_list(memory)), "the last list");
@@ -74,8 +85,8 @@ fn listed(rt: &impl Abort, memory: &Memory) {
 }
 
 fn interns_words_and_lists<R: AllocGlobal + Abort>(rt: &R, memory: &Memory) -> Result<(), Fail> {
-    opened_with_words(rt, memory);
-    listed(rt, memory);
+    opened_with_words(rt, memory, memory);
+    listed(rt, memory, memory);
     Ok(())
 }
 

@@ -1,11 +1,11 @@
 //! `clone` and `clone_from`, and interners filled from items.
 
-use crate::checks::{LIMIT, MEMORY, is_refused, is_so};
+use crate::checks::{LIMIT, MEMORY, is_refused, is_so, refusal_of};
 use crate::interners::{Small, are_equal, has_count, interner, interns, lacks, of_texts};
 use crate::steps::Step::{Counts, Fills, Gives, Has, HasLimit, Keeps, Takes};
 use crate::steps::{Step, runs, script, script_on};
 use lasso_parts::keys::Spur;
-use lasso_parts::util::Capacity;
+use lasso_parts::util::{Capacity, LassoErrorKind, LassoResult};
 use lasso_single::rodeo::Rodeo;
 use std::alloc::Global;
 use std::process::Abort;
@@ -35,39 +35,46 @@ fn a_clone_of_no_text(rt: HostRuntime) -> Result<(), Fail> {
     script_on(&rt, rodeo.clone(), &STEPS)
 }
 
-fn of_two(alloc: Global) -> Result<Small, Fail> {
-    of_texts(alloc, &["abc", "defg"])
+// Whether a copy over the target is refused so, or not at all.
+fn copy_ends(target: &mut Small, source: &Small, refusal: Option<LassoErrorKind>) -> bool {
+    match refusal {
+        Some(kind) => is_refused(target.try_clone_from(source), kind),
+        None => refusal_of(target.clone_from(source)).is_none(),
+    }
+}
+
+// Copies an interner of two texts over the target, which has to be refused so, or not at all. Then takes the
+// steps on the target.
+fn copy_of_two<R: AllocGlobal + Abort>(
+    rt: &R,
+    made: LassoResult<Small>,
+    refusal: Option<LassoErrorKind>,
+    steps: &[Step],
+) -> Result<(), Fail> {
+    let source = of_texts(rt.alloc(), &["abc", "defg"])?;
+    let mut target = made?;
+    is_so(rt, copy_ends(&mut target, &source, refusal), "the copy");
+    runs(rt, &mut target, steps);
+    Ok(())
 }
 
 #[test]
 fn a_copy_past_the_limit_leaves_nothing(rt: HostRuntime) -> Result<(), Fail> {
     static STEPS: [Step; 2] = [Counts(0), Gives("wxyz", Ok(0), 4)];
-    let source = of_two(rt.alloc())?;
-    let mut target = interner::<Spur>(rt.alloc(), 4, 4)?;
-    let refused = is_refused(target.try_clone_from(&source), LIMIT);
-    is_so(&rt, refused, "a copy of more bytes than the limit");
-    runs(&rt, &mut target, &STEPS);
-    Ok(())
-}
-
-fn goes_on(target: &mut Small, source: &Small) -> Result<(), Fail> {
-    target.clone_from(source)?;
-    target.extend(["wxyz", "abc"])?;
-    Ok(())
+    let target = interner::<Spur>(rt.alloc(), 4, 4);
+    copy_of_two(&rt, target, Some(LIMIT), &STEPS)
 }
 
 #[test]
 fn a_copy_goes_on(rt: HostRuntime) -> Result<(), Fail> {
-    let source = of_two(rt.alloc())?;
-    let mut target = interner::<Spur>(rt.alloc(), 4, usize::MAX)?;
-    goes_on(&mut target, &source)?;
-    static STEPS: [Step; 3] = [
+    static STEPS: [Step; 4] = [
+        Fills(&["wxyz", "abc"], None),
         Gives("abc", Ok(0), 12),
         Gives("defg", Ok(1), 12),
         Gives("wxyz", Ok(2), 12),
     ];
-    runs(&rt, &mut target, &STEPS);
-    Ok(())
+    let target = interner::<Spur>(rt.alloc(), 4, usize::MAX);
+    copy_of_two(&rt, target, None, &STEPS)
 }
 
 #[test]

@@ -1,6 +1,6 @@
 //! Interners made from static words, and the checks of such words.
 
-use crate::checks::{KEYS, is_refused, is_so};
+use crate::checks::{KEYS, is_refused, is_so, is_so_at};
 use crate::interners::{Small, takes};
 use crate::steps::Step::{At, Counts, Gives};
 use crate::steps::{Step, script_on};
@@ -74,19 +74,21 @@ fn no_words_and_words_past_the_keys(rt: HostRuntime) -> Result<(), Fail> {
     Ok(())
 }
 
+// Lists of words, and whether no word comes twice.
+static LISTS: [(&[&str], bool); 6] = [
+    (&[], true),
+    (&["", "a", "aa"], true),
+    (&KEYWORDS, true),
+    (&["", ""], false),
+    (&["a", "b", "c", "a"], false),
+    (&["a", "b", "b"], false),
+];
+
 #[test]
-fn words_that_come_twice(rt: HostRuntime) -> Result<(), Fail> {
-    is_so(&rt, are_distinct(&[]), "no word");
-    is_so(&rt, are_distinct(&["", "a", "aa"]), "three words");
-    is_so(&rt, are_distinct(&KEYWORDS), "the keywords");
-    is_so(&rt, !are_distinct(&["", ""]), "the empty word twice");
-    is_so(
-        &rt,
-        !are_distinct(&["a", "b", "c", "a"]),
-        "the first word twice",
-    );
-    is_so(&rt, !are_distinct(&["a", "b", "b"]), "the last word twice");
-    Ok(())
+fn words_that_come_twice(rt: HostRuntime) {
+    for (row, (words, wanted)) in LISTS.iter().enumerate() {
+        is_so_at(&rt, are_distinct(*words) == *wanted, row);
+    }
 }
 
 #[test]
