@@ -75,8 +75,8 @@ fn is_next<R: Wait>(rt: &R, shared: &Shared, texts: &[&str], number: usize) -> b
     }
 }
 
-// Interns the texts from number `have` on, up to `count` texts. The interner then has to show exactly these, and
-// to have this number of cells.
+// Interns the texts from number `have` on. The interner then has to show exactly these texts, and to have this
+// number of cells.
 fn grow<R: Wait + Abort>(rt: &R, shared: &Shared, texts: &[&str], have: usize, cells: usize) {
     for number in have..texts.len() {
         is_so_at(rt, is_next(rt, shared, texts, number), number);
@@ -85,7 +85,7 @@ fn grow<R: Wait + Abort>(rt: &R, shared: &Shared, texts: &[&str], have: usize, c
     is_so_at(rt, shared.capacity() == cells, texts.len());
 }
 
-// The same for each number of texts in `STATES`.
+// The same of the first texts, for each number of them in `STATES`.
 fn grow_by_states<R: Wait + Abort>(rt: &R, shared: &Shared, texts: &[&str]) -> Result<(), Fail> {
     let mut have: usize = 0;
     for (count, cells) in STATES.iter() {

@@ -141,7 +141,7 @@ fn are_shown<K: Key, S: BuildHasher + Default + Drop, R: Wait>(
         && are_read::<K, S, R>(rt, alloc, texts)
 }
 
-// The same of texts of `length` bytes where these letters have one byte each.
+// The same of a text of each letter, of `length` bytes where the letter has one byte.
 fn lettered_are_shown<K: Key, S: BuildHasher + Default + Drop, R: Wait>(
     rt: &R,
     alloc: Global,
