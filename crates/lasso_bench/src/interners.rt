@@ -77,7 +77,7 @@ pub fn time_filling<R: AllocGlobal + Clock + Threads + Wait + Sync>(
     Ok(timings)
 }
 
-// The keys of the texts that are there.
+// The keys of the present texts.
 fn keys_of<R: AllocGlobal + Wait>(
     rt: &R,
     rodeo: &SpurThreadedRodeo,

@@ -103,7 +103,7 @@ fn timed_misses<P: TextPool, R: Clock>(rt: &R, pool: &P, texts: &[String]) -> Re
     Ok(Timed { sum, tenths })
 }
 
-// Resolves the keys of the texts that are there.
+// Resolves the keys of the present texts.
 fn timed_resolves<P: TextPool, R: AllocGlobal + Clock>(
     rt: &R,
     pool: &P,
@@ -165,7 +165,7 @@ fn count_missing<P: TextPool>(pool: &P, texts: &[String]) -> usize {
     missing
 }
 
-// The keys of the texts that are there.
+// The keys of the present texts.
 fn keys_of<P: TextPool, R: AllocGlobal>(
     rt: &R,
     pool: &P,

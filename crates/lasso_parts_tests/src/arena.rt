@@ -236,7 +236,7 @@ fn ten_texts_that_double(rt: HostRuntime) -> Result<(), Fail> {
     Ok(())
 }
 
-// Whether there is no memory for a region of so many bytes.
+// Whether there is no memory for a region of `bytes` bytes.
 fn is_too_large(alloc: Global, bytes: usize) -> bool
     requires { 0 < bytes }
 {

@@ -9,7 +9,7 @@ use std::alloc::Global;
 use std::marker::{Send, Sync};
 use std::test::Fail;
 
-// Whether so many bytes are left, and the bucket says that it is full if none is.
+// Whether `bytes` bytes are left, and the bucket says that it is full if none is.
 fn has_room(bucket: &Bucket<Global>, bytes: usize) -> bool {
     bucket.free_elements() == bytes && bucket.is_full() == (bytes == 0)
 }
@@ -29,7 +29,7 @@ fn fills_and_is_cleared(rt: HostRuntime) -> Result<(), Fail> {
     Ok(())
 }
 
-// Whether there is no memory for a bucket of so many bytes.
+// Whether there is no memory for a bucket of `capacity` bytes.
 fn is_too_large(alloc: Global, capacity: usize) -> bool
     requires { 0 < capacity }
 {

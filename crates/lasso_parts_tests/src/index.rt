@@ -102,7 +102,7 @@ impl<'a, S: BuildHasher + Drop> Entered<'a, S> {
 }
 
 impl<'a, S: BuildHasher + Drop> Entered<'a, S> {
-    // Whether a search finds the text as wanted, and reads so many texts.
+    // Whether a search finds the text as wanted, and reads `count` texts.
     fn reads(&self, text: &str, wanted: Option<usize>, count: u64) -> bool {
         let read = Cell::new(0u64);
         self.find_counted(&read, text) == wanted && read.get() == count
@@ -200,7 +200,7 @@ enum Step {
     Has(&'static str, Option<usize>),
     // the same by its hash
     HasHashed(&'static str, Option<usize>),
-    // the same, and the search reads so many texts
+    // the same, and how many texts the search reads
     Reads(&'static str, Option<usize>, u64),
 }
 

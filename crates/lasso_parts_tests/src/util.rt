@@ -46,7 +46,7 @@ fn errors_print_their_kind(rt: HostRuntime) -> Result<(), Fail> {
     Ok(())
 }
 
-// Whether the capacity has room for so many texts and bytes.
+// Whether the capacity has room for `strings` texts and `bytes` bytes.
 fn has_room(capacity: Capacity, strings: usize, bytes: usize) -> bool {
     capacity.strings() == strings && capacity.bytes() == bytes
 }
@@ -76,7 +76,7 @@ fn compare(rt: &impl Abort) {
     is_so(rt, fewer_bytes == Ordering::Greater, "fewer bytes");
 }
 
-// Whether the limit is so many bytes.
+// Whether the limit is `bytes` bytes.
 fn has_limit(limits: MemoryLimits, bytes: usize) -> bool {
     limits.max_memory_usage() == bytes
 }

@@ -157,12 +157,12 @@ fn has_at<R: Wait>(rt: &R, shared: &Shared, text: &str, number: usize) -> bool {
         && is_given(copied_so(rt, shared, text), number)
 }
 
-// The text at the end of a walk over so many texts.
+// The text at the end of a walk over many texts.
 fn last_walked(shared: &Shared) -> Option<&str> {
     shared.strings().nth(65_999)
 }
 
-// The interner has to have so many texts.
+// The interner has to have the many texts.
 fn has_many<R: Abort>(rt: &R, shared: &Shared) {
     is_so(rt, len(shared) == MANY, "length");
     is_so(rt, shared.capacity() == 131_072, "capacity");

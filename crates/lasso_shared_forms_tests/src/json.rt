@@ -151,7 +151,7 @@ fn a_new_text_goes_last(rt: HostRuntime) {
     reads_two(&rt, r#"["b","a"]"#);
 }
 
-// The interner has to have so many texts, of no bytes, and a bucket of 4096 bytes.
+// The interner has to have `count` texts, of no bytes, and a bucket of 4096 bytes.
 fn takes_4096<R: Wait + Abort>(rt: &R, shared: &Shared, count: usize, what: &str) {
     is_so(rt, len(shared) == count, what);
     is_so(rt, contains(rt, shared, "") == (count == 1), what);

@@ -97,7 +97,7 @@ fn is_one(log: &Log<Spur>, copied: &Copied) -> bool
     shows(log, &copied.0, "abcde") != shows(log, &copied.1, "vwxyz")
 }
 
-// Whether so many bytes of the bucket are taken.
+// Whether `bytes` bytes of the bucket are taken.
 fn has_taken(
     log: &Log<Spur>,
     bucket: &SharedBucket<Spur>,

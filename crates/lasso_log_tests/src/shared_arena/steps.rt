@@ -132,7 +132,7 @@ impl Opened {
             .set_limit(rt, &mut self.spine, &mut self.pass, limit);
     }
 
-    // Whether the bucket at the position has so many bytes, and so many of them are taken.
+    // Whether the bucket at the position has `bytes` bytes, of which `taken` are taken.
     fn has_bucket<R: Wait>(&mut self, rt: &R, position: u64, bytes: u64, taken: u64) -> bool {
         let (size, used) = bucket_at(rt, &self.log, &self.list, &mut self.pass, position);
         size == bytes && used == taken

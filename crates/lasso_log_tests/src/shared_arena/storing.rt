@@ -54,7 +54,7 @@ pub(super) fn opens(
     Ok((log, spine, list))
 }
 
-// Takes so many bytes of a bucket that has room for them, or else of a new one.
+// Takes `bytes` bytes of a bucket that has room for them, or else of a new one.
 pub(crate) fn range_for<R: Wait>(
     rt: &R,
     alloc: Global,
