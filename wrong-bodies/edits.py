@@ -4,6 +4,8 @@ import os
 import re
 from dataclasses import dataclass, field, replace
 
+from functions import functions_of
+
 HERE = os.path.dirname(os.path.dirname(os.path.abspath(__file__)))
 BY_SOME_HISTORY = re.compile(r"\bIsPlain(?:Call|Filling)\b")
 FUNCTION = re.compile(r"\bfn (\w+)")
@@ -109,15 +111,26 @@ def test_fit(edit, in_turn):
         text = text.replace(old, new)
 
 
+def test_function(edit):
+    """Refuses an edit of a function that its file does not have, and one of another function than it names."""
+    folder = os.path.join(HERE, "crates", edit.crate)
+    with open(os.path.join(folder, edit.file), encoding="utf-8") as source:
+        text = source.read()
+    named = edit.function.removeprefix(f"{edit.crate}::")
+    (_, end, new), *_ = places(edit, text)
+    before, after = [], []
+    for start, path in functions_of(folder, edit.file, text):
+        (before if start < end else after).append(re.fullmatch(path, named) is not None)
+    if not any(before + after):
+        raise Unfit(f"{edit.crate}/{edit.name}: {edit.file} has no function {named}")
+    if not any(before[-1:]) and named.rsplit("::", 1)[-1] not in FUNCTION.findall(new):
+        raise Unfit(f"{edit.crate}/{edit.name}: in {edit.file} its first change is not one of {named}")
+
+
 def test_names(edit):
-    """Refuses an edit of another function than it names, and one that names a test which does not exist."""
-    name = edit.function.rsplit("::", 1)[-1]
-    if name and edit.file.startswith("src/"):
-        with open(os.path.join(HERE, "crates", edit.crate, edit.file), encoding="utf-8") as source:
-            text = source.read()
-        (_, end, new), *_ = places(edit, text)
-        if name not in FUNCTION.findall(text[:end])[-1:] + FUNCTION.findall(new):
-            raise Unfit(f"{edit.crate}/{edit.name}: in {edit.file} its first change is not one of {name}")
+    """Refuses an edit that names a function or a test which does not exist."""
+    if edit.function and edit.file.startswith("src/"):
+        test_function(edit)
     for crate, test in edit.tests:
         *modules, name = test.split("::")
         named = [path for path in glob.glob(f"{HERE}/crates/{crate}/src/**/*.rt", recursive=True) if has_function(path, name)]
