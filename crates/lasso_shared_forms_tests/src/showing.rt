@@ -73,20 +73,21 @@ pub(super) fn are_read<K: Key, S: BuildHasher + Default + Drop, R: Wait>(
         && is_read::<K, S, R>(rt, alloc, array_of(alloc, texts), texts)
 }
 
-// An interner of a copied text and a static one. Its bucket and its limit are the bytes of the copied text.
+// An interner of a copied text and a static one. Its bucket is the bytes of the copied text, and its limit is
+// one byte more: a call that interned a text of one byte would change the usage and the texts.
 fn pair<K: Key, S: BuildHasher + Default + Drop, R: Wait>(
     rt: &R,
     alloc: Global,
     first: &str,
     second: &'static str,
 ) -> LassoResult<ThreadedRodeo<K, S>> {
-    let shared = limited(alloc, first.len(), first.len())?;
+    let shared = limited(alloc, first.len(), first.len().saturating_add(1))?;
     copied(rt, &shared, first)?;
     kept(rt, &shared, second)?;
     Ok(shared)
 }
 
-// Whether look-ups, walks and JSON show exactly these texts, and leave this limit and this usage.
+// Whether look-ups, walks and JSON show exactly these texts, and leave this usage, a byte below the limit.
 fn shows<K: Key, S: BuildHasher + Drop, R: Wait>(
     rt: &R,
     alloc: Global,
@@ -97,7 +98,7 @@ fn shows<K: Key, S: BuildHasher + Drop, R: Wait>(
     has_just(rt, shared, texts)
         && are_walked(shared, texts)
         && are_written(alloc, shared, texts)
-        && has_sums(rt, shared, bytes, bytes)
+        && has_sums(rt, shared, bytes.saturating_add(1), bytes)
 }
 
 // Whether look-ups, walks, JSON and the reader of the two texts show exactly these, and leave limit and usage as
