@@ -9,6 +9,8 @@ from functions import functions_of
 HERE = os.path.dirname(os.path.dirname(os.path.abspath(__file__)))
 BY_SOME_HISTORY = re.compile(r"\bIsPlain(?:Call|Filling)\b")
 FUNCTION = re.compile(r"\bfn (\w+)")
+TYPE_OR_CRATE = re.compile(r"(?<![\w:])(?:([A-Z]\w*)(?=::|\(| \{)|(lasso\w*)::)")
+KNOWN_EVERYWHERE = ("Some", "Ok", "Err", "Vec", "String", "Box", "Option")
 PAGE_FILE = re.compile(r"`(src/[\w/]+\.rt)`")
 EXAMPLES = "lasso_shared"
 KINDS = ("must-fail", "wrong-bodies")
@@ -99,10 +101,27 @@ def test_grounds(edit):
                 raise Unfit(f"{edit.crate}/{edit.name}: there is no example {file}.{name}")
 
 
+def used_by(crate):
+    """The crates that this one uses."""
+    with open(os.path.join(HERE, "crates.txt"), encoding="utf-8") as source:
+        return re.search(rf"^{crate}\b[^:]*:(.*)$", source.read(), re.MULTILINE).group(1).split()
+
+
+def test_compiles(edit, text):
+    """Refuses an edit that can't compile, since its new text names a type that its file does not, or a crate that its own does not use."""
+    for _, new in edit.changes:
+        for kind, crate in TYPE_OR_CRATE.findall(new):
+            known = crate in used_by(edit.crate) if crate else kind in KNOWN_EVERYWHERE or re.search(rf"\b{kind}\b", text)
+            if not known:
+                raise Unfit(f"{edit.crate}/{edit.name}: {edit.file} knows no {kind or crate}")
+
+
 def test_fit(edit, in_turn):
     """Refuses an edit that cannot be applied. Where `in_turn` is set, each change may be of what those before it made."""
     with open(os.path.join(HERE, "crates", edit.crate, edit.file), encoding="utf-8") as source:
         text = source.read()
+    if edit.file.startswith("src/"):
+        test_compiles(edit, text)
     if not in_turn:
         places(edit, text)
         return
