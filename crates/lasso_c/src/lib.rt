@@ -18,6 +18,8 @@ mod decoding;
 mod encoding;
 pub mod error;
 pub mod handle;
+#[cfg(test)]
+mod handle_tests;
 pub mod interner;
 #[cfg(test)]
 mod interner_tests;
