@@ -1,4 +1,4 @@
-use Rattle.std.proofs.Common.{rules, ◌≡◌, ◌-◌, ℕ, true, false, Option, None, Some, is_some, Ok, Err, refl, ap, sym, subst, ◌∙◌}
+use Rattle.std.proofs.Common.{rules, ◌≡◌, true, false, Option, None, Some, is_some, Ok, Err, refl, ap, sym, subst, ◌∙◌}
 use Rattle.std.specs.Prelude.{ok_or}
 use Rattle.std.specs.Str.{is_utf8}
 use Rattle.std.proofs.lemmas.Bool.{false_from_ne_true}
@@ -7,7 +7,6 @@ use Rattle.lasso_parts.specs.Texts.{Text, position_of}
 use Rattle.lasso_encode.proofs.Encoded.{found_at}
 use Rattle.lasso_c.specs.Handles.{known_text_lookup, text_lookup}
 use Rattle.lasso_c.specs.declared.error.CallError.TheVariants.{NoInterner, NoSuchText}
-use Rattle.lasso_c.specs.declared.slot.Interner.{Interner}
 use Rattle.lasso_c.proofs.interner.find_code.Goals as goal
 
 none_is : {X : Type 0} (o : Option X) → is_some o ≡ false → o ≡ None
