@@ -42,7 +42,8 @@
  *
  * It also writes out/lasso.pc for pkg-config. The header is good for C from C99 on and for C++.
  *
- * What a call writes and returns is proved. What the caller owes is not, nor what is said here of threads and of memory.
+ * What a call writes and returns is proved, but not that LASSO_NO_MEMORY comes only where malloc or realloc gave none. Nor is what
+ * the caller owes, or what is said here of threads and of memory.
  */
 #ifndef LASSO_H
 #define LASSO_H

@@ -1,14 +1,14 @@
--- What a call on a handle is about: the list and the account of its interner, and why a text is refused.
-use Rattle.std.specs.Prelude.{ℕ, List, [], length, drop, nat_lt, if◌then◌else◌, Option, None, Some, Result, Ok, Err}
+-- What a call on a handle is about: the list and the account of its interner, what a look-up finds, and how a call ends.
+use Rattle.std.specs.Prelude.{ℕ, Bool, true, false, List, [], length, drop, slice_get, ok_or, nat_lt, if◌then◌else◌, Option, None, Some, Result, Ok, Err}
 use Rattle.std.specs.List.{concat}
 use Rattle.lasso_parts.specs.Account.{Account}
-use Rattle.lasso_parts.specs.Texts.{Text}
+use Rattle.lasso_parts.specs.Texts.{Text, position_of}
 use Rattle.lasso_c.specs.Layout.{layout_texts, layout_fault}
 use Rattle.lasso_c.specs.Encoding.{sizes_of}
 use Rattle.lasso_c.specs.Decoding.{fitting, unless_faulty}
 use Rattle.lasso_c.specs.declared.error.Sizes.{Sizes}
 use Rattle.lasso_c.specs.declared.error.CallError.{CallError}
-use Rattle.lasso_c.specs.declared.error.CallError.TheVariants.{CodesTooShort, TooManyBytes, NoInterner}
+use Rattle.lasso_c.specs.declared.error.CallError.TheVariants.{CodesTooShort, TooManyBytes, NoInterner, NoSuchCode, NoSuchText, NotUtf8}
 use Rattle.lasso_c.specs.declared.slot.Interner.{Interner}
 
 -- the texts of the interner, or none
@@ -25,6 +25,29 @@ account_in (Some interner) = Some interner.rodeo.account
 abbrev pub first_in : Option Interner → Option ℕ
 first_in None = None
 first_in (Some interner) = Some interner.rodeo.first
+
+-- the code of a text among these, or that they do not have it
+abbrev pub text_lookup_in : List Text → Text → Result ℕ CallError
+text_lookup_in texts text = ok_or (position_of texts text) NoSuchText
+
+-- the text of a code among these, or that they have none
+abbrev pub code_lookup_in : List Text → ℕ → Result Text CallError
+code_lookup_in texts code = ok_or (slice_get texts code) (NoSuchCode 0)
+
+-- the code of a text in the interner, if there is one
+abbrev pub known_text_lookup : Option Interner → Text → Result ℕ CallError
+known_text_lookup None text = Err NoInterner
+known_text_lookup (Some interner) text = text_lookup_in interner.rodeo.texts text
+
+-- the same, unless the bytes are not UTF-8
+abbrev pub text_lookup : Bool → Option Interner → Text → Result ℕ CallError
+text_lookup false held text = Err (NotUtf8 0)
+text_lookup true held text = known_text_lookup held text
+
+-- the text of a code in the interner, if there is one
+abbrev pub code_lookup : Option Interner → ℕ → Result Text CallError
+code_lookup None code = Err NoInterner
+code_lookup (Some interner) code = code_lookup_in interner.rodeo.texts code
 
 -- how writing these texts ends, with that greatest offset, and room for these numbers of offsets and bytes
 abbrev pub part_outcome : ℕ → List Text → ℕ → ℕ → Result Sizes CallError

@@ -16,6 +16,7 @@ use Rattle.lasso_c.specs.declared.error.LassoReport.{LassoReport}
 use Rattle.lasso_c.specs.declared.error.CallError.{CallError}
 use Rattle.lasso_c.specs.declared.error.CallError.TheVariants.{CodesTooShort, BitmapTooShort, LimitReached, NoCodeLeft, NoMemory, NoInterner}
 use Rattle.lasso_c.specs.declared.slot.Interner.{Interner}
+use Rattle.lasso_c.specs.declared.status.TheConstants.{NO_INTERNER, NOT_UTF8}
 
 -- the key of a code, which is one more
 abbrev pub key_of_code : ℕ → Option ℕ
@@ -97,11 +98,11 @@ BatchEnds greatest (Some old) bits bytes offsets room status report new =
 
 -- how interning one text ends on a handle: its status, and what the handle holds
 abbrev pub TextInterned : Option Interner → Text → ℕ → Option Interner → Type 0
-TextInterned None text status new = (status ≡ 12) × (new ≡ None)
+TextInterned None text status new = (status ≡ NO_INTERNER) × (new ≡ None)
 TextInterned (Some old) text status new =
     (interner : Interner) × (outcome : Result ℕ CallError) × (new ≡ Some interner) × InternsCode 0 old.rodeo text outcome interner.rodeo × (status ≡ outcome_status outcome)
 
 -- the same, unless the bytes are not UTF-8
 abbrev pub TextEnds : Bool → Option Interner → Text → ℕ → Option Interner → Type 0
 TextEnds true old text status new = TextInterned old text status new
-TextEnds false old text status new = (status ≡ 3) × (new ≡ old)
+TextEnds false old text status new = (status ≡ NOT_UTF8) × (new ≡ old)

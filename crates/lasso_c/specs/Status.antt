@@ -3,28 +3,29 @@ use Rattle.std.specs.Prelude.{ℕ, ◌≡◌, List, nat_eq, if◌then◌else◌,
 use Rattle.lasso_c.specs.declared.error.Sizes.{Sizes}
 use Rattle.lasso_c.specs.declared.error.LassoReport.{LassoReport}
 use Rattle.lasso_c.specs.declared.error.CallError.{CallError}
+use Rattle.lasso_c.specs.declared.status.TheConstants.{DONE, OFFSETS_FALL, OFFSET_PAST_BYTES, NOT_UTF8, NO_SUCH_CODE, TOO_MANY_BYTES, CODES_TOO_SHORT, OFFSETS_TOO_SHORT, BYTES_TOO_SHORT, NO_MEMORY, LIMIT_REACHED, NO_CODE_LEFT, NO_INTERNER, NO_SUCH_TEXT, BITMAP_TOO_SHORT}
 use Rattle.lasso_c.specs.declared.error.CallError.TheVariants.{OffsetsFall, OffsetPastBytes, NotUtf8, NoSuchCode, TooManyBytes, CodesTooShort, OffsetsTooShort, BytesTooShort, NoMemory, LimitReached, NoCodeLeft, NoInterner, NoSuchText, BitmapTooShort}
 
 -- a number of its own for each kind of refusal
 abbrev pub error_status : CallError → ℕ
-error_status (OffsetsFall _) = 1
-error_status (OffsetPastBytes _) = 2
-error_status (NotUtf8 _) = 3
-error_status (NoSuchCode _) = 4
-error_status (TooManyBytes _) = 5
-error_status (CodesTooShort _) = 6
-error_status (OffsetsTooShort _) = 7
-error_status (BytesTooShort _) = 8
-error_status NoMemory = 9
-error_status (LimitReached _) = 10
-error_status (NoCodeLeft _) = 11
-error_status NoInterner = 12
-error_status NoSuchText = 13
-error_status (BitmapTooShort _) = 14
+error_status (OffsetsFall _) = OFFSETS_FALL
+error_status (OffsetPastBytes _) = OFFSET_PAST_BYTES
+error_status (NotUtf8 _) = NOT_UTF8
+error_status (NoSuchCode _) = NO_SUCH_CODE
+error_status (TooManyBytes _) = TOO_MANY_BYTES
+error_status (CodesTooShort _) = CODES_TOO_SHORT
+error_status (OffsetsTooShort _) = OFFSETS_TOO_SHORT
+error_status (BytesTooShort _) = BYTES_TOO_SHORT
+error_status NoMemory = NO_MEMORY
+error_status (LimitReached _) = LIMIT_REACHED
+error_status (NoCodeLeft _) = NO_CODE_LEFT
+error_status NoInterner = NO_INTERNER
+error_status NoSuchText = NO_SUCH_TEXT
+error_status (BitmapTooShort _) = BITMAP_TOO_SHORT
 
--- 0 where the call was done, and else the number of the refusal
+-- that of a call that was done, or the number of the refusal
 abbrev pub outcome_status : {X : Type 0} → Result X CallError → ℕ
-outcome_status (Ok _) = 0
+outcome_status (Ok _) = DONE
 outcome_status (Err refusal) = error_status refusal
 
 -- a report of sizes alone
@@ -60,19 +61,19 @@ Reports outcome status report = (status ≡ outcome_status outcome) × (report �
 -- what a status means
 abbrev pub status_text : ℕ → List ℕ
 status_text status =
-    if nat_eq status 0 then codes "done"
-    else if nat_eq status 1 then codes "an offset is below the one before it"
-    else if nat_eq status 2 then codes "an offset lies past the bytes"
-    else if nat_eq status 3 then codes "a text is not UTF-8"
-    else if nat_eq status 4 then codes "the dictionary has no text for a code"
-    else if nat_eq status 5 then codes "the texts have more bytes than offsets can tell"
-    else if nat_eq status 6 then codes "there is no room for the codes"
-    else if nat_eq status 7 then codes "there is no room for the offsets"
-    else if nat_eq status 8 then codes "there is no room for the bytes"
-    else if nat_eq status 9 then codes "there is no memory"
-    else if nat_eq status 10 then codes "the limit leaves no room for a text"
-    else if nat_eq status 11 then codes "there is a text for each code"
-    else if nat_eq status 12 then codes "there is no interner"
-    else if nat_eq status 13 then codes "the interner does not have the text"
-    else if nat_eq status 14 then codes "a bitmap has no bit for a row"
+    if nat_eq status DONE then codes "done"
+    else if nat_eq status OFFSETS_FALL then codes "an offset is below the one before it"
+    else if nat_eq status OFFSET_PAST_BYTES then codes "an offset lies past the bytes"
+    else if nat_eq status NOT_UTF8 then codes "a text is not UTF-8"
+    else if nat_eq status NO_SUCH_CODE then codes "the dictionary has no text for a code"
+    else if nat_eq status TOO_MANY_BYTES then codes "the texts have more bytes than offsets can tell"
+    else if nat_eq status CODES_TOO_SHORT then codes "there is no room for the codes"
+    else if nat_eq status OFFSETS_TOO_SHORT then codes "there is no room for the offsets"
+    else if nat_eq status BYTES_TOO_SHORT then codes "there is no room for the bytes"
+    else if nat_eq status NO_MEMORY then codes "there is no memory"
+    else if nat_eq status LIMIT_REACHED then codes "the limit leaves no room for a text"
+    else if nat_eq status NO_CODE_LEFT then codes "there is a text for each code"
+    else if nat_eq status NO_INTERNER then codes "there is no interner"
+    else if nat_eq status NO_SUCH_TEXT then codes "the interner does not have the text"
+    else if nat_eq status BITMAP_TOO_SHORT then codes "a bitmap has no bit for a row"
     else codes "not a status"

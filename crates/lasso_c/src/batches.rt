@@ -6,7 +6,7 @@ ghost use Rattle.lasso_parts.specs.Texts.{position_of};
 ghost use Rattle.lasso_c.specs.Bitmap.{bits_fit};
 ghost use Rattle.lasso_c.specs.Layout.{column_rows, greatest_offset, layout_fault, layout_texts, offsets_from, over, present_texts};
 ghost use Rattle.lasso_c.specs.Encoding.{with_all_new, codes_of, codes_or, row_codes, sizes_of};
-ghost use Rattle.lasso_c.specs.Handles.{part_lookup_outcome, part_outcome};
+ghost use Rattle.lasso_c.specs.Handles.{code_lookup_in, part_lookup_outcome, part_outcome};
 ghost use Rattle.lasso_c.specs.Interning.{InternsCode, InternsNext, InternsPart, batch_report, batch_start_fault};
 ghost use Rattle.lasso_c.specs.Status.{outcome_status};
 
@@ -15,6 +15,7 @@ use crate::error::{CallError, LassoReport, Sizes, status_of};
 use crate::layout::{check_layout, first_start, put_text, text_between};
 use crate::nulls::{check_null, fit, is_present};
 use crate::offsets::Offset;
+use crate::status::{DONE, NO_SUCH_CODE};
 use lasso_encode::intern_code;
 use lasso_parts::keys::Key;
 use lasso_parts::util::LassoErrorKind;
@@ -33,7 +34,7 @@ pub(crate) fn tell_batch(progress: Progress, report: &mut LassoReport) -> u32
 {
     let texts = progress.done;
     let (status, at) = match progress.outcome {
-        Ok(()) => (0, 0),
+        Ok(()) => (DONE, 0),
         Err(refusal) => (status_of(&refusal), texts),
     };
     *report = LassoReport {
@@ -287,18 +288,18 @@ pub(crate) fn copy_text(
     text: &mut [u8],
     whole: &mut usize,
 ) -> u32
-    ensures found { result ≡ 0 → IfSome (slice_get dictionary.now.texts code) (λ t. (whole.new ≡ length t) × (text.new ≡ over (take (length text.old) t) text.old)) }
-    ensures present { result ≡ 0 → IsSome (slice_get dictionary.now.texts code) }
-    ensures absent { ¬ (result ≡ 0) → (result ≡ 4) × (slice_get dictionary.now.texts code ≡ None) }
-    ensures kept { ¬ (result ≡ 0) → (whole.new ≡ whole.old) × (text.new ≡ text.old) }
+    ensures status { result ≡ outcome_status (code_lookup_in dictionary.now.texts code) }
+    ensures found { result ≡ DONE → IfSome (slice_get dictionary.now.texts code) (λ t. (whole.new ≡ length t) × (text.new ≡ over (take (length text.old) t) text.old)) }
+    ensures present { result ≡ DONE → IsSome (slice_get dictionary.now.texts code) }
+    ensures kept { ¬ (result ≡ DONE) → (whole.new ≡ whole.old) × (text.new ≡ text.old) }
 {
     let code = code as usize;
     if code >= dictionary.len() {
-        return 4;
+        return NO_SUCH_CODE;
     }
     let found = text_at_code(dictionary, code).as_bytes();
     let room = found.len().min(text.len());
     text[..room].copy_from_slice(&found[..room]);
     *whole = found.len();
-    0
+    DONE
 }

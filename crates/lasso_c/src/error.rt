@@ -3,6 +3,7 @@ ghost use Rattle.std.specs.Prelude.{◌≡◌};
 ghost use Rattle.lasso_c.specs.Status.{Reports, error_status, status_text};
 ghost use Rattle.lasso_c.specs.declared.error.CallError.TheVariants.{NoMemory};
 
+use crate::status::*;
 use lasso_parts::util::LassoError;
 use std::alloc::{AllocError, AllocFailed};
 
@@ -89,21 +90,21 @@ pub(crate) fn tell(outcome: &Result<Sizes, CallError>, report: &mut LassoReport)
     ensures { Reports outcome.now result report.new }
 {
     let (status, texts, bytes, at) = match outcome {
-        Ok(sizes) => (0, sizes.texts, sizes.bytes, 0),
-        Err(CallError::OffsetsFall(at)) => (1, 0, 0, *at),
-        Err(CallError::OffsetPastBytes(at)) => (2, 0, 0, *at),
-        Err(CallError::NotUtf8(at)) => (3, 0, 0, *at),
-        Err(CallError::NoSuchCode(at)) => (4, 0, 0, *at),
-        Err(CallError::TooManyBytes(at)) => (5, 0, 0, *at),
-        Err(CallError::CodesTooShort(sizes)) => (6, sizes.texts, sizes.bytes, 0),
-        Err(CallError::OffsetsTooShort(sizes)) => (7, sizes.texts, sizes.bytes, 0),
-        Err(CallError::BytesTooShort(sizes)) => (8, sizes.texts, sizes.bytes, 0),
-        Err(CallError::NoMemory) => (9, 0, 0, 0),
-        Err(CallError::LimitReached(at)) => (10, 0, 0, *at),
-        Err(CallError::NoCodeLeft(at)) => (11, 0, 0, *at),
-        Err(CallError::NoInterner) => (12, 0, 0, 0),
-        Err(CallError::NoSuchText) => (13, 0, 0, 0),
-        Err(CallError::BitmapTooShort(at)) => (14, 0, 0, *at),
+        Ok(sizes) => (DONE, sizes.texts, sizes.bytes, 0),
+        Err(CallError::OffsetsFall(at)) => (OFFSETS_FALL, 0, 0, *at),
+        Err(CallError::OffsetPastBytes(at)) => (OFFSET_PAST_BYTES, 0, 0, *at),
+        Err(CallError::NotUtf8(at)) => (NOT_UTF8, 0, 0, *at),
+        Err(CallError::NoSuchCode(at)) => (NO_SUCH_CODE, 0, 0, *at),
+        Err(CallError::TooManyBytes(at)) => (TOO_MANY_BYTES, 0, 0, *at),
+        Err(CallError::CodesTooShort(sizes)) => (CODES_TOO_SHORT, sizes.texts, sizes.bytes, 0),
+        Err(CallError::OffsetsTooShort(sizes)) => (OFFSETS_TOO_SHORT, sizes.texts, sizes.bytes, 0),
+        Err(CallError::BytesTooShort(sizes)) => (BYTES_TOO_SHORT, sizes.texts, sizes.bytes, 0),
+        Err(CallError::NoMemory) => (NO_MEMORY, 0, 0, 0),
+        Err(CallError::LimitReached(at)) => (LIMIT_REACHED, 0, 0, *at),
+        Err(CallError::NoCodeLeft(at)) => (NO_CODE_LEFT, 0, 0, *at),
+        Err(CallError::NoInterner) => (NO_INTERNER, 0, 0, 0),
+        Err(CallError::NoSuchText) => (NO_SUCH_TEXT, 0, 0, 0),
+        Err(CallError::BitmapTooShort(at)) => (BITMAP_TOO_SHORT, 0, 0, *at),
     };
     *report = LassoReport { texts, bytes, at };
     status
@@ -114,20 +115,20 @@ pub(crate) fn status_of(refusal: &CallError) -> u32
     ensures { result ≡ error_status refusal.now }
 {
     match refusal {
-        CallError::OffsetsFall(_) => 1,
-        CallError::OffsetPastBytes(_) => 2,
-        CallError::NotUtf8(_) => 3,
-        CallError::NoSuchCode(_) => 4,
-        CallError::TooManyBytes(_) => 5,
-        CallError::CodesTooShort(_) => 6,
-        CallError::OffsetsTooShort(_) => 7,
-        CallError::BytesTooShort(_) => 8,
-        CallError::NoMemory => 9,
-        CallError::LimitReached(_) => 10,
-        CallError::NoCodeLeft(_) => 11,
-        CallError::NoInterner => 12,
-        CallError::NoSuchText => 13,
-        CallError::BitmapTooShort(_) => 14,
+        CallError::OffsetsFall(_) => OFFSETS_FALL,
+        CallError::OffsetPastBytes(_) => OFFSET_PAST_BYTES,
+        CallError::NotUtf8(_) => NOT_UTF8,
+        CallError::NoSuchCode(_) => NO_SUCH_CODE,
+        CallError::TooManyBytes(_) => TOO_MANY_BYTES,
+        CallError::CodesTooShort(_) => CODES_TOO_SHORT,
+        CallError::OffsetsTooShort(_) => OFFSETS_TOO_SHORT,
+        CallError::BytesTooShort(_) => BYTES_TOO_SHORT,
+        CallError::NoMemory => NO_MEMORY,
+        CallError::LimitReached(_) => LIMIT_REACHED,
+        CallError::NoCodeLeft(_) => NO_CODE_LEFT,
+        CallError::NoInterner => NO_INTERNER,
+        CallError::NoSuchText => NO_SUCH_TEXT,
+        CallError::BitmapTooShort(_) => BITMAP_TOO_SHORT,
     }
 }
 
@@ -136,21 +137,21 @@ pub(crate) fn message_of(status: u32) -> &'static str
     ensures { result.now ≡ status_text status }
 {
     match status {
-        0 => "done",
-        1 => "an offset is below the one before it",
-        2 => "an offset lies past the bytes",
-        3 => "a text is not UTF-8",
-        4 => "the dictionary has no text for a code",
-        5 => "the texts have more bytes than offsets can tell",
-        6 => "there is no room for the codes",
-        7 => "there is no room for the offsets",
-        8 => "there is no room for the bytes",
-        9 => "there is no memory",
-        10 => "the limit leaves no room for a text",
-        11 => "there is a text for each code",
-        12 => "there is no interner",
-        13 => "the interner does not have the text",
-        14 => "a bitmap has no bit for a row",
+        DONE => "done",
+        OFFSETS_FALL => "an offset is below the one before it",
+        OFFSET_PAST_BYTES => "an offset lies past the bytes",
+        NOT_UTF8 => "a text is not UTF-8",
+        NO_SUCH_CODE => "the dictionary has no text for a code",
+        TOO_MANY_BYTES => "the texts have more bytes than offsets can tell",
+        CODES_TOO_SHORT => "there is no room for the codes",
+        OFFSETS_TOO_SHORT => "there is no room for the offsets",
+        BYTES_TOO_SHORT => "there is no room for the bytes",
+        NO_MEMORY => "there is no memory",
+        LIMIT_REACHED => "the limit leaves no room for a text",
+        NO_CODE_LEFT => "there is a text for each code",
+        NO_INTERNER => "there is no interner",
+        NO_SUCH_TEXT => "the interner does not have the text",
+        BITMAP_TOO_SHORT => "a bitmap has no bit for a row",
         _ => "not a status",
     }
 }

@@ -59,11 +59,3 @@ impl Drop for Lasso {
         let _interner = self.into_box();
     }
 }
-
-/// That a handle may be passed from thread to thread: it may, since an interner may.
-pub fn handles_cross_threads() {
-    is_send::<Interner>();
-    is_send::<Lasso>();
-}
-
-fn is_send<T: Send>() {}

@@ -1,21 +1,22 @@
 //! Interners that C holds from call to call. `include/lasso.h` says the same of each call in C's words.
 //!
 //! A call takes the interner out of its handle, works on it, and puts it back, which needs no memory.
-ghost use Rattle.std.specs.Prelude.{◌≡◌, ◌⊎◌, ◌≤◌, [], None, Some, length, slice_get, take, drop, IfSome, IsSome};
+ghost use Rattle.std.specs.Prelude.{◌≡◌, ◌≤◌, [], None, Some, length, slice_get, take, drop, IfSome, IsSome};
 ghost use Rattle.std.specs.List.{concat};
 ghost use Rattle.std.specs.Str.{is_utf8};
 ghost use Rattle.lasso_parts.specs.Account.{clear, fresh, with_limit};
 ghost use Rattle.lasso_parts.specs.Texts.{position_of};
 ghost use Rattle.lasso_c.specs.Layout.{column_rows, greatest_offset, layout_texts, offsets_from, over, present_texts};
 ghost use Rattle.lasso_c.specs.Encoding.{with_new, with_all_new, codes_of, codes_or, row_codes};
-ghost use Rattle.lasso_c.specs.Handles.{account_in, dictionary_outcome, first_in, lookup_outcome, texts_in};
+ghost use Rattle.lasso_c.specs.Handles.{account_in, code_lookup, dictionary_outcome, first_in, lookup_outcome, text_lookup, texts_in};
 ghost use Rattle.lasso_c.specs.Interning.{BatchEnds, TextEnds};
-ghost use Rattle.lasso_c.specs.Status.{Reports};
+ghost use Rattle.lasso_c.specs.Status.{Reports, outcome_status};
 
 use crate::batches::{code_in, copy_text};
-use crate::error::{LassoReport, status_of};
+use crate::error::{CallError, LassoReport, status_of};
 use crate::handle::Lasso;
 use crate::slot::Interner;
+use crate::status::{DONE, NO_INTERNER, NO_MEMORY, NOT_UTF8};
 use crate::widths;
 use lasso_parts::keys::Key;
 use lasso_parts::util::MemoryLimits;
@@ -24,56 +25,57 @@ use std::alloc::Global;
 use std::str::from_utf8;
 
 /// Makes an interner whose buckets take at most `limit` bytes. Once it is made, one that the handle held is let go. It returns
-/// 9 out of memory, and the handle is as it was then.
+/// `NO_MEMORY` out of memory, and the handle is as it was then.
 #[unsafe(no_mangle)]
 pub extern "C" fn lasso_new(alloc: Global, lasso: &mut Lasso, limit: usize) -> u32
-    ensures made { result ≡ 0 → IsSome lasso.new.slot.value }
-    ensures texts { result ≡ 0 → texts_in lasso.new.slot.value ≡ [] }
-    ensures account { result ≡ 0 → account_in lasso.new.slot.value ≡ Some (fresh 4096 limit) }
-    ensures first { result ≡ 0 → first_in lasso.new.slot.value ≡ Some 4096 }
-    ensures refused { ¬ (result ≡ 0) → result ≡ 9 }
-    ensures kept { ¬ (result ≡ 0) → lasso.new.slot.value ≡ lasso.old.slot.value }
+    ensures made { result ≡ DONE → IsSome lasso.new.slot.value }
+    ensures texts { result ≡ DONE → texts_in lasso.new.slot.value ≡ [] }
+    ensures account { result ≡ DONE → account_in lasso.new.slot.value ≡ Some (fresh 4096 limit) }
+    ensures first { result ≡ DONE → first_in lasso.new.slot.value ≡ Some 4096 }
+    ensures refused { ¬ (result ≡ DONE) → result ≡ NO_MEMORY }
+    ensures kept { ¬ (result ≡ DONE) → lasso.new.slot.value ≡ lasso.old.slot.value }
 {
     let Ok(rodeo) = Rodeo::with_memory_limits(alloc, MemoryLimits::new(limit)) else {
-        return 9;
+        return NO_MEMORY;
     };
     let Ok(interner) = Box::new(alloc, Interner { rodeo }) else {
-        return 9;
+        return NO_MEMORY;
     };
     lasso.put(alloc, interner);
-    0
+    DONE
 }
 
-/// Interns a text, and writes its code. It returns 3 where the text is not UTF-8, 12 without an interner, and where the interner
-/// refuses the text 10 for its limit, 11 without a code, 9 out of memory. Nothing has changed then.
+/// Interns a text, and writes its code. It returns `NOT_UTF8`; `NO_INTERNER`; and where the interner refuses the text
+/// `LIMIT_REACHED`, `NO_CODE_LEFT` or `NO_MEMORY`. Nothing has changed then.
 #[unsafe(no_mangle)]
 pub extern "C" fn lasso_intern(alloc: Global, lasso: &mut Lasso, text: &[u8], code: &mut u32) -> u32
-    ensures texts { result ≡ 0 → texts_in lasso.new.slot.value ≡ with_new (texts_in lasso.old.slot.value) text.now }
-    ensures code { result ≡ 0 → position_of (texts_in lasso.new.slot.value) text.now ≡ Some code.new }
+    ensures texts { result ≡ DONE → texts_in lasso.new.slot.value ≡ with_new (texts_in lasso.old.slot.value) text.now }
+    ensures code { result ≡ DONE → position_of (texts_in lasso.new.slot.value) text.now ≡ Some code.new }
     ensures outcome { TextEnds (is_utf8 text.now) lasso.old.slot.value text.now result lasso.new.slot.value }
-    ensures kept { ¬ (result ≡ 0) → lasso.new.slot.value ≡ lasso.old.slot.value }
-    ensures code_kept { ¬ (result ≡ 0) → code.new ≡ code.old }
+    ensures kept { ¬ (result ≡ DONE) → lasso.new.slot.value ≡ lasso.old.slot.value }
+    ensures code_kept { ¬ (result ≡ DONE) → code.new ≡ code.old }
 {
     let Ok(text) = from_utf8(text) else {
-        return 3;
+        return NOT_UTF8;
     };
     let Some(mut interner) = lasso.take(alloc) else {
-        return 12;
+        return NO_INTERNER;
     };
     let outcome = code_in(&mut interner.rodeo, text, 0);
     lasso.put(alloc, interner);
     match outcome {
         Ok(found) => {
             *code = found;
-            0
+            DONE
         }
         Err(refusal) => status_of(&refusal),
     }
 }
 
 /// Interns the texts of a layout in their order, up to the first that is refused, and writes the codes of those before it. The
-/// report says how many these are, and also where the refused one is. It returns 6 and interns none where a code of each text
-/// has no room, 12 without an interner, and else what the refused text gives: 1, 2 or 3 for its layout, 9, 10 or 11.
+/// report says how many these are, and also where the refused one is. It returns `CODES_TOO_SHORT` and interns none where a code
+/// of each text has no room, `NO_INTERNER` without an interner, and else what the refused text gives: `OFFSETS_FALL`,
+/// `OFFSET_PAST_BYTES` or `NOT_UTF8` for its layout, or a refusal of `lasso_intern`.
 #[unsafe(no_mangle)]
 pub extern "C" fn lasso_intern_batch(
     alloc: Global,
@@ -86,15 +88,15 @@ pub extern "C" fn lasso_intern_batch(
     ensures outcome { BatchEnds greatest_offset lasso.old.slot.value [] bytes.now offsets.now (length codes.old) result report.new lasso.new.slot.value }
     ensures texts { texts_in lasso.new.slot.value ≡ with_all_new (texts_in lasso.old.slot.value) (take report.new.texts (layout_texts bytes.now offsets.now)) }
     ensures codes { codes.new ≡ over (codes_of (texts_in lasso.new.slot.value) (take report.new.texts (layout_texts bytes.now offsets.now))) codes.old }
-    ensures whole { result ≡ 0 → report.new.texts ≡ length (layout_texts bytes.now offsets.now) }
+    ensures whole { result ≡ DONE → report.new.texts ≡ length (layout_texts bytes.now offsets.now) }
     ensures within { report.new.texts ≤ length (layout_texts bytes.now offsets.now) }
 {
     widths::intern_batch(alloc, lasso, bytes, offsets, codes, report)
 }
 
 /// The same for a column with nulls: bit i of byte i / 8 of `present`, counted from the least, is 1 where row i is present, and without
-/// a byte each is. A null has the code `null`, and no text is interned for it. It returns 14 and interns none where `present` has
-/// too few bits.
+/// a byte each is. A null has the code `null`, and no text is interned for it. It returns `BITMAP_TOO_SHORT` and interns none where
+/// `present` has too few bits.
 #[unsafe(no_mangle)]
 pub extern "C" fn lasso_intern_batch_nulls(
     alloc: Global,
@@ -109,43 +111,53 @@ pub extern "C" fn lasso_intern_batch_nulls(
     ensures outcome { BatchEnds greatest_offset lasso.old.slot.value present.now bytes.now offsets.now (length codes.old) result report.new lasso.new.slot.value }
     ensures texts { texts_in lasso.new.slot.value ≡ with_all_new (texts_in lasso.old.slot.value) (present_texts (take report.new.texts (column_rows present.now bytes.now offsets.now))) }
     ensures codes { codes.new ≡ over (row_codes null (texts_in lasso.new.slot.value) (take report.new.texts (column_rows present.now bytes.now offsets.now))) codes.old }
-    ensures whole { result ≡ 0 → report.new.texts ≡ length (layout_texts bytes.now offsets.now) }
+    ensures whole { result ≡ DONE → report.new.texts ≡ length (layout_texts bytes.now offsets.now) }
     ensures within { report.new.texts ≤ length (layout_texts bytes.now offsets.now) }
 {
     widths::intern_batch_nulls(alloc, lasso, bytes, offsets, present, null, codes, report)
 }
 
-/// Writes the code of a text. It returns 3 where the text is not UTF-8, 12 without an interner, 13 where the text is absent, and
-/// writes nothing then.
+/// Writes the code of a text. It returns `NOT_UTF8` where the text is not UTF-8, `NO_INTERNER` without an interner,
+/// `NO_SUCH_TEXT` where the text is absent, and writes nothing then.
 #[unsafe(no_mangle)]
 pub extern "C" fn lasso_get(alloc: Global, lasso: &mut Lasso, text: &[u8], code: &mut u32) -> u32
-    ensures found { result ≡ 0 → position_of (texts_in lasso.old.slot.value) text.now ≡ Some code.new }
-    ensures absent { result ≡ 13 → position_of (texts_in lasso.old.slot.value) text.now ≡ None }
-    ensures status { (result ≡ 0) ⊎ (result ≡ 3) ⊎ (result ≡ 12) ⊎ (result ≡ 13) }
-    ensures none { result ≡ 12 → lasso.old.slot.value ≡ None }
-    ensures code_kept { ¬ (result ≡ 0) → code.new ≡ code.old }
+    ensures status { result ≡ outcome_status (text_lookup (is_utf8 text.now) lasso.old.slot.value text.now) }
+    ensures found { result ≡ DONE → position_of (texts_in lasso.old.slot.value) text.now ≡ Some code.new }
+    ensures code_kept { ¬ (result ≡ DONE) → code.new ≡ code.old }
+    ensures kept { lasso.new.slot.value ≡ lasso.old.slot.value }
+{
+    match find_code(alloc, lasso, text) {
+        Ok(found) => {
+            *code = found;
+            DONE
+        }
+        Err(refusal) => status_of(&refusal),
+    }
+}
+
+// The code of the text, or why there is none.
+fn find_code(alloc: Global, lasso: &mut Lasso, text: &[u8]) -> Result<u32, CallError>
+    ensures found { result ≡ text_lookup (is_utf8 text.now) lasso.old.slot.value text.now }
     ensures kept { lasso.new.slot.value ≡ lasso.old.slot.value }
 {
     let Ok(text) = from_utf8(text) else {
-        return 3;
+        return Err(CallError::NotUtf8(0));
     };
     let Some(interner) = lasso.take(alloc) else {
-        return 12;
+        return Err(CallError::NoInterner);
     };
     let found = interner.rodeo.get(text);
     lasso.put(alloc, interner);
     match found {
-        Some(key) => {
-            *code = key.into_position();
-            0
-        }
-        None => 13,
+        Some(key) => Ok(key.into_position()),
+        None => Err(CallError::NoSuchText),
     }
 }
 
 /// Writes the code of each text of a layout, and `absent` for a text that the interner does not have. The report has their
-/// number. It returns 12 without an interner, 6 where a code of each text has no room, and 1, 2 or 3 for what is first wrong with
-/// the layout. What is refused writes nothing but its report.
+/// number. It returns `NO_INTERNER` without an interner, `CODES_TOO_SHORT` where a code of each text has no room, and
+/// `OFFSETS_FALL`, `OFFSET_PAST_BYTES` or `NOT_UTF8` for what is first wrong with the layout. What is refused writes nothing but
+/// its report.
 #[unsafe(no_mangle)]
 pub extern "C" fn lasso_get_batch(
     alloc: Global,
@@ -157,15 +169,15 @@ pub extern "C" fn lasso_get_batch(
     report: &mut LassoReport,
 ) -> u32
     ensures outcome { Reports (lookup_outcome greatest_offset lasso.old.slot.value bytes.now offsets.now (length codes.old)) result report.new }
-    ensures codes { result ≡ 0 → codes.new ≡ over (codes_or absent (texts_in lasso.old.slot.value) (layout_texts bytes.now offsets.now)) codes.old }
-    ensures codes_kept { ¬ (result ≡ 0) → codes.new ≡ codes.old }
+    ensures codes { result ≡ DONE → codes.new ≡ over (codes_or absent (texts_in lasso.old.slot.value) (layout_texts bytes.now offsets.now)) codes.old }
+    ensures codes_kept { ¬ (result ≡ DONE) → codes.new ≡ codes.old }
     ensures kept { lasso.new.slot.value ≡ lasso.old.slot.value }
 {
     widths::get_batch(alloc, lasso, bytes, offsets, absent, codes, report)
 }
 
-/// Writes the text of a code as far as there is room, and how many bytes the whole text has. It returns 12 without an interner,
-/// 4 where the code has no text, and writes nothing then.
+/// Writes the text of a code as far as there is room, and how many bytes the whole text has. It returns `NO_INTERNER` without an
+/// interner, `NO_SUCH_CODE` where the code has no text, and writes nothing then.
 #[unsafe(no_mangle)]
 pub extern "C" fn lasso_resolve(
     alloc: Global,
@@ -174,26 +186,26 @@ pub extern "C" fn lasso_resolve(
     text: &mut [u8],
     whole: &mut usize,
 ) -> u32
-    ensures found { result ≡ 0 → IfSome (slice_get (texts_in lasso.old.slot.value) code) (λ t. (whole.new ≡ length t) × (text.new ≡ over (take (length text.old) t) text.old)) }
-    ensures present { result ≡ 0 → IsSome (slice_get (texts_in lasso.old.slot.value) code) }
-    ensures absent { result ≡ 4 → slice_get (texts_in lasso.old.slot.value) code ≡ None }
-    ensures status { (result ≡ 0) ⊎ (result ≡ 4) ⊎ (result ≡ 12) }
-    ensures none { result ≡ 12 → lasso.old.slot.value ≡ None }
-    ensures text_kept { ¬ (result ≡ 0) → text.new ≡ text.old }
-    ensures whole_kept { ¬ (result ≡ 0) → whole.new ≡ whole.old }
+    ensures status { result ≡ outcome_status (code_lookup lasso.old.slot.value code) }
+    ensures found { result ≡ DONE → IfSome (slice_get (texts_in lasso.old.slot.value) code) (λ t. (whole.new ≡ length t) × (text.new ≡ over (take (length text.old) t) text.old)) }
+    ensures present { result ≡ DONE → IsSome (slice_get (texts_in lasso.old.slot.value) code) }
+    ensures text_kept { ¬ (result ≡ DONE) → text.new ≡ text.old }
+    ensures whole_kept { ¬ (result ≡ DONE) → whole.new ≡ whole.old }
     ensures kept { lasso.new.slot.value ≡ lasso.old.slot.value }
 {
-    let Some(interner) = lasso.take(alloc) else {
-        return 12;
-    };
-    let status = copy_text(&interner.rodeo, code, text, whole);
-    lasso.put(alloc, interner);
-    status
+    match lasso.take(alloc) {
+        Some(interner) => {
+            let status = copy_text(&interner.rodeo, code, text, whole);
+            lasso.put(alloc, interner);
+            status
+        }
+        None => NO_INTERNER,
+    }
 }
 
 /// Writes the layout of the texts from a code on: what a reader lacks that has those before. The report has their sizes, which
-/// are those that are needed where it returns 7 or 8 for too little room. It returns 5 where they have more bytes than offsets
-/// can tell, 12 without an interner. What is refused writes nothing but its report.
+/// are those that are needed where it returns `OFFSETS_TOO_SHORT` or `BYTES_TOO_SHORT`. It returns `TOO_MANY_BYTES` where they have
+/// more bytes than offsets can tell, `NO_INTERNER` without an interner. What is refused writes nothing but its report.
 #[unsafe(no_mangle)]
 pub extern "C" fn lasso_dictionary(
     alloc: Global,
@@ -204,10 +216,10 @@ pub extern "C" fn lasso_dictionary(
     report: &mut LassoReport,
 ) -> u32
     ensures outcome { Reports (dictionary_outcome greatest_offset lasso.old.slot.value from (length offsets.old) (length bytes.old)) result report.new }
-    ensures bytes { result ≡ 0 → bytes.new ≡ over (concat (drop from (texts_in lasso.old.slot.value))) bytes.old }
-    ensures offsets { result ≡ 0 → offsets.new ≡ over (offsets_from 0 (drop from (texts_in lasso.old.slot.value))) offsets.old }
-    ensures bytes_kept { ¬ (result ≡ 0) → bytes.new ≡ bytes.old }
-    ensures offsets_kept { ¬ (result ≡ 0) → offsets.new ≡ offsets.old }
+    ensures bytes { result ≡ DONE → bytes.new ≡ over (concat (drop from (texts_in lasso.old.slot.value))) bytes.old }
+    ensures offsets { result ≡ DONE → offsets.new ≡ over (offsets_from 0 (drop from (texts_in lasso.old.slot.value))) offsets.old }
+    ensures bytes_kept { ¬ (result ≡ DONE) → bytes.new ≡ bytes.old }
+    ensures offsets_kept { ¬ (result ≡ DONE) → offsets.new ≡ offsets.old }
     ensures kept { lasso.new.slot.value ≡ lasso.old.slot.value }
 {
     widths::dictionary(alloc, lasso, from, bytes, offsets, report)
@@ -257,39 +269,39 @@ pub extern "C" fn lasso_limit(alloc: Global, lasso: &mut Lasso) -> usize
     bytes
 }
 
-/// Sets how many bytes the interner's buckets may take. It may lie below what they take: then no bucket comes. It returns 12
-/// without an interner.
+/// Sets how many bytes the interner's buckets may take. It may lie below what they take: then no bucket comes. It returns
+/// `NO_INTERNER` without an interner.
 #[unsafe(no_mangle)]
 pub extern "C" fn lasso_set_limit(alloc: Global, lasso: &mut Lasso, limit: usize) -> u32
     ensures texts { texts_in lasso.new.slot.value ≡ texts_in lasso.old.slot.value }
     ensures account { IfSome (account_in lasso.old.slot.value) (λ account. account_in lasso.new.slot.value ≡ Some (with_limit account limit)) }
     ensures first { first_in lasso.new.slot.value ≡ first_in lasso.old.slot.value }
-    ensures done { IsSome lasso.old.slot.value → result ≡ 0 }
-    ensures none { lasso.old.slot.value ≡ None → (result ≡ 12) × (lasso.new.slot.value ≡ None) }
+    ensures done { IsSome lasso.old.slot.value → result ≡ DONE }
+    ensures none { lasso.old.slot.value ≡ None → (result ≡ NO_INTERNER) × (lasso.new.slot.value ≡ None) }
 {
     let Some(mut interner) = lasso.take(alloc) else {
-        return 12;
+        return NO_INTERNER;
     };
     interner.rodeo.set_memory_limits(MemoryLimits::new(limit));
     lasso.put(alloc, interner);
-    0
+    DONE
 }
 
-/// Forgets every text. The limit stays, and so do the buckets that are filled again. It returns 12 without an interner.
+/// Forgets every text. The limit stays, and so do the buckets that are filled again. It returns `NO_INTERNER` without an interner.
 #[unsafe(no_mangle)]
 pub extern "C" fn lasso_clear(alloc: Global, lasso: &mut Lasso) -> u32
     ensures texts { texts_in lasso.new.slot.value ≡ [] }
     ensures account { IfSome lasso.old.slot.value (λ interner. account_in lasso.new.slot.value ≡ Some (clear interner.rodeo.first interner.rodeo.account)) }
     ensures first { first_in lasso.new.slot.value ≡ first_in lasso.old.slot.value }
-    ensures done { IsSome lasso.old.slot.value → result ≡ 0 }
-    ensures none { lasso.old.slot.value ≡ None → (result ≡ 12) × (lasso.new.slot.value ≡ None) }
+    ensures done { IsSome lasso.old.slot.value → result ≡ DONE }
+    ensures none { lasso.old.slot.value ≡ None → (result ≡ NO_INTERNER) × (lasso.new.slot.value ≡ None) }
 {
     let Some(mut interner) = lasso.take(alloc) else {
-        return 12;
+        return NO_INTERNER;
     };
     interner.rodeo.clear();
     lasso.put(alloc, interner);
-    0
+    DONE
 }
 
 /// Lets the interner go, if there is one. The handle holds none then.

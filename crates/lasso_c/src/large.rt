@@ -10,6 +10,7 @@ ghost use Rattle.lasso_c.specs.Status.{Reports};
 
 use crate::error::LassoReport;
 use crate::handle::Lasso;
+use crate::status::DONE;
 use crate::widths;
 use std::alloc::Global;
 
@@ -26,7 +27,7 @@ pub extern "C" fn lasso_intern_batch_large(
     ensures outcome { BatchEnds greatest_large_offset lasso.old.slot.value [] bytes.now offsets.now (length codes.old) result report.new lasso.new.slot.value }
     ensures texts { texts_in lasso.new.slot.value ≡ with_all_new (texts_in lasso.old.slot.value) (take report.new.texts (layout_texts bytes.now offsets.now)) }
     ensures codes { codes.new ≡ over (codes_of (texts_in lasso.new.slot.value) (take report.new.texts (layout_texts bytes.now offsets.now))) codes.old }
-    ensures whole { result ≡ 0 → report.new.texts ≡ length (layout_texts bytes.now offsets.now) }
+    ensures whole { result ≡ DONE → report.new.texts ≡ length (layout_texts bytes.now offsets.now) }
     ensures within { report.new.texts ≤ length (layout_texts bytes.now offsets.now) }
 {
     widths::intern_batch(alloc, lasso, bytes, offsets, codes, report)
@@ -47,7 +48,7 @@ pub extern "C" fn lasso_intern_batch_nulls_large(
     ensures outcome { BatchEnds greatest_large_offset lasso.old.slot.value present.now bytes.now offsets.now (length codes.old) result report.new lasso.new.slot.value }
     ensures texts { texts_in lasso.new.slot.value ≡ with_all_new (texts_in lasso.old.slot.value) (present_texts (take report.new.texts (column_rows present.now bytes.now offsets.now))) }
     ensures codes { codes.new ≡ over (row_codes null (texts_in lasso.new.slot.value) (take report.new.texts (column_rows present.now bytes.now offsets.now))) codes.old }
-    ensures whole { result ≡ 0 → report.new.texts ≡ length (layout_texts bytes.now offsets.now) }
+    ensures whole { result ≡ DONE → report.new.texts ≡ length (layout_texts bytes.now offsets.now) }
     ensures within { report.new.texts ≤ length (layout_texts bytes.now offsets.now) }
 {
     widths::intern_batch_nulls(alloc, lasso, bytes, offsets, present, null, codes, report)
@@ -65,14 +66,14 @@ pub extern "C" fn lasso_get_batch_large(
     report: &mut LassoReport,
 ) -> u32
     ensures outcome { Reports (lookup_outcome greatest_large_offset lasso.old.slot.value bytes.now offsets.now (length codes.old)) result report.new }
-    ensures codes { result ≡ 0 → codes.new ≡ over (codes_or absent (texts_in lasso.old.slot.value) (layout_texts bytes.now offsets.now)) codes.old }
-    ensures codes_kept { ¬ (result ≡ 0) → codes.new ≡ codes.old }
+    ensures codes { result ≡ DONE → codes.new ≡ over (codes_or absent (texts_in lasso.old.slot.value) (layout_texts bytes.now offsets.now)) codes.old }
+    ensures codes_kept { ¬ (result ≡ DONE) → codes.new ≡ codes.old }
     ensures kept { lasso.new.slot.value ≡ lasso.old.slot.value }
 {
     widths::get_batch(alloc, lasso, bytes, offsets, absent, codes, report)
 }
 
-/// `lasso_dictionary` with offsets of 64 bits. It returns 5 where the texts have more bytes than 2^63 - 1.
+/// `lasso_dictionary` with offsets of 64 bits. It returns `TOO_MANY_BYTES` where the texts have more than 2^63 - 1.
 #[unsafe(no_mangle)]
 pub extern "C" fn lasso_dictionary_large(
     alloc: Global,
@@ -83,10 +84,10 @@ pub extern "C" fn lasso_dictionary_large(
     report: &mut LassoReport,
 ) -> u32
     ensures outcome { Reports (dictionary_outcome greatest_large_offset lasso.old.slot.value from (length offsets.old) (length bytes.old)) result report.new }
-    ensures bytes { result ≡ 0 → bytes.new ≡ over (concat (drop from (texts_in lasso.old.slot.value))) bytes.old }
-    ensures offsets { result ≡ 0 → offsets.new ≡ over (offsets_from 0 (drop from (texts_in lasso.old.slot.value))) offsets.old }
-    ensures bytes_kept { ¬ (result ≡ 0) → bytes.new ≡ bytes.old }
-    ensures offsets_kept { ¬ (result ≡ 0) → offsets.new ≡ offsets.old }
+    ensures bytes { result ≡ DONE → bytes.new ≡ over (concat (drop from (texts_in lasso.old.slot.value))) bytes.old }
+    ensures offsets { result ≡ DONE → offsets.new ≡ over (offsets_from 0 (drop from (texts_in lasso.old.slot.value))) offsets.old }
+    ensures bytes_kept { ¬ (result ≡ DONE) → bytes.new ≡ bytes.old }
+    ensures offsets_kept { ¬ (result ≡ DONE) → offsets.new ≡ offsets.old }
     ensures kept { lasso.new.slot.value ≡ lasso.old.slot.value }
 {
     widths::dictionary(alloc, lasso, from, bytes, offsets, report)

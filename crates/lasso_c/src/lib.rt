@@ -18,6 +18,8 @@ mod decoding;
 mod encoding;
 pub mod error;
 pub mod handle;
+#[cfg(test)]
+mod handle_tests;
 pub mod interner;
 #[cfg(test)]
 mod interner_tests;
@@ -31,16 +33,18 @@ mod null_tests;
 mod nulls;
 mod offsets;
 pub mod slot;
+pub mod status;
 #[cfg(test)]
 mod tests;
 mod widths;
 
 use error::LassoReport;
+use status::DONE;
 use std::alloc::Global;
 
 /// Writes a code for each text of a layout, and a dictionary in the same layout: each distinct text once, in
 /// order of first occurrence. A code is the position of its text in the dictionary. It returns a status, and
-/// if that is not 0 it writes nothing but the report.
+/// if that is not `DONE` it writes nothing but the report.
 #[unsafe(no_mangle)]
 pub extern "C" fn lasso_encode(
     alloc: Global,
@@ -54,14 +58,14 @@ pub extern "C" fn lasso_encode(
     ensures outcome { Reports (encoding_outcome bytes.now offsets.now (length codes.old) (length dictionary_offsets.old) (length dictionary_bytes.old)) result report.new
         ⊎ Reports (Err NoMemory) result report.new }
 
-    ensures codes { result ≡ 0 → (let texts = layout_texts bytes.now offsets.now in
+    ensures codes { result ≡ DONE → (let texts = layout_texts bytes.now offsets.now in
         codes.new ≡ over (codes_of (dictionary_of texts) texts) codes.old) }
-    ensures dictionary_bytes { result ≡ 0 → dictionary_bytes.new ≡ over (concat (dictionary_of (layout_texts bytes.now offsets.now))) dictionary_bytes.old }
-    ensures dictionary_offsets { result ≡ 0 → dictionary_offsets.new ≡ over (offsets_from 0 (dictionary_of (layout_texts bytes.now offsets.now))) dictionary_offsets.old }
+    ensures dictionary_bytes { result ≡ DONE → dictionary_bytes.new ≡ over (concat (dictionary_of (layout_texts bytes.now offsets.now))) dictionary_bytes.old }
+    ensures dictionary_offsets { result ≡ DONE → dictionary_offsets.new ≡ over (offsets_from 0 (dictionary_of (layout_texts bytes.now offsets.now))) dictionary_offsets.old }
 
-    ensures codes_kept { ¬ (result ≡ 0) → codes.new ≡ codes.old }
-    ensures dictionary_bytes_kept { ¬ (result ≡ 0) → dictionary_bytes.new ≡ dictionary_bytes.old }
-    ensures dictionary_offsets_kept { ¬ (result ≡ 0) → dictionary_offsets.new ≡ dictionary_offsets.old }
+    ensures codes_kept { ¬ (result ≡ DONE) → codes.new ≡ codes.old }
+    ensures dictionary_bytes_kept { ¬ (result ≡ DONE) → dictionary_bytes.new ≡ dictionary_bytes.old }
+    ensures dictionary_offsets_kept { ¬ (result ≡ DONE) → dictionary_offsets.new ≡ dictionary_offsets.old }
 {
     let outcome = encoding::encode(
         alloc,
@@ -91,14 +95,14 @@ pub extern "C" fn lasso_encode_nulls(
     ensures outcome { Reports (column_outcome present.now bytes.now offsets.now (length codes.old) (length dictionary_offsets.old) (length dictionary_bytes.old)) result report.new
         ⊎ Reports (Err NoMemory) result report.new }
 
-    ensures codes { result ≡ 0 → (let rows = column_rows present.now bytes.now offsets.now in
+    ensures codes { result ≡ DONE → (let rows = column_rows present.now bytes.now offsets.now in
         codes.new ≡ over (row_codes null (dictionary_of (present_texts rows)) rows) codes.old) }
-    ensures dictionary_bytes { result ≡ 0 → dictionary_bytes.new ≡ over (concat (dictionary_of (present_texts (column_rows present.now bytes.now offsets.now)))) dictionary_bytes.old }
-    ensures dictionary_offsets { result ≡ 0 → dictionary_offsets.new ≡ over (offsets_from 0 (dictionary_of (present_texts (column_rows present.now bytes.now offsets.now)))) dictionary_offsets.old }
+    ensures dictionary_bytes { result ≡ DONE → dictionary_bytes.new ≡ over (concat (dictionary_of (present_texts (column_rows present.now bytes.now offsets.now)))) dictionary_bytes.old }
+    ensures dictionary_offsets { result ≡ DONE → dictionary_offsets.new ≡ over (offsets_from 0 (dictionary_of (present_texts (column_rows present.now bytes.now offsets.now)))) dictionary_offsets.old }
 
-    ensures codes_kept { ¬ (result ≡ 0) → codes.new ≡ codes.old }
-    ensures dictionary_bytes_kept { ¬ (result ≡ 0) → dictionary_bytes.new ≡ dictionary_bytes.old }
-    ensures dictionary_offsets_kept { ¬ (result ≡ 0) → dictionary_offsets.new ≡ dictionary_offsets.old }
+    ensures codes_kept { ¬ (result ≡ DONE) → codes.new ≡ codes.old }
+    ensures dictionary_bytes_kept { ¬ (result ≡ DONE) → dictionary_bytes.new ≡ dictionary_bytes.old }
+    ensures dictionary_offsets_kept { ¬ (result ≡ DONE) → dictionary_offsets.new ≡ dictionary_offsets.old }
 {
     let outcome = encoding::encode_rows(
         alloc,
@@ -113,8 +117,8 @@ pub extern "C" fn lasso_encode_nulls(
     error::tell(&outcome, report)
 }
 
-/// Writes the texts that codes name, in the layout of the dictionary. It returns a status, and where that is not 0 it writes
-/// nothing but the report.
+/// Writes the texts that codes name, in the layout of the dictionary. It returns a status, and where that is not `DONE` it
+/// writes nothing but the report.
 #[unsafe(no_mangle)]
 pub extern "C" fn lasso_decode(
     dictionary_bytes: &[u8],
@@ -126,11 +130,11 @@ pub extern "C" fn lasso_decode(
 ) -> u32
     ensures outcome { Reports (decoding_outcome dictionary_bytes.now dictionary_offsets.now codes.now (length offsets.old) (length bytes.old)) result report.new }
 
-    ensures bytes { result ≡ 0 → bytes.new ≡ over (concat (texts_named (layout_texts dictionary_bytes.now dictionary_offsets.now) codes.now)) bytes.old }
-    ensures offsets { result ≡ 0 → offsets.new ≡ over (offsets_from 0 (texts_named (layout_texts dictionary_bytes.now dictionary_offsets.now) codes.now)) offsets.old }
+    ensures bytes { result ≡ DONE → bytes.new ≡ over (concat (texts_named (layout_texts dictionary_bytes.now dictionary_offsets.now) codes.now)) bytes.old }
+    ensures offsets { result ≡ DONE → offsets.new ≡ over (offsets_from 0 (texts_named (layout_texts dictionary_bytes.now dictionary_offsets.now) codes.now)) offsets.old }
 
-    ensures bytes_kept { ¬ (result ≡ 0) → bytes.new ≡ bytes.old }
-    ensures offsets_kept { ¬ (result ≡ 0) → offsets.new ≡ offsets.old }
+    ensures bytes_kept { ¬ (result ≡ DONE) → bytes.new ≡ bytes.old }
+    ensures offsets_kept { ¬ (result ≡ DONE) → offsets.new ≡ offsets.old }
 {
     let outcome = decoding::decode(
         dictionary_bytes,
@@ -144,7 +148,7 @@ pub extern "C" fn lasso_decode(
 }
 
 /// The same for a column with nulls: the code `null` gives an empty row, whose bit in `present` is 0; each other row has 1, and the
-/// bits of the last byte after the rows are 0. It returns 14 where `present` has too few bits.
+/// bits of the last byte after the rows are 0. It returns `BITMAP_TOO_SHORT` where `present` has too few bits.
 #[unsafe(no_mangle)]
 pub extern "C" fn lasso_decode_nulls(
     dictionary_bytes: &[u8],
@@ -158,13 +162,13 @@ pub extern "C" fn lasso_decode_nulls(
 ) -> u32
     ensures outcome { Reports (nulls_decoding_outcome null dictionary_bytes.now dictionary_offsets.now codes.now (length offsets.old) (length bytes.old) (length present.old)) result report.new }
 
-    ensures bytes { result ≡ 0 → bytes.new ≡ over (concat (rows_named (Some null) (layout_texts dictionary_bytes.now dictionary_offsets.now) codes.now)) bytes.old }
-    ensures offsets { result ≡ 0 → offsets.new ≡ over (offsets_from 0 (rows_named (Some null) (layout_texts dictionary_bytes.now dictionary_offsets.now) codes.now)) offsets.old }
-    ensures present { result ≡ 0 → present.new ≡ over (bitmap_of (code_bits null codes.now)) present.old }
+    ensures bytes { result ≡ DONE → bytes.new ≡ over (concat (rows_named (Some null) (layout_texts dictionary_bytes.now dictionary_offsets.now) codes.now)) bytes.old }
+    ensures offsets { result ≡ DONE → offsets.new ≡ over (offsets_from 0 (rows_named (Some null) (layout_texts dictionary_bytes.now dictionary_offsets.now) codes.now)) offsets.old }
+    ensures present { result ≡ DONE → present.new ≡ over (bitmap_of (code_bits null codes.now)) present.old }
 
-    ensures bytes_kept { ¬ (result ≡ 0) → bytes.new ≡ bytes.old }
-    ensures offsets_kept { ¬ (result ≡ 0) → offsets.new ≡ offsets.old }
-    ensures present_kept { ¬ (result ≡ 0) → present.new ≡ present.old }
+    ensures bytes_kept { ¬ (result ≡ DONE) → bytes.new ≡ bytes.old }
+    ensures offsets_kept { ¬ (result ≡ DONE) → offsets.new ≡ offsets.old }
+    ensures present_kept { ¬ (result ≡ DONE) → present.new ≡ present.old }
 {
     let outcome = decoding::decode_nulls(
         dictionary_bytes,

@@ -11,6 +11,7 @@ use crate::batches::{find_layout, intern_column, intern_layout, tell_batch, writ
 use crate::error::{CallError, LassoReport, tell};
 use crate::handle::Lasso;
 use crate::offsets::Offset;
+use crate::status::DONE;
 use std::alloc::Global;
 
 // Interns the texts of a layout, as `lasso_intern_batch` says.
@@ -25,7 +26,7 @@ pub(crate) fn intern_batch<O: Offset>(
     ensures outcome { BatchEnds O.greatest lasso.old.slot.value [] bytes.now (O.numbers offsets.now) (length codes.old) result report.new lasso.new.slot.value }
     ensures texts { texts_in lasso.new.slot.value ≡ with_all_new (texts_in lasso.old.slot.value) (take report.new.texts (layout_texts bytes.now (O.numbers offsets.now))) }
     ensures codes { codes.new ≡ over (codes_of (texts_in lasso.new.slot.value) (take report.new.texts (layout_texts bytes.now (O.numbers offsets.now)))) codes.old }
-    ensures whole { result ≡ 0 → report.new.texts ≡ length (layout_texts bytes.now (O.numbers offsets.now)) }
+    ensures whole { result ≡ DONE → report.new.texts ≡ length (layout_texts bytes.now (O.numbers offsets.now)) }
     ensures within { report.new.texts ≤ length (layout_texts bytes.now (O.numbers offsets.now)) }
 {
     let Some(mut interner) = lasso.take(alloc) else {
@@ -50,7 +51,7 @@ pub(crate) fn intern_batch_nulls<O: Offset>(
     ensures outcome { BatchEnds O.greatest lasso.old.slot.value present.now bytes.now (O.numbers offsets.now) (length codes.old) result report.new lasso.new.slot.value }
     ensures texts { texts_in lasso.new.slot.value ≡ with_all_new (texts_in lasso.old.slot.value) (present_texts (take report.new.texts (column_rows present.now bytes.now (O.numbers offsets.now)))) }
     ensures codes { codes.new ≡ over (row_codes null (texts_in lasso.new.slot.value) (take report.new.texts (column_rows present.now bytes.now (O.numbers offsets.now)))) codes.old }
-    ensures whole { result ≡ 0 → report.new.texts ≡ length (layout_texts bytes.now (O.numbers offsets.now)) }
+    ensures whole { result ≡ DONE → report.new.texts ≡ length (layout_texts bytes.now (O.numbers offsets.now)) }
     ensures within { report.new.texts ≤ length (layout_texts bytes.now (O.numbers offsets.now)) }
 {
     let Some(mut interner) = lasso.take(alloc) else {
@@ -72,8 +73,8 @@ pub(crate) fn get_batch<O: Offset>(
     report: &mut LassoReport,
 ) -> u32
     ensures outcome { Reports (lookup_outcome O.greatest lasso.old.slot.value bytes.now (O.numbers offsets.now) (length codes.old)) result report.new }
-    ensures codes { result ≡ 0 → codes.new ≡ over (codes_or absent (texts_in lasso.old.slot.value) (layout_texts bytes.now (O.numbers offsets.now))) codes.old }
-    ensures codes_kept { ¬ (result ≡ 0) → codes.new ≡ codes.old }
+    ensures codes { result ≡ DONE → codes.new ≡ over (codes_or absent (texts_in lasso.old.slot.value) (layout_texts bytes.now (O.numbers offsets.now))) codes.old }
+    ensures codes_kept { ¬ (result ≡ DONE) → codes.new ≡ codes.old }
     ensures kept { lasso.new.slot.value ≡ lasso.old.slot.value }
 {
     let Some(interner) = lasso.take(alloc) else {
@@ -94,10 +95,10 @@ pub(crate) fn dictionary<O: Offset>(
     report: &mut LassoReport,
 ) -> u32
     ensures outcome { Reports (dictionary_outcome O.greatest lasso.old.slot.value from (length (O.numbers offsets.old)) (length bytes.old)) result report.new }
-    ensures bytes { result ≡ 0 → bytes.new ≡ over (concat (drop from (texts_in lasso.old.slot.value))) bytes.old }
-    ensures offsets { result ≡ 0 → O.numbers offsets.new ≡ over (offsets_from 0 (drop from (texts_in lasso.old.slot.value))) (O.numbers offsets.old) }
-    ensures bytes_kept { ¬ (result ≡ 0) → bytes.new ≡ bytes.old }
-    ensures offsets_kept { ¬ (result ≡ 0) → O.numbers offsets.new ≡ O.numbers offsets.old }
+    ensures bytes { result ≡ DONE → bytes.new ≡ over (concat (drop from (texts_in lasso.old.slot.value))) bytes.old }
+    ensures offsets { result ≡ DONE → O.numbers offsets.new ≡ over (offsets_from 0 (drop from (texts_in lasso.old.slot.value))) (O.numbers offsets.old) }
+    ensures bytes_kept { ¬ (result ≡ DONE) → bytes.new ≡ bytes.old }
+    ensures offsets_kept { ¬ (result ≡ DONE) → O.numbers offsets.new ≡ O.numbers offsets.old }
     ensures kept { lasso.new.slot.value ≡ lasso.old.slot.value }
 {
     let Some(interner) = lasso.take(alloc) else {

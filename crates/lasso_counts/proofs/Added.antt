@@ -73,14 +73,17 @@ key_position : (list : List Text) (text : Text) (key : ℕ) (o : Option ℕ) →
 key_position list text key None at is = absurd (cc)
 key_position list text key (Some n) at is = ap (λ k. Some k) (position_of_key n key is)
 
+pub counted_found : (list : List Text) (now new : List ℕ) (text : Text) (key at value : ℕ) → length now ≡ length list → key_of spur_at list text ≡ Some key → at ≡ key - 1 → value ≡ get_or now at value → new ≡ set now at (value + 1) → new ≡ counted now (position_of list text)
+counted_found list now new text key at value lengths found at_is value_is is =
+    let here : position_of list text ≡ Some (key - 1) = key_position list text key (position_of list text) refl found in
+    let small : at < length now = let within = inside list now text (key - 1) lengths here in omega (arith, within, at_is) in
+    is ∙ ap (λ v. set now at (v + 1)) (value_at now at value small value_is) ∙ ap (λ n. set now n (get_or now n 0 + 1)) at_is ∙ ap (λ o. counted now o) (sym here)
+
 pub adds_found : (texts list : List Text) (old now new : List ℕ) (text : Text) (key at value : ℕ) → AddsCounts texts list old list now → key_of spur_at list text ≡ Some key → at ≡ key - 1 → value ≡ get_or now at value → new ≡ set now at (value + 1) → AddsCounts (texts ++ text ∷ []) list old list new
 adds_found texts list old now new text key at value so_far found at_is value_is is =
     let here : position_of list text ≡ Some (key - 1) = key_position list text key (position_of list text) refl found in
-    let small : at < length now = let within = inside list now text (key - 1) so_far.lengths here in omega (arith, within, at_is) in
     let grown : list ≡ with_last list text = ap (λ o. cond (is_some o) list (list ++ text ∷ [])) (sym here) in
-    let counted_is : new ≡ counted now (position_of list text) =
-    is ∙ ap (λ v. set now at (v + 1)) (value_at now at value small value_is) ∙ ap (λ n. set now n (get_or now n 0 + 1)) at_is ∙ ap (λ o. counted now o) (sym here) in
-    adds_push texts list list list old now new text so_far counted_is grown
+    adds_push texts list list list old now new text so_far (counted_found list now new text key at value so_far.lengths found at_is value_is is) grown
 
 -- the counts of all texts, where no other was counted
 pub adds_are : (texts list : List Text) (counts : List ℕ) (before : List Text) (old : List ℕ) → before ≡ [] → old ≡ [] → AddsCounts texts before old list counts → (s : Text) → count_of texts s ≡ count_at counts (position_of list s)

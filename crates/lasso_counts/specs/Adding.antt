@@ -1,8 +1,12 @@
 -- Texts that are counted after others.
-use Rattle.std.specs.Prelude.{ℕ, ◌≡◌, ◌+◌, List, [], ◌∷◌, ◌++◌, length, sum, take, codes, decimal, Result, Ok, Err}
+use Rattle.std.specs.Prelude.{ℕ, ◌≡◌, ◌+◌, List, [], ◌∷◌, ◌++◌, length, sum, take, codes, decimal, Vec, None, Result, Ok, Err, MatchResult}
 use Rattle.lasso_parts.specs.Errors.{error_text}
 use Rattle.lasso_parts.specs.Texts.{Text, position_of}
-use Rattle.lasso_counts.specs.Counts.{count_of, count_at}
+use Rattle.lasso_parts.specs.declared.util.LassoError.{LassoError}
+use Rattle.lasso_single.specs.Intern.{InternsIn}
+use Rattle.lasso_single.specs.Interner.{InternerView}
+use Rattle.lasso_encode.specs.Encoding.{spur_at, IsRefused, MayLackMemory}
+use Rattle.lasso_counts.specs.Counts.{count_of, count_at, counted}
 use Rattle.lasso_counts.specs.declared.error.CountError.{CountError}
 
 abbrev pub count_error_text : CountError → List ℕ
@@ -25,3 +29,15 @@ pub record AddsAmounts (list from : List Text) (amounts old new : List ℕ) : Ty
   pub each : (text : Text) → count_at new (position_of list text) ≡ count_at old (position_of list text) + count_at amounts (position_of from text)
   pub long : length new ≡ length old
   pub total : sum new ≡ sum old + sum amounts
+
+-- A refused text is absent. It is out of memory only where the counts have no room for one more, or neither the keys nor the
+-- limit refuse it.
+abbrev pub RefusesNew : {A : Type 0} → InternerView → Vec ℕ A → Text → LassoError → Type 0
+RefusesNew now counts text error = (position_of now.texts text ≡ None) × MayLackMemory now counts text error
+
+-- the text is interned and its count is one more; or it is refused, and all is as it was
+abbrev pub CountsText : {A : Type 0} → InternerView → Vec ℕ A → Text → Result (Unit {0}) LassoError → InternerView → Vec ℕ A → Type 0
+CountsText old counts text result new counts' =
+    MatchResult result
+    (λ _. ((key : ℕ) × InternsIn {K = ℕ} spur_at old text (Ok key) new) × (counts'.items ≡ counted counts.items (position_of old.texts text)))
+    (λ error. (new ≡ old) × (counts'.items ≡ counts.items) × IsRefused old text error × RefusesNew old counts' text error)

@@ -5,7 +5,7 @@ ghost use Rattle.lasso_single.specs.Intern.{InternsIn};
 ghost use Rattle.lasso_encode.specs.Encoding.{spur_at, IsRefused};
 ghost use Rattle.lasso_single.specs.Filling.{extend};
 ghost use Rattle.lasso_counts.specs.Counts.{AreCounts, counted, added};
-ghost use Rattle.lasso_counts.specs.Adding.{AddsCounts, counted_of};
+ghost use Rattle.lasso_counts.specs.Adding.{AddsCounts, CountsText, RefusesNew, counted_of};
 
 use crate::error::CountError;
 use lasso::{Key, LassoResult, Rodeo, Spur};
@@ -18,7 +18,8 @@ use std::hash::BuildHasher;
 ///
 /// # Errors
 /// The text is refused: no key is left, the memory limit leaves no room, or out of memory. The interner and
-/// the counts are as they were.
+/// the counts are as they were. A present text is never refused. A text that the keys or the limit refuse is
+/// out of memory only if `counts` is full and can't grow.
 ///
 /// ```rust
 /// let mut rodeo: SpurRodeo = Rodeo::default(rt.alloc())?;
@@ -42,8 +43,44 @@ pub fn count_text<S: BuildHasher, A: Allocator + Clone>(
     ensures kept { OnErr result (rodeo.new ≡ rodeo.old) }
     ensures kept_counts { OnErr result (counts.new.items ≡ counts.old.items) }
     ensures refused { IfErr result (IsRefused rodeo.old text.now) }
+    ensures memory { IfErr result (RefusesNew rodeo.old counts.new text.now) }
 {
-    counts.reserve(1)?;
+    add_text(rodeo, text, counts)?;
+    Ok(())
+}
+
+// Interns and counts the text. Only a new text needs room for a count.
+fn add_text<S: BuildHasher, A: Allocator + Clone>(
+    rodeo: &mut Rodeo<Spur, S, A>,
+    text: &str,
+    counts: &mut Vec<u64>,
+) -> LassoResult<()>
+    requires lengths { vec_len counts.old ≡ length rodeo.old.texts }
+    requires fits { sum counts.old.items < 2 ^ 64 - 1 }
+    ensures { CountsText rodeo.old counts.old text.now result rodeo.new counts.new }
+{
+    if counts.len() < counts.capacity() {
+        return add_in_room(rodeo, text, counts);
+    }
+    let Some(key) = rodeo.get(text) else {
+        counts.reserve(1)?;
+        return add_in_room(rodeo, text, counts);
+    };
+    counts[key.into_usize()] += 1;
+    Ok(())
+}
+
+// Interns and counts the text. There must be room for a count.
+fn add_in_room<S: BuildHasher, A: Allocator + Clone>(
+    rodeo: &mut Rodeo<Spur, S, A>,
+    text: &str,
+    counts: &mut Vec<u64>,
+) -> LassoResult<()>
+    requires lengths { vec_len counts.old ≡ length rodeo.old.texts }
+    requires fits { sum counts.old.items < 2 ^ 64 - 1 }
+    requires room { vec_len counts.old < vec_capacity counts.old }
+    ensures { CountsText rodeo.old counts.old text.now result rodeo.new counts.new }
+{
     let key = rodeo.try_get_or_intern(text)?;
     add_one(counts, key.into_usize());
     Ok(())
@@ -55,7 +92,8 @@ pub fn count_text<S: BuildHasher, A: Allocator + Clone>(
 /// 2^64.
 ///
 /// # Errors
-/// The first text that is refused. The texts before it are interned and counted, and those after it are not.
+/// The first text that is refused, as `count_text` says. The texts before it are interned and counted, and
+/// those after it are not.
 ///
 /// ```rust
 /// let mut rodeo: SpurRodeo = Rodeo::default(rt.alloc())?;
@@ -73,6 +111,7 @@ pub fn count_texts<S: BuildHasher, A: Allocator + Clone>(
     ensures list { extend spur_at rodeo.old (counted_of result (map (λ t. t.now) texts.now)) (Ok tt) rodeo.new }
     ensures counts { AddsCounts (counted_of result (map (λ t. t.now) texts.now)) rodeo.old.texts counts.old.items rodeo.new.texts counts.new.items }
     ensures refused { IfErr result (λ error. IsSomeAnd (slice_get (map (λ t. t.now) texts.now) error.position) (λ text. IsRefused rodeo.new text error.error)) }
+    ensures memory { IfErr result (λ error. IsSomeAnd (slice_get (map (λ t. t.now) texts.now) error.position) (λ text. RefusesNew rodeo.new counts.new text error.error)) }
 {
     for position in 0..texts.len() {
         if let Err(error) = count_text(rodeo, texts[position], counts) {

@@ -7,7 +7,7 @@ ghost use Rattle.lasso_encode.specs.Codes.{AreCodes};
 ghost use Rattle.lasso_encode.specs.Encoding.{spur_at, IsRefused};
 ghost use Rattle.lasso_columns.specs.Parts.{new_texts};
 ghost use Rattle.lasso_counts.specs.Counts.{AreCounts};
-ghost use Rattle.lasso_counts.specs.Adding.{AddsAmounts, AddsCounts, counted_of};
+ghost use Rattle.lasso_counts.specs.Adding.{AddsAmounts, AddsCounts, RefusesNew, counted_of};
 
 use crate::counting::count_texts;
 use crate::error::CountError;
@@ -48,6 +48,7 @@ pub fn count_in_parts<R: AllocGlobal + Threads + Sync, S: BuildHasher, A: Alloca
     ensures list { extend spur_at rodeo.old (counted_of result (map (λ t. t.now) texts.now)) (Ok tt) rodeo.new }
     ensures counts { AddsCounts (counted_of result (map (λ t. t.now) texts.now)) rodeo.old.texts counts.old.items rodeo.new.texts counts.new.items }
     ensures refused { IfErr result (λ error. IsSomeAnd (slice_get (map (λ t. t.now) texts.now) error.position) (λ text. IsRefused rodeo.new text error.error)) }
+    ensures memory { IfErr result (λ error. IsSomeAnd (slice_get (map (λ t. t.now) texts.now) error.position) (λ text. RefusesNew rodeo.new counts.new text error.error)) }
 {
     if workers < 2 {
         return count_texts(rodeo, texts, counts);
@@ -110,6 +111,7 @@ fn put_part<S: BuildHasher, A: Allocator + Clone>(
     ensures list { extend spur_at rodeo.old (counted_of result (map (λ t. t.now) texts.now)) (Ok tt) rodeo.new }
     ensures counts { AddsCounts (counted_of result (map (λ t. t.now) texts.now)) rodeo.old.texts counts.old.items rodeo.new.texts counts.new.items }
     ensures refused { IfErr result (λ error. IsSomeAnd (slice_get (map (λ t. t.now) texts.now) error.position) (λ text. IsRefused rodeo.new text error.error)) }
+    ensures memory { IfErr result (λ error. IsSomeAnd (slice_get (map (λ t. t.now) texts.now) error.position) (λ text. RefusesNew rodeo.new counts.new text error.error)) }
 {
     let Some(part) = part else {
         return count_texts(rodeo, texts, counts);
@@ -162,6 +164,7 @@ fn count_rest<S: BuildHasher, A: Allocator + Clone>(
     ensures list { (before : InternerView) (n : ℕ) → extend spur_at before (take n (new_texts [] (map (λ t. t.now) texts.now))) (Ok tt) rodeo.old → extend spur_at before (counted_of result (map (λ t. t.now) texts.now)) (Ok tt) rodeo.new }
     ensures counts { AddsCounts (counted_of result (map (λ t. t.now) texts.now)) rodeo.old.texts counts.old.items rodeo.new.texts counts.new.items }
     ensures refused { IfErr result (λ error. IsSomeAnd (slice_get (map (λ t. t.now) texts.now) error.position) (λ text. IsRefused rodeo.new text error.error)) }
+    ensures memory { IfErr result (λ error. IsSomeAnd (slice_get (map (λ t. t.now) texts.now) error.position) (λ text. RefusesNew rodeo.new counts.new text error.error)) }
 {
     let found = count_found(rodeo, texts, counts);
     match count_texts(rodeo, &texts[found..], counts) {

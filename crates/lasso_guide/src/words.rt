@@ -1,10 +1,11 @@
 //! Counts the words of a text by four threads. Each interns its share of the words with its own pass. When
 //! two threads have ended, a pass learns what both have seen, and so does the caller's pass at the end.
-ghost use Rattle.std.specs.Prelude.{◌≡◌, ℕ, ◌<◌, ◌==◌, ◌++◌, List, All, IfOk, get_or, length, map, sum};
+ghost use Rattle.std.specs.Prelude.{◌≡◌, ℕ, ◌<◌, ◌==◌, ◌++◌, List, All, IfOk, IfErr, get_or, length, map, sum};
 ghost use Rattle.std.specs.List.{count_by};
 ghost use Rattle.lasso.specs.Texts.{Text};
-ghost use Rattle.lasso.specs.Views.{PassView, InternerId, IsSamePass, list_of};
-ghost use Rattle.lasso_guide.specs.Words.{Resolve, IsShareOf};
+ghost use Rattle.lasso.specs.History.{History, Totals};
+ghost use Rattle.lasso.specs.Views.{PassView, InternerId, IsSamePass, list_of, seen};
+ghost use Rattle.lasso_guide.specs.Words.{AreKeysOf, IsRefusalOf, IsShareOf, Resolve};
 
 use lasso::{FixedState, Key, LassoResult, Pass, Snapshot, ThreadedRodeo};
 use std::alloc::{AllocError, Global};
@@ -24,8 +25,11 @@ pub struct WordCount<K: Key + Drop> {
 }
 
 /// Interns the words by up to four threads, and counts each. If a thread can't be started, the caller does
-/// its work. Fails if a word is refused: no key left, over the memory limit, or out of memory; the words that
-/// were interned stay. It adds no event to the pass itself, which has afterwards seen what the threads did.
+/// its work. It adds no event to the pass itself, which has afterwards seen what the threads did.
+///
+/// Fails if a word is refused: no key left, over the memory limit, or out of memory. Each word before that one
+/// then has a key in the list that the pass has seen, and the words that were interned stay. It also fails
+/// when out of memory for the keys or the counts.
 pub fn count_words<R: AllocGlobal + Threads + Wait + Sync, K: Key + Send + Sync + Drop>(
     rt: &R,
     rodeo: &ThreadedRodeo<K, FixedState>,
@@ -37,6 +41,7 @@ pub fn count_words<R: AllocGlobal + Threads + Wait + Sync, K: Key + Send + Sync 
     ensures keys { IfOk result (λ counted. Resolve K.number (list_of rodeo.now pass.new.notes) counted.keys.items (map (λ word. word.now) words.now)) }
     ensures counts { IfOk result (λ counted. (n : ℕ) → get_or counted.counts.items n 0 ≡ count_by (λ key. K.number key == n) counted.keys.items) }
     ensures whole { IfOk result (λ counted. sum counted.counts.items ≡ length words.now) }
+    ensures refused { IfErr result (λ error. IsRefusalOf K.number K.key_at rodeo.now.opening (seen pass.new) (map (λ word. word.now) words.now) error) }
 {
     let share = intern_by_four(rt, rodeo, words);
     pass.learn(&share.known);
@@ -59,14 +64,14 @@ fn intern_by_four<R: AllocGlobal + Threads + Wait + Sync, K: Key + Send + Sync +
     rodeo: &ThreadedRodeo<K, FixedState>,
     words: &[&str],
 ) -> Share<K>
-    ensures { IsShareOf K.number rodeo.now (map (λ word. word.now) words.now) result.known result.keys }
+    ensures { IsShareOf K.number K.key_at rodeo.now (map (λ word. word.now) words.now) result.known result.keys }
 {
     let (front, back) = words.split_at(words.len() / 2);
     let here = move || -> Share<K>
-        ensures { IsShareOf K.number rodeo.entry.now (map (λ word. word.now) front.entry.now) result.known result.keys }
+        ensures { IsShareOf K.number K.key_at rodeo.entry.now (map (λ word. word.now) front.entry.now) result.known result.keys }
     { intern_by_two(rt, rodeo, front) };
     let there = move || -> Share<K>
-        ensures { IsShareOf K.number rodeo.entry.now (map (λ word. word.now) back.entry.now) result.known result.keys }
+        ensures { IsShareOf K.number K.key_at rodeo.entry.now (map (λ word. word.now) back.entry.now) result.known result.keys }
     { intern_by_two(rt, rodeo, back) };
     let (first, second) = join(rt, here, there);
     both(rodeo, first, second)
@@ -78,14 +83,14 @@ fn intern_by_two<R: AllocGlobal + Threads + Wait + Sync, K: Key + Send + Sync + 
     rodeo: &ThreadedRodeo<K, FixedState>,
     words: &[&str],
 ) -> Share<K>
-    ensures { IsShareOf K.number rodeo.now (map (λ word. word.now) words.now) result.known result.keys }
+    ensures { IsShareOf K.number K.key_at rodeo.now (map (λ word. word.now) words.now) result.known result.keys }
 {
     let (front, back) = words.split_at(words.len() / 2);
     let here = move || -> Share<K>
-        ensures { IsShareOf K.number rodeo.entry.now (map (λ word. word.now) front.entry.now) result.known result.keys }
+        ensures { IsShareOf K.number K.key_at rodeo.entry.now (map (λ word. word.now) front.entry.now) result.known result.keys }
     { intern_share(rt, rodeo, front) };
     let there = move || -> Share<K>
-        ensures { IsShareOf K.number rodeo.entry.now (map (λ word. word.now) back.entry.now) result.known result.keys }
+        ensures { IsShareOf K.number K.key_at rodeo.entry.now (map (λ word. word.now) back.entry.now) result.known result.keys }
     { intern_share(rt, rodeo, back) };
     let (first, second) = join(rt, here, there);
     both(rodeo, first, second)
@@ -98,7 +103,7 @@ fn both<K: Key + Drop>(
     second: Share<K>,
 ) -> Share<K>
     requires { (first.known.of ≡ rodeo.now) × (second.known.of ≡ rodeo.now) }
-    ensures { (front back : List Text) → IsShareOf K.number rodeo.now front first.known first.keys → IsShareOf K.number rodeo.now back second.known second.keys → IsShareOf K.number rodeo.now (front ++ back) result.known result.keys }
+    ensures { (front back : List Text) → IsShareOf K.number K.key_at rodeo.now front first.known first.keys → IsShareOf K.number K.key_at rodeo.now back second.known second.keys → IsShareOf K.number K.key_at rodeo.now (front ++ back) result.known result.keys }
 {
     let mut pass = rodeo.pass();
     pass.learn(&first.known);
@@ -109,12 +114,12 @@ fn both<K: Key + Drop>(
     }
 }
 
-// The first keys and then the second ones.
+// The first keys and then the second ones, or the first error.
 fn joined<K: Key + Drop>(
     first: LassoResult<Vec<K>>,
     second: LassoResult<Vec<K>>,
 ) -> LassoResult<Vec<K>>
-    ensures { (list front back : List Text) → IfOk first (λ keys. Resolve K.number list keys.items front) → IfOk second (λ keys. Resolve K.number list keys.items back) → IfOk result (λ keys. Resolve K.number list keys.items (front ++ back)) }
+    ensures { (opening : Totals) (past : History) (front back : List Text) → AreKeysOf K.number K.key_at opening past front first → AreKeysOf K.number K.key_at opening past back second → AreKeysOf K.number K.key_at opening past (front ++ back) result }
 {
     let mut keys = first?;
     let more = second?;
@@ -128,7 +133,7 @@ fn intern_share<R: AllocGlobal + Wait, K: Key + Drop>(
     rodeo: &ThreadedRodeo<K, FixedState>,
     words: &[&str],
 ) -> Share<K>
-    ensures { IsShareOf K.number rodeo.now (map (λ word. word.now) words.now) result.known result.keys }
+    ensures { IsShareOf K.number K.key_at rodeo.now (map (λ word. word.now) words.now) result.known result.keys }
 {
     let mut pass = rodeo.pass();
     let keys = intern_all(rt, rodeo, &mut pass, words);
@@ -147,7 +152,7 @@ fn intern_all<R: AllocGlobal + Wait, K: Key + Drop>(
 ) -> LassoResult<Vec<K>>
     requires { pass.old.of ≡ rodeo.now }
     ensures of { pass.new.of ≡ rodeo.now }
-    ensures keys { IfOk result (λ keys. Resolve K.number (list_of rodeo.now pass.new.notes) keys.items (map (λ word. word.now) words.now)) }
+    ensures keys { AreKeysOf K.number K.key_at rodeo.now.opening (seen pass.new) (map (λ word. word.now) words.now) result }
 {
     let mut keys = Vec::new(rt.alloc());
     for word in words {

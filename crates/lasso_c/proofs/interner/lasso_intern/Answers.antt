@@ -6,19 +6,20 @@ use Rattle.lasso_parts.specs.Texts.{Text, position_of}
 use Rattle.lasso_c.specs.Encoding.{with_new}
 use Rattle.lasso_c.specs.Handles.{texts_in}
 use Rattle.lasso_c.specs.Interning.{TextEnds, TextInterned}
+use Rattle.lasso_c.specs.declared.status.TheConstants.{DONE, NO_INTERNER, NOT_UTF8}
 use Rattle.lasso_c.proofs.LayoutSteps.{code_found, grown}
 use Rattle.lasso_c.proofs.interner.lasso_intern.Goals as goal
 
 pub returns-in_default-clause-outcome : goal.returns-in_default-clause-outcome
 returns-in_default-clause-outcome c =
     let bad : is_utf8 c.args.text.now ≡ false = false_from_ne_true _ (λ e. c.in_default.ensures.cases.0 (IsUtf8-from_is_utf8 c.args.text.now e)) in
-    subst (λ b. TextEnds b c.args.lasso.now.slot.value c.args.text.now 3 c.args.lasso.now.slot.value) (sym bad) (refl, refl)
+    subst (λ b. TextEnds b c.args.lasso.now.slot.value c.args.text.now NOT_UTF8 c.args.lasso.now.slot.value) (sym bad) (refl, refl)
 
 pub returns-in_default-take-clause-outcome : goal.returns-in_default-take-clause-outcome
 returns-in_default-take-clause-outcome c =
     let good : is_utf8 c.args.text.now ≡ true = is_utf8-from_IsUtf8 c.args.text.now c.in-Ok.ensures.cases.1 in
-    let ends : TextInterned c.args.lasso.now.slot.value c.args.text.now 12 c.take.new.self.slot.value = search rules in
-    subst (λ b. TextEnds b c.args.lasso.now.slot.value c.args.text.now 12 c.take.new.self.slot.value) (sym good) ends
+    let ends : TextInterned c.args.lasso.now.slot.value c.args.text.now NO_INTERNER c.take.new.self.slot.value = search rules in
+    subst (λ b. TextEnds b c.args.lasso.now.slot.value c.args.text.now NO_INTERNER c.take.new.self.slot.value) (sym good) ends
 
 pub returns-in-Ok-outcome-clause-code : goal.returns-in-Ok-outcome-clause-code
 returns-in-Ok-outcome-clause-code c =
@@ -34,8 +35,8 @@ returns-in-Ok-outcome-clause-code c =
 pub returns-in-Ok-outcome-clause-outcome : goal.returns-in-Ok-outcome-clause-outcome
 returns-in-Ok-outcome-clause-outcome c =
     let good : is_utf8 c.args.text.now ≡ true = is_utf8-from_IsUtf8 c.args.text.now c.in-Ok.ensures.cases.1 in
-    let ends : TextInterned c.args.lasso.now.slot.value c.args.text.now 0 c.put.new.self.slot.value = search rules in
-    subst (λ b. TextEnds b c.args.lasso.now.slot.value c.args.text.now 0 c.put.new.self.slot.value) (sym good) ends
+    let ends : TextInterned c.args.lasso.now.slot.value c.args.text.now DONE c.put.new.self.slot.value = search rules in
+    subst (λ b. TextEnds b c.args.lasso.now.slot.value c.args.text.now DONE c.put.new.self.slot.value) (sym good) ends
 
 pub returns-in-Err-clause-outcome : goal.returns-in-Err-clause-outcome
 returns-in-Err-clause-outcome c =

@@ -7,7 +7,7 @@ use Rattle.lasso_single.specs.Filling.{extend}
 use Rattle.lasso_single.proofs.Filled.{accepted}
 use Rattle.lasso_columns.proofs.Shared.{parts_reach}
 use Rattle.lasso_encode.specs.Encoding.{spur_at, IsRefused}
-use Rattle.lasso_counts.specs.Adding.{AddsCounts}
+use Rattle.lasso_counts.specs.Adding.{AddsCounts, RefusesNew}
 use Rattle.lasso_counts.proofs.Added.{adds_join}
 use Rattle.lasso_counts.proofs.Rest.{extend_both, part_here, first_here, within, next_here}
 use Rattle.lasso_counts.proofs.parts.count_in_parts.Given.{Over}
@@ -74,6 +74,18 @@ returns-in-Err-clause-refused g c =
     let here = part_here c.args.texts.now start count in
     let refused = subst (λ (ts : List Text). IsSomeAnd (slice_get ts k) (λ text. IsRefused new.rodeo text c.in-Err.error.error)) here c.in-Err.ensures.refused in
     let there = next_here (λ text. IsRefused new.rodeo text c.in-Err.error.error) all start count k refused in
+    rw (c.after.ensures.position, c.after.ensures.error) there
+
+pub returns-in-Err-clause-memory : goal.returns-in-Err-clause-memory
+returns-in-Err-clause-memory g c =
+    let all = map (λ (t : Bor Text). t.now) c.args.texts.now in
+    let start = c.loop-part.start in
+    let count = c.min-count.result in
+    let k = c.in-Err.error.position in
+    let new = c.put_part.new in
+    let here = part_here c.args.texts.now start count in
+    let refused = subst (λ (ts : List Text). IsSomeAnd (slice_get ts k) (λ text. RefusesNew new.rodeo new.counts text c.in-Err.error.error)) here c.in-Err.ensures.memory in
+    let there = next_here (λ text. RefusesNew new.rodeo new.counts text c.in-Err.error.error) all start count k refused in
     rw (c.after.ensures.position, c.after.ensures.error) there
 
 -- the parts reach to the end

@@ -5,7 +5,7 @@ use Rattle.lasso_parts.specs.Texts.{Text}
 use Rattle.lasso_single.specs.Filling.{extend}
 use Rattle.lasso_single.proofs.Filled.{accepted}
 use Rattle.lasso_encode.specs.Encoding.{spur_at, IsRefused}
-use Rattle.lasso_counts.specs.Adding.{AddsCounts}
+use Rattle.lasso_counts.specs.Adding.{AddsCounts, RefusesNew}
 use Rattle.lasso_counts.proofs.Added.{adds_join}
 use Rattle.lasso_counts.proofs.Rest.{extend_both, rest_found, next_after, taken_both, texts_after}
 use Rattle.lasso_counts.proofs.parts.count_rest.Goals as goal
@@ -66,4 +66,14 @@ returns-in-Err-clause-refused g c =
     let new = c.count_texts.new.rodeo in
     let here = subst (λ (ts : List Text). IsSomeAnd (slice_get ts k) (λ text. IsRefused new text c.in-Err.error.error)) (texts_after c.args.texts.now i) c.in-Err.ensures.refused in
     let there = next_after all i k (λ text. IsRefused new text c.in-Err.error.error) here in
+    rw (c.after.ensures.position, c.after.ensures.error) there
+
+pub returns-in-Err-clause-memory : goal.returns-in-Err-clause-memory
+returns-in-Err-clause-memory g c =
+    let all = map (λ (t : Bor Text). t.now) c.args.texts.now in
+    let i = c.count_found-found.result in
+    let k = c.in-Err.error.position in
+    let new = c.count_texts.new in
+    let here = subst (λ (ts : List Text). IsSomeAnd (slice_get ts k) (λ text. RefusesNew new.rodeo new.counts text c.in-Err.error.error)) (texts_after c.args.texts.now i) c.in-Err.ensures.memory in
+    let there = next_after all i k (λ text. RefusesNew new.rodeo new.counts text c.in-Err.error.error) here in
     rw (c.after.ensures.position, c.after.ensures.error) there

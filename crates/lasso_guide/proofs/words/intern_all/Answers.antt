@@ -1,11 +1,12 @@
 -- The key resolves to its word in what the pass has then seen, and the words before keep theirs.
 use Rattle.std.proofs.Common.{◌+◌, ◌∷◌, ◌++◌, [], List, Bor, Ok, map, take, sym, subst, ◌∙◌}
+use Rattle.std.proofs.lemmas.Result.{err_from_is_err_and}
 use Rattle.lasso.specs.Texts.{Text}
 use Rattle.lasso.specs.Replies.{Copied, Intern, Interned}
 use Rattle.lasso.specs.Views.{list_of, seen}
 use Rattle.lasso.proofs.CallingShared.{shared_answer_resolves, call_keeps_texts}
 use Rattle.lasso_guide.specs.Words.{Resolve}
-use Rattle.lasso_guide.proofs.Counting.{resolve_later, resolve_push, words_more}
+use Rattle.lasso_guide.proofs.Counting.{refused_here, resolve_later, resolve_push, words_more, words_split}
 use Rattle.lasso_guide.proofs.words.intern_all.Goals as goal
 
 pub loop-word-preserved : goal.loop-word-preserved
@@ -27,3 +28,11 @@ loop-word-preserved g c =
           subst (λ ks. Resolve number list ks (take (c.loop-word.word-index + 1) (map (λ (w : Bor Text). w.now) c.args.words.now))) (sym c.in_ok-push.ensures.items)
           (subst (λ (ts : List Text). Resolve number list (c.loop-word.keys.items ++ c.in_ok-key.key ∷ []) ts) (sym (words_more c.args.words.now c.loop-word.word-index _ c.loop-word-test.true)) more);
     }
+
+pub returns-in_err-key-clause-keys : goal.returns-in_err-key-clause-keys
+returns-in_err-key-clause-keys g c =
+    let all = map (λ (w : Bor Text). w.now) c.args.words.now in
+    let p = err_from_is_err_and c.from_residual-in_err-key.result c.from_residual-in_err-key.ensures.1 in
+    let why =
+    refused_here g.K.Key.number g.K.Key.key_at c.args.rodeo.now.opening (seen c.loop-word.pass) (seen c.try_get_or_intern_as.new.pass) c.loop-word.pass.number (take c.loop-word.word-index all) _ _ all c.loop-word.keys.items c.in_err-key.field-0.0 (words_split c.args.words.now c.loop-word.word-index _ c.loop-word-test.true) c.loop-word.invariant.keys c.in_err-key.ensures.call in
+    rw (p.1, p.2) why

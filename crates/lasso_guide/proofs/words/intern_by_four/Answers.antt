@@ -7,6 +7,6 @@ use Rattle.lasso_guide.proofs.words.intern_by_four.Goals as goal
 
 pub returns : goal.returns
 returns g c =
-    subst (λ (words : List Text). IsShareOf g.K.Key.number c.args.rodeo.now words c.both.result.known c.both.result.keys)
+    subst (λ (words : List Text). IsShareOf g.K.Key.number g.K.Key.key_at c.args.rodeo.now words c.both.result.known c.both.result.keys)
     (halves c.args.words.now _ _ _ c.split_at.ensures.front c.split_at.ensures.back)
     (c.both.ensures _ _ c.join-first.ensures.first c.join-first.ensures.second)

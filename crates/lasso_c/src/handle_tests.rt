@@ -1,0 +1,11 @@
+//! A handle may be passed from thread to thread: it may, since an interner may.
+use crate::handle::Lasso;
+use crate::slot::Interner;
+
+fn is_send<T: Send>() {}
+
+#[test]
+fn handles_cross_threads() {
+    is_send::<Interner>();
+    is_send::<Lasso>();
+}
