@@ -1,0 +1,71 @@
+-- What the result of a run says of the failed calls, after the last flush.
+--
+-- If the run had ended at a failed write, nothing is flushed. Else the writer counts at most the flush, which is
+-- a failed write exactly if the run then ends with one.
+use Rattle.std.proofs.Common.{ℕ, ◌≡◌, ◌+◌, ◌⊎◌, Result, Ok, Err, IfErr, refl, sym, ap, subst, ◌∙◌, arith, inl, inr}
+use Rattle.lasso_codes.specs.Errors.{failed_reads, failed_writes, gone_readers, IsWriteEnd}
+use Rattle.lasso_codes.specs.Views.{OutputView}
+use Rattle.lasso_codes.specs.declared.error.RunError.{RunError}
+use Rattle.lasso_codes.specs.declared.error.RunError.TheVariants.{Line, TooManyLines, ReadFailed, WriteFailed, ReaderGone, Column}
+
+abbrev Ended : Type 0
+Ended = Result (Unit {0}) RunError
+
+write_or_not : (result : Ended) → IsWriteEnd result ⊎ (¬ (IsWriteEnd result))
+write_or_not (Ok x) = inr (λ is. absurd is)
+write_or_not (Err (Line error)) = inr (λ is. absurd is)
+write_or_not (Err TooManyLines) = inr (λ is. absurd is)
+write_or_not (Err ReadFailed) = inr (λ is. absurd is)
+write_or_not (Err WriteFailed) = inl tt
+write_or_not (Err ReaderGone) = inl tt
+write_or_not (Err (Column column error)) = inr (λ is. absurd is)
+
+pub no_read : (result : Ended) → IsWriteEnd result → failed_reads result ≡ 0
+no_read (Ok x) is = absurd is
+no_read (Err (Line error)) is = absurd is
+no_read (Err TooManyLines) is = absurd is
+no_read (Err ReadFailed) is = absurd is
+no_read (Err WriteFailed) is = refl
+no_read (Err ReaderGone) is = refl
+no_read (Err (Column column error)) is = absurd is
+
+pub no_write : (result : Ended) → ¬ (IsWriteEnd result) → failed_writes result ≡ 0
+no_write (Ok x) no = refl
+no_write (Err (Line error)) no = refl
+no_write (Err TooManyLines) no = refl
+no_write (Err ReadFailed) no = refl
+no_write (Err WriteFailed) no = absurd (no tt)
+no_write (Err ReaderGone) no = absurd (no tt)
+no_write (Err (Column column error)) no = refl
+
+pub none_gone : (result : Ended) → ¬ (IsWriteEnd result) → gone_readers result ≡ 0
+none_gone (Ok x) no = refl
+none_gone (Err (Line error)) no = refl
+none_gone (Err TooManyLines) no = refl
+none_gone (Err ReadFailed) no = refl
+none_gone (Err WriteFailed) no = absurd (no tt)
+none_gone (Err ReaderGone) no = absurd (no tt)
+none_gone (Err (Column column error)) no = refl
+
+-- ---- the counts after the last flush
+
+pub reads_end : (before after : ℕ) (ended result : Ended) → after ≡ before + failed_reads ended → (result ≡ ended) ⊎ IsWriteEnd result → IfErr ended (λ error. (result ≡ Err error) ⊎ (result ≡ Err WriteFailed)) → ¬ (result ≡ Err WriteFailed) → after ≡ before + failed_reads result
+reads_end before after ended result count (inl same) kept no = subst (λ (r : Ended). after ≡ before + failed_reads r) (sym same) count
+reads_end before after (Ok x) result count (inr is) kept no = count ∙ ap (λ n. before + n) (sym (no_read result is))
+reads_end before after (Err error) result count (inr is) (inl same) no = subst (λ (r : Ended). after ≡ before + failed_reads r) (sym same) count
+reads_end before after (Err error) result count (inr is) (inr same) no = absurd (no same)
+
+module _ (before mid after : OutputView) (ended result : Ended) (none : IsWriteEnd ended → (result ≡ ended) × (after ≡ mid)) where
+  pub writes_end : mid.failures ≡ before.failures + failed_writes ended → (¬ (IsWriteEnd ended) → after.failures ≡ mid.failures + failed_writes result) → after.failures ≡ before.failures + failed_writes result
+  writes_end count flushed = either (write_or_not ended)
+    where
+      either : IsWriteEnd ended ⊎ (¬ (IsWriteEnd ended)) → after.failures ≡ before.failures + failed_writes result
+      either (inl is) = let told = none is in ap (λ (v : OutputView). v.failures) told.1 ∙ count ∙ ap (λ (r : Ended). before.failures + failed_writes r) (sym told.0)
+      either (inr no) = let now = flushed no in let nothing = no_write ended no in omega (arith, now, count, nothing)
+
+  pub gone_end : mid.gone ≡ before.gone + gone_readers ended → (¬ (IsWriteEnd ended) → ¬ (result ≡ Err WriteFailed) → after.gone ≡ mid.gone + gone_readers result) → ¬ (result ≡ Err WriteFailed) → after.gone ≡ before.gone + gone_readers result
+  gone_end count flushed other = either (write_or_not ended)
+    where
+      either : IsWriteEnd ended ⊎ (¬ (IsWriteEnd ended)) → after.gone ≡ before.gone + gone_readers result
+      either (inl is) = let told = none is in ap (λ (v : OutputView). v.gone) told.1 ∙ count ∙ ap (λ (r : Ended). before.gone + gone_readers r) (sym told.0)
+      either (inr no) = let now = flushed no other in let nothing = none_gone ended no in omega (arith, now, count, nothing)
