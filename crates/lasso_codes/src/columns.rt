@@ -75,7 +75,11 @@ fn write_front<W: Write + Drop>(output: &mut Output<W>, binary: bool) -> Result<
 }
 
 // Writes the number's digits, and then the bytes `after`.
-fn write_number_and<W: Write + Drop>(output: &mut Output<W>, number: u64, after: &[u8]) -> Result<(), RunError>
+fn write_number_and<W: Write + Drop>(
+    output: &mut Output<W>,
+    number: u64,
+    after: &[u8],
+) -> Result<(), RunError>
     ensures written { Writes output.old.written output.new.written (WritesAll (decimal number ++ after.now) result) }
     ensures writes { output.new.failures ≡ output.old.failures + failed_writes result }
     ensures gone { output.new.gone ≡ output.old.gone + gone_readers result }
@@ -103,7 +107,11 @@ const BLOCK_SIZE: usize = 4096;
 const LONGEST_ENTRY: usize = 11;
 
 // Writes the entry of each number.
-fn write_entries<W: Write + Drop>(output: &mut Output<W>, binary: bool, numbers: &[u32]) -> Result<(), RunError>
+fn write_entries<W: Write + Drop>(
+    output: &mut Output<W>,
+    binary: bool,
+    numbers: &[u32],
+) -> Result<(), RunError>
     ensures written { Writes output.old.written output.new.written (WritesAll (flat_map (λ n. entry_bytes binary (entry_at n)) numbers.now) result) }
     ensures writes { output.new.failures ≡ output.old.failures + failed_writes result }
     ensures gone { output.new.gone ≡ output.old.gone + gone_readers result }
@@ -120,7 +128,11 @@ fn write_entries<W: Write + Drop>(output: &mut Output<W>, binary: bool, numbers:
 // Writes the first `filled` bytes of the block if there is no room for an entry after them. Returns the
 // number of filled bytes that are left.
 #[inline]
-fn make_room<W: Write + Drop>(output: &mut Output<W>, block: &[u8], filled: usize) -> Result<usize, RunError>
+fn make_room<W: Write + Drop>(
+    output: &mut Output<W>,
+    block: &[u8],
+    filled: usize,
+) -> Result<usize, RunError>
     requires fits { filled ≤ 4096 }
     requires long { length block.now ≡ 4096 }
     ensures room { IfOk result (λ left. left + 11 ≤ 4096) }

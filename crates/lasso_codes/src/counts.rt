@@ -223,7 +223,10 @@ fn count_whole<H: AllocGlobal + Threads + Sync, R: Read + Drop>(
 }
 
 // Writes each count and its text as a line.
-fn write_ranked<W: Write + Drop>(output: &mut Output<W>, ranked: &[Ranked<'_>]) -> Result<(), RunError>
+fn write_ranked<W: Write + Drop>(
+    output: &mut Output<W>,
+    ranked: &[Ranked<'_>],
+) -> Result<(), RunError>
     ensures written { Writes output.old.written output.new.written (WritesAll (flat_map count_line (map pair_of ranked.now)) result) }
     ensures writes { output.new.failures ≡ output.old.failures + failed_writes result }
     ensures gone { output.new.gone ≡ output.old.gone + gone_readers result }

@@ -17,10 +17,7 @@ use std::str::from_utf8;
 ///
 /// # Errors
 /// The reader failed, or out of memory, with the line number 0.
-pub fn read_whole<R: Read + Drop>(
-    alloc: Global,
-    input: &mut Input<R>,
-) -> Result<Vec<u8>, RunError>
+pub fn read_whole<R: Read + Drop>(alloc: Global, input: &mut Input<R>) -> Result<Vec<u8>, RunError>
     ensures bytes { IfOk result (λ whole. (bytes : List ℕ) → input.old.left ≡ Some bytes → whole.items ≡ bytes) }
     ensures errors { IfErr result (IsReadError 0) }
     ensures reads { input.new.failures ≡ input.old.failures + failed_reads result }

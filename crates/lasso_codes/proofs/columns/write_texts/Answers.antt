@@ -27,7 +27,7 @@ loop-position-preserved g c =
     let line = subst (λ t. Writes c.loop-position.output.written c.write_line.new.output.written (λ part. part ≡ t ++ 10 ∷ [])) c.as_bytes.ensures.value c.in_ok-write_line.ensures.written in
     record {
       written =
-        writes_then _ _ _ (λ part. part ≡ flat_map with_feed (take i texts)) (λ part. part ≡ with_feed text) _ c.loop-position.invariant.written line (λ part more is one.
+          writes_then _ _ _ (λ part. part ≡ flat_map with_feed (take i texts)) (λ part. part ≡ with_feed text) _ c.loop-position.invariant.written line (λ part more is one.
           flat_then with_feed texts i text (take_more_at texts i text c.text_at.ensures) part more is one);
       writes = omega (arith, c.in_ok-write_line.ensures.writes, c.loop-position.invariant.writes);
       gone = omega (arith, c.in_ok-write_line.ensures.gone, c.loop-position.invariant.gone);
