@@ -1,12 +1,87 @@
--- What the result of a run says of the failed calls, after the last flush.
+-- What the result of a call says of the failed calls, and that of a run after its last flush.
 --
+-- A call that only reads doesn't end with a failed write, and one that only writes not with a failed read.
 -- If the run had ended at a failed write, nothing is flushed. Else the writer counts at most the flush, which is
 -- a failed write exactly if the run then ends with one.
-use Rattle.std.proofs.Common.{ℕ, ◌≡◌, ◌+◌, ◌⊎◌, Result, Ok, Err, IfErr, refl, sym, ap, subst, ◌∙◌, arith, inl, inr}
-use Rattle.lasso_codes.specs.Errors.{failed_reads, failed_writes, gone_readers, IsWriteEnd}
+use Rattle.std.proofs.Common.{ℕ, ◌≡◌, ◌+◌, ◌⊎◌, List, Option, Result, Ok, Err, IfErr, refl, sym, ap, subst, ◌∙◌, arith, inl, inr}
+use Rattle.lasso_codes.specs.Errors.{failed_reads, failed_writes, gone_readers, IsDataError, IsInputError, IsOutputError, IsReadError, IsWriteError, IsWriteEnd}
+use Rattle.lasso_codes.specs.Reading.{HeaderError}
+use Rattle.lasso_codes.specs.Streams.{WritesAll}
 use Rattle.lasso_codes.specs.Views.{OutputView}
 use Rattle.lasso_codes.specs.declared.error.RunError.{RunError}
 use Rattle.lasso_codes.specs.declared.error.RunError.TheVariants.{Line, TooManyLines, ReadFailed, WriteFailed, ReaderGone, Column}
+
+-- ---- errors of calls that only read, only write, or do neither
+
+pub data_input : (error : RunError) → IsDataError error → IsInputError error
+data_input (Line fault) is = tt
+data_input TooManyLines is = tt
+data_input ReadFailed is = absurd is
+data_input WriteFailed is = absurd is
+data_input ReaderGone is = absurd is
+data_input (Column column fault) is = tt
+
+pub data_output : (error : RunError) → IsDataError error → IsOutputError error
+data_output (Line fault) is = tt
+data_output TooManyLines is = tt
+data_output ReadFailed is = absurd is
+data_output WriteFailed is = absurd is
+data_output ReaderGone is = absurd is
+data_output (Column column fault) is = tt
+
+pub read_input : (number : ℕ) (error : RunError) → IsReadError number error → IsInputError error
+read_input number (Line fault) is = tt
+read_input number TooManyLines is = absurd is
+read_input number ReadFailed is = tt
+read_input number WriteFailed is = absurd is
+read_input number ReaderGone is = absurd is
+read_input number (Column column fault) is = absurd is
+
+pub write_output : (error : RunError) → IsWriteError error → IsOutputError error
+write_output (Line fault) is = absurd is
+write_output TooManyLines is = absurd is
+write_output ReadFailed is = absurd is
+write_output WriteFailed is = tt
+write_output ReaderGone is = tt
+write_output (Column column fault) is = absurd is
+
+pub header_input : (before : Option (List ℕ)) (column : ℕ) (error : RunError) → HeaderError before column error → IsInputError error
+header_input before column error (inl is) = read_input 0 error is
+header_input before column error (inr is) = subst IsInputError (sym is.0) tt
+
+module _ {X : Type 0} where
+  pub input_no_write : (error : RunError) → IsInputError error → failed_writes {X = X} (Err error) ≡ 0
+  input_no_write (Line fault) is = refl
+  input_no_write TooManyLines is = refl
+  input_no_write ReadFailed is = refl
+  input_no_write WriteFailed is = absurd is
+  input_no_write ReaderGone is = absurd is
+  input_no_write (Column column fault) is = refl
+
+  pub input_none_gone : (error : RunError) → IsInputError error → gone_readers {X = X} (Err error) ≡ 0
+  input_none_gone (Line fault) is = refl
+  input_none_gone TooManyLines is = refl
+  input_none_gone ReadFailed is = refl
+  input_none_gone WriteFailed is = refl
+  input_none_gone ReaderGone is = absurd is
+  input_none_gone (Column column fault) is = refl
+
+  pub output_no_read : (error : RunError) → IsOutputError error → failed_reads {X = X} (Err error) ≡ 0
+  output_no_read (Line fault) is = refl
+  output_no_read TooManyLines is = refl
+  output_no_read ReadFailed is = absurd is
+  output_no_read WriteFailed is = refl
+  output_no_read ReaderGone is = refl
+  output_no_read (Column column fault) is = refl
+
+pub written_output : (bytes part : List ℕ) (error : RunError) → WritesAll bytes (Err error) part → IsOutputError error
+written_output bytes part error written = write_output error written.0
+
+pub written_no_read : (bytes part : List ℕ) (result : Result (Unit {0}) RunError) → WritesAll bytes result part → failed_reads result ≡ 0
+written_no_read bytes part (Ok x) written = refl
+written_no_read bytes part (Err error) written = output_no_read error (written_output bytes part error written)
+
+-- ---- runs
 
 abbrev Ended : Type 0
 Ended = Result (Unit {0}) RunError

@@ -74,6 +74,33 @@ IsReadError number WriteFailed = ⊥
 IsReadError number ReaderGone = ⊥
 IsReadError number (Column column error) = ⊥
 
+-- the error of a call that only reads: no write failed
+abbrev pub IsInputError : RunError → Type 0
+IsInputError (Line error) = Unit {0}
+IsInputError TooManyLines = Unit {0}
+IsInputError ReadFailed = Unit {0}
+IsInputError WriteFailed = ⊥
+IsInputError ReaderGone = ⊥
+IsInputError (Column number error) = Unit {0}
+
+-- the error of a call that only writes: no read failed
+abbrev pub IsOutputError : RunError → Type 0
+IsOutputError (Line error) = Unit {0}
+IsOutputError TooManyLines = Unit {0}
+IsOutputError ReadFailed = ⊥
+IsOutputError WriteFailed = Unit {0}
+IsOutputError ReaderGone = Unit {0}
+IsOutputError (Column number error) = Unit {0}
+
+-- the error of a call that does neither: lines or columns are at fault, or memory ran out
+abbrev pub IsDataError : RunError → Type 0
+IsDataError (Line error) = Unit {0}
+IsDataError TooManyLines = Unit {0}
+IsDataError ReadFailed = ⊥
+IsDataError WriteFailed = ⊥
+IsDataError ReaderGone = ⊥
+IsDataError (Column number error) = Unit {0}
+
 -- ---- how many calls failed
 
 -- the number of failed reads in a call with this result

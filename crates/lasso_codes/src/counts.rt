@@ -10,7 +10,7 @@ ghost use Rattle.lasso_counts.specs.Counts.{AreCounts, pair_of};
 ghost use Rattle.lasso_codes.specs.Counts.{CountsEnd, CountingError, count_line};
 ghost use Rattle.lasso_codes.specs.Stages.{Counting};
 ghost use Rattle.lasso_codes.specs.Streams.{Writes, WritesAll};
-ghost use Rattle.lasso_codes.specs.Errors.{failed_reads, failed_writes, gone_readers, IsWriteEnd};
+ghost use Rattle.lasso_codes.specs.Errors.{failed_reads, failed_writes, gone_readers, IsWriteEnd, IsDataError, IsInputError};
 
 use crate::arguments::Settings;
 use crate::distinct::new_rodeo;
@@ -91,6 +91,7 @@ fn count_all<H: AllocGlobal + Threads + Sync, R: Read + Drop>(
     ensures lengths { vec_len counts.new ≡ length rodeo.new.texts }
     ensures error { IfErr result (λ error. (bytes : List ℕ) → input.old.left ≡ Some bytes →
         (limit : ℕ) → rodeo.old ≡ made_with 4096 limit → CountingError limit (lines_of bytes) error) }
+    ensures faults { IfErr result IsInputError }
     ensures reads { input.new.failures ≡ input.old.failures + failed_reads result }
 {
     if workers < 2 {
@@ -113,6 +114,7 @@ fn count_lines<R: Read + Drop>(
     ensures lengths { vec_len counts.new ≡ length rodeo.new.texts }
     ensures error { IfErr result (λ error. (bytes : List ℕ) → input.old.left ≡ Some bytes →
         (limit : ℕ) → rodeo.old ≡ made_with 4096 limit → CountingError limit (lines_of bytes) error) }
+    ensures faults { IfErr result IsInputError }
     ensures reads { input.new.failures ≡ input.old.failures + failed_reads result }
 {
     let mut line = Vec::new(alloc);
@@ -150,6 +152,7 @@ fn count_stretch(
     ensures within { IfOk result (λ at. at.1 ≤ length stretch.now) }
     ensures error { IfErr result (λ error. (input later : List ℕ) (limit : ℕ) →
         Counting input (stretch.now ++ later) first (made_with 4096 limit) rodeo.old counts.old.items → CountingError limit (lines_of input) error) }
+    ensures faults { IfErr result IsDataError }
 {
     let untested = untested_len(stretch);
     let mut used = 0;
@@ -208,6 +211,7 @@ fn count_whole<H: AllocGlobal + Threads + Sync, R: Read + Drop>(
     ensures lengths { vec_len counts.new ≡ length rodeo.new.texts }
     ensures error { IfErr result (λ error. (bytes : List ℕ) → input.old.left ≡ Some bytes →
         (limit : ℕ) → rodeo.old ≡ made_with 4096 limit → CountingError limit (lines_of bytes) error) }
+    ensures faults { IfErr result IsInputError }
     ensures reads { input.new.failures ≡ input.old.failures + failed_reads result }
 {
     let whole = read_whole(rt.alloc(), input)?;

@@ -6,7 +6,7 @@ ghost use Rattle.lasso_parts.specs.declared.util.LassoErrorKind.TheVariants.{Fai
 ghost use Rattle.lasso_codes.specs.Stages.{OnTheWay};
 ghost use Rattle.lasso_codes.specs.Streams.{Writes};
 ghost use Rattle.lasso_codes.specs.Distinct.{DistinctEnd, PassesLine};
-ghost use Rattle.lasso_codes.specs.Errors.{failed_reads, failed_writes, gone_readers, IsWriteEnd};
+ghost use Rattle.lasso_codes.specs.Errors.{failed_reads, failed_writes, gone_readers, IsWriteEnd, IsOutputError};
 
 use crate::error::RunError;
 use crate::input::next_line;
@@ -88,6 +88,7 @@ fn pass_stretch<W: Write + Drop>(
     ensures error { IfErr result (λ error. (input later : List ℕ) (limit : ℕ) (before : Option (List ℕ)) →
         Writes before output.old.written (OnTheWay input limit (stretch.now ++ later) first rodeo.old) →
         Writes before output.new.written (λ part. DistinctEnd input limit part (Err error))) }
+    ensures faults { IfErr result IsOutputError }
     ensures writes { output.new.failures ≡ output.old.failures + failed_writes result }
     ensures gone { output.new.gone ≡ output.old.gone + gone_readers result }
 {
@@ -116,6 +117,7 @@ fn pass_line<W: Write + Drop>(
 ) -> Result<(), RunError>
     requires { IsTrue is_text → IsUtf8 line.now }
     ensures written { Writes output.old.written output.new.written (λ part. PassesLine rodeo.old line.now number part rodeo.new result) }
+    ensures faults { IfErr result IsOutputError }
     ensures writes { output.new.failures ≡ output.old.failures + failed_writes result }
     ensures gone { output.new.gone ≡ output.old.gone + gone_readers result }
 {

@@ -9,7 +9,7 @@ ghost use Rattle.lasso_parts.specs.declared.util.LassoErrorKind.TheVariants.{Fai
 ghost use Rattle.lasso_codes.specs.Arguments.{word_of};
 ghost use Rattle.lasso_codes.specs.Columns.{is_null, texts_of};
 ghost use Rattle.lasso_codes.specs.Encode.{AreNumbered, EncodeEnd, EncodingError, IsNumbered};
-ghost use Rattle.lasso_codes.specs.Errors.{failed_reads, failed_writes, gone_readers, IsWriteEnd};
+ghost use Rattle.lasso_codes.specs.Errors.{failed_reads, failed_writes, gone_readers, IsWriteEnd, IsDataError, IsInputError};
 ghost use Rattle.lasso_codes.specs.Stages.{Encoding};
 ghost use Rattle.lasso_codes.specs.Streams.{Writes};
 ghost use Rattle.lasso_codes.specs.Whole.{spread};
@@ -90,6 +90,7 @@ fn number_lines<H: AllocGlobal + Threads + Sync, R: Read + Drop>(
         All IsUtf8 (lines_of bytes) × AreNumbered (word_of null.entry) (lines_of bytes) rodeo.new.texts numbers.new.items) }
     ensures error { IfErr result (λ error. (bytes : List ℕ) → input.old.left ≡ Some bytes →
         (limit : ℕ) → rodeo.old ≡ made_with 4096 limit → EncodingError limit (word_of null.entry) (lines_of bytes) error) }
+    ensures faults { IfErr result IsInputError }
     ensures reads { input.new.failures ≡ input.old.failures + failed_reads result }
 {
     if workers < 2 {
@@ -112,6 +113,7 @@ fn encode_lines<R: Read + Drop>(
         All IsUtf8 (lines_of bytes) × AreNumbered (word_of null.entry) (lines_of bytes) rodeo.new.texts numbers.new.items) }
     ensures error { IfErr result (λ error. (bytes : List ℕ) → input.old.left ≡ Some bytes →
         (limit : ℕ) → rodeo.old ≡ made_with 4096 limit → EncodingError limit (word_of null.entry) (lines_of bytes) error) }
+    ensures faults { IfErr result IsInputError }
     ensures reads { input.new.failures ≡ input.old.failures + failed_reads result }
 {
     let mut line = Vec::new(alloc);
@@ -148,6 +150,7 @@ fn encode_stretch(
     ensures error { IfErr result (λ error. (input later : List ℕ) (limit : ℕ) →
         Encoding input (stretch.now ++ later) first (word_of null.entry) (made_with 4096 limit) rodeo.old numbers.old.items →
         EncodingError limit (word_of null.entry) (lines_of input) error) }
+    ensures faults { IfErr result IsDataError }
 {
     let untested = untested_len(stretch);
     let mut used = 0;
@@ -180,6 +183,7 @@ fn encode_whole<H: AllocGlobal + Threads + Sync, R: Read + Drop>(
         All IsUtf8 (lines_of bytes) × AreNumbered (word_of null.entry) (lines_of bytes) rodeo.new.texts numbers.new.items) }
     ensures error { IfErr result (λ error. (bytes : List ℕ) → input.old.left ≡ Some bytes →
         (limit : ℕ) → rodeo.old ≡ made_with 4096 limit → EncodingError limit (word_of null.entry) (lines_of bytes) error) }
+    ensures faults { IfErr result IsInputError }
     ensures reads { input.new.failures ≡ input.old.failures + failed_reads result }
 {
     let whole = read_whole(rt.alloc(), input)?;

@@ -6,7 +6,7 @@ ghost use Rattle.lasso_encode.specs.Codes.{AreCodes};
 ghost use Rattle.lasso_columns.specs.declared.faults.LineError.TheVariants.{Refused};
 ghost use Rattle.lasso_parts.specs.declared.util.LassoErrorKind.TheVariants.{FailedAllocation};
 ghost use Rattle.lasso_codes.specs.Columns.{entry_at};
-ghost use Rattle.lasso_codes.specs.Errors.{failed_reads, failed_writes, gone_readers, IsWriteEnd};
+ghost use Rattle.lasso_codes.specs.Errors.{failed_reads, failed_writes, gone_readers, IsWriteEnd, IsDataError, IsInputError};
 ghost use Rattle.lasso_codes.specs.Merge.{recoded, AddsEntries, AddsEntry, AreMerged, EntriesError, MergeEnd, MergingError};
 ghost use Rattle.lasso_codes.specs.Stages.{EntriesAhead};
 ghost use Rattle.lasso_codes.specs.Reading.{items_from, ReadItems};
@@ -81,6 +81,7 @@ fn merge_columns<R: Read + Drop>(
     requires no_numbers { numbers.old.items ≡ [] }
     ensures merged { OnOk result ((bytes : List ℕ) → input.old.left ≡ Some bytes → AreMerged bytes rodeo.new.texts numbers.new.items) }
     ensures error { IfErr result (λ error. (bytes : List ℕ) → input.old.left ≡ Some bytes → MergingError bytes limits error) }
+    ensures faults { IfErr result IsInputError }
     ensures reads { input.new.failures ≡ input.old.failures + failed_reads result }
 {
     let mut line = Vec::new(alloc);
@@ -110,6 +111,7 @@ fn add_numbers<R: Read + Drop>(
     ensures added { (list texts : List Text) → AreCodes list texts table.now → length list < 2 ^ 32 →
         (bytes : List ℕ) → input.old.left ≡ Some bytes →
         AddsEntries (items_from (recoded list texts) header.lines header.binary 1 bytes) column input.new.left numbers.old.items numbers.new.items result }
+    ensures faults { IfErr result IsInputError }
     ensures reads { input.new.failures ≡ input.old.failures + failed_reads result }
 {
     let mut count = 0;
@@ -147,6 +149,7 @@ fn add_stretch(
         (read : ReadItems (Option ℕ)) (later before : List ℕ) →
         EntriesAhead (items_from (recoded list texts) (header.lines - count) header.binary (count + 1) (stretch.now ++ later)) read before numbers.old.items →
         EntriesError read column error) }
+    ensures faults { IfErr result IsDataError }
 {
     let mut used = 0;
     for position in count..header.lines {
@@ -168,8 +171,9 @@ fn add_number(
     entry: Entry,
     number: usize,
 ) -> Result<(), RunError>
-    ensures { (list texts : List Text) → AreCodes list texts table.now → length list < 2 ^ 32 →
+    ensures added { (list texts : List Text) → AreCodes list texts table.now → length list < 2 ^ 32 →
         AddsEntry (recoded list texts entry number) column numbers.old.items numbers.new.items result }
+    ensures faults { IfErr result IsDataError }
 {
     match number_at(table, entry, number) {
         Ok(number) => append_number(numbers, number),

@@ -6,7 +6,7 @@ ghost use Rattle.lasso_encode.specs.Encoding.{spur_at};
 ghost use Rattle.lasso_codes.specs.Arguments.{word_of};
 ghost use Rattle.lasso_codes.specs.Stages.{Reading};
 ghost use Rattle.lasso_codes.specs.Reading.{after_front, header_in, header_of, header_with, AddError, AddsText, HeaderError, TakesHeader, TakesTexts, TextsError};
-ghost use Rattle.lasso_codes.specs.Errors.{failed_reads};
+ghost use Rattle.lasso_codes.specs.Errors.{failed_reads, IsDataError, IsInputError};
 
 use crate::columns::{BINARY_HEADER, TEXT_HEADER};
 use crate::error::{ColumnError, RunError};
@@ -71,6 +71,7 @@ pub fn read_texts<R: Read + Drop>(
     ensures taken { OnOk result (TakesTexts input.old.left input.new.left distinct rodeo.new.texts) }
     ensures error { IfErr result (λ error. (bytes : List ℕ) → input.old.left ≡ Some bytes →
         (limit : ℕ) → rodeo.old ≡ made_with 4096 limit → TextsError limit distinct column bytes error) }
+    ensures faults { IfErr result IsInputError }
     ensures reads { input.new.failures ≡ input.old.failures + failed_reads result }
 {
     let mut count = 0;
@@ -112,6 +113,7 @@ fn add_texts(
     ensures within { IfOk result (λ at. at.1 ≤ length stretch.now) }
     ensures error { IfErr result (λ error. (bytes later : List ℕ) (limit : ℕ) → Reading bytes (stretch.now ++ later) count rodeo.old →
         extend spur_at (made_with 4096 limit) rodeo.old.texts (Ok tt) rodeo.old → TextsError limit distinct column bytes error) }
+    ensures faults { IfErr result IsDataError }
 {
     let untested = untested_len(stretch);
     let mut used = 0;

@@ -7,6 +7,7 @@ use Rattle.lasso_cut.specs.Lines.{lines_of}
 use Rattle.lasso_counts.specs.Counts.{AreCounts, pair_of}
 use Rattle.lasso_codes.specs.Counts.{CountsEnd, count_line}
 use Rattle.lasso_codes.specs.Streams.{WritesAll}
+use Rattle.lasso_codes.proofs.Failing.{written_no_read}
 use Rattle.lasso_codes.proofs.Written.{writes_none, writes_as}
 use Rattle.lasso_codes.proofs.CountedLines.{none_written, unmade, report_written, first_ranked}
 use Rattle.lasso_codes.proofs.counts.write_counts.Goals as goal
@@ -34,3 +35,9 @@ returns-clause-report g c = λ bytes e.
     let result = c.write_ranked.result in
     writes_as _ _ (WritesAll (flat_map count_line (map pair_of (take c.min-most.result c.deref-2.result.now))) result) (λ part. CountsEnd bytes c.args.settings.limit c.args.settings.top part result) c.write_ranked.ensures.written (λ part w.
     report_written bytes c.args.settings.limit c.args.settings.top (map pair_of items) part result counted.0 (c.in-Ok.ensures.counted (lines_of bytes) counts_are) c.in-Ok.ensures.order total (subst (λ ps. WritesAll (flat_map count_line ps) result part) slice_is w))
+
+pub returns-clause-reads : goal.returns-clause-reads
+returns-clause-reads g c =
+    let wrote = c.write_ranked.ensures.written in
+    let nothing = written_no_read _ wrote.0 c.write_ranked.result wrote.2 in
+    omega (arith, c.in_ok-count_all.ensures.reads, nothing)

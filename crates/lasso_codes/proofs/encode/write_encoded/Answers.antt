@@ -4,6 +4,7 @@ use Rattle.lasso_single.specs.Interner.{made_with}
 use Rattle.lasso_cut.specs.Lines.{lines_of}
 use Rattle.lasso_codes.specs.Arguments.{word_of}
 use Rattle.lasso_codes.specs.Encode.{AreNumbered, EncodeEnd}
+use Rattle.lasso_codes.proofs.Failing.{written_no_read}
 use Rattle.lasso_codes.proofs.Written.{writes_none, writes_as}
 use Rattle.lasso_codes.proofs.EncodedLines.{none_written, unmade, column_written}
 use Rattle.lasso_codes.proofs.encode.write_encoded.Goals as goal
@@ -35,3 +36,9 @@ returns-clause-report g c = λ bytes e.
     let result = c.write_column.result in
     writes_as _ _ _ (λ part. EncodeEnd bytes c.args.settings.limit null c.args.settings.binary part result) c.write_column.ensures.written (λ part w.
     column_written bytes c.args.settings.limit null c.args.settings.binary list numbers part result numbered.0 are many w)
+
+pub returns-clause-reads : goal.returns-clause-reads
+returns-clause-reads g c =
+    let wrote = c.write_column.ensures.written in
+    let nothing = written_no_read _ wrote.0 c.write_column.result wrote.2 in
+    omega (arith, c.in_ok-number_lines.ensures.reads, nothing)

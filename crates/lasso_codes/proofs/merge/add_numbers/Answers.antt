@@ -62,7 +62,7 @@ returns-in_err-add_number-clause-added g c =
     let small : next < header.lines = omega (arith, c.in_ok-next.ensures.more, c.if-next-header.false) in
     let cut = c.in_ok-entry.ensures.taken left known in
     let entry = c.in_ok-entry.entry in
-    number_fails list texts header.lines next header.binary left cut.0 entry read before c.add_stretch.new.numbers.items small cut.2 then (make entry (next + 1)) c.args.column c.add_number.new.numbers.items c.in_err-add_number.field-0.0 refl (c.in_err-add_number.ensures list texts are few))
+    number_fails list texts header.lines next header.binary left cut.0 entry read before c.add_stretch.new.numbers.items small cut.2 then (make entry (next + 1)) c.args.column c.add_number.new.numbers.items c.in_err-add_number.field-0.0 refl (c.in_err-add_number.ensures.added list texts are few))
 
 pub loop-count-preserved : goal.loop-count-preserved
 loop-count-preserved g c =
@@ -86,7 +86,7 @@ loop-count-preserved g c =
           let known = left_after _ _ _ shown hand.0 ahead.0 c.in_ok-next.used c.buffered.ensures.value c.consume.ensures.left ahead.1 hand.1 in
           let cut = c.in_ok-entry.ensures.taken left known in
           let entry = c.in_ok-entry.entry in
-          (cut.0, cut.1, number_added list texts header.lines next header.binary left cut.0 entry read before c.add_stretch.new.numbers.items small cut.2 then (make entry (next + 1)) c.args.column c.add_number.new.numbers.items refl (c.in_ok-add_number.ensures list texts are few));
+          (cut.0, cut.1, number_added list texts header.lines next header.binary left cut.0 entry read before c.add_stretch.new.numbers.items small cut.2 then (make entry (next + 1)) c.args.column c.add_number.new.numbers.items refl (c.in_ok-add_number.ensures.added list texts are few));
     }
 
 pub returns-clause-added : goal.returns-clause-added

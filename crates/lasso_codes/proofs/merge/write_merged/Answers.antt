@@ -1,6 +1,7 @@
 use Rattle.std.proofs.Common.{ℕ, ◌^◌, ◌<◌, List, length, sym, subst, arith}
 use Rattle.std.proofs.lemmas.Result.{err_from_is_err_and}
 use Rattle.lasso_codes.specs.Merge.{AreMerged, MergeEnd}
+use Rattle.lasso_codes.proofs.Failing.{written_no_read}
 use Rattle.lasso_codes.proofs.Written.{writes_none, writes_as}
 use Rattle.lasso_codes.proofs.MergedColumns.{none_merged, unmade, merged_written}
 use Rattle.lasso_codes.proofs.merge.write_merged.Goals as goal
@@ -27,3 +28,9 @@ returns-clause-report g c = λ bytes e.
     let result = c.write_column.result in
     writes_as _ _ _ (λ part. MergeEnd bytes c.args.limits c.args.binary part result) c.write_column.ensures.written (λ part w.
     merged_written bytes c.args.limits c.args.binary list numbers part result are (subst (λ (ns : List ℕ). length ns < 2 ^ 64) (sym c.deref.ensures.value) few) w)
+
+pub returns-clause-reads : goal.returns-clause-reads
+returns-clause-reads g c =
+    let wrote = c.write_column.ensures.written in
+    let nothing = written_no_read _ wrote.0 c.write_column.result wrote.2 in
+    omega (arith, c.in_ok-merge_columns.ensures.reads, nothing)
