@@ -44,8 +44,8 @@ PassesLine before line number part after result = MatchResult result
     (PassError before line number part)
 
 -- the first n lines were interned with this limit. The next line is refused or not UTF-8, or there was no
--- memory to read it, which may also be seen at the end, after the last line. Line 0: out of memory outside of
--- a line, and n is 0
+-- memory for it; a reader may say so at the end too, where there is no next line. Line 0: out of memory outside
+-- of a line, and n is 0
 abbrev pub IsErrorAfter : ℕ → List Text → ℕ → LineError → Type 0
 IsErrorAfter limit lines n error =
     ((error ≡ Refused 0 FailedAllocation) × (n ≡ 0))

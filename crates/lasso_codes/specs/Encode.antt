@@ -33,8 +33,8 @@ AreNumbered null lines list numbers =
     (list ≡ dictionary_of null lines) × (map entry_at numbers ≡ map (entry_of null (dictionary_of null lines)) lines) × (length list < 2 ^ 32)
 
 -- the first n lines were encoded with this limit. The next line is refused or not UTF-8, or there was no
--- memory to read it, which may also be seen at the end, after the last line. Line 0: out of memory outside of
--- a line, and n is 0
+-- memory for it; a reader may say so at the end too, where there is no next line. Line 0: out of memory outside
+-- of a line, and n is 0
 abbrev pub IsEncodeError : ℕ → Option Text → List Text → ℕ → LineError → Type 0
 IsEncodeError limit null lines n error =
     ((error ≡ Refused 0 FailedAllocation) × (n ≡ 0))
