@@ -81,6 +81,14 @@ pub written_no_read : (bytes part : List ℕ) (result : Result (Unit {0}) RunErr
 written_no_read bytes part (Ok x) written = refl
 written_no_read bytes part (Err error) written = output_no_read error (written_output bytes part error written)
 
+pub written_faults : (bytes part : List ℕ) (result : Result (Unit {0}) RunError) → WritesAll bytes result part → IfErr result IsOutputError
+written_faults bytes part (Ok x) written = tt
+written_faults bytes part (Err error) written = written_output bytes part error written
+
+pub write_errors_no_read : (result : Result (Unit {0}) RunError) → IfErr result IsWriteError → failed_reads result ≡ 0
+write_errors_no_read (Ok x) is = refl
+write_errors_no_read (Err error) is = output_no_read error (write_output error is)
+
 -- ---- runs
 
 abbrev Ended : Type 0
