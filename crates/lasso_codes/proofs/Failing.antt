@@ -49,30 +49,29 @@ pub header_input : (before : Option (List ℕ)) (column : ℕ) (error : RunError
 header_input before column error (inl is) = read_input 0 error is
 header_input before column error (inr is) = subst IsInputError (sym is.0) tt
 
-module _ {X : Type 0} where
-  pub input_no_write : (error : RunError) → IsInputError error → failed_writes {X = X} (Err error) ≡ 0
-  input_no_write (Line fault) is = refl
-  input_no_write TooManyLines is = refl
-  input_no_write ReadFailed is = refl
-  input_no_write WriteFailed is = absurd is
-  input_no_write ReaderGone is = absurd is
-  input_no_write (Column column fault) is = refl
+pub input_no_write : (error : RunError) → IsInputError error → failed_writes {X = Unit {0}} (Err error) ≡ 0
+input_no_write (Line fault) is = refl
+input_no_write TooManyLines is = refl
+input_no_write ReadFailed is = refl
+input_no_write WriteFailed is = absurd is
+input_no_write ReaderGone is = absurd is
+input_no_write (Column column fault) is = refl
 
-  pub input_none_gone : (error : RunError) → IsInputError error → gone_readers {X = X} (Err error) ≡ 0
-  input_none_gone (Line fault) is = refl
-  input_none_gone TooManyLines is = refl
-  input_none_gone ReadFailed is = refl
-  input_none_gone WriteFailed is = refl
-  input_none_gone ReaderGone is = absurd is
-  input_none_gone (Column column fault) is = refl
+pub input_none_gone : (error : RunError) → IsInputError error → gone_readers {X = Unit {0}} (Err error) ≡ 0
+input_none_gone (Line fault) is = refl
+input_none_gone TooManyLines is = refl
+input_none_gone ReadFailed is = refl
+input_none_gone WriteFailed is = refl
+input_none_gone ReaderGone is = absurd is
+input_none_gone (Column column fault) is = refl
 
-  pub output_no_read : (error : RunError) → IsOutputError error → failed_reads {X = X} (Err error) ≡ 0
-  output_no_read (Line fault) is = refl
-  output_no_read TooManyLines is = refl
-  output_no_read ReadFailed is = absurd is
-  output_no_read WriteFailed is = refl
-  output_no_read ReaderGone is = refl
-  output_no_read (Column column fault) is = refl
+pub output_no_read : (error : RunError) → IsOutputError error → failed_reads {X = Unit {0}} (Err error) ≡ 0
+output_no_read (Line fault) is = refl
+output_no_read TooManyLines is = refl
+output_no_read ReadFailed is = absurd is
+output_no_read WriteFailed is = refl
+output_no_read ReaderGone is = refl
+output_no_read (Column column fault) is = refl
 
 pub written_output : (bytes part : List ℕ) (error : RunError) → WritesAll bytes (Err error) part → IsOutputError error
 written_output bytes part error written = write_output error written.0
@@ -113,30 +112,30 @@ no_read (Err ReaderGone) is = refl
 no_read (Err (Column column error)) is = absurd is
 
 pub no_write : (result : Ended) → ¬ (IsWriteEnd result) → failed_writes result ≡ 0
-no_write (Ok x) no = refl
-no_write (Err (Line error)) no = refl
-no_write (Err TooManyLines) no = refl
-no_write (Err ReadFailed) no = refl
-no_write (Err WriteFailed) no = absurd (no tt)
-no_write (Err ReaderGone) no = absurd (no tt)
-no_write (Err (Column column error)) no = refl
+no_write (Ok x) none_wrote = refl
+no_write (Err (Line error)) none_wrote = refl
+no_write (Err TooManyLines) none_wrote = refl
+no_write (Err ReadFailed) none_wrote = refl
+no_write (Err WriteFailed) none_wrote = absurd (none_wrote tt)
+no_write (Err ReaderGone) none_wrote = absurd (none_wrote tt)
+no_write (Err (Column column error)) none_wrote = refl
 
 pub none_gone : (result : Ended) → ¬ (IsWriteEnd result) → gone_readers result ≡ 0
-none_gone (Ok x) no = refl
-none_gone (Err (Line error)) no = refl
-none_gone (Err TooManyLines) no = refl
-none_gone (Err ReadFailed) no = refl
-none_gone (Err WriteFailed) no = absurd (no tt)
-none_gone (Err ReaderGone) no = absurd (no tt)
-none_gone (Err (Column column error)) no = refl
+none_gone (Ok x) none_wrote = refl
+none_gone (Err (Line error)) none_wrote = refl
+none_gone (Err TooManyLines) none_wrote = refl
+none_gone (Err ReadFailed) none_wrote = refl
+none_gone (Err WriteFailed) none_wrote = absurd (none_wrote tt)
+none_gone (Err ReaderGone) none_wrote = absurd (none_wrote tt)
+none_gone (Err (Column column error)) none_wrote = refl
 
 -- ---- the counts after the last flush
 
 pub reads_end : (before after : ℕ) (ended result : Ended) → after ≡ before + failed_reads ended → (result ≡ ended) ⊎ IsWriteEnd result → IfErr ended (λ error. (result ≡ Err error) ⊎ (result ≡ Err WriteFailed)) → ¬ (result ≡ Err WriteFailed) → after ≡ before + failed_reads result
-reads_end before after ended result count (inl same) kept no = subst (λ (r : Ended). after ≡ before + failed_reads r) (sym same) count
-reads_end before after (Ok x) result count (inr is) kept no = count ∙ ap (λ n. before + n) (sym (no_read result is))
-reads_end before after (Err error) result count (inr is) (inl same) no = subst (λ (r : Ended). after ≡ before + failed_reads r) (sym same) count
-reads_end before after (Err error) result count (inr is) (inr same) no = absurd (no same)
+reads_end before after ended result count (inl same) kept none_wrote = subst (λ (r : Ended). after ≡ before + failed_reads r) (sym same) count
+reads_end before after (Ok x) result count (inr is) kept none_wrote = count ∙ ap (λ n. before + n) (sym (no_read result is))
+reads_end before after (Err error) result count (inr is) (inl same) none_wrote = subst (λ (r : Ended). after ≡ before + failed_reads r) (sym same) count
+reads_end before after (Err error) result count (inr is) (inr same) none_wrote = absurd (none_wrote same)
 
 module _ (before mid after : OutputView) (ended result : Ended) (none : IsWriteEnd ended → (result ≡ ended) × (after ≡ mid)) where
   pub writes_end : mid.failures ≡ before.failures + failed_writes ended → (¬ (IsWriteEnd ended) → after.failures ≡ mid.failures + failed_writes result) → after.failures ≡ before.failures + failed_writes result
@@ -144,11 +143,11 @@ module _ (before mid after : OutputView) (ended result : Ended) (none : IsWriteE
     where
       either : IsWriteEnd ended ⊎ (¬ (IsWriteEnd ended)) → after.failures ≡ before.failures + failed_writes result
       either (inl is) = let told = none is in ap (λ (v : OutputView). v.failures) told.1 ∙ count ∙ ap (λ (r : Ended). before.failures + failed_writes r) (sym told.0)
-      either (inr no) = let now = flushed no in let nothing = no_write ended no in omega (arith, now, count, nothing)
+      either (inr none_wrote) = let now = flushed none_wrote in let nothing = no_write ended none_wrote in omega (arith, now, count, nothing)
 
   pub gone_end : mid.gone ≡ before.gone + gone_readers ended → (¬ (IsWriteEnd ended) → ¬ (result ≡ Err WriteFailed) → after.gone ≡ mid.gone + gone_readers result) → ¬ (result ≡ Err WriteFailed) → after.gone ≡ before.gone + gone_readers result
   gone_end count flushed other = either (write_or_not ended)
     where
       either : IsWriteEnd ended ⊎ (¬ (IsWriteEnd ended)) → after.gone ≡ before.gone + gone_readers result
       either (inl is) = let told = none is in ap (λ (v : OutputView). v.gone) told.1 ∙ count ∙ ap (λ (r : Ended). before.gone + gone_readers r) (sym told.0)
-      either (inr no) = let now = flushed no other in let nothing = none_gone ended no in omega (arith, now, count, nothing)
+      either (inr none_wrote) = let now = flushed none_wrote other in let nothing = none_gone ended none_wrote in omega (arith, now, count, nothing)

@@ -6,7 +6,7 @@
 ghost use Rattle.std.specs.Prelude.{◌≡◌, ◌+◌, ◌<◌, ◌≤◌, ℕ, List, ◌++◌, Some, IfOk, Err, IfErr, IfSome, OnOk, [], drop, length, vec_len};
 ghost use Rattle.std.specs.Io.BufRead.{DropsThrough, take_through};
 ghost use Rattle.std.specs.Io.Buffered.{reader_buffer, reader_remaining, writer_buffer, writer_contents};
-ghost use Rattle.std.specs.Io.KnownBytes.{Keeps, WriteAppends, append_known, prepend_known};
+ghost use Rattle.std.specs.Io.KnownBytes.{IsAtEnd, Keeps, WriteAppends, append_known, prepend_known};
 ghost use Rattle.std.specs.IoError.{error_kind};
 ghost use Rattle.lasso_codes.specs.Errors.{failed_reads, failed_writes, gone_readers, IsReadError, IsWriteError};
 ghost use Rattle.lasso_codes.specs.Streams.{TakesByte};
@@ -86,6 +86,7 @@ impl<R: Read + Drop> Input<R> {
         ensures ok { IfOk result (λ n. vec_len line.new ≡ vec_len line.old + n) }
         ensures bytes { OnOk result (IfSome self.old.left (λ xs. line.new.items ≡ line.old.items ++ take_through 10 xs)) }
         ensures rest { OnOk result (DropsThrough self.old.left self.new.left 10) }
+        ensures end { IfOk result (λ n. n ≡ 0 → IsAtEnd self.old.left) }
         ensures errors { IfErr result (IsReadError number) }
         ensures reads { self.new.failures ≡ self.old.failures + failed_reads result }
     {

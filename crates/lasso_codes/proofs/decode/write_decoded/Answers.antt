@@ -4,6 +4,7 @@ use Rattle.lasso_codes.specs.Arguments.{word_of}
 use Rattle.lasso_codes.specs.Decode.{line_at, fed_lines, DecodingError, DecodeEnd}
 use Rattle.lasso_codes.specs.Reading.{items_from}
 use Rattle.lasso_codes.specs.declared.error.RunError.TheVariants.{TooManyLines}
+use Rattle.lasso_codes.proofs.Failing.{header_input, input_no_write, input_none_gone}
 use Rattle.lasso_codes.proofs.Items.{header_taken, header_none, header_unread, column_read}
 use Rattle.lasso_codes.proofs.DecodedLines.{ColumnsAhead, columns_push, columns_end, columns_many, columns_header_fails, columns_unmade, columns_texts_fail, columns_lines_fail}
 use Rattle.lasso_codes.proofs.Written.{writes_as, writes_then}
@@ -95,3 +96,17 @@ loop-column-preserved g c =
                 columns_push bytes c.args.limits null ahead.0 at.column part way read rest more (column_read (line_at null) ahead.0 head.0 header head.2 list texts.0 texts.2) told.0 told.1),
           );
     }
+
+pub returns-in_err-header-clause-writes : goal.returns-in_err-header-clause-writes
+returns-in_err-header-clause-writes g c =
+    let p = err_from_is_err_and c.from_residual.result c.from_residual.ensures.1 in
+    let error = c.in_err-header.field-0.0 in
+    let none = input_no_write {X = Unit {0}} error (header_input _ _ error c.in_err-header.ensures.error) in
+    rw (p.1, p.2) (omega (arith, c.loop-column.invariant.writes, none))
+
+pub returns-in_err-header-clause-gone : goal.returns-in_err-header-clause-gone
+returns-in_err-header-clause-gone g c =
+    let p = err_from_is_err_and c.from_residual.result c.from_residual.ensures.1 in
+    let error = c.in_err-header.field-0.0 in
+    let none = input_none_gone {X = Unit {0}} error (header_input _ _ error c.in_err-header.ensures.error) in
+    rw (p.1, p.2) (omega (arith, c.loop-column.invariant.gone, none))

@@ -59,6 +59,7 @@ returns-in-Err-clause-error g c = λ bytes e limit made.
 pub returns-in-Part : goal.returns-in-Part
 returns-in-Part g c = record {
   taken = tt;
+  faults = tt;
   reads = omega (arith, c.in_ok-next_whole_line.ensures.reads, c.consume.ensures.reads, c.loop-count.invariant.reads);
   error = λ bytes e limit made.
       let at = c.loop-count in
