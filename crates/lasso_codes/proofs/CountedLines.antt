@@ -3,7 +3,7 @@
 -- The lines of the input are those that were counted, and then those of the rest. If nothing is left, all
 -- were counted, and the ranked texts are each distinct line once with its count. The report is written from
 -- its start, so what was written when a write fails is a beginning of it. Nothing is written before that.
-use Rattle.std.proofs.Common.{ℕ, ◌≡◌, ◌+◌, List, [], ◌∷◌, ◌++◌, length, map, take, drop, get_or, ◌⊎◌, ◌<◌, min, Result, Ok, Err, refl, sym, ap, subst, ◌∙◌, arith, append_assoc, inl, inr}
+use Rattle.std.proofs.Common.{ℕ, ◌≡◌, ◌+◌, List, [], ◌∷◌, ◌++◌, length, map, take, drop, get_or, ◌⊎◌, ◌<◌, min, Result, Ok, Err, refl, sym, ap, subst, ◌∙◌, arith, append_assoc, inl, inr, ◌-◌, ◌^◌, ◌≤◌}
 use Rattle.std.specs.Prelude.{All, flat_map, slice_get, IsSomeAnd, IsPermutation, IsSorted, sum_by}
 use Rattle.std.specs.Str.{IsUtf8}
 use Rattle.std.proofs.lemmas.Bool.{cases_order}
@@ -27,7 +27,7 @@ use Rattle.lasso_codes.specs.Stages.{Counting}
 use Rattle.lasso_codes.specs.Streams.{WritesAll}
 use Rattle.lasso_codes.specs.declared.error.RunError.{RunError}
 use Rattle.lasso_codes.specs.declared.error.RunError.TheVariants.{Line, TooManyLines, ReadFailed, WriteFailed, ReaderGone, Column}
-use Rattle.lasso_codes.proofs.Taken.{taken_push, taken_all, taken_first, taken_next}
+use Rattle.lasso_codes.proofs.Taken.{taken_push, taken_all, taken_first, taken_few, taken_next}
 
 -- one line more
 pub counting_push : (input rest : List ℕ) (number : ℕ) (old now after : InternerView) (counts : List ℕ) (line left counts' : List ℕ) (key : ℕ) → Counting input rest number old now counts → lines_of rest ≡ line ∷ lines_of left → IsUtf8 line → InternsIn spur_at now line (Ok key) after → ((texts : List Text) → AreCounts texts now.texts counts → AreCounts (texts ++ line ∷ []) after.texts counts') → Counting input left (number + 1) old after counts'
@@ -45,8 +45,15 @@ module _ (input rest : List ℕ) (number : ℕ) (old now : InternerView) (counts
       let all : lines_of input ≡ so_far.done = taken_all input rest number so_far.done so_far.taken none in
       (subst (λ (ls : List Text). All IsUtf8 ls) (sym all) so_far.taken.texts, subst (λ (ls : List Text). AreCounts ls now.texts counts) (sym all) so_far.counted)
 
+  lines_few : length so_far.done ≤ length (lines_of input)
+  lines_few = taken_few input rest number so_far.done so_far.taken
+
+  -- there are more lines than `usize` can number
+  pub counting_many : (limit : ℕ) → 2 ^ 64 - 1 ≤ number → CountingError limit (lines_of input) TooManyLines
+  counting_many limit many = omega (arith, so_far.taken.counted, lines_few, many)
+
   pub counting_read_fails : (limit : ℕ) (error : RunError) → IsReadError number error → CountingError limit (lines_of input) error
-  counting_read_fails limit (Line error) is = (length so_far.done, inr (inl (is ∙ ap (λ n. Refused n FailedAllocation) (sym so_far.taken.counted))))
+  counting_read_fails limit (Line error) is = (length so_far.done, inr (inl (is ∙ ap (λ n. Refused n FailedAllocation) (sym so_far.taken.counted), lines_few)))
   counting_read_fails limit TooManyLines is = absurd is
   counting_read_fails limit ReadFailed is = tt
   counting_read_fails limit WriteFailed is = absurd is
@@ -103,7 +110,7 @@ report_written input limit top ranked part (Err (Column column error)) texts ord
 -- lines were not counted, and nothing is written
 pub none_written : (input : List ℕ) (limit top : ℕ) (error : RunError) → CountingError limit (lines_of input) error → CountsEnd input limit top [] (Err error)
 none_written input limit top (Line error) is = (refl, is)
-none_written input limit top TooManyLines is = refl
+none_written input limit top TooManyLines is = (refl, is)
 none_written input limit top ReadFailed is = refl
 none_written input limit top WriteFailed is = absurd is
 none_written input limit top ReaderGone is = absurd is
@@ -111,7 +118,7 @@ none_written input limit top (Column column error) is = absurd is
 
 -- out of memory outside of a line
 pub unmade : (limit : ℕ) (lines : List Text) (error : RunError) → error ≡ Line (Refused 0 FailedAllocation) → CountingError limit lines error
-unmade limit lines error is = subst (CountingError limit lines) (sym is) (0, inl refl)
+unmade limit lines error is = subst (CountingError limit lines) (sym is) (0, inl (refl, refl))
 
 take_least : {X : Type 0} (xs : List X) (top : ℕ) → take (min (length xs) top) xs ≡ take top xs
 take_least xs top = elim (cases_order (length xs) top) [
@@ -128,7 +135,7 @@ first_ranked see xs whole top most is same =
 end_begun : (input : List ℕ) (limit top : ℕ) (part : List ℕ) (result : Result (Unit {0}) RunError) → CountsEnd input limit top part result → IsBegun (lines_of input) top part
 end_begun input limit top part (Ok x) end = inr (part, end.1, ([], sym (append-nil part)))
 end_begun input limit top part (Err (Line error)) end = inl end.0
-end_begun input limit top part (Err TooManyLines) end = inl end
+end_begun input limit top part (Err TooManyLines) end = inl end.0
 end_begun input limit top part (Err ReadFailed) end = inl end
 end_begun input limit top part (Err WriteFailed) end = end
 end_begun input limit top part (Err ReaderGone) end = end

@@ -3,7 +3,7 @@
 -- After each column, the lines so far are written and the bytes after the column are left. Within a column,
 -- the lines of the entries so far are written after those. So a run that ends early has written whole lines,
 -- up to the error, or a beginning of the lines.
-use Rattle.std.proofs.Common.{ℕ, suc, ◌≡◌, ◌+◌, ◌-◌, ◌<◌, Bool, List, [], ◌∷◌, ◌++◌, length, take, drop, Option, Some, None, Result, Ok, Err, ◌⊎◌, refl, sym, ap, subst, ◌∙◌, arith, append_assoc, inl, inr}
+use Rattle.std.proofs.Common.{ℕ, suc, ◌≡◌, ◌+◌, ◌-◌, ◌<◌, Bool, List, [], ◌∷◌, ◌++◌, length, take, drop, Option, Some, None, Result, Ok, Err, ◌⊎◌, refl, sym, ap, subst, ◌∙◌, arith, append_assoc, inl, inr, ◌^◌, ◌≤◌}
 use Rattle.std.specs.Prelude.{slice_get}
 use Rattle.std.proofs.lemmas.Grind.{flat_map-append}
 use Rattle.std.proofs.lemmas.List.{append-nil, take-append-drop}
@@ -164,8 +164,8 @@ module _ (input : List ℕ) (limit : ℕ) (null : Option Text) (rest : List ℕ)
   whole_so_far = (way.count, way.lines, rest, way.reads, (0, way.part_is ∙ ap fed_lines (sym (append-nil way.lines))))
 
   -- there are more columns than `usize` can number
-  pub columns_many : DecodeEnd input limit null part (Err TooManyLines)
-  columns_many = whole_so_far
+  pub columns_many : 2 ^ 64 - 1 ≤ column → DecodeEnd input limit null part (Err TooManyLines)
+  columns_many many = let counted = way.counted in (way.count, way.lines, rest, way.reads, omega (arith, counted, many), way.part_is)
 
   -- a read failed, or there was no memory
   pub columns_read_fails : (error : RunError) → IsReadError 0 error → DecodeEnd input limit null part (Err error)
@@ -264,7 +264,7 @@ whole_begun input null part w =
 end_begun : (input : List ℕ) (limit : ℕ) (null : Option Text) (part : List ℕ) (result : Result (Unit {0}) RunError) → DecodeEnd input limit null part result → IsBegun input null part
 end_begun input limit null part (Ok x) end = (end.0, end.1, [], end.2, begins_self part (fed_lines (end.1 ++ [])) (end.3 ∙ ap fed_lines (sym (append-nil end.1))))
 end_begun input limit null part (Err (Line error)) end = whole_begun input null part end.1
-end_begun input limit null part (Err TooManyLines) end = whole_begun input null part end
+end_begun input limit null part (Err TooManyLines) end = whole_begun input null part (end.0, end.1, end.2, end.3, (0, end.5 ∙ ap fed_lines (sym (append-nil end.1))))
 end_begun input limit null part (Err ReadFailed) end = whole_begun input null part end
 end_begun input limit null part (Err WriteFailed) end = end
 end_begun input limit null part (Err ReaderGone) end = end

@@ -4,7 +4,7 @@
 -- interner's list is that of the distinct lines so far. So the report of the first lines is a beginning of
 -- the report of all, and what is written after each line is the report so far. A run that ends early has
 -- written the report of the lines before, or a beginning of it.
-use Rattle.std.proofs.Common.{ℕ, ◌≡◌, ◌+◌, List, [], ◌∷◌, ◌++◌, length, take, drop, Bool, true, false, cond, is_some, Result, Ok, Err, ◌⊎◌, refl, sym, ap, subst, ◌∙◌, append_assoc, inl, inr}
+use Rattle.std.proofs.Common.{ℕ, ◌≡◌, ◌+◌, List, [], ◌∷◌, ◌++◌, length, take, drop, Bool, true, false, cond, is_some, Result, Ok, Err, ◌⊎◌, refl, sym, ap, subst, ◌∙◌, append_assoc, inl, inr, ◌-◌, ◌^◌, ◌≤◌, arith}
 use Rattle.std.specs.Prelude.{flat_map, All, slice_get, IsSomeAnd}
 use Rattle.std.specs.Str.{IsUtf8}
 use Rattle.std.proofs.lemmas.List.{append-nil, take-append-drop}
@@ -27,7 +27,7 @@ use Rattle.lasso_codes.specs.Stages.{OnTheWay}
 use Rattle.lasso_codes.specs.Streams.{Begins}
 use Rattle.lasso_codes.specs.declared.error.RunError.{RunError}
 use Rattle.lasso_codes.specs.declared.error.RunError.TheVariants.{Line, TooManyLines, ReadFailed, WriteFailed, ReaderGone, Column}
-use Rattle.lasso_codes.proofs.Taken.{taken_push, taken_all, taken_first, taken_next}
+use Rattle.lasso_codes.proofs.Taken.{taken_push, taken_all, taken_first, taken_few, taken_next}
 
 -- ---- the report of one line more
 
@@ -91,12 +91,15 @@ module _ (input : List ℕ) (limit : ℕ) (rest : List ℕ) (number : ℕ) (now 
       let all : lines_of input ≡ way.done = taken_all input rest number way.done way.taken none in
       (subst (λ (ls : List Text). All IsUtf8 ls) (sym all) way.taken.texts, way.part_is ∙ ap distinct_report (sym all))
 
+  lines_few : length way.done ≤ length (lines_of input)
+  lines_few = taken_few input rest number way.done way.taken
+
   -- there are more lines than `usize` can number
-  pub way_many : DistinctEnd input limit part (Err TooManyLines)
-  way_many = (length way.done, way_first)
+  pub way_many : 2 ^ 64 - 1 ≤ number → DistinctEnd input limit part (Err TooManyLines)
+  way_many many = (length way.done, way_first, omega (arith, number_is, many), lines_few)
 
   pub way_read_fails : (error : RunError) → IsReadError number error → DistinctEnd input limit part (Err error)
-  way_read_fails (Line error) is = (length way.done, way_first, inr (inl (is ∙ ap (λ n. Refused n FailedAllocation) (sym number_is))))
+  way_read_fails (Line error) is = (length way.done, way_first, inr (inl (is ∙ ap (λ n. Refused n FailedAllocation) (sym number_is), lines_few)))
   way_read_fails TooManyLines is = absurd is
   way_read_fails ReadFailed is = (length way.done, way_first)
   way_read_fails WriteFailed is = absurd is
@@ -140,7 +143,7 @@ module _ (input : List ℕ) (limit : ℕ) (rest : List ℕ) (number : ℕ) (now 
 
 -- there was no memory for the interner
 pub end_unmade : (input : List ℕ) (limit : ℕ) (error : RunError) → error ≡ Line (Refused 0 FailedAllocation) → DistinctEnd input limit [] (Err error)
-end_unmade input limit error is = subst (λ f. DistinctEnd input limit [] (Err f)) (sym is) (0, refl, inl refl)
+end_unmade input limit error is = subst (λ f. DistinctEnd input limit [] (Err f)) (sym is) (0, refl, inl (refl, refl))
 
 -- what is written when the last flush fails is a beginning
 end_begins : (input : List ℕ) (limit : ℕ) (part : List ℕ) (result : Result (Unit {0}) RunError) → DistinctEnd input limit part result → Begins part (distinct_report (lines_of input))

@@ -4,7 +4,7 @@
 -- positions stay the same, and the numbers are those of the entries of the lines. If nothing of the input is
 -- left, all lines were encoded, and the list is their dictionary. The column is written after that, from its
 -- start, so what was written when a write fails is a beginning of it.
-use Rattle.std.proofs.Common.{ℕ, ◌≡◌, ◌+◌, ◌^◌, ◌<◌, ◌≤◌, ◌==◌, Bool, true, false, not, cond, List, [], ◌∷◌, ◌++◌, length, map, take, is_some, Option, Some, None, ◌⊎◌, Result, Ok, Err, refl, sym, ap, subst, ◌∙◌, arith, inl, inr}
+use Rattle.std.proofs.Common.{ℕ, ◌≡◌, ◌+◌, ◌^◌, ◌<◌, ◌≤◌, ◌==◌, Bool, true, false, not, cond, List, [], ◌∷◌, ◌++◌, length, map, take, is_some, Option, Some, None, ◌⊎◌, Result, Ok, Err, refl, sym, ap, subst, ◌∙◌, arith, inl, inr, ◌-◌}
 use Rattle.std.specs.Prelude.{All, slice_get, IsSomeAnd}
 use Rattle.std.specs.Str.{IsUtf8}
 use Rattle.std.proofs.lemmas.Bool.Decides.{nat_tests}
@@ -32,7 +32,7 @@ use Rattle.lasso_codes.specs.Streams.{Begins, WritesAll}
 use Rattle.lasso_codes.specs.declared.error.RunError.{RunError}
 use Rattle.lasso_codes.specs.declared.error.RunError.TheVariants.{Line, TooManyLines, ReadFailed, WriteFailed, ReaderGone, Column}
 use Rattle.lasso_codes.proofs.FewTexts.{few_texts}
-use Rattle.lasso_codes.proofs.Taken.{taken_push, taken_all, taken_first, taken_next}
+use Rattle.lasso_codes.proofs.Taken.{taken_push, taken_all, taken_first, taken_few, taken_next}
 
 -- ---- numbers of lines
 
@@ -129,8 +129,15 @@ module _ (input rest : List ℕ) (number : ℕ) (null : Option Text) (old now : 
         subst (λ (ls : List Text). AreNumbered null ls now.texts numbers) (sym all) (list, entries, few),
       )
 
+  lines_few : length so_far.done ≤ length (lines_of input)
+  lines_few = taken_few input rest number so_far.done so_far.taken
+
+  -- there are more lines than `usize` can number
+  pub encoding_many : (limit : ℕ) → 2 ^ 64 - 1 ≤ number → EncodingError limit null (lines_of input) TooManyLines
+  encoding_many limit many = omega (arith, so_far.taken.counted, lines_few, many)
+
   pub encoding_read_fails : (limit : ℕ) (error : RunError) → IsReadError number error → EncodingError limit null (lines_of input) error
-  encoding_read_fails limit (Line error) is = (length so_far.done, inr (inl (is ∙ ap (λ n. Refused n FailedAllocation) (sym so_far.taken.counted))))
+  encoding_read_fails limit (Line error) is = (length so_far.done, inr (inl (is ∙ ap (λ n. Refused n FailedAllocation) (sym so_far.taken.counted), lines_few)))
   encoding_read_fails limit TooManyLines is = absurd is
   encoding_read_fails limit ReadFailed is = tt
   encoding_read_fails limit WriteFailed is = absurd is
@@ -173,7 +180,7 @@ column_written input limit null binary list numbers part result texts are many w
 -- lines were not encoded, and nothing is written
 pub none_written : (input : List ℕ) (limit : ℕ) (null : Option Text) (binary : Bool) (error : RunError) → EncodingError limit null (lines_of input) error → EncodeEnd input limit null binary [] (Err error)
 none_written input limit null binary (Line error) is = (refl, is)
-none_written input limit null binary TooManyLines is = refl
+none_written input limit null binary TooManyLines is = (refl, is)
 none_written input limit null binary ReadFailed is = refl
 none_written input limit null binary WriteFailed is = absurd is
 none_written input limit null binary ReaderGone is = absurd is
@@ -181,7 +188,7 @@ none_written input limit null binary (Column column error) is = absurd is
 
 -- out of memory outside of a line
 pub unmade : (limit : ℕ) (null : Option Text) (lines : List Text) (error : RunError) → error ≡ Line (Refused 0 FailedAllocation) → EncodingError limit null lines error
-unmade limit null lines error is = subst (EncodingError limit null lines) (sym is) (0, inl refl)
+unmade limit null lines error is = subst (EncodingError limit null lines) (sym is) (0, inl (refl, refl))
 
 nothing_begins : (part whole : List ℕ) → part ≡ [] → Begins part whole
 nothing_begins part whole none = (whole, ap (λ bs. bs ++ whole) (sym none))
@@ -189,7 +196,7 @@ nothing_begins part whole none = (whole, ap (λ bs. bs ++ whole) (sym none))
 end_begun : (input : List ℕ) (limit : ℕ) (null : Option Text) (binary : Bool) (part : List ℕ) (result : Result (Unit {0}) RunError) → EncodeEnd input limit null binary part result → Begins part (column_bytes binary null (lines_of input))
 end_begun input limit null binary part (Ok x) end = ([], sym end.1 ∙ sym (append-nil part))
 end_begun input limit null binary part (Err (Line error)) end = nothing_begins part (column_bytes binary null (lines_of input)) end.0
-end_begun input limit null binary part (Err TooManyLines) end = nothing_begins part (column_bytes binary null (lines_of input)) end
+end_begun input limit null binary part (Err TooManyLines) end = nothing_begins part (column_bytes binary null (lines_of input)) end.0
 end_begun input limit null binary part (Err ReadFailed) end = nothing_begins part (column_bytes binary null (lines_of input)) end
 end_begun input limit null binary part (Err WriteFailed) end = end
 end_begun input limit null binary part (Err ReaderGone) end = end

@@ -19,3 +19,4 @@ pub mod DecodedLines
 pub mod ReadBack
 pub mod MergedColumns
 pub mod MergedLines
+pub mod Failing

@@ -148,6 +148,10 @@ module _ (input rest : List ℕ) (limit column : ℕ) (now : InternerView) (numb
   pub merging_ends : rest ≡ [] → AreMerged input now.texts numbers
   merging_ends none = (way.count, way.texts, subst (λ bs. Merges way.count input way.texts (map entry_at numbers) bs) none way.merges, list_is, merging_few)
 
+  -- there are more columns than `usize` can number
+  pub merging_many : 2 ^ 64 - 1 ≤ column → MergingError input limit TooManyLines
+  merging_many many = let counted = way.counted in (way.count, way.texts, map entry_at numbers, rest, way.merges, omega (arith, counted, many))
+
   -- a read failed, or there was no memory
   pub merging_read_fails : (error : RunError) → IsReadError 0 error → MergingError input limit error
   merging_read_fails (Line error) is = is
@@ -258,7 +262,7 @@ merged_written input limit binary list numbers part result are few written =
 -- columns were not merged, and nothing is written
 pub none_merged : (input : List ℕ) (limit : ℕ) (binary : Bool) (error : RunError) → MergingError input limit error → MergeEnd input limit binary [] (Err error)
 none_merged input limit binary (Line error) is = (refl, is)
-none_merged input limit binary TooManyLines is = refl
+none_merged input limit binary TooManyLines is = (refl, is)
 none_merged input limit binary ReadFailed is = refl
 none_merged input limit binary WriteFailed is = absurd is
 none_merged input limit binary ReaderGone is = absurd is
@@ -271,7 +275,7 @@ unmade input limit error is = subst (MergingError input limit) (sym is) refl
 end_begun : (input : List ℕ) (limit : ℕ) (binary : Bool) (part : List ℕ) (result : Result (Unit {0}) RunError) → MergeEnd input limit binary part result → IsMergeBegun input binary part
 end_begun input limit binary part (Ok x) end = inr (end.0, end.1, end.2, end.3, ([], sym end.5 ∙ sym (append-nil part)))
 end_begun input limit binary part (Err (Line error)) end = inl end.0
-end_begun input limit binary part (Err TooManyLines) end = inl end
+end_begun input limit binary part (Err TooManyLines) end = inl end.0
 end_begun input limit binary part (Err ReadFailed) end = inl end
 end_begun input limit binary part (Err WriteFailed) end = end
 end_begun input limit binary part (Err ReaderGone) end = end

@@ -2,11 +2,11 @@
 --
 -- The lines of the input are those that were read, and then those of the rest. So the first lines are those
 -- that were read, and the next one is the first of the rest. If nothing is left, all lines were read.
-use Rattle.std.proofs.Common.{ℕ, ◌≡◌, ◌+◌, List, [], ◌∷◌, ◌++◌, length, take, Some, refl, sym, ap, ◌∙◌, append_assoc}
+use Rattle.std.proofs.Common.{ℕ, ◌≡◌, ◌+◌, ◌≤◌, List, [], ◌∷◌, ◌++◌, length, take, Some, refl, sym, ap, ◌∙◌, arith, append_assoc}
 use Rattle.std.specs.Prelude.{slice_get}
 use Rattle.std.specs.Str.{IsUtf8}
 use Rattle.std.proofs.Math.Seq.{take-append_seam}
-use Rattle.std.proofs.lemmas.List.{append-nil, length_push}
+use Rattle.std.proofs.lemmas.List.{append-nil, length_push, length-append}
 use Rattle.std.proofs.lemmas.List.Elements.{All-push}
 use Rattle.lasso_parts.specs.Texts.{Text}
 use Rattle.lasso_cut.specs.Lines.{lines_of}
@@ -26,6 +26,11 @@ taken_all input rest number done taken none = taken.split ∙ ap (λ bs. done ++
 
 pub taken_first : (input rest : List ℕ) (number : ℕ) (done : List Text) → Taken input rest number done → take (length done) (lines_of input) ≡ done
 taken_first input rest number done taken = ap (take (length done)) taken.split ∙ take-append_seam done (lines_of rest)
+
+-- they are lines of the input
+pub taken_few : (input rest : List ℕ) (number : ℕ) (done : List Text) → Taken input rest number done → length done ≤ length (lines_of input)
+taken_few input rest number done taken =
+    let all : length (lines_of input) ≡ length done + length (lines_of rest) = ap length taken.split ∙ length-append done (lines_of rest) in omega (arith, all)
 
 at_seam : (done : List Text) (line : Text) (more : List Text) → slice_get (done ++ line ∷ more) (length done) ≡ Some line
 at_seam [] line more = refl

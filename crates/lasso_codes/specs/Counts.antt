@@ -6,6 +6,7 @@ use Rattle.lasso_cut.specs.Lines.{lines_of}
 use Rattle.lasso_columns.specs.Parts.{new_texts}
 use Rattle.lasso_counts.specs.Counts.{count_of, ranked_cmp}
 use Rattle.lasso_codes.specs.Distinct.{IsErrorAfter}
+use Rattle.lasso_codes.specs.Errors.{AreTooMany}
 use Rattle.lasso_codes.specs.Streams.{Begins}
 use Rattle.lasso_codes.specs.declared.error.RunError.{RunError}
 use Rattle.lasso_codes.specs.declared.error.RunError.TheVariants.{Line, TooManyLines, ReadFailed, WriteFailed, ReaderGone, Column}
@@ -28,7 +29,7 @@ IsCountsReport lines top report =
 -- why lines were not counted
 abbrev pub CountingError : ℕ → List Text → RunError → Type 0
 CountingError limit lines (Line error) = (n : ℕ) × IsErrorAfter limit lines n error
-CountingError limit lines TooManyLines = Unit {0}
+CountingError limit lines TooManyLines = AreTooMany (length lines)
 CountingError limit lines ReadFailed = Unit {0}
 CountingError limit lines WriteFailed = ⊥
 CountingError limit lines ReaderGone = ⊥
@@ -42,7 +43,7 @@ IsBegun lines top part = (part ≡ []) ⊎ ((whole : List ℕ) × IsCountsReport
 -- counted
 abbrev pub CountsError : ℕ → List Text → ℕ → List ℕ → RunError → Type 0
 CountsError limit lines top part (Line error) = (part ≡ []) × CountingError limit lines (Line error)
-CountsError limit lines top part TooManyLines = part ≡ []
+CountsError limit lines top part TooManyLines = (part ≡ []) × CountingError limit lines TooManyLines
 CountsError limit lines top part ReadFailed = part ≡ []
 CountsError limit lines top part WriteFailed = IsBegun lines top part
 CountsError limit lines top part ReaderGone = IsBegun lines top part

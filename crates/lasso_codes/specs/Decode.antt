@@ -6,6 +6,7 @@ use Rattle.lasso_cut.specs.Lines.{lines_of}
 use Rattle.lasso_columns.specs.declared.faults.LineError.TheVariants.{Refused}
 use Rattle.lasso_codes.specs.Distinct.{with_feed}
 use Rattle.lasso_codes.specs.Encode.{EncodeEnd}
+use Rattle.lasso_codes.specs.Errors.{AreTooMany}
 use Rattle.lasso_codes.specs.Reading.{Makes, ReadItems, read_column, IsEntryError, IsColumnError}
 use Rattle.lasso_codes.specs.Streams.{Begins, WritesAll}
 use Rattle.lasso_codes.specs.declared.entries.Entry.TheVariants.{Missing, Bad, Null, Code}
@@ -87,7 +88,8 @@ lines_before null bytes error = (decoded null bytes).0
 -- how a run ends with an error after it has written the part
 abbrev pub DecodeError : List ℕ → ℕ → Option Text → List ℕ → RunError → Type 0
 DecodeError input limit null part (Line error) = (error ≡ Refused 0 FailedAllocation) × IsWhole input null part
-DecodeError input limit null part TooManyLines = IsWhole input null part
+DecodeError input limit null part TooManyLines =
+    (n : ℕ) × (lines : List Text) × (rest : List ℕ) × Reads null n input lines rest × AreTooMany n × (part ≡ fed_lines lines)
 DecodeError input limit null part ReadFailed = IsWhole input null part
 DecodeError input limit null part WriteFailed = IsBegun input null part
 DecodeError input limit null part ReaderGone = IsBegun input null part

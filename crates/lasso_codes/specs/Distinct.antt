@@ -1,5 +1,5 @@
 -- What `distinct` writes, and how it ends.
-use Rattle.std.specs.Prelude.{ℕ, ◌≡◌, ◌+◌, ◌⊎◌, List, [], ◌∷◌, ◌++◌, All, flat_map, take, Result, Ok, MatchResult, IsSomeAnd, is_some, if◌then◌else◌, slice_get}
+use Rattle.std.specs.Prelude.{ℕ, ◌≡◌, ◌+◌, ◌≤◌, ◌⊎◌, List, [], ◌∷◌, ◌++◌, length, All, flat_map, take, Result, Ok, MatchResult, IsSomeAnd, is_some, if◌then◌else◌, slice_get}
 use Rattle.std.specs.Str.{IsUtf8}
 use Rattle.lasso_parts.specs.Texts.{Text, position_of}
 use Rattle.lasso_parts.specs.declared.util.LassoErrorKind.TheVariants.{FailedAllocation}
@@ -12,6 +12,7 @@ use Rattle.lasso_cut.specs.Lines.{lines_of}
 use Rattle.lasso_columns.specs.Parts.{new_texts}
 use Rattle.lasso_columns.specs.declared.faults.LineError.{LineError}
 use Rattle.lasso_columns.specs.declared.faults.LineError.TheVariants.{Refused}
+use Rattle.lasso_codes.specs.Errors.{AreTooMany}
 use Rattle.lasso_codes.specs.Streams.{Begins}
 use Rattle.lasso_codes.specs.declared.error.RunError.{RunError}
 use Rattle.lasso_codes.specs.declared.error.RunError.TheVariants.{Line, TooManyLines, ReadFailed, WriteFailed, ReaderGone, Column}
@@ -43,18 +44,19 @@ PassesLine before line number part after result = MatchResult result
     (PassError before line number part)
 
 -- the first n lines were interned with this limit. The next line is refused or not UTF-8, or there was no
--- memory for it. Line 0: out of memory outside of a line
+-- memory for it; a reader may say so at the end too, where there is no next line. Line 0: out of memory outside
+-- of a line, and n is 0
 abbrev pub IsErrorAfter : ℕ → List Text → ℕ → LineError → Type 0
 IsErrorAfter limit lines n error =
-    (error ≡ Refused 0 FailedAllocation)
-    ⊎ ((error ≡ Refused (n + 1) FailedAllocation)
+    ((error ≡ Refused 0 FailedAllocation) × (n ≡ 0))
+    ⊎ (((error ≡ Refused (n + 1) FailedAllocation) × (n ≤ length lines))
     ⊎ ((now : InternerView) × extend spur_at (made_with 4096 limit) (take n lines) (Ok tt) now × IsSomeAnd (slice_get lines n) (λ line. IsFaultOf now line (n + 1) error)))
 
 -- how a run ends with an error after it has written the part. After a failed write the part is a beginning of
 -- the report; after another error it is the report of the lines before it
 abbrev pub DistinctError : ℕ → List Text → List ℕ → RunError → Type 0
 DistinctError limit lines part (Line error) = (n : ℕ) × (part ≡ distinct_report (take n lines)) × IsErrorAfter limit lines n error
-DistinctError limit lines part TooManyLines = (n : ℕ) × (part ≡ distinct_report (take n lines))
+DistinctError limit lines part TooManyLines = (n : ℕ) × (part ≡ distinct_report (take n lines)) × AreTooMany n × (n ≤ length lines)
 DistinctError limit lines part ReadFailed = (n : ℕ) × (part ≡ distinct_report (take n lines))
 DistinctError limit lines part WriteFailed = Begins part (distinct_report lines)
 DistinctError limit lines part ReaderGone = Begins part (distinct_report lines)

@@ -1,5 +1,5 @@
 -- What `encode` writes, and how it ends.
-use Rattle.std.specs.Prelude.{ℕ, ◌≡◌, ◌+◌, ◌^◌, ◌<◌, ◌⊎◌, Bool, true, false, List, [], length, map, All, take, Option, Some, Result, Ok, MatchResult, IsSomeAnd, slice_get}
+use Rattle.std.specs.Prelude.{ℕ, ◌≡◌, ◌+◌, ◌^◌, ◌<◌, ◌≤◌, ◌⊎◌, Bool, true, false, List, [], length, map, All, take, Option, Some, Result, Ok, MatchResult, IsSomeAnd, slice_get}
 use Rattle.std.specs.Str.{IsUtf8}
 use Rattle.lasso_parts.specs.Texts.{Text, position_of}
 use Rattle.lasso_parts.specs.declared.util.LassoErrorKind.TheVariants.{FailedAllocation}
@@ -12,6 +12,7 @@ use Rattle.lasso_cut.specs.Lines.{lines_of}
 use Rattle.lasso_columns.specs.declared.faults.LineError.{LineError}
 use Rattle.lasso_columns.specs.declared.faults.LineError.TheVariants.{Refused}
 use Rattle.lasso_codes.specs.Columns.{is_null, texts_of, dictionary_of, entry_of, entry_at, column_bytes}
+use Rattle.lasso_codes.specs.Errors.{AreTooMany}
 use Rattle.lasso_codes.specs.Streams.{Begins}
 use Rattle.lasso_codes.specs.declared.error.RunError.{RunError}
 use Rattle.lasso_codes.specs.declared.error.RunError.TheVariants.{Line, TooManyLines, ReadFailed, WriteFailed, ReaderGone, Column}
@@ -32,18 +33,19 @@ AreNumbered null lines list numbers =
     (list ≡ dictionary_of null lines) × (map entry_at numbers ≡ map (entry_of null (dictionary_of null lines)) lines) × (length list < 2 ^ 32)
 
 -- the first n lines were encoded with this limit. The next line is refused or not UTF-8, or there was no
--- memory for it. Line 0: out of memory outside of a line
+-- memory for it; a reader may say so at the end too, where there is no next line. Line 0: out of memory outside
+-- of a line, and n is 0
 abbrev pub IsEncodeError : ℕ → Option Text → List Text → ℕ → LineError → Type 0
 IsEncodeError limit null lines n error =
-    (error ≡ Refused 0 FailedAllocation)
-    ⊎ ((error ≡ Refused (n + 1) FailedAllocation)
+    ((error ≡ Refused 0 FailedAllocation) × (n ≡ 0))
+    ⊎ (((error ≡ Refused (n + 1) FailedAllocation) × (n ≤ length lines))
     ⊎ ((now : InternerView) × extend spur_at (made_with 4096 limit) (texts_of null (take n lines)) (Ok tt) now
     × IsSomeAnd (slice_get lines n) (λ line. IsFaultOf now line (n + 1) error)))
 
 -- why lines were not encoded
 abbrev pub EncodingError : ℕ → Option Text → List Text → RunError → Type 0
 EncodingError limit null lines (Line error) = (n : ℕ) × IsEncodeError limit null lines n error
-EncodingError limit null lines TooManyLines = Unit {0}
+EncodingError limit null lines TooManyLines = AreTooMany (length lines)
 EncodingError limit null lines ReadFailed = Unit {0}
 EncodingError limit null lines WriteFailed = ⊥
 EncodingError limit null lines ReaderGone = ⊥
@@ -53,7 +55,7 @@ EncodingError limit null lines (Column column error) = ⊥
 -- encoded
 abbrev pub EncodeError : ℕ → Option Text → Bool → List Text → List ℕ → RunError → Type 0
 EncodeError limit null binary lines part (Line error) = (part ≡ []) × EncodingError limit null lines (Line error)
-EncodeError limit null binary lines part TooManyLines = part ≡ []
+EncodeError limit null binary lines part TooManyLines = (part ≡ []) × EncodingError limit null lines TooManyLines
 EncodeError limit null binary lines part ReadFailed = part ≡ []
 EncodeError limit null binary lines part WriteFailed = Begins part (column_bytes binary null lines)
 EncodeError limit null binary lines part ReaderGone = Begins part (column_bytes binary null lines)

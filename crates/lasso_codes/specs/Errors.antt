@@ -1,5 +1,6 @@
--- The message and the status of each error, and which errors come from reads and from writes.
-use Rattle.std.specs.Prelude.{ℕ, ◌≡◌, List, ◌++◌, codes, decimal, Result, Ok, Err}
+-- The message and the status of each error, which errors come from reads and from writes, and how many calls
+-- failed in a run.
+use Rattle.std.specs.Prelude.{ℕ, ◌≡◌, ◌-◌, ◌^◌, ◌≤◌, List, ◌++◌, codes, decimal, Result, Ok, Err}
 use Rattle.lasso_parts.specs.Errors.{error_text}
 use Rattle.lasso_parts.specs.declared.util.LassoErrorKind.TheVariants.{FailedAllocation}
 use Rattle.lasso_columns.specs.Faults.{line_error_text}
@@ -72,3 +73,57 @@ IsReadError number ReadFailed = Unit {0}
 IsReadError number WriteFailed = ⊥
 IsReadError number ReaderGone = ⊥
 IsReadError number (Column column error) = ⊥
+
+-- the error of a call that only reads: no write failed
+abbrev pub IsInputError : RunError → Type 0
+IsInputError (Line error) = Unit {0}
+IsInputError TooManyLines = Unit {0}
+IsInputError ReadFailed = Unit {0}
+IsInputError WriteFailed = ⊥
+IsInputError ReaderGone = ⊥
+IsInputError (Column number error) = Unit {0}
+
+-- the error of a call that only writes: no read failed
+abbrev pub IsOutputError : RunError → Type 0
+IsOutputError (Line error) = Unit {0}
+IsOutputError TooManyLines = Unit {0}
+IsOutputError ReadFailed = ⊥
+IsOutputError WriteFailed = Unit {0}
+IsOutputError ReaderGone = Unit {0}
+IsOutputError (Column number error) = Unit {0}
+
+-- the error of a call that does neither: lines or columns are at fault, or memory ran out
+abbrev pub IsDataError : RunError → Type 0
+IsDataError (Line error) = Unit {0}
+IsDataError TooManyLines = Unit {0}
+IsDataError ReadFailed = ⊥
+IsDataError WriteFailed = ⊥
+IsDataError ReaderGone = ⊥
+IsDataError (Column number error) = Unit {0}
+
+-- ---- how many calls failed
+
+-- the number of failed reads in a call with this result
+abbrev pub failed_reads : {X : Type 0} → Result X RunError → ℕ
+failed_reads (Ok _) = 0
+failed_reads (Err ReadFailed) = 1
+failed_reads (Err _) = 0
+
+-- the number of failed writes and flushes in a call with this result
+abbrev pub failed_writes : {X : Type 0} → Result X RunError → ℕ
+failed_writes (Ok _) = 0
+failed_writes (Err WriteFailed) = 1
+failed_writes (Err ReaderGone) = 1
+failed_writes (Err _) = 0
+
+-- the number of broken pipes among them
+abbrev pub gone_readers : {X : Type 0} → Result X RunError → ℕ
+gone_readers (Ok _) = 0
+gone_readers (Err ReaderGone) = 1
+gone_readers (Err _) = 0
+
+-- ---- how many lines are too many
+
+-- lines and columns are counted up to 2 ^ 64 - 3
+abbrev pub AreTooMany : ℕ → Type 0
+AreTooMany n = 2 ^ 64 - 2 ≤ n

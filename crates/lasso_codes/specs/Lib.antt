@@ -1,3 +1,4 @@
+pub mod Views
 pub mod Errors
 pub mod Streams
 pub mod Distinct

@@ -10,6 +10,7 @@ use Rattle.lasso_columns.specs.Parts.{new_texts}
 use Rattle.lasso_columns.specs.declared.faults.LineError.TheVariants.{Refused}
 use Rattle.lasso_codes.specs.Columns.{column_of, entry_at}
 use Rattle.lasso_codes.specs.Decode.{decoded, Reads}
+use Rattle.lasso_codes.specs.Errors.{AreTooMany}
 use Rattle.lasso_codes.specs.Reading.{Makes, ReadItems, ReadTexts, texts_from, head_of, read_column, IsEntryError, IsColumnError}
 use Rattle.lasso_codes.specs.Streams.{Begins}
 use Rattle.lasso_codes.specs.declared.entries.Entry.TheVariants.{Missing, Bad, Null, Code}
@@ -111,7 +112,8 @@ AreMerged input list numbers =
 -- why columns were not merged
 abbrev pub MergingError : List ℕ → ℕ → RunError → Type 0
 MergingError input limit (Line error) = error ≡ Refused 0 FailedAllocation
-MergingError input limit TooManyLines = Unit {0}
+MergingError input limit TooManyLines =
+    (n : ℕ) × (texts : List Text) × (entries : List (Option ℕ)) × (rest : List ℕ) × Merges n input texts entries rest × AreTooMany n
 MergingError input limit ReadFailed = Unit {0}
 MergingError input limit WriteFailed = ⊥
 MergingError input limit ReaderGone = ⊥
@@ -122,7 +124,7 @@ MergingError input limit (Column column error) =
 -- merged
 abbrev pub MergeError : List ℕ → ℕ → Bool → List ℕ → RunError → Type 0
 MergeError input limit binary part (Line error) = (part ≡ []) × MergingError input limit (Line error)
-MergeError input limit binary part TooManyLines = part ≡ []
+MergeError input limit binary part TooManyLines = (part ≡ []) × MergingError input limit TooManyLines
 MergeError input limit binary part ReadFailed = part ≡ []
 MergeError input limit binary part WriteFailed = IsMergeBegun input binary part
 MergeError input limit binary part ReaderGone = IsMergeBegun input binary part

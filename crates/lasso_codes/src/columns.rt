@@ -4,9 +4,11 @@ ghost use Rattle.std.specs.Prelude.{◌≡◌, ◌+◌, ◌≤◌, ◌++◌, ◌
 ghost use Rattle.lasso_codes.specs.Columns.{column_of, entry_at, entry_bytes, header, header_front};
 ghost use Rattle.lasso_codes.specs.Distinct.{with_feed};
 ghost use Rattle.lasso_codes.specs.Streams.{Writes, WritesAll};
+ghost use Rattle.lasso_codes.specs.Errors.{failed_writes, gone_readers};
 
 use crate::error::RunError;
 use crate::output::{write_bytes, write_line, write_number};
+use crate::streams::Output;
 use itoa::Buffer;
 use lasso::SpurRodeo;
 use lasso::index::Texts;
@@ -26,13 +28,15 @@ pub const BINARY_HEADER: &[u8] = b"lasso-codes 1 binary ";
 ///
 /// # Errors
 /// As `write_bytes`.
-pub fn write_column<W: Write>(
-    output: &mut W,
+pub fn write_column<W: Write + Drop>(
+    output: &mut Output<W>,
     rodeo: &SpurRodeo,
     numbers: &[u32],
     binary: bool,
 ) -> Result<(), RunError>
-    ensures { Writes (W.contents output.old) (W.contents output.new) (WritesAll (column_of binary rodeo.now.texts (map entry_at numbers.now)) result) }
+    ensures written { Writes output.old.written output.new.written (WritesAll (column_of binary rodeo.now.texts (map entry_at numbers.now)) result) }
+    ensures writes { output.new.failures ≡ output.old.failures + failed_writes result }
+    ensures gone { output.new.gone ≡ output.old.gone + gone_readers result }
 {
     let distinct = rodeo.len();
     let lines = numbers.len();
@@ -42,13 +46,15 @@ pub fn write_column<W: Write>(
 }
 
 // Writes the header line.
-fn write_header<W: Write>(
-    output: &mut W,
+fn write_header<W: Write + Drop>(
+    output: &mut Output<W>,
     binary: bool,
     distinct: u64,
     lines: u64,
 ) -> Result<(), RunError>
-    ensures { Writes (W.contents output.old) (W.contents output.new) (WritesAll (header binary distinct lines) result) }
+    ensures written { Writes output.old.written output.new.written (WritesAll (header binary distinct lines) result) }
+    ensures writes { output.new.failures ≡ output.old.failures + failed_writes result }
+    ensures gone { output.new.gone ≡ output.old.gone + gone_readers result }
 {
     write_front(output, binary)?;
     write_number_and(output, distinct, b" ")?;
@@ -56,8 +62,10 @@ fn write_header<W: Write>(
 }
 
 // Writes the start of the header.
-fn write_front<W: Write>(output: &mut W, binary: bool) -> Result<(), RunError>
-    ensures { Writes (W.contents output.old) (W.contents output.new) (WritesAll (header_front binary) result) }
+fn write_front<W: Write + Drop>(output: &mut Output<W>, binary: bool) -> Result<(), RunError>
+    ensures written { Writes output.old.written output.new.written (WritesAll (header_front binary) result) }
+    ensures writes { output.new.failures ≡ output.old.failures + failed_writes result }
+    ensures gone { output.new.gone ≡ output.old.gone + gone_readers result }
 {
     if binary {
         write_bytes(output, BINARY_HEADER)
@@ -67,16 +75,24 @@ fn write_front<W: Write>(output: &mut W, binary: bool) -> Result<(), RunError>
 }
 
 // Writes the number's digits, and then the bytes `after`.
-fn write_number_and<W: Write>(output: &mut W, number: u64, after: &[u8]) -> Result<(), RunError>
-    ensures { Writes (W.contents output.old) (W.contents output.new) (WritesAll (decimal number ++ after.now) result) }
+fn write_number_and<W: Write + Drop>(
+    output: &mut Output<W>,
+    number: u64,
+    after: &[u8],
+) -> Result<(), RunError>
+    ensures written { Writes output.old.written output.new.written (WritesAll (decimal number ++ after.now) result) }
+    ensures writes { output.new.failures ≡ output.old.failures + failed_writes result }
+    ensures gone { output.new.gone ≡ output.old.gone + gone_readers result }
 {
     write_number(output, number)?;
     write_bytes(output, after)
 }
 
 // Writes each text as a line.
-fn write_texts<W: Write>(output: &mut W, rodeo: &SpurRodeo) -> Result<(), RunError>
-    ensures { Writes (W.contents output.old) (W.contents output.new) (WritesAll (flat_map with_feed rodeo.now.texts) result) }
+fn write_texts<W: Write + Drop>(output: &mut Output<W>, rodeo: &SpurRodeo) -> Result<(), RunError>
+    ensures written { Writes output.old.written output.new.written (WritesAll (flat_map with_feed rodeo.now.texts) result) }
+    ensures writes { output.new.failures ≡ output.old.failures + failed_writes result }
+    ensures gone { output.new.gone ≡ output.old.gone + gone_readers result }
 {
     for position in 0..rodeo.len() {
         write_line(output, rodeo.text_at(position).as_bytes())?;
@@ -91,8 +107,14 @@ const BLOCK_SIZE: usize = 4096;
 const LONGEST_ENTRY: usize = 11;
 
 // Writes the entry of each number.
-fn write_entries<W: Write>(output: &mut W, binary: bool, numbers: &[u32]) -> Result<(), RunError>
-    ensures { Writes (W.contents output.old) (W.contents output.new) (WritesAll (flat_map (λ n. entry_bytes binary (entry_at n)) numbers.now) result) }
+fn write_entries<W: Write + Drop>(
+    output: &mut Output<W>,
+    binary: bool,
+    numbers: &[u32],
+) -> Result<(), RunError>
+    ensures written { Writes output.old.written output.new.written (WritesAll (flat_map (λ n. entry_bytes binary (entry_at n)) numbers.now) result) }
+    ensures writes { output.new.failures ≡ output.old.failures + failed_writes result }
+    ensures gone { output.new.gone ≡ output.old.gone + gone_readers result }
 {
     let mut block = [0; BLOCK_SIZE];
     let mut filled = 0;
@@ -106,13 +128,19 @@ fn write_entries<W: Write>(output: &mut W, binary: bool, numbers: &[u32]) -> Res
 // Writes the first `filled` bytes of the block if there is no room for an entry after them. Returns the
 // number of filled bytes that are left.
 #[inline]
-fn make_room<W: Write>(output: &mut W, block: &[u8], filled: usize) -> Result<usize, RunError>
+fn make_room<W: Write + Drop>(
+    output: &mut Output<W>,
+    block: &[u8],
+    filled: usize,
+) -> Result<usize, RunError>
     requires fits { filled ≤ 4096 }
     requires long { length block.now ≡ 4096 }
     ensures room { IfOk result (λ left. left + 11 ≤ 4096) }
     ensures written { MatchResult result
-        (λ left. Writes (W.contents output.old) (W.contents output.new) (λ part. part ++ take left block.now ≡ take filled block.now))
-        (λ error. Writes (W.contents output.old) (W.contents output.new) (WritesAll (take filled block.now) (Err error))) }
+        (λ left. Writes output.old.written output.new.written (λ part. part ++ take left block.now ≡ take filled block.now))
+        (λ error. Writes output.old.written output.new.written (WritesAll (take filled block.now) (Err error))) }
+    ensures writes { output.new.failures ≡ output.old.failures + failed_writes result }
+    ensures gone { output.new.gone ≡ output.old.gone + gone_readers result }
 {
     if filled <= BLOCK_SIZE - LONGEST_ENTRY {
         return Ok(filled);

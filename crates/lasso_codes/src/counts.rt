@@ -1,6 +1,5 @@
 //! Counts the lines.
-ghost use Rattle.std.specs.Prelude.{◌≡◌, ◌+◌, ◌-◌, ◌^◌, ◌<◌, ◌≤◌, ◌++◌, ◌∷◌, [], ℕ, List, Some, Ok, OnOk, IfOk, IfErr, MatchResult, All, IsTrue, IsUtf8, length, drop, map, sum, flat_map, vec_len};
-ghost use Rattle.std.specs.Io.Buffered.{reader_remaining, writer_contents, writer_buffer};
+ghost use Rattle.std.specs.Prelude.{◌≡◌, ◌+◌, ◌-◌, ◌^◌, ◌<◌, ◌≤◌, ◌++◌, ◌∷◌, [], ℕ, List, Some, Ok, Err, OnOk, IfOk, IfErr, MatchResult, All, IsTrue, IsUtf8, length, drop, map, sum, flat_map, vec_len};
 ghost use Rattle.lasso_parts.specs.Texts.{Text};
 ghost use Rattle.lasso_single.specs.Intern.{InternsIn};
 ghost use Rattle.lasso_single.specs.Interner.{InternerView, made_with};
@@ -11,14 +10,15 @@ ghost use Rattle.lasso_counts.specs.Counts.{AreCounts, pair_of};
 ghost use Rattle.lasso_codes.specs.Counts.{CountsEnd, CountingError, count_line};
 ghost use Rattle.lasso_codes.specs.Stages.{Counting};
 ghost use Rattle.lasso_codes.specs.Streams.{Writes, WritesAll};
-ghost use Rattle.lasso_codes.specs.Errors.{IsWriteEnd};
+ghost use Rattle.lasso_codes.specs.Errors.{failed_reads, failed_writes, gone_readers, IsWriteEnd, IsDataError, IsInputError};
 
 use crate::arguments::Settings;
 use crate::distinct::new_rodeo;
 use crate::error::RunError;
-use crate::input::{buffered, consume, next_line};
+use crate::input::next_line;
 use crate::lines::{line_text, untested_len};
 use crate::output::{end_flushed, write_bytes, write_line, write_number};
+use crate::streams::{Input, Output};
 use crate::whole::{read_whole, text_lines};
 use lasso::{MemoryLimits, SpurRodeo};
 use lasso_columns::LineError;
@@ -26,7 +26,7 @@ use lasso_counts::{Ranked, by_frequency, count_in_parts, count_text};
 use lasso_cut::find_newline;
 use std::alloc::Global;
 use std::cmp::Reverse;
-use std::io::{BufReader, BufWriter, Read, Write};
+use std::io::{Read, Write};
 use std::thread::Threads;
 
 /// Counts the lines, and writes each distinct line after its count, the most frequent first. Lines with equal
@@ -38,27 +38,33 @@ use std::thread::Threads;
 /// failed write, a beginning of the list was written.
 pub fn counts<H: AllocGlobal + Threads + Sync, R: Read + Drop, W: Write + Drop>(
     rt: &H,
-    input: &mut BufReader<R>,
-    output: &mut BufWriter<W>,
+    input: &mut Input<R>,
+    output: &mut Output<W>,
     settings: Settings,
 ) -> Result<(), RunError>
-    ensures report { (bytes : List ℕ) → reader_remaining R.remaining input.old ≡ Some bytes →
-        Writes (writer_contents W.contents output.old) (writer_contents W.contents output.new) (λ part. CountsEnd bytes settings.limit settings.top part result) }
-    ensures flushed { ¬ (IsWriteEnd result) → writer_buffer output.new ≡ [] }
+    ensures report { (bytes : List ℕ) → input.old.left ≡ Some bytes →
+        Writes output.old.written output.new.written (λ part. CountsEnd bytes settings.limit settings.top part result) }
+    ensures flushed { ¬ (IsWriteEnd result) → output.new.pending ≡ [] }
+    ensures reads { ¬ (result ≡ Err RunError.WriteFailed) → input.new.failures ≡ input.old.failures + failed_reads result }
+    ensures writes { output.new.failures ≡ output.old.failures + failed_writes result }
+    ensures gone { ¬ (result ≡ Err RunError.WriteFailed) → output.new.gone ≡ output.old.gone + gone_readers result }
 {
     let result = write_counts(rt, input, output, settings);
     end_flushed(output, result)
 }
 
 // Counts the lines and writes them. The last bytes stay in the buffer.
-fn write_counts<H: AllocGlobal + Threads + Sync, R: Read + Drop, W: Write>(
+fn write_counts<H: AllocGlobal + Threads + Sync, R: Read + Drop, W: Write + Drop>(
     rt: &H,
-    input: &mut BufReader<R>,
-    output: &mut W,
+    input: &mut Input<R>,
+    output: &mut Output<W>,
     settings: Settings,
 ) -> Result<(), RunError>
-    ensures { (bytes : List ℕ) → reader_remaining R.remaining input.old ≡ Some bytes →
-        Writes (W.contents output.old) (W.contents output.new) (λ part. CountsEnd bytes settings.limit settings.top part result) }
+    ensures report { (bytes : List ℕ) → input.old.left ≡ Some bytes →
+        Writes output.old.written output.new.written (λ part. CountsEnd bytes settings.limit settings.top part result) }
+    ensures reads { input.new.failures ≡ input.old.failures + failed_reads result }
+    ensures writes { output.new.failures ≡ output.old.failures + failed_writes result }
+    ensures gone { output.new.gone ≡ output.old.gone + gone_readers result }
 {
     let mut rodeo = new_rodeo(rt.alloc(), MemoryLimits::new(settings.limit))?;
     let mut counts = Vec::new(rt.alloc());
@@ -73,18 +79,20 @@ fn write_counts<H: AllocGlobal + Threads + Sync, R: Read + Drop, W: Write>(
 // Counts all lines, with one worker or several.
 fn count_all<H: AllocGlobal + Threads + Sync, R: Read + Drop>(
     rt: &H,
-    input: &mut BufReader<R>,
+    input: &mut Input<R>,
     rodeo: &mut SpurRodeo,
     counts: &mut Vec<u64>,
     workers: usize,
 ) -> Result<(), RunError>
     requires no_texts { rodeo.old.texts ≡ [] }
     requires no_counts { counts.old.items ≡ [] }
-    ensures counted { OnOk result ((bytes : List ℕ) → reader_remaining R.remaining input.old ≡ Some bytes →
+    ensures counted { OnOk result ((bytes : List ℕ) → input.old.left ≡ Some bytes →
         All IsUtf8 (lines_of bytes) × AreCounts (lines_of bytes) rodeo.new.texts counts.new.items) }
     ensures lengths { vec_len counts.new ≡ length rodeo.new.texts }
-    ensures error { IfErr result (λ error. (bytes : List ℕ) → reader_remaining R.remaining input.old ≡ Some bytes →
+    ensures error { IfErr result (λ error. (bytes : List ℕ) → input.old.left ≡ Some bytes →
         (limit : ℕ) → rodeo.old ≡ made_with 4096 limit → CountingError limit (lines_of bytes) error) }
+    ensures faults { IfErr result IsInputError }
+    ensures reads { input.new.failures ≡ input.old.failures + failed_reads result }
 {
     if workers < 2 {
         return count_lines(rt.alloc(), input, rodeo, counts);
@@ -95,23 +103,25 @@ fn count_all<H: AllocGlobal + Threads + Sync, R: Read + Drop>(
 // Counts all lines, one after another.
 fn count_lines<R: Read + Drop>(
     alloc: Global,
-    input: &mut BufReader<R>,
+    input: &mut Input<R>,
     rodeo: &mut SpurRodeo,
     counts: &mut Vec<u64>,
 ) -> Result<(), RunError>
     requires no_texts { rodeo.old.texts ≡ [] }
     requires no_counts { counts.old.items ≡ [] }
-    ensures counted { OnOk result ((bytes : List ℕ) → reader_remaining R.remaining input.old ≡ Some bytes →
+    ensures counted { OnOk result ((bytes : List ℕ) → input.old.left ≡ Some bytes →
         All IsUtf8 (lines_of bytes) × AreCounts (lines_of bytes) rodeo.new.texts counts.new.items) }
     ensures lengths { vec_len counts.new ≡ length rodeo.new.texts }
-    ensures error { IfErr result (λ error. (bytes : List ℕ) → reader_remaining R.remaining input.old ≡ Some bytes →
+    ensures error { IfErr result (λ error. (bytes : List ℕ) → input.old.left ≡ Some bytes →
         (limit : ℕ) → rodeo.old ≡ made_with 4096 limit → CountingError limit (lines_of bytes) error) }
+    ensures faults { IfErr result IsInputError }
+    ensures reads { input.new.failures ≡ input.old.failures + failed_reads result }
 {
     let mut line = Vec::new(alloc);
     let mut number = 1;
-    for _ in 1..usize::MAX {
-        let (next, used) = count_stretch(rodeo, counts, buffered(input), number)?;
-        consume(input, used);
+    while number < usize::MAX {
+        let (next, used) = count_stretch(rodeo, counts, input.buffered(), number)?;
+        input.consume(used);
         if !next_line(input, &mut line, next)? {
             return Ok(());
         }
@@ -137,10 +147,12 @@ fn count_stretch(
         Counting input (stretch.now ++ later) first start rodeo.old counts.old.items → Counting input (drop at.1 stretch.now ++ later) at.0 start rodeo.new counts.new.items) }
     ensures lengths { vec_len counts.new ≡ length rodeo.new.texts }
     ensures total { IfOk result (λ at. sum counts.new.items + 1 ≡ at.0) }
+    ensures more { IfOk result (λ at. first ≤ at.0) }
     ensures number { IfOk result (λ at. at.0 < 2 ^ 64 - 1) }
     ensures within { IfOk result (λ at. at.1 ≤ length stretch.now) }
     ensures error { IfErr result (λ error. (input later : List ℕ) (limit : ℕ) →
         Counting input (stretch.now ++ later) first (made_with 4096 limit) rodeo.old counts.old.items → CountingError limit (lines_of input) error) }
+    ensures faults { IfErr result IsDataError }
 {
     let untested = untested_len(stretch);
     let mut used = 0;
@@ -187,18 +199,20 @@ fn count_line(
 // Reads the whole input, and counts its lines with several workers.
 fn count_whole<H: AllocGlobal + Threads + Sync, R: Read + Drop>(
     rt: &H,
-    input: &mut BufReader<R>,
+    input: &mut Input<R>,
     rodeo: &mut SpurRodeo,
     counts: &mut Vec<u64>,
     workers: usize,
 ) -> Result<(), RunError>
     requires no_texts { rodeo.old.texts ≡ [] }
     requires no_counts { counts.old.items ≡ [] }
-    ensures counted { OnOk result ((bytes : List ℕ) → reader_remaining R.remaining input.old ≡ Some bytes →
+    ensures counted { OnOk result ((bytes : List ℕ) → input.old.left ≡ Some bytes →
         All IsUtf8 (lines_of bytes) × AreCounts (lines_of bytes) rodeo.new.texts counts.new.items) }
     ensures lengths { vec_len counts.new ≡ length rodeo.new.texts }
-    ensures error { IfErr result (λ error. (bytes : List ℕ) → reader_remaining R.remaining input.old ≡ Some bytes →
+    ensures error { IfErr result (λ error. (bytes : List ℕ) → input.old.left ≡ Some bytes →
         (limit : ℕ) → rodeo.old ≡ made_with 4096 limit → CountingError limit (lines_of bytes) error) }
+    ensures faults { IfErr result IsInputError }
+    ensures reads { input.new.failures ≡ input.old.failures + failed_reads result }
 {
     let whole = read_whole(rt.alloc(), input)?;
     let lines = text_lines(rt.alloc(), &whole)?;
@@ -213,8 +227,13 @@ fn count_whole<H: AllocGlobal + Threads + Sync, R: Read + Drop>(
 }
 
 // Writes each count and its text as a line.
-fn write_ranked<W: Write>(output: &mut W, ranked: &[Ranked<'_>]) -> Result<(), RunError>
-    ensures { Writes (W.contents output.old) (W.contents output.new) (WritesAll (flat_map count_line (map pair_of ranked.now)) result) }
+fn write_ranked<W: Write + Drop>(
+    output: &mut Output<W>,
+    ranked: &[Ranked<'_>],
+) -> Result<(), RunError>
+    ensures written { Writes output.old.written output.new.written (WritesAll (flat_map count_line (map pair_of ranked.now)) result) }
+    ensures writes { output.new.failures ≡ output.old.failures + failed_writes result }
+    ensures gone { output.new.gone ≡ output.old.gone + gone_readers result }
 {
     for one in ranked {
         write_count(output, one)?;
@@ -223,8 +242,10 @@ fn write_ranked<W: Write>(output: &mut W, ranked: &[Ranked<'_>]) -> Result<(), R
 }
 
 // Writes the count, a space, the text and a line feed.
-fn write_count<W: Write>(output: &mut W, ranked: &Ranked<'_>) -> Result<(), RunError>
-    ensures { Writes (W.contents output.old) (W.contents output.new) (WritesAll (count_line (pair_of ranked.now)) result) }
+fn write_count<W: Write + Drop>(output: &mut Output<W>, ranked: &Ranked<'_>) -> Result<(), RunError>
+    ensures written { Writes output.old.written output.new.written (WritesAll (count_line (pair_of ranked.now)) result) }
+    ensures writes { output.new.failures ≡ output.old.failures + failed_writes result }
+    ensures gone { output.new.gone ≡ output.old.gone + gone_readers result }
 {
     let (Reverse(count), text) = *ranked;
     write_number(output, count)?;

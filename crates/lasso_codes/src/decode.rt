@@ -1,9 +1,8 @@
 //! Decodes columns into their lines.
-ghost use Rattle.std.specs.Prelude.{◌≡◌, ◌+◌, ◌-◌, ◌≤◌, ◌++◌, [], ℕ, List, Option, Some, IfOk, IfErr, drop, length};
-ghost use Rattle.std.specs.Io.Buffered.{reader_remaining, writer_contents, writer_buffer};
+ghost use Rattle.std.specs.Prelude.{◌≡◌, ◌+◌, ◌-◌, ◌≤◌, ◌++◌, [], ℕ, List, Option, Some, Err, IfOk, IfErr, drop, length};
 ghost use Rattle.lasso_codes.specs.Arguments.{word_of};
 ghost use Rattle.lasso_codes.specs.Decode.{line_at, DecodeEnd, DecodingError, WritesEntry, WritesLines};
-ghost use Rattle.lasso_codes.specs.Errors.{IsWriteEnd};
+ghost use Rattle.lasso_codes.specs.Errors.{failed_reads, failed_writes, gone_readers, IsWriteEnd, IsOutputError};
 ghost use Rattle.lasso_codes.specs.Reading.{items_from, ReadItems};
 ghost use Rattle.lasso_codes.specs.Stages.{LinesAhead};
 ghost use Rattle.lasso_parts.specs.Texts.{Text};
@@ -12,12 +11,12 @@ ghost use Rattle.lasso_codes.specs.Streams.{Writes};
 use crate::distinct::new_rodeo;
 use crate::entries::{Entry, first_entry, line_at, next_entry};
 use crate::error::RunError;
-use crate::input::{buffered, consume};
 use crate::output::{end_flushed, write_line};
 use crate::reading::{Header, next_header, read_texts};
+use crate::streams::{Input, Output};
 use lasso::{MemoryLimits, SpurRodeo};
 use std::alloc::Global;
-use std::io::{BufReader, BufWriter, Read, Write};
+use std::io::{Read, Write};
 
 /// Decodes the columns of the input, and writes their lines, each with a line feed. A null is written as
 /// `null`.
@@ -27,29 +26,35 @@ use std::io::{BufReader, BufWriter, Read, Write};
 /// lines before it were written. After a failed write, a beginning of the lines was written.
 pub fn decode<R: Read + Drop, W: Write + Drop>(
     alloc: Global,
-    input: &mut BufReader<R>,
-    output: &mut BufWriter<W>,
+    input: &mut Input<R>,
+    output: &mut Output<W>,
     limits: MemoryLimits,
     null: Option<&[u8]>,
 ) -> Result<(), RunError>
-    ensures report { (bytes : List ℕ) → reader_remaining R.remaining input.old ≡ Some bytes →
-        Writes (writer_contents W.contents output.old) (writer_contents W.contents output.new) (λ part. DecodeEnd bytes limits (word_of null.entry) part result) }
-    ensures flushed { ¬ (IsWriteEnd result) → writer_buffer output.new ≡ [] }
+    ensures report { (bytes : List ℕ) → input.old.left ≡ Some bytes →
+        Writes output.old.written output.new.written (λ part. DecodeEnd bytes limits (word_of null.entry) part result) }
+    ensures flushed { ¬ (IsWriteEnd result) → output.new.pending ≡ [] }
+    ensures reads { ¬ (result ≡ Err RunError.WriteFailed) → input.new.failures ≡ input.old.failures + failed_reads result }
+    ensures writes { output.new.failures ≡ output.old.failures + failed_writes result }
+    ensures gone { ¬ (result ≡ Err RunError.WriteFailed) → output.new.gone ≡ output.old.gone + gone_readers result }
 {
     let result = write_decoded(alloc, input, output, limits, null);
     end_flushed(output, result)
 }
 
 // Writes the lines of each column. The last bytes stay in the buffer.
-fn write_decoded<R: Read + Drop, W: Write>(
+fn write_decoded<R: Read + Drop, W: Write + Drop>(
     alloc: Global,
-    input: &mut BufReader<R>,
-    output: &mut W,
+    input: &mut Input<R>,
+    output: &mut Output<W>,
     limits: MemoryLimits,
     null: Option<&[u8]>,
 ) -> Result<(), RunError>
-    ensures { (bytes : List ℕ) → reader_remaining R.remaining input.old ≡ Some bytes →
-        Writes (W.contents output.old) (W.contents output.new) (λ part. DecodeEnd bytes limits (word_of null.entry) part result) }
+    ensures report { (bytes : List ℕ) → input.old.left ≡ Some bytes →
+        Writes output.old.written output.new.written (λ part. DecodeEnd bytes limits (word_of null.entry) part result) }
+    ensures reads { input.new.failures ≡ input.old.failures + failed_reads result }
+    ensures writes { output.new.failures ≡ output.old.failures + failed_writes result }
+    ensures gone { output.new.gone ≡ output.old.gone + gone_readers result }
 {
     let mut line = Vec::new(alloc);
     for column in 1..usize::MAX {
@@ -64,24 +69,27 @@ fn write_decoded<R: Read + Drop, W: Write>(
 }
 
 // Writes the lines of a column's entries.
-fn write_lines<R: Read + Drop, W: Write>(
-    input: &mut BufReader<R>,
-    output: &mut W,
+fn write_lines<R: Read + Drop, W: Write + Drop>(
+    input: &mut Input<R>,
+    output: &mut Output<W>,
     line: &mut Vec<u8>,
     rodeo: &SpurRodeo,
     header: Header,
     null: Option<&[u8]>,
     column: usize,
 ) -> Result<(), RunError>
-    ensures { (bytes : List ℕ) → reader_remaining R.remaining input.old ≡ Some bytes →
-        Writes (W.contents output.old) (W.contents output.new) (λ part. WritesLines (items_from (line_at (word_of null.entry) rodeo.now.texts) header.lines header.binary 1 bytes)
-        column (reader_remaining R.remaining input.new) part result) }
+    ensures written { (bytes : List ℕ) → input.old.left ≡ Some bytes →
+        Writes output.old.written output.new.written (λ part. WritesLines (items_from (line_at (word_of null.entry) rodeo.now.texts) header.lines header.binary 1 bytes)
+        column input.new.left part result) }
+    ensures reads { input.new.failures ≡ input.old.failures + failed_reads result }
+    ensures writes { output.new.failures ≡ output.old.failures + failed_writes result }
+    ensures gone { output.new.gone ≡ output.old.gone + gone_readers result }
 {
     let mut count = 0;
     while count < header.lines {
-        let shown = buffered(input);
+        let shown = input.buffered();
         let (next, used) = write_stretch(output, rodeo, header, null, column, shown, count)?;
-        consume(input, used);
+        input.consume(used);
         if next == header.lines {
             return Ok(());
         }
@@ -94,8 +102,8 @@ fn write_lines<R: Read + Drop, W: Write>(
 
 // Writes the lines of the entries that end in the stretch. `count` entries came before. Returns the number of
 // entries before the next one, and the position where that begins.
-fn write_stretch<W: Write>(
-    output: &mut W,
+fn write_stretch<W: Write + Drop>(
+    output: &mut Output<W>,
     rodeo: &SpurRodeo,
     header: Header,
     null: Option<&[u8]>,
@@ -105,13 +113,16 @@ fn write_stretch<W: Write>(
 ) -> Result<(usize, usize), RunError>
     requires { count ≤ header.lines }
     ensures written { IfOk result (λ at. (read : ReadItems Text) (later : List ℕ) (before : Option (List ℕ)) →
-        Writes before (W.contents output.old) (LinesAhead (items_from (line_at (word_of null.entry) rodeo.now.texts) (header.lines - count) header.binary (count + 1) (stretch.now ++ later)) read) →
-        Writes before (W.contents output.new) (LinesAhead (items_from (line_at (word_of null.entry) rodeo.now.texts) (header.lines - at.0) header.binary (at.0 + 1) (drop at.1 stretch.now ++ later)) read)) }
+        Writes before output.old.written (LinesAhead (items_from (line_at (word_of null.entry) rodeo.now.texts) (header.lines - count) header.binary (count + 1) (stretch.now ++ later)) read) →
+        Writes before output.new.written (LinesAhead (items_from (line_at (word_of null.entry) rodeo.now.texts) (header.lines - at.0) header.binary (at.0 + 1) (drop at.1 stretch.now ++ later)) read)) }
     ensures more { IfOk result (λ at. (count ≤ at.0) × (at.0 ≤ header.lines)) }
     ensures within { IfOk result (λ at. at.1 ≤ length stretch.now) }
     ensures error { IfErr result (λ error. (read : ReadItems Text) (later : List ℕ) (before : Option (List ℕ)) →
-        Writes before (W.contents output.old) (LinesAhead (items_from (line_at (word_of null.entry) rodeo.now.texts) (header.lines - count) header.binary (count + 1) (stretch.now ++ later)) read) →
-        Writes before (W.contents output.new) (λ part. DecodingError read column part error)) }
+        Writes before output.old.written (LinesAhead (items_from (line_at (word_of null.entry) rodeo.now.texts) (header.lines - count) header.binary (count + 1) (stretch.now ++ later)) read) →
+        Writes before output.new.written (λ part. DecodingError read column part error)) }
+    ensures faults { IfErr result IsOutputError }
+    ensures writes { output.new.failures ≡ output.old.failures + failed_writes result }
+    ensures gone { output.new.gone ≡ output.old.gone + gone_readers result }
 {
     let mut used = 0;
     for position in count..header.lines {
@@ -126,15 +137,18 @@ fn write_stretch<W: Write>(
 
 // Writes the line of the entry with this number.
 #[inline]
-fn write_entry_line<W: Write>(
-    output: &mut W,
+fn write_entry_line<W: Write + Drop>(
+    output: &mut Output<W>,
     rodeo: &SpurRodeo,
     null: Option<&[u8]>,
     column: usize,
     entry: Entry,
     number: usize,
 ) -> Result<(), RunError>
-    ensures { Writes (W.contents output.old) (W.contents output.new) (WritesEntry (line_at (word_of null.entry) rodeo.now.texts entry number) column result) }
+    ensures written { Writes output.old.written output.new.written (WritesEntry (line_at (word_of null.entry) rodeo.now.texts entry number) column result) }
+    ensures faults { IfErr result IsOutputError }
+    ensures writes { output.new.failures ≡ output.old.failures + failed_writes result }
+    ensures gone { output.new.gone ≡ output.old.gone + gone_readers result }
 {
     match line_at(rodeo, null, entry, number) {
         Ok(decoded) => write_line(output, decoded),

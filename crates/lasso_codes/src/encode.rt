@@ -1,6 +1,5 @@
 //! Encodes lines as a column.
-ghost use Rattle.std.specs.Prelude.{◌≡◌, ◌<◌, ◌≤◌, ◌-◌, ◌^◌, ◌++◌, ◌∷◌, [], ℕ, List, Some, OnOk, IfOk, IfErr, MatchResult, All, IsTrue, IsUtf8, drop, length, map};
-ghost use Rattle.std.specs.Io.Buffered.{reader_remaining, writer_contents, writer_buffer};
+ghost use Rattle.std.specs.Prelude.{◌≡◌, ◌+◌, ◌<◌, ◌≤◌, ◌-◌, ◌^◌, ◌++◌, ◌∷◌, [], ℕ, List, Some, Err, OnOk, IfOk, IfErr, MatchResult, All, IsTrue, IsUtf8, drop, length, map};
 ghost use Rattle.lasso_single.specs.Interner.{InternerView, made_with};
 ghost use Rattle.lasso_encode.specs.Encoding.{IsRefused};
 ghost use Rattle.lasso_columns.specs.Faults.{IsFaultOf};
@@ -10,7 +9,7 @@ ghost use Rattle.lasso_parts.specs.declared.util.LassoErrorKind.TheVariants.{Fai
 ghost use Rattle.lasso_codes.specs.Arguments.{word_of};
 ghost use Rattle.lasso_codes.specs.Columns.{is_null, texts_of};
 ghost use Rattle.lasso_codes.specs.Encode.{AreNumbered, EncodeEnd, EncodingError, IsNumbered};
-ghost use Rattle.lasso_codes.specs.Errors.{IsWriteEnd};
+ghost use Rattle.lasso_codes.specs.Errors.{failed_reads, failed_writes, gone_readers, IsWriteEnd, IsDataError, IsInputError};
 ghost use Rattle.lasso_codes.specs.Stages.{Encoding};
 ghost use Rattle.lasso_codes.specs.Streams.{Writes};
 ghost use Rattle.lasso_codes.specs.Whole.{spread};
@@ -19,16 +18,17 @@ use crate::arguments::Settings;
 use crate::columns::{NULL, write_column};
 use crate::distinct::new_rodeo;
 use crate::error::RunError;
-use crate::input::{buffered, consume, next_line};
+use crate::input::next_line;
 use crate::lines::{line_text, untested_len};
 use crate::output::end_flushed;
+use crate::streams::{Input, Output};
 use crate::whole::{read_whole, text_lines};
 use lasso::{LassoError, LassoErrorKind, LassoResult, MemoryLimits, SpurRodeo};
 use lasso_columns::{LineError, encode_in_parts};
 use lasso_cut::find_newline;
 use lasso_encode::intern_code;
 use std::alloc::Global;
-use std::io::{BufReader, BufWriter, Read, Write};
+use std::io::{Read, Write};
 use std::thread::Threads;
 
 /// Encodes the lines, and writes their column. A line that equals `null` is a null. With several workers, the
@@ -39,29 +39,35 @@ use std::thread::Threads;
 /// failed write, a beginning of the column was written.
 pub fn encode<H: AllocGlobal + Threads + Sync, R: Read + Drop, W: Write + Drop>(
     rt: &H,
-    input: &mut BufReader<R>,
-    output: &mut BufWriter<W>,
+    input: &mut Input<R>,
+    output: &mut Output<W>,
     settings: Settings,
     null: Option<&[u8]>,
 ) -> Result<(), RunError>
-    ensures report { (bytes : List ℕ) → reader_remaining R.remaining input.old ≡ Some bytes →
-        Writes (writer_contents W.contents output.old) (writer_contents W.contents output.new) (λ part. EncodeEnd bytes settings.limit (word_of null.entry) settings.binary part result) }
-    ensures flushed { ¬ (IsWriteEnd result) → writer_buffer output.new ≡ [] }
+    ensures report { (bytes : List ℕ) → input.old.left ≡ Some bytes →
+        Writes output.old.written output.new.written (λ part. EncodeEnd bytes settings.limit (word_of null.entry) settings.binary part result) }
+    ensures flushed { ¬ (IsWriteEnd result) → output.new.pending ≡ [] }
+    ensures reads { ¬ (result ≡ Err RunError.WriteFailed) → input.new.failures ≡ input.old.failures + failed_reads result }
+    ensures writes { output.new.failures ≡ output.old.failures + failed_writes result }
+    ensures gone { ¬ (result ≡ Err RunError.WriteFailed) → output.new.gone ≡ output.old.gone + gone_readers result }
 {
     let result = write_encoded(rt, input, output, settings, null);
     end_flushed(output, result)
 }
 
 // Encodes the lines and writes their column. The last bytes stay in the buffer.
-fn write_encoded<H: AllocGlobal + Threads + Sync, R: Read + Drop, W: Write>(
+fn write_encoded<H: AllocGlobal + Threads + Sync, R: Read + Drop, W: Write + Drop>(
     rt: &H,
-    input: &mut BufReader<R>,
-    output: &mut W,
+    input: &mut Input<R>,
+    output: &mut Output<W>,
     settings: Settings,
     null: Option<&[u8]>,
 ) -> Result<(), RunError>
-    ensures { (bytes : List ℕ) → reader_remaining R.remaining input.old ≡ Some bytes →
-        Writes (W.contents output.old) (W.contents output.new) (λ part. EncodeEnd bytes settings.limit (word_of null.entry) settings.binary part result) }
+    ensures report { (bytes : List ℕ) → input.old.left ≡ Some bytes →
+        Writes output.old.written output.new.written (λ part. EncodeEnd bytes settings.limit (word_of null.entry) settings.binary part result) }
+    ensures reads { input.new.failures ≡ input.old.failures + failed_reads result }
+    ensures writes { output.new.failures ≡ output.old.failures + failed_writes result }
+    ensures gone { output.new.gone ≡ output.old.gone + gone_readers result }
 {
     let mut rodeo = new_rodeo(rt.alloc(), MemoryLimits::new(settings.limit))?;
     let mut numbers = Vec::new(rt.alloc());
@@ -72,7 +78,7 @@ fn write_encoded<H: AllocGlobal + Threads + Sync, R: Read + Drop, W: Write>(
 // Encodes all lines, with one worker or several.
 fn number_lines<H: AllocGlobal + Threads + Sync, R: Read + Drop>(
     rt: &H,
-    input: &mut BufReader<R>,
+    input: &mut Input<R>,
     rodeo: &mut SpurRodeo,
     numbers: &mut Vec<u32>,
     null: Option<&[u8]>,
@@ -80,10 +86,12 @@ fn number_lines<H: AllocGlobal + Threads + Sync, R: Read + Drop>(
 ) -> Result<(), RunError>
     requires no_texts { rodeo.old.texts ≡ [] }
     requires no_numbers { numbers.old.items ≡ [] }
-    ensures numbered { OnOk result ((bytes : List ℕ) → reader_remaining R.remaining input.old ≡ Some bytes →
+    ensures numbered { OnOk result ((bytes : List ℕ) → input.old.left ≡ Some bytes →
         All IsUtf8 (lines_of bytes) × AreNumbered (word_of null.entry) (lines_of bytes) rodeo.new.texts numbers.new.items) }
-    ensures error { IfErr result (λ error. (bytes : List ℕ) → reader_remaining R.remaining input.old ≡ Some bytes →
+    ensures error { IfErr result (λ error. (bytes : List ℕ) → input.old.left ≡ Some bytes →
         (limit : ℕ) → rodeo.old ≡ made_with 4096 limit → EncodingError limit (word_of null.entry) (lines_of bytes) error) }
+    ensures faults { IfErr result IsInputError }
+    ensures reads { input.new.failures ≡ input.old.failures + failed_reads result }
 {
     if workers < 2 {
         return encode_lines(rt.alloc(), input, rodeo, numbers, null);
@@ -94,23 +102,25 @@ fn number_lines<H: AllocGlobal + Threads + Sync, R: Read + Drop>(
 // Encodes all lines, one after another.
 fn encode_lines<R: Read + Drop>(
     alloc: Global,
-    input: &mut BufReader<R>,
+    input: &mut Input<R>,
     rodeo: &mut SpurRodeo,
     numbers: &mut Vec<u32>,
     null: Option<&[u8]>,
 ) -> Result<(), RunError>
     requires no_texts { rodeo.old.texts ≡ [] }
     requires no_numbers { numbers.old.items ≡ [] }
-    ensures numbered { OnOk result ((bytes : List ℕ) → reader_remaining R.remaining input.old ≡ Some bytes →
+    ensures numbered { OnOk result ((bytes : List ℕ) → input.old.left ≡ Some bytes →
         All IsUtf8 (lines_of bytes) × AreNumbered (word_of null.entry) (lines_of bytes) rodeo.new.texts numbers.new.items) }
-    ensures error { IfErr result (λ error. (bytes : List ℕ) → reader_remaining R.remaining input.old ≡ Some bytes →
+    ensures error { IfErr result (λ error. (bytes : List ℕ) → input.old.left ≡ Some bytes →
         (limit : ℕ) → rodeo.old ≡ made_with 4096 limit → EncodingError limit (word_of null.entry) (lines_of bytes) error) }
+    ensures faults { IfErr result IsInputError }
+    ensures reads { input.new.failures ≡ input.old.failures + failed_reads result }
 {
     let mut line = Vec::new(alloc);
     let mut number = 1;
-    for _ in 1..usize::MAX {
-        let (next, used) = encode_stretch(rodeo, numbers, null, buffered(input), number)?;
-        consume(input, used);
+    while number < usize::MAX {
+        let (next, used) = encode_stretch(rodeo, numbers, null, input.buffered(), number)?;
+        input.consume(used);
         if !next_line(input, &mut line, next)? {
             return Ok(());
         }
@@ -134,11 +144,13 @@ fn encode_stretch(
     ensures numbered { IfOk result (λ at. (input later : List ℕ) (start : InternerView) →
         Encoding input (stretch.now ++ later) first (word_of null.entry) start rodeo.old numbers.old.items →
         Encoding input (drop at.1 stretch.now ++ later) at.0 (word_of null.entry) start rodeo.new numbers.new.items) }
+    ensures more { IfOk result (λ at. first ≤ at.0) }
     ensures number { IfOk result (λ at. at.0 < 2 ^ 64 - 1) }
     ensures within { IfOk result (λ at. at.1 ≤ length stretch.now) }
     ensures error { IfErr result (λ error. (input later : List ℕ) (limit : ℕ) →
         Encoding input (stretch.now ++ later) first (word_of null.entry) (made_with 4096 limit) rodeo.old numbers.old.items →
         EncodingError limit (word_of null.entry) (lines_of input) error) }
+    ensures faults { IfErr result IsDataError }
 {
     let untested = untested_len(stretch);
     let mut used = 0;
@@ -159,7 +171,7 @@ fn encode_stretch(
 // Reads the whole input, and encodes its lines with several workers.
 fn encode_whole<H: AllocGlobal + Threads + Sync, R: Read + Drop>(
     rt: &H,
-    input: &mut BufReader<R>,
+    input: &mut Input<R>,
     rodeo: &mut SpurRodeo,
     numbers: &mut Vec<u32>,
     null: Option<&[u8]>,
@@ -167,10 +179,12 @@ fn encode_whole<H: AllocGlobal + Threads + Sync, R: Read + Drop>(
 ) -> Result<(), RunError>
     requires no_texts { rodeo.old.texts ≡ [] }
     requires no_numbers { numbers.old.items ≡ [] }
-    ensures numbered { OnOk result ((bytes : List ℕ) → reader_remaining R.remaining input.old ≡ Some bytes →
+    ensures numbered { OnOk result ((bytes : List ℕ) → input.old.left ≡ Some bytes →
         All IsUtf8 (lines_of bytes) × AreNumbered (word_of null.entry) (lines_of bytes) rodeo.new.texts numbers.new.items) }
-    ensures error { IfErr result (λ error. (bytes : List ℕ) → reader_remaining R.remaining input.old ≡ Some bytes →
+    ensures error { IfErr result (λ error. (bytes : List ℕ) → input.old.left ≡ Some bytes →
         (limit : ℕ) → rodeo.old ≡ made_with 4096 limit → EncodingError limit (word_of null.entry) (lines_of bytes) error) }
+    ensures faults { IfErr result IsInputError }
+    ensures reads { input.new.failures ≡ input.old.failures + failed_reads result }
 {
     let whole = read_whole(rt.alloc(), input)?;
     let lines = text_lines(rt.alloc(), &whole)?;

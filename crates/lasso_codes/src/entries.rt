@@ -1,19 +1,19 @@
 //! Reads the entries of a column.
-ghost use Rattle.std.specs.Prelude.{◌≡◌, ◌≤◌, ◌++◌, ℕ, List, true, Some, Ok, Err, IfOk, IfErr, IfSome, MatchResult, drop, length};
-ghost use Rattle.std.specs.Io.Buffered.{reader_remaining};
+ghost use Rattle.std.specs.Prelude.{◌≡◌, ◌+◌, ◌≤◌, ◌++◌, ℕ, List, true, Some, Ok, Err, IfOk, IfErr, IfSome, MatchResult, drop, length};
 ghost use Rattle.lasso_codes.specs.Arguments.{word_of};
 ghost use Rattle.lasso_codes.specs.Decode.{line_at};
 ghost use Rattle.lasso_codes.specs.Reading.{cut_entry, cut_number, entry_in, number_entry, TakesEntry};
-ghost use Rattle.lasso_codes.specs.Errors.{IsReadError};
+ghost use Rattle.lasso_codes.specs.Errors.{failed_reads, IsReadError};
 
 use crate::columns::NULL;
 use crate::error::{ColumnError, RunError};
-use crate::input::{Cut, next_byte, next_whole_line};
+use crate::input::{Cut, next_whole_line};
 use crate::numbers::parse_digits;
+use crate::streams::Input;
 use lasso::SpurRodeo;
 use lasso::index::Texts;
 use lasso_cut::find_newline;
-use std::io::{BufReader, Read};
+use std::io::Read;
 
 /// An entry of a column, as it is read.
 #[derive(Clone, Copy, Debug, PartialEq, Eq)]
@@ -33,12 +33,13 @@ pub enum Entry {
 /// # Errors
 /// The reader failed, or out of memory.
 pub fn next_entry<R: Read + Drop>(
-    input: &mut BufReader<R>,
+    input: &mut Input<R>,
     line: &mut Vec<u8>,
     binary: bool,
 ) -> Result<Entry, RunError>
-    ensures taken { IfOk result (TakesEntry binary (reader_remaining R.remaining input.old) (reader_remaining R.remaining input.new)) }
+    ensures taken { IfOk result (TakesEntry binary input.old.left input.new.left) }
     ensures errors { IfErr result (IsReadError 0) }
+    ensures reads { input.new.failures ≡ input.old.failures + failed_reads result }
 {
     if binary {
         return next_number(input);
@@ -50,20 +51,21 @@ pub fn next_entry<R: Read + Drop>(
 }
 
 // Reads an entry of four bytes.
-fn next_number<R: Read + Drop>(input: &mut BufReader<R>) -> Result<Entry, RunError>
-    ensures taken { IfOk result (TakesEntry true (reader_remaining R.remaining input.old) (reader_remaining R.remaining input.new)) }
+fn next_number<R: Read + Drop>(input: &mut Input<R>) -> Result<Entry, RunError>
+    ensures taken { IfOk result (TakesEntry true input.old.left input.new.left) }
     ensures errors { IfErr result (IsReadError 0) }
+    ensures reads { input.new.failures ≡ input.old.failures + failed_reads result }
 {
-    let Some(first) = next_byte(input)? else {
+    let Some(first) = input.next_byte()? else {
         return Ok(Entry::Missing);
     };
-    let Some(second) = next_byte(input)? else {
+    let Some(second) = input.next_byte()? else {
         return Ok(Entry::Missing);
     };
-    let Some(third) = next_byte(input)? else {
+    let Some(third) = input.next_byte()? else {
         return Ok(Entry::Missing);
     };
-    let Some(fourth) = next_byte(input)? else {
+    let Some(fourth) = input.next_byte()? else {
         return Ok(Entry::Missing);
     };
     let number = u32::from_le_bytes([first, second, third, fourth]);

@@ -16,7 +16,7 @@ pub enum RunError {
     /// A line was refused or is not UTF-8. Line 0: out of memory before the first line, or after the last
     /// one.
     Line(LineError),
-    /// The number of lines does not fit in `usize`.
+    /// There are 2^64 - 2 lines or more, or as many columns.
     TooManyLines,
     /// The reader failed.
     ReadFailed,

@@ -1,12 +1,12 @@
-//! Reads lines and bytes from a buffered reader.
-ghost use Rattle.std.specs.Prelude.{◌≡◌, ◌≤◌, ℕ, List, [], ◌∷◌, ◌++◌, Some, IfOk, IfErr, drop, length};
-ghost use Rattle.std.specs.Io.Buffered.{reader_buffer, reader_remaining};
+//! Reads lines.
+ghost use Rattle.std.specs.Prelude.{◌≡◌, ◌+◌, ℕ, List, [], ◌∷◌, ◌++◌, IfOk, IfErr};
 ghost use Rattle.lasso_cut.specs.Lines.{NoFeed};
-ghost use Rattle.lasso_codes.specs.Streams.{CutsLine, TakesByte, TakesLine};
-ghost use Rattle.lasso_codes.specs.Errors.{IsReadError};
+ghost use Rattle.lasso_codes.specs.Streams.{CutsLine, TakesLine};
+ghost use Rattle.lasso_codes.specs.Errors.{failed_reads, IsReadError};
 
 use crate::error::RunError;
-use std::io::{BufRead, BufReader, ErrorKind, Read};
+use crate::streams::Input;
+use std::io::Read;
 
 /// Reads the next line into `line`, without its line feed. Returns whether there was a line. Bytes after the
 /// last line feed are a line.
@@ -14,22 +14,22 @@ use std::io::{BufRead, BufReader, ErrorKind, Read};
 /// # Errors
 /// The reader failed, or out of memory at the line with this number.
 pub fn next_line<R: Read + Drop>(
-    input: &mut BufReader<R>,
+    input: &mut Input<R>,
     line: &mut Vec<u8>,
     number: usize,
 ) -> Result<bool, RunError>
-    ensures taken { IfOk result (λ is_line. TakesLine (reader_remaining R.remaining input.old) (reader_remaining R.remaining input.new) is_line line.new.items) }
+    ensures taken { IfOk result (λ is_line. TakesLine input.old.left input.new.left is_line line.new.items) }
     ensures errors { IfErr result (IsReadError number) }
+    ensures reads { input.new.failures ≡ input.old.failures + failed_reads result }
 {
     line.clear();
-    match input.read_until(b'\n', line) {
+    match input.read_until(line, number) {
         Ok(0) => Ok(false),
         Ok(_) => {
             strip_feed(line);
             Ok(true)
         }
-        Err(error) if error.kind() == ErrorKind::OutOfMemory => Err(RunError::no_memory(number)),
-        Err(_) => Err(RunError::ReadFailed),
+        Err(error) => Err(error),
     }
 }
 
@@ -49,14 +49,15 @@ pub enum Cut {
 /// # Errors
 /// The reader failed, or out of memory.
 pub fn next_whole_line<R: Read + Drop>(
-    input: &mut BufReader<R>,
+    input: &mut Input<R>,
     line: &mut Vec<u8>,
 ) -> Result<Cut, RunError>
-    ensures taken { IfOk result (λ cut. CutsLine (reader_remaining R.remaining input.old) (reader_remaining R.remaining input.new) cut line.new.items) }
+    ensures taken { IfOk result (λ cut. CutsLine input.old.left input.new.left cut line.new.items) }
     ensures errors { IfErr result (IsReadError 0) }
+    ensures reads { input.new.failures ≡ input.old.failures + failed_reads result }
 {
     line.clear();
-    match input.read_until(b'\n', line) {
+    match input.read_until(line, 0) {
         Ok(0) => Ok(Cut::End),
         Ok(_) => {
             let count = line.len();
@@ -67,29 +68,8 @@ pub fn next_whole_line<R: Read + Drop>(
                 Ok(Cut::Part)
             }
         }
-        Err(error) if error.kind() == ErrorKind::OutOfMemory => Err(RunError::no_memory(0)),
-        Err(_) => Err(RunError::ReadFailed),
+        Err(error) => Err(error),
     }
-}
-
-/// Reads the next byte. `None` at the end of the input.
-///
-/// # Errors
-/// The reader failed.
-pub fn next_byte<R: Read + Drop>(input: &mut BufReader<R>) -> Result<Option<u8>, RunError>
-    ensures taken { IfOk result (TakesByte (reader_remaining R.remaining input.old) (reader_remaining R.remaining input.new)) }
-    ensures errors { IfErr result (λ error. error ≡ RunError.ReadFailed) }
-{
-    let mut byte = [0];
-    for _ in 0..u64::MAX {
-        match input.read(&mut byte) {
-            Ok(0) => return Ok(None),
-            Ok(_) => return Ok(Some(byte[0])),
-            Err(error) if error.kind() == ErrorKind::Interrupted => {}
-            Err(_) => return Err(RunError::ReadFailed),
-        }
-    }
-    Err(RunError::ReadFailed)
 }
 
 // Removes a line feed at the end of the line.
@@ -101,22 +81,4 @@ fn strip_feed(line: &mut Vec<u8>)
     if count > 0 && line[count - 1] == b'\n' {
         line.truncate(count - 1);
     }
-}
-
-/// The bytes in the buffer: the next bytes of the input, without reading.
-#[inline]
-pub fn buffered<R: Read + Drop>(input: &BufReader<R>) -> &[u8]
-    ensures value { result.now ≡ reader_buffer input.now }
-    ensures first { (bytes : List ℕ) → reader_remaining R.remaining input.now ≡ Some bytes → (later : List ℕ) × (bytes ≡ result.now ++ later) }
-{
-    input.buffer()
-}
-
-/// Removes the first `count` bytes from the buffer.
-pub fn consume<R: Read + Drop>(input: &mut BufReader<R>, count: usize)
-    requires { count ≤ length (reader_buffer input.old) }
-    ensures { (later : List ℕ) → reader_remaining R.remaining input.old ≡ Some (reader_buffer input.old ++ later) →
-        reader_remaining R.remaining input.new ≡ Some (drop count (reader_buffer input.old) ++ later) }
-{
-    input.consume(count);
 }

@@ -10,6 +10,7 @@ pub mod distinct;
 pub mod encode;
 pub mod entries;
 pub mod error;
+pub mod failures;
 pub mod help;
 pub mod input;
 pub mod laws;
@@ -21,6 +22,7 @@ pub mod output;
 pub mod program;
 pub mod progress;
 pub mod reading;
+pub mod streams;
 #[cfg(test)]
 mod tests;
 pub mod whole;
@@ -71,14 +73,16 @@ fn run_program<R: AllocGlobal + Input + Print + Eprint + Clock + Threads + Sync>
 ) -> Result<(), RunError> {
     let is_shown = shows_progress(request.command, terminals);
     let watched = Watched::new(rt.reader(), rt, is_shown);
-    let Ok(mut input) = BufReader::with_capacity(rt.alloc(), BUFFER_SIZE, watched) else {
+    let Ok(reader) = BufReader::with_capacity(rt.alloc(), BUFFER_SIZE, watched) else {
         return Err(RunError::no_memory(0));
     };
-    let Ok(mut output) = BufWriter::with_capacity(rt.alloc(), BUFFER_SIZE, io::writer(rt)) else {
+    let Ok(writer) = BufWriter::with_capacity(rt.alloc(), BUFFER_SIZE, io::writer(rt)) else {
         return Err(RunError::no_memory(0));
     };
+    let mut input = streams::Input::new(reader);
+    let mut output = streams::Output::new(writer);
     let ended = run_request(rt, request, &mut input, &mut output);
-    input.get_mut().wipe();
+    input.into_inner().wipe();
     // Dropping the writer would write what a failed write left in the buffer. Nothing is tried again.
     let (_writer, _left) = output.into_parts();
     ended

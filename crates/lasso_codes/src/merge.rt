@@ -1,13 +1,12 @@
 //! Merges columns into one column.
 ghost use Rattle.std.specs.Prelude.{◌≡◌, ◌+◌, ◌-◌, ◌<◌, ◌≤◌, ◌^◌, ◌++◌, ◌∷◌, [], ℕ, List, drop, length, Option, Some, Ok, Err, OnOk, IfOk, IfErr, MatchResult};
-ghost use Rattle.std.specs.Io.Buffered.{reader_remaining, writer_contents, writer_buffer};
 ghost use Rattle.lasso_parts.specs.Texts.{Text};
 ghost use Rattle.lasso_single.specs.Interner.{made_with};
 ghost use Rattle.lasso_encode.specs.Codes.{AreCodes};
 ghost use Rattle.lasso_columns.specs.declared.faults.LineError.TheVariants.{Refused};
 ghost use Rattle.lasso_parts.specs.declared.util.LassoErrorKind.TheVariants.{FailedAllocation};
 ghost use Rattle.lasso_codes.specs.Columns.{entry_at};
-ghost use Rattle.lasso_codes.specs.Errors.{IsWriteEnd};
+ghost use Rattle.lasso_codes.specs.Errors.{failed_reads, failed_writes, gone_readers, IsWriteEnd, IsDataError, IsInputError};
 ghost use Rattle.lasso_codes.specs.Merge.{recoded, AddsEntries, AddsEntry, AreMerged, EntriesError, MergeEnd, MergingError};
 ghost use Rattle.lasso_codes.specs.Stages.{EntriesAhead};
 ghost use Rattle.lasso_codes.specs.Reading.{items_from, ReadItems};
@@ -18,13 +17,13 @@ use crate::distinct::new_rodeo;
 use crate::encode::append;
 use crate::entries::{Entry, first_entry, next_entry};
 use crate::error::{ColumnError, RunError};
-use crate::input::{buffered, consume};
 use crate::output::end_flushed;
 use crate::reading::{Header, next_header, read_texts};
+use crate::streams::{Input, Output};
 use lasso::{MemoryLimits, SpurRodeo};
 use lasso_columns::merge as merge_texts;
 use std::alloc::Global;
-use std::io::{BufReader, BufWriter, Read, Write};
+use std::io::{Read, Write};
 
 /// Reads the columns of the input, and then writes one column with one dictionary, which has the lines of
 /// all.
@@ -34,29 +33,35 @@ use std::io::{BufReader, BufWriter, Read, Write};
 /// failed write, a beginning of the column was written.
 pub fn merge<R: Read + Drop, W: Write + Drop>(
     alloc: Global,
-    input: &mut BufReader<R>,
-    output: &mut BufWriter<W>,
+    input: &mut Input<R>,
+    output: &mut Output<W>,
     limits: MemoryLimits,
     binary: bool,
 ) -> Result<(), RunError>
-    ensures report { (bytes : List ℕ) → reader_remaining R.remaining input.old ≡ Some bytes →
-        Writes (writer_contents W.contents output.old) (writer_contents W.contents output.new) (λ part. MergeEnd bytes limits binary part result) }
-    ensures flushed { ¬ (IsWriteEnd result) → writer_buffer output.new ≡ [] }
+    ensures report { (bytes : List ℕ) → input.old.left ≡ Some bytes →
+        Writes output.old.written output.new.written (λ part. MergeEnd bytes limits binary part result) }
+    ensures flushed { ¬ (IsWriteEnd result) → output.new.pending ≡ [] }
+    ensures reads { ¬ (result ≡ Err RunError.WriteFailed) → input.new.failures ≡ input.old.failures + failed_reads result }
+    ensures writes { output.new.failures ≡ output.old.failures + failed_writes result }
+    ensures gone { ¬ (result ≡ Err RunError.WriteFailed) → output.new.gone ≡ output.old.gone + gone_readers result }
 {
     let result = write_merged(alloc, input, output, limits, binary);
     end_flushed(output, result)
 }
 
 // Merges the columns and writes the merged one. The last bytes stay in the buffer.
-fn write_merged<R: Read + Drop, W: Write>(
+fn write_merged<R: Read + Drop, W: Write + Drop>(
     alloc: Global,
-    input: &mut BufReader<R>,
-    output: &mut W,
+    input: &mut Input<R>,
+    output: &mut Output<W>,
     limits: MemoryLimits,
     binary: bool,
 ) -> Result<(), RunError>
-    ensures { (bytes : List ℕ) → reader_remaining R.remaining input.old ≡ Some bytes →
-        Writes (W.contents output.old) (W.contents output.new) (λ part. MergeEnd bytes limits binary part result) }
+    ensures report { (bytes : List ℕ) → input.old.left ≡ Some bytes →
+        Writes output.old.written output.new.written (λ part. MergeEnd bytes limits binary part result) }
+    ensures reads { input.new.failures ≡ input.old.failures + failed_reads result }
+    ensures writes { output.new.failures ≡ output.old.failures + failed_writes result }
+    ensures gone { output.new.gone ≡ output.old.gone + gone_readers result }
 {
     let mut rodeo = new_rodeo(alloc, limits)?;
     let mut numbers = Vec::new(alloc);
@@ -67,15 +72,17 @@ fn write_merged<R: Read + Drop, W: Write>(
 // Interns the texts of each column, and appends its entries with the codes of these.
 fn merge_columns<R: Read + Drop>(
     alloc: Global,
-    input: &mut BufReader<R>,
+    input: &mut Input<R>,
     rodeo: &mut SpurRodeo,
     numbers: &mut Vec<u32>,
     limits: MemoryLimits,
 ) -> Result<(), RunError>
     requires made { rodeo.old ≡ made_with 4096 limits }
     requires no_numbers { numbers.old.items ≡ [] }
-    ensures merged { OnOk result ((bytes : List ℕ) → reader_remaining R.remaining input.old ≡ Some bytes → AreMerged bytes rodeo.new.texts numbers.new.items) }
-    ensures error { IfErr result (λ error. (bytes : List ℕ) → reader_remaining R.remaining input.old ≡ Some bytes → MergingError bytes limits error) }
+    ensures merged { OnOk result ((bytes : List ℕ) → input.old.left ≡ Some bytes → AreMerged bytes rodeo.new.texts numbers.new.items) }
+    ensures error { IfErr result (λ error. (bytes : List ℕ) → input.old.left ≡ Some bytes → MergingError bytes limits error) }
+    ensures faults { IfErr result IsInputError }
+    ensures reads { input.new.failures ≡ input.old.failures + failed_reads result }
 {
     let mut line = Vec::new(alloc);
     for column in 1..usize::MAX {
@@ -94,21 +101,23 @@ fn merge_columns<R: Read + Drop>(
 
 // Appends each entry of a column. `table` has the new code for each code of the column.
 fn add_numbers<R: Read + Drop>(
-    input: &mut BufReader<R>,
+    input: &mut Input<R>,
     line: &mut Vec<u8>,
     numbers: &mut Vec<u32>,
     table: &[u32],
     header: Header,
     column: usize,
 ) -> Result<(), RunError>
-    ensures { (list texts : List Text) → AreCodes list texts table.now → length list < 2 ^ 32 →
-        (bytes : List ℕ) → reader_remaining R.remaining input.old ≡ Some bytes →
-        AddsEntries (items_from (recoded list texts) header.lines header.binary 1 bytes) column (reader_remaining R.remaining input.new) numbers.old.items numbers.new.items result }
+    ensures added { (list texts : List Text) → AreCodes list texts table.now → length list < 2 ^ 32 →
+        (bytes : List ℕ) → input.old.left ≡ Some bytes →
+        AddsEntries (items_from (recoded list texts) header.lines header.binary 1 bytes) column input.new.left numbers.old.items numbers.new.items result }
+    ensures faults { IfErr result IsInputError }
+    ensures reads { input.new.failures ≡ input.old.failures + failed_reads result }
 {
     let mut count = 0;
     while count < header.lines {
-        let (next, used) = add_stretch(numbers, table, header, column, buffered(input), count)?;
-        consume(input, used);
+        let (next, used) = add_stretch(numbers, table, header, column, input.buffered(), count)?;
+        input.consume(used);
         if next == header.lines {
             return Ok(());
         }
@@ -140,6 +149,7 @@ fn add_stretch(
         (read : ReadItems (Option ℕ)) (later before : List ℕ) →
         EntriesAhead (items_from (recoded list texts) (header.lines - count) header.binary (count + 1) (stretch.now ++ later)) read before numbers.old.items →
         EntriesError read column error) }
+    ensures faults { IfErr result IsDataError }
 {
     let mut used = 0;
     for position in count..header.lines {
@@ -161,8 +171,9 @@ fn add_number(
     entry: Entry,
     number: usize,
 ) -> Result<(), RunError>
-    ensures { (list texts : List Text) → AreCodes list texts table.now → length list < 2 ^ 32 →
+    ensures added { (list texts : List Text) → AreCodes list texts table.now → length list < 2 ^ 32 →
         AddsEntry (recoded list texts entry number) column numbers.old.items numbers.new.items result }
+    ensures faults { IfErr result IsDataError }
 {
     match number_at(table, entry, number) {
         Ok(number) => append_number(numbers, number),

@@ -1,12 +1,11 @@
 //! The program without its streams: runs a request over a reader and a writer.
-ghost use Rattle.std.specs.Prelude.{◌≡◌, ℕ, List, [], Some};
-ghost use Rattle.std.specs.Io.Buffered.{reader_remaining, writer_contents, writer_buffer};
+ghost use Rattle.std.specs.Prelude.{◌≡◌, ◌+◌, ℕ, List, [], Some, Err, IfErr};
 ghost use Rattle.lasso_codes.specs.Arguments.{word_of};
 ghost use Rattle.lasso_codes.specs.Counts.{CountsEnd};
 ghost use Rattle.lasso_codes.specs.Decode.{DecodeEnd};
 ghost use Rattle.lasso_codes.specs.Distinct.{DistinctEnd};
 ghost use Rattle.lasso_codes.specs.Encode.{EncodeEnd};
-ghost use Rattle.lasso_codes.specs.Errors.{IsWriteEnd};
+ghost use Rattle.lasso_codes.specs.Errors.{failed_reads, failed_writes, gone_readers, IsWriteEnd, IsWriteError};
 ghost use Rattle.lasso_codes.specs.Merge.{MergeEnd};
 ghost use Rattle.lasso_codes.specs.Streams.{Writes};
 ghost use Rattle.lasso_codes.specs.declared.arguments.Settings.{Settings};
@@ -21,9 +20,10 @@ use crate::encode::encode;
 use crate::error::RunError;
 use crate::help::{HELP, VERSION, verb_help};
 use crate::merge::merge;
-use crate::output::{flush, write_bytes};
+use crate::output::write_bytes;
+use crate::streams::{Input, Output};
 use lasso::MemoryLimits;
-use std::io::{BufReader, BufWriter, Read, Write};
+use std::io::{Read, Write};
 use std::thread::Threads;
 
 /// The size of the reader's buffer and of the writer's buffer, in bytes.
@@ -36,20 +36,23 @@ pub const BUFFER_SIZE: usize = 65536;
 pub fn run_request<H: AllocGlobal + Threads + Sync, R: Read + Drop, W: Write + Drop>(
     rt: &H,
     request: &Request<'_>,
-    input: &mut BufReader<R>,
-    output: &mut BufWriter<W>,
+    input: &mut Input<R>,
+    output: &mut Output<W>,
 ) -> Result<(), RunError>
-    ensures distinct { (settings : Settings) (bytes : List ℕ) → request.now.command ≡ Run Distinct settings → reader_remaining R.remaining input.old ≡ Some bytes →
-        Writes (writer_contents W.contents output.old) (writer_contents W.contents output.new) (λ part. DistinctEnd bytes settings.limit part result) }
-    ensures counts { (settings : Settings) (bytes : List ℕ) → request.now.command ≡ Run Counts settings → reader_remaining R.remaining input.old ≡ Some bytes →
-        Writes (writer_contents W.contents output.old) (writer_contents W.contents output.new) (λ part. CountsEnd bytes settings.limit settings.top part result) }
-    ensures decode { (settings : Settings) (bytes : List ℕ) → request.now.command ≡ Run Decode settings → reader_remaining R.remaining input.old ≡ Some bytes →
-        Writes (writer_contents W.contents output.old) (writer_contents W.contents output.new) (λ part. DecodeEnd bytes settings.limit (word_of request.now.null) part result) }
-    ensures encode { (settings : Settings) (bytes : List ℕ) → request.now.command ≡ Run Encode settings → reader_remaining R.remaining input.old ≡ Some bytes →
-        Writes (writer_contents W.contents output.old) (writer_contents W.contents output.new) (λ part. EncodeEnd bytes settings.limit (word_of request.now.null) settings.binary part result) }
-    ensures merge { (settings : Settings) (bytes : List ℕ) → request.now.command ≡ Run Merge settings → reader_remaining R.remaining input.old ≡ Some bytes →
-        Writes (writer_contents W.contents output.old) (writer_contents W.contents output.new) (λ part. MergeEnd bytes settings.limit settings.binary part result) }
-    ensures flushed { ¬ (IsWriteEnd result) → writer_buffer output.new ≡ [] }
+    ensures distinct { (settings : Settings) (bytes : List ℕ) → request.now.command ≡ Run Distinct settings → input.old.left ≡ Some bytes →
+        Writes output.old.written output.new.written (λ part. DistinctEnd bytes settings.limit part result) }
+    ensures counts { (settings : Settings) (bytes : List ℕ) → request.now.command ≡ Run Counts settings → input.old.left ≡ Some bytes →
+        Writes output.old.written output.new.written (λ part. CountsEnd bytes settings.limit settings.top part result) }
+    ensures decode { (settings : Settings) (bytes : List ℕ) → request.now.command ≡ Run Decode settings → input.old.left ≡ Some bytes →
+        Writes output.old.written output.new.written (λ part. DecodeEnd bytes settings.limit (word_of request.now.null) part result) }
+    ensures encode { (settings : Settings) (bytes : List ℕ) → request.now.command ≡ Run Encode settings → input.old.left ≡ Some bytes →
+        Writes output.old.written output.new.written (λ part. EncodeEnd bytes settings.limit (word_of request.now.null) settings.binary part result) }
+    ensures merge { (settings : Settings) (bytes : List ℕ) → request.now.command ≡ Run Merge settings → input.old.left ≡ Some bytes →
+        Writes output.old.written output.new.written (λ part. MergeEnd bytes settings.limit settings.binary part result) }
+    ensures flushed { ¬ (IsWriteEnd result) → output.new.pending ≡ [] }
+    ensures reads { ¬ (result ≡ Err RunError.WriteFailed) → input.new.failures ≡ input.old.failures + failed_reads result }
+    ensures writes { output.new.failures ≡ output.old.failures + failed_writes result }
+    ensures gone { ¬ (result ≡ Err RunError.WriteFailed) → output.new.gone ≡ output.old.gone + gone_readers result }
 {
     let null = request.null;
     match request.command {
@@ -70,9 +73,12 @@ pub fn run_request<H: AllocGlobal + Threads + Sync, R: Read + Drop, W: Write + D
 }
 
 // Writes the text, and flushes it.
-fn show<W: Write + Drop>(output: &mut BufWriter<W>, text: &str) -> Result<(), RunError>
-    ensures { ¬ (IsWriteEnd result) → writer_buffer output.new ≡ [] }
+fn show<W: Write + Drop>(output: &mut Output<W>, text: &str) -> Result<(), RunError>
+    ensures flushed { ¬ (IsWriteEnd result) → output.new.pending ≡ [] }
+    ensures errors { IfErr result IsWriteError }
+    ensures writes { output.new.failures ≡ output.old.failures + failed_writes result }
+    ensures gone { output.new.gone ≡ output.old.gone + gone_readers result }
 {
     write_bytes(output, text.as_bytes())?;
-    flush(output)
+    output.flush()
 }

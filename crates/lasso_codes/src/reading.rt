@@ -1,23 +1,24 @@
 //! Reads the header and the dictionary of a column.
-ghost use Rattle.std.specs.Prelude.{◌≡◌, ◌≤◌, ◌-◌, ◌++◌, ◌∷◌, [], ℕ, List, Some, Ok, IfOk, IfErr, IsTrue, IsUtf8, OnOk, MatchResult, drop, length};
-ghost use Rattle.std.specs.Io.Buffered.{reader_remaining};
+ghost use Rattle.std.specs.Prelude.{◌≡◌, ◌+◌, ◌≤◌, ◌-◌, ◌++◌, ◌∷◌, [], ℕ, List, Some, Ok, IfOk, IfErr, IsTrue, IsUtf8, OnOk, MatchResult, drop, length};
 ghost use Rattle.lasso_single.specs.Filling.{extend};
 ghost use Rattle.lasso_single.specs.Interner.{InternerView, made_with};
 ghost use Rattle.lasso_encode.specs.Encoding.{spur_at};
 ghost use Rattle.lasso_codes.specs.Arguments.{word_of};
 ghost use Rattle.lasso_codes.specs.Stages.{Reading};
 ghost use Rattle.lasso_codes.specs.Reading.{after_front, header_in, header_of, header_with, AddError, AddsText, HeaderError, TakesHeader, TakesTexts, TextsError};
+ghost use Rattle.lasso_codes.specs.Errors.{failed_reads, IsDataError, IsInputError};
 
 use crate::columns::{BINARY_HEADER, TEXT_HEADER};
 use crate::error::{ColumnError, RunError};
-use crate::input::{Cut, buffered, consume, next_whole_line};
+use crate::input::{Cut, next_whole_line};
 use crate::lines::{intern_line, untested_len};
 use crate::numbers::parse_digits;
+use crate::streams::Input;
 use lasso::SpurRodeo;
 use lasso_columns::LineError;
 use lasso_cut::find_newline;
 use memchr::memchr;
-use std::io::{BufReader, Read};
+use std::io::Read;
 
 /// The header line of a column.
 #[derive(Clone, Copy, Debug, PartialEq, Eq)]
@@ -36,12 +37,13 @@ pub struct Header {
 /// # Errors
 /// The reader failed, out of memory, or the input does not go on with a header.
 pub fn next_header<R: Read + Drop>(
-    input: &mut BufReader<R>,
+    input: &mut Input<R>,
     line: &mut Vec<u8>,
     column: usize,
 ) -> Result<Option<Header>, RunError>
-    ensures taken { IfOk result (TakesHeader (reader_remaining R.remaining input.old) (reader_remaining R.remaining input.new)) }
-    ensures error { IfErr result (HeaderError (reader_remaining R.remaining input.old) column) }
+    ensures taken { IfOk result (TakesHeader input.old.left input.new.left) }
+    ensures error { IfErr result (HeaderError input.old.left column) }
+    ensures reads { input.new.failures ≡ input.old.failures + failed_reads result }
 {
     match next_whole_line(input, line)? {
         Cut::Whole => match header_of(line) {
@@ -59,21 +61,23 @@ pub fn next_header<R: Read + Drop>(
 /// # Errors
 /// The reader failed, out of memory, or a text is missing, comes twice, is not UTF-8 or is refused.
 pub fn read_texts<R: Read + Drop>(
-    input: &mut BufReader<R>,
+    input: &mut Input<R>,
     line: &mut Vec<u8>,
     rodeo: &mut SpurRodeo,
     distinct: usize,
     column: usize,
 ) -> Result<(), RunError>
     requires { rodeo.old.texts ≡ [] }
-    ensures taken { OnOk result (TakesTexts (reader_remaining R.remaining input.old) (reader_remaining R.remaining input.new) distinct rodeo.new.texts) }
-    ensures error { IfErr result (λ error. (bytes : List ℕ) → reader_remaining R.remaining input.old ≡ Some bytes →
+    ensures taken { OnOk result (TakesTexts input.old.left input.new.left distinct rodeo.new.texts) }
+    ensures error { IfErr result (λ error. (bytes : List ℕ) → input.old.left ≡ Some bytes →
         (limit : ℕ) → rodeo.old ≡ made_with 4096 limit → TextsError limit distinct column bytes error) }
+    ensures faults { IfErr result IsInputError }
+    ensures reads { input.new.failures ≡ input.old.failures + failed_reads result }
 {
     let mut count = 0;
     while count < distinct {
-        let (next, used) = add_texts(rodeo, buffered(input), distinct, count, column)?;
-        consume(input, used);
+        let (next, used) = add_texts(rodeo, input.buffered(), distinct, count, column)?;
+        input.consume(used);
         if next == distinct {
             return Ok(());
         }
@@ -109,6 +113,7 @@ fn add_texts(
     ensures within { IfOk result (λ at. at.1 ≤ length stretch.now) }
     ensures error { IfErr result (λ error. (bytes later : List ℕ) (limit : ℕ) → Reading bytes (stretch.now ++ later) count rodeo.old →
         extend spur_at (made_with 4096 limit) rodeo.old.texts (Ok tt) rodeo.old → TextsError limit distinct column bytes error) }
+    ensures faults { IfErr result IsDataError }
 {
     let untested = untested_len(stretch);
     let mut used = 0;

@@ -10,6 +10,7 @@ mod words;
 
 use crate::arguments::{Command, Request, Settings, Verb};
 use crate::error::RunError;
+use crate::streams::{Input, Output};
 use std::alloc::Global;
 use std::io::{BufReader, BufWriter};
 use std::process::Abort;
@@ -59,13 +60,13 @@ fn by_workers(request: Request<'_>) -> [Request<'_>; 4] {
 }
 
 // A reader of these bytes. Its buffer is shorter than most lines.
-fn reader_of(alloc: Global, bytes: &[u8]) -> Result<BufReader<&[u8]>, Fail> {
-    Ok(BufReader::with_capacity(alloc, 4, bytes)?)
+fn reader_of(alloc: Global, bytes: &[u8]) -> Result<Input<&[u8]>, Fail> {
+    Ok(Input::new(BufReader::with_capacity(alloc, 4, bytes)?))
 }
 
 // A writer into memory.
-fn writer_of(alloc: Global) -> Result<BufWriter<Vec<u8>>, Fail> {
-    Ok(BufWriter::with_capacity(alloc, 16, Vec::new(alloc))?)
+fn writer_of(alloc: Global) -> Result<Output<Vec<u8>>, Fail> {
+    Ok(Output::new(BufWriter::with_capacity(alloc, 16, Vec::new(alloc))?))
 }
 
 // Checks the message and the status of the error.

@@ -1,34 +1,31 @@
 //! Reads a whole input, and cuts it into lines of text.
-ghost use Rattle.std.specs.Prelude.{◌≡◌, ℕ, List, Some, IfOk, IfErr, map};
-ghost use Rattle.std.specs.Io.Buffered.{reader_remaining};
+ghost use Rattle.std.specs.Prelude.{◌≡◌, ◌+◌, ℕ, List, Some, IfOk, IfErr, map};
 ghost use Rattle.lasso_cut.specs.Lines.{lines_of};
 ghost use Rattle.lasso_columns.specs.declared.faults.LineError.TheVariants.{Refused};
 ghost use Rattle.lasso_parts.specs.declared.util.LassoErrorKind.TheVariants.{FailedAllocation};
-ghost use Rattle.lasso_codes.specs.Errors.{IsReadError};
+ghost use Rattle.lasso_codes.specs.Errors.{failed_reads, IsReadError};
 ghost use Rattle.lasso_codes.specs.Whole.{AreTextLines};
 
 use crate::error::RunError;
+use crate::streams::Input;
 use lasso_cut::first_line;
 use std::alloc::Global;
-use std::io::{BufReader, ErrorKind, Read};
+use std::io::Read;
 use std::str::from_utf8;
 
 /// Reads all bytes that are left.
 ///
 /// # Errors
 /// The reader failed, or out of memory, with the line number 0.
-pub fn read_whole<R: Read + Drop>(
-    alloc: Global,
-    input: &mut BufReader<R>,
-) -> Result<Vec<u8>, RunError>
-    ensures bytes { IfOk result (λ whole. (bytes : List ℕ) → reader_remaining R.remaining input.old ≡ Some bytes → whole.items ≡ bytes) }
+pub fn read_whole<R: Read + Drop>(alloc: Global, input: &mut Input<R>) -> Result<Vec<u8>, RunError>
+    ensures bytes { IfOk result (λ whole. (bytes : List ℕ) → input.old.left ≡ Some bytes → whole.items ≡ bytes) }
     ensures errors { IfErr result (IsReadError 0) }
+    ensures reads { input.new.failures ≡ input.old.failures + failed_reads result }
 {
     let mut whole = Vec::new(alloc);
     match input.read_to_end(&mut whole) {
-        Ok(_) => Ok(whole),
-        Err(error) if error.kind() == ErrorKind::OutOfMemory => Err(RunError::no_memory(0)),
-        Err(_) => Err(RunError::ReadFailed),
+        Ok(()) => Ok(whole),
+        Err(error) => Err(error),
     }
 }
 

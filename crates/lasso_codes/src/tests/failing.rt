@@ -2,6 +2,7 @@
 use super::{PLAIN, assert_error, runs};
 use crate::arguments::Verb;
 use crate::program::run_request;
+use crate::streams::{Input, Output};
 use std::alloc::Global;
 use std::io;
 use std::io::{BufReader, BufWriter, Error, ErrorKind, Read, Write};
@@ -109,9 +110,9 @@ fn each_read_fails_in_turn(rt: HostRuntime) -> Result<(), Fail> {
         let mut whole = false;
         for calls in 0..100 {
             let source = ShortRead { left: input, calls };
-            let mut reader = BufReader::with_capacity(rt.alloc(), 8, source)?;
+            let mut reader = Input::new(BufReader::with_capacity(rt.alloc(), 8, source)?);
             let target = ShortWrite::new(rt.alloc(), 100, Failure::IsFull);
-            let mut writer = BufWriter::with_capacity(rt.alloc(), 8, target)?;
+            let mut writer = Output::new(BufWriter::with_capacity(rt.alloc(), 8, target)?);
             let request = runs(verb, PLAIN);
             let ended = run_request(&rt, &request, &mut reader, &mut writer);
             let (target, pending) = writer.into_parts();
@@ -137,12 +138,13 @@ fn lines_are_written_before_the_next_read(rt: HostRuntime) -> Result<(), Fail> {
     let rows: [(u64, &[u8]); 4] = [(0, b""), (1, b"b\n"), (2, b"b\na\n"), (3, b"b\na\n")];
     for (calls, written) in rows {
         let source = ShortRead { left: INPUT, calls };
-        let mut input = BufReader::new(rt.alloc(), source)?;
-        let mut writer = BufWriter::new(rt.alloc(), Vec::new(rt.alloc()))?;
+        let mut input = Input::new(BufReader::new(rt.alloc(), source)?);
+        let mut writer = Output::new(BufWriter::new(rt.alloc(), Vec::new(rt.alloc()))?);
         let request = runs(Verb::Distinct, PLAIN);
         let ended = run_request(&rt, &request, &mut input, &mut writer);
         assert_error(&rt, ended, "read failed", 4)?;
-        assert!(rt; writer.get_ref().as_slice() == written);
+        let (target, _) = writer.into_parts();
+        assert!(rt; target.as_slice() == written);
     }
     Ok(())
 }
@@ -158,9 +160,9 @@ fn each_write_fails_in_turn(rt: HostRuntime) -> Result<(), Fail> {
         for (failure, words, status) in failures {
             let mut whole = false;
             for calls in 0..100 {
-                let mut reader = BufReader::new(rt.alloc(), input)?;
+                let mut reader = Input::new(BufReader::new(rt.alloc(), input)?);
                 let target = ShortWrite::new(rt.alloc(), calls, failure);
-                let mut writer = BufWriter::with_capacity(rt.alloc(), 4, target)?;
+                let mut writer = Output::new(BufWriter::with_capacity(rt.alloc(), 4, target)?);
                 let request = runs(verb, PLAIN);
                 let ended = run_request(&rt, &request, &mut reader, &mut writer);
                 let (target, _) = writer.into_parts();
@@ -186,9 +188,9 @@ fn an_error_stays_one_where_the_reader_is_gone(rt: HostRuntime) -> Result<(), Fa
         (b"b\n\xff\n", "write failed", 4),
     ];
     for (bytes, words, status) in rows {
-        let mut input = BufReader::new(rt.alloc(), bytes)?;
+        let mut input = Input::new(BufReader::new(rt.alloc(), bytes)?);
         let target = ShortWrite::new(rt.alloc(), 0, Failure::IsGone);
-        let mut writer = BufWriter::new(rt.alloc(), target)?;
+        let mut writer = Output::new(BufWriter::new(rt.alloc(), target)?);
         let request = runs(Verb::Distinct, PLAIN);
         let ended = run_request(&rt, &request, &mut input, &mut writer);
         let (target, _) = writer.into_parts();

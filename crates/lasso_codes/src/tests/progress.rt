@@ -3,6 +3,7 @@ use super::{PLAIN, runs, writer_of};
 use crate::arguments::{Command, Settings, Verb};
 use crate::program::run_request;
 use crate::progress::{Tally, Terminals, Watched, shows_progress};
+use crate::streams::Input;
 use std::alloc::Global;
 use std::cell::{Cell, RefCell};
 use std::fmt::Display;
@@ -243,10 +244,11 @@ fn verbs_read_as_ever(rt: HostRuntime) -> Result<(), Fail> {
     let terminal = FakeTerminal::new(rt.alloc(), 1000);
     let input: &[u8] = b"b\na\nb\n";
     let watched = Watched::new(input, &terminal, true);
-    let mut reader = BufReader::with_capacity(rt.alloc(), 4, watched)?;
+    let mut reader = Input::new(BufReader::with_capacity(rt.alloc(), 4, watched)?);
     let mut writer = writer_of(rt.alloc())?;
     let request = runs(Verb::Counts, PLAIN);
     assert!(rt; run_request(&rt, &request, &mut reader, &mut writer) == Ok(()));
-    assert!(rt; writer.get_ref().as_slice() == b"2 b\n1 a\n".as_slice());
+    let (target, _) = writer.into_parts();
+    assert!(rt; target.as_slice() == b"2 b\n1 a\n".as_slice());
     Ok(())
 }

@@ -8,8 +8,8 @@ use Rattle.lasso_codes.proofs.Blocks.{block_then, block_fails, block_ends}
 use Rattle.lasso_codes.proofs.Written.{writes_then}
 use Rattle.lasso_codes.proofs.columns.write_entries.Goals as goal
 
-pub returns-in_err-filled : goal.returns-in_err-filled
-returns-in_err-filled g c =
+pub returns-in_err-filled-clause-written : goal.returns-in_err-filled-clause-written
+returns-in_err-filled-clause-written g c =
     let p = err_from_is_err_and c.from_residual.result c.from_residual.ensures.1 in
     let at = c.loop-number in
     let numbers = c.args.numbers.now in
@@ -33,14 +33,16 @@ loop-number-preserved g c =
       long = put.ensures.len ∙ at.invariant.long;
       written = writes_then _ _ _ (λ part. part ++ held ≡ flat_map bytes (take i numbers)) (λ part. part ++ kept ≡ held) _ at.invariant.written c.in_ok-filled.ensures.written (λ part more so_far moved.
           block_then bytes numbers i part held so_far (get_or numbers i 0) (take_more numbers i 0 c.loop-number-test.true) more kept (take put.result put.new.block) moved put.ensures.put);
+      writes = omega (arith, c.in_ok-filled.ensures.writes, at.invariant.writes);
+      gone = omega (arith, c.in_ok-filled.ensures.gone, at.invariant.gone);
     }
 
-pub returns : goal.returns
-returns g c =
+pub returns-clause-written : goal.returns-clause-written
+returns-clause-written g c =
     let at = c.loop-number in
     let numbers = c.args.numbers.now in
     let held = take at.filled at.block in
     let result = c.write_bytes.result in
     let bytes : ℕ → List ℕ = λ n. entry_bytes c.args.binary (entry_at n) in
-    writes_then _ _ _ (λ part. part ++ held ≡ flat_map bytes (take at.number-index numbers)) (WritesAll held result) (WritesAll (flat_map bytes numbers) result) at.invariant.written c.write_bytes.ensures (λ part more so_far written.
+    writes_then _ _ _ (λ part. part ++ held ≡ flat_map bytes (take at.number-index numbers)) (WritesAll held result) (WritesAll (flat_map bytes numbers) result) at.invariant.written c.write_bytes.ensures.written (λ part more so_far written.
     block_ends part held (flat_map bytes numbers) more result (so_far ∙ ap (λ ns. flat_map bytes ns) (take_all at.number-index numbers c.loop-number-test.false)) written)

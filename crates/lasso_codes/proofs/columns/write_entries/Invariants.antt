@@ -9,5 +9,7 @@ abbrev pub invariant-loop-number : goal.invariant-loop-number
 invariant-loop-number g l = record {
   fits : l.filled ≤ 4096;
   long : length l.block ≡ 4096;
-  written : Writes (g.W.Write.contents l.fn.output) (g.W.Write.contents l.output) (λ part. part ++ take l.filled l.block ≡ flat_map (λ n. entry_bytes l.binary (entry_at n)) (take l.number-index l.numbers));
+  written : Writes l.fn.output.written l.output.written (λ part. part ++ take l.filled l.block ≡ flat_map (λ n. entry_bytes l.binary (entry_at n)) (take l.number-index l.numbers));
+  writes : l.output.failures ≡ l.fn.output.failures;
+  gone : l.output.gone ≡ l.fn.output.gone;
 }

@@ -6,4 +6,8 @@ use Rattle.lasso_codes.proofs.columns.write_texts.Given as goal
 
 -- the texts before the position are written
 abbrev pub invariant-loop-position : goal.invariant-loop-position
-invariant-loop-position g l = Writes (g.W.Write.contents l.fn.output) (g.W.Write.contents l.output) (λ part. part ≡ flat_map with_feed (take l.position l.rodeo.texts))
+invariant-loop-position g l = record {
+  written : Writes l.fn.output.written l.output.written (λ part. part ≡ flat_map with_feed (take l.position l.rodeo.texts));
+  writes : l.output.failures ≡ l.fn.output.failures;
+  gone : l.output.gone ≡ l.fn.output.gone;
+}

@@ -5,7 +5,7 @@ use Rattle.lasso_columns.specs.Faults.{IsFaultOf}
 use Rattle.lasso_cut.specs.Lines.{lines_of}
 use Rattle.lasso_codes.specs.Stages.{Counting}
 use Rattle.lasso_codes.proofs.Feeds.{no_line, one_line}
-use Rattle.lasso_codes.proofs.CountedLines.{counting_push, counting_ends, counting_read_fails, counting_line_fails}
+use Rattle.lasso_codes.proofs.CountedLines.{counting_push, counting_ends, counting_many, counting_read_fails, counting_line_fails}
 use Rattle.lasso_codes.proofs.Stretches.{left_after}
 use Rattle.lasso_codes.proofs.counts.count_lines.Goals as goal
 
@@ -13,7 +13,7 @@ use Rattle.lasso_codes.proofs.counts.count_lines.Goals as goal
 pub returns-in_err-next-clause-error : goal.returns-in_err-next-clause-error
 returns-in_err-next-clause-error g c =
     let p = err_from_is_err_and c.from_residual.result c.from_residual.ensures.1 in
-    let at = c.loop in
+    let at = c.loop-number in
     rw (p.1, p.2) (λ bytes e limit made.
     let ahead = at.invariant.ahead bytes e in
     let hand = c.buffered.ensures.first ahead.0 ahead.1 in
@@ -23,7 +23,7 @@ returns-in_err-next-clause-error g c =
 pub returns-in_err-next_line-clause-error : goal.returns-in_err-next_line-clause-error
 returns-in_err-next_line-clause-error g c =
     let p = err_from_is_err_and c.from_residual-in_err-next_line.result c.from_residual-in_err-next_line.ensures.1 in
-    let at = c.loop in
+    let at = c.loop-number in
     rw (p.1, p.2) (λ bytes e limit made.
     let ahead = at.invariant.ahead bytes e in
     let hand = c.buffered.ensures.first ahead.0 ahead.1 in
@@ -34,36 +34,37 @@ returns-in_err-next_line-clause-error g c =
 
 pub returns-then-not-branch-clause-counted : goal.returns-then-not-branch-clause-counted
 returns-then-not-branch-clause-counted g c = λ bytes e.
-    let at = c.loop in
+    let at = c.loop-number in
     let ahead = at.invariant.ahead bytes e in
     let hand = c.buffered.ensures.first ahead.0 ahead.1 in
     let shown = c.buffered.result.now in
     let left = drop c.in_ok-next.used shown ++ hand.0 in
     let so_far = subst (λ bs. Counting bytes bs at.number c.args.rodeo.now at.rodeo at.counts.items) hand.1 ahead.2 in
     let then = c.in_ok-next.ensures.counted bytes hand.0 c.args.rodeo.now so_far in
-    let known = left_after _ _ _ shown hand.0 ahead.0 c.in_ok-next.used c.buffered.ensures.value c.consume.ensures ahead.1 hand.1 in
+    let known = left_after _ _ _ shown hand.0 ahead.0 c.in_ok-next.used c.buffered.ensures.value c.consume.ensures.left ahead.1 hand.1 in
     counting_ends bytes left c.in_ok-next.next c.args.rodeo.now c.count_stretch.new.rodeo c.count_stretch.new.counts.items then (no_line _ _ c.in_ok-next_line.field-0 _ c.in_ok-next_line.ensures.taken c.if-not-branch.true left known)
 
 pub returns-in-Err-clause-error : goal.returns-in-Err-clause-error
 returns-in-Err-clause-error g c = λ bytes e limit made.
-    let at = c.loop in
+    let at = c.loop-number in
     let ahead = at.invariant.ahead bytes e in
     let hand = c.buffered.ensures.first ahead.0 ahead.1 in
     let shown = c.buffered.result.now in
     let left = drop c.in_ok-next.used shown ++ hand.0 in
     let so_far = subst (λ bs. Counting bytes bs at.number c.args.rodeo.now at.rodeo at.counts.items) hand.1 ahead.2 in
     let then = c.in_ok-next.ensures.counted bytes hand.0 c.args.rodeo.now so_far in
-    let known = left_after _ _ _ shown hand.0 ahead.0 c.in_ok-next.used c.buffered.ensures.value c.consume.ensures ahead.1 hand.1 in
+    let known = left_after _ _ _ shown hand.0 ahead.0 c.in_ok-next.used c.buffered.ensures.value c.consume.ensures.left ahead.1 hand.1 in
     let cut = one_line _ _ c.in_ok-next_line.field-0 _ c.in_ok-next_line.ensures.taken c.if-not-branch.false left known in
     let is = subst (λ l. IsFaultOf c.count_stretch.new.rodeo l c.in_ok-next.next c.in-Err.error) c.deref.ensures.value c.in-Err.ensures.error in
     counting_line_fails bytes left c.in_ok-next.next c.args.rodeo.now c.count_stretch.new.rodeo c.count_stretch.new.counts.items then limit c.next_line.new.line.items cut.0 c.in-Err.error made cut.2 is
 
-pub loop-preserved : goal.loop-preserved
-loop-preserved g c =
-    let at = c.loop in
+pub loop-number-preserved : goal.loop-number-preserved
+loop-number-preserved g c =
+    let at = c.loop-number in
     record {
       lengths = c.in_default.ensures.lengths;
       total = omega (arith, c.in_default.ensures.total, c.in_ok-next.ensures.total);
+      reads = omega (arith, c.in_ok-next_line.ensures.reads, c.consume.ensures.reads, at.invariant.reads);
       ahead = λ bytes e.
           let ahead = at.invariant.ahead bytes e in
           let hand = c.buffered.ensures.first ahead.0 ahead.1 in
@@ -71,9 +72,15 @@ loop-preserved g c =
           let left = drop c.in_ok-next.used shown ++ hand.0 in
           let so_far = subst (λ bs. Counting bytes bs at.number c.args.rodeo.now at.rodeo at.counts.items) hand.1 ahead.2 in
           let then = c.in_ok-next.ensures.counted bytes hand.0 c.args.rodeo.now so_far in
-          let known = left_after _ _ _ shown hand.0 ahead.0 c.in_ok-next.used c.buffered.ensures.value c.consume.ensures ahead.1 hand.1 in
+          let known = left_after _ _ _ shown hand.0 ahead.0 c.in_ok-next.used c.buffered.ensures.value c.consume.ensures.left ahead.1 hand.1 in
           let cut = one_line _ _ c.in_ok-next_line.field-0 _ c.in_ok-next_line.ensures.taken c.if-not-branch.false left known in
           let line_is = subst (λ l. lines_of left ≡ l ∷ lines_of cut.0) (sym c.deref.ensures.value) cut.2 in
           let told = c.in_default.ensures in
           (cut.0, cut.1, counting_push bytes left c.in_ok-next.next c.args.rodeo.now c.count_stretch.new.rodeo c.count_line.new.rodeo c.count_stretch.new.counts.items c.deref.result.now cut.0 c.count_line.new.counts.items told.interned.1.0 then line_is told.interned.0 told.interned.1.1 told.counted);
     }
+
+pub returns-clause-error : goal.returns-clause-error
+returns-clause-error g c = λ bytes e limit made.
+    let at = c.loop-number in
+    let ahead = at.invariant.ahead bytes e in
+    counting_many bytes ahead.0 at.number c.args.rodeo.now at.rodeo at.counts.items ahead.2 limit (omega (arith, c.loop-number-test.false))

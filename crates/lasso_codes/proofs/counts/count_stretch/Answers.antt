@@ -3,7 +3,7 @@ use Rattle.std.proofs.lemmas.Grind.{common_steps}
 use Rattle.std.proofs.lemmas.Bool.Decides.{nat_tests}
 use Rattle.lasso_single.specs.Interner.{made_with}
 use Rattle.lasso_cut.proofs.FirstLines.{rest_behind}
-use Rattle.lasso_codes.proofs.CountedLines.{counting_push, counting_line_fails}
+use Rattle.lasso_codes.proofs.CountedLines.{counting_push, counting_many, counting_line_fails}
 use Rattle.lasso_codes.proofs.Stretches.{next_cut, next_inside, next_tested, others_tested}
 use Rattle.lasso_codes.proofs.counts.count_stretch.Goals as goal
 
@@ -44,3 +44,9 @@ loop-number-preserved c =
           counting_push input (drop at.used stretch ++ later) at.number start at.rodeo c.count_line.new.rodeo at.counts.items (take len rest) (drop (at.used + (len + 1)) stretch ++ later) c.count_line.new.counts.items told.interned.1.0
           (at.invariant.counted input later start so_far) (next_cut stretch rest at.used len same found later) told.interned.0 told.interned.1.1 told.counted;
     }
+
+pub returns-clause-error : goal.returns-clause-error
+returns-clause-error c = λ input later limit so_far.
+    let at = c.loop-number in
+    let start = made_with 4096 limit in
+    counting_many input (drop at.used c.args.stretch.now ++ later) at.number start at.rodeo at.counts.items (at.invariant.counted input later start so_far) limit (omega (arith, c.loop-number-test.false))

@@ -4,22 +4,21 @@ use Rattle.lasso_codes.specs.Streams.{Writes, WritesAll}
 use Rattle.lasso_codes.proofs.Written.{writes_then, front_then, front_fails}
 use Rattle.lasso_codes.proofs.counts.write_count.Goals as goal
 
-pub returns-in_err-write_bytes : goal.returns-in_err-write_bytes
-returns-in_err-write_bytes g c =
+pub returns-in_err-write_bytes-clause-written : goal.returns-in_err-write_bytes-clause-written
+returns-in_err-write_bytes-clause-written g c =
     let p = err_from_is_err_and c.from_residual-in_err-write_bytes.result c.from_residual-in_err-write_bytes.ensures.1 in
     let digits = decimal c.args.ranked.now.0.0 in
     let back = c.args.ranked.now.1.now ++ 10 ∷ [] in
     let error = c.in_err-write_bytes.field-0.0 in
-    rw (p.1, p.2) (writes_then _ _ _ (λ part. part ≡ digits) (WritesAll (32 ∷ []) (Err error)) (WritesAll (digits ++ (32 ∷ back)) (Err error)) c.in_ok-write_number.ensures c.in_err-write_bytes.ensures (λ part more is w.
+    rw (p.1, p.2) (writes_then _ _ _ (λ part. part ≡ digits) (WritesAll (32 ∷ []) (Err error)) (WritesAll (digits ++ (32 ∷ back)) (Err error)) c.in_ok-write_number.ensures.written c.in_err-write_bytes.ensures.written (λ part more is w.
     front_then part more digits (32 ∷ back) (Err error) is (front_fails more (32 ∷ []) back error w)))
 
-pub returns : goal.returns
-returns g c =
+pub returns-clause-written : goal.returns-clause-written
+returns-clause-written g c =
     let digits = decimal c.args.ranked.now.0.0 in
     let back = c.args.ranked.now.1.now ++ 10 ∷ [] in
     let result = c.write_line.result in
-    let contents = g.W.Write.contents in
-    let line = subst (λ t. Writes (contents c.write_bytes.new.output) (contents c.write_line.new.output) (WritesAll (t ++ 10 ∷ []) result)) c.as_bytes.ensures.value c.write_line.ensures in
-    writes_then _ _ _ (λ part. part ≡ digits) (WritesAll (32 ∷ back) result) (WritesAll (digits ++ (32 ∷ back)) result) c.in_ok-write_number.ensures
-    (writes_then _ _ _ (λ part. part ≡ 32 ∷ []) (WritesAll back result) (WritesAll (32 ∷ back) result) c.in_ok-write_bytes.ensures line (λ part more is w. front_then part more (32 ∷ []) back result is w))
+    let line = subst (λ t. Writes c.write_bytes.new.output.written c.write_line.new.output.written (WritesAll (t ++ 10 ∷ []) result)) c.as_bytes.ensures.value c.write_line.ensures.written in
+    writes_then _ _ _ (λ part. part ≡ digits) (WritesAll (32 ∷ back) result) (WritesAll (digits ++ (32 ∷ back)) result) c.in_ok-write_number.ensures.written
+    (writes_then _ _ _ (λ part. part ≡ 32 ∷ []) (WritesAll back result) (WritesAll (32 ∷ back) result) c.in_ok-write_bytes.ensures.written line (λ part more is w. front_then part more (32 ∷ []) back result is w))
     (λ part more is w. front_then part more digits (32 ∷ back) result is w)

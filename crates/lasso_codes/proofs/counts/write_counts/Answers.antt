@@ -7,24 +7,25 @@ use Rattle.lasso_cut.specs.Lines.{lines_of}
 use Rattle.lasso_counts.specs.Counts.{AreCounts, pair_of}
 use Rattle.lasso_codes.specs.Counts.{CountsEnd, count_line}
 use Rattle.lasso_codes.specs.Streams.{WritesAll}
+use Rattle.lasso_codes.proofs.Failing.{written_no_read}
 use Rattle.lasso_codes.proofs.Written.{writes_none, writes_as}
 use Rattle.lasso_codes.proofs.CountedLines.{none_written, unmade, report_written, first_ranked}
 use Rattle.lasso_codes.proofs.counts.write_counts.Goals as goal
 
-pub returns-in_err-rodeo : goal.returns-in_err-rodeo
-returns-in_err-rodeo g c = λ bytes e.
+pub returns-in_err-rodeo-clause-report : goal.returns-in_err-rodeo-clause-report
+returns-in_err-rodeo-clause-report g c = λ bytes e.
     let p = err_from_is_err_and c.from_residual.result c.from_residual.ensures.1 in
     let error = c.in_err-rodeo.field-0.0 in
     rw (p.1, p.2) (writes_none _ _ (none_written bytes c.args.settings.limit c.args.settings.top error (unmade c.args.settings.limit (lines_of bytes) error c.in_err-rodeo.ensures.refused)))
 
-pub returns-in_err-count_all : goal.returns-in_err-count_all
-returns-in_err-count_all g c = λ bytes e.
+pub returns-in_err-count_all-clause-report : goal.returns-in_err-count_all-clause-report
+returns-in_err-count_all-clause-report g c = λ bytes e.
     let p = err_from_is_err_and c.from_residual-in_err-count_all.result c.from_residual-in_err-count_all.ensures.1 in
     let error = c.in_err-count_all.field-0.0 in
     rw (p.1, p.2) (writes_none _ _ (none_written bytes c.args.settings.limit c.args.settings.top error (c.in_err-count_all.ensures.error bytes e c.args.settings.limit (c.in_ok-rodeo.ensures.made ∙ ap (λ n. made_with 4096 n) c.new.ensures))))
 
-pub returns : goal.returns
-returns g c = λ bytes e.
+pub returns-clause-report : goal.returns-clause-report
+returns-clause-report g c = λ bytes e.
     let counted = c.in_ok-count_all.ensures.counted bytes e in
     let items = c.in-Ok.ranked.items in
     let counts_are = subst (λ cs. AreCounts (lines_of bytes) c.count_all.new.rodeo.texts cs) (sym c.deref.ensures.value) counted.1 in
@@ -32,5 +33,11 @@ returns g c = λ bytes e.
     let most_is : c.min-most.result ≡ min (length items) c.args.settings.top = grind (arith, common_steps, c.min-most.ensures, c.len.ensures, c.in-Ok.ranked.ok.0) in
     let slice_is = first_ranked pair_of items c.deref-2.result.now c.args.settings.top c.min-most.result most_is c.deref-2.ensures.value in
     let result = c.write_ranked.result in
-    writes_as _ _ (WritesAll (flat_map count_line (map pair_of (take c.min-most.result c.deref-2.result.now))) result) (λ part. CountsEnd bytes c.args.settings.limit c.args.settings.top part result) c.write_ranked.ensures (λ part w.
+    writes_as _ _ (WritesAll (flat_map count_line (map pair_of (take c.min-most.result c.deref-2.result.now))) result) (λ part. CountsEnd bytes c.args.settings.limit c.args.settings.top part result) c.write_ranked.ensures.written (λ part w.
     report_written bytes c.args.settings.limit c.args.settings.top (map pair_of items) part result counted.0 (c.in-Ok.ensures.counted (lines_of bytes) counts_are) c.in-Ok.ensures.order total (subst (λ ps. WritesAll (flat_map count_line ps) result part) slice_is w))
+
+pub returns-clause-reads : goal.returns-clause-reads
+returns-clause-reads g c =
+    let wrote = c.write_ranked.ensures.written in
+    let nothing = written_no_read _ wrote.0 c.write_ranked.result wrote.2 in
+    omega (arith, c.in_ok-count_all.ensures.reads, nothing)

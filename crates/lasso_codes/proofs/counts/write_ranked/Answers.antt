@@ -8,11 +8,11 @@ use Rattle.lasso_codes.proofs.Written.{writes_then}
 use Rattle.lasso_codes.proofs.CountedLines.{lines_fail}
 use Rattle.lasso_codes.proofs.counts.write_ranked.Goals as goal
 
-pub returns-in_err-write_count : goal.returns-in_err-write_count
-returns-in_err-write_count g c =
+pub returns-in_err-write_count-clause-written : goal.returns-in_err-write_count-clause-written
+returns-in_err-write_count-clause-written g c =
     let p = err_from_is_err_and c.from_residual.result c.from_residual.ensures.1 in
     let ranked = c.args.ranked.now in
     let i = c.loop-one.one-index in
     let error = c.in_err-write_count.field-0.0 in
-    rw (p.1, p.2) (writes_then _ _ _ (λ part. part ≡ flat_map count_line (map pair_of (take i ranked))) _ (WritesAll (flat_map count_line (map pair_of ranked)) (Err error)) c.loop-one.invariant c.in_err-write_count.ensures (λ part more is w.
+    rw (p.1, p.2) (writes_then _ _ _ (λ part. part ≡ flat_map count_line (map pair_of (take i ranked))) _ (WritesAll (flat_map count_line (map pair_of ranked)) (Err error)) c.loop-one.invariant.written c.in_err-write_count.ensures.written (λ part more is w.
     lines_fail pair_of ranked i _ part more error c.loop-one-test.true is w))

@@ -7,4 +7,8 @@ use Rattle.lasso_codes.proofs.counts.write_ranked.Given as goal
 
 -- the ranked lines before the index are written
 abbrev pub invariant-loop-one : goal.invariant-loop-one
-invariant-loop-one g l = Writes (g.W.Write.contents l.fn.output) (g.W.Write.contents l.output) (λ part. part ≡ flat_map count_line (map pair_of (take l.one-index l.ranked)))
+invariant-loop-one g l = record {
+  written : Writes l.fn.output.written l.output.written (λ part. part ≡ flat_map count_line (map pair_of (take l.one-index l.ranked)));
+  writes : l.output.failures ≡ l.fn.output.failures;
+  gone : l.output.gone ≡ l.fn.output.gone;
+}

@@ -1,5 +1,4 @@
 use Rattle.std.proofs.Common.{◌≡◌, ◌+◌, ◌-◌, ◌<◌, ◌++◌, Ok, Err, drop, refl, subst, arith}
-use Rattle.std.specs.Io.Buffered.{reader_remaining}
 use Rattle.std.proofs.lemmas.Result.{err_from_is_err_and}
 use Rattle.lasso_codes.specs.Arguments.{word_of}
 use Rattle.lasso_codes.specs.Decode.{line_at, WritesEntry, WritesLines, DecodingError}
@@ -12,51 +11,51 @@ use Rattle.lasso_codes.proofs.Stretches.{left_after}
 use Rattle.lasso_codes.proofs.Written.{writes_as, writes_then}
 use Rattle.lasso_codes.proofs.decode.write_lines.Goals as goal
 
-pub returns-in_err-next : goal.returns-in_err-next
-returns-in_err-next g c = λ bytes e.
+pub returns-in_err-next-clause-written : goal.returns-in_err-next-clause-written
+returns-in_err-next-clause-written g c = λ bytes e.
     let p = err_from_is_err_and c.from_residual.result c.from_residual.ensures.1 in
     let at = c.loop-count in
     let header = c.args.header in
     let make = line_at (word_of c.args.null) c.args.rodeo.now.texts in
     let read = items_from make header.lines header.binary 1 bytes in
-    let before = g.W.Write.contents c.args.output.now in
+    let before = c.args.output.now.written in
     let ahead = at.invariant.ahead bytes e in
     let hand = c.buffered-shown.ensures.first ahead.0 ahead.1 in
-    let so_far = subst (λ bs. Writes before (g.W.Write.contents at.output) (LinesAhead (items_from make (header.lines - at.count) header.binary (at.count + 1) bs) read)) hand.1 ahead.2 in
+    let so_far = subst (λ bs. Writes before at.output.written (LinesAhead (items_from make (header.lines - at.count) header.binary (at.count + 1) bs) read)) hand.1 ahead.2 in
     rw (p.1, p.2) (c.in_err-next.ensures.error read hand.0 before so_far)
 
 -- the last entry is in the buffer
-pub returns-then-next-header : goal.returns-then-next-header
-returns-then-next-header g c = λ bytes e.
+pub returns-then-next-header-clause-written : goal.returns-then-next-header-clause-written
+returns-then-next-header-clause-written g c = λ bytes e.
     let at = c.loop-count in
     let header = c.args.header in
     let make = line_at (word_of c.args.null) c.args.rodeo.now.texts in
     let read = items_from make header.lines header.binary 1 bytes in
-    let before = g.W.Write.contents c.args.output.now in
+    let before = c.args.output.now.written in
     let ahead = at.invariant.ahead bytes e in
     let shown = c.buffered-shown.result.now in
     let hand = c.buffered-shown.ensures.first ahead.0 ahead.1 in
-    let so_far = subst (λ bs. Writes before (g.W.Write.contents at.output) (LinesAhead (items_from make (header.lines - at.count) header.binary (at.count + 1) bs) read)) hand.1 ahead.2 in
+    let so_far = subst (λ bs. Writes before at.output.written (LinesAhead (items_from make (header.lines - at.count) header.binary (at.count + 1) bs) read)) hand.1 ahead.2 in
     let then = c.in_ok-next.ensures.written read hand.0 before so_far in
     let next = c.in_ok-next.next in
     let left = drop c.in_ok-next.used shown ++ hand.0 in
-    let known = left_after _ _ _ shown hand.0 ahead.0 c.in_ok-next.used c.buffered-shown.ensures.value c.consume.ensures ahead.1 hand.1 in
+    let known = left_after _ _ _ shown hand.0 ahead.0 c.in_ok-next.used c.buffered-shown.ensures.value c.consume.ensures.left ahead.1 hand.1 in
     let others = items_from make (header.lines - next) header.binary (next + 1) left in
     let none : header.lines - next ≡ 0 = omega (arith, c.if-next-header.true) in
-    writes_as _ _ (LinesAhead others read) (λ part. WritesLines read c.args.column (reader_remaining g.R.Read.remaining c.consume.new.input) part (Ok tt)) then (λ part on.
-    lines_end others read part on c.args.column (reader_remaining g.R.Read.remaining c.consume.new.input) left known (ahead_all make (header.lines - next) header.binary (next + 1) left read on.done none on.ahead))
+    writes_as _ _ (LinesAhead others read) (λ part. WritesLines read c.args.column c.consume.new.self.left part (Ok tt)) then (λ part on.
+    lines_end others read part on c.args.column c.consume.new.self.left left known (ahead_all make (header.lines - next) header.binary (next + 1) left read on.done none on.ahead))
 
-pub returns-in_err-entry : goal.returns-in_err-entry
-returns-in_err-entry g c = λ bytes e.
+pub returns-in_err-entry-clause-written : goal.returns-in_err-entry-clause-written
+returns-in_err-entry-clause-written g c = λ bytes e.
     let p = err_from_is_err_and c.from_residual-in_err-entry.result c.from_residual-in_err-entry.ensures.1 in
     let at = c.loop-count in
     let header = c.args.header in
     let make = line_at (word_of c.args.null) c.args.rodeo.now.texts in
     let read = items_from make header.lines header.binary 1 bytes in
-    let before = g.W.Write.contents c.args.output.now in
+    let before = c.args.output.now.written in
     let ahead = at.invariant.ahead bytes e in
     let hand = c.buffered-shown.ensures.first ahead.0 ahead.1 in
-    let so_far = subst (λ bs. Writes before (g.W.Write.contents at.output) (LinesAhead (items_from make (header.lines - at.count) header.binary (at.count + 1) bs) read)) hand.1 ahead.2 in
+    let so_far = subst (λ bs. Writes before at.output.written (LinesAhead (items_from make (header.lines - at.count) header.binary (at.count + 1) bs) read)) hand.1 ahead.2 in
     let then = c.in_ok-next.ensures.written read hand.0 before so_far in
     let next = c.in_ok-next.next in
     let left = drop c.in_ok-next.used c.buffered-shown.result.now ++ hand.0 in
@@ -65,8 +64,8 @@ returns-in_err-entry g c = λ bytes e.
     rw (p.1, p.2) (writes_as _ _ (LinesAhead others read) (λ part. DecodingError read c.args.column part error) then (λ part on.
     lines_read_fails others read part on c.args.column error c.in_err-entry.ensures.errors))
 
-pub returns-in_err-write_entry_line : goal.returns-in_err-write_entry_line
-returns-in_err-write_entry_line g c = λ bytes e.
+pub returns-in_err-write_entry_line-clause-written : goal.returns-in_err-write_entry_line-clause-written
+returns-in_err-write_entry_line-clause-written g c = λ bytes e.
     let p = err_from_is_err_and c.from_residual-in_err-write_entry_line.result c.from_residual-in_err-write_entry_line.ensures.1 in
     let at = c.loop-count in
     let header = c.args.header in
@@ -74,22 +73,22 @@ returns-in_err-write_entry_line g c = λ bytes e.
     let texts = c.args.rodeo.now.texts in
     let make = line_at null texts in
     let read = items_from make header.lines header.binary 1 bytes in
-    let before = g.W.Write.contents c.args.output.now in
+    let before = c.args.output.now.written in
     let ahead = at.invariant.ahead bytes e in
     let shown = c.buffered-shown.result.now in
     let hand = c.buffered-shown.ensures.first ahead.0 ahead.1 in
-    let so_far = subst (λ bs. Writes before (g.W.Write.contents at.output) (LinesAhead (items_from make (header.lines - at.count) header.binary (at.count + 1) bs) read)) hand.1 ahead.2 in
+    let so_far = subst (λ bs. Writes before at.output.written (LinesAhead (items_from make (header.lines - at.count) header.binary (at.count + 1) bs) read)) hand.1 ahead.2 in
     let then = c.in_ok-next.ensures.written read hand.0 before so_far in
     let next = c.in_ok-next.next in
     let left = drop c.in_ok-next.used shown ++ hand.0 in
-    let known = left_after _ _ _ shown hand.0 ahead.0 c.in_ok-next.used c.buffered-shown.ensures.value c.consume.ensures ahead.1 hand.1 in
+    let known = left_after _ _ _ shown hand.0 ahead.0 c.in_ok-next.used c.buffered-shown.ensures.value c.consume.ensures.left ahead.1 hand.1 in
     let others = items_from make (header.lines - next) header.binary (next + 1) left in
     let cut = c.in_ok-entry.ensures.taken left known in
     let entry = c.in_ok-entry.entry in
     let made = make entry (next + 1) in
     let small : next < header.lines = omega (arith, c.in_ok-next.ensures.more, c.if-next-header.false) in
     let error = c.in_err-write_entry_line.field-0.0 in
-    rw (p.1, p.2) (writes_then _ _ _ (LinesAhead others read) (WritesEntry made c.args.column (Err error)) (λ part. DecodingError read c.args.column part error) then c.in_err-write_entry_line.ensures (λ part more on written.
+    rw (p.1, p.2) (writes_then _ _ _ (LinesAhead others read) (WritesEntry made c.args.column (Err error)) (λ part. DecodingError read c.args.column part error) then c.in_err-write_entry_line.ensures.written (λ part more on written.
     entry_fails null texts header.lines next header.binary left cut.0 entry read part small cut.2 on made c.args.column more error refl written))
 
 pub loop-count-preserved : goal.loop-count-preserved
@@ -103,16 +102,19 @@ loop-count-preserved g c =
     let small : next < header.lines = omega (arith, c.in_ok-next.ensures.more, c.if-next-header.false) in
     record {
       within = omega (arith, small);
+      reads = omega (arith, c.in_ok-entry.ensures.reads, c.consume.ensures.reads, at.invariant.reads);
+      writes = omega (arith, c.in_ok-write_entry_line.ensures.writes, c.in_ok-next.ensures.writes, at.invariant.writes);
+      gone = omega (arith, c.in_ok-write_entry_line.ensures.gone, c.in_ok-next.ensures.gone, at.invariant.gone);
       ahead = λ bytes e.
           let read = items_from make header.lines header.binary 1 bytes in
-          let before = g.W.Write.contents c.args.output.now in
+          let before = c.args.output.now.written in
           let ahead = at.invariant.ahead bytes e in
           let shown = c.buffered-shown.result.now in
           let hand = c.buffered-shown.ensures.first ahead.0 ahead.1 in
-          let so_far = subst (λ bs. Writes before (g.W.Write.contents at.output) (LinesAhead (items_from make (header.lines - at.count) header.binary (at.count + 1) bs) read)) hand.1 ahead.2 in
+          let so_far = subst (λ bs. Writes before at.output.written (LinesAhead (items_from make (header.lines - at.count) header.binary (at.count + 1) bs) read)) hand.1 ahead.2 in
           let then = c.in_ok-next.ensures.written read hand.0 before so_far in
           let left = drop c.in_ok-next.used shown ++ hand.0 in
-          let known = left_after _ _ _ shown hand.0 ahead.0 c.in_ok-next.used c.buffered-shown.ensures.value c.consume.ensures ahead.1 hand.1 in
+          let known = left_after _ _ _ shown hand.0 ahead.0 c.in_ok-next.used c.buffered-shown.ensures.value c.consume.ensures.left ahead.1 hand.1 in
           let others = items_from make (header.lines - next) header.binary (next + 1) left in
           let cut = c.in_ok-entry.ensures.taken left known in
           let entry = c.in_ok-entry.entry in
@@ -120,13 +122,13 @@ loop-count-preserved g c =
           let later = items_from make (header.lines - (next + 1)) header.binary (next + 1 + 1) cut.0 in (
             cut.0,
             cut.1,
-            writes_then _ _ _ (LinesAhead others read) (WritesEntry made c.args.column (Ok c.in_ok-write_entry_line.field-0)) (LinesAhead later read) then c.in_ok-write_entry_line.ensures (λ part more on written.
+            writes_then _ _ _ (LinesAhead others read) (WritesEntry made c.args.column (Ok c.in_ok-write_entry_line.field-0)) (LinesAhead later read) then c.in_ok-write_entry_line.ensures.written (λ part more on written.
                 entry_done null texts header.lines next header.binary left cut.0 entry read part small cut.2 on made c.args.column more refl written),
           );
     }
 
-pub returns : goal.returns
-returns g c = λ bytes e.
+pub returns-clause-written : goal.returns-clause-written
+returns-clause-written g c = λ bytes e.
     let at = c.loop-count in
     let header = c.args.header in
     let make = line_at (word_of c.args.null) c.args.rodeo.now.texts in
@@ -134,5 +136,5 @@ returns g c = λ bytes e.
     let ahead = at.invariant.ahead bytes e in
     let others = items_from make (header.lines - at.count) header.binary (at.count + 1) ahead.0 in
     let none : header.lines - at.count ≡ 0 = omega (arith, c.loop-count-test.false) in
-    writes_as _ _ (LinesAhead others read) (λ part. WritesLines read c.args.column (reader_remaining g.R.Read.remaining at.input) part (Ok tt)) ahead.2 (λ part on.
-    lines_end others read part on c.args.column (reader_remaining g.R.Read.remaining at.input) ahead.0 ahead.1 (ahead_all make (header.lines - at.count) header.binary (at.count + 1) ahead.0 read on.done none on.ahead))
+    writes_as _ _ (LinesAhead others read) (λ part. WritesLines read c.args.column at.input.left part (Ok tt)) ahead.2 (λ part on.
+    lines_end others read part on c.args.column at.input.left ahead.0 ahead.1 (ahead_all make (header.lines - at.count) header.binary (at.count + 1) ahead.0 read on.done none on.ahead))

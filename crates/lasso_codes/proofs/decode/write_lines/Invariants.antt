@@ -1,5 +1,4 @@
 use Rattle.std.proofs.Common.{ℕ, ◌≡◌, ◌+◌, ◌-◌, ◌≤◌, List, Some}
-use Rattle.std.specs.Io.Buffered.{reader_remaining}
 use Rattle.lasso_codes.specs.Arguments.{word_of}
 use Rattle.lasso_codes.specs.Decode.{line_at}
 use Rattle.lasso_codes.specs.Stages.{LinesAhead}
@@ -11,9 +10,12 @@ use Rattle.lasso_codes.proofs.decode.write_lines.Given as goal
 abbrev pub invariant-loop-count : goal.invariant-loop-count
 invariant-loop-count g l = record {
   within : l.count ≤ l.header.lines;
-  ahead : (bytes : List ℕ) → reader_remaining g.R.Read.remaining l.fn.input ≡ Some bytes → (rest : List ℕ) × (reader_remaining g.R.Read.remaining l.input ≡ Some rest)
-      × Writes (g.W.Write.contents l.fn.output) (g.W.Write.contents l.output)
+  ahead : (bytes : List ℕ) → l.fn.input.left ≡ Some bytes → (rest : List ℕ) × (l.input.left ≡ Some rest)
+      × Writes l.fn.output.written l.output.written
       (LinesAhead (items_from (line_at (word_of l.null) l.rodeo.texts) (l.header.lines - l.count) l.header.binary (l.count + 1) rest) (items_from (line_at (word_of l.null) l.rodeo.texts) l.header.lines l.header.binary 1 bytes));
+  reads : l.input.failures ≡ l.fn.input.failures;
+  writes : l.output.failures ≡ l.fn.output.failures;
+  gone : l.output.gone ≡ l.fn.output.gone;
 }
 
 abbrev pub decreases-loop-count : goal.decreases-loop-count

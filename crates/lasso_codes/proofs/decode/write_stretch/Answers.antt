@@ -30,7 +30,7 @@ returns-in_err-write_entry_line-clause-error g c =
     let following = drop (at.used + len) stretch ++ later in
     let cut = next_entry_cut stretch rest at.used len (rest_behind at.used stretch) header.binary entry c.in-Some.ensures.cut later in
     let others = items_from (line_at null texts) (header.lines - at.position) header.binary (at.position + 1) left in
-    writes_then _ _ _ (LinesAhead others read) (WritesEntry made column (Err error)) (λ part. DecodingError read column part error) (at.invariant.written read later before so_far) c.in_err-write_entry_line.ensures (λ part more on written.
+    writes_then _ _ _ (LinesAhead others read) (WritesEntry made column (Err error)) (λ part. DecodingError read column part error) (at.invariant.written read later before so_far) c.in_err-write_entry_line.ensures.written (λ part more on written.
     entry_fails null texts header.lines at.position header.binary left following entry read part c.loop-position-test.true cut on made column more error refl written))
 
 pub loop-position-preserved : goal.loop-position-preserved
@@ -49,13 +49,15 @@ loop-position-preserved g c =
     let made = line_at null texts entry (at.position + 1) in
     record {
       within = omega (arith, c.in-Some.ensures.within, at.invariant.within, long, length-drop at.used stretch);
+      writes = omega (arith, c.in_ok-write_entry_line.ensures.writes, at.invariant.writes);
+      gone = omega (arith, c.in_ok-write_entry_line.ensures.gone, at.invariant.gone);
       written = λ read later before so_far.
           let left = drop at.used stretch ++ later in
           let following = drop (at.used + len) stretch ++ later in
           let cut = next_entry_cut stretch rest at.used len same header.binary entry c.in-Some.ensures.cut later in
           let others = items_from (line_at null texts) (header.lines - at.position) header.binary (at.position + 1) left in
           let then = items_from (line_at null texts) (header.lines - (at.position + 1)) header.binary (at.position + 1 + 1) following in
-          writes_then _ _ _ (LinesAhead others read) (WritesEntry made column (Ok c.in_ok-write_entry_line.field-0)) (LinesAhead then read) (at.invariant.written read later before so_far) c.in_ok-write_entry_line.ensures (λ part more on written.
+          writes_then _ _ _ (LinesAhead others read) (WritesEntry made column (Ok c.in_ok-write_entry_line.field-0)) (LinesAhead then read) (at.invariant.written read later before so_far) c.in_ok-write_entry_line.ensures.written (λ part more on written.
           entry_done null texts header.lines at.position header.binary left following entry read part c.loop-position-test.true cut on made column more refl written);
     }
 
@@ -66,4 +68,4 @@ returns-clause-written g c = λ read later before so_far.
     let make = line_at (word_of c.args.null) c.args.rodeo.now.texts in
     let all : at.position ≡ header.lines = omega (arith, c.loop-position-test.false, at.auto.position-end, c.requires) in
     let left = drop at.used c.args.stretch.now ++ later in
-    subst (λ n. Writes before (g.W.Write.contents at.output) (LinesAhead (items_from make (header.lines - n) header.binary (n + 1) left) read)) all (at.invariant.written read later before so_far)
+    subst (λ n. Writes before at.output.written (LinesAhead (items_from make (header.lines - n) header.binary (n + 1) left) read)) all (at.invariant.written read later before so_far)

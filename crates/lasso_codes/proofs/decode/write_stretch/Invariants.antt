@@ -1,4 +1,4 @@
-use Rattle.std.proofs.Common.{ℕ, ◌+◌, ◌-◌, ◌≤◌, List, ◌++◌, Option, length, drop}
+use Rattle.std.proofs.Common.{ℕ, ◌+◌, ◌-◌, ◌≤◌, List, ◌++◌, Option, length, drop, ◌≡◌}
 use Rattle.lasso_parts.specs.Texts.{Text}
 use Rattle.lasso_codes.specs.Arguments.{word_of}
 use Rattle.lasso_codes.specs.Decode.{line_at}
@@ -14,6 +14,8 @@ invariant-loop-position g l =
     record {
       within : l.used ≤ length l.fn.stretch;
       written : (read : ReadItems Text) (later : List ℕ) (before : Option (List ℕ))
-          → Writes before (g.W.Write.contents l.fn.output) (LinesAhead (items_from make (l.fn.header.lines - l.fn.count) l.fn.header.binary (l.fn.count + 1) (l.fn.stretch ++ later)) read)
-          → Writes before (g.W.Write.contents l.output) (LinesAhead (items_from make (l.fn.header.lines - l.position) l.fn.header.binary (l.position + 1) (drop l.used l.fn.stretch ++ later)) read);
+          → Writes before l.fn.output.written (LinesAhead (items_from make (l.fn.header.lines - l.fn.count) l.fn.header.binary (l.fn.count + 1) (l.fn.stretch ++ later)) read)
+          → Writes before l.output.written (LinesAhead (items_from make (l.fn.header.lines - l.position) l.fn.header.binary (l.position + 1) (drop l.used l.fn.stretch ++ later)) read);
+      writes : l.output.failures ≡ l.fn.output.failures;
+      gone : l.output.gone ≡ l.fn.output.gone;
     }

@@ -30,7 +30,7 @@ returns-in_err-pass_line-clause-error g c =
     let error = c.in_err-pass_line.field-0.0 in
     rw (p.1, p.2) (λ input later limit before so_far.
     let left = drop at.used stretch ++ later in
-    writes_then _ _ _ (OnTheWay input limit left at.number at.rodeo) (λ more. PassError at.rodeo (take len rest) at.number more error) (λ part. DistinctEnd input limit part (Err error)) (at.invariant.passed input later limit before so_far) c.in_err-pass_line.ensures (λ part more on fails.
+    writes_then _ _ _ (OnTheWay input limit left at.number at.rodeo) (λ more. PassError at.rodeo (take len rest) at.number more error) (λ part. DistinctEnd input limit part (Err error)) (at.invariant.passed input later limit before so_far) c.in_err-pass_line.ensures.written (λ part more on fails.
     way_pass_fails input limit left at.number at.rodeo part on (take len rest) more (drop (at.used + (len + 1)) stretch ++ later) error (next_cut stretch rest at.used len (rest_behind at.used stretch) c.in-Some.ensures later) fails))
 
 pub loop-number-preserved : goal.loop-number-preserved
@@ -49,12 +49,14 @@ loop-number-preserved g c =
       passed = λ input later limit before so_far.
           let left = drop at.used stretch ++ later in
           let following = drop (at.used + (len + 1)) stretch ++ later in
-          writes_then _ _ _ (OnTheWay input limit left at.number at.rodeo) (λ more. PassesLine at.rodeo line at.number more after (Ok c.in_ok-pass_line.field-0)) (OnTheWay input limit following (at.number + 1) after) (at.invariant.passed input later limit before so_far) c.in_ok-pass_line.ensures (λ part more on passed.
+          writes_then _ _ _ (OnTheWay input limit left at.number at.rodeo) (λ more. PassesLine at.rodeo line at.number more after (Ok c.in_ok-pass_line.field-0)) (OnTheWay input limit following (at.number + 1) after) (at.invariant.passed input later limit before so_far) c.in_ok-pass_line.ensures.written (λ part more on passed.
           way_push input limit left at.number at.rodeo after part more following line passed.1.0 on (next_cut stretch rest at.used len same found later) passed.0 passed.1.1 passed.2);
+      writes = omega (arith, c.in_ok-pass_line.ensures.writes, at.invariant.writes);
+      gone = omega (arith, c.in_ok-pass_line.ensures.gone, at.invariant.gone);
     }
 
 pub returns-clause-error : goal.returns-clause-error
 returns-clause-error g c = λ input later limit before so_far.
     let at = c.loop-number in
     let left = drop at.used c.args.stretch.now ++ later in
-    writes_as _ _ (OnTheWay input limit left at.number at.rodeo) (λ part. DistinctEnd input limit part (Err TooManyLines)) (at.invariant.passed input later limit before so_far) (λ part on. way_many input limit left at.number at.rodeo part on)
+    writes_as _ _ (OnTheWay input limit left at.number at.rodeo) (λ part. DistinctEnd input limit part (Err TooManyLines)) (at.invariant.passed input later limit before so_far) (λ part on. way_many input limit left at.number at.rodeo part on (omega (arith, c.loop-number-test.false)))

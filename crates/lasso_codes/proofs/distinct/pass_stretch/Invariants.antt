@@ -1,4 +1,4 @@
-use Rattle.std.proofs.Common.{ℕ, ◌-◌, ◌≤◌, List, ◌++◌, Option, length, take, drop}
+use Rattle.std.proofs.Common.{ℕ, ◌-◌, ◌≤◌, List, ◌++◌, Option, length, take, drop, ◌≡◌}
 use Rattle.std.specs.Str.{IsUtf8}
 use Rattle.lasso_codes.specs.Stages.{OnTheWay}
 use Rattle.lasso_codes.specs.Streams.{Writes}
@@ -9,5 +9,7 @@ abbrev pub invariant-loop-number : goal.invariant-loop-number
 invariant-loop-number g l = record {
   within : l.used ≤ length l.fn.stretch;
   text : IsUtf8 (take (length (drop l.used l.fn.stretch) - l.untested) (drop l.used l.fn.stretch));
-  passed : (input later : List ℕ) (limit : ℕ) (before : Option (List ℕ)) → Writes before (g.W.Write.contents l.fn.output) (OnTheWay input limit (l.fn.stretch ++ later) l.fn.first l.fn.rodeo) → Writes before (g.W.Write.contents l.output) (OnTheWay input limit (drop l.used l.fn.stretch ++ later) l.number l.rodeo);
+  passed : (input later : List ℕ) (limit : ℕ) (before : Option (List ℕ)) → Writes before l.fn.output.written (OnTheWay input limit (l.fn.stretch ++ later) l.fn.first l.fn.rodeo) → Writes before l.output.written (OnTheWay input limit (drop l.used l.fn.stretch ++ later) l.number l.rodeo);
+  writes : l.output.failures ≡ l.fn.output.failures;
+  gone : l.output.gone ≡ l.fn.output.gone;
 }

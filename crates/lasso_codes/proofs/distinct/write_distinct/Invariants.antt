@@ -1,11 +1,17 @@
-use Rattle.std.proofs.Common.{ℕ, ◌≡◌, List, Some}
-use Rattle.std.specs.Io.Buffered.{reader_remaining, writer_contents}
+use Rattle.std.proofs.Common.{ℕ, ◌≡◌, List, Some, ◌-◌, ◌^◌}
 use Rattle.lasso_codes.specs.Streams.{Writes}
 use Rattle.lasso_codes.specs.Stages.{OnTheWay}
 use Rattle.lasso_codes.proofs.distinct.write_distinct.Given as goal
 
 -- the lines before this number were read, and the distinct ones written
-abbrev pub invariant-loop : goal.invariant-loop
-invariant-loop g l =
-    (bytes : List ℕ) → reader_remaining g.R.Read.remaining l.fn.input ≡ Some bytes → (rest : List ℕ) × (reader_remaining g.R.Read.remaining l.input ≡ Some rest)
-    × Writes (writer_contents g.W.Write.contents l.fn.output) (writer_contents g.W.Write.contents l.output) (OnTheWay bytes l.fn.limits rest l.number l.rodeo)
+abbrev pub invariant-loop-number : goal.invariant-loop-number
+invariant-loop-number g l = record {
+  ahead : (bytes : List ℕ) → l.fn.input.left ≡ Some bytes → (rest : List ℕ) × (l.input.left ≡ Some rest)
+      × Writes l.fn.output.written l.output.written (OnTheWay bytes l.fn.limits rest l.number l.rodeo);
+  reads : l.input.failures ≡ l.fn.input.failures;
+  writes : l.output.failures ≡ l.fn.output.failures;
+  gone : l.output.gone ≡ l.fn.output.gone;
+}
+
+abbrev pub decreases-loop-number : goal.decreases-loop-number
+decreases-loop-number g l = 2 ^ 64 - 1 - l.number

@@ -4,7 +4,7 @@ use Rattle.std.proofs.lemmas.Bool.Decides.{nat_tests}
 use Rattle.lasso_single.specs.Interner.{made_with}
 use Rattle.lasso_cut.proofs.FirstLines.{rest_behind}
 use Rattle.lasso_codes.specs.Arguments.{word_of}
-use Rattle.lasso_codes.proofs.EncodedLines.{encoding_push, encoding_line_fails}
+use Rattle.lasso_codes.proofs.EncodedLines.{encoding_push, encoding_many, encoding_line_fails}
 use Rattle.lasso_codes.proofs.Stretches.{next_cut, next_inside, next_tested, others_tested}
 use Rattle.lasso_codes.proofs.encode.encode_stretch.Goals as goal
 
@@ -43,3 +43,9 @@ loop-number-preserved c =
           encoding_push input (drop at.used stretch ++ later) at.number (word_of c.args.null) start at.rodeo c.encode_line.new.rodeo at.numbers.items (take len rest) (drop (at.used + (len + 1)) stretch ++ later) told.1.0 c.encode_line.new.numbers.items
           (at.invariant.numbered input later start so_far) (next_cut stretch rest at.used len same found later) told.0 told.1.1 told.1.2;
     }
+
+pub returns-clause-error : goal.returns-clause-error
+returns-clause-error c = λ input later limit so_far.
+    let at = c.loop-number in
+    let start = made_with 4096 limit in
+    encoding_many input (drop at.used c.args.stretch.now ++ later) at.number (word_of c.args.null) start at.rodeo at.numbers.items (at.invariant.numbered input later start so_far) limit (omega (arith, c.loop-number-test.false))

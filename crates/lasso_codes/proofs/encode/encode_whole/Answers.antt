@@ -1,6 +1,7 @@
 use Rattle.std.proofs.Common.{ℕ, ◌≡◌, ◌+◌, ◌-◌, ◌++◌, List, Bor, map, length, ap, subst, arith, ◌∙◌}
 use Rattle.std.specs.Prelude.{IsSomeAnd, slice_get}
 use Rattle.std.proofs.lemmas.List.{length-map}
+use Rattle.std.proofs.lemmas.Result.{err_from_is_err_and}
 use Rattle.lasso_parts.specs.Texts.{Text}
 use Rattle.lasso_single.specs.Filling.{extend}
 use Rattle.lasso_single.proofs.Filled.{accepted}
@@ -13,6 +14,7 @@ use Rattle.lasso_codes.specs.Columns.{texts_of}
 use Rattle.lasso_codes.specs.Encode.{EncodingError}
 use Rattle.lasso_codes.specs.Whole.{AreTextLines, spread}
 use Rattle.lasso_codes.specs.declared.error.RunError.TheVariants.{Line}
+use Rattle.lasso_codes.proofs.EncodedLines.{unmade}
 use Rattle.lasso_codes.proofs.WholeLines.{texts_encoded, whole_not_text, whole_numbered, whole_refused}
 use Rattle.lasso_codes.proofs.encode.encode_whole.Goals as goal
 
@@ -95,3 +97,9 @@ returns-clause-error g c = λ bytes e limit made.
     let refused = subst (λ n. IsSomeAnd (slice_get (texts_of null texts) n) (λ text. IsRefused outcome.new.rodeo text error)) same
     (subst (λ (ts : List Text). IsSomeAnd (slice_get ts (length codes - length before)) (λ text. IsRefused outcome.new.rodeo text error)) kept c.in-Err.ensures.refused) in
     subst (λ n. EncodingError limit null (lines_of bytes) (Line (Refused (n + 1) error))) long (whole_refused old outcome.new.rodeo null (lines_of bytes) texts whole codes numbers are encoded is limit error made refused)
+
+pub returns-in_err-number_texts-clause-error : goal.returns-in_err-number_texts-clause-error
+returns-in_err-number_texts-clause-error g c =
+    let p = err_from_is_err_and c.from_residual-in_err-number_texts.result c.from_residual-in_err-number_texts.ensures.1 in
+    let error = c.in_err-number_texts.field-0.0 in
+    rw (p.1, p.2) (λ bytes e limit made. unmade limit (word_of c.args.null) (lines_of bytes) error c.in_err-number_texts.ensures.error)

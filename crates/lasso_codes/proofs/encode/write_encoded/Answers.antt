@@ -4,26 +4,27 @@ use Rattle.lasso_single.specs.Interner.{made_with}
 use Rattle.lasso_cut.specs.Lines.{lines_of}
 use Rattle.lasso_codes.specs.Arguments.{word_of}
 use Rattle.lasso_codes.specs.Encode.{AreNumbered, EncodeEnd}
+use Rattle.lasso_codes.proofs.Failing.{written_no_read}
 use Rattle.lasso_codes.proofs.Written.{writes_none, writes_as}
 use Rattle.lasso_codes.proofs.EncodedLines.{none_written, unmade, column_written}
 use Rattle.lasso_codes.proofs.encode.write_encoded.Goals as goal
 
-pub returns-in_err-rodeo : goal.returns-in_err-rodeo
-returns-in_err-rodeo g c = λ bytes e.
+pub returns-in_err-rodeo-clause-report : goal.returns-in_err-rodeo-clause-report
+returns-in_err-rodeo-clause-report g c = λ bytes e.
     let p = err_from_is_err_and c.from_residual.result c.from_residual.ensures.1 in
     let null = word_of c.args.null in
     let error = c.in_err-rodeo.field-0.0 in
     rw (p.1, p.2) (writes_none _ _ (none_written bytes c.args.settings.limit null c.args.settings.binary error (unmade c.args.settings.limit null (lines_of bytes) error c.in_err-rodeo.ensures.refused)))
 
-pub returns-in_err-number_lines : goal.returns-in_err-number_lines
-returns-in_err-number_lines g c = λ bytes e.
+pub returns-in_err-number_lines-clause-report : goal.returns-in_err-number_lines-clause-report
+returns-in_err-number_lines-clause-report g c = λ bytes e.
     let p = err_from_is_err_and c.from_residual-in_err-number_lines.result c.from_residual-in_err-number_lines.ensures.1 in
     let null = word_of c.args.null in
     let error = c.in_err-number_lines.field-0.0 in
     rw (p.1, p.2) (writes_none _ _ (none_written bytes c.args.settings.limit null c.args.settings.binary error (c.in_err-number_lines.ensures.error bytes e c.args.settings.limit (c.in_ok-rodeo.ensures.made ∙ ap (λ n. made_with 4096 n) c.new.ensures))))
 
-pub returns : goal.returns
-returns g c = λ bytes e.
+pub returns-clause-report : goal.returns-clause-report
+returns-clause-report g c = λ bytes e.
     let null = word_of c.args.null in
     let numbered = c.in_ok-number_lines.ensures.numbered bytes e in
     let held = c.number_lines.new.numbers in
@@ -33,5 +34,11 @@ returns g c = λ bytes e.
     let few : length held.items < 2 ^ 64 = omega (arith, held.ok.0, held.ok.1, held.small) in
     let many = subst (λ (ns : List ℕ). length ns < 2 ^ 64) (sym c.deref.ensures.value) few in
     let result = c.write_column.result in
-    writes_as _ _ _ (λ part. EncodeEnd bytes c.args.settings.limit null c.args.settings.binary part result) c.write_column.ensures (λ part w.
+    writes_as _ _ _ (λ part. EncodeEnd bytes c.args.settings.limit null c.args.settings.binary part result) c.write_column.ensures.written (λ part w.
     column_written bytes c.args.settings.limit null c.args.settings.binary list numbers part result numbered.0 are many w)
+
+pub returns-clause-reads : goal.returns-clause-reads
+returns-clause-reads g c =
+    let wrote = c.write_column.ensures.written in
+    let nothing = written_no_read _ wrote.0 c.write_column.result wrote.2 in
+    omega (arith, c.in_ok-number_lines.ensures.reads, nothing)

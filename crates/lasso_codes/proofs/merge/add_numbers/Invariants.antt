@@ -1,5 +1,4 @@
 use Rattle.std.proofs.Common.{ℕ, ◌≡◌, ◌+◌, ◌-◌, ◌^◌, ◌<◌, ◌≤◌, List, length, Some}
-use Rattle.std.specs.Io.Buffered.{reader_remaining}
 use Rattle.lasso_parts.specs.Texts.{Text}
 use Rattle.lasso_encode.specs.Codes.{AreCodes}
 use Rattle.lasso_codes.specs.Merge.{recoded}
@@ -12,8 +11,9 @@ abbrev pub invariant-loop-count : goal.invariant-loop-count
 invariant-loop-count g l = record {
   within : l.count ≤ l.header.lines;
   ahead : (list texts : List Text) → AreCodes list texts l.table → length list < 2 ^ 32
-      → (bytes : List ℕ) → reader_remaining g.R.Read.remaining l.fn.input ≡ Some bytes → (rest : List ℕ) × (reader_remaining g.R.Read.remaining l.input ≡ Some rest)
+      → (bytes : List ℕ) → l.fn.input.left ≡ Some bytes → (rest : List ℕ) × (l.input.left ≡ Some rest)
       × EntriesAhead (items_from (recoded list texts) (l.header.lines - l.count) l.header.binary (l.count + 1) rest) (items_from (recoded list texts) l.header.lines l.header.binary 1 bytes) l.fn.numbers.items l.numbers.items;
+  reads : l.input.failures ≡ l.fn.input.failures;
 }
 
 abbrev pub decreases-loop-count : goal.decreases-loop-count

@@ -22,7 +22,7 @@ returns-in_err-add_number-clause-error c =
     let following = drop (at.used + len) stretch ++ later in
     let cut = next_entry_cut stretch rest at.used len (rest_behind at.used stretch) header.binary entry c.in-Some.ensures.cut later in
     number_fails list texts header.lines at.position header.binary left following entry read before at.numbers.items c.loop-position-test.true cut (at.invariant.added list texts are few read later before so_far)
-    (recoded list texts entry (at.position + 1)) c.args.column c.add_number.new.numbers.items c.in_err-add_number.field-0.0 refl (c.in_err-add_number.ensures list texts are few))
+    (recoded list texts entry (at.position + 1)) c.args.column c.add_number.new.numbers.items c.in_err-add_number.field-0.0 refl (c.in_err-add_number.ensures.added list texts are few))
 
 pub loop-position-preserved : goal.loop-position-preserved
 loop-position-preserved c =
@@ -41,7 +41,7 @@ loop-position-preserved c =
           let following = drop (at.used + len) stretch ++ later in
           let cut = next_entry_cut stretch rest at.used len same header.binary entry c.in-Some.ensures.cut later in
           number_added list texts header.lines at.position header.binary left following entry read before at.numbers.items c.loop-position-test.true cut (at.invariant.added list texts are few read later before so_far)
-          (recoded list texts entry (at.position + 1)) c.args.column c.add_number.new.numbers.items refl (c.in_ok-add_number.ensures list texts are few);
+          (recoded list texts entry (at.position + 1)) c.args.column c.add_number.new.numbers.items refl (c.in_ok-add_number.ensures.added list texts are few);
     }
 
 pub returns-clause-added : goal.returns-clause-added

@@ -1,4 +1,4 @@
-use Rattle.std.proofs.Common.{ℕ, List, take, sym, subst}
+use Rattle.std.proofs.Common.{ℕ, List, take, sym, subst, arith}
 use Rattle.std.specs.Prelude.{IsSomeAnd, slice_get}
 use Rattle.std.proofs.lemmas.Result.{err_from_is_err_and}
 use Rattle.lasso_parts.specs.Texts.{Text}
@@ -7,7 +7,7 @@ use Rattle.lasso_single.proofs.Filled.{accepted}
 use Rattle.lasso_encode.specs.Codes.{AreCodes}
 use Rattle.lasso_encode.specs.Encoding.{spur_at, IsRefused}
 use Rattle.lasso_codes.proofs.Items.{header_taken, header_none, header_unread}
-use Rattle.lasso_codes.proofs.MergedColumns.{merging_ends, merging_header_fails, merging_unmade, merging_texts_fail, merging_refused, merged_few, merging_push, merging_entries_fail}
+use Rattle.lasso_codes.proofs.MergedColumns.{merging_ends, merging_many, merging_header_fails, merging_unmade, merging_texts_fail, merging_refused, merged_few, merging_push, merging_entries_fail}
 use Rattle.lasso_codes.proofs.merge.merge_columns.Goals as goal
 
 pub returns-in_err-header-clause-error : goal.returns-in_err-header-clause-error
@@ -16,13 +16,13 @@ returns-in_err-header-clause-error g c =
     let at = c.loop-column in
     let error = c.in_err-header.field-0.0 in
     rw (p.1, p.2) (λ bytes e.
-    let ahead = at.invariant bytes e in
+    let ahead = at.invariant.ahead bytes e in
     merging_header_fails bytes ahead.0 c.args.limits at.column at.rodeo at.numbers.items ahead.2 error (header_unread _ at.column error ahead.0 c.in_err-header.ensures.error ahead.1))
 
 pub returns-in_default-clause-merged : goal.returns-in_default-clause-merged
 returns-in_default-clause-merged g c = λ bytes e.
     let at = c.loop-column in
-    let ahead = at.invariant bytes e in
+    let ahead = at.invariant.ahead bytes e in
     merging_ends bytes ahead.0 c.args.limits at.column at.rodeo at.numbers.items ahead.2 (header_none _ _ c.in_ok-header.field-0 c.in_ok-header.ensures.taken c.in_default.is ahead.0 ahead.1)
 
 pub returns-in_err-texts-clause-error : goal.returns-in_err-texts-clause-error
@@ -31,7 +31,7 @@ returns-in_err-texts-clause-error g c =
     let at = c.loop-column in
     let error = c.in_err-texts.field-0.0 in
     rw (p.1, p.2) (λ bytes e.
-    let ahead = at.invariant bytes e in
+    let ahead = at.invariant.ahead bytes e in
     merging_unmade bytes ahead.0 c.args.limits at.column at.rodeo at.numbers.items ahead.2 error c.in_err-texts.ensures.refused)
 
 pub returns-in_err-read_texts-clause-error : goal.returns-in_err-read_texts-clause-error
@@ -41,14 +41,14 @@ returns-in_err-read_texts-clause-error g c =
     let header = c.in-Some.header in
     let error = c.in_err-read_texts.field-0.0 in
     rw (p.1, p.2) (λ bytes e.
-    let ahead = at.invariant bytes e in
+    let ahead = at.invariant.ahead bytes e in
     let head = header_taken _ _ c.in_ok-header.field-0 header c.in_ok-header.ensures.taken c.in-Some.is ahead.0 ahead.1 in
     merging_texts_fail bytes ahead.0 c.args.limits at.column at.rodeo at.numbers.items ahead.2 header head.0 head.2 error (c.in_err-read_texts.ensures.error head.0 head.1 c.args.limits c.in_ok-texts.ensures.made))
 
 pub returns-in-Err-clause-error : goal.returns-in-Err-clause-error
 returns-in-Err-clause-error g c = λ bytes e.
     let at = c.loop-column in
-    let ahead = at.invariant bytes e in
+    let ahead = at.invariant.ahead bytes e in
     let header = c.in-Some.header in
     let head = header_taken _ _ c.in_ok-header.field-0 header c.in_ok-header.ensures.taken c.in-Some.is ahead.0 ahead.1 in
     let list = c.read_texts.new.rodeo.texts in
@@ -69,23 +69,33 @@ returns-in_err-add_numbers-in-Ok-clause-error g c =
     let codes = subst (λ ns. AreCodes after.texts list ns) (sym c.deref.ensures.value) (subst (λ (ts : List Text). AreCodes after.texts ts c.in-Ok.table.items) c.into_reader.ensures c.in-Ok.ensures.codes) in
     let error = c.in_err-add_numbers-in-Ok.field-0.0 in
     rw (p.1, p.2) (λ bytes e.
-    let ahead = at.invariant bytes e in
+    let ahead = at.invariant.ahead bytes e in
     let head = header_taken _ _ c.in_ok-header.field-0 header c.in_ok-header.ensures.taken c.in-Some.is ahead.0 ahead.1 in
     let texts = c.in_ok-read_texts.ensures.taken head.0 head.1 in
     let few = merged_few bytes ahead.0 c.args.limits at.column at.rodeo at.numbers.items ahead.2 header head.0 head.2 list texts.0 texts.2 after merged in
-    merging_entries_fail bytes ahead.0 c.args.limits at.column at.rodeo at.numbers.items ahead.2 header head.0 head.2 list texts.0 texts.2 after merged error (c.in_err-add_numbers-in-Ok.ensures after.texts list codes few texts.0 texts.1))
+    merging_entries_fail bytes ahead.0 c.args.limits at.column at.rodeo at.numbers.items ahead.2 header head.0 head.2 list texts.0 texts.2 after merged error (c.in_err-add_numbers-in-Ok.ensures.added after.texts list codes few texts.0 texts.1))
 
 pub loop-column-preserved : goal.loop-column-preserved
-loop-column-preserved g c = λ bytes e.
+loop-column-preserved g c =
     let at = c.loop-column in
-    let ahead = at.invariant bytes e in
-    let header = c.in-Some.header in
-    let list = c.read_texts.new.rodeo.texts in
-    let after = c.merge.new.into in
-    let merged = subst (λ (ts : List Text). extend spur_at at.rodeo ts accepted after) c.into_reader.ensures c.in-Ok.ensures.list in
-    let codes = subst (λ ns. AreCodes after.texts list ns) (sym c.deref.ensures.value) (subst (λ (ts : List Text). AreCodes after.texts ts c.in-Ok.table.items) c.into_reader.ensures c.in-Ok.ensures.codes) in
-    let head = header_taken _ _ c.in_ok-header.field-0 header c.in_ok-header.ensures.taken c.in-Some.is ahead.0 ahead.1 in
-    let texts = c.in_ok-read_texts.ensures.taken head.0 head.1 in
-    let few = merged_few bytes ahead.0 c.args.limits at.column at.rodeo at.numbers.items ahead.2 header head.0 head.2 list texts.0 texts.2 after merged in
-    let added = c.in_ok-add_numbers-in-Ok.ensures after.texts list codes few texts.0 texts.1 in
-    (added.0, added.1, merging_push bytes ahead.0 c.args.limits at.column at.rodeo at.numbers.items ahead.2 header head.0 head.2 list texts.0 texts.2 after merged added.0 c.add_numbers.new.numbers.items added.2 added.3)
+    record {
+      reads = omega (arith, c.in_ok-add_numbers-in-Ok.ensures.reads, c.in_ok-read_texts.ensures.reads, c.in_ok-header.ensures.reads, at.invariant.reads);
+      ahead = λ bytes e.
+          let ahead = at.invariant.ahead bytes e in
+          let header = c.in-Some.header in
+          let list = c.read_texts.new.rodeo.texts in
+          let after = c.merge.new.into in
+          let merged = subst (λ (ts : List Text). extend spur_at at.rodeo ts accepted after) c.into_reader.ensures c.in-Ok.ensures.list in
+          let codes = subst (λ ns. AreCodes after.texts list ns) (sym c.deref.ensures.value) (subst (λ (ts : List Text). AreCodes after.texts ts c.in-Ok.table.items) c.into_reader.ensures c.in-Ok.ensures.codes) in
+          let head = header_taken _ _ c.in_ok-header.field-0 header c.in_ok-header.ensures.taken c.in-Some.is ahead.0 ahead.1 in
+          let texts = c.in_ok-read_texts.ensures.taken head.0 head.1 in
+          let few = merged_few bytes ahead.0 c.args.limits at.column at.rodeo at.numbers.items ahead.2 header head.0 head.2 list texts.0 texts.2 after merged in
+          let added = c.in_ok-add_numbers-in-Ok.ensures.added after.texts list codes few texts.0 texts.1 in
+          (added.0, added.1, merging_push bytes ahead.0 c.args.limits at.column at.rodeo at.numbers.items ahead.2 header head.0 head.2 list texts.0 texts.2 after merged added.0 c.add_numbers.new.numbers.items added.2 added.3);
+    }
+
+pub returns-clause-error : goal.returns-clause-error
+returns-clause-error g c = λ bytes e.
+    let at = c.loop-column in
+    let ahead = at.invariant.ahead bytes e in
+    merging_many bytes ahead.0 c.args.limits at.column at.rodeo at.numbers.items ahead.2 (omega (arith, c.loop-column-test.false))

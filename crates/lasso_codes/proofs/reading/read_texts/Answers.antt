@@ -34,7 +34,7 @@ returns-then-next-distinct-clause-taken g c = λ bytes e.
     let so_far = subst (λ bs. Reading bytes bs at.count at.rodeo) hand.1 ahead.2 in
     let then = c.in_ok-next.ensures.added bytes hand.0 so_far in
     let left = drop c.in_ok-next.used shown ++ hand.0 in
-    let known = left_after _ _ _ shown hand.0 ahead.0 c.in_ok-next.used c.buffered.ensures.value c.consume.ensures ahead.1 hand.1 in
+    let known = left_after _ _ _ shown hand.0 ahead.0 c.in_ok-next.used c.buffered.ensures.value c.consume.ensures.left ahead.1 hand.1 in
     (left, known, subst (λ n. texts_from n [] bytes ≡ Ok (c.add_texts.new.rodeo.texts, left)) c.if-next-distinct.true then.read)
 
 pub returns-in-Err-clause-error : goal.returns-in-Err-clause-error
@@ -47,7 +47,7 @@ returns-in-Err-clause-error g c = λ bytes e limit made.
     let so_far = subst (λ bs. Reading bytes bs at.count at.rodeo) hand.1 ahead.2 in
     let then = c.in_ok-next.ensures.added bytes hand.0 so_far in
     let left = drop c.in_ok-next.used shown ++ hand.0 in
-    let known = left_after _ _ _ shown hand.0 ahead.0 c.in_ok-next.used c.buffered.ensures.value c.consume.ensures ahead.1 hand.1 in
+    let known = left_after _ _ _ shown hand.0 ahead.0 c.in_ok-next.used c.buffered.ensures.value c.consume.ensures.left ahead.1 hand.1 in
     let small : next < c.args.distinct = omega (arith, c.in_ok-next.ensures.more, c.if-next-distinct.false) in
     let now = c.add_texts.new.rodeo in
     let line = c.next_whole_line.new.line.items in
@@ -59,6 +59,8 @@ returns-in-Err-clause-error g c = λ bytes e limit made.
 pub returns-in-Part : goal.returns-in-Part
 returns-in-Part g c = record {
   taken = tt;
+  faults = tt;
+  reads = omega (arith, c.in_ok-next_whole_line.ensures.reads, c.consume.ensures.reads, c.loop-count.invariant.reads);
   error = λ bytes e limit made.
       let at = c.loop-count in
       let next = c.in_ok-next.next in
@@ -68,7 +70,7 @@ returns-in-Part g c = record {
       let so_far = subst (λ bs. Reading bytes bs at.count at.rodeo) hand.1 ahead.2 in
       let then = c.in_ok-next.ensures.added bytes hand.0 so_far in
       let left = drop c.in_ok-next.used shown ++ hand.0 in
-      let known = left_after _ _ _ shown hand.0 ahead.0 c.in_ok-next.used c.buffered.ensures.value c.consume.ensures ahead.1 hand.1 in
+      let known = left_after _ _ _ shown hand.0 ahead.0 c.in_ok-next.used c.buffered.ensures.value c.consume.ensures.left ahead.1 hand.1 in
       let small : next < c.args.distinct = omega (arith, c.in_ok-next.ensures.more, c.if-next-distinct.false) in
       let none = no_cut _ _ c.in_ok-next_whole_line.field-0 c.next_whole_line.new.line.items c.in_ok-next_whole_line.ensures.taken c.in-Part.is left known in
       reading_misses bytes left next c.args.distinct c.add_texts.new.rodeo small then limit c.args.column none.1;
@@ -85,6 +87,7 @@ loop-count-preserved g c =
     let adds = subst (λ l. AddsText now l after) c.deref.ensures.value c.in_default.ensures in
     record {
       within = omega (arith, small);
+      reads = omega (arith, c.in_ok-next_whole_line.ensures.reads, c.consume.ensures.reads, at.invariant.reads);
       ahead = λ bytes e.
           let ahead = at.invariant.ahead bytes e in
           let shown = c.buffered.result.now in
@@ -92,7 +95,7 @@ loop-count-preserved g c =
           let so_far = subst (λ bs. Reading bytes bs at.count at.rodeo) hand.1 ahead.2 in
           let then = c.in_ok-next.ensures.added bytes hand.0 so_far in
           let left = drop c.in_ok-next.used shown ++ hand.0 in
-          let known = left_after _ _ _ shown hand.0 ahead.0 c.in_ok-next.used c.buffered.ensures.value c.consume.ensures ahead.1 hand.1 in
+          let known = left_after _ _ _ shown hand.0 ahead.0 c.in_ok-next.used c.buffered.ensures.value c.consume.ensures.left ahead.1 hand.1 in
           let cut = cut_as _ _ c.in_ok-next_whole_line.field-0 Whole line c.in_ok-next_whole_line.ensures.taken c.in-Whole.is left known in
           (cut.0, cut.1, reading_push bytes left next c.args.distinct now small then line cut.0 after cut.2 adds);
       list = adds_more c.args.rodeo.now now after line (c.in_ok-next.ensures.list c.args.rodeo.now at.invariant.list) adds;

@@ -1,5 +1,4 @@
 use Rattle.std.proofs.Common.{ℕ, ◌≡◌, ◌-◌, ◌≤◌, List, Some}
-use Rattle.std.specs.Io.Buffered.{reader_remaining}
 use Rattle.lasso_single.specs.Filling.{extend}
 use Rattle.lasso_single.proofs.Filled.{accepted}
 use Rattle.lasso_encode.specs.Encoding.{spur_at}
@@ -10,8 +9,9 @@ use Rattle.lasso_codes.proofs.reading.read_texts.Given as goal
 abbrev pub invariant-loop-count : goal.invariant-loop-count
 invariant-loop-count g l = record {
   within : l.count ≤ l.distinct;
-  ahead : (bytes : List ℕ) → reader_remaining g.R.Read.remaining l.fn.input ≡ Some bytes → (rest : List ℕ) × (reader_remaining g.R.Read.remaining l.input ≡ Some rest) × Reading bytes rest l.count l.rodeo;
+  ahead : (bytes : List ℕ) → l.fn.input.left ≡ Some bytes → (rest : List ℕ) × (l.input.left ≡ Some rest) × Reading bytes rest l.count l.rodeo;
   list : extend spur_at l.fn.rodeo l.rodeo.texts accepted l.rodeo;
+  reads : l.input.failures ≡ l.fn.input.failures;
 }
 
 abbrev pub decreases-loop-count : goal.decreases-loop-count

@@ -1,0 +1,153 @@
+-- What the result of a call says of the failed calls, and that of a run after its last flush.
+--
+-- A call that only reads doesn't end with a failed write, and one that only writes not with a failed read.
+-- If the run had ended at a failed write, nothing is flushed. Else the writer counts at most the flush, which is
+-- a failed write exactly if the run then ends with one.
+use Rattle.std.proofs.Common.{ℕ, ◌≡◌, ◌+◌, ◌⊎◌, List, Option, Result, Ok, Err, IfErr, refl, sym, ap, subst, ◌∙◌, arith, inl, inr}
+use Rattle.lasso_codes.specs.Errors.{failed_reads, failed_writes, gone_readers, IsDataError, IsInputError, IsOutputError, IsReadError, IsWriteError, IsWriteEnd}
+use Rattle.lasso_codes.specs.Reading.{HeaderError}
+use Rattle.lasso_codes.specs.Streams.{WritesAll}
+use Rattle.lasso_codes.specs.Views.{OutputView}
+use Rattle.lasso_codes.specs.declared.error.RunError.{RunError}
+use Rattle.lasso_codes.specs.declared.error.RunError.TheVariants.{Line, TooManyLines, ReadFailed, WriteFailed, ReaderGone, Column}
+
+-- ---- errors of calls that only read, only write, or do neither
+
+pub data_input : (error : RunError) → IsDataError error → IsInputError error
+data_input (Line fault) is = tt
+data_input TooManyLines is = tt
+data_input ReadFailed is = absurd is
+data_input WriteFailed is = absurd is
+data_input ReaderGone is = absurd is
+data_input (Column column fault) is = tt
+
+pub data_output : (error : RunError) → IsDataError error → IsOutputError error
+data_output (Line fault) is = tt
+data_output TooManyLines is = tt
+data_output ReadFailed is = absurd is
+data_output WriteFailed is = absurd is
+data_output ReaderGone is = absurd is
+data_output (Column column fault) is = tt
+
+pub read_input : (number : ℕ) (error : RunError) → IsReadError number error → IsInputError error
+read_input number (Line fault) is = tt
+read_input number TooManyLines is = absurd is
+read_input number ReadFailed is = tt
+read_input number WriteFailed is = absurd is
+read_input number ReaderGone is = absurd is
+read_input number (Column column fault) is = absurd is
+
+pub write_output : (error : RunError) → IsWriteError error → IsOutputError error
+write_output (Line fault) is = absurd is
+write_output TooManyLines is = absurd is
+write_output ReadFailed is = absurd is
+write_output WriteFailed is = tt
+write_output ReaderGone is = tt
+write_output (Column column fault) is = absurd is
+
+pub header_input : (before : Option (List ℕ)) (column : ℕ) (error : RunError) → HeaderError before column error → IsInputError error
+header_input before column error (inl is) = read_input 0 error is
+header_input before column error (inr is) = subst IsInputError (sym is.0) tt
+
+pub input_no_write : (error : RunError) → IsInputError error → failed_writes {X = Unit {0}} (Err error) ≡ 0
+input_no_write (Line fault) is = refl
+input_no_write TooManyLines is = refl
+input_no_write ReadFailed is = refl
+input_no_write WriteFailed is = absurd is
+input_no_write ReaderGone is = absurd is
+input_no_write (Column column fault) is = refl
+
+pub input_none_gone : (error : RunError) → IsInputError error → gone_readers {X = Unit {0}} (Err error) ≡ 0
+input_none_gone (Line fault) is = refl
+input_none_gone TooManyLines is = refl
+input_none_gone ReadFailed is = refl
+input_none_gone WriteFailed is = refl
+input_none_gone ReaderGone is = absurd is
+input_none_gone (Column column fault) is = refl
+
+pub output_no_read : (error : RunError) → IsOutputError error → failed_reads {X = Unit {0}} (Err error) ≡ 0
+output_no_read (Line fault) is = refl
+output_no_read TooManyLines is = refl
+output_no_read ReadFailed is = absurd is
+output_no_read WriteFailed is = refl
+output_no_read ReaderGone is = refl
+output_no_read (Column column fault) is = refl
+
+pub written_output : (bytes part : List ℕ) (error : RunError) → WritesAll bytes (Err error) part → IsOutputError error
+written_output bytes part error written = write_output error written.0
+
+pub written_no_read : (bytes part : List ℕ) (result : Result (Unit {0}) RunError) → WritesAll bytes result part → failed_reads result ≡ 0
+written_no_read bytes part (Ok x) written = refl
+written_no_read bytes part (Err error) written = output_no_read error (written_output bytes part error written)
+
+pub written_faults : (bytes part : List ℕ) (result : Result (Unit {0}) RunError) → WritesAll bytes result part → IfErr result IsOutputError
+written_faults bytes part (Ok x) written = tt
+written_faults bytes part (Err error) written = written_output bytes part error written
+
+pub write_errors_no_read : (result : Result (Unit {0}) RunError) → IfErr result IsWriteError → failed_reads result ≡ 0
+write_errors_no_read (Ok x) is = refl
+write_errors_no_read (Err error) is = output_no_read error (write_output error is)
+
+-- ---- runs
+
+abbrev Ended : Type 0
+Ended = Result (Unit {0}) RunError
+
+write_or_not : (result : Ended) → IsWriteEnd result ⊎ (¬ (IsWriteEnd result))
+write_or_not (Ok x) = inr (λ is. absurd is)
+write_or_not (Err (Line error)) = inr (λ is. absurd is)
+write_or_not (Err TooManyLines) = inr (λ is. absurd is)
+write_or_not (Err ReadFailed) = inr (λ is. absurd is)
+write_or_not (Err WriteFailed) = inl tt
+write_or_not (Err ReaderGone) = inl tt
+write_or_not (Err (Column column error)) = inr (λ is. absurd is)
+
+pub no_read : (result : Ended) → IsWriteEnd result → failed_reads result ≡ 0
+no_read (Ok x) is = absurd is
+no_read (Err (Line error)) is = absurd is
+no_read (Err TooManyLines) is = absurd is
+no_read (Err ReadFailed) is = absurd is
+no_read (Err WriteFailed) is = refl
+no_read (Err ReaderGone) is = refl
+no_read (Err (Column column error)) is = absurd is
+
+pub no_write : (result : Ended) → ¬ (IsWriteEnd result) → failed_writes result ≡ 0
+no_write (Ok x) none_wrote = refl
+no_write (Err (Line error)) none_wrote = refl
+no_write (Err TooManyLines) none_wrote = refl
+no_write (Err ReadFailed) none_wrote = refl
+no_write (Err WriteFailed) none_wrote = absurd (none_wrote tt)
+no_write (Err ReaderGone) none_wrote = absurd (none_wrote tt)
+no_write (Err (Column column error)) none_wrote = refl
+
+pub none_gone : (result : Ended) → ¬ (IsWriteEnd result) → gone_readers result ≡ 0
+none_gone (Ok x) none_wrote = refl
+none_gone (Err (Line error)) none_wrote = refl
+none_gone (Err TooManyLines) none_wrote = refl
+none_gone (Err ReadFailed) none_wrote = refl
+none_gone (Err WriteFailed) none_wrote = absurd (none_wrote tt)
+none_gone (Err ReaderGone) none_wrote = absurd (none_wrote tt)
+none_gone (Err (Column column error)) none_wrote = refl
+
+-- ---- the counts after the last flush
+
+pub reads_end : (before after : ℕ) (ended result : Ended) → after ≡ before + failed_reads ended → (result ≡ ended) ⊎ IsWriteEnd result → IfErr ended (λ error. (result ≡ Err error) ⊎ (result ≡ Err WriteFailed)) → ¬ (result ≡ Err WriteFailed) → after ≡ before + failed_reads result
+reads_end before after ended result count (inl same) kept none_wrote = subst (λ (r : Ended). after ≡ before + failed_reads r) (sym same) count
+reads_end before after (Ok x) result count (inr is) kept none_wrote = count ∙ ap (λ n. before + n) (sym (no_read result is))
+reads_end before after (Err error) result count (inr is) (inl same) none_wrote = subst (λ (r : Ended). after ≡ before + failed_reads r) (sym same) count
+reads_end before after (Err error) result count (inr is) (inr same) none_wrote = absurd (none_wrote same)
+
+module _ (before mid after : OutputView) (ended result : Ended) (none : IsWriteEnd ended → (result ≡ ended) × (after ≡ mid)) where
+  pub writes_end : mid.failures ≡ before.failures + failed_writes ended → (¬ (IsWriteEnd ended) → after.failures ≡ mid.failures + failed_writes result) → after.failures ≡ before.failures + failed_writes result
+  writes_end count flushed = either (write_or_not ended)
+    where
+      either : IsWriteEnd ended ⊎ (¬ (IsWriteEnd ended)) → after.failures ≡ before.failures + failed_writes result
+      either (inl is) = let told = none is in ap (λ (v : OutputView). v.failures) told.1 ∙ count ∙ ap (λ (r : Ended). before.failures + failed_writes r) (sym told.0)
+      either (inr none_wrote) = let now = flushed none_wrote in let nothing = no_write ended none_wrote in omega (arith, now, count, nothing)
+
+  pub gone_end : mid.gone ≡ before.gone + gone_readers ended → (¬ (IsWriteEnd ended) → ¬ (result ≡ Err WriteFailed) → after.gone ≡ mid.gone + gone_readers result) → ¬ (result ≡ Err WriteFailed) → after.gone ≡ before.gone + gone_readers result
+  gone_end count flushed other = either (write_or_not ended)
+    where
+      either : IsWriteEnd ended ⊎ (¬ (IsWriteEnd ended)) → after.gone ≡ before.gone + gone_readers result
+      either (inl is) = let told = none is in ap (λ (v : OutputView). v.gone) told.1 ∙ count ∙ ap (λ (r : Ended). before.gone + gone_readers r) (sym told.0)
+      either (inr none_wrote) = let now = flushed none_wrote other in let nothing = none_gone ended none_wrote in omega (arith, now, count, nothing)
