@@ -6,6 +6,8 @@
 #[cfg(test)]
 mod calls;
 #[cfg(test)]
+mod checks;
+#[cfg(test)]
 mod columns;
 #[cfg(test)]
 mod dictionaries;
@@ -24,6 +26,8 @@ mod narrow;
 mod numbered;
 #[cfg(test)]
 mod parts;
+#[cfg(test)]
+mod refused;
 #[cfg(test)]
 mod shared;
 #[cfg(test)]
