@@ -16,11 +16,7 @@ pub(super) fn is_so_at(rt: &impl Abort, holds: bool, row: usize) {
 }
 
 // Fails the test unless the calls ended well and this holds.
-pub(super) fn ends_so(
-    rt: &impl Abort,
-    ended: Result<bool, Fail>,
-    what: &str,
-) -> Result<(), Fail> {
+pub(super) fn ends_so(rt: &impl Abort, ended: Result<bool, Fail>, what: &str) -> Result<(), Fail> {
     match ended {
         Ok(holds) => {
             is_so(rt, holds, what);
@@ -76,11 +72,7 @@ pub(super) fn distinct_of(codes: &[u32]) -> usize {
 }
 
 // Whether the text has the key of this number.
-fn has_at<A: Allocator>(
-    rodeo: &Rodeo<Spur, FixedState, A>,
-    text: &str,
-    number: usize,
-) -> bool {
+fn has_at<A: Allocator>(rodeo: &Rodeo<Spur, FixedState, A>, text: &str, number: usize) -> bool {
     match rodeo.get(text) {
         Some(key) => key.into_usize() == number,
         None => false,
@@ -88,10 +80,7 @@ fn has_at<A: Allocator>(
 }
 
 // Whether the interner has just these texts, in this order.
-pub(super) fn has_texts<A: Allocator>(
-    rodeo: &Rodeo<Spur, FixedState, A>,
-    texts: &[&str],
-) -> bool {
+pub(super) fn has_texts<A: Allocator>(rodeo: &Rodeo<Spur, FixedState, A>, texts: &[&str]) -> bool {
     if rodeo.len() != texts.len() {
         return false;
     }
@@ -104,7 +93,7 @@ pub(super) fn has_texts<A: Allocator>(
 }
 
 // Whether the code resolves to the text.
-fn resolves<A: Allocator>(
+pub(super) fn resolves<A: Allocator>(
     rodeo: &Rodeo<Spur, FixedState, A>,
     code: u32,
     text: &str,

@@ -64,7 +64,10 @@ fn ends(ended: Result<(), LineError>, wanted: Ended) -> Result<bool, Fail> {
 }
 
 // Whether merging gave these codes, or was refused by the memory limit if there are none.
-pub(super) fn is_merged(merged: LassoResult<Vec<u32>>, wanted: Option<&[u32]>) -> Result<bool, Fail> {
+pub(super) fn is_merged(
+    merged: LassoResult<Vec<u32>>,
+    wanted: Option<&[u32]>,
+) -> Result<bool, Fail> {
     match (merged, wanted) {
         (Ok(codes), Some(wanted)) => Ok(codes.as_slice() == wanted),
         (Ok(_codes), None) => Ok(false),
@@ -130,11 +133,7 @@ fn right_steps(
 }
 
 // The same from a first step on an interner that was just made.
-fn runs<R: AllocGlobal + Abort>(
-    rt: &R,
-    rodeo: &mut SpurRodeo,
-    steps: &[Step],
-) -> Result<(), Fail> {
+fn runs<R: AllocGlobal + Abort>(rt: &R, rodeo: &mut SpurRodeo, steps: &[Step]) -> Result<(), Fail> {
     let mut codes = Vec::new(rt.alloc());
     all_right(
         rt,
@@ -339,8 +338,8 @@ fn long_columns_are_encoded(rt: HostRuntime) -> Result<(), Fail> {
 #[test]
 fn long_dictionaries_are_merged(rt: HostRuntime) -> Result<(), Fail> {
     const LETTERS: [&str; 26] = [
-        "a", "b", "c", "d", "e", "f", "g", "h", "i", "j", "k", "l", "m", "n", "o", "p", "q", "r", "s",
-        "t", "u", "v", "w", "x", "y", "z",
+        "a", "b", "c", "d", "e", "f", "g", "h", "i", "j", "k", "l", "m", "n", "o", "p", "q", "r",
+        "s", "t", "u", "v", "w", "x", "y", "z",
     ];
     static STEPS: [Step; 4] = [
         Step::Merges(&LETTERS, Some(CODES)),

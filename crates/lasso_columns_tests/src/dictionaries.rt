@@ -201,10 +201,12 @@ fn read(
 fn is_read(read: Result<SpurRodeo, ReadError>, reading: Reading) -> Result<bool, Fail> {
     let (limit, usage, row) = reading;
     match read {
-        Ok(rodeo) => Ok(row.2.is_none()
-            && has_texts(&rodeo, row.3)
-            && rodeo.max_memory_usage() == limit
-            && rodeo.current_memory_usage() == usage),
+        Ok(rodeo) => Ok(
+            row.2.is_none()
+                && has_texts(&rodeo, row.3)
+                && rodeo.max_memory_usage() == limit
+                && rodeo.current_memory_usage() == usage,
+        ),
         Err(error) => is_fault(Some(error), row.2),
     }
 }
@@ -240,8 +242,16 @@ fn appends_both_ways<R: AllocGlobal + Abort>(
     let alloc = rt.alloc();
     for at in 0..rows.len() {
         let row = &rows[at..at + 1];
-        all_right(rt, appends_to(alloc, interner(alloc, opening), row, false), 1)?;
-        all_right(rt, appends_to(alloc, interner(alloc, opening), row, true), 1)?;
+        all_right(
+            rt,
+            appends_to(alloc, interner(alloc, opening), row, false),
+            1,
+        )?;
+        all_right(
+            rt,
+            appends_to(alloc, interner(alloc, opening), row, true),
+            1,
+        )?;
     }
     Ok(())
 }
@@ -287,14 +297,44 @@ fn end_so<R: AllocGlobal + Abort>(rt: &R, rows: &[Row]) -> Result<(), Fail> {
 #[test]
 fn wrong_offsets_are_told(rt: HostRuntime) -> Result<(), Fail> {
     static ROWS: [Row; 8] = [
-        (b"ab", &[0, 2, 1], Some(ReadError::OffsetsFall(1)), &["red", "ab"]),
+        (
+            b"ab",
+            &[0, 2, 1],
+            Some(ReadError::OffsetsFall(1)),
+            &["red", "ab"],
+        ),
         (b"ab", &[1, 0], Some(ReadError::OffsetsFall(0)), &["red"]),
-        (b"ab", &[0, 1, 2, 3], Some(ReadError::OffsetPastBytes(2)), &["red", "a", "b"]),
+        (
+            b"ab",
+            &[0, 1, 2, 3],
+            Some(ReadError::OffsetPastBytes(2)),
+            &["red", "a", "b"],
+        ),
         (b"ab", &[3], Some(ReadError::OffsetPastBytes(0)), &["red"]),
-        (b"ab", &[3, 3], Some(ReadError::OffsetPastBytes(0)), &["red"]),
-        (b"ab", &[3, 2], Some(ReadError::OffsetPastBytes(0)), &["red"]),
-        (b"ab", &[0, 1, u32::MAX], Some(ReadError::OffsetPastBytes(1)), &["red", "a"]),
-        (b"", &[0, 2_147_483_648], Some(ReadError::OffsetPastBytes(0)), &["red"]),
+        (
+            b"ab",
+            &[3, 3],
+            Some(ReadError::OffsetPastBytes(0)),
+            &["red"],
+        ),
+        (
+            b"ab",
+            &[3, 2],
+            Some(ReadError::OffsetPastBytes(0)),
+            &["red"],
+        ),
+        (
+            b"ab",
+            &[0, 1, u32::MAX],
+            Some(ReadError::OffsetPastBytes(1)),
+            &["red", "a"],
+        ),
+        (
+            b"",
+            &[0, 2_147_483_648],
+            Some(ReadError::OffsetPastBytes(0)),
+            &["red"],
+        ),
     ];
     end_so(&rt, &ROWS)
 }
@@ -303,9 +343,24 @@ fn wrong_offsets_are_told(rt: HostRuntime) -> Result<(), Fail> {
 fn bytes_that_are_no_text_are_told(rt: HostRuntime) -> Result<(), Fail> {
     // Neither byte of `é` is UTF-8 alone; both together are.
     static ROWS: [Row; 3] = [
-        (b"a\xff", &[0, 1, 2], Some(ReadError::NotText(1)), &["red", "a"]),
-        (b"\xc3\xa9", &[0, 2, 2, 1], Some(ReadError::OffsetsFall(2)), &["red", "é", ""]),
-        (b"\xc3\xa9", &[0, 1, 2], Some(ReadError::NotText(0)), &["red"]),
+        (
+            b"a\xff",
+            &[0, 1, 2],
+            Some(ReadError::NotText(1)),
+            &["red", "a"],
+        ),
+        (
+            b"\xc3\xa9",
+            &[0, 2, 2, 1],
+            Some(ReadError::OffsetsFall(2)),
+            &["red", "é", ""],
+        ),
+        (
+            b"\xc3\xa9",
+            &[0, 1, 2],
+            Some(ReadError::NotText(0)),
+            &["red"],
+        ),
     ];
     end_so(&rt, &ROWS)
 }
@@ -313,11 +368,26 @@ fn bytes_that_are_no_text_are_told(rt: HostRuntime) -> Result<(), Fail> {
 #[test]
 fn a_doubled_text_is_told(rt: HostRuntime) -> Result<(), Fail> {
     static ROWS: [Row; 2] = [
-        (b"abcab", &[0, 2, 3, 5], Some(ReadError::Doubled(2)), &["red", "ab", "c"]),
-        (b"a", &[0, 0, 1, 1], Some(ReadError::Doubled(2)), &["red", "", "a"]),
+        (
+            b"abcab",
+            &[0, 2, 3, 5],
+            Some(ReadError::Doubled(2)),
+            &["red", "ab", "c"],
+        ),
+        (
+            b"a",
+            &[0, 0, 1, 1],
+            Some(ReadError::Doubled(2)),
+            &["red", "", "a"],
+        ),
     ];
     // The interner has this text before the call.
-    static GREEN: [Row; 1] = [(b"bluegreen", &[0, 4, 9, 9], Some(ReadError::Doubled(1)), &["red", "green", "blue"])];
+    static GREEN: [Row; 1] = [(
+        b"bluegreen",
+        &[0, 4, 9, 9],
+        Some(ReadError::Doubled(1)),
+        &["red", "green", "blue"],
+    )];
     end_so(&rt, &ROWS)?;
     appends_both_ways(&rt, &["red", "green"], &GREEN)
 }
@@ -332,16 +402,38 @@ fn the_limit_ends_a_reading(rt: HostRuntime) -> Result<(), Fail> {
     const REFUSED: ReadError = ReadError::Refused(3, LIMIT);
     // The limit never refuses a present text.
     static ROWS: [Row; 2] = [
-        (b"firstother!", &OFFSETS, Some(REFUSED), &["first", "other", ""]),
-        (b"other", &[0, 5], Some(ReadError::Doubled(0)), &["first", "other", ""]),
+        (
+            b"firstother!",
+            &OFFSETS,
+            Some(REFUSED),
+            &["first", "other", ""],
+        ),
+        (
+            b"other",
+            &[0, 5],
+            Some(ReadError::Doubled(0)),
+            &["first", "other", ""],
+        ),
     ];
     static READINGS: [Reading; 2] = [
         (10, 0, (b"firstother!", &OFFSETS, Some(REFUSED), &[])),
-        (11, 11, (b"firstother!", &OFFSETS, None, &["first", "other", "", "!"])),
+        (
+            11,
+            11,
+            (b"firstother!", &OFFSETS, None, &["first", "other", "", "!"]),
+        ),
     ];
     let alloc = rt.alloc();
-    all_right(&rt, appends_to(alloc, limited_interner(alloc), &ROWS, false), 2)?;
-    all_right(&rt, appends_to(alloc, limited_interner(alloc), &ROWS, true), 2)?;
+    all_right(
+        &rt,
+        appends_to(alloc, limited_interner(alloc), &ROWS, false),
+        2,
+    )?;
+    all_right(
+        &rt,
+        appends_to(alloc, limited_interner(alloc), &ROWS, true),
+        2,
+    )?;
     all_right(&rt, reads(alloc, &READINGS), READINGS.len())
 }
 
@@ -351,7 +443,11 @@ fn a_limit_of_zero_leaves_room_for_a_byte(rt: HostRuntime) -> Result<(), Fail> {
     static READINGS: [Reading; 3] = [
         (0, 1, (b"", &[0, 0], None, &[""])),
         (0, 1, (b"a", &[0, 1], None, &["a"])),
-        (0, 0, (b"ab", &[0, 2], Some(ReadError::Refused(0, LIMIT)), &[])),
+        (
+            0,
+            0,
+            (b"ab", &[0, 2], Some(ReadError::Refused(0, LIMIT)), &[]),
+        ),
     ];
     all_right(&rt, reads(rt.alloc(), &READINGS), READINGS.len())
 }
@@ -445,8 +541,10 @@ fn appends_up_to_nine(rodeo: &mut SpurRodeo) -> Result<bool, Fail> {
         past_greatest(),
     ];
     let ended = lasso_columns::append_dictionary(rodeo, b"1234567890k", &offsets).err();
-    Ok(is_fault(ended, Some(ReadError::OffsetPastBytes(1)))?
-        && has_texts(rodeo, &["abcdefgh", "i", "j", "9"]))
+    Ok(
+        is_fault(ended, Some(ReadError::OffsetPastBytes(1)))?
+            && has_texts(rodeo, &["abcdefgh", "i", "j", "9"]),
+    )
 }
 
 fn nine_and_one(alloc: Global) -> Result<bool, Fail> {

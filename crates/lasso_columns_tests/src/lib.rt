@@ -10,6 +10,8 @@ mod checks;
 #[cfg(test)]
 mod columns;
 #[cfg(test)]
+mod counts;
+#[cfg(test)]
 mod dictionaries;
 #[cfg(test)]
 mod examples;

@@ -65,19 +65,16 @@ fn encodes<R: AllocGlobal + Threads + Sync>(
     let count = rodeo.len();
     let mut codes = Vec::new(rt.alloc());
     match encode_by(rt, rodeo, texts, &mut codes, way) {
-        Ok(()) => Ok(codes.as_slice() == wanted
-            && rodeo.len() == count.max(distinct_of(wanted))
-            && stand_for(rodeo, wanted, texts)),
+        Ok(()) => Ok(
+            codes.as_slice() == wanted
+                && rodeo.len() == count.max(distinct_of(wanted))
+                && stand_for(rodeo, wanted, texts),
+        ),
         Err(fault) => Err(fault),
     }
 }
 
-fn decodes(
-    alloc: Global,
-    rodeo: SpurRodeo,
-    codes: &[u32],
-    texts: &[&str],
-) -> Result<bool, Fail> {
+fn decodes(alloc: Global, rodeo: SpurRodeo, codes: &[u32], texts: &[&str]) -> Result<bool, Fail> {
     let reader = rodeo.into_reader();
     are_decoded(alloc, &reader, codes, texts)
 }
@@ -199,7 +196,11 @@ fn merges_numbers(alloc: Global, first: &[u32], second: &[u32]) -> Result<bool, 
 fn dictionaries_of_many_texts_are_merged(rt: HostRuntime) -> Result<(), Fail> {
     let first = first_of(rt.alloc(), Numbers::Repeated, COUNT)?;
     let second = first_of(rt.alloc(), Numbers::Distinct, COUNT)?;
-    ends_so(&rt, merges_numbers(rt.alloc(), &first, &second), "the codes")
+    ends_so(
+        &rt,
+        merges_numbers(rt.alloc(), &first, &second),
+        "the codes",
+    )
 }
 
 // Encodes the texts by these workers over a new interner that threads share, which then has `count` texts.

@@ -239,9 +239,11 @@ fn is_past_the_limit<R: AllocGlobal + Threads + Wait + Sync>(
     let rodeo = with_bytes(rt.alloc(), 2500)?;
     rodeo.set_memory_limits(rt, MemoryLimits::new(LOW_LIMIT));
     let refused = refuses(rt, &rodeo, texts, call, workers);
-    Ok(refused?
-        && rodeo.max_memory_usage(rt) == LOW_LIMIT
-        && rodeo.current_memory_usage(rt) <= LOW_LIMIT)
+    Ok(
+        refused?
+            && rodeo.max_memory_usage(rt) == LOW_LIMIT
+            && rodeo.current_memory_usage(rt) <= LOW_LIMIT,
+    )
 }
 
 // Encodes the texts of the numbers past the lower limit by each call, by one worker and by four.
@@ -252,15 +254,21 @@ fn are_past_the_limit<R: AllocGlobal + Threads + Wait + Sync>(
     let numbers = first_of(rt.alloc(), numbers, COUNT)?;
     let printed = printed(rt.alloc(), &numbers)?;
     let texts = slices(rt.alloc(), &printed)?;
-    Ok(is_past_the_limit(rt, &texts, Call::Plain, 1)?
-        && is_past_the_limit(rt, &texts, Call::ByPass, 1)?
-        && is_past_the_limit(rt, &texts, Call::Plain, 4)?
-        && is_past_the_limit(rt, &texts, Call::ByPass, 4)?)
+    Ok(
+        is_past_the_limit(rt, &texts, Call::Plain, 1)?
+            && is_past_the_limit(rt, &texts, Call::ByPass, 1)?
+            && is_past_the_limit(rt, &texts, Call::Plain, 4)?
+            && is_past_the_limit(rt, &texts, Call::ByPass, 4)?,
+    )
 }
 
 // The distinct texts of the first column have more than 49,100 bytes, those of the second 100,000.
 #[test]
 fn long_columns_are_refused_past_the_limit(rt: HostRuntime) -> Result<(), Fail> {
-    ends_so(&rt, are_past_the_limit(&rt, Numbers::Mixed), "some new texts")?;
+    ends_so(
+        &rt,
+        are_past_the_limit(&rt, Numbers::Mixed),
+        "some new texts",
+    )?;
     ends_so(&rt, are_past_the_limit(&rt, Numbers::Distinct), "new texts")
 }

@@ -112,7 +112,11 @@ fn limit_ends<R: AllocGlobal + Threads + Sync>(
 
 #[test]
 fn the_limit_ends_a_column_of_parts(rt: HostRuntime) -> Result<(), Fail> {
-    ends_so(&rt, limit_ends(&rt, Numbers::Repeated, 40, 180), "the limit")
+    ends_so(
+        &rt,
+        limit_ends(&rt, Numbers::Repeated, 40, 180),
+        "the limit",
+    )
 }
 
 #[test]
@@ -149,7 +153,11 @@ fn parts_follow_what_was_there(rt: HostRuntime) -> Result<(), Fail> {
 
 #[test]
 fn an_empty_column_has_no_codes(rt: HostRuntime) -> Result<(), Fail> {
-    ends_so(&rt, are_encoded(&rt, &[], &[], &[], Way::Parts(4)), "no codes")
+    ends_so(
+        &rt,
+        are_encoded(&rt, &[], &[], &[], Way::Parts(4)),
+        "no codes",
+    )
 }
 
 // `count` texts that repeat three words.

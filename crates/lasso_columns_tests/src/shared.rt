@@ -125,12 +125,7 @@ pub(super) enum Step {
 }
 
 // Whether the codes from position `first` on are those of the texts.
-fn were_added(
-    rodeo: &SpurThreadedRodeo,
-    codes: &[u32],
-    first: usize,
-    texts: &[&str],
-) -> bool {
+fn were_added(rodeo: &SpurThreadedRodeo, codes: &[u32], first: usize, texts: &[&str]) -> bool {
     match codes.get(first..) {
         Some(added) => are_codes(rodeo, added, texts),
         None => false,
@@ -289,10 +284,12 @@ fn encodes_each_way<R: AllocGlobal + Threads + Wait + Sync>(
     rt: &R,
     texts: &[&str],
 ) -> Result<bool, Fail> {
-    Ok(encodes_odd(rt, texts, Call::Plain, 1)?
-        && encodes_odd(rt, texts, Call::ByPass, 1)?
-        && encodes_odd(rt, texts, Call::Plain, 4)?
-        && encodes_odd(rt, texts, Call::ByPass, 4)?)
+    Ok(
+        encodes_odd(rt, texts, Call::Plain, 1)?
+            && encodes_odd(rt, texts, Call::ByPass, 1)?
+            && encodes_odd(rt, texts, Call::Plain, 4)?
+            && encodes_odd(rt, texts, Call::ByPass, 4)?,
+    )
 }
 
 // An empty text, texts that are not ASCII, and one of 5000 bytes, under a limit with room for them.

@@ -75,10 +75,12 @@ fn refuses_long<R: AllocGlobal + Threads + Wait + Sync>(
 ) -> Result<bool, Fail> {
     let count = rodeo.len();
     let before = is_kept(rt, rodeo, count, LIMIT);
-    Ok(before
-        && limit_refuses(rodeo.try_get_or_intern(rt, long).err())?
-        && refuses(rt, rodeo, &["red", long], call, workers)?
-        && is_kept(rt, rodeo, count, LIMIT))
+    Ok(
+        before
+            && limit_refuses(rodeo.try_get_or_intern(rt, long).err())?
+            && refuses(rt, rodeo, &["red", long], call, workers)?
+            && is_kept(rt, rodeo, count, LIMIT),
+    )
 }
 
 // The same of 6000 letters.
@@ -106,9 +108,9 @@ fn follows<R: AllocGlobal + Threads + Wait + Sync>(
     count: usize,
 ) -> Result<bool, Fail> {
     match encoded(rt, rodeo, texts, call, workers) {
-        Ok(codes) => Ok(are_codes(rodeo, &codes, texts)
-            && rodeo.len() == count
-            && has_from(rodeo, 0, had)),
+        Ok(codes) => Ok(
+            are_codes(rodeo, &codes, texts) && rodeo.len() == count && has_from(rodeo, 0, had),
+        ),
         Err(error) => Err(Fail::from(error)),
     }
 }
@@ -126,9 +128,11 @@ fn encodes_column<R: AllocGlobal + Threads + Wait + Sync>(
 {
     let count = others.saturating_add(COME[number].len());
     let had = texts_of(rt.alloc(), rodeo)?;
-    Ok(follows(rt, rodeo, &had, COLUMNS[number], way, count)?
-        && has_each(rt, rodeo, COME[number])
-        && limit_holds(rt, rodeo, way.0, way.1)?)
+    Ok(
+        follows(rt, rodeo, &had, COLUMNS[number], way, count)?
+            && has_each(rt, rodeo, COME[number])
+            && limit_holds(rt, rodeo, way.0, way.1)?,
+    )
 }
 
 // Encodes the three columns one after another over an interner of the texts of `opening`, which no column

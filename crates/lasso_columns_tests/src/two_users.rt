@@ -61,10 +61,12 @@ fn encodes_each_way<R: AllocGlobal + Threads + Wait + Sync>(
     let one = slices(rt.alloc(), one)?;
     let other = slices(rt.alloc(), other)?;
     let columns = (one.as_slice(), other.as_slice());
-    Ok(encodes_both(rt, columns, Call::Plain, 1)?
-        && encodes_both(rt, columns, Call::Plain, 2)?
-        && encodes_both(rt, columns, Call::ByPass, 1)?
-        && encodes_both(rt, columns, Call::ByPass, 2)?)
+    Ok(
+        encodes_both(rt, columns, Call::Plain, 1)?
+            && encodes_both(rt, columns, Call::Plain, 2)?
+            && encodes_both(rt, columns, Call::ByPass, 1)?
+            && encodes_both(rt, columns, Call::ByPass, 2)?,
+    )
 }
 
 fn texts_of(alloc: Global, numbers: Numbers) -> Result<Vec<String>, Fail> {

@@ -75,9 +75,11 @@ fn shares<R: AllocGlobal + Threads + Wait + Sync>(
     rodeo.set_memory_limits(rt, MemoryLimits::new(5000));
     rodeo.try_get_or_intern(rt, OTHER)?;
     match encoded(rt, rodeo, texts, call, workers) {
-        Ok(codes) => Ok(are_codes(rodeo, &codes, texts)
-            && (workers > 1 || codes.as_slice() == wanted)
-            && is_left(rt, rodeo, distinct_of(wanted))),
+        Ok(codes) => Ok(
+            are_codes(rodeo, &codes, texts)
+                && (workers > 1 || codes.as_slice() == wanted)
+                && is_left(rt, rodeo, distinct_of(wanted)),
+        ),
         Err(error) => Err(Fail::from(error)),
     }
 }
@@ -155,7 +157,11 @@ fn texts_that_are_all_alike(rt: HostRuntime) -> Result<(), Fail> {
 #[test]
 fn texts_that_are_all_different(rt: HostRuntime) -> Result<(), Fail> {
     for at in 0..COUNTS.len() {
-        ends_so(&rt, columns_are_encoded(&rt, false, COUNTS[at]), "different")?;
+        ends_so(
+            &rt,
+            columns_are_encoded(&rt, false, COUNTS[at]),
+            "different",
+        )?;
     }
     Ok(())
 }
