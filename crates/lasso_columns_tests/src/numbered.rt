@@ -20,7 +20,7 @@ pub(super) enum Numbers {
 }
 
 fn repeated_at(place: u32) -> u32 {
-    place.wrapping_mul(place) % 97 + place / 200
+    (place.wrapping_mul(place) % 97).wrapping_add(place / 200)
 }
 
 fn distinct_at(place: u32) -> u32 {

@@ -1,5 +1,7 @@
 //! Columns that threads encode over an interner that already has texts. The new texts of a column are
 //! appended to that interner's list, and its own calls resolve the codes.
+ghost use Rattle.std.specs.Prelude.{◌<◌};
+
 use crate::calls::{CALLS, Call, shared_interner};
 use crate::checks::ends_so;
 use crate::columns::limit_refuses;
