@@ -235,12 +235,13 @@ fn is_named<R: AllocGlobal + Threads + Sync>(
     rodeo: &mut SpurRodeo,
     counts: &mut Vec<u64>,
     filler: &str,
-    (texts, position, times): Row,
+    row: Row,
     workers: usize,
 ) -> Result<bool, Fail>
     requires texts { rodeo.old.texts ≡ [] }
     requires counts { counts.old.items ≡ [] }
 {
+    let (texts, position, times) = row;
     count(rodeo, counts, filler)?;
     let refused = count_parts(rt, rodeo, counts, texts, workers)?;
     Ok(

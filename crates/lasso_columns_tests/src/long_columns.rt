@@ -2,7 +2,7 @@
 use crate::calls::{Call, encode, encode_in_parts, encode_lines, interner, merge, shared_interner};
 use crate::checks::{distinct_of, ends_so, stand_for};
 use crate::columns::{are_decoded, is_merged};
-use crate::numbered::{COUNT, Column, Numbers, codes_of, column, first_of, printed, slices};
+use crate::numbered::{COUNT, Column, Numbers, codes_of, first_of, make_column, printed, slices};
 use crate::shared::{are_codes, encoded};
 use lasso::{SpurRodeo, SpurRodeoReader};
 use std::alloc::Global;
@@ -111,7 +111,7 @@ pub(super) fn encodes_long<R: AllocGlobal + Threads + Sync>(
     numbers: Numbers,
     ways: &[Way],
 ) -> Result<bool, Fail> {
-    let column = column(rt.alloc(), numbers, COUNT)?;
+    let column = make_column(rt.alloc(), numbers, COUNT)?;
     for at in 0..ways.len() {
         if !is_encoded(rt, &[], &column, ways[at])? {
             return Ok(false);
@@ -229,7 +229,7 @@ fn shares_column<R: AllocGlobal + Threads + Wait + Sync>(
 // The order of the list may differ from run to run.
 #[test]
 fn threads_encode_many_texts(rt: HostRuntime) -> Result<(), Fail> {
-    let column = column(rt.alloc(), Numbers::Mixed, COUNT)?;
+    let column = make_column(rt.alloc(), Numbers::Mixed, COUNT)?;
     ends_so(&rt, shares_column(&rt, &column, 1), "one worker")?;
     ends_so(&rt, shares_column(&rt, &column, 4), "four workers")?;
     ends_so(&rt, shares_column(&rt, &column, 7), "seven workers")

@@ -86,7 +86,7 @@ fn column_of(alloc: Global, numbers: &[u32]) -> Result<Column, Fail> {
 }
 
 /// The column of the first `count` of the numbers, encoded over an interner without texts.
-pub(super) fn column(alloc: Global, numbers: Numbers, count: u32) -> Result<Column, Fail> {
+pub(super) fn make_column(alloc: Global, numbers: Numbers, count: u32) -> Result<Column, Fail> {
     let numbers = first_of(alloc, numbers, count)?;
     column_of(alloc, &numbers)
 }

@@ -4,7 +4,7 @@ use crate::calls::{encode_in_parts, interner};
 use crate::checks::{distinct_of, ends_so, stand_for};
 use crate::columns::limit_refuses;
 use crate::long_columns::{Way, are_encoded, encodes_long};
-use crate::numbered::{COUNT, Column, Numbers, column, slices};
+use crate::numbered::{COUNT, Column, Numbers, make_column, slices};
 use crate::refused::{Script, with_each_refused};
 use lasso::{Capacity, LassoResult, MemoryLimits, Rodeo, SpurRodeo};
 use std::alloc::Global;
@@ -106,7 +106,7 @@ fn limit_ends<R: AllocGlobal + Threads + Sync>(
     most: u32,
     more: u32,
 ) -> Result<bool, Fail> {
-    let column = column(rt.alloc(), numbers, COUNT)?;
+    let column = make_column(rt.alloc(), numbers, COUNT)?;
     Ok(limit_ends_column(rt, &column, most)? && limit_ends_column(rt, &column, more)?)
 }
 
@@ -194,7 +194,7 @@ fn long_parts_are_rewritten(rt: HostRuntime) -> Result<(), Fail> {
 // their codes, and a second call encodes the rest.
 #[test]
 fn a_refused_request_leaves_a_beginning(rt: HostRuntime) -> Result<(), Fail> {
-    let column = column(rt.alloc(), Numbers::Repeated, 2000)?;
+    let column = make_column(rt.alloc(), Numbers::Repeated, 2000)?;
     let texts = slices(rt.alloc(), &column.texts)?;
     with_each_refused(&rt, Script::Parts(&texts, &column.codes))
 }

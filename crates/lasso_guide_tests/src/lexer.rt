@@ -35,7 +35,7 @@ fn are_pieces(lexer: &Lexer, tokens: &[Token<'_>], pieces: &[&str]) -> bool {
     true
 }
 
-fn lexer(alloc: Global) -> LassoResult<Lexer> {
+fn new_lexer(alloc: Global) -> LassoResult<Lexer> {
     Lexer::new(alloc)
 }
 
@@ -53,7 +53,7 @@ fn is_cut(lexer: &mut Lexer, alloc: Global, text: &str, pieces: &[&str]) -> Resu
 }
 
 fn cuts(alloc: Global, text: &str, pieces: &[&str]) -> Result<bool, Fail> {
-    let mut lexer = lexer(alloc)?;
+    let mut lexer = new_lexer(alloc)?;
     is_cut(&mut lexer, alloc, text, pieces)
 }
 
@@ -98,7 +98,7 @@ fn words_are_told(lexer: &mut Lexer, alloc: Global) -> Result<bool, Fail> {
 }
 
 fn tells_words(alloc: Global) -> Result<bool, Fail> {
-    let mut lexer = lexer(alloc)?;
+    let mut lexer = new_lexer(alloc)?;
     words_are_told(&mut lexer, alloc)
 }
 
@@ -125,7 +125,7 @@ fn has_keywords(lexer: &Lexer) -> bool {
 }
 
 fn begins_with_keywords(alloc: Global) -> Result<bool, Fail> {
-    let lexer = lexer(alloc)?;
+    let lexer = new_lexer(alloc)?;
     Ok(has_keywords(&lexer))
 }
 
