@@ -1,161 +1,359 @@
 //! Tests that each call succeeds when memory is available, which no contract can state; and whole columns,
 //! with values worked out by hand.
 use crate::calls::{decode, encode, encode_lines, interner, merge};
+use crate::checks::{all_right, are_texts, ends_so, is_by_the_limit, is_so};
 use crate::limited::limited;
-use lasso::LassoError;
+use lasso::{LassoError, LassoResult, SpurRodeo, SpurRodeoReader};
 use lasso_columns::{DecodeError, LineError};
-use std::fmt::Debug;
+use std::alloc::Global;
+use std::process::Abort;
 use std::test::Fail;
+
+// How encoding lines ends. Lines are numbered from 1.
+#[derive(Clone, Copy)]
+enum Ended {
+    Well,
+    // the line of this number is not UTF-8
+    NotText(usize),
+    // the memory limit refuses the line of this number
+    Refused(usize),
+}
+
+// A call on an interner and the codes of a column, and what has to come of it; or what then has to hold.
+#[derive(Clone, Copy)]
+enum Step {
+    Encodes(&'static [&'static str]),
+    // the memory limit refuses one of the texts
+    Refuses(&'static [&'static str]),
+    // encoding the lines ends so
+    Lines(&'static [u8], Ended),
+    // merging an interner of these texts gives these codes, or is refused by the memory limit
+    Merges(&'static [&'static str], Option<&'static [u32]>),
+    // these are the codes, which are cleared then
+    Codes(&'static [u32]),
+    // these are the codes, which stay
+    Keeps(&'static [u32]),
+    // there is this number of texts
+    Counts(usize),
+}
+
+// Whether the memory limit refused the call. Out of memory is an error.
+pub(super) fn limit_refuses(refusal: Option<LassoError>) -> Result<bool, Fail> {
+    match refusal {
+        Some(error) => is_by_the_limit(error),
+        None => Ok(false),
+    }
+}
+
+// Whether a refused line has to be so refused.
+fn is_refused(line: usize, error: LassoError, wanted: Ended) -> Result<bool, Fail> {
+    match wanted {
+        Ended::Refused(number) if number == line => is_by_the_limit(error),
+        _ => Err(Fail::from(error)),
+    }
+}
+
+fn ends(ended: Result<(), LineError>, wanted: Ended) -> Result<bool, Fail> {
+    match ended {
+        Ok(()) => Ok(matches!(wanted, Ended::Well)),
+        Err(LineError::NotText(line)) => {
+            Ok(matches!(wanted, Ended::NotText(number) if number == line))
+        }
+        Err(LineError::Refused(line, error)) => is_refused(line, error, wanted),
+    }
+}
+
+// Whether merging gave these codes, or was refused by the memory limit if there are none.
+pub(super) fn is_merged(
+    merged: LassoResult<Vec<u32>>,
+    wanted: Option<&[u32]>,
+) -> Result<bool, Fail> {
+    match (merged, wanted) {
+        (Ok(codes), Some(wanted)) => Ok(codes.as_slice() == wanted),
+        (Ok(_codes), None) => Ok(false),
+        (Err(error), None) => is_by_the_limit(error),
+        (Err(error), Some(_)) => Err(Fail::from(error)),
+    }
+}
+
+fn merges(
+    alloc: Global,
+    into: &mut SpurRodeo,
+    texts: &[&str],
+    wanted: Option<&[u32]>,
+) -> Result<bool, Fail> {
+    let from = interner(alloc, texts)?.into_reader();
+    is_merged(merge(alloc, into, &from), wanted)
+}
+
+fn encodes(ended: LassoResult<()>) -> Result<bool, Fail> {
+    match ended {
+        Ok(()) => Ok(true),
+        Err(error) => Err(Fail::from(error)),
+    }
+}
+
+fn were_codes(codes: &mut Vec<u32>, wanted: &[u32]) -> bool {
+    let right = codes.as_slice() == wanted;
+    codes.clear();
+    right
+}
+
+// Takes the step. Returns whether all is as it says.
+fn is_taken(
+    alloc: Global,
+    rodeo: &mut SpurRodeo,
+    codes: &mut Vec<u32>,
+    step: Step,
+) -> Result<bool, Fail> {
+    match step {
+        Step::Encodes(texts) => encodes(encode(rodeo, texts, codes)),
+        Step::Refuses(texts) => limit_refuses(encode(rodeo, texts, codes).err()),
+        Step::Lines(lines, ended) => ends(encode_lines(rodeo, lines, codes), ended),
+        Step::Merges(texts, merged) => merges(alloc, rodeo, texts, merged),
+        Step::Codes(wanted) => Ok(were_codes(codes, wanted)),
+        Step::Keeps(wanted) => Ok(codes.as_slice() == wanted),
+        Step::Counts(count) => Ok(rodeo.len() == count),
+    }
+}
+
+// Takes the steps in turn, up to the first that is wrong. Returns how many are right.
+fn right_steps(
+    alloc: Global,
+    rodeo: &mut SpurRodeo,
+    codes: &mut Vec<u32>,
+    steps: &[Step],
+) -> Result<usize, Fail> {
+    for at in 0..steps.len() {
+        if !is_taken(alloc, rodeo, codes, steps[at])? {
+            return Ok(at);
+        }
+    }
+    Ok(steps.len())
+}
+
+// The same from a first step on an interner that was just made.
+fn runs<R: AllocGlobal + Abort>(rt: &R, rodeo: &mut SpurRodeo, steps: &[Step]) -> Result<(), Fail> {
+    let mut codes = Vec::new(rt.alloc());
+    all_right(
+        rt,
+        right_steps(rt.alloc(), rodeo, &mut codes, steps),
+        steps.len(),
+    )
+}
+
+// Whether the codes decode to the texts.
+pub(super) fn are_decoded(
+    alloc: Global,
+    reader: &SpurRodeoReader,
+    codes: &[u32],
+    texts: &[&str],
+) -> Result<bool, Fail> {
+    let mut decoded = Vec::new(alloc);
+    match decode(reader, codes, &mut decoded) {
+        Ok(()) => Ok(are_texts(&decoded, texts)),
+        Err(error) => Err(Fail::from(error)),
+    }
+}
+
+// Checks that the codes decode to the texts.
+fn decodes<R: AllocGlobal + Abort>(
+    rt: &R,
+    rodeo: SpurRodeo,
+    codes: &[u32],
+    texts: &[&str],
+) -> Result<(), Fail> {
+    let reader = rodeo.into_reader();
+    ends_so(
+        rt,
+        are_decoded(rt.alloc(), &reader, codes, texts),
+        "the decoded texts",
+    )
+}
+
+// Takes the steps on the interner that was just made. Then the codes have to decode to the texts.
+fn column<R: AllocGlobal + Abort>(
+    rt: &R,
+    made: Result<SpurRodeo, Fail>,
+    steps: &[Step],
+    codes: &[u32],
+    texts: &[&str],
+) -> Result<(), Fail> {
+    let mut rodeo = made?;
+    runs(rt, &mut rodeo, steps)?;
+    decodes(rt, rodeo, codes, texts)
+}
+
+// An interner that refuses a third text of five bytes.
+fn limited_interner(alloc: Global) -> Result<SpurRodeo, Fail> {
+    Ok(limited(alloc)?)
+}
 
 #[test]
 fn texts_are_encoded_and_decoded(rt: HostRuntime) -> Result<(), Fail> {
-    let mut rodeo = interner(&rt, &[])?;
-    let mut codes = Vec::new(rt.alloc());
-    encode(&mut rodeo, &["red", "green", "red", ""], &mut codes)?;
-    encode(&mut rodeo, &["", "blue"], &mut codes)?;
-    assert!(rt; codes.as_slice() == [0, 1, 0, 2, 2, 3].as_slice());
-    let reader = rodeo.into_reader();
-    let mut texts = Vec::new(rt.alloc());
-    decode(&reader, &codes, &mut texts)?;
-    assert!(rt; texts.as_slice() == ["red", "green", "red", "", "", "blue"].as_slice());
-    Ok(())
+    static STEPS: [Step; 3] = [
+        Step::Encodes(&["red", "green", "red", ""]),
+        Step::Encodes(&["", "blue"]),
+        Step::Keeps(&[0, 1, 0, 2, 2, 3]),
+    ];
+    column(
+        &rt,
+        interner(rt.alloc(), &[]),
+        &STEPS,
+        &[0, 1, 0, 2, 2, 3],
+        &["red", "green", "red", "", "", "blue"],
+    )
+}
+
+// Decodes codes of which the third has no text.
+fn stops_at_the_third(alloc: Global, reader: &SpurRodeoReader) -> bool {
+    let mut texts = Vec::new(alloc);
+    let fault = decode(reader, &[1, 0, 2, 1], &mut texts).err();
+    let (position, code) = (2, 2);
+    fault == Some(DecodeError::NoText { position, code }) && are_texts(&texts, &["green", "red"])
+}
+
+fn greatest_code_is_printed(alloc: Global) -> Result<bool, Fail> {
+    let (position, code) = (0, 4294967295);
+    let printed = format!(in alloc; "{}", DecodeError::NoText { position, code })?;
+    Ok(printed.as_str() == "Code 4294967295 at position 0 has no text")
 }
 
 #[test]
 fn a_code_without_a_text_is_told(rt: HostRuntime) -> Result<(), Fail> {
-    let reader = interner(&rt, &["red", "green"])?.into_reader();
-    let mut texts = Vec::new(rt.alloc());
-    let fault = decode(&reader, &[1, 0, 2, 1], &mut texts).err();
-    let (position, code) = (2, 2);
-    assert!(rt; fault == Some(DecodeError::NoText { position, code }));
-    assert!(rt; texts.as_slice() == ["green", "red"].as_slice());
-    let printed = format!(in rt.alloc();
-        "{}",
-        DecodeError::NoText {
-            position: 0,
-            code: 4294967295
-        }
-    )?;
-    assert!(rt; printed.as_str() == "Code 4294967295 at position 0 has no text");
-    Ok(())
-}
-
-// Why a test fails when a call ends otherwise than expected, for example out of memory.
-fn unwanted<E: Debug + Drop>(ended: Result<(), E>) -> Fail {
-    match ended {
-        Ok(()) => Fail::from("not refused"),
-        Err(error) => Fail::from(error),
-    }
-}
-
-// Checks that the refusal is by the memory limit.
-pub(super) fn limit_refuses(refusal: Option<LassoError>) -> Result<(), Fail> {
-    let error = refusal.ok_or("not refused")?;
-    if error.kind().is_memory_limit() {
-        return Ok(());
-    }
-    Err(Fail::from(error))
+    let reader = interner(rt.alloc(), &["red", "green"])?.into_reader();
+    is_so(&rt, stops_at_the_third(rt.alloc(), &reader), "the code");
+    ends_so(&rt, greatest_code_is_printed(rt.alloc()), "the words")
 }
 
 #[test]
 fn a_refusal_in_mid_column_keeps_what_came_before(rt: HostRuntime) -> Result<(), Fail> {
-    let mut rodeo = limited(rt.alloc())?;
-    let mut codes = Vec::new(rt.alloc());
-    let texts = ["first", "other", "first", "third", "first"];
-    limit_refuses(encode(&mut rodeo, &texts, &mut codes).err())?;
-    assert!(rt; codes.as_slice() == [0, 1, 0].as_slice());
-    assert!(rt; rodeo.len() == 2);
-    encode(&mut rodeo, &texts[4..], &mut codes)?;
-    assert!(rt; codes.as_slice() == [0, 1, 0, 0].as_slice());
-    Ok(())
+    static STEPS: [Step; 5] = [
+        Step::Refuses(&["first", "other", "first", "third", "first"]),
+        Step::Keeps(&[0, 1, 0]),
+        Step::Counts(2),
+        Step::Encodes(&["first"]),
+        Step::Keeps(&[0, 1, 0, 0]),
+    ];
+    column(
+        &rt,
+        limited_interner(rt.alloc()),
+        &STEPS,
+        &[0, 1],
+        &["first", "other"],
+    )
 }
 
 #[test]
 fn lines_are_cut_and_encoded(rt: HostRuntime) -> Result<(), Fail> {
-    let mut rodeo = interner(&rt, &[])?;
-    let mut codes = Vec::new(rt.alloc());
-    encode_lines(&mut rodeo, b"to\nbe\n\nto\r\nbe", &mut codes)?;
-    assert!(rt; codes.as_slice() == [0, 1, 2, 3, 1].as_slice());
-    encode_lines(&mut rodeo, b"be\n", &mut codes)?;
-    encode_lines(&mut rodeo, b"", &mut codes)?;
-    assert!(rt; codes.as_slice() == [0, 1, 2, 3, 1, 1].as_slice());
-    let reader = rodeo.into_reader();
-    let mut texts = Vec::new(rt.alloc());
-    decode(&reader, &codes, &mut texts)?;
-    assert!(rt; texts.as_slice() == ["to", "be", "", "to\r", "be", "be"].as_slice());
-    Ok(())
+    static STEPS: [Step; 5] = [
+        Step::Lines(b"to\nbe\n\nto\r\nbe", Ended::Well),
+        Step::Keeps(&[0, 1, 2, 3, 1]),
+        Step::Lines(b"be\n", Ended::Well),
+        Step::Lines(b"", Ended::Well),
+        Step::Keeps(&[0, 1, 2, 3, 1, 1]),
+    ];
+    column(
+        &rt,
+        interner(rt.alloc(), &[]),
+        &STEPS,
+        &[0, 1, 2, 3, 1, 1],
+        &["to", "be", "", "to\r", "be", "be"],
+    )
 }
 
 #[test]
 fn a_faulty_line_is_told_by_its_number(rt: HostRuntime) -> Result<(), Fail> {
-    let mut rodeo = limited(rt.alloc())?;
-    let mut codes = Vec::new(rt.alloc());
-    match encode_lines(&mut rodeo, b"first\nother\n\xff\nfirst\n", &mut codes) {
-        Err(LineError::NotText(line)) => assert!(rt; line == 3),
-        other => return Err(unwanted(other)),
-    }
-    assert!(rt; codes.as_slice() == [0, 1].as_slice());
-    match encode_lines(&mut rodeo, b"other\nthird", &mut codes) {
-        Err(LineError::Refused(line, error)) => {
-            assert!(rt; line == 2);
-            limit_refuses(Some(error))?;
-        }
-        other => return Err(unwanted(other)),
-    }
-    assert!(rt; codes.as_slice() == [0, 1, 1].as_slice());
-    assert!(rt; rodeo.len() == 2);
-    Ok(())
+    static STEPS: [Step; 5] = [
+        Step::Lines(b"first\nother\n\xff\nfirst\n", Ended::NotText(3)),
+        Step::Keeps(&[0, 1]),
+        Step::Lines(b"other\nthird", Ended::Refused(2)),
+        Step::Keeps(&[0, 1, 1]),
+        Step::Counts(2),
+    ];
+    column(
+        &rt,
+        limited_interner(rt.alloc()),
+        &STEPS,
+        &[0, 1],
+        &["first", "other"],
+    )
 }
 
 #[test]
 fn two_dictionaries_are_merged(rt: HostRuntime) -> Result<(), Fail> {
-    let mut into = interner(&rt, &["red", "green"])?;
-    let from = interner(&rt, &["blue", "green", "white"])?.into_reader();
-    let merged = merge(&rt, &mut into, &from)?;
-    assert!(rt; merged.as_slice() == [2, 1, 3].as_slice());
-    assert!(rt; into.len() == 4);
-    let mut into = limited(rt.alloc())?;
-    let from = interner(&rt, &["first", "other", "third"])?.into_reader();
-    limit_refuses(merge(&rt, &mut into, &from).err())?;
-    assert!(rt; into.len() == 2);
-    Ok(())
+    static WHOLE: [Step; 2] = [
+        Step::Merges(&["blue", "green", "white"], Some(&[2, 1, 3])),
+        Step::Counts(4),
+    ];
+    static REFUSED: [Step; 2] = [
+        Step::Merges(&["first", "other", "third"], None),
+        Step::Counts(2),
+    ];
+    let into = interner(rt.alloc(), &["red", "green"]);
+    column(&rt, into, &WHOLE, &[2, 3], &["blue", "white"])?;
+    let into = limited_interner(rt.alloc());
+    column(&rt, into, &REFUSED, &[0, 1], &["first", "other"])
 }
 
 // The refused merges add no text: each is refused at the first text that `into` lacks.
 #[test]
 fn a_first_new_text_is_refused_by_the_limit(rt: HostRuntime) -> Result<(), Fail> {
-    let mut into = limited(rt.alloc())?;
-    let first = interner(&rt, &["first", "other"])?.into_reader();
-    let merged = merge(&rt, &mut into, &first)?;
-    assert!(rt; merged.as_slice() == [0, 1].as_slice());
-    let from = interner(&rt, &["third"])?.into_reader();
-    limit_refuses(merge(&rt, &mut into, &from).err())?;
-    let from = interner(&rt, &["first", "third"])?.into_reader();
-    limit_refuses(merge(&rt, &mut into, &from).err())?;
-    assert!(rt; into.len() == 2);
-    Ok(())
+    static STEPS: [Step; 4] = [
+        Step::Merges(&["first", "other"], Some(&[0, 1])),
+        Step::Merges(&["third"], None),
+        Step::Merges(&["first", "third"], None),
+        Step::Counts(2),
+    ];
+    column(
+        &rt,
+        limited_interner(rt.alloc()),
+        &STEPS,
+        &[0, 1],
+        &["first", "other"],
+    )
 }
 
 #[test]
 fn long_columns_are_encoded(rt: HostRuntime) -> Result<(), Fail> {
-    let mut rodeo = interner(&rt, &[])?;
-    let mut codes = Vec::new(rt.alloc());
-    encode(&mut rodeo, &["first"; 1000], &mut codes)?;
-    assert!(rt; codes.as_slice() == [0; 1000].as_slice());
-    codes.clear();
-    encode_lines(&mut rodeo, &[b'\n'; 1000], &mut codes)?;
-    assert!(rt; codes.as_slice() == [1; 1000].as_slice());
-    Ok(())
+    const TEXTS: [&str; 1000] = ["first"; 1000];
+    const LINES: [u8; 1000] = [b'\n'; 1000];
+    const ZEROS: [u32; 1000] = [0; 1000];
+    const ONES: [u32; 1000] = [1; 1000];
+    static STEPS: [Step; 4] = [
+        Step::Encodes(&TEXTS),
+        Step::Codes(&ZEROS),
+        Step::Lines(&LINES, Ended::Well),
+        Step::Codes(&ONES),
+    ];
+    column(
+        &rt,
+        interner(rt.alloc(), &[]),
+        &STEPS,
+        &[1, 0],
+        &["", "first"],
+    )
 }
 
 #[test]
 fn long_dictionaries_are_merged(rt: HostRuntime) -> Result<(), Fail> {
-    let mut from = interner(&rt, &[])?;
-    let letters = b"a\nb\nc\nd\ne\nf\ng\nh\ni\nj\nk\nl\nm\nn\no\np\nq\nr\ns\nt\nu\nv\nw\nx\ny\nz";
-    encode_lines(&mut from, letters, &mut Vec::new(rt.alloc()))?;
-    let mut into = interner(&rt, &["z"])?;
-    let merged = merge(&rt, &mut into, &from.into_reader())?;
-    assert!(rt; merged.len() == 26 && into.len() == 26);
-    assert!(rt; merged.first() == Some(&1) && merged.last() == Some(&0));
-    Ok(())
+    const LETTERS: [&str; 26] = [
+        "a", "b", "c", "d", "e", "f", "g", "h", "i", "j", "k", "l", "m", "n", "o", "p", "q", "r",
+        "s", "t", "u", "v", "w", "x", "y", "z",
+    ];
+    static STEPS: [Step; 4] = [
+        Step::Merges(&LETTERS, Some(CODES)),
+        Step::Counts(26),
+        Step::Lines(LINES, Ended::Well),
+        Step::Codes(CODES),
+    ];
+    column(&rt, interner(rt.alloc(), &["z"]), &STEPS, CODES, &LETTERS)
 }
+
+const LINES: &[u8] =
+    b"a\nb\nc\nd\ne\nf\ng\nh\ni\nj\nk\nl\nm\nn\no\np\nq\nr\ns\nt\nu\nv\nw\nx\ny\nz";
+
+// The codes of the letters where `z` came first.
+const CODES: &[u32] = &[
+    1, 2, 3, 4, 5, 6, 7, 8, 9, 10, 11, 12, 13, 14, 15, 16, 17, 18, 19, 20, 21, 22, 23, 24, 25, 0,
+];

@@ -1,9 +1,10 @@
 //! The examples in the doc comments of the calls, as tests.
-use lasso::{FixedState, Key, MemoryLimits, Rodeo, SpurRodeo, SpurThreadedRodeo, ThreadedRodeo};
-use lasso_columns::{
-    Layout, ReadError, append_dictionary, decode, encode, encode_in_parts, encode_lines,
-    encode_shared, merge, read_dictionary, write_dictionary,
+use crate::calls::{
+    append_dictionary, decode, encode, encode_in_parts, encode_lines, encode_shared, merge,
+    read_dictionary, write_dictionary,
 };
+use lasso::{FixedState, Key, MemoryLimits, Rodeo, SpurRodeo, SpurThreadedRodeo, ThreadedRodeo};
+use lasso_columns::{Layout, ReadError};
 use std::test::Fail;
 
 #[test]

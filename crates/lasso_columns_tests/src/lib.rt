@@ -6,7 +6,11 @@
 #[cfg(test)]
 mod calls;
 #[cfg(test)]
+mod checks;
+#[cfg(test)]
 mod columns;
+#[cfg(test)]
+mod counts;
 #[cfg(test)]
 mod dictionaries;
 #[cfg(test)]
@@ -24,6 +28,8 @@ mod narrow;
 mod numbered;
 #[cfg(test)]
 mod parts;
+#[cfg(test)]
+mod refused;
 #[cfg(test)]
 mod shared;
 #[cfg(test)]

@@ -1,91 +1,236 @@
 //! Columns of 20,000 texts. The expected codes are computed from the numbers that the texts print.
-use crate::calls::{decode, encode, encode_lines, encode_shared, interner, merge, shared_interner};
-use crate::numbered::{codes_of, distinct, mixed, printed, repeated};
-use crate::shared::stand_for;
-use lasso::{Rodeo, SpurRodeo};
+use crate::calls::{Call, encode, encode_in_parts, encode_lines, interner, merge, shared_interner};
+use crate::checks::{distinct_of, ends_so, stand_for};
+use crate::columns::{are_decoded, is_merged};
+use crate::numbered::{COUNT, Column, Numbers, codes_of, first_of, make_column, printed, slices};
+use crate::shared::{are_codes, encoded};
+use lasso::{SpurRodeo, SpurRodeoReader};
 use std::alloc::Global;
 use std::process::Abort;
+use std::sync::Wait;
 use std::test::Fail;
+use std::thread::Threads;
 
-pub(super) fn slices(alloc: Global, printed: &[String]) -> Result<Vec<&str>, Fail> {
-    let mut texts = Vec::new(alloc);
-    for text in printed {
-        texts.push(text.as_str())?;
-    }
-    Ok(texts)
+// How a column is encoded: as texts or as lines by one thread, or in parts by so many workers.
+#[derive(Clone, Copy)]
+pub(super) enum Way {
+    Texts,
+    Lines,
+    Parts(usize),
 }
 
-// Encodes the texts of the numbers, and decodes their codes.
-fn encode_and_decode<R: AllocGlobal + Abort>(rt: &R, numbers: &[u32]) -> Result<(), Fail> {
-    let printed = printed(rt.alloc(), numbers)?;
-    let texts = slices(rt.alloc(), &printed)?;
-    let expected = codes_of(rt.alloc(), numbers)?;
-    let mut rodeo: SpurRodeo = Rodeo::default(rt.alloc())?;
+// The texts as lines.
+fn lines_of(alloc: Global, texts: &[&str]) -> Result<Vec<u8>, Fail> {
+    let mut lines = Vec::new(alloc);
+    for at in 0..texts.len() {
+        lines.extend_from_slice(texts[at].as_bytes())?;
+        lines.push(b'\n')?;
+    }
+    Ok(lines)
+}
+
+fn encode_as_lines(
+    alloc: Global,
+    rodeo: &mut SpurRodeo,
+    texts: &[&str],
+    codes: &mut Vec<u32>,
+) -> Result<(), Fail> {
+    let lines = lines_of(alloc, texts)?;
+    Ok(encode_lines(rodeo, &lines, codes)?)
+}
+
+fn encode_by<R: AllocGlobal + Threads + Sync>(
+    rt: &R,
+    rodeo: &mut SpurRodeo,
+    texts: &[&str],
+    codes: &mut Vec<u32>,
+    way: Way,
+) -> Result<(), Fail> {
+    match way {
+        Way::Texts => Ok(encode(rodeo, texts, codes)?),
+        Way::Lines => encode_as_lines(rt.alloc(), rodeo, texts, codes),
+        Way::Parts(workers) => Ok(encode_in_parts(rt, rodeo, texts, codes, workers)?),
+    }
+}
+
+// Whether encoding the texts gives these codes, which resolve to them, and the interner then has no other text
+// than theirs and those that it had.
+fn encodes<R: AllocGlobal + Threads + Sync>(
+    rt: &R,
+    rodeo: &mut SpurRodeo,
+    texts: &[&str],
+    wanted: &[u32],
+    way: Way,
+) -> Result<bool, Fail> {
+    let count = rodeo.len();
     let mut codes = Vec::new(rt.alloc());
-    encode(&mut rodeo, &texts, &mut codes)?;
-    assert!(rt; codes.as_slice() == expected.as_slice());
+    match encode_by(rt, rodeo, texts, &mut codes, way) {
+        Ok(()) => Ok(
+            codes.as_slice() == wanted
+                && rodeo.len() == count.max(distinct_of(wanted))
+                && stand_for(rodeo, wanted, texts),
+        ),
+        Err(fault) => Err(fault),
+    }
+}
+
+fn decodes(alloc: Global, rodeo: SpurRodeo, codes: &[u32], texts: &[&str]) -> Result<bool, Fail> {
     let reader = rodeo.into_reader();
-    let mut decoded = Vec::new(rt.alloc());
-    decode(&reader, &codes, &mut decoded)?;
-    assert!(rt; decoded.as_slice() == texts.as_slice());
-    Ok(())
+    are_decoded(alloc, &reader, codes, texts)
+}
+
+// Whether the texts have these codes over an interner of the opening's texts, and are decoded from them.
+pub(super) fn are_encoded<R: AllocGlobal + Threads + Sync>(
+    rt: &R,
+    opening: &[&str],
+    texts: &[&str],
+    codes: &[u32],
+    way: Way,
+) -> Result<bool, Fail> {
+    let mut rodeo = interner(rt.alloc(), opening)?;
+    if !encodes(rt, &mut rodeo, texts, codes, way)? {
+        return Ok(false);
+    }
+    decodes(rt.alloc(), rodeo, codes, texts)
+}
+
+// The same of a column over an interner of one text or none.
+pub(super) fn is_encoded<R: AllocGlobal + Threads + Sync>(
+    rt: &R,
+    opening: &[&str],
+    column: &Column,
+    way: Way,
+) -> Result<bool, Fail> {
+    let texts = slices(rt.alloc(), &column.texts)?;
+    are_encoded(rt, opening, &texts, &column.codes, way)
+}
+
+// The same of a long column over an interner without texts.
+pub(super) fn encodes_long<R: AllocGlobal + Threads + Sync>(
+    rt: &R,
+    numbers: Numbers,
+    ways: &[Way],
+) -> Result<bool, Fail> {
+    let column = make_column(rt.alloc(), numbers, COUNT)?;
+    for at in 0..ways.len() {
+        if !is_encoded(rt, &[], &column, ways[at])? {
+            return Ok(false);
+        }
+    }
+    Ok(true)
 }
 
 #[test]
 fn long_columns_are_encoded_and_decoded(rt: HostRuntime) -> Result<(), Fail> {
-    encode_and_decode(&rt, &repeated(rt.alloc())?)?;
-    encode_and_decode(&rt, &distinct(rt.alloc())?)?;
-    encode_and_decode(&rt, &mixed(rt.alloc())?)
+    static WAYS: [Way; 1] = [Way::Texts];
+    ends_so(&rt, encodes_long(&rt, Numbers::Repeated, &WAYS), "repeated")?;
+    ends_so(&rt, encodes_long(&rt, Numbers::Distinct, &WAYS), "distinct")?;
+    ends_so(&rt, encodes_long(&rt, Numbers::Mixed, &WAYS), "mixed")
 }
 
 #[test]
 fn many_lines_are_encoded(rt: HostRuntime) -> Result<(), Fail> {
-    let numbers = mixed(rt.alloc())?;
-    let mut lines = Vec::new(rt.alloc());
-    for text in &printed(rt.alloc(), &numbers)? {
-        lines.extend_from_slice(text.as_bytes())?;
-        lines.push(b'\n')?;
+    static WAYS: [Way; 1] = [Way::Lines];
+    ends_so(&rt, encodes_long(&rt, Numbers::Mixed, &WAYS), "lines")
+}
+
+fn merges_into(
+    alloc: Global,
+    opening: &[&str],
+    from: &SpurRodeoReader,
+    codes: &[u32],
+    count: usize,
+) -> Result<bool, Fail> {
+    let mut into = interner(alloc, opening)?;
+    let merged = merge(alloc, &mut into, from);
+    match is_merged(merged, Some(codes)) {
+        Ok(right) => Ok(right && into.len() == count),
+        Err(fault) => Err(fault),
     }
-    let expected = codes_of(rt.alloc(), &numbers)?;
-    let mut rodeo = interner(&rt, &[])?;
-    let mut codes = Vec::new(rt.alloc());
-    encode_lines(&mut rodeo, &lines, &mut codes)?;
-    assert!(rt; codes.as_slice() == expected.as_slice());
-    Ok(())
+}
+
+// Whether merging an interner of the texts into one of the opening gives these codes. The latter then has
+// `count` texts.
+pub(super) fn merges(
+    alloc: Global,
+    opening: &[&str],
+    texts: &[&str],
+    codes: &[u32],
+    count: usize,
+) -> Result<bool, Fail> {
+    let from = interner(alloc, texts)?.into_reader();
+    merges_into(alloc, opening, &from, codes, count)
+}
+
+fn codes_of_both(alloc: Global, first: &[u32], second: &[u32]) -> Result<Vec<u32>, Fail> {
+    let mut numbers = first.to_vec(alloc)?;
+    numbers.extend_from_slice(second)?;
+    codes_of(alloc, &numbers)
+}
+
+// Merges the texts of the second column, each of which comes once, into an interner of those of the first.
+// `codes` are those of the second column's texts after the first.
+fn merges_columns(
+    alloc: Global,
+    first: &[String],
+    second: &[String],
+    codes: &[u32],
+    count: usize,
+) -> Result<bool, Fail> {
+    let opening = slices(alloc, first)?;
+    let texts = slices(alloc, second)?;
+    merges(alloc, &opening, &texts, codes, count)
+}
+
+// The same of columns that print these numbers.
+fn merges_numbers(alloc: Global, first: &[u32], second: &[u32]) -> Result<bool, Fail> {
+    let codes = codes_of_both(alloc, first, second)?;
+    let added = codes.get(first.len()..).ok_or("too few codes")?;
+    let first = printed(alloc, first)?;
+    let second = printed(alloc, second)?;
+    merges_columns(alloc, &first, &second, added, distinct_of(&codes))
 }
 
 // The second dictionary has 20,000 texts, some of which the first has too.
 #[test]
 fn dictionaries_of_many_texts_are_merged(rt: HostRuntime) -> Result<(), Fail> {
-    let mut numbers = repeated(rt.alloc())?;
-    let others = distinct(rt.alloc())?;
-    let first = printed(rt.alloc(), &numbers)?;
-    let second = printed(rt.alloc(), &others)?;
-    let mut into = interner(&rt, &slices(rt.alloc(), &first)?)?;
-    let from = interner(&rt, &slices(rt.alloc(), &second)?)?.into_reader();
-    let merged = merge(&rt, &mut into, &from)?;
-    let count = numbers.len();
-    numbers.extend_from_slice(&others)?;
-    let expected = codes_of(rt.alloc(), &numbers)?;
-    assert!(rt; Some(merged.as_slice()) == expected.get(count..));
-    Ok(())
+    let first = first_of(rt.alloc(), Numbers::Repeated, COUNT)?;
+    let second = first_of(rt.alloc(), Numbers::Distinct, COUNT)?;
+    ends_so(
+        &rt,
+        merges_numbers(rt.alloc(), &first, &second),
+        "the codes",
+    )
+}
+
+// Encodes the texts by these workers over a new interner that threads share, which then has `count` texts.
+fn shares<R: AllocGlobal + Threads + Wait + Sync>(
+    rt: &R,
+    texts: &[&str],
+    workers: usize,
+    count: usize,
+) -> Result<bool, Fail> {
+    let rodeo = shared_interner(rt.alloc())?;
+    match encoded(rt, &rodeo, texts, Call::Plain, workers) {
+        Ok(codes) => Ok(rodeo.len() == count && are_codes(&rodeo, &codes, texts)),
+        Err(error) => Err(Fail::from(error)),
+    }
+}
+
+fn shares_column<R: AllocGlobal + Threads + Wait + Sync>(
+    rt: &R,
+    column: &Column,
+    workers: usize,
+) -> Result<bool, Fail> {
+    let texts = slices(rt.alloc(), &column.texts)?;
+    shares(rt, &texts, workers, distinct_of(&column.codes))
 }
 
 // The order of the list may differ from run to run.
 #[test]
 fn threads_encode_many_texts(rt: HostRuntime) -> Result<(), Fail> {
-    let numbers = mixed(rt.alloc())?;
-    let printed = printed(rt.alloc(), &numbers)?;
-    let texts = slices(rt.alloc(), &printed)?;
-    let Some(greatest) = codes_of(rt.alloc(), &numbers)?.into_iter().max() else {
-        return Err(Fail::from("no numbers"));
-    };
-    for workers in [1usize, 4, 7] {
-        let rodeo = shared_interner(&rt)?;
-        let mut codes = Vec::new(rt.alloc());
-        encode_shared(&rt, &rodeo, &texts, &mut codes, workers)?;
-        assert!(rt; rodeo.len() == greatest as usize + 1);
-        stand_for(&rt, &rodeo, &codes, &texts)?;
-    }
-    Ok(())
+    let column = make_column(rt.alloc(), Numbers::Mixed, COUNT)?;
+    ends_so(&rt, shares_column(&rt, &column, 1), "one worker")?;
+    ends_so(&rt, shares_column(&rt, &column, 4), "four workers")?;
+    ends_so(&rt, shares_column(&rt, &column, 7), "seven workers")
 }

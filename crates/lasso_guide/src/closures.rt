@@ -3,9 +3,6 @@ ghost use Rattle.std.specs.Prelude.{◌≡◌, length};
 
 use std::thread::{Threads, join};
 
-#[cfg(test)]
-mod tests;
-
 /// How many texts each list has, counted by two threads if a thread can be started.
 pub fn counts<R: Threads>(rt: &R, left: &[&str], right: &[&str]) -> (usize, usize)
     ensures left { result.0 ≡ length left.now }

@@ -9,9 +9,6 @@ use crate::scopes::Scopes;
 use lasso::{Key, LassoError, Spur};
 use std::alloc::{AllocError, AllocFailed, Global};
 
-#[cfg(test)]
-mod tests;
-
 /// What a program is made of.
 #[derive(Clone, Copy, Debug)]
 pub enum Token<'t> {

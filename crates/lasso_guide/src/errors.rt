@@ -5,9 +5,6 @@ ghost use Rattle.lasso_guide.specs.declared.errors.DeclareError.TheVariants.{Out
 use lasso::{FixedState, Key, LassoError, Rodeo};
 use std::alloc::{AllocFailed, Global};
 
-#[cfg(test)]
-mod tests;
-
 /// Why a name was not declared.
 #[derive(Debug, Drop)]
 pub enum DeclareError {

@@ -8,9 +8,6 @@ ghost use Rattle.lasso_guide.specs.Lexing.{IsCutInto, IsKeyword, IsPiece, IsToke
 use lasso::{Key, LassoResult, Rodeo, Spur, SpurRodeo};
 use std::alloc::Global;
 
-#[cfg(test)]
-mod tests;
-
 /// The words that are not names.
 pub const KEYWORDS: [&str; 4] = ["else", "if", "let", "while"];
 

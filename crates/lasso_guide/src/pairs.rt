@@ -11,9 +11,6 @@ use lasso::{FixedState, Key, LassoResult, Pass, Snapshot, ThreadedRodeo};
 use std::sync::Wait;
 use std::thread::{Threads, join};
 
-#[cfg(test)]
-mod tests;
-
 /// The keys of both names, which two threads intern if a thread can be started. Fails as
 /// `try_get_or_intern_as` does: the pass is unchanged then, and one of the names may be interned.
 pub fn intern_pair<R: Threads + Wait + Sync, K: Key + Send + Sync + Drop>(

@@ -6,9 +6,6 @@ ghost use Rattle.lasso.specs.Views.{IsSamePass, list_of};
 use lasso::{FixedState, Key, LassoResult, Pass, ThreadedRodeo};
 use std::sync::Wait;
 
-#[cfg(test)]
-mod tests;
-
 /// The key of the name, which stands for it from now on in all that passes of this interner see. Each text
 /// that the pass had seen keeps its position. Fails as `try_get_or_intern_as` does.
 pub fn declare<K: Key, R: Wait>(

@@ -12,9 +12,6 @@ use std::alloc::Global;
 use std::error::Error;
 use std::fmt;
 
-#[cfg(test)]
-mod tests;
-
 /// Why a saved text was not loaded.
 #[derive(Debug, Drop)]
 pub enum LoadError {

@@ -7,9 +7,6 @@ ghost use Rattle.lasso_guide.specs.Scopes.{IsLast, IsNamed, names_of};
 use lasso::{FixedState, Key, LassoResult, Rodeo};
 use std::alloc::{AllocError, Global};
 
-#[cfg(test)]
-mod tests;
-
 /// The variables in scope.
 #[derive(Drop)]
 pub struct Scopes<K: Key + Drop> {

@@ -7,9 +7,6 @@ ghost use Rattle.lasso.specs.Texts.{Text};
 use lasso::{LassoResult, Rodeo, Spur, SpurRodeo};
 use std::alloc::Global;
 
-#[cfg(test)]
-mod tests;
-
 /// The names of symbols, in the order in which they were first declared.
 #[derive(Drop)]
 pub struct SpurTable {

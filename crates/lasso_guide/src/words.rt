@@ -12,9 +12,6 @@ use std::alloc::{AllocError, Global};
 use std::sync::Wait;
 use std::thread::{Threads, join};
 
-#[cfg(test)]
-mod tests;
-
 /// The words of a text, counted.
 #[derive(Drop)]
 pub struct WordCount<K: Key + Drop> {
