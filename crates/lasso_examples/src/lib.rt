@@ -34,4 +34,6 @@ mod shared_plain;
 #[cfg(test)]
 mod shared_threads;
 #[cfg(test)]
+mod steps;
+#[cfg(test)]
 mod walks;
