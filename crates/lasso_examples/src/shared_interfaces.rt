@@ -3,6 +3,7 @@
 //! and refuse and copy no more than these, is tested here.
 use crate::answers::{all_right, is_so};
 use crate::interfaces::{freezes, shows_reader, shows_resolver};
+use crate::shared_plain::fresh;
 use crate::steps::{NO_BYTES, NO_KEY_LEFT, ONE_TEXT, Step, UNDER_NO_LIMIT, first_wrong};
 use lasso::interface::laws::{reader_knows, resolver_knows};
 use lasso::interface::{IntoReader, IntoResolver};
@@ -35,11 +36,6 @@ fn limited(rt: &impl Wait, alloc: Global) -> LassoResult<SpurThreadedRodeo> {
     rodeo.try_get_or_intern(rt, "abc")?;
     rodeo.set_memory_limits(rt, MemoryLimits::new(0));
     Ok(rodeo)
-}
-
-/// A shared interner without a text.
-pub fn fresh(alloc: Global) -> LassoResult<SpurThreadedRodeo> {
-    ThreadedRodeo::default(alloc)
 }
 
 // Each function with an interface of one type is the only one of that type, as those of the interner for one

@@ -1,6 +1,6 @@
 //! Two threads that use one shared interner through its interfaces.
 use crate::answers::is_so;
-use crate::shared_interfaces::fresh;
+use crate::shared_plain::fresh;
 use crate::steps::{Way, key_by};
 use lasso::interface::Reader;
 use lasso::{LassoResult, MemoryLimits, Spur, SpurThreadedRodeo};
