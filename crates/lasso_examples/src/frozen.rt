@@ -134,7 +134,9 @@ fn frozen_to_a_resolver(rt: HostRuntime) -> Result<(), Fail> {
 
 #[test]
 fn a_reader_frozen_to_a_resolver(rt: HostRuntime) -> Result<(), Fail> {
+    static BEFORE: [Look; 1] = [Gets("red", Some(0))];
     static LOOKS: [Look; 1] = [At(0, TryResolves(Some("red")))];
+    reads(&rt, reader(two(rt.alloc())), &BEFORE)?;
     resolves(&rt, thawed(reader(two(rt.alloc()))), &LOOKS)
 }
 
