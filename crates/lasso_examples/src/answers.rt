@@ -1,6 +1,6 @@
-//! What tests of the interfaces share: the interners that they begin with, and whether an intern call answers as it should.
-use lasso::{Capacity, Key, LassoErrorKind, LassoResult, MemoryLimits, Rodeo, SpurRodeo};
-use std::alloc::Global;
+//! The assertion of the tests, and comparisons of what calls return. None has a contract, so a test of many
+//! calls is proved as fast as one of few.
+use lasso::{Key, LassoErrorKind, LassoResult};
 use std::process::Abort;
 
 /// The refusal by a memory limit.
@@ -12,31 +12,34 @@ pub const NO_KEY: LassoErrorKind = LassoErrorKind::KeySpaceExhaustion;
 /// The number of a key, or the refusal.
 pub type Answer = Result<usize, LassoErrorKind>;
 
-/// That the answer is the key of the number, or the refusal.
-pub fn is_answer<K: Key>(rt: &impl Abort, answer: LassoResult<K>, wanted: Answer) {
-    match (answer, wanted) {
-        (Ok(key), Ok(number)) => assert!(rt; key.into_usize() == number),
-        (Err(error), Err(kind)) => assert!(rt; error.kind() == kind),
-        _ => assert!(rt; false),
+/// Fails the test if this does not hold. `what` names what was checked.
+pub fn is_so(rt: &impl Abort, holds: bool, what: &str) {
+    assert!(rt; holds, "{what}");
+}
+
+/// Fails the test unless all rows were right. `right` is the number of the first wrong one.
+pub fn all_right(rt: &impl Abort, right: usize, rows: usize) {
+    assert!(rt; right == rows, "row {right}");
+}
+
+/// The number of the key, if there is one.
+pub fn number_of<K: Key>(found: Option<K>) -> Option<usize> {
+    match found {
+        Some(key) => Some(key.into_usize()),
+        None => None,
     }
 }
 
-/// An interner with `Hello, world!` alone.
-pub fn hello(alloc: Global) -> LassoResult<SpurRodeo> {
-    let mut rodeo: SpurRodeo = Rodeo::new(alloc)?;
-    rodeo.try_get_or_intern("Hello, world!")?;
-    Ok(rodeo)
+/// Whether the call returned this. Out of memory is an error.
+pub fn is_answer<K: Key>(reply: LassoResult<K>, wanted: Answer) -> LassoResult<bool> {
+    match reply {
+        Ok(key) => Ok(wanted == Ok(key.into_usize())),
+        Err(error) if error.kind().is_failed_alloc() => Err(error),
+        Err(error) => Ok(wanted == Err(error.kind())),
+    }
 }
 
-/// An interner of 10 bytes with `abc`, and then a limit of 0 bytes.
-pub fn limited(alloc: Global) -> LassoResult<SpurRodeo> {
-    let mut rodeo: SpurRodeo = Rodeo::with_capacity(alloc, Capacity::for_bytes(10))?;
-    rodeo.try_get_or_intern("abc")?;
-    rodeo.set_memory_limits(MemoryLimits::new(0));
-    Ok(rodeo)
-}
-
-/// An interner of 4 bytes under a limit of 4 bytes, without a text.
-pub fn of_four_bytes(alloc: Global) -> LassoResult<SpurRodeo> {
-    Rodeo::with_capacity_and_memory_limits(alloc, Capacity::for_bytes(4), MemoryLimits::new(4))
+/// Whether this text was found.
+pub fn is_text(found: Option<&str>, text: &str) -> bool {
+    found == Some(text)
 }

@@ -1,174 +1,270 @@
 //! The examples in the documents of frozen interners, in tests.
-use lasso::{Key, Rodeo, Spur, SpurRodeo};
+use crate::answers::{all_right, is_so, number_of};
+use crate::rodeos::KeyLook::{IsKey, Resolves, ResolvesUnchecked, TryResolves};
+use crate::rodeos::Look::{At, Contains, Counts, Gets, IsEmpty};
+use crate::rodeos::{KeyLook, Look, of_hello, of_texts};
+use lasso::{Key, LassoResult, Spur, SpurRodeo, SpurRodeoReader, SpurRodeoResolver};
+use std::alloc::Global;
+use std::process::Abort;
 use std::test::Fail;
+
+fn is_readers_key_right(reader: &SpurRodeoReader, key: Spur, look: KeyLook) -> bool {
+    match look {
+        IsKey(is_key) => reader.contains_key(key) == is_key,
+        TryResolves(text) => reader.try_resolve(key) == text,
+        Resolves(text) => reader.contains_key(key) && reader.resolve(key) == text,
+        ResolvesUnchecked(text) => {
+            reader.contains_key(key) && reader.resolve_unchecked(key) == text
+        }
+    }
+}
+
+fn is_readers_look_right(reader: &SpurRodeoReader, look: Look) -> bool {
+    match look {
+        Gets(text, number) => number_of(reader.get(text)) == number,
+        Contains(text, is_there) => reader.contains(text) == is_there,
+        At(number, look) => match Spur::try_from_usize(number) {
+            Some(key) => is_readers_key_right(reader, key, look),
+            None => false,
+        },
+        Counts(count) => reader.len() == count,
+        IsEmpty(is_empty) => reader.is_empty() == is_empty,
+    }
+}
+
+// How many of the calls, in order, return what they have to before one does not.
+fn first_wrong_of_reader(reader: &SpurRodeoReader, looks: &[Look]) -> usize {
+    for at in 0..looks.len() {
+        if !is_readers_look_right(reader, looks[at]) {
+            return at;
+        }
+    }
+    looks.len()
+}
+
+/// Makes the calls in order. Fails the test unless each returns what it has to.
+pub fn reads(
+    rt: &impl Abort,
+    made: LassoResult<SpurRodeoReader>,
+    looks: &[Look],
+) -> Result<(), Fail> {
+    let reader = made?;
+    all_right(rt, first_wrong_of_reader(&reader, looks), looks.len());
+    Ok(())
+}
+
+fn is_resolvers_key_right(resolver: &SpurRodeoResolver, key: Spur, look: KeyLook) -> bool {
+    match look {
+        IsKey(is_key) => resolver.contains_key(key) == is_key,
+        TryResolves(text) => resolver.try_resolve(key) == text,
+        Resolves(text) => resolver.contains_key(key) && resolver.resolve(key) == text,
+        ResolvesUnchecked(text) => {
+            resolver.contains_key(key) && resolver.resolve_unchecked(key) == text
+        }
+    }
+}
+
+// A resolver has no call that looks up a text, so a row of one is wrong.
+fn is_resolvers_look_right(resolver: &SpurRodeoResolver, look: Look) -> bool {
+    match look {
+        Gets(_, _) | Contains(_, _) => false,
+        At(number, look) => match Spur::try_from_usize(number) {
+            Some(key) => is_resolvers_key_right(resolver, key, look),
+            None => false,
+        },
+        Counts(count) => resolver.len() == count,
+        IsEmpty(is_empty) => resolver.is_empty() == is_empty,
+    }
+}
+
+// How many of the calls, in order, return what they have to before one does not.
+fn first_wrong_of_resolver(resolver: &SpurRodeoResolver, looks: &[Look]) -> usize {
+    for at in 0..looks.len() {
+        if !is_resolvers_look_right(resolver, looks[at]) {
+            return at;
+        }
+    }
+    looks.len()
+}
+
+/// Makes the calls in order. Fails the test unless each returns what it has to.
+pub fn resolves(
+    rt: &impl Abort,
+    made: LassoResult<SpurRodeoResolver>,
+    looks: &[Look],
+) -> Result<(), Fail> {
+    let resolver = made?;
+    all_right(rt, first_wrong_of_resolver(&resolver, looks), looks.len());
+    Ok(())
+}
+
+// The interner as a reader.
+fn reader(made: LassoResult<SpurRodeo>) -> LassoResult<SpurRodeoReader> {
+    Ok(made?.into_reader())
+}
+
+// The interner as a resolver.
+fn resolver(made: LassoResult<SpurRodeo>) -> LassoResult<SpurRodeoResolver> {
+    Ok(made?.into_resolver())
+}
+
+// The reader as a resolver.
+fn thawed(made: LassoResult<SpurRodeoReader>) -> LassoResult<SpurRodeoResolver> {
+    Ok(made?.into_resolver())
+}
+
+fn two(alloc: Global) -> LassoResult<SpurRodeo> {
+    of_texts(alloc, &["red", "green"])
+}
 
 #[test]
 fn frozen_to_a_reader(rt: HostRuntime) -> Result<(), Fail> {
-    let mut rodeo = Rodeo::default(rt.alloc())?;
-    let hello = rodeo.try_get_or_intern("Hello, world!")?;
-    let reader = rodeo.into_reader();
-    assert!(rt; reader.get("Hello, world!") == Some(hello));
-    assert!(rt; reader.try_resolve(hello) == Some("Hello, world!"));
-    Ok(())
+    static LOOKS: [Look; 2] = [
+        Gets("Hello, world!", Some(0)),
+        At(0, TryResolves(Some("Hello, world!"))),
+    ];
+    reads(&rt, reader(of_hello(rt.alloc())), &LOOKS)
 }
 
 #[test]
 fn frozen_to_a_resolver(rt: HostRuntime) -> Result<(), Fail> {
-    let mut rodeo = Rodeo::default(rt.alloc())?;
-    let hello = rodeo.try_get_or_intern("Hello, world!")?;
-    let resolver = rodeo.into_resolver();
-    assert!(rt; resolver.try_resolve(hello) == Some("Hello, world!"));
-    assert!(rt; resolver.len() == 1);
-    Ok(())
+    static LOOKS: [Look; 2] = [At(0, TryResolves(Some("Hello, world!"))), Counts(1)];
+    resolves(&rt, resolver(of_hello(rt.alloc())), &LOOKS)
 }
 
 #[test]
 fn a_reader_frozen_to_a_resolver(rt: HostRuntime) -> Result<(), Fail> {
-    let reader = SpurRodeo::from_iter(rt.alloc(), ["red", "green"])?.into_reader();
-    let red = reader.get("red").ok_or("not there")?;
-    let resolver = reader.into_resolver();
-    assert!(rt; resolver.try_resolve(red) == Some("red"));
-    Ok(())
+    static BEFORE: [Look; 1] = [Gets("red", Some(0))];
+    static LOOKS: [Look; 1] = [At(0, TryResolves(Some("red")))];
+    reads(&rt, reader(two(rt.alloc())), &BEFORE)?;
+    resolves(&rt, thawed(reader(two(rt.alloc()))), &LOOKS)
+}
+
+// Whether the interner equals its copy, frozen to a reader and then to a resolver.
+fn equals_frozen_copy(rodeo: &SpurRodeo, to_a_resolver: bool) -> LassoResult<bool> {
+    let reader = rodeo.try_clone()?.into_reader();
+    Ok(if to_a_resolver {
+        rodeo.eq_resolver(&reader.into_resolver())
+    } else {
+        rodeo.eq_reader(&reader)
+    })
 }
 
 #[test]
 fn compared_with_a_reader(rt: HostRuntime) -> Result<(), Fail> {
-    let rodeo: SpurRodeo = Rodeo::from_iter(rt.alloc(), ["red", "green"])?;
-    let reader = rodeo.try_clone()?.into_reader();
-    assert!(rt; rodeo.eq_reader(&reader));
+    let rodeo = two(rt.alloc())?;
+    is_so(&rt, equals_frozen_copy(&rodeo, false)?, "the reader");
     Ok(())
 }
 
 #[test]
 fn compared_with_a_resolver(rt: HostRuntime) -> Result<(), Fail> {
-    let rodeo: SpurRodeo = Rodeo::from_iter(rt.alloc(), ["red", "green"])?;
-    let reader = rodeo.try_clone()?.into_reader();
-    let resolver = reader.into_resolver();
-    assert!(rt; rodeo.eq_resolver(&resolver));
+    let rodeo = two(rt.alloc())?;
+    is_so(&rt, equals_frozen_copy(&rodeo, true)?, "the resolver");
     Ok(())
 }
 
 #[test]
 fn keys_of_a_readers_texts(rt: HostRuntime) -> Result<(), Fail> {
-    let reader = SpurRodeo::from_iter(rt.alloc(), ["red", "green"])?.into_reader();
-    let green = reader.get("green").ok_or("not there")?;
-    assert!(rt; green.into_usize() == 1);
-    assert!(rt; reader.get("blue").is_none());
-    Ok(())
+    static LOOKS: [Look; 2] = [Gets("green", Some(1)), Gets("blue", None)];
+    reads(&rt, reader(two(rt.alloc())), &LOOKS)
 }
 
 #[test]
 fn texts_that_a_reader_has(rt: HostRuntime) -> Result<(), Fail> {
-    let reader = SpurRodeo::from_iter(rt.alloc(), ["red", "green"])?.into_reader();
-    assert!(rt; reader.contains("green"));
-    assert!(rt; !reader.contains("blue"));
-    Ok(())
+    static LOOKS: [Look; 2] = [Contains("green", true), Contains("blue", false)];
+    reads(&rt, reader(two(rt.alloc())), &LOOKS)
 }
 
 #[test]
 fn keys_that_a_reader_has(rt: HostRuntime) -> Result<(), Fail> {
-    let reader = SpurRodeo::from_iter(rt.alloc(), ["red", "green"])?.into_reader();
-    let red = reader.get("red").ok_or("not there")?;
-    assert!(rt; reader.contains_key(red));
-    let past = Spur::try_from_usize(2).ok_or("no key")?;
-    assert!(rt; !reader.contains_key(past));
-    Ok(())
+    static LOOKS: [Look; 3] = [
+        Gets("red", Some(0)),
+        At(0, IsKey(true)),
+        At(2, IsKey(false)),
+    ];
+    reads(&rt, reader(two(rt.alloc())), &LOOKS)
 }
 
 #[test]
 fn texts_of_a_readers_keys(rt: HostRuntime) -> Result<(), Fail> {
-    let reader = SpurRodeo::from_iter(rt.alloc(), ["red", "green"])?.into_reader();
-    let red = reader.get("red").ok_or("not there")?;
-    assert!(rt; reader.try_resolve(red) == Some("red"));
-    let past = Spur::try_from_usize(2).ok_or("no key")?;
-    assert!(rt; reader.try_resolve(past) == None);
-    Ok(())
+    static LOOKS: [Look; 3] = [
+        Gets("red", Some(0)),
+        At(0, TryResolves(Some("red"))),
+        At(2, TryResolves(None)),
+    ];
+    reads(&rt, reader(two(rt.alloc())), &LOOKS)
 }
 
 #[test]
 fn texts_of_keys_that_a_reader_has(rt: HostRuntime) -> Result<(), Fail> {
-    let reader = SpurRodeo::from_iter(rt.alloc(), ["red", "green"])?.into_reader();
-    let red = reader.get("red").ok_or("not there")?;
-    assert!(rt; reader.contains_key(red));
-    assert!(rt; reader.resolve(red) == "red");
-    Ok(())
+    static LOOKS: [Look; 3] = [
+        Gets("red", Some(0)),
+        At(0, IsKey(true)),
+        At(0, Resolves("red")),
+    ];
+    reads(&rt, reader(two(rt.alloc())), &LOOKS)
 }
 
 #[test]
 fn texts_of_a_readers_keys_untested(rt: HostRuntime) -> Result<(), Fail> {
-    let reader = SpurRodeo::from_iter(rt.alloc(), ["red", "green"])?.into_reader();
-    let red = reader.get("red").ok_or("not there")?;
-    assert!(rt; reader.contains_key(red));
-    assert!(rt; reader.resolve_unchecked(red) == "red");
-    Ok(())
+    static LOOKS: [Look; 3] = [
+        Gets("red", Some(0)),
+        At(0, IsKey(true)),
+        At(0, ResolvesUnchecked("red")),
+    ];
+    reads(&rt, reader(two(rt.alloc())), &LOOKS)
 }
 
 #[test]
 fn how_many_texts_a_reader_has(rt: HostRuntime) -> Result<(), Fail> {
-    let reader = SpurRodeo::from_iter(rt.alloc(), ["red", "green"])?.into_reader();
-    assert!(rt; reader.len() == 2);
-    Ok(())
+    static LOOKS: [Look; 1] = [Counts(2)];
+    reads(&rt, reader(two(rt.alloc())), &LOOKS)
 }
 
 #[test]
 fn a_reader_without_a_text(rt: HostRuntime) -> Result<(), Fail> {
-    let reader = SpurRodeo::default(rt.alloc())?.into_reader();
-    assert!(rt; reader.is_empty());
-    Ok(())
+    static LOOKS: [Look; 1] = [IsEmpty(true)];
+    reads(&rt, reader(SpurRodeo::default(rt.alloc())), &LOOKS)
+}
+
+// An interner with `red` alone, as a resolver.
+fn red(alloc: Global) -> LassoResult<SpurRodeoResolver> {
+    resolver(of_texts(alloc, &["red"]))
 }
 
 #[test]
 fn keys_that_a_resolver_has(rt: HostRuntime) -> Result<(), Fail> {
-    let mut rodeo = Rodeo::default(rt.alloc())?;
-    let red = rodeo.try_get_or_intern("red")?;
-    let resolver = rodeo.into_resolver();
-    assert!(rt; resolver.contains_key(red));
-    let next = Spur::try_from_usize(1).ok_or("no key")?;
-    assert!(rt; !resolver.contains_key(next));
-    Ok(())
+    static LOOKS: [Look; 2] = [At(0, IsKey(true)), At(1, IsKey(false))];
+    resolves(&rt, red(rt.alloc()), &LOOKS)
 }
 
 #[test]
 fn texts_of_a_resolvers_keys(rt: HostRuntime) -> Result<(), Fail> {
-    let mut rodeo = Rodeo::default(rt.alloc())?;
-    let red = rodeo.try_get_or_intern("red")?;
-    let resolver = rodeo.into_resolver();
-    assert!(rt; resolver.try_resolve(red) == Some("red"));
-    let next = Spur::try_from_usize(1).ok_or("no key")?;
-    assert!(rt; resolver.try_resolve(next) == None);
-    Ok(())
+    static LOOKS: [Look; 2] = [At(0, TryResolves(Some("red"))), At(1, TryResolves(None))];
+    resolves(&rt, red(rt.alloc()), &LOOKS)
 }
 
 #[test]
 fn texts_of_keys_that_a_resolver_has(rt: HostRuntime) -> Result<(), Fail> {
-    let mut rodeo = Rodeo::default(rt.alloc())?;
-    let red = rodeo.try_get_or_intern("red")?;
-    let resolver = rodeo.into_resolver();
-    assert!(rt; resolver.contains_key(red));
-    assert!(rt; resolver.resolve(red) == "red");
-    Ok(())
+    static LOOKS: [Look; 2] = [At(0, IsKey(true)), At(0, Resolves("red"))];
+    resolves(&rt, red(rt.alloc()), &LOOKS)
 }
 
 #[test]
 fn texts_of_a_resolvers_keys_untested(rt: HostRuntime) -> Result<(), Fail> {
-    let mut rodeo = Rodeo::default(rt.alloc())?;
-    let red = rodeo.try_get_or_intern("red")?;
-    let resolver = rodeo.into_resolver();
-    assert!(rt; resolver.contains_key(red));
-    assert!(rt; resolver.resolve_unchecked(red) == "red");
-    Ok(())
+    static LOOKS: [Look; 2] = [At(0, IsKey(true)), At(0, ResolvesUnchecked("red"))];
+    resolves(&rt, red(rt.alloc()), &LOOKS)
 }
 
 #[test]
 fn how_many_texts_a_resolver_has(rt: HostRuntime) -> Result<(), Fail> {
-    let resolver = SpurRodeo::from_iter(rt.alloc(), ["red", "green"])?.into_resolver();
-    assert!(rt; resolver.len() == 2);
-    Ok(())
+    static LOOKS: [Look; 1] = [Counts(2)];
+    resolves(&rt, resolver(two(rt.alloc())), &LOOKS)
 }
 
 #[test]
 fn a_resolver_without_a_text(rt: HostRuntime) -> Result<(), Fail> {
-    let resolver = SpurRodeo::default(rt.alloc())?.into_resolver();
-    assert!(rt; resolver.is_empty());
-    Ok(())
+    static LOOKS: [Look; 1] = [IsEmpty(true)];
+    resolves(&rt, resolver(SpurRodeo::default(rt.alloc())), &LOOKS)
 }

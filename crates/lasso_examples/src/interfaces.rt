@@ -1,326 +1,299 @@
 //! Each call of the interfaces at each type that has it, and rows of answers through generic code.
-use crate::answers::{Answer, LIMIT, NO_KEY, hello, is_answer, limited, of_four_bytes};
+use crate::answers::{all_right, is_so};
+use crate::steps::{
+    NO_BYTES, ONE_TEXT, Step, UNDER_NO_LIMIT, first_wrong, gives_hello, reads_hello,
+};
 use lasso::interface::holders::{
     boxed_rodeo_interns_as_one, lent_rodeo_interns_as_one, reader_finds_what_resolves,
     reader_of_boxed_rodeo_knows, reader_of_rodeo_knows, resolver_looks_up_alike,
     resolver_of_boxed_rodeo_knows, resolver_of_rodeo_knows, rodeo_interns_as_one,
 };
-use lasso::interface::laws::{finds_what_resolves, interns_as_one, looks_up_alike};
-use lasso::interface::{
-    Interner, IntoReader, IntoReaderAndResolver, IntoResolver, Reader, Resolver,
+use lasso::interface::{IntoReader, IntoReaderAndResolver, IntoResolver};
+use lasso::{
+    Capacity, Key, LassoResult, MemoryLimits, Rodeo, Spur, SpurRodeo, SpurRodeoReader,
+    SpurRodeoResolver,
 };
-use lasso::{Key, LassoResult, Rodeo, Spur, SpurRodeo};
 use std::alloc::Global;
 use std::process::Abort;
 use std::sync::Wait;
 use std::test::Fail;
 
-// Each intern call on its own, so that a row of them is a row of small proofs.
-fn tries<K: Key, R: Abort + Wait, I: Interner<K>>(
-    rt: &R,
-    interner: &mut I,
-    text: &str,
-    wanted: Answer,
-) {
-    is_answer(rt, interner.try_get_or_intern(rt, text), wanted);
+/// An interner with `Hello, world!` alone.
+pub fn hello(alloc: Global) -> LassoResult<SpurRodeo> {
+    let mut rodeo: SpurRodeo = Rodeo::new(alloc)?;
+    rodeo.try_get_or_intern("Hello, world!")?;
+    Ok(rodeo)
 }
 
-fn gets<K: Key, R: Abort + Wait, I: Interner<K>>(
-    rt: &R,
-    interner: &mut I,
-    text: &str,
-    wanted: Answer,
-) {
-    is_answer(rt, interner.get_or_intern(rt, text), wanted);
+/// An interner of 10 bytes with `abc`, and then a limit of 0 bytes.
+pub fn limited(alloc: Global) -> LassoResult<SpurRodeo> {
+    let mut rodeo: SpurRodeo = Rodeo::with_capacity(alloc, Capacity::for_bytes(10))?;
+    rodeo.try_get_or_intern("abc")?;
+    rodeo.set_memory_limits(MemoryLimits::new(0));
+    Ok(rodeo)
 }
 
-fn tries_static<K: Key, R: Abort + Wait, I: Interner<K>>(
-    rt: &R,
-    interner: &mut I,
-    text: &'static str,
-    wanted: Answer,
-) {
-    is_answer(rt, interner.try_get_or_intern_static(rt, text), wanted);
+/// An interner of 4 bytes under a limit of 4 bytes, without a text.
+pub fn of_four_bytes(alloc: Global) -> LassoResult<SpurRodeo> {
+    Rodeo::with_capacity_and_memory_limits(alloc, Capacity::for_bytes(4), MemoryLimits::new(4))
 }
 
-fn gets_static<K: Key, R: Abort + Wait, I: Interner<K>>(
-    rt: &R,
-    interner: &mut I,
-    text: &'static str,
-    wanted: Answer,
-) {
-    is_answer(rt, interner.get_or_intern_static(rt, text), wanted);
+// Each function with an interface of one type is the only one of that type: the type's interfaces are proved
+// to fit anew in each.
+fn by_itself<R: Wait>(rt: &R, rodeo: &mut SpurRodeo, steps: &[Step]) -> LassoResult<usize> {
+    first_wrong::<Spur, _, _>(rt, rodeo, steps)
 }
 
-/// `Hello, world!` by each of the four intern calls, and then all that a reader says of it. There must be no
-/// text before.
-pub fn one_text<K: Key, R: Abort + Wait, I: Interner<K>>(rt: &R, interner: &mut I) {
-    has_no_text(rt, interner);
-    tries(rt, interner, "Hello, world!", Ok(0));
-    tries(rt, interner, "Hello, world!", Ok(0));
-    gets(rt, interner, "Hello, world!", Ok(0));
-    gets_static(rt, interner, "Hello, world!", Ok(0));
-    tries_static(rt, interner, "Hello, world!", Ok(0));
-    has_one_text(rt, interner);
-    match interns_as_one(rt, interner, "Hello, world!") {
-        Ok(is_one) => assert!(rt; is_one),
-        Err(_) => assert!(rt; false),
+fn lent<R: Wait>(rt: &R, mut rodeo: &mut SpurRodeo, steps: &[Step]) -> LassoResult<usize> {
+    first_wrong::<Spur, _, _>(rt, &mut rodeo, steps)
+}
+
+fn in_a_box<R: Wait>(rt: &R, rodeo: &mut Box<SpurRodeo>, steps: &[Step]) -> LassoResult<usize> {
+    first_wrong::<Spur, _, _>(rt, rodeo, steps)
+}
+
+/// Whether `Hello, world!` is the only text of the reader.
+pub fn is_hello_reader<R: Wait>(rt: &R, reader: &SpurRodeoReader) -> bool {
+    reads_hello::<Spur, _, _>(rt, reader)
+}
+
+/// Whether `Hello, world!` is the only text of the resolver.
+pub fn is_hello_resolver(resolver: &SpurRodeoResolver) -> bool {
+    gives_hello::<Spur, _>(resolver)
+}
+
+// As what a test hands the interner to generic code.
+#[derive(Clone, Copy)]
+enum Holder {
+    Itself,
+    Lent,
+    Boxed,
+}
+
+fn runs_by<R: Wait>(
+    rt: &R,
+    holder: Holder,
+    rodeo: &mut Box<SpurRodeo>,
+    steps: &[Step],
+) -> LassoResult<usize> {
+    match holder {
+        Holder::Itself => by_itself(rt, &mut **rodeo, steps),
+        Holder::Lent => lent(rt, &mut **rodeo, steps),
+        Holder::Boxed => in_a_box(rt, rodeo, steps),
     }
 }
 
-fn has_no_text<K: Key, R: Abort, T: Resolver<K>>(rt: &R, resolver: &T) {
-    assert!(rt; resolver.is_empty());
-}
-
-/// That `Hello, world!` is the only text.
-pub fn has_one_text<K: Key, R: Abort + Wait, T: Reader<K>>(rt: &R, reader: &T) {
-    finds(rt, reader, "Hello, world!", Some(0));
-    finds(rt, reader, "Hello", None);
-    assert!(rt; finds_what_resolves(rt, reader, "Hello, world!"));
-    resolves_one_text(rt, reader);
-}
-
-// The text has the key of this number, or none.
-fn finds<K: Key, R: Abort + Wait, T: Reader<K>>(
+// Makes the calls in order. Afterwards there are this many texts, and the buckets take `usage` bytes.
+fn runs<R: AllocGlobal + Abort + Wait>(
     rt: &R,
-    reader: &T,
-    text: &str,
-    wanted: Option<usize>,
-) {
-    assert!(rt; reader.contains(rt, text) == wanted.is_some());
-    assert!(rt; reader.get(rt, text).map(|key| key.into_usize()) == wanted);
-}
-
-/// That key 0 stands for `Hello, world!`, and key 1 for no text.
-pub fn resolves_one_text<K: Key, R: Abort, T: Resolver<K>>(rt: &R, resolver: &T) {
-    assert!(rt; resolver.len() == 1);
-    assert!(rt; !resolver.is_empty());
-    let (Some(first), Some(second)) = (K::try_from_usize(0), K::try_from_usize(1)) else {
-        assert!(rt; false);
-        return;
-    };
-    stands_for(rt, resolver, first, Some("Hello, world!"));
-    stands_for(rt, resolver, second, None);
-}
-
-// The key stands for this text, or for none, by each call that says so.
-fn stands_for<K: Key, R: Abort, T: Resolver<K>>(
-    rt: &R,
-    resolver: &T,
-    key: K,
-    wanted: Option<&str>,
-) {
-    assert!(rt; resolver.try_resolve(key) == wanted);
-    assert!(rt; resolver.resolve(key) == wanted);
-    assert!(rt; resolver.resolve_unchecked(key) == wanted);
-    assert!(rt; resolver.contains_key(key) == wanted.is_some());
-    assert!(rt; looks_up_alike(resolver, key));
-}
-
-/// What an interner with `abc` alone answers under a limit of 0 bytes: the limit refuses a copied text alone.
-pub fn static_texts_under_no_limit<K: Key, R: Abort + Wait, I: Interner<K>>(
-    rt: &R,
-    interner: &mut I,
-) {
-    finds(rt, interner, "abc", Some(0));
-    finds(rt, interner, "defg", None);
-    gets(rt, interner, "defg", Ok(1));
-    tries(rt, interner, "0123456789", Err(LIMIT));
-    gets(rt, interner, "0123456789", Err(LIMIT));
-    tries(rt, interner, "abc", Ok(0));
-    tries_static(rt, interner, "0123456789", Ok(2));
-    gets_static(rt, interner, "9876543210", Ok(3));
-    has_so_many(rt, interner, 4);
-}
-
-/// What an interner with a text under each key answers for a new text.
-pub fn no_key_is_left<K: Key, R: Abort + Wait, I: Interner<K>>(rt: &R, interner: &mut I) {
-    tries(rt, interner, "new", Err(NO_KEY));
-    gets(rt, interner, "new", Err(NO_KEY));
-    tries_static(rt, interner, "new", Err(NO_KEY));
-    gets_static(rt, interner, "new", Err(NO_KEY));
-    finds(rt, interner, "new", None);
-}
-
-fn has_so_many<K: Key, R: Abort, T: Resolver<K>>(rt: &R, resolver: &T, wanted: usize) {
-    assert!(rt; resolver.len() == wanted);
+    holder: Holder,
+    made: LassoResult<SpurRodeo>,
+    steps: &[Step],
+    count: usize,
+    usage: usize,
+) -> Result<(), Fail> {
+    let mut rodeo = Box::new(rt.alloc(), made?)?;
+    all_right(rt, runs_by(rt, holder, &mut rodeo, steps)?, steps.len());
+    is_so(rt, rodeo.len() == count, "the number of texts");
+    is_so(rt, rodeo.current_memory_usage() == usage, "the usage");
+    Ok(())
 }
 
 #[test]
 fn one_text_through_an_interner(rt: HostRuntime) -> Result<(), Fail> {
-    let mut rodeo: SpurRodeo = Rodeo::new(rt.alloc())?;
-    one_text::<Spur, _, _>(&rt, &mut rodeo);
-    has_one_text::<Spur, _, _>(&rt, &&rodeo);
-    Ok(())
+    let made = Rodeo::new(rt.alloc());
+    runs(&rt, Holder::Itself, made, &ONE_TEXT, 1, 4096)
 }
 
 #[test]
 fn one_text_through_a_lent_interner(rt: HostRuntime) -> Result<(), Fail> {
-    let mut other: SpurRodeo = Rodeo::new(rt.alloc())?;
-    one_text::<Spur, _, _>(&rt, &mut &mut other);
-    Ok(())
+    let made = Rodeo::new(rt.alloc());
+    runs(&rt, Holder::Lent, made, &ONE_TEXT, 1, 4096)
 }
 
 #[test]
 fn one_text_through_an_interner_in_a_box(rt: HostRuntime) -> Result<(), Fail> {
-    let rodeo: SpurRodeo = Rodeo::new(rt.alloc())?;
-    let mut boxed = Box::new(rt.alloc(), rodeo)?;
-    one_text::<Spur, _, _>(&rt, &mut boxed);
-    assert!(rt; boxed.len() == 1);
-    Ok(())
+    let made = Rodeo::new(rt.alloc());
+    runs(&rt, Holder::Boxed, made, &ONE_TEXT, 1, 4096)
 }
 
 #[test]
 fn static_texts_through_an_interner(rt: HostRuntime) -> Result<(), Fail> {
-    let mut rodeo = limited(rt.alloc())?;
-    static_texts_under_no_limit::<Spur, _, _>(&rt, &mut rodeo);
-    assert!(rt; rodeo.current_memory_usage() == 10);
-    Ok(())
+    let made = limited(rt.alloc());
+    runs(&rt, Holder::Itself, made, &UNDER_NO_LIMIT, 4, 10)
 }
 
 #[test]
 fn static_texts_through_a_lent_interner(rt: HostRuntime) -> Result<(), Fail> {
-    let mut other = limited(rt.alloc())?;
-    static_texts_under_no_limit::<Spur, _, _>(&rt, &mut &mut other);
-    assert!(rt; other.current_memory_usage() == 10);
-    Ok(())
+    let made = limited(rt.alloc());
+    runs(&rt, Holder::Lent, made, &UNDER_NO_LIMIT, 4, 10)
 }
 
 #[test]
 fn static_texts_through_an_interner_in_a_box(rt: HostRuntime) -> Result<(), Fail> {
-    let mut boxed = Box::new(rt.alloc(), limited(rt.alloc())?)?;
-    static_texts_under_no_limit::<Spur, _, _>(&rt, &mut boxed);
-    assert!(rt; boxed.current_memory_usage() == 10);
-    Ok(())
-}
-
-/// Two static texts beside 4 free bytes under a limit of 4: they leave all 4 to a copied text.
-pub fn static_texts_take_no_bytes<K: Key, R: Abort + Wait, I: Interner<K>>(
-    rt: &R,
-    interner: &mut I,
-) {
-    tries_static(rt, interner, "abcd", Ok(0));
-    gets_static(rt, interner, "efgh", Ok(1));
-    gets(rt, interner, "wxyz", Ok(2));
-    tries(rt, interner, "more", Err(LIMIT));
-    gets(rt, interner, "more", Err(LIMIT));
+    let made = limited(rt.alloc());
+    runs(&rt, Holder::Boxed, made, &UNDER_NO_LIMIT, 4, 10)
 }
 
 #[test]
 fn static_texts_take_no_bytes_of_an_interner(rt: HostRuntime) -> Result<(), Fail> {
-    let mut rodeo = of_four_bytes(rt.alloc())?;
-    static_texts_take_no_bytes::<Spur, _, _>(&rt, &mut rodeo);
-    assert!(rt; rodeo.current_memory_usage() == 4);
-    Ok(())
+    let made = of_four_bytes(rt.alloc());
+    runs(&rt, Holder::Itself, made, &NO_BYTES, 3, 4)
 }
 
 #[test]
 fn static_texts_take_no_bytes_of_a_lent_interner(rt: HostRuntime) -> Result<(), Fail> {
-    let mut other = of_four_bytes(rt.alloc())?;
-    static_texts_take_no_bytes::<Spur, _, _>(&rt, &mut &mut other);
-    assert!(rt; other.current_memory_usage() == 4);
-    Ok(())
+    let made = of_four_bytes(rt.alloc());
+    runs(&rt, Holder::Lent, made, &NO_BYTES, 3, 4)
 }
 
 #[test]
 fn static_texts_take_no_bytes_of_an_interner_in_a_box(rt: HostRuntime) -> Result<(), Fail> {
-    let mut boxed = Box::new(rt.alloc(), of_four_bytes(rt.alloc())?)?;
-    static_texts_take_no_bytes::<Spur, _, _>(&rt, &mut boxed);
-    assert!(rt; boxed.current_memory_usage() == 4);
-    Ok(())
+    let made = of_four_bytes(rt.alloc());
+    runs(&rt, Holder::Boxed, made, &NO_BYTES, 3, 4)
 }
 
-/// What each way of freezing gives has `Hello, world!` alone.
-pub fn freezes<K: Key, R: Abort + Wait, I: IntoReaderAndResolver<K> + Drop>(
+/// Whether what each way of freezing gives has `Hello, world!` alone.
+pub fn freezes<K: Key, R: Wait, I: IntoReaderAndResolver<K> + Drop>(
     rt: &R,
     first: I,
     second: I,
-) -> Result<(), Fail>
+) -> LassoResult<bool>
 where
     I::Reader: Drop,
     I::Resolver: Drop,
 {
     let reader = first.into_reader(rt)?;
-    has_one_text(rt, &reader);
     let resolver = second.into_resolver(rt)?;
-    resolves_one_text(rt, &resolver);
-    Ok(())
+    Ok(reads_hello(rt, &reader) && gives_hello(&resolver))
 }
 
 #[test]
 fn plain_interners_freeze(rt: HostRuntime) -> Result<(), Fail> {
-    freezes::<Spur, _, _>(&rt, hello(rt.alloc())?, hello(rt.alloc())?)
+    let holds = freezes::<Spur, _, _>(&rt, hello(rt.alloc())?, hello(rt.alloc())?)?;
+    is_so(&rt, holds, "the frozen forms");
+    Ok(())
+}
+
+/// Checks that `Hello, world!` is the only text of the reader that was made.
+pub fn shows_reader<R: Abort + Wait>(
+    rt: &R,
+    made: LassoResult<SpurRodeoReader>,
+) -> Result<(), Fail> {
+    let reader = made?;
+    is_so(rt, is_hello_reader(rt, &reader), "the reader");
+    Ok(())
+}
+
+/// Checks that `Hello, world!` is the only text of the resolver that was made.
+pub fn shows_resolver(rt: &impl Abort, made: LassoResult<SpurRodeoResolver>) -> Result<(), Fail> {
+    let resolver = made?;
+    is_so(rt, is_hello_resolver(&resolver), "the resolver");
+    Ok(())
+}
+
+// Each call that freezes, by itself.
+fn thawed<R: Wait>(rt: &R, reader: SpurRodeoReader) -> LassoResult<SpurRodeoResolver> {
+    IntoResolver::into_resolver(reader, rt)
+}
+
+fn thawed_in_a_box<R: Wait>(
+    rt: &R,
+    reader: Box<SpurRodeoReader>,
+) -> LassoResult<SpurRodeoResolver> {
+    IntoResolver::into_resolver_boxed(reader, rt)
+}
+
+fn reader_of_boxed<R: Wait>(rt: &R, rodeo: Box<SpurRodeo>) -> LassoResult<SpurRodeoReader> {
+    IntoReader::into_reader_boxed(rodeo, rt)
+}
+
+fn resolver_of_boxed<R: Wait>(rt: &R, rodeo: Box<SpurRodeo>) -> LassoResult<SpurRodeoResolver> {
+    IntoResolver::into_resolver_boxed(rodeo, rt)
+}
+
+fn reader_of_box<R: Wait>(rt: &R, rodeo: Box<SpurRodeo>) -> LassoResult<SpurRodeoReader> {
+    IntoReader::into_reader(rodeo, rt)
+}
+
+fn resolver_of_box<R: Wait>(rt: &R, rodeo: Box<SpurRodeo>) -> LassoResult<SpurRodeoResolver> {
+    IntoResolver::into_resolver(rodeo, rt)
+}
+
+fn reader_of_twice<R: Wait>(rt: &R, rodeo: Box<Box<SpurRodeo>>) -> LassoResult<SpurRodeoReader> {
+    IntoReader::into_reader_boxed(rodeo, rt)
+}
+
+fn resolver_of_twice<R: Wait>(
+    rt: &R,
+    rodeo: Box<Box<SpurRodeo>>,
+) -> LassoResult<SpurRodeoResolver> {
+    IntoResolver::into_resolver_boxed(rodeo, rt)
 }
 
 #[test]
 fn a_reader_is_frozen_again(rt: HostRuntime) -> Result<(), Fail> {
     let reader = hello(rt.alloc())?.into_reader();
-    has_one_text::<Spur, _, _>(&rt, &reader);
-    has_one_text::<Spur, _, _>(&rt, &&reader);
-    let resolver = IntoResolver::into_resolver(reader, &rt)?;
-    resolves_one_text::<Spur, _, _>(&rt, &resolver);
-    resolves_one_text::<Spur, _, _>(&rt, &&resolver);
-    Ok(())
+    is_so(&rt, is_hello_reader(&rt, &reader), "the reader");
+    shows_resolver(&rt, thawed(&rt, reader))
 }
 
 fn boxed_hello(alloc: Global) -> LassoResult<Box<SpurRodeo>> {
     Ok(Box::new(alloc, hello(alloc)?)?)
 }
 
+fn twice_boxed_hello(alloc: Global) -> LassoResult<Box<Box<SpurRodeo>>> {
+    Ok(Box::new(alloc, boxed_hello(alloc)?)?)
+}
+
 #[test]
 fn a_boxed_interner_freezes_to_a_reader(rt: HostRuntime) -> Result<(), Fail> {
-    let reader = IntoReader::into_reader_boxed(boxed_hello(rt.alloc())?, &rt)?;
-    has_one_text::<Spur, _, _>(&rt, &reader);
-    let in_box = IntoResolver::into_resolver_boxed(Box::new(rt.alloc(), reader)?, &rt)?;
-    resolves_one_text::<Spur, _, _>(&rt, &in_box);
-    Ok(())
+    let reader = reader_of_boxed(&rt, boxed_hello(rt.alloc())?)?;
+    is_so(&rt, is_hello_reader(&rt, &reader), "the reader");
+    shows_resolver(&rt, thawed_in_a_box(&rt, Box::new(rt.alloc(), reader)?))
 }
 
 #[test]
 fn a_boxed_interner_freezes_to_a_resolver(rt: HostRuntime) -> Result<(), Fail> {
-    let resolver = IntoResolver::into_resolver_boxed(boxed_hello(rt.alloc())?, &rt)?;
-    resolves_one_text::<Spur, _, _>(&rt, &resolver);
-    Ok(())
+    shows_resolver(&rt, resolver_of_boxed(&rt, boxed_hello(rt.alloc())?))
 }
 
 #[test]
 fn a_box_freezes_as_what_it_holds(rt: HostRuntime) -> Result<(), Fail> {
-    let boxed = boxed_hello(rt.alloc())?;
-    has_one_text::<Spur, _, _>(&rt, &IntoReader::into_reader(boxed, &rt)?);
-    let boxed = boxed_hello(rt.alloc())?;
-    resolves_one_text::<Spur, _, _>(&rt, &IntoResolver::into_resolver(boxed, &rt)?);
-    Ok(())
+    shows_reader(&rt, reader_of_box(&rt, boxed_hello(rt.alloc())?))?;
+    shows_resolver(&rt, resolver_of_box(&rt, boxed_hello(rt.alloc())?))
 }
 
 #[test]
 fn a_box_in_a_box_freezes_to_a_reader(rt: HostRuntime) -> Result<(), Fail> {
-    let twice = Box::new(rt.alloc(), boxed_hello(rt.alloc())?)?;
-    has_one_text::<Spur, _, _>(&rt, &IntoReader::into_reader_boxed(twice, &rt)?);
-    Ok(())
+    shows_reader(&rt, reader_of_twice(&rt, twice_boxed_hello(rt.alloc())?))
 }
 
 #[test]
 fn a_box_in_a_box_freezes_to_a_resolver(rt: HostRuntime) -> Result<(), Fail> {
-    let twice = Box::new(rt.alloc(), boxed_hello(rt.alloc())?)?;
-    resolves_one_text::<Spur, _, _>(&rt, &IntoResolver::into_resolver_boxed(twice, &rt)?);
-    Ok(())
+    shows_resolver(&rt, resolver_of_twice(&rt, twice_boxed_hello(rt.alloc())?))
+}
+
+// A box of an interner with `A` alone.
+fn boxed_a(alloc: Global) -> LassoResult<Box<SpurRodeo>> {
+    let mut rodeo: SpurRodeo = Rodeo::new(alloc)?;
+    rodeo.try_get_or_intern("A")?;
+    Ok(Box::new(alloc, rodeo)?)
 }
 
 #[test]
 fn a_boxed_interner_of_one_text_to_a_reader(rt: HostRuntime) -> Result<(), Fail> {
-    let mut rodeo: SpurRodeo = Rodeo::new(rt.alloc())?;
-    rodeo.try_get_or_intern("A")?;
-    let reader = IntoReader::into_reader_boxed(Box::new(rt.alloc(), rodeo)?, &rt)?;
-    assert!(rt; reader.try_resolve(Spur::default()) == Some("A"));
+    let reader = reader_of_boxed(&rt, boxed_a(rt.alloc())?)?;
+    let found = reader.try_resolve(Spur::default());
+    is_so(&rt, found == Some("A"), "the text");
     Ok(())
 }
 
 #[test]
 fn a_boxed_interner_of_one_text_to_a_resolver(rt: HostRuntime) -> Result<(), Fail> {
-    let mut other: SpurRodeo = Rodeo::new(rt.alloc())?;
-    other.try_get_or_intern("A")?;
-    let resolver = IntoResolver::into_resolver_boxed(Box::new(rt.alloc(), other)?, &rt)?;
-    assert!(rt; resolver.try_resolve(Spur::default()) == Some("A"));
+    let resolver = resolver_of_boxed(&rt, boxed_a(rt.alloc())?)?;
+    let found = resolver.try_resolve(Spur::default());
+    is_so(&rt, found == Some("A"), "the text");
     Ok(())
 }
 
@@ -328,32 +301,47 @@ fn through_what_is_lent<'a>(rt: &impl Wait, mut lent: &'a mut SpurRodeo) -> Lass
     lent_rodeo_interns_as_one(rt, &mut lent, "b")
 }
 
+// Whether the laws hold of the interner, of what is lent from it and of the box, with a text each.
+fn keeps_laws(rt: &impl Wait, rodeo: &mut Box<SpurRodeo>) -> LassoResult<bool> {
+    Ok(
+        rodeo_interns_as_one(rt, &mut **rodeo, "a")?
+            && through_what_is_lent(rt, &mut **rodeo)?
+            && boxed_rodeo_interns_as_one(rt, rodeo, "c")?
+            && rodeo.len() == 3,
+    )
+}
+
 #[test]
 fn laws_at_an_interner(rt: HostRuntime) -> Result<(), Fail> {
-    let mut rodeo: SpurRodeo = Rodeo::new(rt.alloc())?;
-    assert!(rt; rodeo_interns_as_one(&rt, &mut rodeo, "a")?);
-    assert!(rt; through_what_is_lent(&rt, &mut rodeo)?);
-    let mut boxed = Box::new(rt.alloc(), rodeo)?;
-    assert!(rt; boxed_rodeo_interns_as_one(&rt, &mut boxed, "c")?);
-    assert!(rt; boxed.len() == 3);
-    assert!(rt; reader_of_boxed_rodeo_knows(&rt, boxed, "d")?);
+    let mut rodeo = Box::new(rt.alloc(), SpurRodeo::new(rt.alloc())?)?;
+    is_so(&rt, keeps_laws(&rt, &mut rodeo)?, "the laws of interning");
+    let knows = reader_of_boxed_rodeo_knows(&rt, rodeo, "d")?;
+    is_so(&rt, knows, "the law of freezing");
     Ok(())
 }
 
 #[test]
 fn laws_at_what_is_frozen(rt: HostRuntime) -> Result<(), Fail> {
-    assert!(rt; reader_of_rodeo_knows(&rt, hello(rt.alloc())?, "a")?);
-    assert!(rt; resolver_of_rodeo_knows(&rt, hello(rt.alloc())?, "a")?);
-    assert!(rt; resolver_of_boxed_rodeo_knows(&rt, boxed_hello(rt.alloc())?, "a")?);
+    let reader = reader_of_rodeo_knows(&rt, hello(rt.alloc())?, "a")?;
+    is_so(&rt, reader, "a reader");
+    let resolver = resolver_of_rodeo_knows(&rt, hello(rt.alloc())?, "a")?;
+    is_so(&rt, resolver, "a resolver");
+    let boxed = resolver_of_boxed_rodeo_knows(&rt, boxed_hello(rt.alloc())?, "a")?;
+    is_so(&rt, boxed, "a resolver of a box");
     Ok(())
+}
+
+fn finds_alike<R: Wait>(rt: &R, reader: &SpurRodeoReader) -> bool {
+    reader_finds_what_resolves(rt, reader, "Hello, world!")
+        && reader_finds_what_resolves(rt, reader, "Goodbye!")
 }
 
 #[test]
 fn laws_at_a_frozen_form(rt: HostRuntime) -> Result<(), Fail> {
     let reader = hello(rt.alloc())?.into_reader();
-    assert!(rt; reader_finds_what_resolves(&rt, &reader, "Hello, world!"));
-    assert!(rt; reader_finds_what_resolves(&rt, &reader, "Goodbye!"));
+    is_so(&rt, finds_alike(&rt, &reader), "the reader");
     let resolver = reader.into_resolver();
-    assert!(rt; resolver_looks_up_alike(&resolver, Spur::default()));
+    let holds = resolver_looks_up_alike(&resolver, Spur::default());
+    is_so(&rt, holds, "the resolver");
     Ok(())
 }

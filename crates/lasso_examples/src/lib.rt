@@ -1,6 +1,6 @@
-//! Examples of the use of `lasso`, as a crate beside it has them: those of the front page, and those in the
-//! documents of the calls, each copied as it is into a test; a key type and callers of one's own; and tests
-//! of the interfaces.
+//! Examples of the use of `lasso`, as a crate beside it has them: those of the front page, each copied as it is
+//! into a test; those in the documents of the calls, as rows that make the same calls; a key type and callers
+//! of one's own; and tests of the interfaces.
 #![tactic(auto)]
 
 #[cfg(test)]
@@ -24,6 +24,8 @@ pub mod own_key;
 #[cfg(test)]
 mod parts;
 #[cfg(test)]
+mod rodeos;
+#[cfg(test)]
 mod shared;
 #[cfg(test)]
 mod shared_interfaces;
@@ -33,5 +35,7 @@ mod shared_lists;
 mod shared_plain;
 #[cfg(test)]
 mod shared_threads;
+#[cfg(test)]
+mod steps;
 #[cfg(test)]
 mod walks;

@@ -1,114 +1,113 @@
-//! The examples in the documents of keys, of JSON, and of capacities, limits and errors, in tests.
+//! The examples in the documents of keys, of JSON, and of capacities, limits and errors, in tests. Those of a
+//! damaged list and of a number that is no key are lines of `lasso_replay`.
+use crate::answers::{is_so, number_of};
+use crate::rodeos::of_texts;
 use lasso::{
-    Capacity, JsonError, JsonKey, Key, LassoError, LassoErrorKind, MemoryLimits, MicroSpur, Spur,
-    SpurRodeo,
+    Capacity, JsonKey, Key, LassoError, LassoErrorKind, MemoryLimits, MicroSpur, Spur, SpurRodeo,
 };
 use serde_json::Value;
+use std::alloc::Global;
 use std::test::Fail;
+
+// The number that the key with this position keeps.
+fn kept(position: usize) -> Option<u32> {
+    match Spur::try_from_usize(position) {
+        Some(key) => Some(key.into_inner()),
+        None => None,
+    }
+}
 
 // A key of 8 bits keeps its position plus one, which is at most 255.
 #[test]
-fn positions_of_keys(rt: HostRuntime) -> Result<(), Fail> {
-    let third = Spur::try_from_usize(2).ok_or("no key")?;
-    assert!(rt; third.into_usize() == 2);
+fn positions_of_keys(rt: HostRuntime) {
+    let third = number_of(Spur::try_from_usize(2));
+    is_so(&rt, third == Some(2), "the third key");
+    let last = number_of(MicroSpur::try_from_usize(254));
+    is_so(&rt, last == Some(254), "the last key of 8 bits");
+    let none = MicroSpur::try_from_usize(255);
+    is_so(&rt, none.is_none(), "no key of 8 bits");
+    is_so(&rt, kept(2) == Some(3), "the kept number");
+}
 
-    let last = MicroSpur::try_from_usize(254).ok_or("no key")?;
-    assert!(rt; last.into_usize() == 254);
-    assert!(rt; MicroSpur::try_from_usize(255).is_none());
-
-    let third = Spur::try_from_usize(2).ok_or("no key")?;
-    assert!(rt; third.into_inner() == 3);
-    Ok(())
+// Whether the value is the number 1, and is read as this key.
+fn is_first(value: &Value, key: Spur) -> bool {
+    value.as_u64() == Some(1) && Spur::key_from_json(value) == Ok(key)
 }
 
 #[test]
 fn keys_as_json(rt: HostRuntime) -> Result<(), Fail> {
     let first = Spur::try_from_usize(0).ok_or("no key")?;
     let value = first.key_to_json(rt.alloc())?;
-    let kept = value.as_u64().ok_or("no number")?;
-    assert!(rt; kept == 1);
-
-    let first = Spur::try_from_usize(0).ok_or("no key")?;
-    let value = first.key_to_json(rt.alloc())?;
-    assert!(rt; Spur::key_from_json(&value) == Ok(first));
-    let zero = Value::from_str(rt.alloc(), "0")?;
-    assert!(rt; Spur::key_from_json(&zero) == Err(JsonError::NotAKey));
+    is_so(&rt, is_first(&value, first), "the number");
     Ok(())
+}
+
+// Whether the texts are written as this.
+fn is_written(alloc: Global, texts: &[&str], wanted: &str) -> Result<bool, Fail> {
+    let rodeo = of_texts(alloc, texts)?;
+    let written = rodeo.serialize(alloc)?.to_string(alloc)?;
+    Ok(written.as_str() == wanted)
+}
+
+// The interner that is read from this.
+fn read(alloc: Global, text: &str) -> Result<SpurRodeo, Fail> {
+    let value = Value::from_str(alloc, text)?;
+    Ok(SpurRodeo::deserialize(alloc, &value)?)
 }
 
 #[test]
 fn lists_as_json(rt: HostRuntime) -> Result<(), Fail> {
-    let rodeo = SpurRodeo::from_iter(rt.alloc(), ["b", "a"])?;
-    let written = rodeo.serialize(rt.alloc())?.to_string(rt.alloc())?;
-    assert!(rt; written.as_str() == r#"["b","a"]"#);
-
-    let value = Value::from_str(rt.alloc(), r#"["b", "a"]"#)?;
-    let rodeo = SpurRodeo::deserialize(rt.alloc(), &value)?;
-    let first = rodeo.get("b").ok_or("not there")?;
-    assert!(rt; first.into_usize() == 0);
+    let written = is_written(rt.alloc(), &["b", "a"], r#"["b","a"]"#)?;
+    is_so(&rt, written, "the array");
+    let rodeo = read(rt.alloc(), r#"["b", "a"]"#)?;
+    is_so(&rt, number_of(rodeo.get("b")) == Some(0), "the key");
     Ok(())
 }
 
-#[test]
-fn damaged_lists(rt: HostRuntime) -> Result<(), Fail> {
-    let damaged = Value::from_str(rt.alloc(), r#"["b", "a", "b"]"#)?;
-    let fault = SpurRodeo::deserialize(rt.alloc(), &damaged).err();
-    assert!(rt; fault == Some(JsonError::Doubled(2)));
-    Ok(())
+// Whether the error is of this kind, by each test of one: of the limit, of the keys and of memory.
+fn is_of(kind: LassoErrorKind, limit: bool, keys: bool, memory: bool) -> bool {
+    kind.is_memory_limit() == limit
+        && kind.is_keyspace_exhaustion() == keys
+        && kind.is_failed_alloc() == memory
 }
 
 #[test]
-fn kinds_of_errors(rt: HostRuntime) -> Result<(), Fail> {
-    let kind = LassoErrorKind::MemoryLimitReached;
-    assert!(rt; kind.is_memory_limit());
-    assert!(rt; !kind.is_failed_alloc());
+fn kinds_of_errors(rt: HostRuntime) {
+    let limit = LassoErrorKind::MemoryLimitReached;
+    is_so(&rt, is_of(limit, true, false, false), "the limit");
+    let keys = LassoErrorKind::KeySpaceExhaustion;
+    is_so(&rt, is_of(keys, false, true, false), "the keys");
+    let memory = LassoErrorKind::FailedAllocation;
+    is_so(&rt, is_of(memory, false, false, true), "the memory");
+    let error = LassoError::new(memory);
+    is_so(&rt, error.kind() == memory, "the error's kind");
+}
 
-    let kind = LassoErrorKind::KeySpaceExhaustion;
-    assert!(rt; kind.is_keyspace_exhaustion());
-    assert!(rt; !kind.is_memory_limit());
-
-    let kind = LassoErrorKind::FailedAllocation;
-    assert!(rt; kind.is_failed_alloc());
-    assert!(rt; !kind.is_keyspace_exhaustion());
-
-    let error = LassoError::new(LassoErrorKind::FailedAllocation);
-    assert!(rt; error.kind() == LassoErrorKind::FailedAllocation);
-    Ok(())
+fn has(capacity: Capacity, strings: usize, bytes: usize) -> bool {
+    capacity.strings() == strings && capacity.bytes() == bytes
 }
 
 #[test]
-fn capacities(rt: HostRuntime) -> Result<(), Fail> {
-    let capacity = Capacity::default();
-    assert!(rt; capacity.strings() == 50);
-    assert!(rt; capacity.bytes() == 4096);
+fn capacities(rt: HostRuntime) {
+    is_so(&rt, has(Capacity::default(), 50, 4096), "the default");
+    is_so(&rt, has(Capacity::new(3, 9), 3, 9), "both numbers");
+    is_so(&rt, has(Capacity::for_strings(10), 10, 4096), "strings");
+    is_so(&rt, has(Capacity::for_bytes(7), 50, 7), "bytes");
+    is_so(&rt, has(Capacity::minimal(), 0, 1), "the least");
+}
 
-    let capacity = Capacity::new(3, 9);
-    assert!(rt; capacity.strings() == 3);
-    assert!(rt; capacity.bytes() == 9);
-
-    let capacity = Capacity::for_strings(10);
-    assert!(rt; capacity.strings() == 10);
-    assert!(rt; capacity.bytes() == 4096);
-
-    let capacity = Capacity::for_bytes(7);
-    assert!(rt; capacity.strings() == 50);
-    assert!(rt; capacity.bytes() == 7);
-
-    let capacity = Capacity::minimal();
-    assert!(rt; capacity.strings() == 0);
-    assert!(rt; capacity.bytes() == 1);
-    Ok(())
+fn allows(limits: MemoryLimits, bytes: usize) -> bool {
+    limits.max_memory_usage() == bytes
 }
 
 #[test]
-fn limits(rt: HostRuntime) -> Result<(), Fail> {
-    let limits = MemoryLimits::default();
-    assert!(rt; limits.max_memory_usage() == usize::MAX);
-
-    let limits = MemoryLimits::new(12);
-    assert!(rt; limits.max_memory_usage() == 12);
-
-    let limits = MemoryLimits::for_memory_usage(13);
-    assert!(rt; limits.max_memory_usage() == 13);
-    Ok(())
+fn limits(rt: HostRuntime) {
+    is_so(
+        &rt,
+        allows(MemoryLimits::default(), usize::MAX),
+        "the default",
+    );
+    is_so(&rt, allows(MemoryLimits::new(12), 12), "a limit");
+    let other = MemoryLimits::for_memory_usage(13);
+    is_so(&rt, allows(other, 13), "a limit by its other name");
 }

@@ -1,104 +1,159 @@
-//! The examples in the documents of the interner that threads share, in tests.
-use lasso::{Capacity, FixedState, MemoryLimits, Spur, SpurThreadedRodeo, ThreadedRodeo};
+//! The examples in the documents of the interner that threads share, in tests. That of its maker with limits
+//! is a script of `lasso_replay`.
+use crate::answers::{is_so, is_text};
+use crate::shared_plain::{fresh, runs_on};
+use lasso::{FixedState, Key, LassoResult, Spur, SpurThreadedRodeo, ThreadedRodeo};
+use lasso_shared_testing::calls::{
+    copied, copied_as, found_as, kept_as, pass_of, seen_by, set_limit_as, stands_for, sums_as,
+};
+use lasso_shared_testing::steps::Step;
+use lasso_shared_testing::steps::Step::{Counts, Finds, Interns, Reads};
+use lasso_shared_testing::steps::Way::{Copied, TryCopied, TryStatic};
+use std::process::Abort;
+use std::sync::Wait;
 use std::test::Fail;
 
-#[test]
-fn shared_by_default(rt: HostRuntime) -> Result<(), Fail> {
-    let rodeo: SpurThreadedRodeo = ThreadedRodeo::default(rt.alloc())?;
-    let mut pass = rodeo.pass();
-    let key = rodeo.try_get_or_intern_static_as(&rt, &mut pass, "Hello, world!")?;
-    assert!(rt; rodeo.try_resolve_as(&mut pass, key) == Some("Hello, world!"));
+// What a test does with a pass.
+#[derive(Clone, Copy)]
+enum Calls {
+    Kept,
+    Copied,
+    LookedUp,
+    Met,
+    Limited,
+}
+
+// Whether the static text's key resolves to it.
+fn keeps<R: Wait>(rt: &R, shared: &SpurThreadedRodeo) -> LassoResult<bool> {
+    let mut pass = pass_of(shared);
+    let key = kept_as(rt, shared, &mut pass, "Hello, world!")?;
+    Ok(stands_for(shared, &mut pass, key, "Hello, world!"))
+}
+
+// Whether the copied text's key resolves to it.
+fn copies<R: Wait>(rt: &R, shared: &SpurThreadedRodeo) -> LassoResult<bool> {
+    let mut pass = pass_of(shared);
+    let key = copied_as(rt, shared, &mut pass, "Hello, world!")?;
+    Ok(stands_for(shared, &mut pass, key, "Hello, world!"))
+}
+
+// Whether the text is found, with its key, and is the only one.
+fn looks_up<R: Wait>(rt: &R, shared: &SpurThreadedRodeo) -> LassoResult<bool> {
+    let mut pass = pass_of(shared);
+    let key = copied_as(rt, shared, &mut pass, "Hello, world!")?;
+    Ok(
+        found_as(rt, shared, &mut pass, "Hello, world!") == Some(key.into_usize())
+            && shared.contains_key_as(&mut pass, key)
+            && seen_by(shared, &mut pass) == 1,
+    )
+}
+
+// Whether a pass that meets another one resolves its key.
+fn meets<R: Wait>(rt: &R, shared: &SpurThreadedRodeo) -> LassoResult<bool> {
+    let mut first = pass_of(shared);
+    let key = copied_as(rt, shared, &mut first, "Hello, world!")?;
+    let mut second = pass_of(shared);
+    second.meet(&first);
+    Ok(stands_for(shared, &mut second, key, "Hello, world!"))
+}
+
+// Whether the limit that is set is read, and the usage stays.
+fn limits<R: Wait>(rt: &R, shared: &SpurThreadedRodeo) -> bool {
+    let mut pass = pass_of(shared);
+    set_limit_as(rt, shared, &mut pass, 10);
+    sums_as(rt, shared, &mut pass) == (10, 4096)
+}
+
+fn are_right<R: Wait>(rt: &R, shared: &SpurThreadedRodeo, calls: Calls) -> LassoResult<bool> {
+    match calls {
+        Calls::Kept => keeps(rt, shared),
+        Calls::Copied => copies(rt, shared),
+        Calls::LookedUp => looks_up(rt, shared),
+        Calls::Met => meets(rt, shared),
+        Calls::Limited => Ok(limits(rt, shared)),
+    }
+}
+
+fn runs_as<R: AllocGlobal + Abort + Wait>(rt: &R, calls: Calls) -> Result<(), Fail> {
+    let shared = fresh(rt.alloc())?;
+    is_so(rt, are_right(rt, &shared, calls)?, "the calls with a pass");
     Ok(())
 }
 
 #[test]
+fn shared_by_default(rt: HostRuntime) -> Result<(), Fail> {
+    runs_as(&rt, Calls::Kept)
+}
+
+// Whether the first key resolves to no text.
+fn is_without_first(shared: &SpurThreadedRodeo) -> bool {
+    let mut pass = pass_of(shared);
+    shared.try_resolve_as(&mut pass, Spur::default()).is_none()
+}
+
+#[test]
 fn shared_with_a_hasher(rt: HostRuntime) -> Result<(), Fail> {
-    let hasher = FixedState::new();
-    let rodeo: SpurThreadedRodeo = ThreadedRodeo::with_hasher(rt.alloc(), hasher)?;
-    let mut pass = rodeo.pass();
-    assert!(rt; rodeo.try_resolve_as(&mut pass, Spur::default()) == None);
+    let shared = ThreadedRodeo::with_hasher(rt.alloc(), FixedState::new())?;
+    is_so(&rt, is_without_first(&shared), "the first key");
     Ok(())
 }
 
 #[test]
 fn shared_copied_with_a_pass(rt: HostRuntime) -> Result<(), Fail> {
-    let rodeo: SpurThreadedRodeo = ThreadedRodeo::default(rt.alloc())?;
-    let mut pass = rodeo.pass();
-    let key = rodeo.try_get_or_intern_as(&rt, &mut pass, "Hello, world!")?;
-    assert!(rt; rodeo.try_resolve_as(&mut pass, key) == Some("Hello, world!"));
-    Ok(())
+    runs_as(&rt, Calls::Copied)
 }
 
 #[test]
 fn shared_copied(rt: HostRuntime) -> Result<(), Fail> {
-    let rodeo: SpurThreadedRodeo = ThreadedRodeo::default(rt.alloc())?;
-    let key = rodeo.try_get_or_intern(&rt, "Hello, world!")?;
-    assert!(rt; rodeo.try_get_or_intern_static(&rt, "Hello, world!")? == key);
-    Ok(())
+    static STEPS: [Step; 2] = [
+        Interns(TryCopied, "Hello, world!", Ok(0)),
+        Interns(TryStatic, "Hello, world!", Ok(0)),
+    ];
+    runs_on(&rt, fresh(rt.alloc()), &STEPS)
 }
 
 #[test]
 fn shared_with_a_pass(rt: HostRuntime) -> Result<(), Fail> {
-    let rodeo: SpurThreadedRodeo = ThreadedRodeo::default(rt.alloc())?;
-    let mut pass = rodeo.pass();
-    let key = rodeo.try_get_or_intern_as(&rt, &mut pass, "Hello, world!")?;
-    assert!(rt; rodeo.get_as(&rt, &mut pass, "Hello, world!") == Some(key));
-    assert!(rt; rodeo.contains_key_as(&mut pass, key));
-    assert!(rt; rodeo.len_as(&mut pass) == 1);
-    Ok(())
+    runs_as(&rt, Calls::LookedUp)
 }
 
 #[test]
 fn shared_by_passes_that_meet(rt: HostRuntime) -> Result<(), Fail> {
-    let rodeo: SpurThreadedRodeo = ThreadedRodeo::default(rt.alloc())?;
-    let mut first = rodeo.pass();
-    let key = rodeo.try_get_or_intern_as(&rt, &mut first, "Hello, world!")?;
-    let mut second = rodeo.pass();
-    second.meet(&first);
-    assert!(rt; rodeo.try_resolve_as(&mut second, key) == Some("Hello, world!"));
-    Ok(())
+    runs_as(&rt, Calls::Met)
 }
 
 #[test]
 fn shared_looked_up(rt: HostRuntime) -> Result<(), Fail> {
-    let rodeo: SpurThreadedRodeo = ThreadedRodeo::default(rt.alloc())?;
-    let key = rodeo.get_or_intern(&rt, "Hello, world!")?;
-    assert!(rt; rodeo.get(&rt, "Hello, world!") == Some(key));
-    assert!(rt; rodeo.contains(&rt, "Hello, world!") && rodeo.contains_key(key));
-    assert!(rt; rodeo.resolve(key) == Some("Hello, world!"));
-    assert!(rt; rodeo.len() == 1);
-    Ok(())
-}
-
-#[test]
-fn shared_with_limits(rt: HostRuntime) -> Result<(), Fail> {
-    let capacity = Capacity::new(50, 100);
-    let limits = MemoryLimits::new(10000);
-    let made = ThreadedRodeo::with_capacity_and_memory_limits(rt.alloc(), capacity, limits);
-    let rodeo: SpurThreadedRodeo = made?;
-    assert!(rt; rodeo.current_memory_usage(&rt) == 100);
-    assert!(rt; rodeo.max_memory_usage(&rt) == 10000);
-    Ok(())
+    static STEPS: [Step; 4] = [
+        Interns(Copied, "Hello, world!", Ok(0)),
+        Finds("Hello, world!", Some(0)),
+        Reads(0, Some("Hello, world!")),
+        Counts(1),
+    ];
+    runs_on(&rt, fresh(rt.alloc()), &STEPS)
 }
 
 #[test]
 fn shared_with_a_new_limit(rt: HostRuntime) -> Result<(), Fail> {
-    let rodeo: SpurThreadedRodeo = ThreadedRodeo::default(rt.alloc())?;
-    let mut pass = rodeo.pass();
-    rodeo.set_memory_limits_as(&rt, &mut pass, MemoryLimits::new(10));
-    assert!(rt; rodeo.max_memory_usage_as(&rt, &mut pass) == 10);
-    assert!(rt; rodeo.current_memory_usage_as(&rt, &mut pass) == 4096);
-    Ok(())
+    runs_as(&rt, Calls::Limited)
+}
+
+// Whether a walk sees the text that was there when it began, and no later one.
+fn walks<R: Wait>(rt: &R, shared: &SpurThreadedRodeo) -> LassoResult<bool> {
+    copied(rt, shared, "red")?;
+    let mut walk = shared.iter();
+    copied(rt, shared, "green")?;
+    let is_one = walk.len() == 1;
+    let is_red = match walk.next() {
+        Some((key, text)) => key.into_usize() == 0 && text == "red",
+        None => false,
+    };
+    Ok(is_one && is_red && walk.next().is_none())
 }
 
 #[test]
 fn shared_walk(rt: HostRuntime) -> Result<(), Fail> {
-    let rodeo: SpurThreadedRodeo = ThreadedRodeo::default(rt.alloc())?;
-    let red = rodeo.try_get_or_intern(&rt, "red")?;
-    let mut walk = rodeo.iter();
-    rodeo.try_get_or_intern(&rt, "green")?;
-    assert!(rt; walk.len() == 1);
-    assert!(rt; walk.next() == Some((red, "red")));
-    assert!(rt; walk.next() == None);
+    let shared = fresh(rt.alloc())?;
+    is_so(&rt, walks(&rt, &shared)?, "the walk");
     Ok(())
 }

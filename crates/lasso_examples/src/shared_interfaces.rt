@@ -1,11 +1,11 @@
 //! Each call of the interfaces at an interner that threads share: on its own, lent and in a box. It has no
 //! list of its own, so the clauses of the interfaces leave it alone: that they answer as its own calls do,
 //! and refuse and copy no more than these, is tested here.
-use crate::interfaces::{
-    freezes, has_one_text, no_key_is_left, one_text, resolves_one_text, static_texts_take_no_bytes,
-    static_texts_under_no_limit,
-};
-use lasso::interface::laws::{interns_as_one, reader_knows, resolver_knows};
+use crate::answers::{all_right, is_so};
+use crate::interfaces::{freezes, shows_reader, shows_resolver};
+use crate::shared_plain::fresh;
+use crate::steps::{NO_BYTES, NO_KEY_LEFT, ONE_TEXT, Step, UNDER_NO_LIMIT, first_wrong};
+use lasso::interface::laws::{reader_knows, resolver_knows};
 use lasso::interface::{IntoReader, IntoResolver};
 use lasso::{
     Capacity, FixedState, LassoResult, MemoryLimits, MicroSpur, Spur, SpurThreadedRodeo,
@@ -15,7 +15,7 @@ use std::alloc::Global;
 use std::process::Abort;
 use std::sync::Wait;
 use std::test::Fail;
-use std::thread::join;
+use std::thread::{Threads, join};
 
 /// A shared interner with `Hello, world!` alone.
 fn hello(rt: &impl Wait, alloc: Global) -> LassoResult<SpurThreadedRodeo> {
@@ -38,104 +38,148 @@ fn limited(rt: &impl Wait, alloc: Global) -> LassoResult<SpurThreadedRodeo> {
     Ok(rodeo)
 }
 
-/// A shared interner without a text.
-fn fresh(alloc: Global) -> LassoResult<SpurThreadedRodeo> {
-    ThreadedRodeo::default(alloc)
+// Each function with an interface of one type is the only one of that type, as those of the interner for one
+// thread are.
+fn by_itself<R: Wait>(
+    rt: &R,
+    shared: &mut SpurThreadedRodeo,
+    steps: &[Step],
+) -> LassoResult<usize> {
+    first_wrong::<Spur, _, _>(rt, shared, steps)
+}
+
+fn by_reference<R: Wait>(
+    rt: &R,
+    mut shared: &SpurThreadedRodeo,
+    steps: &[Step],
+) -> LassoResult<usize> {
+    first_wrong::<Spur, _, _>(rt, &mut shared, steps)
+}
+
+fn lent<R: Wait>(rt: &R, mut shared: &mut SpurThreadedRodeo, steps: &[Step]) -> LassoResult<usize> {
+    first_wrong::<Spur, _, _>(rt, &mut shared, steps)
+}
+
+fn in_a_box<R: Wait>(
+    rt: &R,
+    shared: &mut Box<SpurThreadedRodeo>,
+    steps: &[Step],
+) -> LassoResult<usize> {
+    first_wrong::<Spur, _, _>(rt, shared, steps)
+}
+
+// As what a test hands the interner to generic code.
+#[derive(Clone, Copy)]
+enum Holder {
+    Itself,
+    Reference,
+    Lent,
+    Boxed,
+}
+
+fn runs_by<R: Wait>(
+    rt: &R,
+    holder: Holder,
+    shared: &mut Box<SpurThreadedRodeo>,
+    steps: &[Step],
+) -> LassoResult<usize> {
+    match holder {
+        Holder::Itself => by_itself(rt, &mut **shared, steps),
+        Holder::Reference => by_reference(rt, &**shared, steps),
+        Holder::Lent => lent(rt, &mut **shared, steps),
+        Holder::Boxed => in_a_box(rt, shared, steps),
+    }
 }
 
 fn takes<R: Abort + Wait>(rt: &R, shared: &SpurThreadedRodeo, usage: usize, limit: usize) {
-    assert!(rt; shared.current_memory_usage(rt) == usage);
-    assert!(rt; shared.max_memory_usage(rt) == limit);
+    is_so(rt, shared.current_memory_usage(rt) == usage, "the usage");
+    is_so(rt, shared.max_memory_usage(rt) == limit, "the limit");
+}
+
+// Makes the calls in order. Afterwards the buckets take `usage` bytes under this limit.
+fn runs<R: AllocGlobal + Abort + Wait>(
+    rt: &R,
+    holder: Holder,
+    made: LassoResult<SpurThreadedRodeo>,
+    steps: &[Step],
+    usage: usize,
+    limit: usize,
+) -> Result<(), Fail> {
+    let mut shared = Box::new(rt.alloc(), made?)?;
+    all_right(rt, runs_by(rt, holder, &mut shared, steps)?, steps.len());
+    takes(rt, &*shared, usage, limit);
+    Ok(())
+}
+
+// `Hello, world!` in an interner of default capacity without a limit.
+fn runs_one_text<R: AllocGlobal + Abort + Wait>(rt: &R, holder: Holder) -> Result<(), Fail> {
+    runs(rt, holder, fresh(rt.alloc()), &ONE_TEXT, 4096, usize::MAX)
 }
 
 #[test]
 fn one_text_through_an_interner(rt: HostRuntime) -> Result<(), Fail> {
-    let mut rodeo = fresh(rt.alloc())?;
-    one_text::<Spur, _, _>(&rt, &mut rodeo);
-    takes(&rt, &rodeo, 4096, usize::MAX);
-    Ok(())
+    runs_one_text(&rt, Holder::Itself)
 }
 
 #[test]
 fn one_text_through_a_reference(rt: HostRuntime) -> Result<(), Fail> {
-    let shared = fresh(rt.alloc())?;
-    one_text::<Spur, _, _>(&rt, &mut &shared);
-    takes(&rt, &shared, 4096, usize::MAX);
-    Ok(())
+    runs_one_text(&rt, Holder::Reference)
 }
 
 #[test]
 fn one_text_through_a_lent_interner(rt: HostRuntime) -> Result<(), Fail> {
-    let mut owned = fresh(rt.alloc())?;
-    one_text::<Spur, _, _>(&rt, &mut &mut owned);
-    takes(&rt, &owned, 4096, usize::MAX);
-    Ok(())
+    runs_one_text(&rt, Holder::Lent)
 }
 
 #[test]
 fn one_text_through_an_interner_in_a_box(rt: HostRuntime) -> Result<(), Fail> {
-    let mut boxed = Box::new(rt.alloc(), fresh(rt.alloc())?)?;
-    one_text::<Spur, _, _>(&rt, &mut boxed);
-    takes(&rt, &*boxed, 4096, usize::MAX);
-    Ok(())
+    runs_one_text(&rt, Holder::Boxed)
+}
+
+fn runs_static_texts<R: AllocGlobal + Abort + Wait>(rt: &R, holder: Holder) -> Result<(), Fail> {
+    runs(rt, holder, limited(rt, rt.alloc()), &UNDER_NO_LIMIT, 10, 0)
 }
 
 #[test]
 fn static_texts_through_an_interner(rt: HostRuntime) -> Result<(), Fail> {
-    let mut rodeo = limited(&rt, rt.alloc())?;
-    static_texts_under_no_limit::<Spur, _, _>(&rt, &mut rodeo);
-    takes(&rt, &rodeo, 10, 0);
-    Ok(())
+    runs_static_texts(&rt, Holder::Itself)
 }
 
 #[test]
 fn static_texts_through_a_reference(rt: HostRuntime) -> Result<(), Fail> {
-    let shared = limited(&rt, rt.alloc())?;
-    static_texts_under_no_limit::<Spur, _, _>(&rt, &mut &shared);
-    takes(&rt, &shared, 10, 0);
-    Ok(())
+    runs_static_texts(&rt, Holder::Reference)
 }
 
 #[test]
 fn static_texts_through_a_lent_interner(rt: HostRuntime) -> Result<(), Fail> {
-    let mut owned = limited(&rt, rt.alloc())?;
-    static_texts_under_no_limit::<Spur, _, _>(&rt, &mut &mut owned);
-    takes(&rt, &owned, 10, 0);
-    Ok(())
+    runs_static_texts(&rt, Holder::Lent)
 }
 
 #[test]
 fn static_texts_through_an_interner_in_a_box(rt: HostRuntime) -> Result<(), Fail> {
-    let mut boxed = Box::new(rt.alloc(), limited(&rt, rt.alloc())?)?;
-    static_texts_under_no_limit::<Spur, _, _>(&rt, &mut boxed);
-    takes(&rt, &*boxed, 10, 0);
-    Ok(())
+    runs_static_texts(&rt, Holder::Boxed)
+}
+
+fn runs_no_bytes<R: AllocGlobal + Abort + Wait>(rt: &R, holder: Holder) -> Result<(), Fail> {
+    runs(rt, holder, of_four_bytes(rt.alloc()), &NO_BYTES, 4, 4)
 }
 
 #[test]
 fn static_texts_take_no_bytes_of_a_shared_interner(rt: HostRuntime) -> Result<(), Fail> {
-    let mut rodeo = of_four_bytes(rt.alloc())?;
-    static_texts_take_no_bytes::<Spur, _, _>(&rt, &mut rodeo);
-    takes(&rt, &rodeo, 4, 4);
-    let shared = of_four_bytes(rt.alloc())?;
-    static_texts_take_no_bytes::<Spur, _, _>(&rt, &mut &shared);
-    takes(&rt, &shared, 4, 4);
-    Ok(())
+    runs_no_bytes(&rt, Holder::Itself)?;
+    runs_no_bytes(&rt, Holder::Reference)
 }
 
 #[test]
 fn static_texts_take_no_bytes_of_a_held_shared_interner(rt: HostRuntime) -> Result<(), Fail> {
-    let mut owned = of_four_bytes(rt.alloc())?;
-    static_texts_take_no_bytes::<Spur, _, _>(&rt, &mut &mut owned);
-    takes(&rt, &owned, 4, 4);
-    let mut boxed = Box::new(rt.alloc(), of_four_bytes(rt.alloc())?)?;
-    static_texts_take_no_bytes::<Spur, _, _>(&rt, &mut boxed);
-    takes(&rt, &*boxed, 4, 4);
-    Ok(())
+    runs_no_bytes(&rt, Holder::Lent)?;
+    runs_no_bytes(&rt, Holder::Boxed)
 }
 
+type SharedMicro = ThreadedRodeo<MicroSpur, FixedState>;
+
 // A shared interner with a text under each of the 255 keys.
-fn full(rt: &impl Wait, alloc: Global) -> Result<ThreadedRodeo<MicroSpur, FixedState>, Fail> {
+fn full(rt: &impl Wait, alloc: Global) -> Result<SharedMicro, Fail> {
     let shared = ThreadedRodeo::with_hasher(alloc, FixedState::new())?;
     for number in 0..255u32 {
         let text = format!(in alloc; "{number}")?;
@@ -144,38 +188,65 @@ fn full(rt: &impl Wait, alloc: Global) -> Result<ThreadedRodeo<MicroSpur, FixedS
     Ok(shared)
 }
 
+fn refuses<R: Wait>(rt: &R, shared: &mut SharedMicro) -> LassoResult<usize> {
+    first_wrong::<MicroSpur, _, _>(rt, shared, &NO_KEY_LEFT)
+}
+
+fn refuses_by_reference<R: Wait>(rt: &R, mut shared: &SharedMicro) -> LassoResult<usize> {
+    first_wrong::<MicroSpur, _, _>(rt, &mut shared, &NO_KEY_LEFT)
+}
+
 #[test]
 fn no_key_is_left_in_a_shared_interner(rt: HostRuntime) -> Result<(), Fail> {
     let mut rodeo = full(&rt, rt.alloc())?;
-    no_key_is_left::<MicroSpur, _, _>(&rt, &mut rodeo);
-    no_key_is_left::<MicroSpur, _, _>(&rt, &mut &rodeo);
-    assert!(rt; rodeo.len() == 255);
+    all_right(&rt, refuses(&rt, &mut rodeo)?, NO_KEY_LEFT.len());
+    all_right(&rt, refuses_by_reference(&rt, &rodeo)?, NO_KEY_LEFT.len());
+    is_so(&rt, rodeo.len() == 255, "the number of texts");
     Ok(())
+}
+
+static HERE: [Step; 1] = [Step::InternsAsOne("Hello, world!")];
+
+static THERE: [Step; 1] = [Step::InternsAsOne("Hello from the thread!")];
+
+fn both_intern<R: Threads + Wait + Sync>(
+    rt: &R,
+    shared: &SpurThreadedRodeo,
+) -> (LassoResult<usize>, LassoResult<usize>) {
+    join(
+        rt,
+        || by_reference(rt, shared, &HERE),
+        || by_reference(rt, shared, &THERE),
+    )
 }
 
 #[test]
 fn two_threads_intern_through_references(rt: HostRuntime) -> Result<(), Fail> {
-    let shared: SpurThreadedRodeo = ThreadedRodeo::default(rt.alloc())?;
-    let (here, there) = join(
-        &rt,
-        || interns_as_one::<Spur, _, _>(&rt, &mut &shared, "Hello, world!"),
-        || interns_as_one::<Spur, _, _>(&rt, &mut &shared, "Hello from the thread!"),
-    );
-    assert!(rt; here?);
-    assert!(rt; there?);
-    assert!(rt; shared.len() == 2);
+    let shared = fresh(rt.alloc())?;
+    let (here, there) = both_intern(&rt, &shared);
+    is_so(&rt, here? == 1, "the text of one thread");
+    is_so(&rt, there? == 1, "the text of the other");
+    is_so(&rt, shared.len() == 2, "the number of texts");
     Ok(())
 }
 
 #[test]
 fn shared_interners_freeze(rt: HostRuntime) -> Result<(), Fail> {
-    freezes::<Spur, _, _>(&rt, hello(&rt, rt.alloc())?, hello(&rt, rt.alloc())?)
+    let (first, second) = (hello(&rt, rt.alloc())?, hello(&rt, rt.alloc())?);
+    is_so(
+        &rt,
+        freezes::<Spur, _, _>(&rt, first, second)?,
+        "the frozen forms",
+    );
+    Ok(())
 }
 
 #[test]
 fn frozen_shared_interners_know_a_text(rt: HostRuntime) -> Result<(), Fail> {
-    assert!(rt; reader_knows::<Spur, _, _>(&rt, fresh(rt.alloc())?, "abc")?);
-    assert!(rt; resolver_knows::<Spur, _, _>(&rt, fresh(rt.alloc())?, "abc")?);
+    let reader = reader_knows::<Spur, _, _>(&rt, fresh(rt.alloc())?, "abc")?;
+    is_so(&rt, reader, "a reader");
+    let resolver = resolver_knows::<Spur, _, _>(&rt, fresh(rt.alloc())?, "abc")?;
+    is_so(&rt, resolver, "a resolver");
     Ok(())
 }
 
@@ -183,29 +254,30 @@ fn boxed_hello(rt: &impl Wait, alloc: Global) -> LassoResult<Box<SpurThreadedRod
     Ok(Box::new(alloc, hello(rt, alloc)?)?)
 }
 
+fn twice_boxed_hello(rt: &impl Wait, alloc: Global) -> LassoResult<Box<Box<SpurThreadedRodeo>>> {
+    Ok(Box::new(alloc, boxed_hello(rt, alloc)?)?)
+}
+
 #[test]
 fn boxed_shared_interners_freeze(rt: HostRuntime) -> Result<(), Fail> {
     let boxed = boxed_hello(&rt, rt.alloc())?;
-    has_one_text::<Spur, _, _>(&rt, &IntoReader::into_reader_boxed(boxed, &rt)?);
+    shows_reader(&rt, IntoReader::into_reader_boxed(boxed, &rt))?;
     let boxed = boxed_hello(&rt, rt.alloc())?;
-    resolves_one_text::<Spur, _, _>(&rt, &IntoResolver::into_resolver_boxed(boxed, &rt)?);
-    Ok(())
+    shows_resolver(&rt, IntoResolver::into_resolver_boxed(boxed, &rt))
 }
 
 #[test]
 fn a_box_freezes_as_what_it_holds(rt: HostRuntime) -> Result<(), Fail> {
     let boxed = boxed_hello(&rt, rt.alloc())?;
-    has_one_text::<Spur, _, _>(&rt, &IntoReader::into_reader(boxed, &rt)?);
+    shows_reader(&rt, IntoReader::into_reader(boxed, &rt))?;
     let boxed = boxed_hello(&rt, rt.alloc())?;
-    resolves_one_text::<Spur, _, _>(&rt, &IntoResolver::into_resolver(boxed, &rt)?);
-    Ok(())
+    shows_resolver(&rt, IntoResolver::into_resolver(boxed, &rt))
 }
 
 #[test]
 fn a_box_in_a_box_freezes(rt: HostRuntime) -> Result<(), Fail> {
-    let twice = Box::new(rt.alloc(), boxed_hello(&rt, rt.alloc())?)?;
-    has_one_text::<Spur, _, _>(&rt, &IntoReader::into_reader_boxed(twice, &rt)?);
-    let twice = Box::new(rt.alloc(), boxed_hello(&rt, rt.alloc())?)?;
-    resolves_one_text::<Spur, _, _>(&rt, &IntoResolver::into_resolver_boxed(twice, &rt)?);
-    Ok(())
+    let twice = twice_boxed_hello(&rt, rt.alloc())?;
+    shows_reader(&rt, IntoReader::into_reader_boxed(twice, &rt))?;
+    let twice = twice_boxed_hello(&rt, rt.alloc())?;
+    shows_resolver(&rt, IntoResolver::into_resolver_boxed(twice, &rt))
 }

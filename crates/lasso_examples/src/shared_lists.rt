@@ -1,130 +1,213 @@
-//! The examples in the documents of filling, freezing, comparing, writing and reading an interner that threads share, in tests.
-use lasso::{Capacity, Key, MemoryLimits, Rodeo, SpurRodeo, SpurThreadedRodeo, ThreadedRodeo};
+//! The examples in the documents of filling, freezing, comparing, writing and reading an interner that threads
+//! share, in tests.
+use crate::answers::is_so;
+use crate::frozen::{reads, resolves};
+use crate::rodeos::KeyLook::TryResolves;
+use crate::rodeos::Look::{At, Gets};
+use crate::rodeos::{Look, of_texts};
+use crate::shared_plain::{fresh, runs, runs_on};
+use lasso::{
+    Capacity, LassoResult, MemoryLimits, SpurRodeo, SpurRodeoReader, SpurThreadedRodeo,
+    ThreadedRodeo,
+};
+use lasso_shared_testing::calls::{copied, copied_as, copied_so, pass_of};
+use lasso_shared_testing::steps::Step;
+use lasso_shared_testing::steps::Step::{Counts, Finds, Interns, IsLimited, Limits, Reads};
+use lasso_shared_testing::steps::Way::TryCopied;
 use serde_json::Value;
+use std::alloc::Global;
+use std::sync::Wait;
 use std::test::Fail;
+
+// A shared interner of these texts.
+fn of_items<R: Wait>(rt: &R, alloc: Global, texts: &[&str]) -> LassoResult<SpurThreadedRodeo> {
+    ThreadedRodeo::from_iter(alloc, rt, texts.iter().copied())
+}
+
+// The interner with these texts too.
+fn filled<R: Wait>(
+    rt: &R,
+    made: LassoResult<SpurThreadedRodeo>,
+    texts: &[&str],
+) -> LassoResult<SpurThreadedRodeo> {
+    let shared = made?;
+    shared.extend(rt, texts.iter().copied())?;
+    Ok(shared)
+}
 
 #[test]
 fn shared_filled(rt: HostRuntime) -> Result<(), Fail> {
-    let rodeo: SpurThreadedRodeo = ThreadedRodeo::default(rt.alloc())?;
-    rodeo.extend(&rt, ["red", "green", "red"])?;
-    assert!(rt; rodeo.len() == 2);
-    assert!(rt; rodeo.contains(&rt, "green"));
-    Ok(())
+    static STEPS: [Step; 2] = [Counts(2), Finds("green", Some(1))];
+    let made = filled(&rt, fresh(rt.alloc()), &["red", "green", "red"]);
+    runs_on(&rt, made, &STEPS)
 }
 
 #[test]
 fn shared_filled_from_items(rt: HostRuntime) -> Result<(), Fail> {
-    let colours = ["red", "green", "red", "blue"];
-    let rodeo: SpurThreadedRodeo = ThreadedRodeo::from_iter(rt.alloc(), &rt, colours)?;
-    assert!(rt; rodeo.len() == 3);
-    assert!(rt; rodeo.contains(&rt, "blue"));
-    Ok(())
+    static STEPS: [Step; 2] = [Counts(3), Finds("blue", Some(2))];
+    let made = of_items(&rt, rt.alloc(), &["red", "green", "red", "blue"]);
+    runs_on(&rt, made, &STEPS)
+}
+
+// The interner with `Hello, world!`, interned and frozen by a pass.
+fn frozen_as<R: Wait>(
+    rt: &R,
+    made: LassoResult<SpurThreadedRodeo>,
+) -> LassoResult<SpurRodeoReader> {
+    let shared = made?;
+    let mut pass = pass_of(&shared);
+    copied_as(rt, &shared, &mut pass, "Hello, world!")?;
+    shared.into_reader_as(rt, &mut pass)
 }
 
 #[test]
 fn shared_frozen_with_a_pass(rt: HostRuntime) -> Result<(), Fail> {
-    let rodeo: SpurThreadedRodeo = ThreadedRodeo::default(rt.alloc())?;
-    let mut pass = rodeo.pass();
-    let key = rodeo.try_get_or_intern_as(&rt, &mut pass, "Hello, world!")?;
-    let reader = rodeo.into_reader_as(&rt, &mut pass)?;
-    assert!(rt; reader.get("Hello, world!") == Some(key));
-    Ok(())
+    static LOOKS: [Look; 1] = [Gets("Hello, world!", Some(0))];
+    reads(&rt, frozen_as(&rt, fresh(rt.alloc())), &LOOKS)
+}
+
+// A shared interner with `Hello, world!` alone.
+fn hello<R: Wait>(rt: &R, alloc: Global) -> LassoResult<SpurThreadedRodeo> {
+    let shared = fresh(alloc)?;
+    copied(rt, &shared, "Hello, world!")?;
+    Ok(shared)
 }
 
 #[test]
 fn shared_frozen(rt: HostRuntime) -> Result<(), Fail> {
-    let rodeo: SpurThreadedRodeo = ThreadedRodeo::default(rt.alloc())?;
-    let key = rodeo.try_get_or_intern(&rt, "Hello, world!")?;
-    let reader = rodeo.into_reader(&rt)?;
-    assert!(rt; reader.get("Hello, world!") == Some(key));
-    assert!(rt; reader.try_resolve(key) == Some("Hello, world!"));
-    Ok(())
+    static LOOKS: [Look; 2] = [
+        Gets("Hello, world!", Some(0)),
+        At(0, TryResolves(Some("Hello, world!"))),
+    ];
+    let made = hello(&rt, rt.alloc())?.into_reader(&rt);
+    reads(&rt, made, &LOOKS)
 }
 
 #[test]
 fn shared_frozen_to_a_resolver(rt: HostRuntime) -> Result<(), Fail> {
-    let rodeo: SpurThreadedRodeo = ThreadedRodeo::default(rt.alloc())?;
-    let key = rodeo.try_get_or_intern(&rt, "Hello, world!")?;
-    let resolver = rodeo.into_resolver(&rt)?;
-    assert!(rt; resolver.try_resolve(key) == Some("Hello, world!"));
-    Ok(())
+    static LOOKS: [Look; 1] = [At(0, TryResolves(Some("Hello, world!")))];
+    let made = hello(&rt, rt.alloc())?.into_resolver(&rt);
+    resolves(&rt, made, &LOOKS)
+}
+
+static COLOURS: [&str; 2] = ["red", "green"];
+
+fn equals_other<R: Wait>(
+    rt: &R,
+    shared: &SpurThreadedRodeo,
+    made: LassoResult<SpurThreadedRodeo>,
+) -> LassoResult<bool> {
+    let other = made?;
+    Ok(shared.eq_threaded(rt, &other))
 }
 
 #[test]
 fn shared_compared(rt: HostRuntime) -> Result<(), Fail> {
-    let colours = ["red", "green"];
-    let rodeo: SpurThreadedRodeo = ThreadedRodeo::from_iter(rt.alloc(), &rt, colours)?;
-    let other: SpurThreadedRodeo = ThreadedRodeo::from_iter(rt.alloc(), &rt, colours)?;
-    assert!(rt; rodeo.eq_threaded(&rt, &other));
+    let shared = of_items(&rt, rt.alloc(), &COLOURS)?;
+    let other = of_items(&rt, rt.alloc(), &COLOURS);
+    is_so(&rt, equals_other(&rt, &shared, other)?, "the other");
     Ok(())
+}
+
+fn equals_rodeo<R: Wait>(
+    rt: &R,
+    shared: &SpurThreadedRodeo,
+    made: LassoResult<SpurRodeo>,
+) -> LassoResult<bool> {
+    let rodeo = made?;
+    Ok(shared.eq_rodeo(rt, &rodeo))
 }
 
 #[test]
 fn shared_compared_with_a_rodeo(rt: HostRuntime) -> Result<(), Fail> {
-    let colours = ["red", "green"];
-    let shared: SpurThreadedRodeo = ThreadedRodeo::from_iter(rt.alloc(), &rt, colours)?;
-    let rodeo: SpurRodeo = Rodeo::from_iter(rt.alloc(), colours)?;
-    assert!(rt; shared.eq_rodeo(&rt, &rodeo));
+    let shared = of_items(&rt, rt.alloc(), &COLOURS)?;
+    let rodeo = of_texts(rt.alloc(), &COLOURS);
+    is_so(&rt, equals_rodeo(&rt, &shared, rodeo)?, "the rodeo");
     Ok(())
+}
+
+// Whether the interner is written as this.
+fn is_written(alloc: Global, shared: &SpurThreadedRodeo, wanted: &str) -> Result<bool, Fail> {
+    let written = shared.serialize(alloc)?.to_string(alloc)?;
+    Ok(written.as_str() == wanted)
+}
+
+// Whether two texts that a pass interns are written by it as this.
+fn is_written_as<R: Wait>(
+    rt: &R,
+    alloc: Global,
+    shared: &SpurThreadedRodeo,
+    wanted: &str,
+) -> Result<bool, Fail> {
+    let mut pass = pass_of(shared);
+    copied_as(rt, shared, &mut pass, "b")?;
+    copied_as(rt, shared, &mut pass, "a")?;
+    let written = shared.serialize_as(alloc, &mut pass)?.to_string(alloc)?;
+    Ok(written.as_str() == wanted)
 }
 
 #[test]
 fn shared_written(rt: HostRuntime) -> Result<(), Fail> {
-    let rodeo: SpurThreadedRodeo = ThreadedRodeo::default(rt.alloc())?;
-    let mut pass = rodeo.pass();
-    rodeo.try_get_or_intern_as(&rt, &mut pass, "b")?;
-    rodeo.try_get_or_intern_as(&rt, &mut pass, "a")?;
-    let written = rodeo
-        .serialize_as(rt.alloc(), &mut pass)?
-        .to_string(rt.alloc())?;
-    assert!(rt; written.as_str() == r#"{"a":2,"b":1}"#);
+    let shared = fresh(rt.alloc())?;
+    let written = is_written_as(&rt, rt.alloc(), &shared, r#"{"a":2,"b":1}"#)?;
+    is_so(&rt, written, "the object");
     Ok(())
 }
 
 #[test]
 fn shared_written_with_no_text(rt: HostRuntime) -> Result<(), Fail> {
-    let rodeo: SpurThreadedRodeo = ThreadedRodeo::default(rt.alloc())?;
-    let written = rodeo.serialize(rt.alloc())?.to_string(rt.alloc())?;
-    assert!(rt; written.as_str() == "{}");
+    let shared = fresh(rt.alloc())?;
+    is_so(&rt, is_written(rt.alloc(), &shared, "{}")?, "the object");
     Ok(())
+}
+
+fn keeps_two<R: Wait>(rt: &R, shared: &SpurThreadedRodeo) -> LassoResult<bool> {
+    Ok(copied_so(rt, shared, "b")? == 0 && copied_so(rt, shared, "a")? == 1)
 }
 
 #[test]
 fn shared_written_without_a_pass(rt: HostRuntime) -> Result<(), Fail> {
-    let rodeo: SpurThreadedRodeo = ThreadedRodeo::default(rt.alloc())?;
-    rodeo.get_or_intern(&rt, "b")?;
-    rodeo.get_or_intern(&rt, "a")?;
-    let written = rodeo.serialize(rt.alloc())?.to_string(rt.alloc())?;
-    assert!(rt; written.as_str() == r#"{"a":2,"b":1}"#);
+    let shared = fresh(rt.alloc())?;
+    is_so(&rt, keeps_two(&rt, &shared)?, "the keys");
+    let written = is_written(rt.alloc(), &shared, r#"{"a":2,"b":1}"#)?;
+    is_so(&rt, written, "the object");
     Ok(())
+}
+
+// A shared interner of 4 bytes and three texts under a limit of 12.
+fn three_buckets<R: Wait>(rt: &R, alloc: Global) -> LassoResult<SpurThreadedRodeo> {
+    let (room, limits) = (Capacity::for_bytes(4), MemoryLimits::new(12));
+    let made = ThreadedRodeo::with_capacity_and_memory_limits(alloc, room, limits);
+    filled(rt, made, &["abc", "defghijk", "x"])
 }
 
 #[test]
 fn a_shared_interner_of_three_buckets_is_written_and_frozen(rt: HostRuntime) -> Result<(), Fail> {
-    let rodeo: SpurThreadedRodeo = ThreadedRodeo::with_capacity_and_memory_limits(
-        rt.alloc(),
-        Capacity::for_bytes(4),
-        MemoryLimits::new(12),
-    )?;
-    rodeo.extend(&rt, ["abc", "defghijk", "x"])?;
-    rodeo.set_memory_limits(&rt, MemoryLimits::new(14));
-    let last = rodeo.try_get_or_intern(&rt, "yz")?;
-    assert!(rt; last.into_usize() == 3);
-    let written = rodeo.serialize(rt.alloc())?.to_string(rt.alloc())?;
-    assert!(rt; written.as_str() == r#"{"abc":1,"defghijk":2,"x":3,"yz":4}"#);
-    assert!(rt; rodeo.get(&rt, "yz") == Some(last));
-    assert!(rt; rodeo.contains(&rt, "yz") && rodeo.contains_key(last) && !rodeo.is_empty());
-    assert!(rt; rodeo.max_memory_usage(&rt) == 14);
-    let reader = rodeo.into_reader(&rt)?;
-    assert!(rt; (reader.len(), reader.get("yz")) == (4, Some(last)));
-    Ok(())
+    static STEPS: [Step; 6] = [
+        Limits(14),
+        Interns(TryCopied, "yz", Ok(3)),
+        Finds("yz", Some(3)),
+        Reads(3, Some("yz")),
+        Counts(4),
+        IsLimited(14),
+    ];
+    static LOOKS: [Look; 2] = [Look::Counts(4), Gets("yz", Some(3))];
+    let shared = three_buckets(&rt, rt.alloc())?;
+    runs(&rt, &shared, &STEPS)?;
+    let wanted = r#"{"abc":1,"defghijk":2,"x":3,"yz":4}"#;
+    is_so(&rt, is_written(rt.alloc(), &shared, wanted)?, "the object");
+    reads(&rt, shared.into_reader(&rt), &LOOKS)
+}
+
+// The interner that is read from this.
+fn read(alloc: Global, text: &str) -> Result<SpurThreadedRodeo, Fail> {
+    let value = Value::from_str(alloc, text)?;
+    Ok(SpurThreadedRodeo::deserialize(alloc, &value)?)
 }
 
 #[test]
 fn shared_read_from_json(rt: HostRuntime) -> Result<(), Fail> {
-    let value = Value::from_str(rt.alloc(), r#"{"a":2,"b":1}"#)?;
-    let rodeo = SpurThreadedRodeo::deserialize(rt.alloc(), &value)?;
-    let second = rodeo.get(&rt, "a").ok_or("not there")?;
-    assert!(rt; second.into_usize() == 1);
-    Ok(())
+    static STEPS: [Step; 1] = [Finds("a", Some(1))];
+    let shared = read(rt.alloc(), r#"{"a":2,"b":1}"#)?;
+    runs(&rt, &shared, &STEPS)
 }

@@ -1,182 +1,180 @@
 //! The examples in the documents of the shared interner's makers, and of its calls without a pass, in tests.
+//! Those of its look-ups and of `len` and `set_memory_limits` are scripts of `lasso_replay`.
+use crate::answers::{all_right, is_so};
 use lasso::{
-    Capacity, FixedState, Key, MemoryLimits, MicroSpur, Spur, SpurThreadedRodeo, ThreadedRodeo,
+    Capacity, FixedState, Key, LassoResult, MemoryLimits, MicroSpur, SpurThreadedRodeo,
+    ThreadedRodeo,
 };
+use lasso_shared_testing::calls::copied;
+use lasso_shared_testing::steps::Step::{Counts, Interns, IsLimited, Reads, Uses};
+use lasso_shared_testing::steps::Way::{Copied, Static, TryCopied, TryStatic};
+use lasso_shared_testing::steps::{Step, first_wrong};
+use std::alloc::Global;
+use std::process::Abort;
+use std::sync::Wait;
 use std::test::Fail;
+
+/// A shared interner without a text.
+pub fn fresh(alloc: Global) -> LassoResult<SpurThreadedRodeo> {
+    ThreadedRodeo::default(alloc)
+}
+
+/// Makes the calls in order. Fails the test unless each returns what it has to.
+pub fn runs<R: Abort + Wait>(
+    rt: &R,
+    shared: &SpurThreadedRodeo,
+    steps: &[Step],
+) -> Result<(), Fail> {
+    all_right(rt, first_wrong(rt, shared, steps)?, steps.len());
+    Ok(())
+}
+
+/// The same on an interner that was just made.
+pub fn runs_on<R: Abort + Wait>(
+    rt: &R,
+    made: LassoResult<SpurThreadedRodeo>,
+    steps: &[Step],
+) -> Result<(), Fail> {
+    let shared = made?;
+    runs(rt, &shared, steps)
+}
+
+// The number of the first text with keys of 8 bits.
+fn first_of_micro<R: Wait>(rt: &R, alloc: Global) -> LassoResult<usize> {
+    let shared: ThreadedRodeo<MicroSpur, FixedState> = ThreadedRodeo::new(alloc)?;
+    copied(rt, &shared, "Hello, world!")
+}
 
 #[test]
 fn made_for_a_key_type(rt: HostRuntime) -> Result<(), Fail> {
-    let rodeo: ThreadedRodeo<MicroSpur, FixedState> = ThreadedRodeo::new(rt.alloc())?;
-    let key = rodeo.try_get_or_intern(&rt, "Hello, world!")?;
-    assert!(rt; key.into_usize() == 0);
+    is_so(&rt, first_of_micro(&rt, rt.alloc())? == 0, "the first key");
     Ok(())
+}
+
+// Whether there are cells for this number of texts.
+fn has_cells(made: LassoResult<SpurThreadedRodeo>, strings: usize) -> LassoResult<bool> {
+    Ok(made?.capacity() >= strings)
 }
 
 #[test]
 fn made_with_a_capacity(rt: HostRuntime) -> Result<(), Fail> {
+    static STEPS: [Step; 1] = [Uses(65536)];
     let capacity = Capacity::new(1000, 65536);
-    let rodeo: SpurThreadedRodeo = ThreadedRodeo::with_capacity(rt.alloc(), capacity)?;
-    assert!(rt; rodeo.current_memory_usage(&rt) == 65536);
-    assert!(rt; rodeo.capacity() >= 1000);
+    runs_on(
+        &rt,
+        ThreadedRodeo::with_capacity(rt.alloc(), capacity),
+        &STEPS,
+    )?;
+    let made = ThreadedRodeo::with_capacity(rt.alloc(), capacity);
+    is_so(&rt, has_cells(made, 1000)?, "the cells");
     Ok(())
 }
 
 #[test]
 fn made_with_a_limit(rt: HostRuntime) -> Result<(), Fail> {
-    let limits = MemoryLimits::new(10000);
-    let rodeo: SpurThreadedRodeo = ThreadedRodeo::with_memory_limits(rt.alloc(), limits)?;
-    assert!(rt; rodeo.max_memory_usage(&rt) == 10000);
-    assert!(rt; rodeo.current_memory_usage(&rt) == 4096);
-    Ok(())
+    static STEPS: [Step; 2] = [IsLimited(10000), Uses(4096)];
+    let made = ThreadedRodeo::with_memory_limits(rt.alloc(), MemoryLimits::new(10000));
+    runs_on(&rt, made, &STEPS)
 }
 
 #[test]
 fn made_with_a_capacity_and_a_hasher(rt: HostRuntime) -> Result<(), Fail> {
-    let capacity = Capacity::for_bytes(7);
-    let hasher = FixedState::new();
+    static STEPS: [Step; 1] = [Uses(7)];
+    let (capacity, hasher) = (Capacity::for_bytes(7), FixedState::new());
     let made = ThreadedRodeo::with_capacity_and_hasher(rt.alloc(), capacity, hasher);
-    let rodeo: SpurThreadedRodeo = made?;
-    assert!(rt; rodeo.current_memory_usage(&rt) == 7);
-    Ok(())
+    runs_on(&rt, made, &STEPS)
 }
 
 #[test]
 fn made_with_all_of_them(rt: HostRuntime) -> Result<(), Fail> {
-    let rodeo: SpurThreadedRodeo = ThreadedRodeo::with_capacity_memory_limits_and_hasher(
+    static STEPS: [Step; 2] = [Uses(10), IsLimited(15)];
+    let made = ThreadedRodeo::with_capacity_memory_limits_and_hasher(
         rt.alloc(),
         Capacity::for_bytes(10),
         MemoryLimits::new(15),
         FixedState::new(),
-    )?;
-    assert!(rt; rodeo.current_memory_usage(&rt) == 10);
-    assert!(rt; rodeo.max_memory_usage(&rt) == 15);
-    Ok(())
+    );
+    runs_on(&rt, made, &STEPS)
 }
 
 #[test]
 fn interned_by_either_name(rt: HostRuntime) -> Result<(), Fail> {
-    let rodeo: SpurThreadedRodeo = ThreadedRodeo::default(rt.alloc())?;
-    let key = rodeo.get_or_intern(&rt, "Hello, world!")?;
-    assert!(rt; rodeo.try_get_or_intern(&rt, "Hello, world!")? == key);
-    Ok(())
+    static STEPS: [Step; 2] = [
+        Interns(Copied, "Hello, world!", Ok(0)),
+        Interns(TryCopied, "Hello, world!", Ok(0)),
+    ];
+    runs_on(&rt, fresh(rt.alloc()), &STEPS)
 }
 
 #[test]
 fn kept_as_it_is(rt: HostRuntime) -> Result<(), Fail> {
-    let capacity = Capacity::for_bytes(4);
-    let limits = MemoryLimits::new(4);
+    static STEPS: [Step; 3] = [
+        Interns(TryStatic, "a static text", Ok(0)),
+        Reads(0, Some("a static text")),
+        Uses(4),
+    ];
+    let (capacity, limits) = (Capacity::for_bytes(4), MemoryLimits::new(4));
     let made = ThreadedRodeo::with_capacity_and_memory_limits(rt.alloc(), capacity, limits);
-    let rodeo: SpurThreadedRodeo = made?;
-    let lasting = rodeo.try_get_or_intern_static(&rt, "a static text")?;
-    assert!(rt; rodeo.try_resolve(lasting) == Some("a static text"));
-    assert!(rt; rodeo.current_memory_usage(&rt) == 4);
-    Ok(())
+    runs_on(&rt, made, &STEPS)
 }
 
 #[test]
 fn kept_by_either_name(rt: HostRuntime) -> Result<(), Fail> {
-    let rodeo: SpurThreadedRodeo = ThreadedRodeo::default(rt.alloc())?;
-    let key = rodeo.get_or_intern_static(&rt, "Hello, world!")?;
-    assert!(rt; rodeo.get_or_intern(&rt, "Hello, world!")? == key);
-    Ok(())
-}
-
-#[test]
-fn texts_that_are_there(rt: HostRuntime) -> Result<(), Fail> {
-    let rodeo: SpurThreadedRodeo = ThreadedRodeo::default(rt.alloc())?;
-    rodeo.try_get_or_intern(&rt, "green")?;
-    assert!(rt; rodeo.contains(&rt, "green"));
-    assert!(rt; !rodeo.contains(&rt, "blue"));
-    Ok(())
-}
-
-#[test]
-fn keys_that_are_there(rt: HostRuntime) -> Result<(), Fail> {
-    let rodeo: SpurThreadedRodeo = ThreadedRodeo::default(rt.alloc())?;
-    let key = rodeo.try_get_or_intern(&rt, "Hello, world!")?;
-    assert!(rt; rodeo.contains_key(key));
-    let next = Spur::try_from_usize(1).ok_or("no key")?;
-    assert!(rt; !rodeo.contains_key(next));
-    Ok(())
-}
-
-#[test]
-fn texts_of_keys(rt: HostRuntime) -> Result<(), Fail> {
-    let rodeo: SpurThreadedRodeo = ThreadedRodeo::default(rt.alloc())?;
-    let key = rodeo.try_get_or_intern(&rt, "Hello, world!")?;
-    assert!(rt; rodeo.try_resolve(key) == Some("Hello, world!"));
-    let next = Spur::try_from_usize(1).ok_or("no key")?;
-    assert!(rt; rodeo.try_resolve(next) == None);
-    Ok(())
+    static STEPS: [Step; 2] = [
+        Interns(Static, "Hello, world!", Ok(0)),
+        Interns(Copied, "Hello, world!", Ok(0)),
+    ];
+    runs_on(&rt, fresh(rt.alloc()), &STEPS)
 }
 
 #[test]
 fn texts_by_either_name(rt: HostRuntime) -> Result<(), Fail> {
-    let rodeo: SpurThreadedRodeo = ThreadedRodeo::default(rt.alloc())?;
-    let key = rodeo.try_get_or_intern(&rt, "Hello, world!")?;
-    assert!(rt; rodeo.resolve(key) == rodeo.try_resolve(key));
-    Ok(())
-}
-
-#[test]
-fn counted_texts(rt: HostRuntime) -> Result<(), Fail> {
-    let rodeo: SpurThreadedRodeo = ThreadedRodeo::default(rt.alloc())?;
-    for text in ["red", "green", "red"] {
-        rodeo.try_get_or_intern(&rt, text)?;
-    }
-    assert!(rt; rodeo.len() == 2);
-    Ok(())
+    static STEPS: [Step; 2] = [
+        Interns(TryCopied, "Hello, world!", Ok(0)),
+        Reads(0, Some("Hello, world!")),
+    ];
+    runs_on(&rt, fresh(rt.alloc()), &STEPS)
 }
 
 #[test]
 fn no_text(rt: HostRuntime) -> Result<(), Fail> {
-    let rodeo: SpurThreadedRodeo = ThreadedRodeo::default(rt.alloc())?;
-    assert!(rt; rodeo.is_empty());
-    rodeo.try_get_or_intern(&rt, "")?;
-    assert!(rt; !rodeo.is_empty());
-    Ok(())
+    static STEPS: [Step; 3] = [Counts(0), Interns(TryCopied, "", Ok(0)), Counts(1)];
+    runs_on(&rt, fresh(rt.alloc()), &STEPS)
 }
 
 #[test]
 fn cells_ahead(rt: HostRuntime) -> Result<(), Fail> {
-    let rodeo: SpurThreadedRodeo = ThreadedRodeo::default(rt.alloc())?;
-    assert!(rt; rodeo.capacity() >= 50);
+    is_so(&rt, has_cells(fresh(rt.alloc()), 50)?, "the cells");
     Ok(())
+}
+
+// Whether a walk gives the texts in the order in which they came.
+fn walks<R: Wait>(rt: &R, made: LassoResult<SpurThreadedRodeo>) -> LassoResult<bool> {
+    let shared = made?;
+    copied(rt, &shared, "red")?;
+    copied(rt, &shared, "green")?;
+    Ok(is_red_and_green(&shared))
+}
+
+fn is_red_and_green(shared: &SpurThreadedRodeo) -> bool {
+    let mut strings = shared.strings();
+    strings.next() == Some("red") && strings.next() == Some("green") && strings.next().is_none()
 }
 
 #[test]
 fn texts_in_order(rt: HostRuntime) -> Result<(), Fail> {
-    let rodeo: SpurThreadedRodeo = ThreadedRodeo::default(rt.alloc())?;
-    rodeo.try_get_or_intern(&rt, "red")?;
-    rodeo.try_get_or_intern(&rt, "green")?;
-    let mut strings = rodeo.strings();
-    assert!(rt; strings.next() == Some("red"));
-    assert!(rt; strings.next() == Some("green"));
-    assert!(rt; strings.next() == None);
+    is_so(&rt, walks(&rt, fresh(rt.alloc()))?, "the walk");
     Ok(())
 }
 
 #[test]
 fn bytes_of_the_first_bucket(rt: HostRuntime) -> Result<(), Fail> {
-    let rodeo: SpurThreadedRodeo = ThreadedRodeo::default(rt.alloc())?;
-    rodeo.try_get_or_intern(&rt, "Hello, world!")?;
-    assert!(rt; rodeo.current_memory_usage(&rt) == 4096);
-    Ok(())
+    static STEPS: [Step; 2] = [Interns(TryCopied, "Hello, world!", Ok(0)), Uses(4096)];
+    runs_on(&rt, fresh(rt.alloc()), &STEPS)
 }
 
 #[test]
 fn no_limit_at_first(rt: HostRuntime) -> Result<(), Fail> {
-    let rodeo: SpurThreadedRodeo = ThreadedRodeo::default(rt.alloc())?;
-    assert!(rt; rodeo.max_memory_usage(&rt) == usize::MAX);
-    Ok(())
-}
-
-#[test]
-fn a_new_limit(rt: HostRuntime) -> Result<(), Fail> {
-    let rodeo: SpurThreadedRodeo = ThreadedRodeo::default(rt.alloc())?;
-    rodeo.set_memory_limits(&rt, MemoryLimits::new(0));
-    rodeo.try_get_or_intern(&rt, "Hello, world!")?;
-    assert!(rt; rodeo.max_memory_usage(&rt) == 0);
-    assert!(rt; rodeo.current_memory_usage(&rt) == 4096);
-    Ok(())
+    static STEPS: [Step; 1] = [IsLimited(usize::MAX)];
+    runs_on(&rt, fresh(rt.alloc()), &STEPS)
 }

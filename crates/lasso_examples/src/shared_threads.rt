@@ -1,26 +1,16 @@
 //! Two threads that use one shared interner through its interfaces.
-use lasso::interface::{Interner, Reader};
-use lasso::{LassoResult, MemoryLimits, Spur, SpurThreadedRodeo, ThreadedRodeo};
+use crate::answers::is_so;
+use crate::shared_plain::fresh;
+use crate::steps::{Way, key_by};
+use lasso::interface::Reader;
+use lasso::{LassoResult, MemoryLimits, Spur, SpurThreadedRodeo};
 use std::alloc::Global;
 use std::sync::Wait;
 use std::sync::atomic::{AtomicBool, Ordering};
 use std::test::Fail;
-use std::thread::join;
-
-/// A shared interner without a text.
-fn fresh(alloc: Global) -> LassoResult<SpurThreadedRodeo> {
-    ThreadedRodeo::default(alloc)
-}
+use std::thread::{Threads, join};
 
 // The calls of `Interner`.
-#[derive(Clone, Copy)]
-enum Way {
-    TryCopied,
-    Copied,
-    TryStatic,
-    Static,
-}
-
 const WAYS: [Way; 4] = [Way::TryCopied, Way::Copied, Way::TryStatic, Way::Static];
 
 // How many texts each thread interns.
@@ -36,30 +26,26 @@ fn leaked(alloc: Global, letter: &str) -> Result<Vec<&'static str>, Fail> {
     Ok(texts)
 }
 
-fn key_by<I: Interner<Spur>, R: Wait>(
+// Interns the text by the call, through a reference.
+fn key_of<R: Wait>(
     rt: &R,
-    interner: &mut I,
+    mut shared: &SpurThreadedRodeo,
     way: Way,
     text: &'static str,
 ) -> LassoResult<Spur> {
-    match way {
-        Way::TryCopied => interner.try_get_or_intern(rt, text),
-        Way::Copied => interner.get_or_intern(rt, text),
-        Way::TryStatic => interner.try_get_or_intern_static(rt, text),
-        Way::Static => interner.get_or_intern_static(rt, text),
-    }
+    key_by(rt, &mut shared, way, text)
 }
 
 // Interns the texts through a reference. Returns whether each key resolves to its text.
 fn interns_by<R: Wait>(
     rt: &R,
-    mut shared: &SpurThreadedRodeo,
+    shared: &SpurThreadedRodeo,
     way: Way,
     texts: &[&'static str],
 ) -> LassoResult<bool> {
     let mut all = true;
     for text in texts.iter() {
-        let key = key_by(rt, &mut shared, way, *text)?;
+        let key = key_of(rt, shared, way, *text)?;
         if shared.try_resolve(key) != Some(*text) {
             all = false;
         }
@@ -67,19 +53,29 @@ fn interns_by<R: Wait>(
     Ok(all)
 }
 
+// Two threads intern a list each. Returns whether each key resolves to its text, and how many texts there are.
+fn both_intern<R: AllocGlobal + Threads + Wait + Sync>(
+    rt: &R,
+    way: Way,
+    one: &[&'static str],
+    other: &[&'static str],
+) -> LassoResult<(bool, usize)> {
+    let shared = fresh(rt.alloc())?;
+    let (here, there) = join(
+        rt,
+        || interns_by(rt, &shared, way, one),
+        || interns_by(rt, &shared, way, other),
+    );
+    Ok((here? && there?, shared.len()))
+}
+
 #[test]
 fn two_threads_intern_many_through_references(rt: HostRuntime) -> Result<(), Fail> {
     let (one, other) = (leaked(rt.alloc(), "a")?, leaked(rt.alloc(), "b")?);
     for way in WAYS {
-        let shared = fresh(rt.alloc())?;
-        let (here, there) = join(
-            &rt,
-            || interns_by(&rt, &shared, way, &one),
-            || interns_by(&rt, &shared, way, &other),
-        );
-        assert!(rt; here?);
-        assert!(rt; there?);
-        assert!(rt; shared.len() == 6000);
+        let (all, count) = both_intern(&rt, way, &one, &other)?;
+        is_so(&rt, all, "the texts of the keys");
+        is_so(&rt, count == 6000, "the number of texts");
     }
     Ok(())
 }
@@ -101,27 +97,36 @@ fn reads_what_it_sets<R: Wait>(rt: &R, shared: &SpurThreadedRodeo, done: &Atomic
     all
 }
 
-// Whether the text has this key by both look-ups.
-fn finds<T: Reader<Spur>, R: Wait>(rt: &R, reader: &T, text: &str, key: Spur) -> bool {
-    reader.get(rt, text) == Some(key) && reader.contains(rt, text)
+// Whether the text has this key by both look-ups, or is absent.
+fn finds<T: Reader<Spur>, R: Wait>(rt: &R, reader: &T, text: &str, key: Option<Spur>) -> bool {
+    reader.get(rt, text) == key && reader.contains(rt, text) == key.is_some()
 }
 
-// Whether both look-ups lack the text.
-fn lacks<T: Reader<Spur>, R: Wait>(rt: &R, reader: &T, text: &str) -> bool {
-    reader.get(rt, text).is_none() && !reader.contains(rt, text)
+// The same through the reader and through a reference to it.
+fn finds_by_both<T: Reader<Spur>, R: Wait>(
+    rt: &R,
+    reader: &T,
+    text: &str,
+    key: Option<Spur>,
+) -> bool {
+    finds(rt, reader, text, key) && finds(rt, &reader, text, key)
+}
+
+fn looks_up<R: Wait>(rt: &R, shared: &SpurThreadedRodeo, text: &str, key: Option<Spur>) -> bool {
+    finds_by_both(rt, shared, text, key)
 }
 
 // Interns the text by each call, and looks it up, through a reference and through the interner.
 fn has_one_key<R: Wait>(
     rt: &R,
-    mut shared: &SpurThreadedRodeo,
+    shared: &SpurThreadedRodeo,
     text: &'static str,
 ) -> LassoResult<bool> {
-    let key = key_by(rt, &mut shared, Way::Copied, text)?;
-    let mut all = lacks(rt, shared, "absent") && lacks(rt, &shared, "absent");
+    let key = key_of(rt, shared, Way::Copied, text)?;
+    let mut all = looks_up(rt, shared, "absent", None);
     for way in WAYS {
-        all &= key_by(rt, &mut shared, way, text)? == key;
-        all &= finds(rt, shared, text, key) && finds(rt, &shared, text, key);
+        all &= key_of(rt, shared, way, text)? == key;
+        all &= looks_up(rt, shared, text, Some(key));
     }
     Ok(all)
 }
@@ -141,19 +146,28 @@ fn have_one_key<R: Wait>(
     all
 }
 
+// One thread sets limits while the other interns. Returns whether each found what it has to.
+fn set_and_intern<R: Threads + Wait + Sync>(
+    rt: &R,
+    shared: &SpurThreadedRodeo,
+    texts: &[&'static str],
+) -> (bool, bool) {
+    let done = AtomicBool::new(false);
+    join(
+        rt,
+        || reads_what_it_sets(rt, shared, &done),
+        || have_one_key(rt, shared, texts, &done),
+    )
+}
+
 // The first bucket has room for all texts.
 #[test]
 fn no_call_through_a_reference_sets_a_limit(rt: HostRuntime) -> Result<(), Fail> {
     let texts = leaked(rt.alloc(), "a")?;
     let shared = fresh(rt.alloc())?;
-    let done = AtomicBool::new(false);
-    let (set, made) = join(
-        &rt,
-        || reads_what_it_sets(&rt, &shared, &done),
-        || have_one_key(&rt, &shared, &texts, &done),
-    );
-    assert!(rt; set);
-    assert!(rt; made);
-    assert!(rt; shared.len() == 100);
+    let (set, made) = set_and_intern(&rt, &shared, &texts);
+    is_so(&rt, set, "the limits");
+    is_so(&rt, made, "the keys");
+    is_so(&rt, shared.len() == 100, "the number of texts");
     Ok(())
 }

@@ -1,60 +1,105 @@
 //! The examples in the documents of walks over texts, in tests.
-use lasso::{Rodeo, SpurRodeo};
+use crate::answers::is_so;
+use crate::rodeos::of_texts;
+use lasso::{Spur, SpurRodeo};
+use std::process::Abort;
 use std::test::Fail;
+
+// A walk over `red`, `green` and `blue`.
+#[derive(Clone, Copy)]
+enum Walk {
+    Loop,
+    Pairs,
+    Texts,
+    TextsAhead,
+    PairsAhead,
+    TextsBehind,
+}
+
+// Whether each key of a loop resolves to the text that comes with it.
+fn loops(rodeo: &SpurRodeo) -> bool {
+    let mut all = true;
+    for (key, text) in rodeo {
+        all &= rodeo.try_resolve(key) == Some(text);
+    }
+    all
+}
+
+fn has_pairs(rodeo: &SpurRodeo) -> bool {
+    let mut walk = rodeo.iter();
+    is_pair(walk.next(), rodeo.get("red"), "red") && walk.len() == 2
+}
+
+fn is_pair(found: Option<(Spur, &str)>, key: Option<Spur>, text: &str) -> bool {
+    match found {
+        Some((found, name)) => Some(found) == key && name == text,
+        None => false,
+    }
+}
+
+fn has_texts(rodeo: &SpurRodeo) -> bool {
+    let mut strings = rodeo.strings();
+    strings.next_back() == Some("blue") && strings.next() == Some("red") && strings.len() == 1
+}
+
+fn has_texts_ahead(rodeo: &SpurRodeo) -> bool {
+    let mut ahead = rodeo.strings();
+    ahead.nth(1) == Some("green") && ahead.next() == Some("blue")
+}
+
+fn has_pairs_ahead(rodeo: &SpurRodeo) -> bool {
+    let mut ahead = rodeo.iter();
+    is_pair(ahead.nth(1), rodeo.get("green"), "green") && ahead.nth(1).is_none()
+}
+
+fn has_texts_behind(rodeo: &SpurRodeo) -> bool {
+    let mut behind = rodeo.strings();
+    behind.nth_back(1) == Some("green") && behind.next_back() == Some("red")
+}
+
+fn is_right(rodeo: &SpurRodeo, walk: Walk) -> bool {
+    match walk {
+        Walk::Loop => loops(rodeo),
+        Walk::Pairs => has_pairs(rodeo),
+        Walk::Texts => has_texts(rodeo),
+        Walk::TextsAhead => has_texts_ahead(rodeo),
+        Walk::PairsAhead => has_pairs_ahead(rodeo),
+        Walk::TextsBehind => has_texts_behind(rodeo),
+    }
+}
+
+fn walks<R: AllocGlobal + Abort>(rt: &R, walk: Walk) -> Result<(), Fail> {
+    let rodeo = of_texts(rt.alloc(), &["red", "green", "blue"])?;
+    is_so(rt, is_right(&rodeo, walk), "the walk");
+    Ok(())
+}
 
 #[test]
 fn each_text_with_its_key(rt: HostRuntime) -> Result<(), Fail> {
-    let rodeo: SpurRodeo = Rodeo::from_iter(rt.alloc(), ["red", "green", "blue"])?;
-    for (key, text) in &rodeo {
-        assert!(rt; rodeo.try_resolve(key) == Some(text));
-    }
-    Ok(())
+    walks(&rt, Walk::Loop)
 }
 
 #[test]
 fn texts_with_keys(rt: HostRuntime) -> Result<(), Fail> {
-    let rodeo: SpurRodeo = Rodeo::from_iter(rt.alloc(), ["red", "green", "blue"])?;
-    let red = rodeo.get("red").ok_or("not there")?;
-    let mut walk = rodeo.iter();
-    assert!(rt; walk.next() == Some((red, "red")));
-    assert!(rt; walk.len() == 2);
-    Ok(())
+    walks(&rt, Walk::Pairs)
 }
 
 #[test]
 fn texts_alone(rt: HostRuntime) -> Result<(), Fail> {
-    let rodeo: SpurRodeo = Rodeo::from_iter(rt.alloc(), ["red", "green", "blue"])?;
-    let mut strings = rodeo.strings();
-    assert!(rt; strings.next_back() == Some("blue"));
-    assert!(rt; strings.next() == Some("red"));
-    assert!(rt; strings.len() == 1);
-    Ok(())
+    walks(&rt, Walk::Texts)
 }
 
 #[test]
 fn texts_passed_over_from_the_front(rt: HostRuntime) -> Result<(), Fail> {
-    let rodeo: SpurRodeo = Rodeo::from_iter(rt.alloc(), ["red", "green", "blue"])?;
-    let mut ahead = rodeo.strings();
-    assert!(rt; ahead.nth(1) == Some("green"));
-    assert!(rt; ahead.next() == Some("blue"));
-    Ok(())
+    walks(&rt, Walk::TextsAhead)
 }
 
 #[test]
 fn pairs_passed_over_from_the_front(rt: HostRuntime) -> Result<(), Fail> {
-    let rodeo: SpurRodeo = Rodeo::from_iter(rt.alloc(), ["red", "green", "blue"])?;
-    let green = rodeo.get("green").ok_or("not there")?;
-    let mut ahead = rodeo.iter();
-    assert!(rt; ahead.nth(1) == Some((green, "green")));
-    assert!(rt; ahead.nth(1) == None);
-    Ok(())
+    walks(&rt, Walk::PairsAhead)
 }
 
 #[test]
 fn texts_passed_over_from_the_back(rt: HostRuntime) -> Result<(), Fail> {
-    let rodeo: SpurRodeo = Rodeo::from_iter(rt.alloc(), ["red", "green", "blue"])?;
-    let mut behind = rodeo.strings();
-    assert!(rt; behind.nth_back(1) == Some("green"));
-    assert!(rt; behind.next_back() == Some("red"));
-    Ok(())
+    walks(&rt, Walk::TextsBehind)
 }

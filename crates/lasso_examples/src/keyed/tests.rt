@@ -1,10 +1,10 @@
 //! Texts that collide under the fixed seed, in an interner with keys of its own.
 use super::{colliding, keyed_by};
+use crate::answers::is_so;
 use lasso::index::hash_text;
-use lasso::{FixedState, Key, Rodeo, Spur, ThreadedRodeo};
+use lasso::{FixedState, Key, LassoResult, Rodeo, Spur, ThreadedRodeo};
 use std::alloc::{AllocError, Global};
 use std::hash::{BuildHasher, RandomState};
-use std::process::Abort;
 use std::sync::Wait;
 use std::test::*;
 
@@ -36,20 +36,36 @@ fn distinct(hashes: &[u64]) -> usize {
     count
 }
 
+// How many hashes the texts have under the fixed seed.
+fn fixed_hashes(alloc: Global, texts: &[String]) -> Result<usize, AllocError> {
+    Ok(distinct(&hashes(alloc, &FixedState::new(), texts)?))
+}
+
+// The same under these keys.
+fn keyed_hashes(alloc: Global, texts: &[String], keys: [u8; 16]) -> Result<usize, Fail> {
+    let hasher = keyed_by(keys)?;
+    Ok(distinct(&hashes(alloc, &hasher, texts)?))
+}
+
 #[test]
 fn texts_collide_under_the_fixed_seed_alone(rt: HostRuntime) -> Result<(), Fail> {
     let texts = colliding(rt.alloc(), TEXTS)?;
-    let fixed = hashes(rt.alloc(), &FixedState::new(), &texts)?;
-    assert!(rt; distinct(&fixed) == 1);
-    for keys in [*b"sixteen of bytes", *b"another sixteen "] {
-        let keyed = hashes(rt.alloc(), &keyed_by(keys)?, &texts)?;
-        assert!(rt; distinct(&keyed) == texts.len());
-    }
+    is_so(
+        &rt,
+        fixed_hashes(rt.alloc(), &texts)? == 1,
+        "the fixed seed",
+    );
+    let keyed = keyed_hashes(rt.alloc(), &texts, *b"sixteen of bytes")?;
+    is_so(&rt, keyed == texts.len(), "a keyed hasher");
+    let keyed = keyed_hashes(rt.alloc(), &texts, *b"another sixteen ")?;
+    is_so(&rt, keyed == texts.len(), "another keyed hasher");
     Ok(())
 }
 
+type Keyed = Rodeo<Spur, RandomState, Global>;
+
 // Interns the texts, and returns whether each got the next position.
-fn interns(rodeo: &mut Rodeo<Spur, RandomState, Global>, texts: &[String]) -> bool {
+fn interns(rodeo: &mut Keyed, texts: &[String]) -> bool {
     let mut all = true;
     for position in 0..texts.len() {
         match rodeo.try_get_or_intern(texts[position].as_str()) {
@@ -61,7 +77,7 @@ fn interns(rodeo: &mut Rodeo<Spur, RandomState, Global>, texts: &[String]) -> bo
 }
 
 // How many of the texts are found at their positions.
-fn found(rodeo: &Rodeo<Spur, RandomState, Global>, texts: &[String]) -> usize {
+fn found(rodeo: &Keyed, texts: &[String]) -> usize {
     let mut count: usize = 0;
     for position in 0..texts.len() {
         if let Some(key) = rodeo.get(texts[position].as_str())
@@ -73,40 +89,43 @@ fn found(rodeo: &Rodeo<Spur, RandomState, Global>, texts: &[String]) -> usize {
     count
 }
 
+// Whether each text gets the next position, and is found there.
+fn interns_and_finds(made: LassoResult<Keyed>, texts: &[String]) -> LassoResult<bool> {
+    let mut rodeo = made?;
+    Ok(interns(&mut rodeo, texts) && found(&rodeo, texts) == 10_000)
+}
+
 #[test]
 fn a_keyed_interner_has_texts_that_collide_under_the_fixed_seed(
     rt: HostRuntime,
 ) -> Result<(), Fail> {
     let texts = colliding(rt.alloc(), TEXTS)?;
-    let hasher = keyed_by(*b"sixteen of bytes")?;
-    let mut rodeo: Rodeo<Spur, RandomState, Global> = Rodeo::with_hasher(rt.alloc(), hasher)?;
-    assert!(rt; interns(&mut rodeo, &texts));
-    assert!(rt; found(&rodeo, &texts) == 10_000);
+    let made = Rodeo::with_hasher(rt.alloc(), keyed_by(*b"sixteen of bytes")?);
+    is_so(&rt, interns_and_finds(made, &texts)?, "the positions");
     Ok(())
 }
 
-// The position of the text, interned by a call of its own.
-fn interned<R: Wait>(
+// Interns the first hundred texts. Returns how many got the next position, and how many texts there are.
+fn interns_hundred<R: Wait>(
     rt: &R,
     shared: &ThreadedRodeo<Spur, RandomState>,
-    text: &str,
-) -> Result<usize, Fail> {
-    Ok(shared.try_get_or_intern(rt, text)?.into_usize())
+    texts: &[String],
+) -> LassoResult<(usize, usize)> {
+    let mut right: usize = 0;
+    for position in 0..texts.len().min(100) {
+        let key = shared.try_get_or_intern(rt, texts[position].as_str())?;
+        if key.into_usize() == position {
+            right = right.saturating_add(1);
+        }
+    }
+    Ok((right, shared.len()))
 }
 
 #[test]
 fn a_shared_interner_may_be_keyed(rt: HostRuntime) -> Result<(), Fail> {
     let texts = colliding(rt.alloc(), TEXTS)?;
-    let hasher = keyed_by(*b"sixteen of bytes")?;
-    let shared: ThreadedRodeo<Spur, RandomState> = ThreadedRodeo::with_hasher(rt.alloc(), hasher)?;
-    let mut position: usize = 0;
-    for text in texts.iter().take(100) {
-        assert!(rt;
-            interned(&rt, &shared, text.as_str())? == position,
-            "{position}"
-        );
-        position = position.saturating_add(1);
-    }
-    assert!(rt; shared.len() == 100);
+    let shared = ThreadedRodeo::with_hasher(rt.alloc(), keyed_by(*b"sixteen of bytes")?)?;
+    let counts = interns_hundred(&rt, &shared, &texts)?;
+    is_so(&rt, counts == (100, 100), "the positions");
     Ok(())
 }
