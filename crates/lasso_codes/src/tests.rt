@@ -1,5 +1,5 @@
 //! Tests of the arguments, of runs over small and long inputs, and of readers and writers that fail. Each run
-//! of a request is made in this file, by `ran`, and most are rows that `hold` walks.
+//! of a request is made in this file, by `run_over`, and most are rows that `hold` walks.
 mod columns;
 mod damaged;
 mod failing;
@@ -65,12 +65,14 @@ const READ_FAILED: End<'static> = Some(("read failed", 4));
 // A run: the command and the word of a null, the input, what is written, and how it ends.
 type Row<'a> = (Command, Option<&'a [u8]>, &'a [u8], &'a [u8], End<'a>);
 
-// How a run calls its reader and its writer, and whether a progress line is shown.
+// How runs call their reader and their writer, whether a progress line is shown, and by how many workers a row
+// is run. Verbs without workers take no notice of their number.
 #[derive(Clone, Copy)]
 struct Way {
     reads: Calls,
     writes: Calls,
     is_shown: bool,
+    workers: &'static [usize],
 }
 
 // Calls that go well, through a buffer of the usual size.
@@ -87,6 +89,7 @@ const THROUGH_SHORT_BUFFERS: Way = Way {
     reads: Calls { buffer: 4, ..GOOD },
     writes: Calls { buffer: 16, ..GOOD },
     is_shown: false,
+    workers: &[1, 2, 3, 64],
 };
 
 // What came of a run.
@@ -109,7 +112,7 @@ fn is_so(rt: &impl Abort, holds: bool, what: &str) {
 }
 
 // Runs the request over the bytes.
-fn ran<R: AllocGlobal + Threads + Sync>(
+fn run_over<R: AllocGlobal + Threads + Sync>(
     rt: &R,
     request: &Request<'_>,
     bytes: &[u8],
@@ -162,7 +165,7 @@ fn is_as_told(alloc: Global, ran: &Ran, output: &[u8], end: End<'_>) -> Result<b
     Ok(is_end(alloc, &ran.ended, end)? && is_written)
 }
 
-// The command with this number of workers. Verbs without workers take no notice of it.
+// The command with this number of workers.
 fn with_workers(command: Command, workers: usize) -> Command {
     match command {
         Command::Run(verb, settings) => {
@@ -178,20 +181,18 @@ fn with_workers(command: Command, workers: usize) -> Command {
     }
 }
 
-static WORKERS: [usize; 4] = [1, 2, 3, 64];
-
 // Whether the run is as the row tells, for each number of workers.
 fn holds<R: AllocGlobal + Threads + Sync>(
     rt: &R,
     (command, null, input, output, end): &Row<'_>,
     way: &Way,
 ) -> Result<bool, Fail> {
-    for workers in &WORKERS {
+    for workers in way.workers {
         let request = Request {
             command: with_workers(*command, *workers),
             null: *null,
         };
-        let ran = ran(rt, &request, input, way)?;
+        let ran = run_over(rt, &request, input, way)?;
         if !is_as_told(rt.alloc(), &ran, output, *end)? {
             return Ok(false);
         }
@@ -199,13 +200,22 @@ fn holds<R: AllocGlobal + Threads + Sync>(
     Ok(true)
 }
 
-// Checks the rows, through short buffers.
-fn hold<R: AllocGlobal + Abort + Threads + Sync>(rt: &R, rows: &[Row<'_>]) -> Result<(), Fail> {
+// Checks the rows, run in this way.
+fn hold_by<R: AllocGlobal + Abort + Threads + Sync>(
+    rt: &R,
+    rows: &[Row<'_>],
+    way: &Way,
+) -> Result<(), Fail> {
     let mut number = 0usize;
     for row in rows {
         number = number.saturating_add(1);
-        let holds = holds(rt, row, &THROUGH_SHORT_BUFFERS)?;
+        let holds = holds(rt, row, way)?;
         assert!(rt; holds, "row {number}");
     }
     Ok(())
+}
+
+// The same through short buffers.
+fn hold<R: AllocGlobal + Abort + Threads + Sync>(rt: &R, rows: &[Row<'_>]) -> Result<(), Fail> {
+    hold_by(rt, rows, &THROUGH_SHORT_BUFFERS)
 }

@@ -1,8 +1,8 @@
 //! Runs over a reader and a writer that move at most three bytes in each call, and then fail.
 use super::short::Calls;
 use super::{
-    COUNTS, DECODE, DISTINCT, ENCODE, End, GOOD, MERGE, READ_FAILED, Ran, Way, is_as_told, is_end,
-    is_so, ran,
+    COUNTS, DECODE, DISTINCT, ENCODE, End, GOOD, MERGE, READ_FAILED, Ran, THROUGH_SHORT_BUFFERS,
+    Way, is_as_told, is_end, is_so, run_over,
 };
 use crate::arguments::{Command, Request};
 use std::io::ErrorKind;
@@ -46,7 +46,7 @@ fn after_reads(good: u64) -> Way {
             buffer: 8,
             ..BY_THREE
         },
-        is_shown: false,
+        ..THROUGH_SHORT_BUFFERS
     }
 }
 
@@ -60,7 +60,7 @@ fn after_writes(good: u64, failure: Option<ErrorKind>) -> Way {
             failure,
             ..BY_THREE
         },
-        is_shown: false,
+        ..THROUGH_SHORT_BUFFERS
     }
 }
 
@@ -102,7 +102,7 @@ fn fails_at_each_read<R: AllocGlobal + Abort + Threads + Sync>(
     (command, input, output): &Written<'_>,
 ) -> Result<(), Fail> {
     for good in 0..100 {
-        let ran = ran(rt, &run_of(*command), input, &after_reads(good))?;
+        let ran = run_over(rt, &run_of(*command), input, &after_reads(good))?;
         is_so(rt, is_flushed(&ran), "all is flushed");
         if is_whole(rt, &ran, output, READ_FAILED)? {
             return Ok(());
@@ -132,9 +132,9 @@ fn is_written_before<R: AllocGlobal + Threads + Sync>(
     let way = Way {
         reads: Calls { good, ..BY_THREE },
         writes: GOOD,
-        is_shown: false,
+        ..THROUGH_SHORT_BUFFERS
     };
-    let ran = ran(rt, &run_of(DISTINCT), INPUT, &way)?;
+    let ran = run_over(rt, &run_of(DISTINCT), INPUT, &way)?;
     Ok(is_as_told(rt.alloc(), &ran, output, READ_FAILED)? && ran.before_read == output.len())
 }
 
@@ -164,7 +164,7 @@ fn fails_at_each_write<R: AllocGlobal + Abort + Threads + Sync>(
     end: End<'_>,
 ) -> Result<(), Fail> {
     for good in 0..100 {
-        let ran = ran(rt, &run_of(*command), input, &after_writes(good, failure))?;
+        let ran = run_over(rt, &run_of(*command), input, &after_writes(good, failure))?;
         if is_whole(rt, &ran, output, end)? {
             return Ok(());
         }
@@ -197,9 +197,9 @@ fn is_gone<R: AllocGlobal + Threads + Sync>(
     let way = Way {
         reads: GOOD,
         writes: Calls { good: 0, ..GOOD },
-        is_shown: false,
+        ..THROUGH_SHORT_BUFFERS
     };
-    let ran = ran(rt, &run_of(DISTINCT), input, &way)?;
+    let ran = run_over(rt, &run_of(DISTINCT), input, &way)?;
     Ok(ran.written.is_empty() && is_end(rt.alloc(), &ran.ended, end)?)
 }
 

@@ -1,6 +1,6 @@
 //! Columns that are written and then read back.
 use super::{
-    DECODE, ENCODE, ENCODE_BINARY, MERGE, MERGE_BINARY, THROUGH_SHORT_BUFFERS, is_so, ran,
+    DECODE, ENCODE, ENCODE_BINARY, MERGE, MERGE_BINARY, THROUGH_SHORT_BUFFERS, is_so, run_over,
 };
 use crate::arguments::{Command, Request};
 use std::process::Abort;
@@ -22,7 +22,7 @@ fn written_of<R: AllocGlobal + Abort + Threads + Sync>(
     null: Option<&[u8]>,
     input: &[u8],
 ) -> Result<Vec<u8>, Fail> {
-    let ran = ran(
+    let ran = run_over(
         rt,
         &Request { command, null },
         input,

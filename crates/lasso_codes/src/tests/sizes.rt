@@ -1,8 +1,9 @@
 //! Long lines, many lines, and limits that are just reached. What has to be written is worked out from the
 //! shape of the lines.
 use super::short::Calls;
-use super::{BINARY, End, GOOD, PLAIN, Row, WELL, Way, holds, is_so};
+use super::{BINARY, End, GOOD, PLAIN, WELL, Way, hold_by};
 use crate::arguments::{Command, Settings, Verb};
+use crate::program::BUFFER_SIZE;
 use std::alloc::Global;
 use std::process::Abort;
 use std::test::Fail;
@@ -105,32 +106,23 @@ fn binary_column_of(alloc: Global, shape: &Shape) -> Result<Vec<u8>, Fail> {
     Ok(bytes)
 }
 
-// Through buffers of the program's size.
-static LONG_BUFFERS: Way = Way {
-    reads: Calls {
-        buffer: 65536,
-        ..GOOD
-    },
-    writes: Calls {
-        buffer: 65536,
-        ..GOOD
-    },
-    is_shown: false,
+const LONG_BUFFER: Calls = Calls {
+    buffer: BUFFER_SIZE,
+    ..GOOD
 };
 
-// Fails the test unless the run is as the row tells.
-fn hold_row<R: AllocGlobal + Abort + Threads + Sync>(
-    rt: &R,
-    row: &Row<'_>,
-    what: &str,
-) -> Result<(), Fail> {
-    is_so(rt, holds(rt, row, &LONG_BUFFERS)?, what);
-    Ok(())
-}
+const LONG_BUFFER: Calls = Calls {
+    buffer: BUFFER_SIZE,
+    ..GOOD
+};
 
-const fn with_limit(settings: Settings, limit: usize) -> Settings {
-    Settings { limit, ..settings }
-}
+// Through buffers of the program's size, by one worker and by three.
+static LONG_BUFFERS: Way = Way {
+    reads: LONG_BUFFER,
+    writes: LONG_BUFFER,
+    is_shown: false,
+    workers: &[1, 3],
+};
 
 // `distinct` and `counts` write what is worked out, under this limit.
 fn lines_are_listed<R: AllocGlobal + Abort + Threads + Sync>(
@@ -138,29 +130,66 @@ fn lines_are_listed<R: AllocGlobal + Abort + Threads + Sync>(
     shape: &Shape,
     limit: usize,
 ) -> Result<(), Fail> {
-    let settings = with_limit(PLAIN, limit);
     let lines = lines_of(rt.alloc(), shape)?;
     let texts = texts_of(rt.alloc(), shape)?;
     let counts = counts_of(rt.alloc(), shape)?;
-    let distinct = Command::Run(Verb::Distinct, settings);
-    hold_row(rt, &(distinct, None, &lines, &texts, WELL), "distinct")?;
-    let counted = Command::Run(Verb::Counts, settings);
-    hold_row(rt, &(counted, None, &lines, &counts, WELL), "counts")
+    let settings = Settings { limit, ..PLAIN };
+    hold_by(
+        rt,
+        &[
+            (
+                Command::Run(Verb::Distinct, settings),
+                None,
+                &lines,
+                &texts,
+                WELL,
+            ),
+            (
+                Command::Run(Verb::Counts, settings),
+                None,
+                &lines,
+                &counts,
+                WELL,
+            ),
+        ],
+        &LONG_BUFFERS,
+    )
 }
 
-// The lines and their column, in one of its forms, are written from each other, under this limit.
+// The lines and their column are written from each other, and the column from itself.
 fn column_is_written<R: AllocGlobal + Abort + Threads + Sync>(
     rt: &R,
     settings: Settings,
     lines: &[u8],
     column: &[u8],
 ) -> Result<(), Fail> {
-    let encode = Command::Run(Verb::Encode, settings);
-    hold_row(rt, &(encode, None, lines, column, WELL), "encode")?;
-    let decode = Command::Run(Verb::Decode, settings);
-    hold_row(rt, &(decode, None, column, lines, WELL), "decode")?;
-    let merge = Command::Run(Verb::Merge, settings);
-    hold_row(rt, &(merge, None, column, column, WELL), "merge")
+    hold_by(
+        rt,
+        &[
+            (
+                Command::Run(Verb::Encode, settings),
+                None,
+                lines,
+                column,
+                WELL,
+            ),
+            (
+                Command::Run(Verb::Decode, settings),
+                None,
+                column,
+                lines,
+                WELL,
+            ),
+            (
+                Command::Run(Verb::Merge, settings),
+                None,
+                column,
+                column,
+                WELL,
+            ),
+        ],
+        &LONG_BUFFERS,
+    )
 }
 
 // The verbs of columns write what is worked out, under this limit.
@@ -171,9 +200,9 @@ fn columns_are_written<R: AllocGlobal + Abort + Threads + Sync>(
 ) -> Result<(), Fail> {
     let lines = lines_of(rt.alloc(), shape)?;
     let text = text_column_of(rt.alloc(), shape)?;
-    column_is_written(rt, with_limit(PLAIN, limit), &lines, &text)?;
+    column_is_written(rt, Settings { limit, ..PLAIN }, &lines, &text)?;
     let binary = binary_column_of(rt.alloc(), shape)?;
-    column_is_written(rt, with_limit(BINARY, limit), &lines, &binary)
+    column_is_written(rt, Settings { limit, ..BINARY }, &lines, &binary)
 }
 
 const LONG_LINE: Shape = Shape {
@@ -242,7 +271,7 @@ static LIMITS: [Limit; 3] = [
     ),
 ];
 
-const fn of_buckets(texts: u32) -> Shape {
+fn of_buckets(texts: u32) -> Shape {
     Shape {
         lines: texts,
         texts,
@@ -255,21 +284,55 @@ fn one_more_is_refused<R: AllocGlobal + Abort + Threads + Sync>(
     rt: &R,
     (limit, texts, line, text): &Limit,
 ) -> Result<(), Fail> {
-    let settings = with_limit(PLAIN, *limit);
-    let before = texts_of(rt.alloc(), &of_buckets(*texts))?;
     let shape = of_buckets(texts.saturating_add(1));
+    let before = texts_of(rt.alloc(), &of_buckets(*texts))?;
     let lines = lines_of(rt.alloc(), &shape)?;
     let column = text_column_of(rt.alloc(), &shape)?;
-    let distinct = Command::Run(Verb::Distinct, settings);
-    hold_row(rt, &(distinct, None, &lines, &before, *line), "distinct")?;
-    let counts = Command::Run(Verb::Counts, settings);
-    hold_row(rt, &(counts, None, &lines, b"", *line), "counts")?;
-    let encode = Command::Run(Verb::Encode, settings);
-    hold_row(rt, &(encode, None, &lines, b"", *line), "encode")?;
-    let decode = Command::Run(Verb::Decode, settings);
-    hold_row(rt, &(decode, None, &column, b"", *text), "decode")?;
-    let merge = Command::Run(Verb::Merge, settings);
-    hold_row(rt, &(merge, None, &column, b"", *text), "merge")
+    let settings = Settings {
+        limit: *limit,
+        ..PLAIN
+    };
+    hold_by(
+        rt,
+        &[
+            (
+                Command::Run(Verb::Distinct, settings),
+                None,
+                &lines,
+                &before,
+                *line,
+            ),
+            (
+                Command::Run(Verb::Counts, settings),
+                None,
+                &lines,
+                b"",
+                *line,
+            ),
+            (
+                Command::Run(Verb::Encode, settings),
+                None,
+                &lines,
+                b"",
+                *line,
+            ),
+            (
+                Command::Run(Verb::Decode, settings),
+                None,
+                &column,
+                b"",
+                *text,
+            ),
+            (
+                Command::Run(Verb::Merge, settings),
+                None,
+                &column,
+                b"",
+                *text,
+            ),
+        ],
+        &LONG_BUFFERS,
+    )
 }
 
 #[test]

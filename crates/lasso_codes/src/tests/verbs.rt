@@ -8,7 +8,7 @@ use crate::help::{HELP, verb_help};
 use std::alloc::Global;
 use std::test::Fail;
 
-static DISTINCT_LINES: [Row<'static>; 7] = [
+static LISTED: [Row<'static>; 7] = [
     (DISTINCT, None, b"", b"", WELL),
     (DISTINCT, None, b"\n", b"\n", WELL),
     (DISTINCT, None, b"a", b"a\n", WELL),
@@ -26,10 +26,10 @@ static DISTINCT_LINES: [Row<'static>; 7] = [
 
 #[test]
 fn distinct_lines(rt: HostRuntime) -> Result<(), Fail> {
-    hold(&rt, &DISTINCT_LINES)
+    hold(&rt, &LISTED)
 }
 
-static COUNTED_LINES: [Row<'static>; 6] = [
+static COUNTED: [Row<'static>; 6] = [
     (COUNTS, None, b"", b"", WELL),
     (COUNTS, None, b"\n", b"1 \n", WELL),
     (COUNTS, None, b"b\na\nb", b"2 b\n1 a\n", WELL),
@@ -52,7 +52,7 @@ static COUNTED_LINES: [Row<'static>; 6] = [
 
 #[test]
 fn counted_lines(rt: HostRuntime) -> Result<(), Fail> {
-    hold(&rt, &COUNTED_LINES)
+    hold(&rt, &COUNTED)
 }
 
 const FIRST_OF_NONE: Command = Command::Run(Verb::Counts, Settings { top: 0, ..PLAIN });
@@ -104,7 +104,7 @@ fn many_lines(rt: HostRuntime) -> Result<(), Fail> {
     )
 }
 
-static HELP_TEXTS: [Row<'static>; 7] = [
+static HELPS: [Row<'static>; 7] = [
     (Command::Help, None, b"a\n", PROGRAM_HELP, WELL),
     (Command::Version, None, b"a\n", PROGRAM_VERSION, WELL),
     (
@@ -146,7 +146,7 @@ static HELP_TEXTS: [Row<'static>; 7] = [
 
 #[test]
 fn help_texts(rt: HostRuntime) -> Result<(), Fail> {
-    hold(&rt, &HELP_TEXTS)
+    hold(&rt, &HELPS)
 }
 
 // Whether the text has at most 24 lines of at most 80 letters.
@@ -177,7 +177,7 @@ fn help_texts_fit_a_screen(rt: HostRuntime) {
 
 const NOT_TEXT: End<'static> = Some(("line 3: not UTF-8", 2));
 
-static FAULTY_LINES: [Row<'static>; 3] = [
+static FAULTY: [Row<'static>; 3] = [
     (DISTINCT, None, b"a\na\n\xff\nb\n", b"a\n", NOT_TEXT),
     (COUNTS, None, b"a\na\n\xff\nb\n", b"", NOT_TEXT),
     (ENCODE, None, b"a\na\n\xff\nb\n", b"", NOT_TEXT),
@@ -185,7 +185,7 @@ static FAULTY_LINES: [Row<'static>; 3] = [
 
 #[test]
 fn faulty_lines(rt: HostRuntime) -> Result<(), Fail> {
-    hold(&rt, &FAULTY_LINES)
+    hold(&rt, &FAULTY)
 }
 
 const LIMITED: Settings = Settings {

@@ -16,7 +16,7 @@ fn owned_words(alloc: Global, words: &[&str]) -> Result<Vec<String>, Fail> {
 
 const GREATEST: usize = 18446744073709551615;
 
-static NUMBERS: [(&[u8], usize); 8] = [
+static GOOD_NUMBERS: [(&[u8], usize); 8] = [
     (b"0", 0),
     (b"00000000000000000017", 17),
     (b"18446744073709551615", GREATEST),
@@ -44,7 +44,7 @@ static NO_NUMBERS: [&[u8]; 12] = [
 
 #[test]
 fn numbers(rt: HostRuntime) {
-    for (word, number) in &NUMBERS {
+    for (word, number) in &GOOD_NUMBERS {
         is_so(&rt, parse_number(word) == Some(*number), "a number");
     }
     for word in &NO_NUMBERS {
