@@ -111,11 +111,6 @@ const LONG_BUFFER: Calls = Calls {
     ..GOOD
 };
 
-const LONG_BUFFER: Calls = Calls {
-    buffer: BUFFER_SIZE,
-    ..GOOD
-};
-
 // Through buffers of the program's size, by one worker and by three.
 static LONG_BUFFERS: Way = Way {
     reads: LONG_BUFFER,
