@@ -65,8 +65,8 @@ const READ_FAILED: End<'static> = Some(("read failed", 4));
 // A run: the command and the word of a null, the input, what is written, and how it ends.
 type Row<'a> = (Command, Option<&'a [u8]>, &'a [u8], &'a [u8], End<'a>);
 
-// How runs call their reader and their writer, whether a progress line is shown, and by how many workers a row
-// is run. Verbs without workers take no notice of their number.
+// How a run calls its reader and its writer, whether a progress line is shown, and the numbers of workers by
+// which a row is run. Verbs without workers take no notice of the number.
 #[derive(Clone, Copy)]
 struct Way {
     reads: Calls,
