@@ -146,8 +146,8 @@ static UNDER_NO_LIMIT_TO_SPEAK_OF: [Step; 1] = [Step::Makes(0)];
 
 static AFTER_ONE_TEXT: [Step; 2] = [Step::Takes(4096, 0), Step::Counts(1)];
 
-// A limit within a batch: the second text has no room, and the third is not asked for. The second time the first
-// text is present.
+// A limit within a batch: the second text has no room, and the third is not asked for. The second time the
+// first text is present.
 #[test]
 fn keeps_the_texts_before_one_past_the_limit(rt: HostRuntime) -> Result<(), Fail> {
     let text = vec![in rt.alloc(); b'a'; 4097]?;

@@ -63,7 +63,8 @@ const SMALL_ROOMS: Encoding = Encoding {
     ..ENCODING
 };
 
-// An array that begins at its second text, as one that was cut has it; then no text, by one offset and by none.
+// An array that begins at its second text, as one that was cut has it; then no text, by one offset and by
+// none.
 static PARTS: [Encoding; 3] = [
     Encoding {
         offsets: &[3, 5, 5],
@@ -264,8 +265,8 @@ const TEXTS: u32 = 1000;
 
 const DISTINCT: u32 = 250;
 
-// The number that the text at this position prints. 79 and 250 have no common factor, so 250 texts in a row have
-// 250 numbers.
+// The number that the text at this position prints. 79 and 250 have no common factor, so 250 texts in a row
+// have 250 numbers.
 fn number_at(position: u32) -> u32 {
     position % DISTINCT * 79 % DISTINCT
 }
@@ -284,7 +285,10 @@ fn texts_up_to(alloc: Global, count: u32) -> Result<Printed, Fail> {
     for position in 0..count {
         let text = format!(in alloc; "{}", number_at(position))?;
         bytes.extend_from_slice(text.as_bytes())?;
-        offsets.push(bytes.len() as u32)?;
+        let Ok(end) = u32::try_from(bytes.len()) else {
+            return Err(Fail::from("too many bytes"));
+        };
+        offsets.push(end)?;
     }
     Ok(Printed { bytes, offsets })
 }
