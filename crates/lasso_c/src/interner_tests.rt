@@ -1,265 +1,187 @@
 //! Calls on interners that C holds, on inputs that were worked by hand.
-ghost use Rattle.std.specs.Prelude.{◌≤◌};
-
-use crate::error::LassoReport;
 use crate::handle::Lasso;
-use crate::interner::{
-    lasso_clear, lasso_dictionary, lasso_free, lasso_get, lasso_get_batch, lasso_intern,
-    lasso_intern_batch, lasso_len, lasso_limit, lasso_memory, lasso_new, lasso_resolve,
-    lasso_set_limit,
-};
-use std::process::Abort;
+use crate::tests::checks::is_as_told;
+use crate::tests::steps::{Layout, Step, batch, walk, walk_on};
 use std::test::Fail;
 
-const UNSET: LassoReport = LassoReport {
-    texts: 77,
-    bytes: 77,
-    at: 77,
-};
+// "red", "blue" and "red", and bytes that are no text.
+const BYTES: &[u8] = b"redbluered\xc3";
 
-// An interner of that limit. It ends the test out of memory.
-fn made<R: AllocGlobal>(rt: &R, limit: usize) -> Result<Lasso, Fail> {
-    let mut lasso = Lasso::none(rt.alloc());
-    match lasso_new(rt.alloc(), &mut lasso, limit) {
-        0 => Ok(lasso),
-        _ => Err(Fail::from("out of memory")),
-    }
-}
-
-// Interns the text, and compares the status and the code, which is 77 where none is written.
-fn intern<R: Abort + AllocGlobal>(
-    rt: &R,
-    lasso: &mut Lasso,
-    text: &[u8],
-    want: (u32, u32),
-) -> Result<(), Fail> {
-    let mut code = 77;
-    let status = lasso_intern(rt.alloc(), lasso, text, &mut code);
-    if status == 9 {
-        return Err(Fail::from("out of memory"));
-    }
-    assert!(rt; (status, code) == want);
-    Ok(())
-}
-
-// Interns a batch with room for `room` codes, and compares the status, the number interned, and the codes.
-fn batch<R: Abort + AllocGlobal>(
-    rt: &R,
-    lasso: &mut Lasso,
-    offsets: &[u32],
-    room: usize,
-    want: (u32, usize, [u32; 4]),
-) -> Result<(), Fail>
-    requires { room ≤ 4 }
-{
-    let (mut codes, mut report) = ([9; 4], UNSET);
-    let status = lasso_intern_batch(
-        rt.alloc(),
-        lasso,
-        b"redbluered\xc3",
-        offsets,
-        &mut codes[..room],
-        &mut report,
-    );
-    if status == 9 {
-        return Err(Fail::from("out of memory"));
-    }
-    assert!(rt; (status, report.texts, codes) == want);
-    Ok(())
-}
-
-fn get<R: Abort + AllocGlobal>(rt: &R, lasso: &mut Lasso, text: &[u8], want: (u32, u32)) {
-    let mut code = 77;
-    let status = lasso_get(rt.alloc(), lasso, text, &mut code);
-    assert!(rt; (status, code) == want);
-}
-
-// Looks a batch up with room for `room` codes, and compares the status, the report, and the codes. An absent text has 8.
-fn get_batch<R: Abort + AllocGlobal>(
-    rt: &R,
-    lasso: &mut Lasso,
-    offsets: &[u32],
-    room: usize,
-    want: (u32, (usize, usize, usize), [u32; 4]),
-) {
-    let (mut codes, mut report) = ([9; 4], UNSET);
-    let status = lasso_get_batch(
-        rt.alloc(),
-        lasso,
-        b"redbluered\xc3",
-        offsets,
-        8,
-        &mut codes[..room.min(4)],
-        &mut report,
-    );
-    assert!(rt; (status, (report.texts, report.bytes, report.at), codes) == want);
-}
-
-fn resolve<R: Abort + AllocGlobal>(
-    rt: &R,
-    lasso: &mut Lasso,
-    code: u32,
-    want: (u32, [u8; 4], usize),
-) {
-    let (mut text, mut whole) = ([b'.'; 4], 77);
-    let status = lasso_resolve(rt.alloc(), lasso, code, &mut text, &mut whole);
-    assert!(rt; (status, text, whole) == want);
-}
+static FROM_CALL_TO_CALL: [Step; 9] = [
+    Step::Makes(usize::MAX),
+    Step::Interns(b"red", (0, 0)),
+    Step::Interns(b"", (0, 1)),
+    Step::Interns(b"red", (0, 0)),
+    Step::Interns(b"\xc3", (3, 77)),
+    Step::Batch(
+        Layout::Small(BYTES, &[3, 7, 10]),
+        4,
+        (0, (2, 0, 0), &[2, 0]),
+    ),
+    Step::Counts(3),
+    Step::Frees,
+    Step::Counts(0),
+];
 
 #[test]
 fn numbers_texts_from_call_to_call(rt: HostRuntime) -> Result<(), Fail> {
-    let mut lasso = made(&rt, usize::MAX)?;
-    intern(&rt, &mut lasso, b"red", (0, 0))?;
-    intern(&rt, &mut lasso, b"", (0, 1))?;
-    intern(&rt, &mut lasso, b"red", (0, 0))?;
-    intern(&rt, &mut lasso, b"\xc3", (3, 77))?;
-    batch(&rt, &mut lasso, &[3, 7, 10], 4, (0, 2, [2, 0, 9, 9]))?;
-    assert!(rt; lasso_len(rt.alloc(), &mut lasso) == 3);
-    lasso_free(rt.alloc(), &mut lasso);
-    assert!(rt; lasso_len(rt.alloc(), &mut lasso) == 0);
-    Ok(())
+    walk(&rt, &FROM_CALL_TO_CALL)
 }
+
+static BEFORE_A_REFUSED_ONE: [Step; 16] = [
+    Step::Makes(usize::MAX),
+    Step::Batch(Layout::Small(BYTES, &[0, 3, 7, 10]), 2, (6, (0, 0, 0), &[])),
+    Step::Batch(
+        Layout::Small(BYTES, &[0, 3, 7, 11]),
+        4,
+        (3, (2, 0, 2), &[0, 1]),
+    ),
+    Step::Batch(
+        Layout::Small(BYTES, &[0, 3, 2, 10]),
+        4,
+        (1, (1, 0, 1), &[0]),
+    ),
+    Step::Batch(Layout::Small(BYTES, &[0, 3, 12]), 4, (2, (1, 0, 1), &[0])),
+    Step::Batch(Layout::Small(BYTES, &[12]), 4, (2, (0, 0, 0), &[])),
+    Step::Batch(Layout::Small(BYTES, &[11]), 4, (0, (0, 0, 0), &[])),
+    Step::Batch(Layout::Small(BYTES, &[]), 4, (0, (0, 0, 0), &[])),
+    Step::Finds(b"blue", (0, 1)),
+    Step::Finds(b"grue", (13, 77)),
+    Step::Finds(b"\xc3", (3, 77)),
+    Step::Resolves(0, (0, b"red", 3)),
+    Step::Resolves(1, (0, b"blue", 4)),
+    Step::Resolves(2, (4, b"", 77)),
+    // a text that is longer than the room for it
+    Step::Interns(b"purple", (0, 2)),
+    Step::Resolves(2, (0, b"purp", 6)),
+];
 
 #[test]
 fn keeps_the_texts_before_a_refused_one(rt: HostRuntime) -> Result<(), Fail> {
-    let mut lasso = made(&rt, usize::MAX)?;
-    batch(&rt, &mut lasso, &[0, 3, 7, 10], 2, (6, 0, [9, 9, 9, 9]))?;
-    batch(&rt, &mut lasso, &[0, 3, 7, 11], 4, (3, 2, [0, 1, 9, 9]))?;
-    batch(&rt, &mut lasso, &[0, 3, 2, 10], 4, (1, 1, [0, 9, 9, 9]))?;
-    batch(&rt, &mut lasso, &[0, 3, 12], 4, (2, 1, [0, 9, 9, 9]))?;
-    batch(&rt, &mut lasso, &[12], 4, (2, 0, [9, 9, 9, 9]))?;
-    batch(&rt, &mut lasso, &[11], 4, (0, 0, [9, 9, 9, 9]))?;
-    batch(&rt, &mut lasso, &[], 4, (0, 0, [9, 9, 9, 9]))?;
-    get(&rt, &mut lasso, b"blue", (0, 1));
-    get(&rt, &mut lasso, b"grue", (13, 77));
-    resolve(&rt, &mut lasso, 0, (0, *b"red.", 3));
-    resolve(&rt, &mut lasso, 1, (0, *b"blue", 4));
-    resolve(&rt, &mut lasso, 2, (4, *b"....", 77));
-    Ok(())
+    walk(&rt, &BEFORE_A_REFUSED_ONE)
 }
+
+// "blue" is absent.
+static LOOKED_UP: [Step; 14] = [
+    Step::Lookup(Layout::Small(BYTES, &[0, 3]), 4, (12, (0, 0, 0), &[])),
+    Step::Makes(usize::MAX),
+    Step::Interns(b"", (0, 0)),
+    Step::Interns(b"red", (0, 1)),
+    Step::Lookup(
+        Layout::Small(BYTES, &[0, 3, 7, 10]),
+        4,
+        (0, (3, 0, 0), &[1, 8, 1]),
+    ),
+    Step::Lookup(Layout::Small(BYTES, &[3, 3, 7]), 2, (0, (2, 0, 0), &[0, 8])),
+    Step::Lookup(Layout::Small(BYTES, &[4]), 0, (0, (0, 0, 0), &[])),
+    Step::Lookup(Layout::Small(BYTES, &[]), 0, (0, (0, 0, 0), &[])),
+    Step::Lookup(Layout::Small(BYTES, &[0, 3, 11, 2]), 2, (6, (3, 0, 0), &[])),
+    Step::Lookup(Layout::Small(BYTES, &[0, 3, 2]), 4, (1, (0, 0, 1), &[])),
+    Step::Lookup(Layout::Small(BYTES, &[0, 3, 12]), 4, (2, (0, 0, 1), &[])),
+    Step::Lookup(Layout::Small(BYTES, &[12]), 4, (2, (0, 0, 0), &[])),
+    Step::Lookup(Layout::Small(BYTES, &[0, 3, 7, 11]), 4, (3, (0, 0, 2), &[])),
+    Step::Counts(2),
+];
 
 #[test]
 fn looks_up_the_texts_of_a_batch(rt: HostRuntime) -> Result<(), Fail> {
-    let mut lasso = Lasso::none(rt.alloc());
-    get_batch(&rt, &mut lasso, &[0, 3], 4, (12, (0, 0, 0), [9; 4]));
-    let mut lasso = made(&rt, usize::MAX)?;
-    intern(&rt, &mut lasso, b"", (0, 0))?;
-    intern(&rt, &mut lasso, b"red", (0, 1))?;
-    // The offsets, the room for codes, and the status, the report and the codes that are wanted. "blue" is absent.
-    for (offsets, room, want) in [
-        ([0, 3, 7, 10].as_slice(), 4, (0, (3, 0, 0), [1, 8, 1, 9])),
-        (&[3, 3, 7], 2, (0, (2, 0, 0), [0, 8, 9, 9])),
-        (&[4], 0, (0, (0, 0, 0), [9; 4])),
-        (&[], 0, (0, (0, 0, 0), [9; 4])),
-        (&[0, 3, 11, 2], 2, (6, (3, 0, 0), [9; 4])),
-        (&[0, 3, 2], 4, (1, (0, 0, 1), [9; 4])),
-        (&[0, 3, 12], 4, (2, (0, 0, 1), [9; 4])),
-        (&[12], 4, (2, (0, 0, 0), [9; 4])),
-        (&[0, 3, 7, 11], 4, (3, (0, 0, 2), [9; 4])),
-    ] {
-        get_batch(&rt, &mut lasso, offsets, room, want);
-    }
-    assert!(rt; lasso_len(rt.alloc(), &mut lasso) == 2);
-    Ok(())
+    walk(&rt, &LOOKED_UP)
 }
+
+// "red" has the code 0, and "blue" the code 1.
+static FROM_A_CODE_ON: [Step; 6] = [
+    Step::Makes(usize::MAX),
+    Step::Batch(
+        Layout::Small(BYTES, &[0, 3, 7, 10]),
+        4,
+        (0, (3, 0, 0), &[0, 1, 0]),
+    ),
+    Step::Dictionary((1, (4, 2)), (0, (1, 4, 0)), (b"blue", &[0, 4])),
+    Step::Dictionary((2, (4, 2)), (0, (0, 0, 0)), (b"", &[0])),
+    Step::Dictionary((1, (3, 2)), (8, (1, 4, 0)), (b"", &[])),
+    Step::Dictionary((0, (4, 2)), (7, (2, 7, 0)), (b"", &[])),
+];
 
 #[test]
 fn writes_a_dictionary_from_a_code_on(rt: HostRuntime) -> Result<(), Fail> {
-    let mut lasso = made(&rt, usize::MAX)?;
-    batch(&rt, &mut lasso, &[0, 3, 7, 10], 4, (0, 3, [0, 1, 0, 9]))?;
-    // Where it begins, the room for bytes and offsets, the status, the sizes, and what is written.
-    for (from, rooms, status, sizes, bytes, offsets) in [
-        (1, (4, 2), 0, (1, 4), *b"blue", [0, 4]),
-        (2, (4, 2), 0, (0, 0), *b"....", [0, 9]),
-        (1, (3, 2), 8, (1, 4), *b"....", [9, 9]),
-        (0, (4, 2), 7, (2, 7), *b"....", [9, 9]),
-    ] {
-        let (mut wrote, mut starts, mut report) = ([b'.'; 4], [9; 2], UNSET);
-        let (room, starts_room): (usize, usize) = rooms;
-        let got = lasso_dictionary(
-            rt.alloc(),
-            &mut lasso,
-            from,
-            &mut wrote[..room.min(4)],
-            &mut starts[..starts_room.min(2)],
-            &mut report,
-        );
-        assert!(rt; (got, report.texts, report.bytes) == (status, sizes.0, sizes.1));
-        assert!(rt; (wrote, starts) == (bytes, offsets));
-    }
-    Ok(())
+    walk(&rt, &FROM_A_CODE_ON)
 }
+
+// A text of more bytes than an entry has.
+const LONG: &[u8] = b"a text of more bytes than an entry";
+
+// The first text fills the first bucket.
+static UNDER_A_LIMIT: [Step; 13] = [
+    Step::Makes(4096),
+    Step::Takes(4096, 4096),
+    Step::InternsLong(4096, (0, 0)),
+    Step::Takes(4096, 4096),
+    Step::Interns(LONG, (10, 77)),
+    Step::Nulls(
+        Layout::Small(LONG, &[0, 0, 34]),
+        &[2],
+        4,
+        (10, (1, 0, 1), &[7]),
+    ),
+    Step::Batch(Layout::Large(LONG, &[0, 34]), 4, (10, (0, 0, 0), &[])),
+    Step::Nulls(
+        Layout::Large(LONG, &[0, 0, 34]),
+        &[2],
+        4,
+        (10, (1, 0, 1), &[7]),
+    ),
+    Step::Limits(usize::MAX, 0),
+    Step::Interns(LONG, (0, 1)),
+    Step::Clears(0),
+    Step::Counts(0),
+    Step::Interns(b"red", (0, 0)),
+];
 
 #[test]
 fn holds_a_limit(rt: HostRuntime) -> Result<(), Fail> {
-    let mut lasso = made(&rt, 4096)?;
-    assert!(rt; lasso_limit(rt.alloc(), &mut lasso) == 4096);
-    let long = vec![in rt.alloc(); b'a'; 4096]?;
-    intern(&rt, &mut lasso, &long, (0, 0))?;
-    assert!(rt; lasso_memory(rt.alloc(), &mut lasso) == 4096);
-    intern(
-        &rt,
-        &mut lasso,
-        b"a text of more bytes than an entry",
-        (10, 77),
-    )?;
-    assert!(rt; lasso_set_limit(rt.alloc(), &mut lasso, usize::MAX) == 0);
-    intern(
-        &rt,
-        &mut lasso,
-        b"a text of more bytes than an entry",
-        (0, 1),
-    )?;
-    assert!(rt; lasso_clear(rt.alloc(), &mut lasso) == 0);
-    assert!(rt; lasso_len(rt.alloc(), &mut lasso) == 0);
-    intern(&rt, &mut lasso, b"red", (0, 0))?;
-    Ok(())
+    walk(&rt, &UNDER_A_LIMIT)
 }
 
-// A limit within a batch: the second text has no room, and the third is not asked for.
+static UNDER_NO_LIMIT_TO_SPEAK_OF: [Step; 1] = [Step::Makes(0)];
+
+static AFTER_ONE_TEXT: [Step; 2] = [Step::Takes(4096, 0), Step::Counts(1)];
+
+// A limit within a batch: the second text has no room, and the third is not asked for. The second time the
+// first text is present.
 #[test]
 fn keeps_the_texts_before_one_past_the_limit(rt: HostRuntime) -> Result<(), Fail> {
-    let mut lasso = made(&rt, 0)?;
     let text = vec![in rt.alloc(); b'a'; 4097]?;
-    // The second time the first text is present.
-    for unset in [9, 8] {
-        let (mut codes, mut report) = ([unset; 3], UNSET);
-        let status = lasso_intern_batch(
-            rt.alloc(),
-            &mut lasso,
-            &text,
-            &[0, 4095, 4097, 4097],
-            &mut codes,
-            &mut report,
-        );
-        if status == 9 {
-            return Err(Fail::from("out of memory"));
-        }
-        assert!(rt; (status, report.texts, report.bytes, report.at) == (10, 1, 0, 1));
-        assert!(rt; codes == [0, unset, unset]);
-        assert!(rt; lasso_memory(rt.alloc(), &mut lasso) == 4096);
-        assert!(rt; lasso_len(rt.alloc(), &mut lasso) == 1);
+    let layout = Layout::Small(&text, &[0, 4095, 4097, 4097]);
+    let mut lasso = Lasso::none(rt.alloc());
+    walk_on(&rt, &mut lasso, &UNDER_NO_LIMIT_TO_SPEAK_OF)?;
+    for time in 0..2usize {
+        let seen = batch(rt.alloc(), &mut lasso, layout, 3, (10, (1, 0, 1), &[0]));
+        is_as_told(&rt, seen, time)?;
+        walk_on(&rt, &mut lasso, &AFTER_ONE_TEXT)?;
     }
     Ok(())
 }
 
+static WITHOUT_AN_INTERNER: [Step; 16] = [
+    Step::Interns(b"red", (12, 77)),
+    Step::Interns(b"\xc3", (3, 77)),
+    Step::Batch(Layout::Small(BYTES, &[0, 3]), 4, (12, (0, 0, 0), &[])),
+    Step::Batch(Layout::Large(BYTES, &[0, 3]), 4, (12, (0, 0, 0), &[])),
+    Step::Nulls(Layout::Large(BYTES, &[0, 3]), &[0], 4, (12, (0, 0, 0), &[])),
+    Step::Finds(b"red", (12, 77)),
+    Step::Finds(b"\xc3", (3, 77)),
+    Step::Lookup(Layout::Large(BYTES, &[0, 3]), 4, (12, (0, 0, 0), &[])),
+    Step::Resolves(0, (12, b"", 77)),
+    Step::Dictionary((0, (8, 4)), (12, (0, 0, 0)), (b"", &[])),
+    Step::Large((0, (8, 4)), (12, (0, 0, 0)), (b"", [9, 9, 9, 9])),
+    Step::Limits(1, 12),
+    Step::Clears(12),
+    Step::Takes(0, 0),
+    Step::Frees,
+    Step::Frees,
+];
+
 #[test]
 fn tells_that_there_is_no_interner(rt: HostRuntime) -> Result<(), Fail> {
-    let alloc = rt.alloc();
-    let mut lasso = Lasso::none(alloc);
-    intern(&rt, &mut lasso, b"red", (12, 77))?;
-    batch(&rt, &mut lasso, &[0, 3], 4, (12, 0, [9, 9, 9, 9]))?;
-    get(&rt, &mut lasso, b"red", (12, 77));
-    resolve(&rt, &mut lasso, 0, (12, *b"....", 77));
-    assert!(rt; lasso_set_limit(alloc, &mut lasso, 1) == 12);
-    assert!(rt; lasso_clear(alloc, &mut lasso) == 12);
-    assert!(rt;
-        (
-            lasso_memory(alloc, &mut lasso),
-            lasso_limit(alloc, &mut lasso)
-        ) == (0, 0)
-    );
-    lasso_free(alloc, &mut lasso);
-    lasso_free(alloc, &mut lasso);
-    Ok(())
+    walk(&rt, &WITHOUT_AN_INTERNER)
 }

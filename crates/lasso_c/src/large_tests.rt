@@ -1,139 +1,121 @@
-//! Calls with offsets of 64 bits, on inputs that were worked by hand. Outputs are filled with 9s.
-
-use crate::error::LassoReport;
-use crate::handle::Lasso;
-use crate::interner::lasso_new;
-use crate::large::{
-    lasso_dictionary_large, lasso_get_batch_large, lasso_intern_batch_large,
-    lasso_intern_batch_nulls_large,
-};
-use std::process::Abort;
+//! Calls with offsets of 64 bits, on inputs that were worked by hand.
+use crate::tests::steps::{Layout, Step, walk};
 use std::test::Fail;
 
-const UNSET: LassoReport = LassoReport {
-    texts: 77,
-    bytes: 77,
-    at: 77,
-};
+// "red", "blue" and "red", and bytes that are no text.
+const BYTES: &[u8] = b"redbluered\xc3";
 
-const BYTES: &[u8] = b"redbluered";
-
-fn make<R: Abort + AllocGlobal>(rt: &R) -> Result<Lasso, Fail> {
-    let mut lasso = Lasso::none(rt.alloc());
-    if lasso_new(rt.alloc(), &mut lasso, usize::MAX) != 0 {
-        return Err(Fail::from("out of memory"));
-    }
-    Ok(lasso)
-}
+// An offset of 2^32 + 3 would be 3 in 32 bits.
+static BY_OFFSETS_OF_64_BITS: [Step; 9] = [
+    Step::Makes(usize::MAX),
+    Step::Batch(
+        Layout::Large(BYTES, &[0, 3, 7, 10]),
+        4,
+        (0, (3, 0, 0), &[0, 1, 0]),
+    ),
+    Step::Batch(Layout::Large(BYTES, &[3, 7]), 4, (0, (1, 0, 0), &[1])),
+    Step::Batch(
+        Layout::Large(BYTES, &[0, 4_294_967_299]),
+        4,
+        (2, (0, 0, 0), &[]),
+    ),
+    Step::Batch(
+        Layout::Large(BYTES, &[4_294_967_296, 4_294_967_299]),
+        4,
+        (2, (0, 0, 0), &[]),
+    ),
+    Step::Batch(
+        Layout::Large(BYTES, &[0, 3, u64::MAX]),
+        4,
+        (2, (1, 0, 1), &[0]),
+    ),
+    Step::Batch(Layout::Large(BYTES, &[7, 10, 3]), 4, (1, (1, 0, 1), &[0])),
+    Step::Batch(
+        Layout::Large(BYTES, &[0, 1, 2, 3, 4, 5]),
+        4,
+        (6, (0, 0, 0), &[]),
+    ),
+    Step::Batch(
+        Layout::Large(BYTES, &[0, 3, 7, 11]),
+        4,
+        (3, (2, 0, 2), &[0, 1]),
+    ),
+];
 
 #[test]
 fn numbers_texts_by_offsets_of_64_bits(rt: HostRuntime) -> Result<(), Fail> {
-    let mut lasso = make(&rt)?;
-    // The offsets, and the status, the report and the codes that are wanted. An offset of 2^32 + 3 would be 3 in 32 bits.
-    for (offsets, want, codes_wanted) in [
-        ([0, 3, 7, 10].as_slice(), (0, 3, 0), [0, 1, 0, 9]),
-        (&[3, 7], (0, 1, 0), [1, 9, 9, 9]),
-        (&[0, 4_294_967_299], (2, 0, 0), [9, 9, 9, 9]),
-        (&[4_294_967_296, 4_294_967_299], (2, 0, 0), [9, 9, 9, 9]),
-        (&[0, 3, u64::MAX], (2, 1, 1), [0, 9, 9, 9]),
-        (&[7, 10, 3], (1, 1, 1), [0, 9, 9, 9]),
-        (&[0, 1, 2, 3, 4, 5], (6, 0, 0), [9, 9, 9, 9]),
-    ] {
-        let (mut codes, mut report) = ([9; 4], UNSET);
-        let status = lasso_intern_batch_large(
-            rt.alloc(),
-            &mut lasso,
-            BYTES,
-            offsets,
-            &mut codes,
-            &mut report,
-        );
-        if status == 9 {
-            return Err(Fail::from("out of memory"));
-        }
-        assert!(rt; (status, report.texts, report.at) == want);
-        assert!(rt; report.bytes == 0 && codes == codes_wanted);
-    }
-    Ok(())
+    walk(&rt, &BY_OFFSETS_OF_64_BITS)
 }
+
+// "red", a null, and "red". Then "blue" was never interned.
+static NULLS_AND_ABSENT_TEXTS: [Step; 12] = [
+    Step::Makes(usize::MAX),
+    Step::Nulls(
+        Layout::Large(BYTES, &[0, 3, 7, 10]),
+        &[0b101],
+        4,
+        (0, (3, 0, 0), &[0, 7, 0]),
+    ),
+    Step::Lookup(Layout::Large(BYTES, &[0, 3, 7]), 4, (0, (2, 0, 0), &[0, 8])),
+    Step::Lookup(
+        Layout::Large(BYTES, &[0, 4_294_967_299]),
+        4,
+        (2, (0, 0, 0), &[]),
+    ),
+    Step::Lookup(Layout::Large(BYTES, &[0, 3, 7]), 1, (6, (2, 0, 0), &[])),
+    Step::Lookup(Layout::Large(BYTES, &[0, 3, 2]), 4, (1, (0, 0, 1), &[])),
+    Step::Lookup(Layout::Large(BYTES, &[0, 3, 11]), 4, (3, (0, 0, 1), &[])),
+    Step::Nulls(
+        Layout::Large(BYTES, &[0, 3, 2]),
+        &[3],
+        4,
+        (1, (1, 0, 1), &[0]),
+    ),
+    Step::Nulls(
+        Layout::Large(BYTES, &[0, 3, 4_294_967_299]),
+        &[1],
+        4,
+        (2, (1, 0, 1), &[0]),
+    ),
+    Step::Nulls(
+        Layout::Large(BYTES, &[0, 3, 11]),
+        &[3],
+        4,
+        (3, (1, 0, 1), &[0]),
+    ),
+    Step::Nulls(
+        Layout::Large(BYTES, &[0, 3, 7]),
+        &[3],
+        1,
+        (6, (0, 0, 0), &[]),
+    ),
+    Step::Nulls(
+        Layout::Large(BYTES, &[0, 0, 0, 0, 0, 0, 0, 0, 0, 0]),
+        &[0xff],
+        9,
+        (14, (0, 0, 0), &[]),
+    ),
+];
 
 #[test]
 fn gives_nulls_and_absent_texts_their_codes(rt: HostRuntime) -> Result<(), Fail> {
-    let mut lasso = make(&rt)?;
-    let (mut codes, mut report) = ([9; 4], UNSET);
-    // "red", a null, and "red".
-    let status = lasso_intern_batch_nulls_large(
-        rt.alloc(),
-        &mut lasso,
-        BYTES,
-        &[0, 3, 7, 10],
-        &[0b101],
-        5,
-        &mut codes,
-        &mut report,
-    );
-    if status == 9 {
-        return Err(Fail::from("out of memory"));
-    }
-    assert!(rt; (status, report.texts, report.at, codes) == (0, 3, 0, [0, 5, 0, 9]));
-    // "blue" was never interned.
-    let status = lasso_get_batch_large(
-        rt.alloc(),
-        &mut lasso,
-        BYTES,
-        &[0, 3, 7],
-        6,
-        &mut codes,
-        &mut report,
-    );
-    assert!(rt; (status, report.texts, report.at, codes) == (0, 2, 0, [0, 6, 0, 9]));
-    let status = lasso_get_batch_large(
-        rt.alloc(),
-        &mut lasso,
-        BYTES,
-        &[0, 4_294_967_299],
-        6,
-        &mut codes,
-        &mut report,
-    );
-    assert!(rt; (status, report.texts, report.at, codes) == (2, 0, 0, [0, 6, 0, 9]));
-    Ok(())
+    walk(&rt, &NULLS_AND_ABSENT_TEXTS)
 }
+
+static DICTIONARY: [Step; 6] = [
+    Step::Makes(usize::MAX),
+    Step::Batch(
+        Layout::Large(BYTES, &[0, 3, 7, 10]),
+        3,
+        (0, (3, 0, 0), &[0, 1, 0]),
+    ),
+    Step::Large((0, (8, 2)), (7, (2, 7, 0)), (b"", [9, 9, 9, 9])),
+    Step::Large((0, (6, 4)), (8, (2, 7, 0)), (b"", [9, 9, 9, 9])),
+    Step::Large((1, (8, 2)), (0, (1, 4, 0)), (b"blue", [0, 4, 9, 9])),
+    Step::Large((0, (8, 4)), (0, (2, 7, 0)), (b"redblue", [0, 3, 7, 9])),
+];
 
 #[test]
 fn writes_a_dictionary_with_offsets_of_64_bits(rt: HostRuntime) -> Result<(), Fail> {
-    let mut lasso = make(&rt)?;
-    let (mut codes, mut report) = ([9; 3], UNSET);
-    let status = lasso_intern_batch_large(
-        rt.alloc(),
-        &mut lasso,
-        BYTES,
-        &[0, 3, 7, 10],
-        &mut codes,
-        &mut report,
-    );
-    if status == 9 {
-        return Err(Fail::from("out of memory"));
-    }
-    let (mut bytes, mut offsets) = ([9; 8], [9; 4]);
-    // The code to begin from, the room for offsets, and the status, the report and the offsets that are wanted.
-    for (from, room, want, offsets_wanted) in [
-        (0, 2, (7, 2, 7), [9, 9, 9, 9]),
-        (1, 2, (0, 1, 4), [0, 4, 9, 9]),
-        (0, 4, (0, 2, 7), [0, 3, 7, 9]),
-    ] {
-        let room: usize = room;
-        let status = lasso_dictionary_large(
-            rt.alloc(),
-            &mut lasso,
-            from,
-            &mut bytes,
-            &mut offsets[..room.min(4)],
-            &mut report,
-        );
-        assert!(rt; (status, report.texts, report.bytes) == want);
-        assert!(rt; offsets == offsets_wanted && report.at == 0);
-    }
-    assert!(rt; bytes == *b"redblue\t");
-    Ok(())
+    walk(&rt, &DICTIONARY)
 }

@@ -1,182 +1,234 @@
-//! Columns with nulls, on inputs that were worked by hand. The code of a null is 7, and outputs are filled with 9s.
-
-use crate::error::LassoReport;
-use crate::handle::Lasso;
-use crate::interner::{lasso_intern_batch_nulls, lasso_len, lasso_new};
-use crate::{lasso_decode_nulls, lasso_encode_nulls};
-use std::process::Abort;
+//! Columns with nulls, on inputs that were worked by hand. The code of a null is 7.
+use crate::tests::columns::{DECODING, Decoding, ENCODING, Encoding};
+use crate::tests::steps::{Layout, Step, walk};
+use crate::tests::{decode_all, encode_all};
 use std::test::Fail;
-
-const UNSET: LassoReport = LassoReport {
-    texts: 77,
-    bytes: 77,
-    at: 77,
-};
 
 // "red", "blue", bytes that are no text, and "red".
 const BYTES: &[u8] = b"redblue\xc3red";
 
-// Interns the column, and compares the status, the report's number of rows and its position, and the codes.
-fn intern<R: Abort + AllocGlobal>(
-    rt: &R,
-    lasso: &mut Lasso,
-    offsets: &[u32],
-    present: &[u8],
-    want: (u32, (usize, usize), [u32; 6]),
-) -> Result<(), Fail> {
-    let (mut codes, mut report) = ([9; 6], UNSET);
-    let status = lasso_intern_batch_nulls(
-        rt.alloc(),
-        lasso,
-        BYTES,
-        offsets,
-        present,
-        7,
-        &mut codes,
-        &mut report,
-    );
-    if status == 9 {
-        return Err(Fail::from("out of memory"));
-    }
-    assert!(rt; (status, (report.texts, report.at), codes) == want);
-    assert!(rt; report.bytes == 0);
-    Ok(())
-}
+// The offsets of "red", "blue", a null of bytes that are no text, "" and "red".
+const OFFSETS: &[u32] = &[0, 3, 7, 8, 8, 11];
+
+// The third row of the first column is a null.
+static NULLS: [Step; 13] = [
+    Step::Nulls(Layout::Small(BYTES, &[0, 3]), &[0], 6, (12, (0, 0, 0), &[])),
+    Step::Makes(usize::MAX),
+    Step::Nulls(
+        Layout::Small(BYTES, OFFSETS),
+        &[0b11011],
+        6,
+        (0, (5, 0, 0), &[0, 1, 7, 2, 0]),
+    ),
+    Step::Nulls(
+        Layout::Small(BYTES, OFFSETS),
+        &[0b11111011, 0],
+        6,
+        (0, (5, 0, 0), &[0, 1, 7, 2, 0]),
+    ),
+    Step::Nulls(
+        Layout::Small(BYTES, OFFSETS),
+        &[0],
+        6,
+        (0, (5, 0, 0), &[7, 7, 7, 7, 7]),
+    ),
+    Step::Nulls(
+        Layout::Small(BYTES, OFFSETS),
+        &[],
+        6,
+        (3, (2, 0, 2), &[0, 1]),
+    ),
+    Step::Nulls(
+        Layout::Small(BYTES, &[0, 3, 2]),
+        &[1],
+        6,
+        (1, (1, 0, 1), &[0]),
+    ),
+    Step::Nulls(
+        Layout::Small(BYTES, &[0, 3, 12]),
+        &[1],
+        6,
+        (2, (1, 0, 1), &[0]),
+    ),
+    Step::Nulls(
+        Layout::Small(BYTES, &[12, 12]),
+        &[0],
+        6,
+        (2, (0, 0, 0), &[]),
+    ),
+    Step::Nulls(Layout::Small(BYTES, &[4]), &[], 6, (0, (0, 0, 0), &[])),
+    Step::Nulls(Layout::Small(BYTES, OFFSETS), &[0], 4, (6, (0, 0, 0), &[])),
+    Step::Nulls(
+        Layout::Small(BYTES, &[0, 0, 0, 0, 0, 0, 0, 0, 0, 0]),
+        &[0xff],
+        9,
+        (14, (0, 0, 0), &[]),
+    ),
+    Step::Counts(3),
+];
 
 #[test]
 fn gives_nulls_the_code_that_the_caller_names(rt: HostRuntime) -> Result<(), Fail> {
-    let mut lasso = Lasso::none(rt.alloc());
-    intern(&rt, &mut lasso, &[0, 3], &[0], (12, (0, 0), [9; 6]))?;
-    if lasso_new(rt.alloc(), &mut lasso, usize::MAX) != 0 {
-        return Err(Fail::from("out of memory"));
-    }
-    // The offsets, the bitmap, and the status, the report and the codes that are wanted. The third row of the first is a null.
-    let offsets = [0, 3, 7, 8, 8, 11];
-    for (offsets, present, want) in [
-        (
-            offsets.as_slice(),
-            [0b11011].as_slice(),
-            (0, (5, 0), [0, 1, 7, 2, 0, 9]),
-        ),
-        (&offsets, &[0b11111011, 0], (0, (5, 0), [0, 1, 7, 2, 0, 9])),
-        (&offsets, &[0], (0, (5, 0), [7, 7, 7, 7, 7, 9])),
-        (&offsets, &[], (3, (2, 2), [0, 1, 9, 9, 9, 9])),
-        (&[0, 3, 2], &[1], (1, (1, 1), [0, 9, 9, 9, 9, 9])),
-        (&[0, 3, 12], &[1], (2, (1, 1), [0, 9, 9, 9, 9, 9])),
-        (&[12, 12], &[0], (2, (0, 0), [9; 6])),
-        (&[4], &[], (0, (0, 0), [9; 6])),
-    ] {
-        intern(&rt, &mut lasso, offsets, present, want)?;
-    }
-    assert!(rt; lasso_len(rt.alloc(), &mut lasso) == 3);
-    Ok(())
+    walk(&rt, &NULLS)
 }
+
+// Nine empty rows; the last is a null if it has a bit.
+const NINE_ROWS: Encoding = Encoding {
+    offsets: &[0, 0, 0, 0, 0, 0, 0, 0, 0, 0],
+    rooms: (9, 2, 1),
+    ..ENCODING
+};
+
+static WITH_AND_WITHOUT_A_BIT: [Encoding; 2] = [
+    Encoding {
+        present: Some(&[0xff]),
+        want: (14, (0, 0, 8)),
+        ..NINE_ROWS
+    },
+    Encoding {
+        present: Some(&[0xff, 0]),
+        want: (0, (1, 0, 0)),
+        codes: &[0, 0, 0, 0, 0, 0, 0, 0, 7],
+        ends: &[0, 0],
+        ..NINE_ROWS
+    },
+];
 
 #[test]
 fn asks_for_a_bit_of_each_row(rt: HostRuntime) -> Result<(), Fail> {
-    let (mut codes, mut report) = ([9; 9], UNSET);
-    let (mut bytes, mut starts) = ([9; 1], [9; 2]);
-    // Nine empty rows; the last is a null if it has a bit.
-    for (present, want, last) in [
-        ([0xff].as_slice(), (14, (0, 0, 8)), 9),
-        (&[0xff, 0], (0, (1, 0, 0)), 7),
-    ] {
-        let status = lasso_encode_nulls(
-            rt.alloc(),
-            &[],
-            &[0; 10],
-            present,
-            7,
-            &mut codes,
-            &mut bytes,
-            &mut starts,
-            &mut report,
-        );
-        if status == 9 {
-            return Err(Fail::from("out of memory"));
-        }
-        assert!(rt; (status, (report.texts, report.bytes, report.at)) == want);
-        assert!(rt; codes[8] == last);
-    }
-    assert!(rt; codes == [0, 0, 0, 0, 0, 0, 0, 0, 7]);
-    assert!(rt; (bytes, starts) == ([9], [0, 0]));
-    Ok(())
+    encode_all(&rt, &WITH_AND_WITHOUT_A_BIT)
 }
+
+const COLUMN: Encoding = Encoding {
+    bytes: BYTES,
+    offsets: OFFSETS,
+    present: Some(&[0b11011]),
+    rooms: (6, 5, 8),
+    ..ENCODING
+};
+
+static NO_TEXT_FOR_A_NULL: [Encoding; 7] = [
+    Encoding {
+        rooms: (4, 5, 8),
+        want: (6, (3, 7, 0)),
+        ..COLUMN
+    },
+    Encoding {
+        rooms: (6, 3, 8),
+        want: (7, (3, 7, 0)),
+        ..COLUMN
+    },
+    Encoding {
+        rooms: (6, 5, 6),
+        want: (8, (3, 7, 0)),
+        ..COLUMN
+    },
+    Encoding {
+        want: (0, (3, 7, 0)),
+        codes: &[0, 1, 7, 2, 0],
+        texts: b"redblue",
+        ends: &[0, 3, 7, 7],
+        ..COLUMN
+    },
+    // the offsets of a null are checked too
+    Encoding {
+        offsets: &[0, 3, 2],
+        present: Some(&[1]),
+        want: (1, (0, 0, 1)),
+        ..COLUMN
+    },
+    Encoding {
+        offsets: &[0, 3, 12],
+        present: Some(&[1]),
+        want: (2, (0, 0, 1)),
+        ..COLUMN
+    },
+    Encoding {
+        present: Some(&[]),
+        want: (3, (0, 0, 2)),
+        ..COLUMN
+    },
+];
 
 #[test]
 fn encodes_no_text_for_a_null(rt: HostRuntime) -> Result<(), Fail> {
-    let (mut codes, mut report) = ([9; 6], UNSET);
-    let (mut bytes, mut starts) = ([9; 8], [9; 5]);
-    // The room for codes, and the status and the report.
-    for (room, want) in [(4, (6, (3, 7, 0))), (6, (0, (3, 7, 0)))] {
-        let room: usize = room;
-        let status = lasso_encode_nulls(
-            rt.alloc(),
-            BYTES,
-            &[0, 3, 7, 8, 8, 11],
-            &[0b11011],
-            7,
-            &mut codes[..room.min(6)],
-            &mut bytes,
-            &mut starts,
-            &mut report,
-        );
-        if status == 9 {
-            return Err(Fail::from("out of memory"));
-        }
-        assert!(rt; (status, (report.texts, report.bytes, report.at)) == want);
-    }
-    assert!(rt; codes == [0, 1, 7, 2, 0, 9]);
-    assert!(rt; bytes == *b"redblue\t");
-    assert!(rt; starts == [0, 3, 7, 7, 9]);
-    Ok(())
+    encode_all(&rt, &NO_TEXT_FOR_A_NULL)
 }
 
-#[test]
-fn gives_nulls_back(rt: HostRuntime) -> Result<(), Fail> {
-    let (mut bytes, mut starts, mut present, mut report) = ([9; 23], [9; 12], [9; 3], UNSET);
-    // The room for the bitmap, the second code, and the status and the report. The dictionary is "red" and "blue".
-    for (room, second, want) in [
-        (1, 7, (14, (0, 0, 8))),
-        (3, 2, (4, (0, 0, 1))),
-        (3, 7, (0, (10, 22, 0))),
-    ] {
-        let room: usize = room;
-        let status = lasso_decode_nulls(
-            b"redblue",
-            &[0, 3, 7],
-            &[1, second, 0, 7, 7, 0, 1, 1, 7, 1],
-            7,
-            &mut bytes,
-            &mut starts,
-            &mut present[..room.min(3)],
-            &mut report,
-        );
-        assert!(rt; (status, (report.texts, report.bytes, report.at)) == want);
-        assert!(rt; status == 0 || (bytes, starts, present) == ([9; 23], [9; 12], [9; 3]));
-    }
-    assert!(rt; bytes == *b"blueredredblueblueblue\t");
-    assert!(rt; starts == [0, 4, 4, 7, 7, 7, 10, 14, 18, 18, 22, 9]);
-    // Rows 0, 2, 5, 6, 7 and 9 are texts.
-    assert!(rt; present == [1 + 4 + 32 + 64 + 128, 2, 9]);
-    Ok(())
-}
+// The dictionary is "red" and "blue".
+const RED_AND_BLUE: Decoding = Decoding {
+    texts: b"redblue",
+    ends: &[0, 3, 7],
+    codes: &[1, 7, 0, 7, 7, 0, 1, 1, 7, 1],
+    null: Some(7),
+    ..DECODING
+};
+
+// Rows 0, 2, 5, 6, 7 and 9 are texts.
+static GIVEN_BACK: [Decoding; 8] = [
+    Decoding {
+        rooms: (12, 23, 1),
+        want: (14, (0, 0, 8)),
+        ..RED_AND_BLUE
+    },
+    Decoding {
+        codes: &[1, 2, 0, 7, 7, 0, 1, 1, 7, 1],
+        want: (4, (0, 0, 1)),
+        ..RED_AND_BLUE
+    },
+    Decoding {
+        rooms: (10, 23, 3),
+        want: (7, (10, 22, 0)),
+        ..RED_AND_BLUE
+    },
+    Decoding {
+        rooms: (12, 21, 3),
+        want: (8, (10, 22, 0)),
+        ..RED_AND_BLUE
+    },
+    Decoding {
+        want: (0, (10, 22, 0)),
+        bytes: b"blueredredblueblueblue",
+        offsets: &[0, 4, 4, 7, 7, 7, 10, 14, 18, 18, 22],
+        present: &[1 + 4 + 32 + 64 + 128, 2],
+        ..RED_AND_BLUE
+    },
+    Decoding {
+        ends: &[0, 3, 2],
+        want: (1, (0, 0, 1)),
+        ..RED_AND_BLUE
+    },
+    Decoding {
+        ends: &[0, 3, 8],
+        want: (2, (0, 0, 1)),
+        ..RED_AND_BLUE
+    },
+    Decoding {
+        texts: b"redblu\xc3",
+        want: (3, (0, 0, 1)),
+        ..RED_AND_BLUE
+    },
+];
 
 #[test]
-fn a_code_of_nulls_is_not_looked_up(rt: HostRuntime) -> Result<(), Fail> {
-    let (mut bytes, mut starts, mut present, mut report) = ([9; 3], [9; 3], [9; 1], UNSET);
-    // The code 0 is that of nulls, though the dictionary has a text there.
-    let status = lasso_decode_nulls(
-        b"red",
-        &[0, 3, 3],
-        &[0, 1],
-        0,
-        &mut bytes,
-        &mut starts,
-        &mut present,
-        &mut report,
-    );
-    assert!(rt; (status, report.texts, report.bytes, report.at) == (0, 2, 0, 0));
-    assert!(rt; (bytes, starts, present) == ([9; 3], [0, 0, 0], [2]));
-    Ok(())
+fn gives_nulls_back(rt: HostRuntime) {
+    decode_all(&rt, &GIVEN_BACK);
+}
+
+// The code 0 is that of nulls, though the dictionary has a text there.
+static CODE_OF_NULLS: [Decoding; 1] = [Decoding {
+    texts: b"red",
+    ends: &[0, 3, 3],
+    codes: &[0, 1],
+    null: Some(0),
+    rooms: (3, 3, 1),
+    want: (0, (2, 0, 0)),
+    offsets: &[0, 0, 0],
+    present: &[2],
+    ..DECODING
+}];
+
+#[test]
+fn a_code_of_nulls_is_not_looked_up(rt: HostRuntime) {
+    decode_all(&rt, &CODE_OF_NULLS);
 }

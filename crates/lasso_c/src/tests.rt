@@ -1,211 +1,263 @@
-//! Calls as C makes them, on inputs that were worked by hand. Each output is longer than what is written to it, and filled with 9s.
-ghost use Rattle.std.specs.Prelude.{◌≤◌};
+//! Calls as C makes them, on inputs that were worked by hand.
+pub mod checks;
+pub mod columns;
+pub mod steps;
 
-use crate::error::LassoReport;
-use crate::{lasso_decode, lasso_encode, lasso_status_text};
+use crate::{lasso_decode, lasso_decode_nulls, lasso_encode, lasso_status_text};
+use checks::{Seen, UNSET, has_bytes, is_as_told, is_so, is_so_at, told};
+use columns::{DECODING, Decoding, ENCODING, Encoding, decodes, encodes};
+use std::alloc::Global;
 use std::process::Abort;
 use std::test::Fail;
 
-const UNSET: LassoReport = LassoReport {
-    texts: 77,
-    bytes: 77,
-    at: 77,
+// Encodes the columns, and checks what comes of each.
+pub fn encode_all<R: Abort + AllocGlobal>(rt: &R, rows: &[Encoding]) -> Result<(), Fail> {
+    let mut number = 0usize;
+    for row in rows {
+        number = number.saturating_add(1);
+        is_as_told(rt, encodes(rt.alloc(), row), number)?;
+    }
+    Ok(())
+}
+
+// Decodes the codes, and checks what comes of each.
+pub fn decode_all(rt: &impl Abort, rows: &[Decoding]) {
+    let mut number = 0usize;
+    for row in rows {
+        number = number.saturating_add(1);
+        is_so_at(rt, decodes(row), number);
+    }
+}
+
+// "red", "blue", "" and "red": the first three are new, and have 7 bytes.
+const FOUR_TEXTS: Encoding = Encoding {
+    bytes: b"redbluered",
+    offsets: &[0, 3, 7, 7, 10],
+    ..ENCODING
 };
 
-// A call's status, and the three numbers of its report.
-type Told = (u32, (usize, usize, usize));
-
-fn told(status: u32, report: &LassoReport) -> Told {
-    (status, (report.texts, report.bytes, report.at))
-}
-
-// Encodes, and ends the test where memory is wanting.
-fn encode<R: AllocGlobal>(
-    rt: &R,
-    bytes: &[u8],
-    offsets: &[u32],
-    codes: &mut [u32],
-    dictionary_bytes: &mut [u8],
-    dictionary_offsets: &mut [u32],
-) -> Result<Told, Fail> {
-    let mut report = UNSET;
-    let status = lasso_encode(
-        rt.alloc(),
-        bytes,
-        offsets,
-        codes,
-        dictionary_bytes,
-        dictionary_offsets,
-        &mut report,
-    );
-    if status == 9 {
-        return Err(Fail::from("out of memory"));
-    }
-    Ok(told(status, &report))
-}
-
-fn decode(
-    dictionary_bytes: &[u8],
-    dictionary_offsets: &[u32],
-    codes: &[u32],
-    bytes: &mut [u8],
-    offsets: &mut [u32],
-) -> Told {
-    let mut report = UNSET;
-    let status = lasso_decode(
-        dictionary_bytes,
-        dictionary_offsets,
-        codes,
-        bytes,
-        offsets,
-        &mut report,
-    );
-    told(status, &report)
-}
+static EACH_ONCE: [Encoding; 2] = [
+    Encoding {
+        rooms: (5, 5, 5),
+        want: (8, (3, 7, 0)),
+        ..FOUR_TEXTS
+    },
+    Encoding {
+        rooms: (5, 5, 8),
+        want: (0, (3, 7, 0)),
+        codes: &[0, 1, 2, 0],
+        texts: b"redblue",
+        ends: &[0, 3, 7, 7],
+        ..FOUR_TEXTS
+    },
+];
 
 #[test]
 fn encodes_each_distinct_text_once(rt: HostRuntime) -> Result<(), Fail> {
-    let (mut codes, mut bytes, mut offsets) = ([9; 5], [9; 5], [9; 5]);
-    // "red", "blue", "" and "red": the first three are new, and have 7 bytes.
-    let (given, ends) = (b"redbluered", [0, 3, 7, 7, 10]);
-    let told = encode(&rt, given, &ends, &mut codes, &mut bytes, &mut offsets)?;
-    assert!(rt; told == (8, (3, 7, 0)));
-    assert!(rt; (codes, bytes, offsets) == ([9; 5], [9; 5], [9; 5]));
-
-    let mut bytes = [9; 8];
-    let told = encode(&rt, given, &ends, &mut codes, &mut bytes, &mut offsets)?;
-    assert!(rt; told == (0, (3, 7, 0)));
-    assert!(rt; codes == [0, 1, 2, 0, 9]);
-    assert!(rt; bytes == *b"redblue\t");
-    assert!(rt; offsets == [0, 3, 7, 7, 9]);
-    Ok(())
+    encode_all(&rt, &EACH_ONCE)
 }
+
+const SMALL_ROOMS: Encoding = Encoding {
+    bytes: b"abcde",
+    rooms: (2, 3, 3),
+    ..ENCODING
+};
+
+// An array that begins at its second text, as one that was cut has it; then no text, by one offset and by
+// none.
+static PARTS: [Encoding; 3] = [
+    Encoding {
+        offsets: &[3, 5, 5],
+        want: (0, (2, 2, 0)),
+        codes: &[0, 1],
+        texts: b"de",
+        ends: &[0, 2, 2],
+        ..SMALL_ROOMS
+    },
+    Encoding {
+        offsets: &[4],
+        ends: &[0],
+        ..SMALL_ROOMS
+    },
+    Encoding {
+        offsets: &[],
+        ends: &[0],
+        ..SMALL_ROOMS
+    },
+];
 
 #[test]
 fn encodes_a_part_of_an_array_and_no_text_at_all(rt: HostRuntime) -> Result<(), Fail> {
-    let (mut codes, mut bytes, mut offsets) = ([9; 2], [9; 3], [9; 3]);
-    // An array that begins at its second text, as one that was cut has it; then no text, by one offset and by none. How many
-    // texts there are, and their bytes.
-    for (given, sizes) in [
-        ([3, 5, 5].as_slice(), (2, 2, 0)),
-        ([4].as_slice(), (0, 0, 0)),
-        ([].as_slice(), (0, 0, 0)),
-    ] {
-        let told = encode(&rt, b"abcde", given, &mut codes, &mut bytes, &mut offsets)?;
-        assert!(rt; told == (0, sizes));
-        assert!(rt; (codes, offsets) == ([0, 1], [0, 2, 2]));
-    }
-    assert!(rt; bytes == [b'd', b'e', 9]);
-    Ok(())
+    encode_all(&rt, &PARTS)
 }
 
-// Encoding is refused with this status and report, where `rooms` is the room for codes, offsets and bytes,
-// and writes none of them.
-fn refuse_to_encode<R: Abort + AllocGlobal>(
-    rt: &R,
-    bytes_given: &[u8],
-    offsets_given: &[u32],
-    rooms: (usize, usize, usize),
-    want: Told,
-) -> Result<(), Fail>
-    requires { (rooms.0 ≤ 9) × (rooms.1 ≤ 9) × (rooms.2 ≤ 9) }
-{
-    let (mut codes, mut bytes, mut offsets) = ([9; 9], [9; 9], [9; 9]);
-    let told = encode(
-        rt,
-        bytes_given,
-        offsets_given,
-        &mut codes[..rooms.0],
-        &mut bytes[..rooms.2],
-        &mut offsets[..rooms.1],
-    )?;
-    assert!(rt; told == want);
-    assert!(rt; (codes, bytes, offsets) == ([9; 9], [9; 9], [9; 9]));
-    Ok(())
-}
+const LETTERS: Encoding = Encoding {
+    bytes: b"abcd",
+    ..ENCODING
+};
+
+static WRONG_LAYOUTS: [Encoding; 6] = [
+    Encoding {
+        offsets: &[0, 3, 2],
+        want: (1, (0, 0, 1)),
+        ..LETTERS
+    },
+    Encoding {
+        offsets: &[0, 3, 5],
+        want: (2, (0, 0, 1)),
+        ..LETTERS
+    },
+    Encoding {
+        offsets: &[5, 3, 4],
+        want: (2, (0, 0, 0)),
+        ..LETTERS
+    },
+    Encoding {
+        offsets: &[0xffff_ffff, 0, 1],
+        want: (2, (0, 0, 0)),
+        ..LETTERS
+    },
+    Encoding {
+        offsets: &[0, 1, 0xffff_ffff],
+        want: (2, (0, 0, 1)),
+        ..LETTERS
+    },
+    Encoding {
+        bytes: b"ab\xc3d",
+        offsets: &[0, 2, 3],
+        want: (3, (0, 0, 1)),
+        ..ENCODING
+    },
+];
 
 #[test]
 fn refuses_to_encode_a_wrong_layout(rt: HostRuntime) -> Result<(), Fail> {
-    // The bytes, the offsets, and the status and report that are wanted.
-    for (bytes, offsets, want) in [
-        (b"abcd", [0, 3, 2], (1, (0, 0, 1))),
-        (b"abcd", [0, 3, 5], (2, (0, 0, 1))),
-        (b"abcd", [5, 3, 4], (2, (0, 0, 0))),
-        (b"abcd", [0xffff_ffff, 0, 1], (2, (0, 0, 0))),
-        (b"abcd", [0, 1, 0xffff_ffff], (2, (0, 0, 1))),
-        (b"ab\xc3d", [0, 2, 3], (3, (0, 0, 1))),
-    ] {
-        refuse_to_encode(&rt, bytes, &offsets, (9, 9, 9), want)?;
-    }
-    Ok(())
+    encode_all(&rt, &WRONG_LAYOUTS)
 }
+
+const TWO_TEXTS: Encoding = Encoding {
+    offsets: &[0, 1, 4],
+    ..LETTERS
+};
+
+static NO_ROOM: [Encoding; 3] = [
+    Encoding {
+        rooms: (1, 9, 9),
+        want: (6, (2, 4, 0)),
+        ..TWO_TEXTS
+    },
+    Encoding {
+        rooms: (2, 2, 9),
+        want: (7, (2, 4, 0)),
+        ..TWO_TEXTS
+    },
+    Encoding {
+        rooms: (2, 3, 3),
+        want: (8, (2, 4, 0)),
+        ..TWO_TEXTS
+    },
+];
 
 #[test]
 fn refuses_to_encode_where_there_is_no_room(rt: HostRuntime) -> Result<(), Fail> {
-    // How many codes, offsets and bytes have room, and the status.
-    for (rooms, want) in [((1, 9, 9), 6), ((2, 2, 9), 7), ((2, 3, 3), 8)] {
-        refuse_to_encode(&rt, b"abcd", &[0, 1, 4], rooms, (want, (2, 4, 0)))?;
-    }
-    Ok(())
+    encode_all(&rt, &NO_ROOM)
 }
+
+static NAMED: [Decoding; 1] = [Decoding {
+    texts: b"redblue",
+    ends: &[0, 3, 7, 7],
+    codes: &[1, 2, 0, 0],
+    rooms: (5, 11, 0),
+    want: (0, (4, 10, 0)),
+    bytes: b"blueredred",
+    offsets: &[0, 4, 4, 7, 10],
+    ..DECODING
+}];
 
 #[test]
 fn decodes_the_texts_that_codes_name(rt: HostRuntime) {
-    let (mut bytes, mut offsets) = ([9; 11], [9; 5]);
-    let codes = [1, 2, 0, 0];
-    let told = decode(b"redblue", &[0, 3, 7, 7], &codes, &mut bytes, &mut offsets);
-    assert!(rt; told == (0, (4, 10, 0)));
-    assert!(rt; bytes == *b"blueredred\t");
-    assert!(rt; offsets == [0, 4, 4, 7, 10]);
+    decode_all(&rt, &NAMED);
 }
 
-// Decoding is refused with this status and report, where `rooms` is the room for offsets and bytes, and
-// writes none of them.
-fn refuse_to_decode<R: Abort>(
-    rt: &R,
-    dictionary_bytes: &[u8],
-    dictionary_offsets: &[u32],
-    codes: &[u32],
-    rooms: (usize, usize),
-    want: Told,
-)
-    requires { (rooms.0 ≤ 9) × (rooms.1 ≤ 9) }
-{
-    let (mut bytes, mut offsets) = ([9; 9], [9; 9]);
-    let told = decode(
-        dictionary_bytes,
-        dictionary_offsets,
-        codes,
-        &mut bytes[..rooms.1],
-        &mut offsets[..rooms.0],
-    );
-    assert!(rt; told == want);
-    assert!(rt; (bytes, offsets) == ([9; 9], [9; 9]));
-}
+// The last character has two bytes.
+const FIVE_LETTERS_AND_ONE: Decoding = Decoding {
+    texts: b"abcde\xc3\xa9",
+    ends: &[0, 3, 5],
+    codes: &[0, 1],
+    ..DECODING
+};
+
+static REFUSED: [Decoding; 7] = [
+    Decoding {
+        ends: &[0, 3, 2],
+        want: (1, (0, 0, 1)),
+        ..FIVE_LETTERS_AND_ONE
+    },
+    Decoding {
+        ends: &[0, 3, 8],
+        want: (2, (0, 0, 1)),
+        ..FIVE_LETTERS_AND_ONE
+    },
+    Decoding {
+        ends: &[8, 8, 8],
+        want: (2, (0, 0, 0)),
+        ..FIVE_LETTERS_AND_ONE
+    },
+    Decoding {
+        ends: &[0, 5, 6],
+        want: (3, (0, 0, 1)),
+        ..FIVE_LETTERS_AND_ONE
+    },
+    Decoding {
+        codes: &[1, 2],
+        want: (4, (0, 0, 1)),
+        ..FIVE_LETTERS_AND_ONE
+    },
+    Decoding {
+        codes: &[0, 0],
+        rooms: (2, 23, 0),
+        want: (7, (2, 6, 0)),
+        ..FIVE_LETTERS_AND_ONE
+    },
+    Decoding {
+        codes: &[0, 0],
+        rooms: (3, 5, 0),
+        want: (8, (2, 6, 0)),
+        ..FIVE_LETTERS_AND_ONE
+    },
+];
 
 #[test]
 fn refuses_to_decode(rt: HostRuntime) {
-    let bytes = b"abcde\xc3\xa9";
-    // The dictionary's offsets, the codes, how many offsets and bytes have room, and the status and report that are wanted.
-    for (offsets, codes, rooms, want) in [
-        ([0, 3, 2], [0, 1], (9, 9), (1, (0, 0, 1))),
-        ([0, 3, 8], [0, 1], (9, 9), (2, (0, 0, 1))),
-        ([0, 5, 6], [0, 1], (9, 9), (3, (0, 0, 1))),
-        ([0, 3, 5], [1, 2], (9, 9), (4, (0, 0, 1))),
-        ([0, 3, 5], [0, 0], (2, 9), (7, (2, 6, 0))),
-        ([0, 3, 5], [0, 0], (3, 5), (8, (2, 6, 0))),
-    ] {
-        refuse_to_decode(&rt, bytes, &offsets, &codes, rooms, want);
-    }
+    decode_all(&rt, &REFUSED);
 }
 
+// Whether the codes name too many bytes, with and without nulls.
+fn are_too_many(text: &[u8], codes: &[u32]) -> bool {
+    let (ends, want) = ([0, 2 << 20], (5, (0, 0, 1023)));
+    let mut report = UNSET;
+    let status = lasso_decode(text, &ends, codes, &mut [], &mut [], &mut report);
+    let is_told = told(status, &report) == want;
+    let mut report = UNSET;
+    let status = lasso_decode_nulls(
+        text,
+        &ends,
+        codes,
+        7,
+        &mut [],
+        &mut [],
+        &mut [9; 128],
+        &mut report,
+    );
+    is_told && told(status, &report) == want
+}
+
+// 1024 times 2 MiB is one byte more than the greatest offset.
 #[test]
 fn counts_past_the_greatest_offset(rt: HostRuntime) -> Result<(), Fail> {
-    // 1024 times 2 MiB is one byte more than the greatest offset.
     let text = vec![in rt.alloc(); b'a'; 2 << 20]?;
     let codes = vec![in rt.alloc(); 0u32; 1024]?;
-    let told = decode(&text, &[0, 2 << 20], &codes, &mut [], &mut []);
-    assert!(rt; told == (5, (0, 0, 1023)));
+    is_so(&rt, are_too_many(&text, &codes), "too many bytes");
     Ok(())
 }
 
@@ -213,70 +265,149 @@ const TEXTS: u32 = 1000;
 
 const DISTINCT: u32 = 250;
 
-// The number that the text at this position prints. 79 and 250 have no common factor, so 250 texts in a row have 250 numbers.
+// The number that the text at this position prints. 79 and 250 have no common factor, so 250 texts in a row
+// have 250 numbers.
 fn number_at(position: u32) -> u32 {
     position % DISTINCT * 79 % DISTINCT
 }
 
-// The bytes and the offsets of the texts at this many positions.
-fn printed<R: AllocGlobal>(rt: &R, count: u32) -> Result<(Vec<u8>, Vec<u32>), Fail> {
-    let mut bytes = Vec::new(rt.alloc());
-    let mut offsets = vec![in rt.alloc(); 0u32]?;
+// Texts by their bytes and offsets.
+#[derive(Drop)]
+struct Printed {
+    bytes: Vec<u8>,
+    offsets: Vec<u32>,
+}
+
+// The texts at this many positions.
+fn texts_up_to(alloc: Global, count: u32) -> Result<Printed, Fail> {
+    let mut bytes = Vec::new(alloc);
+    let mut offsets = vec![in alloc; 0u32]?;
     for position in 0..count {
-        let text = format!(in rt.alloc(); "{}", number_at(position))?;
+        let text = format!(in alloc; "{}", number_at(position))?;
         bytes.extend_from_slice(text.as_bytes())?;
         let Ok(end) = u32::try_from(bytes.len()) else {
             return Err(Fail::from("too many bytes"));
         };
         offsets.push(end)?;
     }
-    Ok((bytes, offsets))
+    Ok(Printed { bytes, offsets })
 }
 
 // The first 250 texts are new, and the others come again in the same order.
-#[test]
-fn a_thousand_texts_are_encoded_and_decoded(rt: HostRuntime) -> Result<(), Fail> {
-    let (bytes, offsets) = printed(&rt, TEXTS)?;
-    let (new_bytes, new_offsets) = printed(&rt, DISTINCT)?;
-    let mut codes = vec![in rt.alloc(); 9u32; 1000]?;
-    let mut dictionary = vec![in rt.alloc(); 9u8; new_bytes.len()]?;
-    let mut ends = vec![in rt.alloc(); 9u32; 251]?;
-    let told = encode(
-        &rt,
-        &bytes,
-        &offsets,
-        &mut codes,
-        &mut dictionary,
-        &mut ends,
-    )?;
-    assert!(rt; told == (0, (250, new_bytes.len(), 0)));
-    assert!(rt; dictionary.as_slice() == new_bytes.as_slice());
-    assert!(rt; ends.as_slice() == new_offsets.as_slice());
-    let mut position = 0u32;
-    for code in &codes {
-        assert!(rt; *code == position % DISTINCT);
-        position = position.wrapping_add(1);
+fn codes_of_texts(alloc: Global) -> Result<Vec<u32>, Fail> {
+    let mut codes = Vec::new(alloc);
+    for position in 0..TEXTS {
+        codes.push(position % DISTINCT)?;
     }
-
-    let mut back = vec![in rt.alloc(); 9u8; bytes.len()]?;
-    let mut back_ends = vec![in rt.alloc(); 9u32; 1001]?;
-    let told = decode(&dictionary, &ends, &codes, &mut back, &mut back_ends);
-    assert!(rt; told == (0, (1000, bytes.len(), 0)));
-    assert!(rt; back.as_slice() == bytes.as_slice());
-    assert!(rt; back_ends.as_slice() == offsets.as_slice());
-    Ok(())
+    Ok(codes)
 }
 
-// Writes what the status means, and answers how many bytes that has.
-fn status_text(status: u32, text: &mut [u8]) -> usize {
-    lasso_status_text(status, text)
+// Encodes the texts.
+fn encodes_all(
+    alloc: Global,
+    texts: &Printed,
+    dictionary: &Printed,
+    codes: &[u32],
+) -> Result<Seen, Fail> {
+    let mut written = vec![in alloc; 9u32; 1000]?;
+    let mut bytes = vec![in alloc; 9u8; dictionary.bytes.len()]?;
+    let mut offsets = vec![in alloc; 9u32; 251]?;
+    let mut report = UNSET;
+    let status = lasso_encode(
+        alloc,
+        &texts.bytes,
+        &texts.offsets,
+        &mut written,
+        &mut bytes,
+        &mut offsets,
+        &mut report,
+    );
+    let is_told = told(status, &report) == (0, (250, dictionary.bytes.len(), 0));
+    let is_dictionary = bytes == dictionary.bytes && offsets == dictionary.offsets;
+    Ok((
+        status,
+        is_told && is_dictionary && written.as_slice() == codes,
+    ))
+}
+
+// Decodes the codes.
+fn decodes_all(
+    alloc: Global,
+    texts: &Printed,
+    dictionary: &Printed,
+    codes: &[u32],
+) -> Result<Seen, Fail> {
+    let mut bytes = vec![in alloc; 9u8; texts.bytes.len()]?;
+    let mut offsets = vec![in alloc; 9u32; 1001]?;
+    let mut report = UNSET;
+    let status = lasso_decode(
+        &dictionary.bytes,
+        &dictionary.offsets,
+        codes,
+        &mut bytes,
+        &mut offsets,
+        &mut report,
+    );
+    let is_told = told(status, &report) == (0, (1000, texts.bytes.len(), 0));
+    Ok((
+        status,
+        is_told && bytes == texts.bytes && offsets == texts.offsets,
+    ))
+}
+
+#[test]
+fn a_thousand_texts_are_encoded_and_decoded(rt: HostRuntime) -> Result<(), Fail> {
+    let texts = texts_up_to(rt.alloc(), TEXTS)?;
+    let dictionary = texts_up_to(rt.alloc(), DISTINCT)?;
+    let codes = codes_of_texts(rt.alloc())?;
+    is_as_told(
+        &rt,
+        encodes_all(rt.alloc(), &texts, &dictionary, &codes)?,
+        1,
+    )?;
+    is_as_told(
+        &rt,
+        decodes_all(rt.alloc(), &texts, &dictionary, &codes)?,
+        2,
+    )
+}
+
+// What each status means.
+static MEANINGS: [(u32, &[u8]); 17] = [
+    (0, b"done"),
+    (1, b"an offset is below the one before it"),
+    (2, b"an offset lies past the bytes"),
+    (3, b"a text is not UTF-8"),
+    (4, b"the dictionary has no text for a code"),
+    (5, b"the texts have more bytes than offsets can tell"),
+    (6, b"there is no room for the codes"),
+    (7, b"there is no room for the offsets"),
+    (8, b"there is no room for the bytes"),
+    (9, b"there is no memory"),
+    (10, b"the limit leaves no room for a text"),
+    (11, b"there is a text for each code"),
+    (12, b"there is no interner"),
+    (13, b"the interner does not have the text"),
+    (14, b"a bitmap has no bit for a row"),
+    (15, b"not a status"),
+    (u32::MAX, b"not a status"),
+];
+
+// Whether the meaning of the status is written, as far as there is room.
+fn is_meaning(status: u32, room: usize, meaning: &[u8]) -> bool {
+    let mut text = [9; 60];
+    let whole = lasso_status_text(status, &mut text[..room.min(60)]);
+    whole == meaning.len() && has_bytes(&text, &meaning[..whole.min(room).min(meaning.len())])
 }
 
 #[test]
 fn tells_what_a_status_means(rt: HostRuntime) {
-    let mut text = [b'.'; 10];
-    assert!(rt; status_text(0, &mut text) == 4);
-    assert!(rt; text == *b"done......");
-    assert!(rt; status_text(9, &mut text) == 18);
-    assert!(rt; text == *b"there is n");
+    for (status, meaning) in &MEANINGS {
+        is_so(&rt, is_meaning(*status, 60, meaning), "a meaning");
+        is_so(
+            &rt,
+            is_meaning(*status, 10, meaning),
+            "ten letters of a meaning",
+        );
+    }
 }

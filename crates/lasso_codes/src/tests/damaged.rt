@@ -1,125 +1,189 @@
 //! Columns that are read back, and damaged columns.
-use super::verbs::{assert_stops, assert_writes};
-use super::{PLAIN, runs};
-use crate::arguments::{Request, Verb};
+use super::{DECODE, End, MERGE, Row, THROUGH_SHORT_BUFFERS, WELL, hold, holds, is_so};
+use crate::arguments::Command;
 use std::test::Fail;
+use std::thread::Threads;
+
+static COLUMNS: [Row<'static>; 7] = [
+    (DECODE, None, b"", b"", WELL),
+    (DECODE, None, b"lasso-codes 1 text 0 0\n", b"", WELL),
+    (DECODE, None, b"lasso-codes 1 text 1 1\n\n0\n", b"\n", WELL),
+    (
+        DECODE,
+        None,
+        b"lasso-codes 1 text 2 3\nb\na\n0\n1\n0\n",
+        b"b\na\nb\n",
+        WELL,
+    ),
+    (
+        DECODE,
+        None,
+        b"lasso-codes 1 text 2 1\nb\na\n1\n",
+        b"a\n",
+        WELL,
+    ),
+    (
+        DECODE,
+        None,
+        b"lasso-codes 1 binary 2 3\nb\n-\n\x01\0\0\0\0\0\0\0\x01\0\0\0",
+        b"-\nb\n-\n",
+        WELL,
+    ),
+    (
+        DECODE,
+        None,
+        b"lasso-codes 1 text 1 2\na\n0\n0\nlasso-codes 1 binary 1 1\nb\n\0\0\0\0lasso-codes 1 text 1 1\nc\n0\n",
+        b"a\na\nb\nc\n",
+        WELL,
+    ),
+];
 
 #[test]
 fn lines_of_columns(rt: HostRuntime) -> Result<(), Fail> {
-    let cases: [(&[u8], &[u8]); 7] = [
-        (b"", b""),
-        (b"lasso-codes 1 text 0 0\n", b""),
-        (b"lasso-codes 1 text 1 1\n\n0\n", b"\n"),
-        (b"lasso-codes 1 text 2 3\nb\na\n0\n1\n0\n", b"b\na\nb\n"),
-        (b"lasso-codes 1 text 2 1\nb\na\n1\n", b"a\n"),
-        (
-            b"lasso-codes 1 binary 2 3\nb\n-\n\x01\0\0\0\0\0\0\0\x01\0\0\0",
-            b"-\nb\n-\n",
-        ),
-        (
-            b"lasso-codes 1 text 1 2\na\n0\n0\nlasso-codes 1 binary 1 1\nb\n\0\0\0\0lasso-codes 1 text 1 1\nc\n0\n",
-            b"a\na\nb\nc\n",
-        ),
-    ];
-    for (input, output) in cases {
-        assert_writes(&rt, runs(Verb::Decode, PLAIN), input, output)?;
-    }
-    Ok(())
+    hold(&rt, &COLUMNS)
 }
+
+const IS_NULL: End<'static> = Some(("column 1: entry 2 is a null, and --null is missing", 2));
+
+static WITH_NULLS: [Row<'static>; 3] = [
+    (
+        DECODE,
+        Some(b"NA"),
+        b"lasso-codes 1 text 1 3\na\n-\n0\n-\n",
+        b"NA\na\nNA\n",
+        WELL,
+    ),
+    (
+        DECODE,
+        Some(b"NA"),
+        b"lasso-codes 1 binary 1 2\na\n\xff\xff\xff\xff\0\0\0\0",
+        b"NA\na\n",
+        WELL,
+    ),
+    (
+        DECODE,
+        None,
+        b"lasso-codes 1 text 1 3\na\n0\n-\n0\n",
+        b"a\n",
+        IS_NULL,
+    ),
+];
 
 #[test]
 fn nulls_have_their_word(rt: HostRuntime) -> Result<(), Fail> {
-    let request = Request {
-        null: Some(b"NA"),
-        ..runs(Verb::Decode, PLAIN)
-    };
-    let text = b"lasso-codes 1 text 1 3\na\n-\n0\n-\n";
-    assert_writes(&rt, request, text, b"NA\na\nNA\n")?;
-    let binary = b"lasso-codes 1 binary 1 2\na\n\xff\xff\xff\xff\0\0\0\0";
-    assert_writes(&rt, request, binary, b"NA\na\n")?;
-    let refused = ("column 1: entry 2 is a null, and --null is missing", 2);
-    let one = b"lasso-codes 1 text 1 3\na\n0\n-\n0\n";
-    assert_stops(&rt, runs(Verb::Decode, PLAIN), one, b"a\n", refused)
+    hold(&rt, &WITH_NULLS)
+}
+
+// A damaged column, and what is wrong with it.
+static DAMAGED: [(&[u8], &str); 24] = [
+    (b"x", "column 1: no header"),
+    (b"\n", "column 1: no header"),
+    (b"lasso-codes 1 text 0 0", "column 1: no header"),
+    (b"lasso-codes 2 text 0 0\n", "column 1: no header"),
+    (b"lasso-codes 1 texts 0 0\n", "column 1: no header"),
+    (b"lasso-codes 1 text 0\n", "column 1: no header"),
+    (b"lasso-codes 1 text 0 0 \n", "column 1: no header"),
+    (b"lasso-codes 1 text 0 -1\n", "column 1: no header"),
+    (
+        b"lasso-codes 1 text 18446744073709551616 0\n",
+        "column 1: no header",
+    ),
+    (b"lasso-codes 1 text 0 0\r\n", "column 1: no header"),
+    (b"lasso-codes 1 text 0 0\n\n", "column 2: no header"),
+    (b"lasso-codes 1 binary 0 0\n\0", "column 2: no header"),
+    (
+        b"lasso-codes 1 text 2 0\na\n",
+        "column 1: text 2 is missing",
+    ),
+    (b"lasso-codes 1 text 1 0\na", "column 1: text 1 is missing"),
+    (
+        b"lasso-codes 1 text 2 0\na\na\n",
+        "column 1: text 2 comes twice",
+    ),
+    (
+        b"lasso-codes 1 text 2 0\na\n\xff\n",
+        "column 1: text 2 is not UTF-8",
+    ),
+    (
+        b"lasso-codes 1 text 1 1\na\n",
+        "column 1: entry 1 is missing",
+    ),
+    (
+        b"lasso-codes 1 text 1 1\na\n0",
+        "column 1: entry 1 is missing",
+    ),
+    (
+        b"lasso-codes 1 binary 1 1\na\n\0\0\0",
+        "column 1: entry 1 is missing",
+    ),
+    (
+        b"lasso-codes 1 text 1 1\na\nx\n",
+        "column 1: entry 1 is no code",
+    ),
+    (
+        b"lasso-codes 1 text 1 1\na\n\n",
+        "column 1: entry 1 is no code",
+    ),
+    (
+        b"lasso-codes 1 text 1 1\na\n1\n",
+        "column 1: entry 1 is past the texts",
+    ),
+    (
+        b"lasso-codes 1 text 0 1\n0\n",
+        "column 1: entry 1 is past the texts",
+    ),
+    (
+        b"lasso-codes 1 binary 1 1\na\n\xfe\xff\xff\xff",
+        "column 1: entry 1 is past the texts",
+    ),
+];
+
+// Whether the command writes nothing for this column, and ends with these words.
+fn is_damaged<R: AllocGlobal + Threads + Sync>(
+    rt: &R,
+    command: Command,
+    input: &[u8],
+    words: &str,
+) -> Result<bool, Fail> {
+    holds(
+        rt,
+        &(command, None, input, b"", Some((words, 2))),
+        &THROUGH_SHORT_BUFFERS,
+    )
 }
 
 #[test]
 fn damaged_columns(rt: HostRuntime) -> Result<(), Fail> {
-    let cases: [(&[u8], &str); 24] = [
-        (b"x", "column 1: no header"),
-        (b"\n", "column 1: no header"),
-        (b"lasso-codes 1 text 0 0", "column 1: no header"),
-        (b"lasso-codes 2 text 0 0\n", "column 1: no header"),
-        (b"lasso-codes 1 texts 0 0\n", "column 1: no header"),
-        (b"lasso-codes 1 text 0\n", "column 1: no header"),
-        (b"lasso-codes 1 text 0 0 \n", "column 1: no header"),
-        (b"lasso-codes 1 text 0 -1\n", "column 1: no header"),
-        (
-            b"lasso-codes 1 text 18446744073709551616 0\n",
-            "column 1: no header",
-        ),
-        (b"lasso-codes 1 text 0 0\r\n", "column 1: no header"),
-        (b"lasso-codes 1 text 0 0\n\n", "column 2: no header"),
-        (b"lasso-codes 1 binary 0 0\n\0", "column 2: no header"),
-        (
-            b"lasso-codes 1 text 2 0\na\n",
-            "column 1: text 2 is missing",
-        ),
-        (b"lasso-codes 1 text 1 0\na", "column 1: text 1 is missing"),
-        (
-            b"lasso-codes 1 text 2 0\na\na\n",
-            "column 1: text 2 comes twice",
-        ),
-        (
-            b"lasso-codes 1 text 2 0\na\n\xff\n",
-            "column 1: text 2 is not UTF-8",
-        ),
-        (
-            b"lasso-codes 1 text 1 1\na\n",
-            "column 1: entry 1 is missing",
-        ),
-        (
-            b"lasso-codes 1 text 1 1\na\n0",
-            "column 1: entry 1 is missing",
-        ),
-        (
-            b"lasso-codes 1 binary 1 1\na\n\0\0\0",
-            "column 1: entry 1 is missing",
-        ),
-        (
-            b"lasso-codes 1 text 1 1\na\nx\n",
-            "column 1: entry 1 is no code",
-        ),
-        (
-            b"lasso-codes 1 text 1 1\na\n\n",
-            "column 1: entry 1 is no code",
-        ),
-        (
-            b"lasso-codes 1 text 1 1\na\n1\n",
-            "column 1: entry 1 is past the texts",
-        ),
-        (
-            b"lasso-codes 1 text 0 1\n0\n",
-            "column 1: entry 1 is past the texts",
-        ),
-        (
-            b"lasso-codes 1 binary 1 1\na\n\xfe\xff\xff\xff",
-            "column 1: entry 1 is past the texts",
-        ),
-    ];
-    for (input, words) in cases {
-        assert_stops(&rt, runs(Verb::Decode, PLAIN), input, b"", (words, 2))?;
-        assert_stops(&rt, runs(Verb::Merge, PLAIN), input, b"", (words, 2))?;
+    for (input, words) in &DAMAGED {
+        is_so(&rt, is_damaged(&rt, DECODE, input, words)?, words);
+        is_so(&rt, is_damaged(&rt, MERGE, input, words)?, words);
     }
     Ok(())
 }
 
+const PAST: End<'static> = Some(("column 2: entry 3 is past the texts", 2));
+
+const DOUBLED: End<'static> = Some(("column 2: text 2 comes twice", 2));
+
 // The lines before the error are written: those of the columns before it, and those of the entries before it.
+static BEFORE_AN_ERROR: [Row<'static>; 2] = [
+    (
+        DECODE,
+        None,
+        b"lasso-codes 1 text 1 1\na\n0\nlasso-codes 1 text 2 3\nb\nc\n1\n0\n2\n",
+        b"a\nc\nb\n",
+        PAST,
+    ),
+    (
+        DECODE,
+        None,
+        b"lasso-codes 1 text 1 1\na\n0\nlasso-codes 1 text 2 1\nb\nb\n1\n",
+        b"a\n",
+        DOUBLED,
+    ),
+];
+
 #[test]
 fn lines_before_an_error(rt: HostRuntime) -> Result<(), Fail> {
-    let input = b"lasso-codes 1 text 1 1\na\n0\nlasso-codes 1 text 2 3\nb\nc\n1\n0\n2\n";
-    let past = ("column 2: entry 3 is past the texts", 2);
-    assert_stops(&rt, runs(Verb::Decode, PLAIN), input, b"a\nc\nb\n", past)?;
-    let input = b"lasso-codes 1 text 1 1\na\n0\nlasso-codes 1 text 2 1\nb\nb\n1\n";
-    let doubled = ("column 2: text 2 comes twice", 2);
-    assert_stops(&rt, runs(Verb::Decode, PLAIN), input, b"a\n", doubled)
+    hold(&rt, &BEFORE_AN_ERROR)
 }

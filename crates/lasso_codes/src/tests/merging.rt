@@ -1,97 +1,153 @@
 //! Columns that are merged.
-use super::verbs::{assert_stops, assert_writes};
-use super::{PLAIN, runs};
-use crate::arguments::{Settings, Verb};
+use super::{End, MERGE, MERGE_BINARY, PLAIN, Row, WELL, hold};
+use crate::arguments::{Command, Settings, Verb};
+use std::alloc::Global;
 use std::test::Fail;
+
+static AS_ONE: [Row<'static>; 4] = [
+    (MERGE, None, b"", b"lasso-codes 1 text 0 0\n", WELL),
+    (
+        MERGE,
+        None,
+        b"lasso-codes 1 text 2 3\na\nb\n1\n-\n0\n",
+        b"lasso-codes 1 text 2 3\na\nb\n1\n-\n0\n",
+        WELL,
+    ),
+    (
+        MERGE,
+        None,
+        b"lasso-codes 1 text 2 2\na\nb\n0\n1\nlasso-codes 1 binary 2 3\nb\nc\n\x01\0\0\0\xff\xff\xff\xff\0\0\0\0",
+        b"lasso-codes 1 text 3 5\na\nb\nc\n0\n1\n2\n-\n1\n",
+        WELL,
+    ),
+    (
+        MERGE,
+        None,
+        b"lasso-codes 1 text 1 0\na\nlasso-codes 1 text 0 1\n-\nlasso-codes 1 text 1 1\nb\n0\n",
+        b"lasso-codes 1 text 2 2\na\nb\n-\n1\n",
+        WELL,
+    ),
+];
 
 #[test]
 fn columns_as_one(rt: HostRuntime) -> Result<(), Fail> {
-    let cases: [(&[u8], &[u8]); 4] = [
-        (b"", b"lasso-codes 1 text 0 0\n"),
-        (
-            b"lasso-codes 1 text 2 3\na\nb\n1\n-\n0\n",
-            b"lasso-codes 1 text 2 3\na\nb\n1\n-\n0\n",
-        ),
-        (
-            b"lasso-codes 1 text 2 2\na\nb\n0\n1\nlasso-codes 1 binary 2 3\nb\nc\n\x01\0\0\0\xff\xff\xff\xff\0\0\0\0",
-            b"lasso-codes 1 text 3 5\na\nb\nc\n0\n1\n2\n-\n1\n",
-        ),
-        (
-            b"lasso-codes 1 text 1 0\na\nlasso-codes 1 text 0 1\n-\nlasso-codes 1 text 1 1\nb\n0\n",
-            b"lasso-codes 1 text 2 2\na\nb\n-\n1\n",
-        ),
-    ];
-    for (input, output) in cases {
-        assert_writes(&rt, runs(Verb::Merge, PLAIN), input, output)?;
-    }
-    Ok(())
+    hold(&rt, &AS_ONE)
 }
+
+static AS_A_BINARY_ONE: [Row<'static>; 1] = [(
+    MERGE_BINARY,
+    None,
+    b"lasso-codes 1 text 1 1\na\n0\nlasso-codes 1 text 2 3\nb\na\n0\n-\n1\n",
+    b"lasso-codes 1 binary 2 4\na\nb\n\0\0\0\0\x01\0\0\0\xff\xff\xff\xff\0\0\0\0",
+    WELL,
+)];
 
 #[test]
 fn columns_as_a_binary_one(rt: HostRuntime) -> Result<(), Fail> {
-    let settings = Settings {
-        binary: true,
-        ..PLAIN
-    };
-    let input = b"lasso-codes 1 text 1 1\na\n0\nlasso-codes 1 text 2 3\nb\na\n0\n-\n1\n";
-    let output = b"lasso-codes 1 binary 2 4\na\nb\n\0\0\0\0\x01\0\0\0\xff\xff\xff\xff\0\0\0\0";
-    assert_writes(&rt, runs(Verb::Merge, settings), input, output)
+    hold(&rt, &AS_A_BINARY_ONE)
 }
 
 // A damaged column after good ones. Nothing is written.
+static DAMAGED: [Row<'static>; 4] = [
+    (
+        MERGE,
+        None,
+        b"lasso-codes 1 text 1 1\na\n0\nlasso-codes 1 text 1 2\na\n-\n1\n",
+        b"",
+        Some(("column 2: entry 2 is past the texts", 2)),
+    ),
+    (
+        MERGE,
+        None,
+        b"lasso-codes 1 text 1 1\na\n0\nlasso-codes 1 binary 2 0\nb\nb\n",
+        b"",
+        Some(("column 2: text 2 comes twice", 2)),
+    ),
+    (
+        MERGE,
+        None,
+        b"lasso-codes 1 text 1 1\na\n0\nlasso-codes 1 text 0 0\n0\n",
+        b"",
+        Some(("column 3: no header", 2)),
+    ),
+    (
+        MERGE,
+        None,
+        b"lasso-codes 1 text 2 1\na\nb\n0\nlasso-codes 1 text 1 1\nc\n1\n",
+        b"",
+        Some(("column 2: entry 1 is past the texts", 2)),
+    ),
+];
+
 #[test]
 fn nothing_before_an_error(rt: HostRuntime) -> Result<(), Fail> {
-    let cases: [(&[u8], &str); 4] = [
-        (
-            b"lasso-codes 1 text 1 1\na\n0\nlasso-codes 1 text 1 2\na\n-\n1\n",
-            "column 2: entry 2 is past the texts",
-        ),
-        (
-            b"lasso-codes 1 text 1 1\na\n0\nlasso-codes 1 binary 2 0\nb\nb\n",
-            "column 2: text 2 comes twice",
-        ),
-        (
-            b"lasso-codes 1 text 1 1\na\n0\nlasso-codes 1 text 0 0\n0\n",
-            "column 3: no header",
-        ),
-        (
-            b"lasso-codes 1 text 2 1\na\nb\n0\nlasso-codes 1 text 1 1\nc\n1\n",
-            "column 2: entry 1 is past the texts",
-        ),
-    ];
-    for (input, words) in cases {
-        assert_stops(&rt, runs(Verb::Merge, PLAIN), input, b"", (words, 2))?;
-    }
-    Ok(())
+    hold(&rt, &DAMAGED)
 }
+
+const LIMITED: Settings = Settings {
+    limit: 4100,
+    ..PLAIN
+};
+
+// A column of one text that fills the first bucket, and the bytes of another column. The text is `long`.
+fn after_a_long_text(alloc: Global, long: &[u8], next: &[u8]) -> Result<Vec<u8>, Fail> {
+    let mut columns = Vec::new(alloc);
+    columns.extend_from_slice(b"lasso-codes 1 text 1 1\n")?;
+    columns.extend_from_slice(long)?;
+    columns.extend_from_slice(b"\n0\n")?;
+    columns.extend_from_slice(next)?;
+    Ok(columns)
+}
+
+// The same, where the first text of the other column fills the first bucket too.
+fn after_two_long_texts(alloc: Global, long: &[u8]) -> Result<Vec<u8>, Fail> {
+    let mut columns = after_a_long_text(alloc, long, b"lasso-codes 1 text 2 0\n")?;
+    columns.extend_from_slice(&b"b".repeat(alloc, 4096)?)?;
+    columns.extend_from_slice(b"\ncdefg\n")?;
+    Ok(columns)
+}
+
+const COLUMN_PAST: End<'static> = Some((
+    "column 2: Lasso encountered an error: The configured memory limit was reached",
+    1,
+));
+
+const TEXT_PAST: End<'static> = Some((
+    "column 2: text 2: Lasso encountered an error: The configured memory limit was reached",
+    1,
+));
 
 // The first bucket has 4096 bytes. Line feeds do not count.
 #[test]
 fn texts_past_the_limit(rt: HostRuntime) -> Result<(), Fail> {
-    let limit = Settings {
-        limit: 4100,
-        ..PLAIN
-    };
-    let mut input = Vec::new(rt.alloc());
-    input.extend_from_slice(b"lasso-codes 1 text 1 1\n")?;
-    input.extend_from_slice(&vec![in rt.alloc(); b'a'; 4096]?)?;
-    input.extend_from_slice(b"\n0\n")?;
-    let mut both = input.clone()?;
-    both.extend_from_slice(b"lasso-codes 1 text 1 1\nbcdef\n0\n")?;
-    let refused = (
-        "column 2: Lasso encountered an error: The configured memory limit was reached",
-        1,
-    );
-    assert_stops(&rt, runs(Verb::Merge, limit), &both, b"", refused)?;
-    input.extend_from_slice(b"lasso-codes 1 text 2 0\n")?;
-    input.extend_from_slice(&vec![in rt.alloc(); b'b'; 4096]?)?;
-    input.extend_from_slice(b"\ncdefg\n")?;
-    let refused = (
-        "column 2: text 2: Lasso encountered an error: The configured memory limit was reached",
-        1,
-    );
-    assert_stops(&rt, runs(Verb::Merge, limit), &input, b"", refused)?;
-    let mut first = vec![in rt.alloc(); b'a'; 4096]?;
-    first.push(b'\n')?;
-    assert_stops(&rt, runs(Verb::Decode, limit), &input, &first, refused)
+    let mut long = vec![in rt.alloc(); b'a'; 4096]?;
+    let merged = after_a_long_text(rt.alloc(), &long, b"lasso-codes 1 text 1 1\nbcdef\n0\n")?;
+    let read = after_two_long_texts(rt.alloc(), &long)?;
+    long.push(b'\n')?;
+    hold(
+        &rt,
+        &[
+            (
+                Command::Run(Verb::Merge, LIMITED),
+                None,
+                &merged,
+                b"",
+                COLUMN_PAST,
+            ),
+            (
+                Command::Run(Verb::Merge, LIMITED),
+                None,
+                &read,
+                b"",
+                TEXT_PAST,
+            ),
+            (
+                Command::Run(Verb::Decode, LIMITED),
+                None,
+                &read,
+                &long,
+                TEXT_PAST,
+            ),
+        ],
+    )
 }

@@ -1,0 +1,281 @@
+//! Calls on a handle, which are made in turn, each with what it has to give.
+use super::checks::{Numbers, Seen, Told, UNSET, has_bytes, has_numbers, is_as_told, told};
+use crate::error::LassoReport;
+use crate::handle::Lasso;
+use crate::interner::{
+    lasso_clear, lasso_dictionary, lasso_free, lasso_get, lasso_get_batch, lasso_intern,
+    lasso_intern_batch, lasso_intern_batch_nulls, lasso_len, lasso_limit, lasso_memory, lasso_new,
+    lasso_resolve, lasso_set_limit,
+};
+use crate::large::{
+    lasso_dictionary_large, lasso_get_batch_large, lasso_intern_batch_large,
+    lasso_intern_batch_nulls_large,
+};
+use std::alloc::Global;
+use std::process::Abort;
+use std::test::Fail;
+
+// Texts by their bytes, and offsets of 32 or of 64 bits.
+#[derive(Clone, Copy)]
+pub enum Layout<'a> {
+    Small(&'a [u8], &'a [u32]),
+    Large(&'a [u8], &'a [u64]),
+}
+
+// Where a dictionary begins, and the room for its bytes and for its offsets.
+pub type Part = (usize, (usize, usize));
+
+// The status, the numbers of the report, and the codes that are written.
+pub type Codes = (u32, Numbers, &'static [u32]);
+
+#[derive(Clone, Copy)]
+pub enum Step {
+    // an interner of this limit is made
+    Makes(usize),
+    // interning the text has this status and writes this code, 77 if none
+    Interns(&'static [u8], (u32, u32)),
+    // the same for a text of this number of letters `a`
+    InternsLong(usize, (u32, u32)),
+    // interning the texts, with room for this number of codes, ends so
+    Batch(Layout<'static>, usize, Codes),
+    // the same for a column with this bitmap, whose nulls have the code 7
+    Nulls(Layout<'static>, &'static [u8], usize, Codes),
+    // looking the text up has this status and writes this code, 77 if none
+    Finds(&'static [u8], (u32, u32)),
+    // looking the texts up, with room for this number of codes, ends so; an absent text has the code 8
+    Lookup(Layout<'static>, usize, Codes),
+    // the text of the code has this status, begins so, and has this number of bytes, 77 if there is none
+    Resolves(u32, (u32, &'static [u8], usize)),
+    // the dictionary from the code on, with room for so many bytes and offsets, ends so, and these bytes and
+    // offsets are written
+    Dictionary(Part, Told, (&'static [u8], &'static [u32])),
+    // the same with offsets of 64 bits, of which there are four, 9 where none is written
+    Large(Part, Told, (&'static [u8], [u64; 4])),
+    // the number of texts
+    Counts(usize),
+    // the bytes that the buckets take, and may take
+    Takes(usize, usize),
+    // setting the limit has this status
+    Limits(usize, u32),
+    // a clear has this status
+    Clears(u32),
+    // the interner is let go
+    Frees,
+}
+
+fn makes(alloc: Global, lasso: &mut Lasso, limit: usize) -> Seen {
+    let status = lasso_new(alloc, lasso, limit);
+    (status, status == 0)
+}
+
+fn interns(alloc: Global, lasso: &mut Lasso, text: &[u8], want: (u32, u32)) -> Seen {
+    let mut code = 77;
+    let status = lasso_intern(alloc, lasso, text, &mut code);
+    (status, (status, code) == want)
+}
+
+fn interns_long(alloc: Global, lasso: &mut Lasso, count: usize, want: (u32, u32)) -> Seen {
+    match vec![in alloc; b'a'; count] {
+        Ok(text) => interns(alloc, lasso, &text, want),
+        Err(_) => (9, false),
+    }
+}
+
+fn finds(alloc: Global, lasso: &mut Lasso, text: &[u8], want: (u32, u32)) -> Seen {
+    let mut code = 77;
+    let status = lasso_get(alloc, lasso, text, &mut code);
+    (status, (status, code) == want)
+}
+
+// Whether these codes were written, and the call ended so.
+fn has_codes(status: u32, report: &LassoReport, codes: &[u32], want: Codes) -> Seen {
+    let is_told = told(status, report) == (want.0, want.1);
+    (status, is_told && has_numbers(codes, want.2))
+}
+
+// Interns the texts of the layout.
+pub fn batch(
+    alloc: Global,
+    lasso: &mut Lasso,
+    layout: Layout<'_>,
+    room: usize,
+    want: Codes,
+) -> Seen {
+    let (mut codes, mut report) = ([9; 9], UNSET);
+    let output = &mut codes[..room.min(9)];
+    let status = match layout {
+        Layout::Small(bytes, offsets) => {
+            lasso_intern_batch(alloc, lasso, bytes, offsets, output, &mut report)
+        }
+        Layout::Large(bytes, offsets) => {
+            lasso_intern_batch_large(alloc, lasso, bytes, offsets, output, &mut report)
+        }
+    };
+    has_codes(status, &report, &codes, want)
+}
+
+// Interns the rows of a column with nulls.
+fn nulls(
+    alloc: Global,
+    lasso: &mut Lasso,
+    (layout, present): (Layout<'_>, &[u8]),
+    room: usize,
+    want: Codes,
+) -> Seen {
+    let (mut codes, mut report) = ([9; 9], UNSET);
+    let output = &mut codes[..room.min(9)];
+    let status = match layout {
+        Layout::Small(bytes, offsets) => {
+            lasso_intern_batch_nulls(
+                alloc,
+                lasso,
+                bytes,
+                offsets,
+                present,
+                7,
+                output,
+                &mut report,
+            )
+        }
+        Layout::Large(bytes, offsets) => {
+            lasso_intern_batch_nulls_large(
+                alloc,
+                lasso,
+                bytes,
+                offsets,
+                present,
+                7,
+                output,
+                &mut report,
+            )
+        }
+    };
+    has_codes(status, &report, &codes, want)
+}
+
+// Looks the texts of the layout up.
+fn lookup(alloc: Global, lasso: &mut Lasso, layout: Layout<'_>, room: usize, want: Codes) -> Seen {
+    let (mut codes, mut report) = ([9; 9], UNSET);
+    let output = &mut codes[..room.min(9)];
+    let status = match layout {
+        Layout::Small(bytes, offsets) => {
+            lasso_get_batch(alloc, lasso, bytes, offsets, 8, output, &mut report)
+        }
+        Layout::Large(bytes, offsets) => {
+            lasso_get_batch_large(alloc, lasso, bytes, offsets, 8, output, &mut report)
+        }
+    };
+    has_codes(status, &report, &codes, want)
+}
+
+fn resolves(alloc: Global, lasso: &mut Lasso, code: u32, want: (u32, &[u8], usize)) -> Seen {
+    let (mut text, mut whole) = ([9; 4], 77);
+    let status = lasso_resolve(alloc, lasso, code, &mut text, &mut whole);
+    let is_told = (status, whole) == (want.0, want.2);
+    (status, is_told && has_bytes(&text, want.1))
+}
+
+fn dictionary(
+    alloc: Global,
+    lasso: &mut Lasso,
+    (from, rooms): Part,
+    want: Told,
+    (texts, ends): (&[u8], &[u32]),
+) -> Seen {
+    let (mut bytes, mut offsets, mut report) = ([9; 8], [9; 4], UNSET);
+    let status = lasso_dictionary(
+        alloc,
+        lasso,
+        from,
+        &mut bytes[..rooms.0.min(8)],
+        &mut offsets[..rooms.1.min(4)],
+        &mut report,
+    );
+    let is_written = has_bytes(&bytes, texts) && has_numbers(&offsets, ends);
+    (status, is_written && told(status, &report) == want)
+}
+
+fn large_dictionary(
+    alloc: Global,
+    lasso: &mut Lasso,
+    (from, rooms): Part,
+    want: Told,
+    (texts, ends): (&[u8], [u64; 4]),
+) -> Seen {
+    let (mut bytes, mut offsets, mut report) = ([9; 8], [9; 4], UNSET);
+    let status = lasso_dictionary_large(
+        alloc,
+        lasso,
+        from,
+        &mut bytes[..rooms.0.min(8)],
+        &mut offsets[..rooms.1.min(4)],
+        &mut report,
+    );
+    let is_written = has_bytes(&bytes, texts) && offsets == ends;
+    (status, is_written && told(status, &report) == want)
+}
+
+fn counts(alloc: Global, lasso: &mut Lasso, count: usize) -> Seen {
+    (0, lasso_len(alloc, lasso) == count)
+}
+
+fn takes(alloc: Global, lasso: &mut Lasso, memory: usize, limit: usize) -> Seen {
+    let taken = (lasso_memory(alloc, lasso), lasso_limit(alloc, lasso));
+    (0, taken == (memory, limit))
+}
+
+fn limits(alloc: Global, lasso: &mut Lasso, limit: usize, want: u32) -> Seen {
+    let status = lasso_set_limit(alloc, lasso, limit);
+    (status, status == want)
+}
+
+fn clears(alloc: Global, lasso: &mut Lasso, want: u32) -> Seen {
+    let status = lasso_clear(alloc, lasso);
+    (status, status == want)
+}
+
+fn frees(alloc: Global, lasso: &mut Lasso) -> Seen {
+    lasso_free(alloc, lasso);
+    (0, true)
+}
+
+// Takes the step.
+fn take(alloc: Global, lasso: &mut Lasso, step: &Step) -> Seen {
+    match *step {
+        Step::Makes(limit) => makes(alloc, lasso, limit),
+        Step::Interns(text, want) => interns(alloc, lasso, text, want),
+        Step::InternsLong(count, want) => interns_long(alloc, lasso, count, want),
+        Step::Batch(layout, room, want) => batch(alloc, lasso, layout, room, want),
+        Step::Nulls(layout, bits, room, want) => nulls(alloc, lasso, (layout, bits), room, want),
+        Step::Finds(text, want) => finds(alloc, lasso, text, want),
+        Step::Lookup(layout, room, want) => lookup(alloc, lasso, layout, room, want),
+        Step::Resolves(code, want) => resolves(alloc, lasso, code, want),
+        Step::Dictionary(part, want, written) => dictionary(alloc, lasso, part, want, written),
+        Step::Large(part, want, written) => large_dictionary(alloc, lasso, part, want, written),
+        Step::Counts(count) => counts(alloc, lasso, count),
+        Step::Takes(memory, limit) => takes(alloc, lasso, memory, limit),
+        Step::Limits(limit, want) => limits(alloc, lasso, limit, want),
+        Step::Clears(want) => clears(alloc, lasso, want),
+        Step::Frees => frees(alloc, lasso),
+    }
+}
+
+// Takes the steps in turn on the handle, and checks each.
+pub fn walk_on<R: Abort + AllocGlobal>(
+    rt: &R,
+    lasso: &mut Lasso,
+    steps: &[Step],
+) -> Result<(), Fail> {
+    let mut row = 0usize;
+    for step in steps {
+        row = row.saturating_add(1);
+        is_as_told(rt, take(rt.alloc(), lasso, step), row)?;
+    }
+    Ok(())
+}
+
+// The same on a handle that holds no interner at first.
+pub fn walk<R: Abort + AllocGlobal>(rt: &R, steps: &[Step]) -> Result<(), Fail> {
+    let mut lasso = Lasso::none(rt.alloc());
+    walk_on(rt, &mut lasso, steps)
+}

@@ -1,0 +1,85 @@
+//! The help texts, as a user has to see them.
+
+// Each text is at most 24 lines of at most 80 letters. A list has two spaces before each word of its left
+// column, and two after the longest.
+pub const PROGRAM_HELP: &[u8] = b"\
+usage: lasso_codes VERB [OPTION..] < INPUT > OUTPUT
+
+Verbs:
+  counts    each distinct line after how often it came, the most frequent first
+  decode    the lines of columns
+  distinct  each distinct line once, where it first came
+  encode    a column: each distinct line once, and for each line its code
+  merge     columns as one column
+
+On a terminal, a line tells how much was read so far; --quiet turns it off.
+
+lasso_codes VERB --help lists the options of a verb.
+lasso_codes --version prints the version.
+";
+
+pub const PROGRAM_VERSION: &[u8] = b"lasso_codes 1\n";
+
+pub const COUNTS_HELP: &[u8] = b"\
+usage: lasso_codes counts [OPTION..] < INPUT > OUTPUT
+
+Writes each distinct line after how often it came, the most frequent first.
+Lines that came equally often are in the order of their bytes.
+
+  --limit N    the most bytes that the distinct lines may take
+  --top N      write at most N lines
+  --workers N  read the whole input, and count by 1 to 64 threads
+  --quiet      show no progress on a terminal
+
+N is a number below 2^64, or one with K, M or G after it, as 64K for 65536.
+";
+
+pub const DECODE_HELP: &[u8] = b"\
+usage: lasso_codes decode [OPTION..] < COLUMNS > LINES
+
+Writes the lines of columns, one or several one after another.
+
+  --limit N    the most bytes that the texts of a column may take
+  --null WORD  write a null as WORD; without it, a null is a fault
+  --quiet      show no progress on a terminal
+
+N is a number below 2^64, or one with K, M or G after it, as 64K for 65536.
+";
+
+pub const DISTINCT_HELP: &[u8] = b"\
+usage: lasso_codes distinct [OPTION..] < INPUT > OUTPUT
+
+Writes each distinct line once, where it first came.
+
+  --limit N  the most bytes that the distinct lines may take
+  --quiet    show no progress on a terminal
+
+N is a number below 2^64, or one with K, M or G after it, as 64K for 65536.
+";
+
+pub const ENCODE_HELP: &[u8] = b"\
+usage: lasso_codes encode [OPTION..] < LINES > COLUMN
+
+Writes a column: a header, each distinct line once, and for each line its code,
+which is the position of the line among the distinct ones, from 0.
+
+  --limit N    the most bytes that the distinct lines may take
+  --null WORD  a line that is WORD is a null: it is no text of the column
+  --binary     write codes as four bytes each, the least first
+  --workers N  read the whole input, and encode by 1 to 64 threads
+  --quiet      show no progress on a terminal
+
+N is a number below 2^64, or one with K, M or G after it, as 64K for 65536.
+";
+
+pub const MERGE_HELP: &[u8] = b"\
+usage: lasso_codes merge [OPTION..] < COLUMNS > COLUMN
+
+Writes one column of the lines of columns, one or several one after another.
+
+  --limit N  the most bytes that the texts of all columns may take
+  --binary   write codes as four bytes each, the least first
+  --quiet    show no progress on a terminal
+
+N is a number below 2^64, or one with K, M or G after it, as 64K for 65536.
+";
