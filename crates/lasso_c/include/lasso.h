@@ -36,11 +36,12 @@
  * Chosen collisions: texts are hashed with a fixed seed, so whoever chooses the texts can make them collide. Each search then
  * takes time linear in the number of distinct texts, and interning n of them time quadratic in n.
  *
- * To link: liblasso_c.a, and after it the toolchain's liblibc_c.a. "make c" builds the first, and prints where both lie:
+ * To link, once "make install" has installed the library:
  *
- *     cc -I crates/lasso_c/include program.c crates/lasso_c/out/liblasso_c.a "$(dirname "$(rt doc)")/c/liblibc_c.a"
+ *     cc program.c $(pkg-config --cflags --libs lasso)
  *
- * It also writes out/lasso.pc for pkg-config. The header is good for C from C99 on and for C++.
+ * "make c" builds it, and prints how a program is linked where it is not installed. The header is good for C from C99 on and for
+ * C++.
  *
  * What a call writes and returns is proved. What the caller owes is not, nor what is said here of threads and of memory.
  */
