@@ -385,6 +385,12 @@ void lasso_free(struct lasso *lasso);
  */
 size_t lasso_status_text(uint32_t status, uint8_t *text, size_t text_length);
 
+/* The version of this header, 0.1.0: a million for each of its first number, 1000 for each of its second, and its third. */
+#define LASSO_VERSION 1000
+
+/* The version of the library that is linked, in the same form. */
+uint32_t lasso_version(void);
+
 /*
  * The calls by their names, with NULL for an array of no elements. The library itself never gets NULL.
  */

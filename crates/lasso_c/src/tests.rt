@@ -2,7 +2,7 @@
 ghost use Rattle.std.specs.Prelude.{◌≤◌};
 
 use crate::error::LassoReport;
-use crate::{lasso_decode, lasso_encode, lasso_status_text};
+use crate::{lasso_decode, lasso_encode, lasso_status_text, lasso_version};
 use std::process::Abort;
 use std::test::Fail;
 
@@ -279,4 +279,10 @@ fn tells_what_a_status_means(rt: HostRuntime) {
     assert!(rt; text == *b"done......");
     assert!(rt; status_text(9, &mut text) == 18);
     assert!(rt; text == *b"there is n");
+}
+
+#[test]
+fn tells_its_version(rt: HostRuntime) {
+    // 0.1.0
+    assert!(rt; lasso_version() == 1000);
 }
