@@ -1,9 +1,11 @@
 # Each line after '#:' is a line of `make help`. A bare `make` is `make help`.
 FILE ?= sample/words.txt
-export FILE
+PREFIX ?= /usr/local
+export FILE PREFIX DESTDIR BINDIR INCLUDEDIR LIBDIR MANDIR BASHDIR ZSHDIR FISHDIR
 PROGRAM = crates/lasso_lines/out/lasso_lines
 CODES = crates/lasso_codes/out/lasso_codes
 LIBRARY = crates/lasso_c/out/liblasso_c.a
+JOINED = out/liblasso.a
 C_LIBRARY = $(shell dirname "$$(rt doc)")/c/liblibc_c.a
 SOURCES = crates.txt $(shell find crates -type f \( -path '*/src/*' -o -path '*/specs/*' -o -path '*/proofs/*' \) -not -path '*/out/*')
 
@@ -17,20 +19,23 @@ OWN_LINES = grep -vE '^(interpreter|checked|races): |^run=[a-z-]+ .*proved=no$$'
 
 # Proves and builds a crate by a command of rt.
 define build
+	@$(MAKE) -s toolchain
 	@echo "proving and building $(1) and the libraries below it; what is proved is kept for the next time" >&2
 	@cd crates/$(1) && rm -f out.failed && { rt $(2) < /dev/null 2>&1 || touch out.failed; } | tee out.log | $(PROGRESS) >&2
 	@cd crates/$(1) && if [ -e out.failed ]; then cat out.log >&2; rm -f out.failed out.log; exit 1; fi
 	@rm -f crates/$(1)/out.log
 endef
 
-.PHONY: help try run codes c check test docs clean input crate toolchain
+.PHONY: help try run codes c check test docs fmt bench examples all install uninstall deb clean input crate toolchain
 
 #: make                              this list
 help:
-	@sed -n 's/^#: //p' Makefile
+	@sed -n 's/^#: \{0,1\}//p' Makefile
 	@echo
 	@echo "FILE is a file of lines, $(FILE) unless given; ARGS are words of lasso_lines, as ARGS='--limit 5000'."
 
+#:
+#: Run lasso_lines on a file:
 #: make try FILE=path [ARGS=..]      builds lasso_lines without proof and runs it on the file, in a minute or two
 #:                                   (rt try: at most 1 MiB of output and 60 seconds; 20 million steps where it interprets)
 try: input toolchain
@@ -48,31 +53,62 @@ try: input toolchain
 run: input $(PROGRAM)
 	@$(PROGRAM) $(ARGS) < "$$FILE"
 
-$(PROGRAM): $(SOURCES) | input toolchain
+$(PROGRAM): $(SOURCES) | input
+	@$(MAKE) -s toolchain
 	@.ci/libraries >&2
 	$(call build,lasso_lines,run)
 	@touch $(PROGRAM)
 
+#:
+#: Build:
 #: make codes                        proves the program lasso_codes where the sources changed, builds it, and says where it lies
 codes: $(CODES)
 	@echo "program: $(CURDIR)/$(CODES)"
 
-$(CODES): $(SOURCES) | toolchain
+$(CODES): $(SOURCES)
 	$(call build,lasso_codes,run)
 	@touch $(CODES)
 
 #: make c                            proves the library for C where the sources changed, builds it, and says where it lies
-c: $(LIBRARY)
-	@sed -e 's|@HERE@|$(CURDIR)/crates/lasso_c|' -e 's|@C_LIBRARY@|$(C_LIBRARY)|' crates/lasso_c/lasso.pc.in > crates/lasso_c/out/lasso.pc
+c: $(JOINED)
+	@install/pc '$(CURDIR)/out' '$(CURDIR)/crates/lasso_c/include' '$${prefix}' '$${libdir}/liblasso.a' > out/lasso.pc
 	@echo "header:     $(CURDIR)/crates/lasso_c/include/lasso.h"
-	@echo "library:    $(CURDIR)/$(LIBRARY)"
-	@echo "and after:  $(C_LIBRARY)"
-	@echo "pkg-config: PKG_CONFIG_PATH=$(CURDIR)/crates/lasso_c/out pkg-config --cflags --libs lasso"
+	@echo "library:    $(CURDIR)/$(JOINED)"
+	@echo "shared:     $(CURDIR)/out/liblasso.so.0"
+	@echo "pkg-config: PKG_CONFIG_PATH=$(CURDIR)/out pkg-config --cflags --libs lasso"
 
-$(LIBRARY): $(SOURCES) | toolchain
+$(LIBRARY): $(SOURCES)
 	$(call build,lasso_c,lib)
 	@touch $(LIBRARY)
 
+# The library for C with the toolchain's part that calls malloc in it, and the same as a shared library.
+$(JOINED): $(LIBRARY) VERSION install/link
+	@install/link $(LIBRARY) "$(C_LIBRARY)"
+
+#: make all                          proves and builds the programs and the libraries that make install copies
+all: $(PROGRAM) $(CODES) $(JOINED)
+
+#:
+#: Install:
+#: make install [PREFIX=..] [DESTDIR=..]
+#:                                   copies the programs, the library for C, manual pages and completions to folders below PREFIX,
+#:                                   which is /usr/local unless given; proves and builds first what is not built
+install:
+	@install/run check
+	@$(MAKE) --no-print-directory all
+	@install/run copy
+
+#: make uninstall [PREFIX=..] [DESTDIR=..]
+#:                                   removes what make install copied there, and nothing else
+uninstall:
+	@install/run remove
+
+#: make deb                          the same files as a Debian package, and says where it lies
+deb: all
+	@install/deb
+
+#:
+#: Prove and test:
 #: make check CRATE=name             proves one crate, over the libraries below it, and runs its tests
 check: crate toolchain
 	@cd crates/$(CRATE) && rt check && if grep -rqF '#[test]' src; then rt test; fi
@@ -81,16 +117,35 @@ check: crate toolchain
 test: toolchain docs
 	RT_JOBS=$${RT_JOBS-$$(.ci/jobs)} rt ci
 
-#: make docs                         checks the documents: links, names of files and clauses, lengths of lines;
-#:                                   and that each wrong body can be applied to the code as it is
+#: make docs                         checks the documents: links, names of files and clauses, lengths of lines; that manual pages and
+#:                                   completions have the options of the programs; and that each wrong body can be applied
 docs:
 	docs/check --try
 	docs/check
+	install/check --try
+	install/check
 	wrong-bodies/run --dry
+
+#: make examples                     builds the callers in C, Rust and Python and the recipes for many machines, runs them, and tries an
+#:                                   installation; as root, since it installs what is missing of the system's packages
+examples:
+	examples/run
+	examples/cluster/run
+	examples/install
+
+#: make bench [PART=..]              prints the tables of bench/README.md, or the one that PART names, as PART=calls
+bench:
+	bench/run $(PART)
+
+#:
+#: Look after the sources:
+#: make fmt                          formats the code of every crate
+fmt: toolchain
+	@for crate in crates/*/; do (cd "$$crate" && rt fmt) || exit 1; done
 
 #: make clean                        removes what was proved and built in this folder; what make test keeps stays
 clean:
-	rm -rf crates/*/out crates/*/out.log crates/*/out.failed
+	rm -rf out crates/*/out crates/*/out.log crates/*/out.failed
 
 # The file can be read, or the command ends before anything is built.
 input:

@@ -4,19 +4,16 @@
 BATCHES=$OUT/batches
 C_NAMES="rows distinct"
 
-# Proves and builds the library for C, and builds the program over it and the shared library for Python.
+# Proves and builds the library for C, and the shared library for Python, and builds the program over it.
 build_c() {
-    local library c_library
     need /usr/bin/cc gcc
     need /usr/bin/pkg-config pkg-config
     if ! make -s c > "$OUT/c.log" 2>&1; then
         cat "$OUT/c.log" >&2
         exit 1
     fi
-    export PKG_CONFIG_PATH=$PWD/crates/lasso_c/out
-    read -r library c_library <<< "$(pkg-config --libs lasso)"
+    export PKG_CONFIG_PATH=$PWD/out
     cc -O2 -Wall -Wextra -std=c11 -o "$BATCHES" bench/batches.c $(pkg-config --cflags --libs lasso)
-    cc -shared -o "$OUT/liblasso.so" -Wl,--whole-archive "$library" -Wl,--no-whole-archive "$c_library"
 }
 
 # The inputs, and the right code of each of their lines: how many distinct ones came before its first.
@@ -59,5 +56,5 @@ measure_c() {
     need_pandas
     [ -n "$PANDAS" ] || return 0
     echo
-    LASSO_LIBRARY=$OUT/liblasso.so $PRIORITY /usr/bin/python3 examples/python/categorical.py
+    PYTHONPATH=$PWD/python LASSO_LIBRARY=$PWD/out/liblasso.so.0 $PRIORITY /usr/bin/python3 examples/python/categorical.py
 }

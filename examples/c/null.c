@@ -62,6 +62,7 @@ int main(void)
     CHECK(tells(&report, 0, 0, 0) && rows[0] == 0);
 
     CHECK(lasso_status_text(LASSO_DONE, NULL, 0) == strlen("done"));
+    CHECK(lasso_version() == LASSO_VERSION);
 
     /* The empty text, in an interner. */
     const uint8_t absent[] = {0};

@@ -36,11 +36,12 @@
  * Chosen collisions: texts are hashed with a fixed seed, so whoever chooses the texts can make them collide. Each search then
  * takes time linear in the number of distinct texts, and interning n of them time quadratic in n.
  *
- * To link: liblasso_c.a, and after it the toolchain's liblibc_c.a. "make c" builds the first, and prints where both lie:
+ * To link, once "make install" has installed the library:
  *
- *     cc -I crates/lasso_c/include program.c crates/lasso_c/out/liblasso_c.a "$(dirname "$(rt doc)")/c/liblibc_c.a"
+ *     cc program.c $(pkg-config --cflags --libs lasso)
  *
- * It also writes out/lasso.pc for pkg-config. The header is good for C from C99 on and for C++.
+ * "make c" builds it, and prints how a program is linked where it is not installed. The header is good for C from C99 on and for
+ * C++.
  *
  * What a call writes and returns is proved, but not that LASSO_NO_MEMORY comes only where malloc or realloc gave none. Nor is what
  * the caller owes, or what is said here of threads and of memory.
@@ -384,6 +385,12 @@ void lasso_free(struct lasso *lasso);
  * text                the caller's, written: as much of the meaning as fits. text_length counts bytes.
  */
 size_t lasso_status_text(uint32_t status, uint8_t *text, size_t text_length);
+
+/* The version of this header, 0.1.0: a million for each of its first number, 1000 for each of its second, and its third. */
+#define LASSO_VERSION 1000
+
+/* The version of the library that is linked, in the same form. */
+uint32_t lasso_version(void);
 
 /*
  * The calls by their names, with NULL for an array of no elements. The library itself never gets NULL.

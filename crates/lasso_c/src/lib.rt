@@ -42,6 +42,10 @@ use error::LassoReport;
 use status::DONE;
 use std::alloc::Global;
 
+// The version in the file VERSION: a million for each of its first number, 1000 for each of its second, and its
+// third.
+const VERSION: u32 = 1000;
+
 /// Writes a code for each text of a layout, and a dictionary in the same layout: each distinct text once, in
 /// order of first occurrence. A code is the position of its text in the dictionary. It returns a status, and
 /// if that is not `DONE` it writes nothing but the report.
@@ -192,4 +196,13 @@ pub extern "C" fn lasso_status_text(status: u32, text: &mut [u8]) -> usize
     let room = whole.len().min(text.len());
     text[..room].copy_from_slice(&whole[..room]);
     whole.len()
+}
+
+/// Returns the version of the library, 0.1.0, as a number: a million for each of its first number, 1000 for each
+/// of its second, and its third.
+#[unsafe(no_mangle)]
+pub extern "C" fn lasso_version() -> u32
+    ensures value { result ≡ 1000 }
+{
+    VERSION
 }

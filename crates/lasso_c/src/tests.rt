@@ -3,7 +3,7 @@ pub mod checks;
 pub mod columns;
 pub mod steps;
 
-use crate::{lasso_decode, lasso_decode_nulls, lasso_encode, lasso_status_text};
+use crate::{lasso_decode, lasso_decode_nulls, lasso_encode, lasso_status_text, lasso_version};
 use checks::{Seen, UNSET, has_bytes, is_as_told, is_so, is_so_at, told};
 use columns::{DECODING, Decoding, ENCODING, Encoding, decodes, encodes};
 use std::alloc::Global;
@@ -410,4 +410,9 @@ fn tells_what_a_status_means(rt: HostRuntime) {
             "ten letters of a meaning",
         );
     }
+}
+
+#[test]
+fn tells_its_version(rt: HostRuntime) {
+    is_so(&rt, lasso_version() == 1000, "0.1.0");
 }

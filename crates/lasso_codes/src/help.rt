@@ -19,7 +19,7 @@ lasso_codes --version prints the version.
 ";
 
 /// The text of `lasso_codes --version`.
-pub const VERSION: &str = "lasso_codes 1\n";
+pub const VERSION: &str = "lasso_codes 0.1.0\n";
 
 const COUNTS_HELP: &str = "\
 usage: lasso_codes counts [OPTION..] < INPUT > OUTPUT

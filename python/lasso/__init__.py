@@ -6,8 +6,8 @@
         interner.encode(["red", "blue", "red"])   # array('I', [0, 1, 0])
         interner[1]                               # 'blue'
 
-The shared library is the one that the environment variable LASSO_LIBRARY names, or else ``liblasso.so`` in this file's folder. README.md there
-says how to link it.
+The shared library is the one that the environment variable LASSO_LIBRARY names, or else ``liblasso.so.0`` in this file's folder, where a wheel
+has it, or else the installed one, which the system's loader finds.
 """
 
 from __future__ import annotations
@@ -29,6 +29,9 @@ __all__ = [
     "NULL", "ArrowStrings", "CodesExhausted", "Interner", "InternerClosed", "LassoError", "LimitReached", "NotUtf8", "OutOfMemory",
     "WrongLayout",
 ]
+
+__version__ = "0.1.0"
+"""The version of this module, and of the library that it was written for."""
 
 NULL = 2**32 - 1
 """The code of a null. No text has it."""
@@ -93,15 +96,28 @@ _ERRORS: dict[int, type[LassoError]] = {
 _NO_LIMIT, _ABSENT = c_size_t(-1).value, NULL
 _MOST_BYTES = 2**31 - 1
 
-_BYTES, _OFFSETS, _LARGE_OFFSETS, _CODES = ((POINTER(kind), c_size_t) for kind in (c_uint8, c_int32, c_int64, c_uint32))
+def _array(kind: Any) -> list[Any]:
+    """The two parameters by which an array crosses: a pointer to its first element, and how many there are."""
+    return [POINTER(kind), c_size_t]
+
+
+_BYTES, _OFFSETS, _LARGE_OFFSETS, _CODES = _array(c_uint8), _array(c_int32), _array(c_int64), _array(c_uint32)
+
+
+_SHARED = f"liblasso.so.{__version__.split('.')[0]}"
+
+
+def _path() -> str:
+    """Where the shared library is: a path, or the name by which the loader finds it."""
+    beside = Path(__file__).with_name(_SHARED)
+    return os.environ.get("LASSO_LIBRARY") or (str(beside) if beside.exists() else _SHARED)
 
 
 def _load() -> ctypes.CDLL:
-    path = os.environ.get("LASSO_LIBRARY") or str(Path(__file__).with_name("liblasso.so"))
     try:
-        library = ctypes.CDLL(path)
+        library = ctypes.CDLL(_path())
     except OSError as fault:
-        raise ImportError(f"no shared library of lasso, which LASSO_LIBRARY can name: {fault}") from fault
+        raise ImportError(f"no shared library of lasso: install it, or name it in LASSO_LIBRARY ({fault})") from fault
     handle, status = POINTER(_Handle), c_uint32
     for name, result, arguments in [
         ("new", status, [c_size_t]),
@@ -129,7 +145,7 @@ def _load() -> ctypes.CDLL:
 _library = _load()
 
 
-def _sized(kind: type, data: Any, length: int) -> tuple[Any, int]:
+def _sized(kind: Any, data: Any, length: int) -> tuple[Any, int]:
     """An array as it crosses: a pointer that is never NULL, and how many elements there are."""
     if length == 0:
         data = (kind * 1)()
@@ -145,7 +161,7 @@ def _encoded(text: str) -> bytes:
     return text.encode("utf-8", "surrogatepass")
 
 
-def _view(kind: type, buffer: Any, length: int, start: int = 0) -> tuple[Any, int]:
+def _view(kind: Any, buffer: Any, length: int, start: int = 0) -> tuple[Any, int]:
     """Elements of an object with Python's buffer protocol, from the one with the number ``start`` on. They are copied where the object can't be
     written and is neither bytes nor tells its address, as a buffer of pyarrow does. The caller keeps an object that tells its address."""
     if length == 0:
@@ -177,7 +193,8 @@ def _items(texts: Iterable[Any]) -> list[Any]:
     """The items of an iterable, a numpy array among them."""
     if isinstance(texts, (str, bytes)):
         raise TypeError("one text, where many are wanted: give a list of texts")
-    return texts.tolist() if hasattr(texts, "tolist") else list(texts)
+    items: list[Any] = texts.tolist() if hasattr(texts, "tolist") else list(texts)
+    return items
 
 
 def _layout(items: list[str]) -> tuple[tuple[Any, int], tuple[Any, int], int]:
@@ -339,7 +356,7 @@ class Interner:
         return bytes(text[: whole.value]).decode()
 
     def __len__(self) -> int:
-        return _library.lasso_len(byref(self._handle))
+        return int(_library.lasso_len(byref(self._handle)))
 
     def __iter__(self) -> Iterator[str]:
         return iter(self.texts())
@@ -364,12 +381,12 @@ class Interner:
     @property
     def memory(self) -> int:
         """How many bytes the texts' buckets take."""
-        return _library.lasso_memory(byref(self._handle))
+        return int(_library.lasso_memory(byref(self._handle)))
 
     @property
     def limit(self) -> int | None:
         """How many bytes they may take, or None. It can be set."""
-        limit = _library.lasso_limit(byref(self._handle))
+        limit = int(_library.lasso_limit(byref(self._handle)))
         return None if limit == _NO_LIMIT else limit
 
     @limit.setter

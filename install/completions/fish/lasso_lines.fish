@@ -1,0 +1,4 @@
+# Completes lasso_lines in fish: the options that were not given yet.
+complete -c lasso_lines -f
+complete -c lasso_lines -n 'not __fish_seen_argument -l limit' -l limit -x -d 'the most bytes that the buckets of texts may take'
+complete -c lasso_lines -n 'not __fish_seen_argument -l workers' -l workers -x -d 'write the distinct lines, by 1 to 64 threads'

@@ -1,0 +1,234 @@
+"""Tests of the module lasso, with expected codes that were worked by hand."""
+
+from __future__ import annotations
+
+import ctypes
+import gc
+import os
+import struct
+import subprocess
+import sys
+from collections.abc import Iterator
+from pathlib import Path
+from typing import Any
+from unittest import mock
+
+import pytest
+
+import lasso
+from lasso import NULL, Interner, InternerClosed, LassoError, LimitReached, NotUtf8, WrongLayout
+
+
+class Column:
+    """An array of strings as pyarrow has it: three buffers, an offset and a length."""
+
+    def __init__(self, data: Any, offsets: list[int], start: int = 0, validity: bytes | None = None, kind: str = "string") -> None:
+        width = "q" if kind.startswith("large") else "i"
+        self.data, self.starts, self.validity = data, struct.pack(f"<{len(offsets)}{width}", *offsets), validity
+        self.offset, self.length, self.type = start, len(offsets) - 1 - start, kind
+
+    def buffers(self) -> list[Any]:
+        return [self.validity, self.starts, self.data]
+
+    def __len__(self) -> int:
+        return self.length
+
+
+class Addressed(bytearray):
+    """Bytes that tell their address, as a buffer of pyarrow does."""
+
+    @property
+    def address(self) -> int:
+        return ctypes.addressof(ctypes.c_char.from_buffer(self))
+
+
+@pytest.fixture
+def interner() -> Iterator[Interner]:
+    with Interner() as made:
+        yield made
+
+
+def test_numbers_texts_from_call_to_call(interner: Interner) -> None:
+    assert [interner.intern(text) for text in ["a", "b", "a", "", "grün"]] == [0, 1, 0, 2, 3]
+    assert list(interner.encode(["grün", "c", "c"])) == [3, 4, 4]
+    assert list(interner.encode([])) == []
+    assert (len(interner), interner.texts(3), list(interner)) == (5, ["grün", "c"], ["a", "b", "", "grün", "c"])
+    assert (interner.get("c"), interner.get("d"), "d" in interner, len(interner)) == (4, None, False, 5)
+    assert (interner[3], interner.texts(5), interner.texts(9)) == ("grün", [], [])
+    assert interner.get_many(iter(["d", "c", "", "c"])) == [None, 4, 2, 4]
+    assert (interner.get_many([]), len(interner)) == ([], 5)
+
+
+def test_gives_long_texts_whole(interner: Interner) -> None:
+    assert (interner.intern("x" * 1000), interner[0]) == (0, "x" * 1000)
+
+
+def test_has_no_text_for_a_code_past_the_end(interner: Interner) -> None:
+    interner.intern("a")
+    for code in (1, -1, 2**40):
+        with pytest.raises(IndexError):
+            interner[code]
+
+
+def test_takes_the_buffers_of_arrow(interner: Interner) -> None:
+    assert list(interner.encode(Column(b"redbluered", [0, 3, 7, 10]))) == [0, 1, 0]
+    assert list(interner.encode(Column(b"redbluered", [0, 3, 7, 10], start=1))) == [1, 0]
+    assert list(interner.encode(Column(None, [0, 0]))) == [2]
+    for wrong in ("binary", "large_binary", "string_view", "int32", "small_string"):
+        with pytest.raises(TypeError):
+            interner.encode(Column(b"red", [0, 3], kind=wrong))
+    assert interner.texts() == ["red", "blue", ""]
+
+
+def test_takes_the_buffers_of_large_strings(interner: Interner) -> None:
+    assert list(interner.encode(Column(b"redbluered", [0, 3, 7, 10], kind="large_string"))) == [0, 1, 0]
+    assert list(interner.encode(Column(b"redbluered", [0, 3, 7, 10], start=2, kind="large_utf8"))) == [0]
+    column = Column(b"redbluered", [0, 3, 7, 10], validity=b"\5", kind="large_string")
+    assert list(interner.encode(column)) == [0, NULL, 0]
+    with pytest.raises(WrongLayout):
+        interner.encode(Column(b"red", [0, 2**32 + 3], kind="large_string"))
+
+
+def test_gives_nulls_a_code_of_their_own(interner: Interner) -> None:
+    assert list(interner.encode(["a", None, "a", None, "", "b"])) == [0, NULL, 0, NULL, 1, 2]
+    assert list(interner.encode([None] * 9 + ["c"])) == [NULL] * 9 + [3]
+    # Of nine rows the second and the last are nulls, whose bytes are no text.
+    offsets, data = [0, 1, 2, 3, 4, 5, 6, 7, 8, 9], b"d\xc3ddddde\xc3"
+    assert list(interner.encode(Column(data, offsets, validity=b"\xfd\0"))) == [4, NULL, 4, 4, 4, 4, 4, 5, NULL]
+    assert list(interner.encode(Column(data, offsets, start=1, validity=b"\xfd\0"))) == [NULL, 4, 4, 4, 4, 4, 5, NULL]
+    assert list(interner.encode(Column(data, offsets, start=8, validity=b"\xfd\0"))) == [NULL]
+    assert interner.texts() == ["a", "", "b", "c", "d", "e"]
+    with pytest.raises(TypeError):
+        interner.get_many(["a", None])  # type: ignore[list-item]
+
+
+@pytest.mark.parametrize("kind", [bytes, bytearray, Addressed])
+def test_takes_buffers_of_each_kind(interner: Interner, kind: Any) -> None:
+    column = Column(kind(b"redbluered"), [0, 3, 7, 10])
+    column.starts = kind(column.starts)
+    assert (list(interner.encode(column)), interner.texts()) == ([0, 1, 0], ["red", "blue"])
+    column.offset, column.length = 1, 2
+    assert list(interner.encode(column)) == [1, 0]
+    column.length = 3
+    with pytest.raises(ValueError):
+        interner.encode(column)
+
+
+def test_takes_any_iterable_of_texts(interner: Interner) -> None:
+    assert list(interner.encode(text for text in ["b", "a", "b"])) == [0, 1, 0]
+    assert list(interner.encode({"a": 1, "grün": 2})) == [1, 2]
+    assert interner.encode(["a"]).typecode == "I"
+    assert interner.texts() == ["b", "a", "grün"]
+
+
+def test_takes_arrays_of_numpy(interner: Interner) -> None:
+    numpy = pytest.importorskip("numpy")
+    assert list(interner.encode(numpy.array(["b", "a", "b"]))) == [0, 1, 0]
+    assert list(interner.encode(numpy.array(["grün", "a"], dtype=object))) == [2, 1]
+    codes = numpy.frombuffer(interner.encode(["a", "c"]), dtype=numpy.uint32)
+    assert (codes.tolist(), interner[codes[1]]) == ([1, 3], "c")
+    assert interner.texts() == ["b", "a", "grün", "c"]
+
+
+def test_takes_nothing_but_texts(interner: Interner) -> None:
+    wrongs: list[Any] = ["red", b"red", ["red", 1], [None, 1], [b"red"]]
+    for wrong in wrongs:
+        with pytest.raises(TypeError):
+            interner.encode(wrong)
+    assert len(interner) == 0
+
+
+def test_takes_at_most_the_bytes_that_offsets_can_tell(interner: Interner) -> None:
+    with mock.patch("lasso._MOST_BYTES", 4):
+        with pytest.raises(ValueError):
+            interner.encode(["red", "gr"])
+        assert (len(interner), list(interner.encode(["red", "g"]))) == (0, [0, 1])
+
+
+def test_refuses_what_is_not_utf8_once_encoded(interner: Interner) -> None:
+    with pytest.raises(NotUtf8) as caught:
+        interner.encode(["red", "\ud800", "blue"])
+    assert (caught.value.position, interner.texts()) == (1, ["red"])
+    for call in (interner.intern, interner.get):
+        with pytest.raises(NotUtf8) as caught:
+            call("\ud800")
+        assert caught.value.position is None
+    assert len(interner) == 1
+
+
+def test_keeps_the_texts_before_a_refused_one(interner: Interner) -> None:
+    with pytest.raises(NotUtf8) as caught:
+        interner.encode(Column(b"red\xc3", [0, 3, 4]))
+    assert (caught.value.position, interner.texts()) == (1, ["red"])
+    with pytest.raises(WrongLayout):
+        interner.encode(Column(b"red", [0, 4]))
+
+
+def test_holds_a_limit() -> None:
+    with Interner(limit=4096) as interner:
+        interner.intern("x" * 4096)
+        with pytest.raises(LimitReached):
+            interner.intern("a text of more bytes than an entry")
+        assert (interner.limit, interner.memory, len(interner)) == (4096, 4096, 1)
+        interner.limit = None
+        assert (interner.limit, interner.intern("a text of more bytes than an entry")) == (None, 1)
+        interner.clear()
+        assert (len(interner), interner.intern("b")) == (0, 0)
+
+
+def test_has_no_limit_and_no_code_below_0(interner: Interner) -> None:
+    with pytest.raises(ValueError):
+        Interner(limit=-1)
+    for wrong in (-1, 2**64):
+        with pytest.raises(ValueError):
+            interner.limit = wrong
+    with pytest.raises(ValueError):
+        interner.texts(-1)
+    assert interner.limit is None
+
+
+def test_tells_that_it_is_closed() -> None:
+    interner = Interner()
+    interner.close()
+    interner.close()
+    with pytest.raises(InternerClosed):
+        interner.intern("a")
+    with pytest.raises(LassoError):
+        interner.texts()
+    calls: list[Any] = [
+        interner.clear, interner.texts, lambda: interner.get("a"), lambda: interner.encode(["a"]), lambda: interner.get_many([]),
+    ]
+    for call in calls:
+        with pytest.raises(InternerClosed):
+            call()
+    with pytest.raises(IndexError):
+        interner[0]
+    assert (len(interner), interner.memory, interner.limit) == (0, 0, 0)
+
+
+def test_garbage_is_let_go() -> None:
+    interner = Interner()
+    close = interner._close
+    del interner
+    gc.collect()
+    assert not close.alive
+
+
+def test_has_the_version_of_its_metadata() -> None:
+    metadata = pytest.importorskip("importlib.metadata")
+    try:
+        installed = metadata.version("lasso")
+    except metadata.PackageNotFoundError:
+        pytest.skip("lasso is not installed")
+    assert lasso.__version__ == installed
+
+
+def test_says_which_library_is_missing(tmp_path: Path) -> None:
+    missing = str(tmp_path / "missing.so")
+    folder = str(Path(lasso.__file__).parents[1])
+    run = subprocess.run(
+        [sys.executable, "-c", "import lasso"], env={**os.environ, "LASSO_LIBRARY": missing, "PYTHONPATH": folder},
+        stderr=subprocess.PIPE, text=True, check=False)
+    assert run.returncode == 1
+    assert "ImportError: no shared library of lasso: install it, or name it in LASSO_LIBRARY" in run.stderr
+    assert missing in run.stderr
