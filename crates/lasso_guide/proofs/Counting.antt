@@ -67,7 +67,18 @@ module _ {K : Type 0} (number : K → ℕ) (key_at : ℕ → Option K) where
   refused_later of known later words error past (inr w) =
       let whole : w.front ++ (w.back ++ history past.0) ≡ history later =
       sym (append_assoc w.front w.back (history past.0)) ∙ ap (λ h. h ++ history past.0) w.past_is ∙ sym (history_append known past.0) ∙ ap history past.1 in
-      inr (record w { stand = resolve_seen number of known later w.keys w.before past w.stand; back = w.back ++ history past.0; past_is = whole })
+      inr (record {
+        before = w.before;
+        word = w.word;
+        after = w.after;
+        words_are = w.words_are;
+        keys = w.keys;
+        stand = resolve_seen number of known later w.keys w.before past w.stand;
+        front = w.front;
+        back = w.back ++ history past.0;
+        past_is = whole;
+        refused = w.refused;
+      })
 
   -- so with a share of the words
   pub share_seen : {A : Type 0} (of : InternerId) (known later : List NoteView) (words : List Text) (outcome : Result (Vec K A) LassoErrorKind) → IsPrefix known later → AreKeysOf number key_at of.opening (history known) words outcome → AreKeysOf number key_at of.opening (history later) words outcome
@@ -78,16 +89,33 @@ module _ {K : Type 0} (number : K → ℕ) (key_at : ℕ → Option K) where
   pub refused_first : (opening : Totals) (past : History) (front back : List Text) (error : LassoErrorKind) → IsRefusalOf number key_at opening past front error → IsRefusalOf number key_at opening past (front ++ back) error
   refused_first opening past front back error (inl e) = inl e
   refused_first opening past front back error (inr w) =
-      inr (record w { after = w.after ++ back; words_are = ap (λ (ws : List Text). ws ++ back) w.words_are ∙ append_assoc w.before (w.word ∷ w.after) back })
+      inr (record {
+        before = w.before;
+        word = w.word;
+        after = w.after ++ back;
+        words_are = ap (λ (ws : List Text). ws ++ back) w.words_are ∙ append_assoc w.before (w.word ∷ w.after) back;
+        keys = w.keys;
+        stand = w.stand;
+        front = w.front;
+        back = w.back;
+        past_is = w.past_is;
+        refused = w.refused;
+      })
 
   pub refused_second : (opening : Totals) (past : History) (front back : List Text) (keys : List K) (error : LassoErrorKind) → Resolve number (totals opening past).texts keys front → IsRefusalOf number key_at opening past back error → IsRefusalOf number key_at opening past (front ++ back) error
   refused_second opening past front back keys error stand (inl e) = inl e
   refused_second opening past front back keys error stand (inr w) =
-      inr (record w {
+      inr (record {
         before = front ++ w.before;
+        word = w.word;
+        after = w.after;
         words_are = ap (λ (ws : List Text). front ++ ws) w.words_are ∙ sym (append_assoc front w.before (w.word ∷ w.after));
         keys = keys ++ w.keys;
         stand = resolve_join number (totals opening past).texts keys w.keys front w.before stand w.stand;
+        front = w.front;
+        back = w.back;
+        past_is = w.past_is;
+        refused = w.refused;
       })
 
 -- what holds of the value of an `Ok`, and of the error of an `Err`

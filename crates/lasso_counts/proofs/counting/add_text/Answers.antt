@@ -1,6 +1,6 @@
 use Rattle.std.proofs.Common.{◌∙◌, ap, is_some, refl, sym}
 use Rattle.lasso_columns.proofs.PartLists.{interns_found}
-use Rattle.lasso_counts.proofs.Added.{counted_found, none_is}
+use Rattle.lasso_counts.proofs.Added.{counted_found}
 use Rattle.lasso_counts.proofs.Rest.{found_key}
 use Rattle.lasso_counts.proofs.counting.add_text.Goals as goal
 

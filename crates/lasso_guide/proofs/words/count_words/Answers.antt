@@ -5,15 +5,9 @@ use Rattle.std.proofs.lemmas.Result.{err_from_is_err_and}
 use Rattle.lasso.specs.Replies.{Len, Number}
 use Rattle.lasso.specs.Views.{list_of, seen}
 use Rattle.lasso.proofs.CallingShared.{call_keeps_texts, count_reaches}
-use Rattle.lasso_guide.specs.Words.{AreKeysOf, IsRefusalOf, Resolve}
+use Rattle.lasso_guide.specs.Words.{IsRefusalOf, Resolve}
 use Rattle.lasso_guide.proofs.Counting.{err_at, ok_at, resolve_later, resolve_within, share_seen}
-use Rattle.lasso_guide.proofs.words.count_words.Given.{Over}
 use Rattle.lasso_guide.proofs.words.count_words.Goals as goal
-
--- what the threads did is what the pass has then seen
-learned : (g : Over) (c : goal.After-learn g) → AreKeysOf g.K.Key.number g.K.Key.key_at c.args.rodeo.now.opening (seen c.learn.new.self) (map (λ (w : Bor (List ℕ)). w.now) c.args.words.now) c.intern_by_four-share.result.keys
-learned g c =
-    share_seen g.K.Key.number g.K.Key.key_at c.args.rodeo.now c.intern_by_four-share.result.known.notes c.learn.new.self.notes (map (λ (w : Bor (List ℕ)). w.now) c.args.words.now) c.intern_by_four-share.result.keys c.learn.ensures.known c.intern_by_four-share.ensures.1
 
 pub returns-in_err-keys-clause-refused : goal.returns-in_err-keys-clause-refused
 returns-in_err-keys-clause-refused g c =
@@ -22,9 +16,10 @@ returns-in_err-keys-clause-refused g c =
     let words = map (λ (w : Bor (List ℕ)). w.now) c.args.words.now in
     let opening = c.args.rodeo.now.opening in
     let past = seen c.learn.new.self in
-    let p = err_from_is_err_and c.from_residual-in_err-keys.result c.from_residual-in_err-keys.ensures.1 in
+    let p = err_from_is_err_and c.from_residual.result c.from_residual.ensures.1 in
+    let share = share_seen number key_at c.args.rodeo.now c.intern_by_four-share.result.known.notes c.learn.new.self.notes words c.intern_by_four-share.result.keys c.learn.ensures.known c.intern_by_four-share.ensures.1 in
     let why =
-    err_at (λ keys. Resolve number (list_of c.args.rodeo.now c.learn.new.self.notes) keys.items words) (λ error. IsRefusalOf number key_at opening past words error) c.intern_by_four-share.result.keys c.in_err-keys.field-0.0 (learned g (goal.at.returns-in_err-keys g c).After-learn) c.in_err-keys.was in
+    err_at (λ keys. Resolve number (list_of c.args.rodeo.now c.learn.new.self.notes) keys.items words) (λ error. IsRefusalOf number key_at opening past words error) c.intern_by_four-share.result.keys c.in_err-keys.field-0.0 share c.in_err-keys.was in
     rw (p.1, p.2) why
 
 pub tally-requires : goal.tally-requires

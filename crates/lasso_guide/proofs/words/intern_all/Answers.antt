@@ -32,7 +32,7 @@ loop-word-preserved g c =
 pub returns-in_err-key-clause-keys : goal.returns-in_err-key-clause-keys
 returns-in_err-key-clause-keys g c =
     let all = map (λ (w : Bor Text). w.now) c.args.words.now in
-    let p = err_from_is_err_and c.from_residual-in_err-key.result c.from_residual-in_err-key.ensures.1 in
+    let p = err_from_is_err_and c.from_residual.result c.from_residual.ensures.1 in
     let why =
     refused_here g.K.Key.number g.K.Key.key_at c.args.rodeo.now.opening (seen c.loop-word.pass) (seen c.try_get_or_intern_as.new.pass) c.loop-word.pass.number (take c.loop-word.word-index all) _ _ all c.loop-word.keys.items c.in_err-key.field-0.0 (words_split c.args.words.now c.loop-word.word-index _ c.loop-word-test.true) c.loop-word.invariant.keys c.in_err-key.ensures.call in
     rw (p.1, p.2) why

@@ -11,7 +11,7 @@ returns-in_err-keys g c opening past front back one two =
     let number = g.K.Key.number in
     let key_at = g.K.Key.key_at in
     let list = (totals opening past).texts in
-    let p = err_from_is_err_and c.from_residual-in_err-keys.result c.from_residual-in_err-keys.ensures.1 in
+    let p = err_from_is_err_and c.from_residual.result c.from_residual.ensures.1 in
     let why = err_at (λ keys. Resolve number list keys.items front) (λ error. IsRefusalOf number key_at opening past front error) c.args.first c.in_err-keys.field-0.0 one c.in_err-keys.was in
     rw (p.1, p.2) (refused_first number key_at opening past front back c.in_err-keys.field-0.0 why)
 
