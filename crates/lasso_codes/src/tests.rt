@@ -213,6 +213,17 @@ fn holds<R: AllocGlobal + Threads + Sync>(
     Ok(true)
 }
 
+// Whether the command without a null writes this output for this input, and ends so.
+fn ends_so<R: AllocGlobal + Threads + Sync>(
+    rt: &R,
+    command: Command,
+    (input, output): (&[u8], &[u8]),
+    end: End<'_>,
+    way: &Way,
+) -> Result<bool, Fail> {
+    holds(rt, &(command, None, input, output, end), way)
+}
+
 // Checks the rows, run in this way.
 fn hold_by<R: AllocGlobal + Abort + Threads + Sync>(
     rt: &R,
@@ -241,10 +252,21 @@ fn are_written<R: AllocGlobal + Abort + Threads + Sync>(
     let mut number = 0usize;
     for (input, output) in rows {
         number = number.saturating_add(1);
-        let row = (command, None, *input, *output, WELL);
-        is_so_at(rt, holds(rt, &row, &THROUGH_SHORT_BUFFERS)?, number);
+        let holds = ends_so(rt, command, (input, output), WELL, &THROUGH_SHORT_BUFFERS)?;
+        is_so_at(rt, holds, number);
     }
     Ok(())
+}
+
+// Whether the command writes nothing for this input, and ends with this message and the status 2.
+fn is_damaged<R: AllocGlobal + Threads + Sync>(
+    rt: &R,
+    command: Command,
+    input: &[u8],
+    words: &str,
+) -> Result<bool, Fail> {
+    let end = Some((words, 2));
+    ends_so(rt, command, (input, b""), end, &THROUGH_SHORT_BUFFERS)
 }
 
 // Checks damaged inputs, each with the message. Nothing is written, and the status is 2.
@@ -256,8 +278,7 @@ fn are_damaged<R: AllocGlobal + Abort + Threads + Sync>(
     let mut number = 0usize;
     for (input, words) in rows {
         number = number.saturating_add(1);
-        let row = (command, None, *input, b"".as_slice(), Some((*words, 2)));
-        is_so_at(rt, holds(rt, &row, &THROUGH_SHORT_BUFFERS)?, number);
+        is_so_at(rt, is_damaged(rt, command, input, words)?, number);
     }
     Ok(())
 }

@@ -1,7 +1,7 @@
 //! Long lines, many lines, and limits that are just reached. What has to be written is worked out from the
 //! shape of the lines.
 use super::short::Calls;
-use super::{BINARY, End, GOOD, PLAIN, WELL, Way, hold_by, holds, is_so};
+use super::{BINARY, End, GOOD, PLAIN, WELL, Way, ends_so, hold_by, is_so};
 use crate::arguments::{Command, Settings, Verb};
 use crate::program::BUFFER_SIZE;
 use std::alloc::Global;
@@ -9,8 +9,8 @@ use std::process::Abort;
 use std::test::Fail;
 use std::thread::Threads;
 
-// Texts that come in turn, `times` times each. A text has `len` letters: letter i of text k is the one with the
-// number i + k, and `z` is followed by `a`.
+// Texts that come in turn, `times` times each. A text has `len` letters: letter i of text k is the one with
+// the number i + k, and `z` is followed by `a`.
 #[derive(Clone, Copy)]
 struct Shape {
     texts: u32,
@@ -114,26 +114,49 @@ static LONG_BUFFERS: Way = Way {
     workers: &[1, 3],
 };
 
-// Each verb writes what is worked out, under this limit.
-fn all_is_written<R: AllocGlobal + Abort + Threads + Sync>(
+// `distinct` and `counts` write what is worked out, under this limit.
+fn lines_are_listed<R: AllocGlobal + Abort + Threads + Sync>(
     rt: &R,
-    worked: &Worked,
     limit: usize,
+    lines: &[u8],
+    texts: &[u8],
+    counts: &[u8],
 ) -> Result<(), Fail> {
-    let (text, bytes) = (Settings { limit, ..PLAIN }, Settings { limit, ..BINARY });
-    let distinct = Command::Run(Verb::Distinct, text);
-    let counts = Command::Run(Verb::Counts, text);
-    let encode = Command::Run(Verb::Encode, text);
-    let encode_bytes = Command::Run(Verb::Encode, bytes);
-    let decode = Command::Run(Verb::Decode, text);
-    let merge = Command::Run(Verb::Merge, text);
-    let merge_bytes = Command::Run(Verb::Merge, bytes);
-    let (lines, column, binary) = (&worked.lines, &worked.column, &worked.binary);
+    let settings = Settings { limit, ..PLAIN };
+    let distinct = Command::Run(Verb::Distinct, settings);
+    let counted = Command::Run(Verb::Counts, settings);
     hold_by(
         rt,
         &[
-            (distinct, None, lines, &worked.texts, WELL),
-            (counts, None, lines, &worked.counts, WELL),
+            (distinct, None, lines, texts, WELL),
+            (counted, None, lines, counts, WELL),
+        ],
+        &LONG_BUFFERS,
+    )
+}
+
+// The other verbs write lines, their column, and the column with codes as bytes from each other.
+fn columns_are_written<R: AllocGlobal + Abort + Threads + Sync>(
+    rt: &R,
+    limit: usize,
+    lines: &[u8],
+    column: &[u8],
+    binary: &[u8],
+) -> Result<(), Fail> {
+    let text = Settings { limit, ..PLAIN };
+    let bytes = Settings { limit, ..BINARY };
+    let decode = Command::Run(Verb::Decode, text);
+    let (encode, encode_bytes) = (
+        Command::Run(Verb::Encode, text),
+        Command::Run(Verb::Encode, bytes),
+    );
+    let (merge, merge_bytes) = (
+        Command::Run(Verb::Merge, text),
+        Command::Run(Verb::Merge, bytes),
+    );
+    hold_by(
+        rt,
+        &[
             (encode, None, lines, column, WELL),
             (encode_bytes, None, lines, binary, WELL),
             (decode, None, column, lines, WELL),
@@ -143,6 +166,16 @@ fn all_is_written<R: AllocGlobal + Abort + Threads + Sync>(
         ],
         &LONG_BUFFERS,
     )
+}
+
+// Each verb writes what is worked out, under this limit.
+fn all_is_written<R: AllocGlobal + Abort + Threads + Sync>(
+    rt: &R,
+    worked: &Worked,
+    limit: usize,
+) -> Result<(), Fail> {
+    lines_are_listed(rt, limit, &worked.lines, &worked.texts, &worked.counts)?;
+    columns_are_written(rt, limit, &worked.lines, &worked.column, &worked.binary)
 }
 
 const LONG_LINE: Shape = Shape {
@@ -169,8 +202,8 @@ fn a_hundred_and_fifty_thousand_lines(rt: HostRuntime) -> Result<(), Fail> {
     all_is_written(&rt, &worked, usize::MAX)
 }
 
-// A limit, the number of texts of 4096 bytes that it has room for, and how runs over lines and over columns of
-// one text more end.
+// A limit, the number of texts of 4096 bytes that it has room for, and how runs over lines and over columns
+// of one text more end.
 type Limit = (usize, u32, End<'static>, End<'static>);
 
 static LIMITS: [Limit; 3] = [
@@ -228,8 +261,11 @@ fn ends<R: AllocGlobal + Abort + Threads + Sync>(
     output: &[u8],
     end: End<'_>,
 ) -> Result<(), Fail> {
-    let row = (command, None, input, output, end);
-    is_so(rt, holds(rt, &row, &LONG_BUFFERS)?, "one text more");
+    is_so(
+        rt,
+        ends_so(rt, command, (input, output), end, &LONG_BUFFERS)?,
+        "one text more",
+    );
     Ok(())
 }
 
