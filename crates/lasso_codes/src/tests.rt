@@ -67,7 +67,7 @@ const READ_FAILED: End<'static> = Some(("read failed", 4));
 type Row<'a> = (Command, Option<&'a [u8]>, &'a [u8], &'a [u8], End<'a>);
 
 // How a run calls its reader and its writer, whether a progress line is shown, and the numbers of workers by
-// which a row is run. Verbs without workers take no notice of the number.
+// which a row is run, from 1 on.
 #[derive(Clone, Copy)]
 struct Way {
     reads: Calls,
@@ -110,6 +110,11 @@ struct Ran {
 // Asserts that this holds. `what` names what was looked at.
 fn is_so(rt: &impl Abort, holds: bool, what: &str) {
     assert!(rt; holds, "{what}");
+}
+
+// The same for a row of a table.
+fn is_so_at(rt: &impl Abort, holds: bool, number: usize) {
+    assert!(rt; holds, "row {number}");
 }
 
 // Runs the request over the bytes.
@@ -168,6 +173,11 @@ fn is_as_told(alloc: Global, ran: &Ran, output: &[u8], end: End<'_>) -> Result<b
     Ok(is_end(alloc, &ran.ended, end)? && is_written)
 }
 
+// Whether the command's work may be shared.
+fn takes_workers(command: Command) -> bool {
+    matches!(&command, Command::Run(Verb::Counts | Verb::Encode, _))
+}
+
 // The command with this number of workers.
 fn with_workers(command: Command, workers: usize) -> Command {
     match command {
@@ -184,13 +194,16 @@ fn with_workers(command: Command, workers: usize) -> Command {
     }
 }
 
-// Whether the run is as the row tells, for each number of workers.
+// Whether the run is as the row tells, for each number of workers that the command takes.
 fn holds<R: AllocGlobal + Threads + Sync>(
     rt: &R,
     (command, null, input, output, end): &Row<'_>,
     way: &Way,
 ) -> Result<bool, Fail> {
     for workers in way.workers {
+        if *workers > 1 && !takes_workers(*command) {
+            return Ok(true);
+        }
         let request = Request {
             command: with_workers(*command, *workers),
             null: *null,
@@ -203,6 +216,17 @@ fn holds<R: AllocGlobal + Threads + Sync>(
     Ok(true)
 }
 
+// Whether the command without a null writes this output for this input, and ends so.
+fn ends_so<R: AllocGlobal + Threads + Sync>(
+    rt: &R,
+    command: Command,
+    (input, output): (&[u8], &[u8]),
+    end: End<'_>,
+    way: &Way,
+) -> Result<bool, Fail> {
+    holds(rt, &(command, None, input, output, end), way)
+}
+
 // Checks the rows, run in this way.
 fn hold_by<R: AllocGlobal + Abort + Threads + Sync>(
     rt: &R,
@@ -212,8 +236,7 @@ fn hold_by<R: AllocGlobal + Abort + Threads + Sync>(
     let mut number = 0usize;
     for row in rows {
         number = number.saturating_add(1);
-        let holds = holds(rt, row, way)?;
-        assert!(rt; holds, "row {number}");
+        is_so_at(rt, holds(rt, row, way)?, number);
     }
     Ok(())
 }
@@ -221,4 +244,44 @@ fn hold_by<R: AllocGlobal + Abort + Threads + Sync>(
 // The same through short buffers.
 fn hold<R: AllocGlobal + Abort + Threads + Sync>(rt: &R, rows: &[Row<'_>]) -> Result<(), Fail> {
     hold_by(rt, rows, &THROUGH_SHORT_BUFFERS)
+}
+
+// Checks inputs, each with what the command writes for it. The runs end well.
+fn are_written<R: AllocGlobal + Abort + Threads + Sync>(
+    rt: &R,
+    command: Command,
+    rows: &[(&[u8], &[u8])],
+) -> Result<(), Fail> {
+    let mut number = 0usize;
+    for (input, output) in rows {
+        number = number.saturating_add(1);
+        let holds = ends_so(rt, command, (input, output), WELL, &THROUGH_SHORT_BUFFERS)?;
+        is_so_at(rt, holds, number);
+    }
+    Ok(())
+}
+
+// Whether the command writes nothing for this input, and ends with this message and the status 2.
+fn is_damaged<R: AllocGlobal + Threads + Sync>(
+    rt: &R,
+    command: Command,
+    input: &[u8],
+    words: &str,
+) -> Result<bool, Fail> {
+    let end = Some((words, 2));
+    ends_so(rt, command, (input, b""), end, &THROUGH_SHORT_BUFFERS)
+}
+
+// Checks damaged inputs, each with the message. Nothing is written, and the status is 2.
+fn are_damaged<R: AllocGlobal + Abort + Threads + Sync>(
+    rt: &R,
+    command: Command,
+    rows: &[(&[u8], &str)],
+) -> Result<(), Fail> {
+    let mut number = 0usize;
+    for (input, words) in rows {
+        number = number.saturating_add(1);
+        is_so_at(rt, is_damaged(rt, command, input, words)?, number);
+    }
+    Ok(())
 }

@@ -1,54 +1,36 @@
 //! Columns that are written.
-use super::{ENCODE, ENCODE_BINARY, End, PLAIN, Row, WELL, hold};
+use super::{ENCODE, ENCODE_BINARY, End, PLAIN, Row, WELL, are_written, hold};
 use crate::arguments::{Command, Settings, Verb};
 use std::alloc::Global;
 use std::test::Fail;
 
-static TEXT_COLUMNS: [Row<'static>; 5] = [
-    (ENCODE, None, b"", b"lasso-codes 1 text 0 0\n", WELL),
-    (ENCODE, None, b"\n", b"lasso-codes 1 text 1 1\n\n0\n", WELL),
-    (ENCODE, None, b"a", b"lasso-codes 1 text 1 1\na\n0\n", WELL),
+static TEXT_COLUMNS: [(&[u8], &[u8]); 5] = [
+    (b"", b"lasso-codes 1 text 0 0\n"),
+    (b"\n", b"lasso-codes 1 text 1 1\n\n0\n"),
+    (b"a", b"lasso-codes 1 text 1 1\na\n0\n"),
     (
-        ENCODE,
-        None,
         b"b\na\nb\n\nb\n",
         b"lasso-codes 1 text 3 5\nb\na\n\n0\n1\n0\n2\n0\n",
-        WELL,
     ),
-    (
-        ENCODE,
-        None,
-        b"-\n-\n",
-        b"lasso-codes 1 text 1 2\n-\n0\n0\n",
-        WELL,
-    ),
+    (b"-\n-\n", b"lasso-codes 1 text 1 2\n-\n0\n0\n"),
 ];
 
 #[test]
 fn lines_as_text_columns(rt: HostRuntime) -> Result<(), Fail> {
-    hold(&rt, &TEXT_COLUMNS)
+    are_written(&rt, ENCODE, &TEXT_COLUMNS)
 }
 
-static BINARY_COLUMNS: [Row<'static>; 2] = [
+static BINARY_COLUMNS: [(&[u8], &[u8]); 2] = [
+    (b"", b"lasso-codes 1 binary 0 0\n"),
     (
-        ENCODE_BINARY,
-        None,
-        b"",
-        b"lasso-codes 1 binary 0 0\n",
-        WELL,
-    ),
-    (
-        ENCODE_BINARY,
-        None,
         b"b\na\nb\n",
         b"lasso-codes 1 binary 2 3\nb\na\n\0\0\0\0\x01\0\0\0\0\0\0\0",
-        WELL,
     ),
 ];
 
 #[test]
 fn lines_as_binary_columns(rt: HostRuntime) -> Result<(), Fail> {
-    hold(&rt, &BINARY_COLUMNS)
+    are_written(&rt, ENCODE_BINARY, &BINARY_COLUMNS)
 }
 
 static WITH_NULLS: [Row<'static>; 3] = [

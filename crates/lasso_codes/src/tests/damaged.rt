@@ -1,46 +1,26 @@
 //! Columns that are read back, and damaged columns.
-use super::{DECODE, End, MERGE, Row, THROUGH_SHORT_BUFFERS, WELL, hold, holds, is_so};
-use crate::arguments::Command;
+use super::{DECODE, End, MERGE, Row, WELL, are_damaged, are_written, hold};
 use std::test::Fail;
-use std::thread::Threads;
 
-static COLUMNS: [Row<'static>; 7] = [
-    (DECODE, None, b"", b"", WELL),
-    (DECODE, None, b"lasso-codes 1 text 0 0\n", b"", WELL),
-    (DECODE, None, b"lasso-codes 1 text 1 1\n\n0\n", b"\n", WELL),
+static COLUMNS: [(&[u8], &[u8]); 7] = [
+    (b"", b""),
+    (b"lasso-codes 1 text 0 0\n", b""),
+    (b"lasso-codes 1 text 1 1\n\n0\n", b"\n"),
+    (b"lasso-codes 1 text 2 3\nb\na\n0\n1\n0\n", b"b\na\nb\n"),
+    (b"lasso-codes 1 text 2 1\nb\na\n1\n", b"a\n"),
     (
-        DECODE,
-        None,
-        b"lasso-codes 1 text 2 3\nb\na\n0\n1\n0\n",
-        b"b\na\nb\n",
-        WELL,
-    ),
-    (
-        DECODE,
-        None,
-        b"lasso-codes 1 text 2 1\nb\na\n1\n",
-        b"a\n",
-        WELL,
-    ),
-    (
-        DECODE,
-        None,
         b"lasso-codes 1 binary 2 3\nb\n-\n\x01\0\0\0\0\0\0\0\x01\0\0\0",
         b"-\nb\n-\n",
-        WELL,
     ),
     (
-        DECODE,
-        None,
         b"lasso-codes 1 text 1 2\na\n0\n0\nlasso-codes 1 binary 1 1\nb\n\0\0\0\0lasso-codes 1 text 1 1\nc\n0\n",
         b"a\na\nb\nc\n",
-        WELL,
     ),
 ];
 
 #[test]
 fn lines_of_columns(rt: HostRuntime) -> Result<(), Fail> {
-    hold(&rt, &COLUMNS)
+    are_written(&rt, DECODE, &COLUMNS)
 }
 
 const IS_NULL: End<'static> = Some(("column 1: entry 2 is a null, and --null is missing", 2));
@@ -138,27 +118,10 @@ static DAMAGED: [(&[u8], &str); 24] = [
     ),
 ];
 
-// Whether the command writes nothing for this column, and ends with these words.
-fn is_damaged<R: AllocGlobal + Threads + Sync>(
-    rt: &R,
-    command: Command,
-    input: &[u8],
-    words: &str,
-) -> Result<bool, Fail> {
-    holds(
-        rt,
-        &(command, None, input, b"", Some((words, 2))),
-        &THROUGH_SHORT_BUFFERS,
-    )
-}
-
 #[test]
 fn damaged_columns(rt: HostRuntime) -> Result<(), Fail> {
-    for (input, words) in &DAMAGED {
-        is_so(&rt, is_damaged(&rt, DECODE, input, words)?, words);
-        is_so(&rt, is_damaged(&rt, MERGE, input, words)?, words);
-    }
-    Ok(())
+    are_damaged(&rt, DECODE, &DAMAGED)?;
+    are_damaged(&rt, MERGE, &DAMAGED)
 }
 
 const PAST: End<'static> = Some(("column 2: entry 3 is past the texts", 2));

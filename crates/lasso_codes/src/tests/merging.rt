@@ -1,87 +1,63 @@
 //! Columns that are merged.
-use super::{End, MERGE, MERGE_BINARY, PLAIN, Row, WELL, hold};
+use super::{End, MERGE, MERGE_BINARY, PLAIN, are_damaged, are_written, hold};
 use crate::arguments::{Command, Settings, Verb};
 use std::alloc::Global;
 use std::test::Fail;
 
-static AS_ONE: [Row<'static>; 4] = [
-    (MERGE, None, b"", b"lasso-codes 1 text 0 0\n", WELL),
+static AS_ONE: [(&[u8], &[u8]); 4] = [
+    (b"", b"lasso-codes 1 text 0 0\n"),
     (
-        MERGE,
-        None,
         b"lasso-codes 1 text 2 3\na\nb\n1\n-\n0\n",
         b"lasso-codes 1 text 2 3\na\nb\n1\n-\n0\n",
-        WELL,
     ),
     (
-        MERGE,
-        None,
         b"lasso-codes 1 text 2 2\na\nb\n0\n1\nlasso-codes 1 binary 2 3\nb\nc\n\x01\0\0\0\xff\xff\xff\xff\0\0\0\0",
         b"lasso-codes 1 text 3 5\na\nb\nc\n0\n1\n2\n-\n1\n",
-        WELL,
     ),
     (
-        MERGE,
-        None,
         b"lasso-codes 1 text 1 0\na\nlasso-codes 1 text 0 1\n-\nlasso-codes 1 text 1 1\nb\n0\n",
         b"lasso-codes 1 text 2 2\na\nb\n-\n1\n",
-        WELL,
     ),
 ];
 
 #[test]
 fn columns_as_one(rt: HostRuntime) -> Result<(), Fail> {
-    hold(&rt, &AS_ONE)
+    are_written(&rt, MERGE, &AS_ONE)
 }
 
-static AS_A_BINARY_ONE: [Row<'static>; 1] = [(
-    MERGE_BINARY,
-    None,
+static AS_A_BINARY_ONE: [(&[u8], &[u8]); 1] = [(
     b"lasso-codes 1 text 1 1\na\n0\nlasso-codes 1 text 2 3\nb\na\n0\n-\n1\n",
     b"lasso-codes 1 binary 2 4\na\nb\n\0\0\0\0\x01\0\0\0\xff\xff\xff\xff\0\0\0\0",
-    WELL,
 )];
 
 #[test]
 fn columns_as_a_binary_one(rt: HostRuntime) -> Result<(), Fail> {
-    hold(&rt, &AS_A_BINARY_ONE)
+    are_written(&rt, MERGE_BINARY, &AS_A_BINARY_ONE)
 }
 
 // A damaged column after good ones. Nothing is written.
-static DAMAGED: [Row<'static>; 4] = [
+static DAMAGED: [(&[u8], &str); 4] = [
     (
-        MERGE,
-        None,
         b"lasso-codes 1 text 1 1\na\n0\nlasso-codes 1 text 1 2\na\n-\n1\n",
-        b"",
-        Some(("column 2: entry 2 is past the texts", 2)),
+        "column 2: entry 2 is past the texts",
     ),
     (
-        MERGE,
-        None,
         b"lasso-codes 1 text 1 1\na\n0\nlasso-codes 1 binary 2 0\nb\nb\n",
-        b"",
-        Some(("column 2: text 2 comes twice", 2)),
+        "column 2: text 2 comes twice",
     ),
     (
-        MERGE,
-        None,
         b"lasso-codes 1 text 1 1\na\n0\nlasso-codes 1 text 0 0\n0\n",
-        b"",
-        Some(("column 3: no header", 2)),
+        "column 3: no header",
     ),
     (
-        MERGE,
-        None,
         b"lasso-codes 1 text 2 1\na\nb\n0\nlasso-codes 1 text 1 1\nc\n1\n",
-        b"",
-        Some(("column 2: entry 1 is past the texts", 2)),
+        "column 2: entry 1 is past the texts",
     ),
 ];
 
 #[test]
 fn nothing_before_an_error(rt: HostRuntime) -> Result<(), Fail> {
-    hold(&rt, &DAMAGED)
+    are_damaged(&rt, MERGE, &DAMAGED)
 }
 
 const LIMITED: Settings = Settings {

@@ -111,6 +111,20 @@ fn is_got(outcome: &io::Result<usize>, got: &Got) -> bool {
     }
 }
 
+// Whether reads through a watched reader return this.
+fn are_got(
+    watched: &mut Watched<'_, ShortRead<'_>, FakeTerminal>,
+    buf: &mut [u8],
+    reads: &[Got],
+) -> bool {
+    for got in reads {
+        if !is_got(&watched.read(buf), got) {
+            return false;
+        }
+    }
+    true
+}
+
 // Whether reads of at most a million bytes through a watched reader return this, and then the text is on the
 // terminal, also after the line is wiped once more.
 fn reads_and_shows(
@@ -122,14 +136,9 @@ fn reads_and_shows(
 ) -> Result<bool, Fail> {
     let mut buf = vec![in alloc; 0; 1_000_000]?;
     let mut watched = Watched::new(source, terminal, is_shown);
-    for got in reads {
-        if !is_got(&watched.read(&mut buf), got) {
-            return Ok(false);
-        }
-    }
-    let is_written = terminal.shows(text);
+    let is_read = are_got(&mut watched, &mut buf, reads) && terminal.shows(text);
     watched.wipe();
-    Ok(is_written && terminal.shows(text))
+    Ok(is_read && terminal.shows(text))
 }
 
 static READS: [Got; 4] = [Ok(1_000_000), Ok(1_000_000), Ok(500_000), Ok(0)];

@@ -1,7 +1,7 @@
 //! Long lines, many lines, and limits that are just reached. What has to be written is worked out from the
 //! shape of the lines.
 use super::short::Calls;
-use super::{BINARY, End, GOOD, PLAIN, WELL, Way, hold_by};
+use super::{BINARY, End, GOOD, PLAIN, WELL, Way, ends_so, hold_by, is_so};
 use crate::arguments::{Command, Settings, Verb};
 use crate::program::BUFFER_SIZE;
 use std::alloc::Global;
@@ -9,27 +9,13 @@ use std::process::Abort;
 use std::test::Fail;
 use std::thread::Threads;
 
-// Lines of `texts` texts in turn, from the first on. A text has `len` letters: letter i of text k is the one
-// with the number i + k, and `z` is followed by `a`.
+// Texts that come in turn, `times` times each. A text has `len` letters: letter i of text k is the one with
+// the number i + k, and `z` is followed by `a`.
 #[derive(Clone, Copy)]
 struct Shape {
-    lines: u32,
     texts: u32,
+    times: usize,
     len: u32,
-}
-
-impl Shape {
-    // The text of the line with this number, from 0.
-    fn text_of(&self, line: u32) -> u32 {
-        line % self.texts.max(1)
-    }
-
-    // The number of lines of the text with this number.
-    fn count_of(&self, text: u32) -> u32 {
-        let texts = self.texts.max(1);
-        let more = if text < self.lines % texts { 1 } else { 0 };
-        (self.lines / texts).saturating_add(more)
-    }
 }
 
 // Appends the text with this number, and a line feed.
@@ -40,70 +26,79 @@ fn push_line(bytes: &mut Vec<u8>, text: u32, len: u32) -> Result<(), Fail> {
     Ok(bytes.push(b'\n')?)
 }
 
-// Appends the number, and the byte after it.
-fn push_number(alloc: Global, bytes: &mut Vec<u8>, number: u32, after: u8) -> Result<(), Fail> {
-    bytes.extend_from_slice(format!(in alloc; "{number}")?.as_bytes())?;
-    Ok(bytes.push(after)?)
-}
-
-// The lines.
-fn lines_of(alloc: Global, shape: &Shape) -> Result<Vec<u8>, Fail> {
-    let mut bytes = Vec::new(alloc);
-    for line in 0..shape.lines {
-        push_line(&mut bytes, shape.text_of(line), shape.len)?;
-    }
-    Ok(bytes)
-}
-
-// Appends each text once.
-fn push_texts(bytes: &mut Vec<u8>, shape: &Shape) -> Result<(), Fail> {
-    for text in 0..shape.texts {
-        push_line(bytes, text, shape.len)?;
-    }
-    Ok(())
-}
-
+// Each text once.
 fn texts_of(alloc: Global, shape: &Shape) -> Result<Vec<u8>, Fail> {
     let mut bytes = Vec::new(alloc);
-    push_texts(&mut bytes, shape)?;
-    Ok(bytes)
-}
-
-// Each text after its count. A text with a smaller number is no rarer, and comes first in the order of bytes.
-fn counts_of(alloc: Global, shape: &Shape) -> Result<Vec<u8>, Fail> {
-    let mut bytes = Vec::new(alloc);
     for text in 0..shape.texts {
-        push_number(alloc, &mut bytes, shape.count_of(text), b' ')?;
         push_line(&mut bytes, text, shape.len)?;
     }
     Ok(bytes)
 }
 
-// The header and the dictionary of the column.
-fn front_of(alloc: Global, form: &[u8], shape: &Shape) -> Result<Vec<u8>, Fail> {
+// Each text after its count. Each comes as often as the others, and they are in the order of their bytes.
+fn counts_of(alloc: Global, shape: &Shape) -> Result<Vec<u8>, Fail> {
     let mut bytes = Vec::new(alloc);
-    bytes.extend_from_slice(form)?;
-    push_number(alloc, &mut bytes, shape.texts, b' ')?;
-    push_number(alloc, &mut bytes, shape.lines, b'\n')?;
-    push_texts(&mut bytes, shape)?;
-    Ok(bytes)
-}
-
-fn text_column_of(alloc: Global, shape: &Shape) -> Result<Vec<u8>, Fail> {
-    let mut bytes = front_of(alloc, b"lasso-codes 1 text ", shape)?;
-    for line in 0..shape.lines {
-        push_number(alloc, &mut bytes, shape.text_of(line), b'\n')?;
+    for text in 0..shape.texts {
+        bytes.extend_from_slice(format!(in alloc; "{} ", shape.times)?.as_bytes())?;
+        push_line(&mut bytes, text, shape.len)?;
     }
     Ok(bytes)
 }
 
-// The same with codes as bytes. There are at most 256 texts.
-fn binary_column_of(alloc: Global, shape: &Shape) -> Result<Vec<u8>, Fail> {
-    let mut bytes = front_of(alloc, b"lasso-codes 1 binary ", shape)?;
-    for line in 0..shape.lines {
-        bytes.extend_from_slice(&[shape.text_of(line) as u8, 0, 0, 0])?;
+// The codes of the texts as digits, once.
+fn digits_of(alloc: Global, shape: &Shape) -> Result<Vec<u8>, Fail> {
+    let mut bytes = Vec::new(alloc);
+    for text in 0..shape.texts {
+        bytes.extend_from_slice(format!(in alloc; "{text}\n")?.as_bytes())?;
     }
     Ok(bytes)
+}
+
+// The codes of the texts as bytes, once. There are at most 256.
+fn bytes_of(alloc: Global, shape: &Shape) -> Result<Vec<u8>, Fail> {
+    let mut bytes = Vec::new(alloc);
+    for text in 0..shape.texts {
+        bytes.extend_from_slice(&[(text % 256) as u8, 0, 0, 0])?;
+    }
+    Ok(bytes)
+}
+
+// The column of the texts with these codes.
+fn column_of(
+    alloc: Global,
+    shape: &Shape,
+    form: &str,
+    texts: &[u8],
+    codes: &[u8],
+) -> Result<Vec<u8>, Fail> {
+    let lines = shape.times.saturating_mul(shape.texts as usize);
+    let header = format!(in alloc; "lasso-codes 1 {form} {} {lines}\n", shape.texts)?;
+    let mut column = Vec::new(alloc);
+    column.extend_from_slice(header.as_bytes())?;
+    column.extend_from_slice(texts)?;
+    column.extend_from_slice(&codes.repeat(alloc, shape.times)?)?;
+    Ok(column)
+}
+
+// The lines of a shape, and what the verbs write for them.
+#[derive(Drop)]
+struct Worked {
+    lines: Vec<u8>,
+    texts: Vec<u8>,
+    counts: Vec<u8>,
+    column: Vec<u8>,
+    binary: Vec<u8>,
+}
+
+fn worked_out(alloc: Global, shape: &Shape) -> Result<Worked, Fail> {
+    let texts = texts_of(alloc, shape)?;
+    Ok(Worked {
+        lines: texts.repeat(alloc, shape.times)?,
+        counts: counts_of(alloc, shape)?,
+        column: column_of(alloc, shape, "text", &texts, &digits_of(alloc, shape)?)?,
+        binary: column_of(alloc, shape, "binary", &texts, &bytes_of(alloc, shape)?)?,
+        texts,
+    })
 }
 
 const LONG_BUFFER: Calls = Calls {
@@ -122,109 +117,93 @@ static LONG_BUFFERS: Way = Way {
 // `distinct` and `counts` write what is worked out, under this limit.
 fn lines_are_listed<R: AllocGlobal + Abort + Threads + Sync>(
     rt: &R,
-    shape: &Shape,
     limit: usize,
-) -> Result<(), Fail> {
-    let lines = lines_of(rt.alloc(), shape)?;
-    let texts = texts_of(rt.alloc(), shape)?;
-    let counts = counts_of(rt.alloc(), shape)?;
-    let settings = Settings { limit, ..PLAIN };
-    hold_by(
-        rt,
-        &[
-            (
-                Command::Run(Verb::Distinct, settings),
-                None,
-                &lines,
-                &texts,
-                WELL,
-            ),
-            (
-                Command::Run(Verb::Counts, settings),
-                None,
-                &lines,
-                &counts,
-                WELL,
-            ),
-        ],
-        &LONG_BUFFERS,
-    )
-}
-
-// The lines and their column are written from each other, and the column from itself.
-fn column_is_written<R: AllocGlobal + Abort + Threads + Sync>(
-    rt: &R,
-    settings: Settings,
     lines: &[u8],
-    column: &[u8],
+    texts: &[u8],
+    counts: &[u8],
 ) -> Result<(), Fail> {
+    let settings = Settings { limit, ..PLAIN };
+    let distinct = Command::Run(Verb::Distinct, settings);
+    let counted = Command::Run(Verb::Counts, settings);
     hold_by(
         rt,
         &[
-            (
-                Command::Run(Verb::Encode, settings),
-                None,
-                lines,
-                column,
-                WELL,
-            ),
-            (
-                Command::Run(Verb::Decode, settings),
-                None,
-                column,
-                lines,
-                WELL,
-            ),
-            (
-                Command::Run(Verb::Merge, settings),
-                None,
-                column,
-                column,
-                WELL,
-            ),
+            (distinct, None, lines, texts, WELL),
+            (counted, None, lines, counts, WELL),
         ],
         &LONG_BUFFERS,
     )
 }
 
-// The verbs of columns write what is worked out, under this limit.
+// The other verbs write lines, their column, and the column with codes as bytes from each other.
 fn columns_are_written<R: AllocGlobal + Abort + Threads + Sync>(
     rt: &R,
-    shape: &Shape,
+    limit: usize,
+    lines: &[u8],
+    column: &[u8],
+    binary: &[u8],
+) -> Result<(), Fail> {
+    let text = Settings { limit, ..PLAIN };
+    let bytes = Settings { limit, ..BINARY };
+    let decode = Command::Run(Verb::Decode, text);
+    let (encode, encode_bytes) = (
+        Command::Run(Verb::Encode, text),
+        Command::Run(Verb::Encode, bytes),
+    );
+    let (merge, merge_bytes) = (
+        Command::Run(Verb::Merge, text),
+        Command::Run(Verb::Merge, bytes),
+    );
+    hold_by(
+        rt,
+        &[
+            (encode, None, lines, column, WELL),
+            (encode_bytes, None, lines, binary, WELL),
+            (decode, None, column, lines, WELL),
+            (decode, None, binary, lines, WELL),
+            (merge, None, binary, column, WELL),
+            (merge_bytes, None, column, binary, WELL),
+        ],
+        &LONG_BUFFERS,
+    )
+}
+
+// Each verb writes what is worked out, under this limit.
+fn all_is_written<R: AllocGlobal + Abort + Threads + Sync>(
+    rt: &R,
+    worked: &Worked,
     limit: usize,
 ) -> Result<(), Fail> {
-    let lines = lines_of(rt.alloc(), shape)?;
-    let text = text_column_of(rt.alloc(), shape)?;
-    column_is_written(rt, Settings { limit, ..PLAIN }, &lines, &text)?;
-    let binary = binary_column_of(rt.alloc(), shape)?;
-    column_is_written(rt, Settings { limit, ..BINARY }, &lines, &binary)
+    lines_are_listed(rt, limit, &worked.lines, &worked.texts, &worked.counts)?;
+    columns_are_written(rt, limit, &worked.lines, &worked.column, &worked.binary)
 }
 
 const LONG_LINE: Shape = Shape {
-    lines: 1,
     texts: 1,
+    times: 1,
     len: 2_000_000,
 };
 
 #[test]
 fn a_line_of_two_megabytes(rt: HostRuntime) -> Result<(), Fail> {
-    lines_are_listed(&rt, &LONG_LINE, usize::MAX)?;
-    columns_are_written(&rt, &LONG_LINE, usize::MAX)
+    let worked = worked_out(rt.alloc(), &LONG_LINE)?;
+    all_is_written(&rt, &worked, usize::MAX)
 }
 
 const MANY_LINES: Shape = Shape {
-    lines: 150_000,
-    texts: 7,
+    texts: 6,
+    times: 25_000,
     len: 1,
 };
 
 #[test]
 fn a_hundred_and_fifty_thousand_lines(rt: HostRuntime) -> Result<(), Fail> {
-    lines_are_listed(&rt, &MANY_LINES, usize::MAX)?;
-    columns_are_written(&rt, &MANY_LINES, usize::MAX)
+    let worked = worked_out(rt.alloc(), &MANY_LINES)?;
+    all_is_written(&rt, &worked, usize::MAX)
 }
 
-// A limit, the number of texts of 4096 bytes that it has room for, and how runs of one text more end.
+// A limit, the number of texts of 4096 bytes that it has room for, and how runs over lines and over columns
+// of one text more end.
 type Limit = (usize, u32, End<'static>, End<'static>);
 
 static LIMITS: [Limit; 3] = [
@@ -268,75 +247,66 @@ static LIMITS: [Limit; 3] = [
 
 fn of_buckets(texts: u32) -> Shape {
     Shape {
-        lines: texts,
         texts,
+        times: 1,
         len: 4096,
     }
+}
+
+// The command writes the output for the input, and ends so.
+fn ends<R: AllocGlobal + Abort + Threads + Sync>(
+    rt: &R,
+    command: Command,
+    input: &[u8],
+    output: &[u8],
+    end: End<'_>,
+) -> Result<(), Fail> {
+    is_so(
+        rt,
+        ends_so(rt, command, (input, output), end, &LONG_BUFFERS)?,
+        "one text more",
+    );
+    Ok(())
 }
 
 // One text more than the limit has room for ends the run so. Only `distinct` writes the lines before it.
 fn one_more_is_refused<R: AllocGlobal + Abort + Threads + Sync>(
     rt: &R,
-    (limit, texts, line, text): &Limit,
+    more: &Worked,
+    before: &[u8],
+    limit: &Limit,
 ) -> Result<(), Fail> {
-    let shape = of_buckets(texts.saturating_add(1));
-    let before = texts_of(rt.alloc(), &of_buckets(*texts))?;
-    let lines = lines_of(rt.alloc(), &shape)?;
-    let column = text_column_of(rt.alloc(), &shape)?;
     let settings = Settings {
-        limit: *limit,
+        limit: limit.0,
         ..PLAIN
     };
-    hold_by(
-        rt,
-        &[
-            (
-                Command::Run(Verb::Distinct, settings),
-                None,
-                &lines,
-                &before,
-                *line,
-            ),
-            (
-                Command::Run(Verb::Counts, settings),
-                None,
-                &lines,
-                b"",
-                *line,
-            ),
-            (
-                Command::Run(Verb::Encode, settings),
-                None,
-                &lines,
-                b"",
-                *line,
-            ),
-            (
-                Command::Run(Verb::Decode, settings),
-                None,
-                &column,
-                b"",
-                *text,
-            ),
-            (
-                Command::Run(Verb::Merge, settings),
-                None,
-                &column,
-                b"",
-                *text,
-            ),
-        ],
-        &LONG_BUFFERS,
-    )
+    let distinct = Command::Run(Verb::Distinct, settings);
+    let counts = Command::Run(Verb::Counts, settings);
+    let encode = Command::Run(Verb::Encode, settings);
+    let decode = Command::Run(Verb::Decode, settings);
+    let merge = Command::Run(Verb::Merge, settings);
+    ends(rt, distinct, &more.lines, before, limit.2)?;
+    ends(rt, counts, &more.lines, b"", limit.2)?;
+    ends(rt, encode, &more.lines, b"", limit.2)?;
+    ends(rt, decode, &more.column, b"", limit.3)?;
+    ends(rt, merge, &more.column, b"", limit.3)
+}
+
+// The limit has room for its number of texts, and not for one more.
+fn is_just_reached<R: AllocGlobal + Abort + Threads + Sync>(
+    rt: &R,
+    limit: &Limit,
+) -> Result<(), Fail> {
+    let worked = worked_out(rt.alloc(), &of_buckets(limit.1))?;
+    all_is_written(rt, &worked, limit.0)?;
+    let more = worked_out(rt.alloc(), &of_buckets(limit.1.saturating_add(1)))?;
+    one_more_is_refused(rt, &more, &worked.texts, limit)
 }
 
 #[test]
 fn limits_that_are_just_reached(rt: HostRuntime) -> Result<(), Fail> {
     for limit in &LIMITS {
-        let shape = of_buckets(limit.1);
-        lines_are_listed(&rt, &shape, limit.0)?;
-        columns_are_written(&rt, &shape, limit.0)?;
-        one_more_is_refused(&rt, limit)?;
+        is_just_reached(&rt, limit)?;
     }
     Ok(())
 }

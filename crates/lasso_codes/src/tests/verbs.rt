@@ -2,57 +2,42 @@
 use super::help_texts::{
     COUNTS_HELP, DECODE_HELP, DISTINCT_HELP, ENCODE_HELP, MERGE_HELP, PROGRAM_HELP, PROGRAM_VERSION,
 };
-use super::{COUNTS, DISTINCT, ENCODE, End, PLAIN, Row, WELL, hold, is_so};
+use super::{COUNTS, DISTINCT, ENCODE, End, PLAIN, Row, WELL, are_written, hold, is_so};
 use crate::arguments::{Command, Settings, Verb};
 use crate::help::{HELP, verb_help};
 use std::alloc::Global;
 use std::test::Fail;
 
-static LISTED: [Row<'static>; 7] = [
-    (DISTINCT, None, b"", b"", WELL),
-    (DISTINCT, None, b"\n", b"\n", WELL),
-    (DISTINCT, None, b"a", b"a\n", WELL),
-    (DISTINCT, None, b"b\na\nb\n", b"b\na\n", WELL),
-    (DISTINCT, None, b"\n\na\n\n", b"\na\n", WELL),
+static LISTED: [(&[u8], &[u8]); 7] = [
+    (b"", b""),
+    (b"\n", b"\n"),
+    (b"a", b"a\n"),
+    (b"b\na\nb\n", b"b\na\n"),
+    (b"\n\na\n\n", b"\na\n"),
     (
-        DISTINCT,
-        None,
         b"a long line\nand another\na long line",
         b"a long line\nand another\n",
-        WELL,
     ),
-    (DISTINCT, None, b"a\r\na\na\r\n", b"a\r\na\n", WELL),
+    (b"a\r\na\na\r\n", b"a\r\na\n"),
 ];
 
 #[test]
 fn distinct_lines(rt: HostRuntime) -> Result<(), Fail> {
-    hold(&rt, &LISTED)
+    are_written(&rt, DISTINCT, &LISTED)
 }
 
-static COUNTED: [Row<'static>; 6] = [
-    (COUNTS, None, b"", b"", WELL),
-    (COUNTS, None, b"\n", b"1 \n", WELL),
-    (COUNTS, None, b"b\na\nb", b"2 b\n1 a\n", WELL),
-    (COUNTS, None, b"c\nb\na\n", b"1 a\n1 b\n1 c\n", WELL),
-    (
-        COUNTS,
-        None,
-        b"a\nab\na\nab\n\n\n",
-        b"2 \n2 a\n2 ab\n",
-        WELL,
-    ),
-    (
-        COUNTS,
-        None,
-        b"z\nz\nz\na\na\na\na\na\na\na\na\na\na\n",
-        b"10 a\n3 z\n",
-        WELL,
-    ),
+static COUNTED: [(&[u8], &[u8]); 6] = [
+    (b"", b""),
+    (b"\n", b"1 \n"),
+    (b"b\na\nb", b"2 b\n1 a\n"),
+    (b"c\nb\na\n", b"1 a\n1 b\n1 c\n"),
+    (b"a\nab\na\nab\n\n\n", b"2 \n2 a\n2 ab\n"),
+    (b"z\nz\nz\na\na\na\na\na\na\na\na\na\na\n", b"10 a\n3 z\n"),
 ];
 
 #[test]
 fn counted_lines(rt: HostRuntime) -> Result<(), Fail> {
-    hold(&rt, &COUNTED)
+    are_written(&rt, COUNTS, &COUNTED)
 }
 
 const FIRST_OF_NONE: Command = Command::Run(Verb::Counts, Settings { top: 0, ..PLAIN });
