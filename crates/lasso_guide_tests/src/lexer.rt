@@ -9,7 +9,7 @@ static PIECES: [&str; 12] = [
     "while", "x1", "<", "20", "{", "x1", "=", "x1", "+", "straße", ";", "}",
 ];
 
-// Whether the key's text is this, and whether it is a keyword is this.
+// Whether the key's text is this.
 fn is_named(lexer: &Lexer, key: Spur, word: &str) -> bool {
     lexer.name_of(key) == Some(word)
 }
@@ -24,15 +24,14 @@ fn is_piece(lexer: &Lexer, token: Token<'_>, piece: &str) -> bool {
 }
 
 fn are_pieces(lexer: &Lexer, tokens: &[Token<'_>], pieces: &[&str]) -> bool {
-    if tokens.len() != pieces.len() {
-        return false;
-    }
-    for at in 0..pieces.len() {
-        if !is_piece(lexer, tokens[at], pieces[at]) {
+    let mut at: usize = 0;
+    for token in tokens {
+        if at >= pieces.len() || !is_piece(lexer, *token, pieces[at]) {
             return false;
         }
+        at += 1;
     }
-    true
+    at == pieces.len()
 }
 
 fn new_lexer(alloc: Global) -> LassoResult<Lexer> {
@@ -79,15 +78,14 @@ fn is_word(lexer: &Lexer, token: Token<'_>, word: Word) -> bool {
 }
 
 fn are_words(lexer: &Lexer, tokens: &[Token<'_>]) -> bool {
-    if tokens.len() != WORDS.len() {
-        return false;
-    }
-    for at in 0..WORDS.len() {
-        if !is_word(lexer, tokens[at], WORDS[at]) {
+    let mut at: usize = 0;
+    for token in tokens {
+        if at >= WORDS.len() || !is_word(lexer, *token, WORDS[at]) {
             return false;
         }
+        at += 1;
     }
-    true
+    at == WORDS.len()
 }
 
 fn words_are_told(lexer: &mut Lexer, alloc: Global) -> Result<bool, Fail> {
