@@ -39,6 +39,14 @@ pub fn is_answer<K: Key>(reply: LassoResult<K>, wanted: Answer) -> LassoResult<b
     }
 }
 
+/// Whether this number was found.
+pub fn is_number(found: Option<usize>, number: usize) -> bool {
+    match found {
+        Some(found) => found == number,
+        None => false,
+    }
+}
+
 /// Whether this text was found.
 pub fn is_text(found: Option<&str>, text: &str) -> bool {
     found == Some(text)

@@ -117,6 +117,11 @@ fn two(alloc: Global) -> LassoResult<SpurRodeo> {
     of_texts(alloc, &["red", "green"])
 }
 
+// Makes the calls on a reader of `red` and `green`.
+fn reads_two<R: AllocGlobal + Abort>(rt: &R, looks: &[Look]) -> Result<(), Fail> {
+    reads(rt, reader(two(rt.alloc())), looks)
+}
+
 #[test]
 fn frozen_to_a_reader(rt: HostRuntime) -> Result<(), Fail> {
     static LOOKS: [Look; 2] = [
@@ -136,7 +141,7 @@ fn frozen_to_a_resolver(rt: HostRuntime) -> Result<(), Fail> {
 fn a_reader_frozen_to_a_resolver(rt: HostRuntime) -> Result<(), Fail> {
     static BEFORE: [Look; 1] = [Gets("red", Some(0))];
     static LOOKS: [Look; 1] = [At(0, TryResolves(Some("red")))];
-    reads(&rt, reader(two(rt.alloc())), &BEFORE)?;
+    reads_two(&rt, &BEFORE)?;
     resolves(&rt, thawed(reader(two(rt.alloc()))), &LOOKS)
 }
 
@@ -150,30 +155,33 @@ fn equals_frozen_copy(rodeo: &SpurRodeo, to_a_resolver: bool) -> LassoResult<boo
     })
 }
 
-#[test]
-fn compared_with_a_reader(rt: HostRuntime) -> Result<(), Fail> {
+fn compares<R: AllocGlobal + Abort>(rt: &R, to_a_resolver: bool) -> Result<(), Fail> {
     let rodeo = two(rt.alloc())?;
-    is_so(&rt, equals_frozen_copy(&rodeo, false)?, "the reader");
+    let is_equal = equals_frozen_copy(&rodeo, to_a_resolver)?;
+    is_so(rt, is_equal, "the frozen copy");
     Ok(())
 }
 
 #[test]
+fn compared_with_a_reader(rt: HostRuntime) -> Result<(), Fail> {
+    compares(&rt, false)
+}
+
+#[test]
 fn compared_with_a_resolver(rt: HostRuntime) -> Result<(), Fail> {
-    let rodeo = two(rt.alloc())?;
-    is_so(&rt, equals_frozen_copy(&rodeo, true)?, "the resolver");
-    Ok(())
+    compares(&rt, true)
 }
 
 #[test]
 fn keys_of_a_readers_texts(rt: HostRuntime) -> Result<(), Fail> {
     static LOOKS: [Look; 2] = [Gets("green", Some(1)), Gets("blue", None)];
-    reads(&rt, reader(two(rt.alloc())), &LOOKS)
+    reads_two(&rt, &LOOKS)
 }
 
 #[test]
 fn texts_that_a_reader_has(rt: HostRuntime) -> Result<(), Fail> {
     static LOOKS: [Look; 2] = [Contains("green", true), Contains("blue", false)];
-    reads(&rt, reader(two(rt.alloc())), &LOOKS)
+    reads_two(&rt, &LOOKS)
 }
 
 #[test]
@@ -183,7 +191,7 @@ fn keys_that_a_reader_has(rt: HostRuntime) -> Result<(), Fail> {
         At(0, IsKey(true)),
         At(2, IsKey(false)),
     ];
-    reads(&rt, reader(two(rt.alloc())), &LOOKS)
+    reads_two(&rt, &LOOKS)
 }
 
 #[test]
@@ -193,7 +201,7 @@ fn texts_of_a_readers_keys(rt: HostRuntime) -> Result<(), Fail> {
         At(0, TryResolves(Some("red"))),
         At(2, TryResolves(None)),
     ];
-    reads(&rt, reader(two(rt.alloc())), &LOOKS)
+    reads_two(&rt, &LOOKS)
 }
 
 #[test]
@@ -203,7 +211,7 @@ fn texts_of_keys_that_a_reader_has(rt: HostRuntime) -> Result<(), Fail> {
         At(0, IsKey(true)),
         At(0, Resolves("red")),
     ];
-    reads(&rt, reader(two(rt.alloc())), &LOOKS)
+    reads_two(&rt, &LOOKS)
 }
 
 #[test]
@@ -213,13 +221,13 @@ fn texts_of_a_readers_keys_untested(rt: HostRuntime) -> Result<(), Fail> {
         At(0, IsKey(true)),
         At(0, ResolvesUnchecked("red")),
     ];
-    reads(&rt, reader(two(rt.alloc())), &LOOKS)
+    reads_two(&rt, &LOOKS)
 }
 
 #[test]
 fn how_many_texts_a_reader_has(rt: HostRuntime) -> Result<(), Fail> {
     static LOOKS: [Look; 1] = [Counts(2)];
-    reads(&rt, reader(two(rt.alloc())), &LOOKS)
+    reads_two(&rt, &LOOKS)
 }
 
 #[test]
@@ -228,33 +236,33 @@ fn a_reader_without_a_text(rt: HostRuntime) -> Result<(), Fail> {
     reads(&rt, reader(SpurRodeo::default(rt.alloc())), &LOOKS)
 }
 
-// An interner with `red` alone, as a resolver.
-fn red(alloc: Global) -> LassoResult<SpurRodeoResolver> {
-    resolver(of_texts(alloc, &["red"]))
+// Makes the calls on a resolver of `red`.
+fn resolves_red<R: AllocGlobal + Abort>(rt: &R, looks: &[Look]) -> Result<(), Fail> {
+    resolves(rt, resolver(of_texts(rt.alloc(), &["red"])), looks)
 }
 
 #[test]
 fn keys_that_a_resolver_has(rt: HostRuntime) -> Result<(), Fail> {
     static LOOKS: [Look; 2] = [At(0, IsKey(true)), At(1, IsKey(false))];
-    resolves(&rt, red(rt.alloc()), &LOOKS)
+    resolves_red(&rt, &LOOKS)
 }
 
 #[test]
 fn texts_of_a_resolvers_keys(rt: HostRuntime) -> Result<(), Fail> {
     static LOOKS: [Look; 2] = [At(0, TryResolves(Some("red"))), At(1, TryResolves(None))];
-    resolves(&rt, red(rt.alloc()), &LOOKS)
+    resolves_red(&rt, &LOOKS)
 }
 
 #[test]
 fn texts_of_keys_that_a_resolver_has(rt: HostRuntime) -> Result<(), Fail> {
     static LOOKS: [Look; 2] = [At(0, IsKey(true)), At(0, Resolves("red"))];
-    resolves(&rt, red(rt.alloc()), &LOOKS)
+    resolves_red(&rt, &LOOKS)
 }
 
 #[test]
 fn texts_of_a_resolvers_keys_untested(rt: HostRuntime) -> Result<(), Fail> {
     static LOOKS: [Look; 2] = [At(0, IsKey(true)), At(0, ResolvesUnchecked("red"))];
-    resolves(&rt, red(rt.alloc()), &LOOKS)
+    resolves_red(&rt, &LOOKS)
 }
 
 #[test]

@@ -1,8 +1,10 @@
 //! Each call of the interfaces at each type that has it, and rows of answers through generic code.
 use crate::answers::{all_right, is_so};
-use crate::steps::{
-    NO_BYTES, ONE_TEXT, Step, UNDER_NO_LIMIT, first_wrong, gives_hello, reads_hello,
-};
+use crate::frozen::{reads, resolves};
+use crate::rodeos::KeyLook::TryResolves;
+use crate::rodeos::Look::At;
+use crate::rodeos::{Look, of_hello};
+use crate::steps::{Case, Step, first_wrong, gives_hello, reads_hello, steps_of};
 use lasso::interface::holders::{
     boxed_rodeo_interns_as_one, lent_rodeo_interns_as_one, reader_finds_what_resolves,
     reader_of_boxed_rodeo_knows, reader_of_rodeo_knows, resolver_looks_up_alike,
@@ -18,24 +20,26 @@ use std::process::Abort;
 use std::sync::Wait;
 use std::test::Fail;
 
-/// An interner with `Hello, world!` alone.
-pub fn hello(alloc: Global) -> LassoResult<SpurRodeo> {
-    let mut rodeo: SpurRodeo = Rodeo::new(alloc)?;
-    rodeo.try_get_or_intern("Hello, world!")?;
-    Ok(rodeo)
-}
-
-/// An interner of 10 bytes with `abc`, and then a limit of 0 bytes.
-pub fn limited(alloc: Global) -> LassoResult<SpurRodeo> {
+// An interner of 10 bytes with `abc`, and then a limit of 0 bytes.
+fn limited(alloc: Global) -> LassoResult<SpurRodeo> {
     let mut rodeo: SpurRodeo = Rodeo::with_capacity(alloc, Capacity::for_bytes(10))?;
     rodeo.try_get_or_intern("abc")?;
     rodeo.set_memory_limits(MemoryLimits::new(0));
     Ok(rodeo)
 }
 
-/// An interner of 4 bytes under a limit of 4 bytes, without a text.
-pub fn of_four_bytes(alloc: Global) -> LassoResult<SpurRodeo> {
+// An interner of 4 bytes under a limit of 4 bytes, without a text.
+fn of_four_bytes(alloc: Global) -> LassoResult<SpurRodeo> {
     Rodeo::with_capacity_and_memory_limits(alloc, Capacity::for_bytes(4), MemoryLimits::new(4))
+}
+
+/// The interner with which the test begins.
+pub fn made_for(alloc: Global, case: Case) -> LassoResult<SpurRodeo> {
+    match case {
+        Case::OneText => Rodeo::new(alloc),
+        Case::StaticTexts => limited(alloc),
+        Case::NoBytes => of_four_bytes(alloc),
+    }
 }
 
 // Each function with an interface of one type is the only one of that type: the type's interfaces are proved
@@ -52,13 +56,11 @@ fn in_a_box<R: Wait>(rt: &R, rodeo: &mut Box<SpurRodeo>, steps: &[Step]) -> Lass
     first_wrong::<Spur, _, _>(rt, rodeo, steps)
 }
 
-/// Whether `Hello, world!` is the only text of the reader.
-pub fn is_hello_reader<R: Wait>(rt: &R, reader: &SpurRodeoReader) -> bool {
+fn is_hello_reader<R: Wait>(rt: &R, reader: &SpurRodeoReader) -> bool {
     reads_hello::<Spur, _, _>(rt, reader)
 }
 
-/// Whether `Hello, world!` is the only text of the resolver.
-pub fn is_hello_resolver(resolver: &SpurRodeoResolver) -> bool {
+fn is_hello_resolver(resolver: &SpurRodeoResolver) -> bool {
     gives_hello::<Spur, _>(resolver)
 }
 
@@ -83,74 +85,67 @@ fn runs_by<R: Wait>(
     }
 }
 
-// Makes the calls in order. Afterwards there are this many texts, and the buckets take `usage` bytes.
-fn runs<R: AllocGlobal + Abort + Wait>(
-    rt: &R,
-    holder: Holder,
-    made: LassoResult<SpurRodeo>,
-    steps: &[Step],
-    count: usize,
-    usage: usize,
-) -> Result<(), Fail> {
-    let mut rodeo = Box::new(rt.alloc(), made?)?;
+// How many texts there are after the test, and how many bytes the buckets take.
+fn is_left(rodeo: &SpurRodeo, case: Case) -> bool {
+    let (count, usage) = match case {
+        Case::OneText => (1, 4096),
+        Case::StaticTexts => (4, 10),
+        Case::NoBytes => (3, 4),
+    };
+    rodeo.len() == count && rodeo.current_memory_usage() == usage
+}
+
+fn runs<R: AllocGlobal + Abort + Wait>(rt: &R, holder: Holder, case: Case) -> Result<(), Fail> {
+    let mut rodeo = Box::new(rt.alloc(), made_for(rt.alloc(), case)?)?;
+    let steps = steps_of(case);
     all_right(rt, runs_by(rt, holder, &mut rodeo, steps)?, steps.len());
-    is_so(rt, rodeo.len() == count, "the number of texts");
-    is_so(rt, rodeo.current_memory_usage() == usage, "the usage");
+    is_so(rt, is_left(&*rodeo, case), "the number of texts, the usage");
     Ok(())
 }
 
 #[test]
 fn one_text_through_an_interner(rt: HostRuntime) -> Result<(), Fail> {
-    let made = Rodeo::new(rt.alloc());
-    runs(&rt, Holder::Itself, made, &ONE_TEXT, 1, 4096)
+    runs(&rt, Holder::Itself, Case::OneText)
 }
 
 #[test]
 fn one_text_through_a_lent_interner(rt: HostRuntime) -> Result<(), Fail> {
-    let made = Rodeo::new(rt.alloc());
-    runs(&rt, Holder::Lent, made, &ONE_TEXT, 1, 4096)
+    runs(&rt, Holder::Lent, Case::OneText)
 }
 
 #[test]
 fn one_text_through_an_interner_in_a_box(rt: HostRuntime) -> Result<(), Fail> {
-    let made = Rodeo::new(rt.alloc());
-    runs(&rt, Holder::Boxed, made, &ONE_TEXT, 1, 4096)
+    runs(&rt, Holder::Boxed, Case::OneText)
 }
 
 #[test]
 fn static_texts_through_an_interner(rt: HostRuntime) -> Result<(), Fail> {
-    let made = limited(rt.alloc());
-    runs(&rt, Holder::Itself, made, &UNDER_NO_LIMIT, 4, 10)
+    runs(&rt, Holder::Itself, Case::StaticTexts)
 }
 
 #[test]
 fn static_texts_through_a_lent_interner(rt: HostRuntime) -> Result<(), Fail> {
-    let made = limited(rt.alloc());
-    runs(&rt, Holder::Lent, made, &UNDER_NO_LIMIT, 4, 10)
+    runs(&rt, Holder::Lent, Case::StaticTexts)
 }
 
 #[test]
 fn static_texts_through_an_interner_in_a_box(rt: HostRuntime) -> Result<(), Fail> {
-    let made = limited(rt.alloc());
-    runs(&rt, Holder::Boxed, made, &UNDER_NO_LIMIT, 4, 10)
+    runs(&rt, Holder::Boxed, Case::StaticTexts)
 }
 
 #[test]
 fn static_texts_take_no_bytes_of_an_interner(rt: HostRuntime) -> Result<(), Fail> {
-    let made = of_four_bytes(rt.alloc());
-    runs(&rt, Holder::Itself, made, &NO_BYTES, 3, 4)
+    runs(&rt, Holder::Itself, Case::NoBytes)
 }
 
 #[test]
 fn static_texts_take_no_bytes_of_a_lent_interner(rt: HostRuntime) -> Result<(), Fail> {
-    let made = of_four_bytes(rt.alloc());
-    runs(&rt, Holder::Lent, made, &NO_BYTES, 3, 4)
+    runs(&rt, Holder::Lent, Case::NoBytes)
 }
 
 #[test]
 fn static_texts_take_no_bytes_of_an_interner_in_a_box(rt: HostRuntime) -> Result<(), Fail> {
-    let made = of_four_bytes(rt.alloc());
-    runs(&rt, Holder::Boxed, made, &NO_BYTES, 3, 4)
+    runs(&rt, Holder::Boxed, Case::NoBytes)
 }
 
 /// Whether what each way of freezing gives has `Hello, world!` alone.
@@ -170,7 +165,7 @@ where
 
 #[test]
 fn plain_interners_freeze(rt: HostRuntime) -> Result<(), Fail> {
-    let holds = freezes::<Spur, _, _>(&rt, hello(rt.alloc())?, hello(rt.alloc())?)?;
+    let holds = freezes::<Spur, _, _>(&rt, of_hello(rt.alloc())?, of_hello(rt.alloc())?)?;
     is_so(&rt, holds, "the frozen forms");
     Ok(())
 }
@@ -192,109 +187,145 @@ pub fn shows_resolver(rt: &impl Abort, made: LassoResult<SpurRodeoResolver>) -> 
     Ok(())
 }
 
-// Each call that freezes, by itself.
-fn thawed<R: Wait>(rt: &R, reader: SpurRodeoReader) -> LassoResult<SpurRodeoResolver> {
-    IntoResolver::into_resolver(reader, rt)
+/// How a box is frozen.
+#[derive(Clone, Copy)]
+pub enum Freezing {
+    /// What it holds, by the call for a box.
+    Boxed,
+    /// The box, as what it holds.
+    AsHeld,
+    /// The box in another box, by the call for a box.
+    Twice,
 }
 
-fn thawed_in_a_box<R: Wait>(
+fn boxed(alloc: Global, made: LassoResult<SpurRodeo>) -> LassoResult<Box<SpurRodeo>> {
+    Ok(Box::new(alloc, made?)?)
+}
+
+fn boxed_hello(alloc: Global) -> LassoResult<Box<SpurRodeo>> {
+    boxed(alloc, of_hello(alloc))
+}
+
+fn reader_by<R: AllocGlobal + Wait>(
     rt: &R,
-    reader: Box<SpurRodeoReader>,
-) -> LassoResult<SpurRodeoResolver> {
-    IntoResolver::into_resolver_boxed(reader, rt)
+    made: LassoResult<Box<SpurRodeo>>,
+    freezing: Freezing,
+) -> LassoResult<SpurRodeoReader> {
+    let rodeo = made?;
+    match freezing {
+        Freezing::Boxed => IntoReader::into_reader_boxed(rodeo, rt),
+        Freezing::AsHeld => IntoReader::into_reader(rodeo, rt),
+        Freezing::Twice => IntoReader::into_reader_boxed(Box::new(rt.alloc(), rodeo)?, rt),
+    }
 }
 
-fn reader_of_boxed<R: Wait>(rt: &R, rodeo: Box<SpurRodeo>) -> LassoResult<SpurRodeoReader> {
-    IntoReader::into_reader_boxed(rodeo, rt)
-}
-
-fn resolver_of_boxed<R: Wait>(rt: &R, rodeo: Box<SpurRodeo>) -> LassoResult<SpurRodeoResolver> {
-    IntoResolver::into_resolver_boxed(rodeo, rt)
-}
-
-fn reader_of_box<R: Wait>(rt: &R, rodeo: Box<SpurRodeo>) -> LassoResult<SpurRodeoReader> {
-    IntoReader::into_reader(rodeo, rt)
-}
-
-fn resolver_of_box<R: Wait>(rt: &R, rodeo: Box<SpurRodeo>) -> LassoResult<SpurRodeoResolver> {
-    IntoResolver::into_resolver(rodeo, rt)
-}
-
-fn reader_of_twice<R: Wait>(rt: &R, rodeo: Box<Box<SpurRodeo>>) -> LassoResult<SpurRodeoReader> {
-    IntoReader::into_reader_boxed(rodeo, rt)
-}
-
-fn resolver_of_twice<R: Wait>(
+fn resolver_by<R: AllocGlobal + Wait>(
     rt: &R,
-    rodeo: Box<Box<SpurRodeo>>,
+    made: LassoResult<Box<SpurRodeo>>,
+    freezing: Freezing,
 ) -> LassoResult<SpurRodeoResolver> {
-    IntoResolver::into_resolver_boxed(rodeo, rt)
+    let rodeo = made?;
+    match freezing {
+        Freezing::Boxed => IntoResolver::into_resolver_boxed(rodeo, rt),
+        Freezing::AsHeld => IntoResolver::into_resolver(rodeo, rt),
+        Freezing::Twice => IntoResolver::into_resolver_boxed(Box::new(rt.alloc(), rodeo)?, rt),
+    }
+}
+
+// A frozen box of `Hello, world!` has it alone, as a reader.
+fn freezes_to_reader<R: AllocGlobal + Abort + Wait>(
+    rt: &R,
+    freezing: Freezing,
+) -> Result<(), Fail> {
+    shows_reader(rt, reader_by(rt, boxed_hello(rt.alloc()), freezing))
+}
+
+// The same as a resolver.
+fn freezes_to_resolver<R: AllocGlobal + Abort + Wait>(
+    rt: &R,
+    freezing: Freezing,
+) -> Result<(), Fail> {
+    shows_resolver(rt, resolver_by(rt, boxed_hello(rt.alloc()), freezing))
+}
+
+fn thawed<R: AllocGlobal + Wait>(
+    rt: &R,
+    reader: SpurRodeoReader,
+    in_a_box: bool,
+) -> LassoResult<SpurRodeoResolver> {
+    if in_a_box {
+        IntoResolver::into_resolver_boxed(Box::new(rt.alloc(), reader)?, rt)
+    } else {
+        IntoResolver::into_resolver(reader, rt)
+    }
+}
+
+// The reader, and the resolver that it is frozen to, have `Hello, world!` alone.
+fn freezes_again<R: AllocGlobal + Abort + Wait>(
+    rt: &R,
+    made: LassoResult<SpurRodeoReader>,
+    in_a_box: bool,
+) -> Result<(), Fail> {
+    let reader = made?;
+    is_so(rt, is_hello_reader(rt, &reader), "the reader");
+    shows_resolver(rt, thawed(rt, reader, in_a_box))
+}
+
+fn frozen_hello(alloc: Global) -> LassoResult<SpurRodeoReader> {
+    Ok(of_hello(alloc)?.into_reader())
 }
 
 #[test]
 fn a_reader_is_frozen_again(rt: HostRuntime) -> Result<(), Fail> {
-    let reader = hello(rt.alloc())?.into_reader();
-    is_so(&rt, is_hello_reader(&rt, &reader), "the reader");
-    shows_resolver(&rt, thawed(&rt, reader))
-}
-
-fn boxed_hello(alloc: Global) -> LassoResult<Box<SpurRodeo>> {
-    Ok(Box::new(alloc, hello(alloc)?)?)
-}
-
-fn twice_boxed_hello(alloc: Global) -> LassoResult<Box<Box<SpurRodeo>>> {
-    Ok(Box::new(alloc, boxed_hello(alloc)?)?)
+    freezes_again(&rt, frozen_hello(rt.alloc()), false)
 }
 
 #[test]
 fn a_boxed_interner_freezes_to_a_reader(rt: HostRuntime) -> Result<(), Fail> {
-    let reader = reader_of_boxed(&rt, boxed_hello(rt.alloc())?)?;
-    is_so(&rt, is_hello_reader(&rt, &reader), "the reader");
-    shows_resolver(&rt, thawed_in_a_box(&rt, Box::new(rt.alloc(), reader)?))
+    let reader = reader_by(&rt, boxed_hello(rt.alloc()), Freezing::Boxed);
+    freezes_again(&rt, reader, true)
 }
 
 #[test]
 fn a_boxed_interner_freezes_to_a_resolver(rt: HostRuntime) -> Result<(), Fail> {
-    shows_resolver(&rt, resolver_of_boxed(&rt, boxed_hello(rt.alloc())?))
+    freezes_to_resolver(&rt, Freezing::Boxed)
 }
 
 #[test]
 fn a_box_freezes_as_what_it_holds(rt: HostRuntime) -> Result<(), Fail> {
-    shows_reader(&rt, reader_of_box(&rt, boxed_hello(rt.alloc())?))?;
-    shows_resolver(&rt, resolver_of_box(&rt, boxed_hello(rt.alloc())?))
+    freezes_to_reader(&rt, Freezing::AsHeld)?;
+    freezes_to_resolver(&rt, Freezing::AsHeld)
 }
 
 #[test]
 fn a_box_in_a_box_freezes_to_a_reader(rt: HostRuntime) -> Result<(), Fail> {
-    shows_reader(&rt, reader_of_twice(&rt, twice_boxed_hello(rt.alloc())?))
+    freezes_to_reader(&rt, Freezing::Twice)
 }
 
 #[test]
 fn a_box_in_a_box_freezes_to_a_resolver(rt: HostRuntime) -> Result<(), Fail> {
-    shows_resolver(&rt, resolver_of_twice(&rt, twice_boxed_hello(rt.alloc())?))
+    freezes_to_resolver(&rt, Freezing::Twice)
 }
 
-// A box of an interner with `A` alone.
-fn boxed_a(alloc: Global) -> LassoResult<Box<SpurRodeo>> {
+// An interner with `A` alone.
+fn of_a(alloc: Global) -> LassoResult<SpurRodeo> {
     let mut rodeo: SpurRodeo = Rodeo::new(alloc)?;
     rodeo.try_get_or_intern("A")?;
-    Ok(Box::new(alloc, rodeo)?)
+    Ok(rodeo)
 }
+
+static A_ALONE: [Look; 1] = [At(0, TryResolves(Some("A")))];
 
 #[test]
 fn a_boxed_interner_of_one_text_to_a_reader(rt: HostRuntime) -> Result<(), Fail> {
-    let reader = reader_of_boxed(&rt, boxed_a(rt.alloc())?)?;
-    let found = reader.try_resolve(Spur::default());
-    is_so(&rt, found == Some("A"), "the text");
-    Ok(())
+    let rodeo = boxed(rt.alloc(), of_a(rt.alloc()));
+    reads(&rt, reader_by(&rt, rodeo, Freezing::Boxed), &A_ALONE)
 }
 
 #[test]
 fn a_boxed_interner_of_one_text_to_a_resolver(rt: HostRuntime) -> Result<(), Fail> {
-    let resolver = resolver_of_boxed(&rt, boxed_a(rt.alloc())?)?;
-    let found = resolver.try_resolve(Spur::default());
-    is_so(&rt, found == Some("A"), "the text");
-    Ok(())
+    let rodeo = boxed(rt.alloc(), of_a(rt.alloc()));
+    resolves(&rt, resolver_by(&rt, rodeo, Freezing::Boxed), &A_ALONE)
 }
 
 fn through_what_is_lent<'a>(rt: &impl Wait, mut lent: &'a mut SpurRodeo) -> LassoResult<bool> {
@@ -313,35 +344,41 @@ fn keeps_laws(rt: &impl Wait, rodeo: &mut Box<SpurRodeo>) -> LassoResult<bool> {
 
 #[test]
 fn laws_at_an_interner(rt: HostRuntime) -> Result<(), Fail> {
-    let mut rodeo = Box::new(rt.alloc(), SpurRodeo::new(rt.alloc())?)?;
+    let mut rodeo = boxed(rt.alloc(), Rodeo::new(rt.alloc()))?;
     is_so(&rt, keeps_laws(&rt, &mut rodeo)?, "the laws of interning");
     let knows = reader_of_boxed_rodeo_knows(&rt, rodeo, "d")?;
     is_so(&rt, knows, "the law of freezing");
     Ok(())
 }
 
+// Whether each frozen form knows a text that is interned before.
+fn know_a_text(rt: &impl Wait, alloc: Global) -> LassoResult<bool> {
+    Ok(
+        reader_of_rodeo_knows(rt, of_hello(alloc)?, "a")?
+            && resolver_of_rodeo_knows(rt, of_hello(alloc)?, "a")?
+            && resolver_of_boxed_rodeo_knows(rt, boxed_hello(alloc)?, "a")?,
+    )
+}
+
 #[test]
 fn laws_at_what_is_frozen(rt: HostRuntime) -> Result<(), Fail> {
-    let reader = reader_of_rodeo_knows(&rt, hello(rt.alloc())?, "a")?;
-    is_so(&rt, reader, "a reader");
-    let resolver = resolver_of_rodeo_knows(&rt, hello(rt.alloc())?, "a")?;
-    is_so(&rt, resolver, "a resolver");
-    let boxed = resolver_of_boxed_rodeo_knows(&rt, boxed_hello(rt.alloc())?, "a")?;
-    is_so(&rt, boxed, "a resolver of a box");
+    is_so(&rt, know_a_text(&rt, rt.alloc())?, "the frozen forms");
     Ok(())
 }
 
-fn finds_alike<R: Wait>(rt: &R, reader: &SpurRodeoReader) -> bool {
-    reader_finds_what_resolves(rt, reader, "Hello, world!")
-        && reader_finds_what_resolves(rt, reader, "Goodbye!")
+// Whether the laws hold of the reader, and of the resolver that it is frozen to.
+fn look_up_alike<R: Wait>(rt: &R, made: LassoResult<SpurRodeoReader>) -> LassoResult<bool> {
+    let reader = made?;
+    Ok(
+        reader_finds_what_resolves(rt, &reader, "Hello, world!")
+            && reader_finds_what_resolves(rt, &reader, "Goodbye!")
+            && resolver_looks_up_alike(&reader.into_resolver(), Spur::default()),
+    )
 }
 
 #[test]
 fn laws_at_a_frozen_form(rt: HostRuntime) -> Result<(), Fail> {
-    let reader = hello(rt.alloc())?.into_reader();
-    is_so(&rt, finds_alike(&rt, &reader), "the reader");
-    let resolver = reader.into_resolver();
-    let holds = resolver_looks_up_alike(&resolver, Spur::default());
-    is_so(&rt, holds, "the resolver");
+    let alike = look_up_alike(&rt, frozen_hello(rt.alloc()))?;
+    is_so(&rt, alike, "the frozen forms");
     Ok(())
 }

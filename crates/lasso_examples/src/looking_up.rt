@@ -1,10 +1,11 @@
 //! The examples in the documents of what interns texts and looks them up, alone and in a run of commands, in
-//! tests. Those of `try_get_or_intern`, `get`, `contains_key` and `try_resolve` are scripts of `lasso_replay`.
+//! tests. Those of `try_get_or_intern`, `get`, `contains`, `contains_key`, `try_resolve` and `len` are scripts of
+//! `lasso_replay`.
 use crate::answers::is_so;
 use crate::rodeos::KeyLook::{IsKey, Resolves, ResolvesUnchecked, TryResolves};
-use crate::rodeos::Look::{At, Contains, Counts, IsEmpty};
+use crate::rodeos::Look::{At, IsEmpty};
 use crate::rodeos::Step::{Extends, Interns, Limits, Looks, Uses};
-use crate::rodeos::{Step, runs_on};
+use crate::rodeos::{Step, by_default, runs_on};
 use crate::steps::Way::{Copied, Static, TryCopied, TryStatic};
 use lasso::{Capacity, Command, LassoResult, Reply, Rodeo, Spur, SpurRodeo, run_commands};
 use std::alloc::Global;
@@ -17,7 +18,7 @@ fn interned_by_either_name(rt: HostRuntime) -> Result<(), Fail> {
         Interns(Copied, "Hello, world!", Ok(0)),
         Interns(Copied, "Goodbye!", Ok(1)),
     ];
-    runs_on(&rt, Rodeo::default(rt.alloc()), &STEPS)
+    by_default(&rt, &STEPS)
 }
 
 // Under a limit of 0 bytes a text that is kept as it is needs no bytes.
@@ -39,17 +40,7 @@ fn kept_by_either_name(rt: HostRuntime) -> Result<(), Fail> {
         Interns(Static, "Hello, world!", Ok(0)),
         Interns(Copied, "Hello, world!", Ok(0)),
     ];
-    runs_on(&rt, Rodeo::default(rt.alloc()), &STEPS)
-}
-
-#[test]
-fn texts_that_are_there(rt: HostRuntime) -> Result<(), Fail> {
-    static STEPS: [Step; 3] = [
-        Extends(&["red", "green", "red"]),
-        Looks(Contains("green", true)),
-        Looks(Contains("blue", false)),
-    ];
-    runs_on(&rt, Rodeo::default(rt.alloc()), &STEPS)
+    by_default(&rt, &STEPS)
 }
 
 #[test]
@@ -59,7 +50,7 @@ fn texts_of_keys_that_are_there(rt: HostRuntime) -> Result<(), Fail> {
         Looks(At(0, IsKey(true))),
         Looks(At(0, Resolves("Hello, world!"))),
     ];
-    runs_on(&rt, Rodeo::default(rt.alloc()), &STEPS)
+    by_default(&rt, &STEPS)
 }
 
 #[test]
@@ -69,13 +60,7 @@ fn texts_of_keys_untested(rt: HostRuntime) -> Result<(), Fail> {
         Looks(At(0, IsKey(true))),
         Looks(At(0, ResolvesUnchecked("Hello, world!"))),
     ];
-    runs_on(&rt, Rodeo::default(rt.alloc()), &STEPS)
-}
-
-#[test]
-fn how_many_texts(rt: HostRuntime) -> Result<(), Fail> {
-    static STEPS: [Step; 2] = [Extends(&["red", "green", "red"]), Looks(Counts(2))];
-    runs_on(&rt, Rodeo::default(rt.alloc()), &STEPS)
+    by_default(&rt, &STEPS)
 }
 
 #[test]
@@ -85,7 +70,7 @@ fn no_text(rt: HostRuntime) -> Result<(), Fail> {
         Extends(&["red", "green", "red"]),
         Looks(IsEmpty(false)),
     ];
-    runs_on(&rt, Rodeo::default(rt.alloc()), &STEPS)
+    by_default(&rt, &STEPS)
 }
 
 // The replies to two commands.

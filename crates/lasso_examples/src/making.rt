@@ -1,38 +1,31 @@
 //! The examples in the documents of what makes an interner, fills it, clears it and copies it, in tests. Those
 //! of limits and of the usage are scripts of `lasso_replay`.
-use crate::answers::{is_so, number_of};
+use crate::answers::is_so;
 use crate::rodeos::KeyLook::TryResolves;
 use crate::rodeos::Look::{At, Contains, Counts, IsEmpty};
 use crate::rodeos::Step::{Clears, Extends, HasRoom, Interns, IsLimited, Looks, Uses};
-use crate::rodeos::{Step, of_hello, of_texts, runs, runs_on};
+use crate::rodeos::{Step, by_default, of_hello, of_texts, runs, runs_on};
 use crate::steps::Way::TryCopied;
-use lasso::{Capacity, FixedState, LassoResult, MemoryLimits, MicroSpur, Rodeo, SpurRodeo};
+use lasso::{Capacity, FixedState, Key, LassoResult, MemoryLimits, MicroSpur, Rodeo, SpurRodeo};
 use std::alloc::Global;
 use std::process::Abort;
 use std::test::Fail;
 
 #[test]
 fn made_by_default(rt: HostRuntime) -> Result<(), Fail> {
-    static STEPS: [Step; 2] = [Looks(IsEmpty(true)), Uses(4096)];
-    runs_on(&rt, Rodeo::default(rt.alloc()), &STEPS)
-}
-
-#[test]
-fn no_limit_by_default(rt: HostRuntime) -> Result<(), Fail> {
-    static STEPS: [Step; 1] = [IsLimited(usize::MAX)];
-    runs_on(&rt, Rodeo::default(rt.alloc()), &STEPS)
+    static STEPS: [Step; 3] = [Looks(IsEmpty(true)), Uses(4096), IsLimited(usize::MAX)];
+    by_default(&rt, &STEPS)
 }
 
 // The number of the first text with keys of 8 bits.
-fn first_of_micro(alloc: Global) -> LassoResult<Option<usize>> {
+fn first_of_micro(alloc: Global) -> LassoResult<usize> {
     let mut rodeo: Rodeo<MicroSpur, FixedState, Global> = Rodeo::new(alloc)?;
-    let first = rodeo.try_get_or_intern("Hello, world!")?;
-    Ok(number_of(Some(first)))
+    Ok(rodeo.try_get_or_intern("Hello, world!")?.into_usize())
 }
 
 #[test]
 fn made_for_a_key_type(rt: HostRuntime) -> Result<(), Fail> {
-    is_so(&rt, first_of_micro(rt.alloc())? == Some(0), "the first key");
+    is_so(&rt, first_of_micro(rt.alloc())? == 0, "the first key");
     Ok(())
 }
 
@@ -99,7 +92,7 @@ fn filled_with_more(rt: HostRuntime) -> Result<(), Fail> {
         Looks(Contains("green", true)),
         Looks(Contains("blue", false)),
     ];
-    runs_on(&rt, Rodeo::default(rt.alloc()), &STEPS)
+    by_default(&rt, &STEPS)
 }
 
 #[test]
@@ -122,37 +115,54 @@ fn differ(rodeo: &SpurRodeo, other: &SpurRodeo) -> bool {
     rodeo != other
 }
 
-// Whether the copy is equal before the steps, each of which has to return what it says.
-fn shows_copy(
-    rt: &impl Abort,
-    rodeo: &SpurRodeo,
+// A call that copies an interner.
+#[derive(Clone, Copy)]
+enum Copying {
+    TryClone,
+    Clone,
+    TryCloneFrom,
+    CloneFrom,
+}
+
+// Copies the interner, the last two over one with `blue`.
+fn copy_by(alloc: Global, rodeo: &SpurRodeo, copying: Copying) -> LassoResult<SpurRodeo> {
+    match copying {
+        Copying::TryClone => rodeo.try_clone(),
+        Copying::Clone => rodeo.clone(),
+        Copying::TryCloneFrom => {
+            let mut copy = of_texts(alloc, &["blue"])?;
+            copy.try_clone_from(rodeo)?;
+            Ok(copy)
+        }
+        Copying::CloneFrom => {
+            let mut copy = of_texts(alloc, &["blue"])?;
+            copy.clone_from(rodeo)?;
+            Ok(copy)
+        }
+    }
+}
+
+// Makes the calls on the copy. Afterwards it is equal to what was copied, or differs.
+fn copies<R: AllocGlobal + Abort>(
+    rt: &R,
     made: LassoResult<SpurRodeo>,
+    copying: Copying,
     steps: &[Step],
+    is_equal: bool,
 ) -> Result<(), Fail> {
-    let mut copy = made?;
-    is_so(rt, are_equal(&copy, rodeo), "the copy");
-    runs(rt, &mut copy, steps)
+    let rodeo = made?;
+    let mut copy = copy_by(rt.alloc(), &rodeo, copying)?;
+    runs(rt, &mut copy, steps)?;
+    is_so(rt, are_equal(&copy, &rodeo) == is_equal, "the copy");
+    is_so(rt, differ(&copy, &rodeo) != is_equal, "the difference");
+    Ok(())
 }
 
 // "Hello, world!" has 13 bytes.
 #[test]
 fn copied(rt: HostRuntime) -> Result<(), Fail> {
     static STEPS: [Step; 2] = [Looks(At(0, TryResolves(Some("Hello, world!")))), Uses(13)];
-    let rodeo = of_hello(rt.alloc())?;
-    shows_copy(&rt, &rodeo, rodeo.try_clone(), &STEPS)
-}
-
-// The same of a copy that differs after the steps.
-fn shows_other(
-    rt: &impl Abort,
-    rodeo: &SpurRodeo,
-    made: LassoResult<SpurRodeo>,
-    steps: &[Step],
-) -> Result<(), Fail> {
-    let mut other = made?;
-    runs(rt, &mut other, steps)?;
-    is_so(rt, differ(&other, rodeo), "the other");
-    Ok(())
+    copies(&rt, of_hello(rt.alloc()), Copying::TryClone, &STEPS, true)
 }
 
 #[test]
@@ -161,36 +171,19 @@ fn cloned(rt: HostRuntime) -> Result<(), Fail> {
         Interns(TryCopied, "Goodbye!", Ok(1)),
         Looks(At(0, TryResolves(Some("Hello, world!")))),
     ];
-    let rodeo = of_hello(rt.alloc())?;
-    shows_other(&rt, &rodeo, rodeo.clone(), &STEPS)
-}
-
-// Copies the interner over another one.
-fn copied_over(made: LassoResult<SpurRodeo>, source: &SpurRodeo) -> LassoResult<SpurRodeo> {
-    let mut copy = made?;
-    copy.try_clone_from(source)?;
-    Ok(copy)
-}
-
-// The same by `clone_from`.
-fn cloned_over(made: LassoResult<SpurRodeo>, source: &SpurRodeo) -> LassoResult<SpurRodeo> {
-    let mut copy = made?;
-    copy.clone_from(source)?;
-    Ok(copy)
+    copies(&rt, of_hello(rt.alloc()), Copying::Clone, &STEPS, false)
 }
 
 static NO_BLUE: [Step; 1] = [Looks(Contains("blue", false))];
 
 #[test]
 fn copied_over_another(rt: HostRuntime) -> Result<(), Fail> {
-    let rodeo = of_texts(rt.alloc(), &["red", "green"])?;
-    let made = copied_over(of_texts(rt.alloc(), &["blue"]), &rodeo);
-    shows_copy(&rt, &rodeo, made, &NO_BLUE)
+    let made = of_texts(rt.alloc(), &["red", "green"]);
+    copies(&rt, made, Copying::TryCloneFrom, &NO_BLUE, true)
 }
 
 #[test]
 fn copied_over_another_as_a_clone(rt: HostRuntime) -> Result<(), Fail> {
-    let rodeo = of_texts(rt.alloc(), &["red", "green"])?;
-    let made = cloned_over(of_texts(rt.alloc(), &["blue"]), &rodeo);
-    shows_copy(&rt, &rodeo, made, &NO_BLUE)
+    let made = of_texts(rt.alloc(), &["red", "green"]);
+    copies(&rt, made, Copying::CloneFrom, &NO_BLUE, true)
 }

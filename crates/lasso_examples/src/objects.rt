@@ -1,11 +1,13 @@
 //! Interners and frozen forms whose type is not known where they are used.
 use crate::answers::{Answer, LIMIT, is_answer, is_so, is_text};
-use crate::interfaces::{hello, limited, of_four_bytes};
+use crate::interfaces::made_for;
+use crate::rodeos::of_hello;
+use crate::steps::Case;
 use lasso::interface::object_laws::{
     boxed_object_interns_as_one, boxed_rodeo_object_interns_as_one, object_interns_as_one,
 };
 use lasso::interface::{SpurInterner, SpurReader, SpurResolver};
-use lasso::{LassoResult, Rodeo, Spur, SpurRodeo};
+use lasso::{LassoResult, Spur, SpurRodeo};
 use std::alloc::Global;
 use std::process::Abort;
 use std::test::Fail;
@@ -65,60 +67,50 @@ fn takes_static_texts_first(interner: &mut dyn SpurInterner) -> LassoResult<bool
     )
 }
 
-// What a test does with an interner.
-#[derive(Clone, Copy)]
-enum Calls {
-    OneText,
-    StaticText,
-    StaticTextsFirst,
-}
-
-fn are_right(interner: &mut dyn SpurInterner, calls: Calls) -> LassoResult<bool> {
-    match calls {
-        Calls::OneText => takes_one_text(interner),
-        Calls::StaticText => takes_a_static_text(interner),
-        Calls::StaticTextsFirst => takes_static_texts_first(interner),
+fn are_right(interner: &mut dyn SpurInterner, case: Case) -> LassoResult<bool> {
+    match case {
+        Case::OneText => takes_one_text(interner),
+        Case::StaticTexts => takes_a_static_text(interner),
+        Case::NoBytes => takes_static_texts_first(interner),
     }
 }
 
-// Whether the calls are right, and a law holds of another text.
-fn runs_object(rodeo: &mut SpurRodeo, calls: Calls, text: &str) -> LassoResult<(bool, bool)> {
-    let interner: &mut dyn SpurInterner = rodeo;
-    let right = are_right(interner, calls)?;
-    Ok((right, object_interns_as_one(interner, text)?))
+// A text that is there after the test, and how many bytes the buckets take.
+fn left_by(case: Case) -> (&'static str, usize) {
+    match case {
+        Case::OneText => ("Hello, world!", 4096),
+        Case::StaticTexts => ("abc", 10),
+        Case::NoBytes => ("wxyz", 4),
+    }
 }
 
-// Makes the calls. Afterwards the buckets take `usage` bytes.
-fn runs(
-    rt: &impl Abort,
-    made: LassoResult<SpurRodeo>,
-    calls: Calls,
-    text: &str,
-    usage: usize,
-) -> Result<(), Fail> {
-    let mut rodeo = made?;
-    let (right, is_one) = runs_object(&mut rodeo, calls, text)?;
-    is_so(rt, right, "the calls");
-    is_so(rt, is_one, "the law of interning");
+// Whether the calls are right, and a law holds of the text.
+fn runs_object(rodeo: &mut SpurRodeo, case: Case, text: &str) -> LassoResult<bool> {
+    let interner: &mut dyn SpurInterner = rodeo;
+    Ok(are_right(interner, case)? && object_interns_as_one(interner, text)?)
+}
+
+fn runs<R: AllocGlobal + Abort>(rt: &R, case: Case) -> Result<(), Fail> {
+    let (text, usage) = left_by(case);
+    let mut rodeo = made_for(rt.alloc(), case)?;
+    is_so(rt, runs_object(&mut rodeo, case, text)?, "the calls");
     is_so(rt, rodeo.current_memory_usage() == usage, "the usage");
     Ok(())
 }
 
 #[test]
 fn one_text_through_an_interner(rt: HostRuntime) -> Result<(), Fail> {
-    let made = Rodeo::new(rt.alloc());
-    runs(&rt, made, Calls::OneText, "Hello, world!", 4096)
+    runs(&rt, Case::OneText)
 }
 
 #[test]
 fn static_texts_through_an_interner(rt: HostRuntime) -> Result<(), Fail> {
-    runs(&rt, limited(rt.alloc()), Calls::StaticText, "abc", 10)
+    runs(&rt, Case::StaticTexts)
 }
 
 #[test]
 fn static_texts_take_no_bytes(rt: HostRuntime) -> Result<(), Fail> {
-    let made = of_four_bytes(rt.alloc());
-    runs(&rt, made, Calls::StaticTextsFirst, "wxyz", 4)
+    runs(&rt, Case::NoBytes)
 }
 
 type Object = Box<dyn SpurInterner + Drop>;
@@ -129,14 +121,10 @@ fn boxed(alloc: Global, made: LassoResult<SpurRodeo>) -> LassoResult<Object> {
 }
 
 // Makes the calls on what the box holds. Then a law holds of the box, with a text that is there.
-fn runs_box(
-    rt: &impl Abort,
-    made: LassoResult<Object>,
-    calls: Calls,
-    text: &str,
-) -> Result<(), Fail> {
-    let mut interner = made?;
-    is_so(rt, are_right(&mut *interner, calls)?, "the calls");
+fn runs_box<R: AllocGlobal + Abort>(rt: &R, case: Case) -> Result<(), Fail> {
+    let (text, _usage) = left_by(case);
+    let mut interner = boxed(rt.alloc(), made_for(rt.alloc(), case))?;
+    is_so(rt, are_right(&mut *interner, case)?, "the calls");
     let is_one = boxed_object_interns_as_one(interner, text)?;
     is_so(rt, is_one, "the law of interning");
     Ok(())
@@ -144,13 +132,12 @@ fn runs_box(
 
 #[test]
 fn one_text_through_a_box(rt: HostRuntime) -> Result<(), Fail> {
-    let made = boxed(rt.alloc(), Rodeo::new(rt.alloc()));
-    runs_box(&rt, made, Calls::OneText, "Hello, world!")
+    runs_box(&rt, Case::OneText)
 }
 
 #[test]
 fn a_boxed_rodeo_interns_as_one(rt: HostRuntime) -> Result<(), Fail> {
-    let rodeo = Box::new(rt.alloc(), hello(rt.alloc())?)?;
+    let rodeo = Box::new(rt.alloc(), of_hello(rt.alloc())?)?;
     let is_one = boxed_rodeo_object_interns_as_one(rodeo, "Goodbye!")?;
     is_so(&rt, is_one, "the law of interning");
     Ok(())
@@ -158,14 +145,12 @@ fn a_boxed_rodeo_interns_as_one(rt: HostRuntime) -> Result<(), Fail> {
 
 #[test]
 fn static_texts_through_a_box(rt: HostRuntime) -> Result<(), Fail> {
-    let made = boxed(rt.alloc(), limited(rt.alloc()));
-    runs_box(&rt, made, Calls::StaticText, "abc")
+    runs_box(&rt, Case::StaticTexts)
 }
 
 #[test]
 fn static_texts_take_no_bytes_through_a_box(rt: HostRuntime) -> Result<(), Fail> {
-    let made = boxed(rt.alloc(), of_four_bytes(rt.alloc()));
-    runs_box(&rt, made, Calls::StaticTextsFirst, "wxyz")
+    runs_box(&rt, Case::NoBytes)
 }
 
 // Whether `Hello, world!` is there, and `Goodbye!` is not.
@@ -183,7 +168,7 @@ fn reads_hello(reader: &dyn SpurReader) -> bool {
 
 #[test]
 fn frozen_forms(rt: HostRuntime) -> Result<(), Fail> {
-    let frozen = hello(rt.alloc())?.into_reader();
+    let frozen = of_hello(rt.alloc())?.into_reader();
     is_so(&rt, reads_hello(&frozen), "the reader");
     Ok(())
 }
@@ -197,7 +182,7 @@ fn gives_hello(resolver: &dyn SpurResolver) -> bool {
 
 #[test]
 fn a_frozen_resolver(rt: HostRuntime) -> Result<(), Fail> {
-    let frozen = hello(rt.alloc())?.into_resolver();
+    let frozen = of_hello(rt.alloc())?.into_resolver();
     is_so(&rt, gives_hello(&frozen), "the resolver");
     Ok(())
 }

@@ -1,6 +1,6 @@
 //! The examples in the documents of keys, of JSON, and of capacities, limits and errors, in tests. Those of a
 //! damaged list and of a number that is no key are lines of `lasso_replay`.
-use crate::answers::{is_so, number_of};
+use crate::answers::{is_number, is_so, number_of};
 use crate::rodeos::of_texts;
 use lasso::{
     Capacity, JsonKey, Key, LassoError, LassoErrorKind, MemoryLimits, MicroSpur, Spur, SpurRodeo,
@@ -9,24 +9,25 @@ use serde_json::Value;
 use std::alloc::Global;
 use std::test::Fail;
 
-// The number that the key with this position keeps.
-fn kept(position: usize) -> Option<u32> {
+// Whether the key with this position keeps this number.
+fn keeps(position: usize, number: u32) -> bool {
     match Spur::try_from_usize(position) {
-        Some(key) => Some(key.into_inner()),
-        None => None,
+        Some(key) => key.into_inner() == number,
+        None => false,
     }
 }
 
 // A key of 8 bits keeps its position plus one, which is at most 255.
+fn are_positions() -> bool {
+    is_number(number_of(Spur::try_from_usize(2)), 2)
+        && is_number(number_of(MicroSpur::try_from_usize(254)), 254)
+        && MicroSpur::try_from_usize(255).is_none()
+        && keeps(2, 3)
+}
+
 #[test]
 fn positions_of_keys(rt: HostRuntime) {
-    let third = number_of(Spur::try_from_usize(2));
-    is_so(&rt, third == Some(2), "the third key");
-    let last = number_of(MicroSpur::try_from_usize(254));
-    is_so(&rt, last == Some(254), "the last key of 8 bits");
-    let none = MicroSpur::try_from_usize(255);
-    is_so(&rt, none.is_none(), "no key of 8 bits");
-    is_so(&rt, kept(2) == Some(3), "the kept number");
+    is_so(&rt, are_positions(), "the positions");
 }
 
 // Whether the value is the number 1, and is read as this key.
@@ -60,7 +61,7 @@ fn lists_as_json(rt: HostRuntime) -> Result<(), Fail> {
     let written = is_written(rt.alloc(), &["b", "a"], r#"["b","a"]"#)?;
     is_so(&rt, written, "the array");
     let rodeo = read(rt.alloc(), r#"["b", "a"]"#)?;
-    is_so(&rt, number_of(rodeo.get("b")) == Some(0), "the key");
+    is_so(&rt, is_number(number_of(rodeo.get("b")), 0), "the key");
     Ok(())
 }
 

@@ -148,3 +148,8 @@ pub fn runs_on(rt: &impl Abort, made: LassoResult<SpurRodeo>, steps: &[Step]) ->
     let mut rodeo = made?;
     runs(rt, &mut rodeo, steps)
 }
+
+/// The same on an interner made by `default`.
+pub fn by_default<R: AllocGlobal + Abort>(rt: &R, steps: &[Step]) -> Result<(), Fail> {
+    runs_on(rt, Rodeo::default(rt.alloc()), steps)
+}

@@ -1,7 +1,7 @@
 //! The examples in the documents of the interner that threads share, in tests. That of its maker with limits
 //! is a script of `lasso_replay`.
-use crate::answers::{is_so, is_text};
-use crate::shared_plain::{fresh, runs_on};
+use crate::answers::is_so;
+use crate::shared_plain::{fresh, runs_fresh};
 use lasso::{FixedState, Key, LassoResult, Spur, SpurThreadedRodeo, ThreadedRodeo};
 use lasso_shared_testing::calls::{
     copied, copied_as, found_as, kept_as, pass_of, seen_by, set_limit_as, stands_for, sums_as,
@@ -109,7 +109,7 @@ fn shared_copied(rt: HostRuntime) -> Result<(), Fail> {
         Interns(TryCopied, "Hello, world!", Ok(0)),
         Interns(TryStatic, "Hello, world!", Ok(0)),
     ];
-    runs_on(&rt, fresh(rt.alloc()), &STEPS)
+    runs_fresh(&rt, &STEPS)
 }
 
 #[test]
@@ -130,7 +130,7 @@ fn shared_looked_up(rt: HostRuntime) -> Result<(), Fail> {
         Reads(0, Some("Hello, world!")),
         Counts(1),
     ];
-    runs_on(&rt, fresh(rt.alloc()), &STEPS)
+    runs_fresh(&rt, &STEPS)
 }
 
 #[test]

@@ -2,14 +2,14 @@
 //! list of its own, so the clauses of the interfaces leave it alone: that they answer as its own calls do,
 //! and refuse and copy no more than these, is tested here.
 use crate::answers::{all_right, is_so};
-use crate::interfaces::{freezes, shows_reader, shows_resolver};
-use crate::shared_plain::fresh;
-use crate::steps::{NO_BYTES, NO_KEY_LEFT, ONE_TEXT, Step, UNDER_NO_LIMIT, first_wrong};
+use crate::interfaces::{Freezing, freezes, shows_reader, shows_resolver};
+use crate::shared_plain::{fresh, hello};
+use crate::steps::{Case, NO_KEY_LEFT, Step, first_wrong, steps_of};
 use lasso::interface::laws::{reader_knows, resolver_knows};
 use lasso::interface::{IntoReader, IntoResolver};
 use lasso::{
-    Capacity, FixedState, LassoResult, MemoryLimits, MicroSpur, Spur, SpurThreadedRodeo,
-    ThreadedRodeo,
+    Capacity, FixedState, LassoResult, MemoryLimits, MicroSpur, Spur, SpurRodeoReader,
+    SpurRodeoResolver, SpurThreadedRodeo, ThreadedRodeo,
 };
 use std::alloc::Global;
 use std::process::Abort;
@@ -17,20 +17,13 @@ use std::sync::Wait;
 use std::test::Fail;
 use std::thread::{Threads, join};
 
-/// A shared interner with `Hello, world!` alone.
-fn hello(rt: &impl Wait, alloc: Global) -> LassoResult<SpurThreadedRodeo> {
-    let rodeo: SpurThreadedRodeo = ThreadedRodeo::default(alloc)?;
-    rodeo.try_get_or_intern(rt, "Hello, world!")?;
-    Ok(rodeo)
-}
-
-/// A shared interner of 4 bytes, and a limit of 4.
+// A shared interner of 4 bytes, and a limit of 4.
 fn of_four_bytes(alloc: Global) -> LassoResult<SpurThreadedRodeo> {
     let limits = MemoryLimits::new(4);
     ThreadedRodeo::with_capacity_and_memory_limits(alloc, Capacity::for_bytes(4), limits)
 }
 
-/// A shared interner of 10 bytes with `abc`, and then a limit of 0 bytes.
+// A shared interner of 10 bytes with `abc`, and then a limit of 0 bytes.
 fn limited(rt: &impl Wait, alloc: Global) -> LassoResult<SpurThreadedRodeo> {
     let rodeo: SpurThreadedRodeo = ThreadedRodeo::with_capacity(alloc, Capacity::for_bytes(10))?;
     rodeo.try_get_or_intern(rt, "abc")?;
@@ -48,7 +41,8 @@ fn by_itself<R: Wait>(
     first_wrong::<Spur, _, _>(rt, shared, steps)
 }
 
-fn by_reference<R: Wait>(
+/// How many of the calls, in order, return what they have to through a reference before one does not.
+pub fn by_reference<R: Wait>(
     rt: &R,
     mut shared: &SpurThreadedRodeo,
     steps: &[Step],
@@ -91,89 +85,83 @@ fn runs_by<R: Wait>(
     }
 }
 
-fn takes<R: Abort + Wait>(rt: &R, shared: &SpurThreadedRodeo, usage: usize, limit: usize) {
-    is_so(rt, shared.current_memory_usage(rt) == usage, "the usage");
-    is_so(rt, shared.max_memory_usage(rt) == limit, "the limit");
+// The interner with which the test begins.
+fn made_for(rt: &impl Wait, alloc: Global, case: Case) -> LassoResult<SpurThreadedRodeo> {
+    match case {
+        Case::OneText => fresh(alloc),
+        Case::StaticTexts => limited(rt, alloc),
+        Case::NoBytes => of_four_bytes(alloc),
+    }
 }
 
-// Makes the calls in order. Afterwards the buckets take `usage` bytes under this limit.
-fn runs<R: AllocGlobal + Abort + Wait>(
-    rt: &R,
-    holder: Holder,
-    made: LassoResult<SpurThreadedRodeo>,
-    steps: &[Step],
-    usage: usize,
-    limit: usize,
-) -> Result<(), Fail> {
-    let mut shared = Box::new(rt.alloc(), made?)?;
+// Whether the buckets take the right number of bytes after the test, and the limit is as before.
+fn is_left<R: Wait>(rt: &R, shared: &SpurThreadedRodeo, case: Case) -> bool {
+    let (usage, limit) = match case {
+        Case::OneText => (4096, usize::MAX),
+        Case::StaticTexts => (10, 0),
+        Case::NoBytes => (4, 4),
+    };
+    shared.current_memory_usage(rt) == usage && shared.max_memory_usage(rt) == limit
+}
+
+fn runs<R: AllocGlobal + Abort + Wait>(rt: &R, holder: Holder, case: Case) -> Result<(), Fail> {
+    let mut shared = Box::new(rt.alloc(), made_for(rt, rt.alloc(), case)?)?;
+    let steps = steps_of(case);
     all_right(rt, runs_by(rt, holder, &mut shared, steps)?, steps.len());
-    takes(rt, &*shared, usage, limit);
+    is_so(rt, is_left(rt, &*shared, case), "the usage and the limit");
     Ok(())
-}
-
-// `Hello, world!` in an interner of default capacity without a limit.
-fn runs_one_text<R: AllocGlobal + Abort + Wait>(rt: &R, holder: Holder) -> Result<(), Fail> {
-    runs(rt, holder, fresh(rt.alloc()), &ONE_TEXT, 4096, usize::MAX)
 }
 
 #[test]
 fn one_text_through_an_interner(rt: HostRuntime) -> Result<(), Fail> {
-    runs_one_text(&rt, Holder::Itself)
+    runs(&rt, Holder::Itself, Case::OneText)
 }
 
 #[test]
 fn one_text_through_a_reference(rt: HostRuntime) -> Result<(), Fail> {
-    runs_one_text(&rt, Holder::Reference)
+    runs(&rt, Holder::Reference, Case::OneText)
 }
 
 #[test]
 fn one_text_through_a_lent_interner(rt: HostRuntime) -> Result<(), Fail> {
-    runs_one_text(&rt, Holder::Lent)
+    runs(&rt, Holder::Lent, Case::OneText)
 }
 
 #[test]
 fn one_text_through_an_interner_in_a_box(rt: HostRuntime) -> Result<(), Fail> {
-    runs_one_text(&rt, Holder::Boxed)
-}
-
-fn runs_static_texts<R: AllocGlobal + Abort + Wait>(rt: &R, holder: Holder) -> Result<(), Fail> {
-    runs(rt, holder, limited(rt, rt.alloc()), &UNDER_NO_LIMIT, 10, 0)
+    runs(&rt, Holder::Boxed, Case::OneText)
 }
 
 #[test]
 fn static_texts_through_an_interner(rt: HostRuntime) -> Result<(), Fail> {
-    runs_static_texts(&rt, Holder::Itself)
+    runs(&rt, Holder::Itself, Case::StaticTexts)
 }
 
 #[test]
 fn static_texts_through_a_reference(rt: HostRuntime) -> Result<(), Fail> {
-    runs_static_texts(&rt, Holder::Reference)
+    runs(&rt, Holder::Reference, Case::StaticTexts)
 }
 
 #[test]
 fn static_texts_through_a_lent_interner(rt: HostRuntime) -> Result<(), Fail> {
-    runs_static_texts(&rt, Holder::Lent)
+    runs(&rt, Holder::Lent, Case::StaticTexts)
 }
 
 #[test]
 fn static_texts_through_an_interner_in_a_box(rt: HostRuntime) -> Result<(), Fail> {
-    runs_static_texts(&rt, Holder::Boxed)
-}
-
-fn runs_no_bytes<R: AllocGlobal + Abort + Wait>(rt: &R, holder: Holder) -> Result<(), Fail> {
-    runs(rt, holder, of_four_bytes(rt.alloc()), &NO_BYTES, 4, 4)
+    runs(&rt, Holder::Boxed, Case::StaticTexts)
 }
 
 #[test]
 fn static_texts_take_no_bytes_of_a_shared_interner(rt: HostRuntime) -> Result<(), Fail> {
-    runs_no_bytes(&rt, Holder::Itself)?;
-    runs_no_bytes(&rt, Holder::Reference)
+    runs(&rt, Holder::Itself, Case::NoBytes)?;
+    runs(&rt, Holder::Reference, Case::NoBytes)
 }
 
 #[test]
 fn static_texts_take_no_bytes_of_a_held_shared_interner(rt: HostRuntime) -> Result<(), Fail> {
-    runs_no_bytes(&rt, Holder::Lent)?;
-    runs_no_bytes(&rt, Holder::Boxed)
+    runs(&rt, Holder::Lent, Case::NoBytes)?;
+    runs(&rt, Holder::Boxed, Case::NoBytes)
 }
 
 type SharedMicro = ThreadedRodeo<MicroSpur, FixedState>;
@@ -196,12 +184,19 @@ fn refuses_by_reference<R: Wait>(rt: &R, mut shared: &SharedMicro) -> LassoResul
     first_wrong::<MicroSpur, _, _>(rt, &mut shared, &NO_KEY_LEFT)
 }
 
+// Whether no new text is taken, by the interner and by a reference to it.
+fn is_full<R: Wait>(rt: &R, shared: &mut SharedMicro) -> LassoResult<bool> {
+    Ok(
+        refuses(rt, shared)? == NO_KEY_LEFT.len()
+            && refuses_by_reference(rt, &*shared)? == NO_KEY_LEFT.len()
+            && shared.len() == 255,
+    )
+}
+
 #[test]
 fn no_key_is_left_in_a_shared_interner(rt: HostRuntime) -> Result<(), Fail> {
-    let mut rodeo = full(&rt, rt.alloc())?;
-    all_right(&rt, refuses(&rt, &mut rodeo)?, NO_KEY_LEFT.len());
-    all_right(&rt, refuses_by_reference(&rt, &rodeo)?, NO_KEY_LEFT.len());
-    is_so(&rt, rodeo.len() == 255, "the number of texts");
+    let mut shared = full(&rt, rt.alloc())?;
+    is_so(&rt, is_full(&rt, &mut shared)?, "the refusals");
     Ok(())
 }
 
@@ -254,30 +249,44 @@ fn boxed_hello(rt: &impl Wait, alloc: Global) -> LassoResult<Box<SpurThreadedRod
     Ok(Box::new(alloc, hello(rt, alloc)?)?)
 }
 
-fn twice_boxed_hello(rt: &impl Wait, alloc: Global) -> LassoResult<Box<Box<SpurThreadedRodeo>>> {
-    Ok(Box::new(alloc, boxed_hello(rt, alloc)?)?)
+fn reader_by<R: AllocGlobal + Wait>(rt: &R, freezing: Freezing) -> LassoResult<SpurRodeoReader> {
+    let shared = boxed_hello(rt, rt.alloc())?;
+    match freezing {
+        Freezing::Boxed => IntoReader::into_reader_boxed(shared, rt),
+        Freezing::AsHeld => IntoReader::into_reader(shared, rt),
+        Freezing::Twice => IntoReader::into_reader_boxed(Box::new(rt.alloc(), shared)?, rt),
+    }
+}
+
+fn resolver_by<R: AllocGlobal + Wait>(
+    rt: &R,
+    freezing: Freezing,
+) -> LassoResult<SpurRodeoResolver> {
+    let shared = boxed_hello(rt, rt.alloc())?;
+    match freezing {
+        Freezing::Boxed => IntoResolver::into_resolver_boxed(shared, rt),
+        Freezing::AsHeld => IntoResolver::into_resolver(shared, rt),
+        Freezing::Twice => IntoResolver::into_resolver_boxed(Box::new(rt.alloc(), shared)?, rt),
+    }
+}
+
+// A frozen box of `Hello, world!` has it alone.
+fn freezes_by<R: AllocGlobal + Abort + Wait>(rt: &R, freezing: Freezing) -> Result<(), Fail> {
+    shows_reader(rt, reader_by(rt, freezing))?;
+    shows_resolver(rt, resolver_by(rt, freezing))
 }
 
 #[test]
 fn boxed_shared_interners_freeze(rt: HostRuntime) -> Result<(), Fail> {
-    let boxed = boxed_hello(&rt, rt.alloc())?;
-    shows_reader(&rt, IntoReader::into_reader_boxed(boxed, &rt))?;
-    let boxed = boxed_hello(&rt, rt.alloc())?;
-    shows_resolver(&rt, IntoResolver::into_resolver_boxed(boxed, &rt))
+    freezes_by(&rt, Freezing::Boxed)
 }
 
 #[test]
 fn a_box_freezes_as_what_it_holds(rt: HostRuntime) -> Result<(), Fail> {
-    let boxed = boxed_hello(&rt, rt.alloc())?;
-    shows_reader(&rt, IntoReader::into_reader(boxed, &rt))?;
-    let boxed = boxed_hello(&rt, rt.alloc())?;
-    shows_resolver(&rt, IntoResolver::into_resolver(boxed, &rt))
+    freezes_by(&rt, Freezing::AsHeld)
 }
 
 #[test]
 fn a_box_in_a_box_freezes(rt: HostRuntime) -> Result<(), Fail> {
-    let twice = twice_boxed_hello(&rt, rt.alloc())?;
-    shows_reader(&rt, IntoReader::into_reader_boxed(twice, &rt))?;
-    let twice = twice_boxed_hello(&rt, rt.alloc())?;
-    shows_resolver(&rt, IntoResolver::into_resolver_boxed(twice, &rt))
+    freezes_by(&rt, Freezing::Twice)
 }

@@ -5,17 +5,17 @@ use crate::frozen::{reads, resolves};
 use crate::rodeos::KeyLook::TryResolves;
 use crate::rodeos::Look::{At, Gets};
 use crate::rodeos::{Look, of_texts};
-use crate::shared_plain::{fresh, runs, runs_on};
+use crate::shared_plain::{fresh, hello, runs, runs_on};
 use lasso::{
-    Capacity, LassoResult, MemoryLimits, SpurRodeo, SpurRodeoReader, SpurThreadedRodeo,
-    ThreadedRodeo,
+    Capacity, LassoResult, MemoryLimits, SpurRodeoReader, SpurThreadedRodeo, ThreadedRodeo,
 };
-use lasso_shared_testing::calls::{copied, copied_as, copied_so, pass_of};
+use lasso_shared_testing::calls::{copied_as, pass_of};
 use lasso_shared_testing::steps::Step;
 use lasso_shared_testing::steps::Step::{Counts, Finds, Interns, IsLimited, Limits, Reads};
-use lasso_shared_testing::steps::Way::TryCopied;
+use lasso_shared_testing::steps::Way::{Copied, TryCopied};
 use serde_json::Value;
 use std::alloc::Global;
+use std::process::Abort;
 use std::sync::Wait;
 use std::test::Fail;
 
@@ -66,13 +66,6 @@ fn shared_frozen_with_a_pass(rt: HostRuntime) -> Result<(), Fail> {
     reads(&rt, frozen_as(&rt, fresh(rt.alloc())), &LOOKS)
 }
 
-// A shared interner with `Hello, world!` alone.
-fn hello<R: Wait>(rt: &R, alloc: Global) -> LassoResult<SpurThreadedRodeo> {
-    let shared = fresh(alloc)?;
-    copied(rt, &shared, "Hello, world!")?;
-    Ok(shared)
-}
-
 #[test]
 fn shared_frozen(rt: HostRuntime) -> Result<(), Fail> {
     static LOOKS: [Look; 2] = [
@@ -92,44 +85,64 @@ fn shared_frozen_to_a_resolver(rt: HostRuntime) -> Result<(), Fail> {
 
 static COLOURS: [&str; 2] = ["red", "green"];
 
-fn equals_other<R: Wait>(
-    rt: &R,
-    shared: &SpurThreadedRodeo,
-    made: LassoResult<SpurThreadedRodeo>,
-) -> LassoResult<bool> {
-    let other = made?;
+fn equals_other<R: AllocGlobal + Wait>(rt: &R, shared: &SpurThreadedRodeo) -> LassoResult<bool> {
+    let other = of_items(rt, rt.alloc(), &COLOURS)?;
     Ok(shared.eq_threaded(rt, &other))
+}
+
+fn equals_rodeo<R: AllocGlobal + Wait>(rt: &R, shared: &SpurThreadedRodeo) -> LassoResult<bool> {
+    let rodeo = of_texts(rt.alloc(), &COLOURS)?;
+    Ok(shared.eq_rodeo(rt, &rodeo))
+}
+
+// Compares an interner of two texts with another one of them, of threads or of one thread.
+fn compares<R: AllocGlobal + Abort + Wait>(rt: &R, is_shared: bool) -> Result<(), Fail> {
+    let shared = of_items(rt, rt.alloc(), &COLOURS)?;
+    let is_equal = if is_shared {
+        equals_other(rt, &shared)
+    } else {
+        equals_rodeo(rt, &shared)
+    };
+    is_so(rt, is_equal?, "the other");
+    Ok(())
 }
 
 #[test]
 fn shared_compared(rt: HostRuntime) -> Result<(), Fail> {
-    let shared = of_items(&rt, rt.alloc(), &COLOURS)?;
-    let other = of_items(&rt, rt.alloc(), &COLOURS);
-    is_so(&rt, equals_other(&rt, &shared, other)?, "the other");
-    Ok(())
-}
-
-fn equals_rodeo<R: Wait>(
-    rt: &R,
-    shared: &SpurThreadedRodeo,
-    made: LassoResult<SpurRodeo>,
-) -> LassoResult<bool> {
-    let rodeo = made?;
-    Ok(shared.eq_rodeo(rt, &rodeo))
+    compares(&rt, true)
 }
 
 #[test]
 fn shared_compared_with_a_rodeo(rt: HostRuntime) -> Result<(), Fail> {
-    let shared = of_items(&rt, rt.alloc(), &COLOURS)?;
-    let rodeo = of_texts(rt.alloc(), &COLOURS);
-    is_so(&rt, equals_rodeo(&rt, &shared, rodeo)?, "the rodeo");
-    Ok(())
+    compares(&rt, false)
 }
 
 // Whether the interner is written as this.
 fn is_written(alloc: Global, shared: &SpurThreadedRodeo, wanted: &str) -> Result<bool, Fail> {
     let written = shared.serialize(alloc)?.to_string(alloc)?;
     Ok(written.as_str() == wanted)
+}
+
+// Makes the calls, and writes the interner as this.
+fn writes<R: AllocGlobal + Abort + Wait>(
+    rt: &R,
+    shared: &SpurThreadedRodeo,
+    steps: &[Step],
+    wanted: &str,
+) -> Result<(), Fail> {
+    runs(rt, shared, steps)?;
+    is_so(rt, is_written(rt.alloc(), shared, wanted)?, "the object");
+    Ok(())
+}
+
+// The same on an interner without a text.
+fn writes_fresh<R: AllocGlobal + Abort + Wait>(
+    rt: &R,
+    steps: &[Step],
+    wanted: &str,
+) -> Result<(), Fail> {
+    let shared = fresh(rt.alloc())?;
+    writes(rt, &shared, steps, wanted)
 }
 
 // Whether two texts that a pass interns are written by it as this.
@@ -156,22 +169,14 @@ fn shared_written(rt: HostRuntime) -> Result<(), Fail> {
 
 #[test]
 fn shared_written_with_no_text(rt: HostRuntime) -> Result<(), Fail> {
-    let shared = fresh(rt.alloc())?;
-    is_so(&rt, is_written(rt.alloc(), &shared, "{}")?, "the object");
-    Ok(())
-}
-
-fn keeps_two<R: Wait>(rt: &R, shared: &SpurThreadedRodeo) -> LassoResult<bool> {
-    Ok(copied_so(rt, shared, "b")? == 0 && copied_so(rt, shared, "a")? == 1)
+    static STEPS: [Step; 1] = [Counts(0)];
+    writes_fresh(&rt, &STEPS, "{}")
 }
 
 #[test]
 fn shared_written_without_a_pass(rt: HostRuntime) -> Result<(), Fail> {
-    let shared = fresh(rt.alloc())?;
-    is_so(&rt, keeps_two(&rt, &shared)?, "the keys");
-    let written = is_written(rt.alloc(), &shared, r#"{"a":2,"b":1}"#)?;
-    is_so(&rt, written, "the object");
-    Ok(())
+    static STEPS: [Step; 2] = [Interns(Copied, "b", Ok(0)), Interns(Copied, "a", Ok(1))];
+    writes_fresh(&rt, &STEPS, r#"{"a":2,"b":1}"#)
 }
 
 // A shared interner of 4 bytes and three texts under a limit of 12.
@@ -193,9 +198,8 @@ fn a_shared_interner_of_three_buckets_is_written_and_frozen(rt: HostRuntime) -> 
     ];
     static LOOKS: [Look; 2] = [Look::Counts(4), Gets("yz", Some(3))];
     let shared = three_buckets(&rt, rt.alloc())?;
-    runs(&rt, &shared, &STEPS)?;
     let wanted = r#"{"abc":1,"defghijk":2,"x":3,"yz":4}"#;
-    is_so(&rt, is_written(rt.alloc(), &shared, wanted)?, "the object");
+    writes(&rt, &shared, &STEPS, wanted)?;
     reads(&rt, shared.into_reader(&rt), &LOOKS)
 }
 

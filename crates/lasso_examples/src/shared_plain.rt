@@ -1,9 +1,8 @@
 //! The examples in the documents of the shared interner's makers, and of its calls without a pass, in tests.
-//! Those of its look-ups and of `len` and `set_memory_limits` are scripts of `lasso_replay`.
-use crate::answers::{all_right, is_so};
+//! Those of its look-ups, and of `len`, the usage and limits, are scripts of `lasso_replay`.
+use crate::answers::{all_right, is_so, is_text};
 use lasso::{
-    Capacity, FixedState, Key, LassoResult, MemoryLimits, MicroSpur, SpurThreadedRodeo,
-    ThreadedRodeo,
+    Capacity, FixedState, LassoResult, MemoryLimits, MicroSpur, SpurThreadedRodeo, ThreadedRodeo,
 };
 use lasso_shared_testing::calls::copied;
 use lasso_shared_testing::steps::Step::{Counts, Interns, IsLimited, Reads, Uses};
@@ -17,6 +16,13 @@ use std::test::Fail;
 /// A shared interner without a text.
 pub fn fresh(alloc: Global) -> LassoResult<SpurThreadedRodeo> {
     ThreadedRodeo::default(alloc)
+}
+
+/// A shared interner with `Hello, world!` alone.
+pub fn hello(rt: &impl Wait, alloc: Global) -> LassoResult<SpurThreadedRodeo> {
+    let shared = fresh(alloc)?;
+    copied(rt, &shared, "Hello, world!")?;
+    Ok(shared)
 }
 
 /// Makes the calls in order. Fails the test unless each returns what it has to.
@@ -39,6 +45,11 @@ pub fn runs_on<R: Abort + Wait>(
     runs(rt, &shared, steps)
 }
 
+/// The same on an interner of default capacity without a limit.
+pub fn runs_fresh<R: AllocGlobal + Abort + Wait>(rt: &R, steps: &[Step]) -> Result<(), Fail> {
+    runs_on(rt, fresh(rt.alloc()), steps)
+}
+
 // The number of the first text with keys of 8 bits.
 fn first_of_micro<R: Wait>(rt: &R, alloc: Global) -> LassoResult<usize> {
     let shared: ThreadedRodeo<MicroSpur, FixedState> = ThreadedRodeo::new(alloc)?;
@@ -56,17 +67,16 @@ fn has_cells(made: LassoResult<SpurThreadedRodeo>, strings: usize) -> LassoResul
     Ok(made?.capacity() >= strings)
 }
 
+// A shared interner with cells for 1000 texts.
+fn of_thousand(alloc: Global) -> LassoResult<SpurThreadedRodeo> {
+    ThreadedRodeo::with_capacity(alloc, Capacity::new(1000, 65536))
+}
+
 #[test]
 fn made_with_a_capacity(rt: HostRuntime) -> Result<(), Fail> {
     static STEPS: [Step; 1] = [Uses(65536)];
-    let capacity = Capacity::new(1000, 65536);
-    runs_on(
-        &rt,
-        ThreadedRodeo::with_capacity(rt.alloc(), capacity),
-        &STEPS,
-    )?;
-    let made = ThreadedRodeo::with_capacity(rt.alloc(), capacity);
-    is_so(&rt, has_cells(made, 1000)?, "the cells");
+    runs_on(&rt, of_thousand(rt.alloc()), &STEPS)?;
+    is_so(&rt, has_cells(of_thousand(rt.alloc()), 1000)?, "the cells");
     Ok(())
 }
 
@@ -103,7 +113,7 @@ fn interned_by_either_name(rt: HostRuntime) -> Result<(), Fail> {
         Interns(Copied, "Hello, world!", Ok(0)),
         Interns(TryCopied, "Hello, world!", Ok(0)),
     ];
-    runs_on(&rt, fresh(rt.alloc()), &STEPS)
+    runs_fresh(&rt, &STEPS)
 }
 
 #[test]
@@ -124,7 +134,7 @@ fn kept_by_either_name(rt: HostRuntime) -> Result<(), Fail> {
         Interns(Static, "Hello, world!", Ok(0)),
         Interns(Copied, "Hello, world!", Ok(0)),
     ];
-    runs_on(&rt, fresh(rt.alloc()), &STEPS)
+    runs_fresh(&rt, &STEPS)
 }
 
 #[test]
@@ -133,19 +143,24 @@ fn texts_by_either_name(rt: HostRuntime) -> Result<(), Fail> {
         Interns(TryCopied, "Hello, world!", Ok(0)),
         Reads(0, Some("Hello, world!")),
     ];
-    runs_on(&rt, fresh(rt.alloc()), &STEPS)
+    runs_fresh(&rt, &STEPS)
 }
 
 #[test]
 fn no_text(rt: HostRuntime) -> Result<(), Fail> {
     static STEPS: [Step; 3] = [Counts(0), Interns(TryCopied, "", Ok(0)), Counts(1)];
-    runs_on(&rt, fresh(rt.alloc()), &STEPS)
+    runs_fresh(&rt, &STEPS)
 }
 
 #[test]
 fn cells_ahead(rt: HostRuntime) -> Result<(), Fail> {
     is_so(&rt, has_cells(fresh(rt.alloc()), 50)?, "the cells");
     Ok(())
+}
+
+fn is_red_and_green(shared: &SpurThreadedRodeo) -> bool {
+    let mut strings = shared.strings();
+    is_text(strings.next(), "red") && is_text(strings.next(), "green") && strings.next().is_none()
 }
 
 // Whether a walk gives the texts in the order in which they came.
@@ -156,25 +171,8 @@ fn walks<R: Wait>(rt: &R, made: LassoResult<SpurThreadedRodeo>) -> LassoResult<b
     Ok(is_red_and_green(&shared))
 }
 
-fn is_red_and_green(shared: &SpurThreadedRodeo) -> bool {
-    let mut strings = shared.strings();
-    strings.next() == Some("red") && strings.next() == Some("green") && strings.next().is_none()
-}
-
 #[test]
 fn texts_in_order(rt: HostRuntime) -> Result<(), Fail> {
     is_so(&rt, walks(&rt, fresh(rt.alloc()))?, "the walk");
     Ok(())
-}
-
-#[test]
-fn bytes_of_the_first_bucket(rt: HostRuntime) -> Result<(), Fail> {
-    static STEPS: [Step; 2] = [Interns(TryCopied, "Hello, world!", Ok(0)), Uses(4096)];
-    runs_on(&rt, fresh(rt.alloc()), &STEPS)
-}
-
-#[test]
-fn no_limit_at_first(rt: HostRuntime) -> Result<(), Fail> {
-    static STEPS: [Step; 1] = [IsLimited(usize::MAX)];
-    runs_on(&rt, fresh(rt.alloc()), &STEPS)
 }

@@ -1,8 +1,9 @@
 //! Two threads that use one shared interner through its interfaces.
 use crate::answers::is_so;
+use crate::shared_interfaces::by_reference;
 use crate::shared_plain::fresh;
-use crate::steps::{Way, key_by};
-use lasso::interface::Reader;
+use crate::steps::Step::{Finds, Interns, Keeps};
+use crate::steps::{Step, Way, finds};
 use lasso::{LassoResult, MemoryLimits, Spur, SpurThreadedRodeo};
 use std::alloc::Global;
 use std::sync::Wait;
@@ -26,16 +27,6 @@ fn leaked(alloc: Global, letter: &str) -> Result<Vec<&'static str>, Fail> {
     Ok(texts)
 }
 
-// Interns the text by the call, through a reference.
-fn key_of<R: Wait>(
-    rt: &R,
-    mut shared: &SpurThreadedRodeo,
-    way: Way,
-    text: &'static str,
-) -> LassoResult<Spur> {
-    key_by(rt, &mut shared, way, text)
-}
-
 // Interns the texts through a reference. Returns whether each key resolves to its text.
 fn interns_by<R: Wait>(
     rt: &R,
@@ -44,11 +35,8 @@ fn interns_by<R: Wait>(
     texts: &[&'static str],
 ) -> LassoResult<bool> {
     let mut all = true;
-    for text in texts.iter() {
-        let key = key_of(rt, shared, way, *text)?;
-        if shared.try_resolve(key) != Some(*text) {
-            all = false;
-        }
+    for at in 0..texts.len() {
+        all &= by_reference(rt, shared, &[Keeps(way, texts[at])])? == 1;
     }
     Ok(all)
 }
@@ -97,23 +85,14 @@ fn reads_what_it_sets<R: Wait>(rt: &R, shared: &SpurThreadedRodeo, done: &Atomic
     all
 }
 
-// Whether the text has this key by both look-ups, or is absent.
-fn finds<T: Reader<Spur>, R: Wait>(rt: &R, reader: &T, text: &str, key: Option<Spur>) -> bool {
-    reader.get(rt, text) == key && reader.contains(rt, text) == key.is_some()
-}
-
-// The same through the reader and through a reference to it.
-fn finds_by_both<T: Reader<Spur>, R: Wait>(
+// Whether the text has this number by both look-ups, or is absent.
+fn has_number<R: Wait>(
     rt: &R,
-    reader: &T,
+    shared: &SpurThreadedRodeo,
     text: &str,
-    key: Option<Spur>,
+    number: Option<usize>,
 ) -> bool {
-    finds(rt, reader, text, key) && finds(rt, &reader, text, key)
-}
-
-fn looks_up<R: Wait>(rt: &R, shared: &SpurThreadedRodeo, text: &str, key: Option<Spur>) -> bool {
-    finds_by_both(rt, shared, text, key)
+    finds::<Spur, _, _>(rt, shared, text, number)
 }
 
 // Interns the text by each call, and looks it up, through a reference and through the interner.
@@ -121,15 +100,20 @@ fn has_one_key<R: Wait>(
     rt: &R,
     shared: &SpurThreadedRodeo,
     text: &'static str,
+    number: usize,
 ) -> LassoResult<bool> {
-    let key = key_of(rt, shared, Way::Copied, text)?;
-    let mut all = looks_up(rt, shared, "absent", None);
+    let mut all = has_number(rt, shared, "absent", None)
+        && by_reference(rt, shared, &ABSENT)? == 1
+        && by_reference(rt, shared, &[Interns(Way::Copied, text, Ok(number))])? == 1;
     for way in WAYS {
-        all &= key_of(rt, shared, way, text)? == key;
-        all &= looks_up(rt, shared, text, Some(key));
+        let steps = [Interns(way, text, Ok(number)), Finds(text, Some(number))];
+        all &= by_reference(rt, shared, &steps)? == 2;
+        all &= has_number(rt, shared, text, Some(number));
     }
     Ok(all)
 }
+
+static ABSENT: [Step; 1] = [Finds("absent", None)];
 
 // The same for the first hundred texts. Says when it is done.
 fn have_one_key<R: Wait>(
@@ -139,8 +123,8 @@ fn have_one_key<R: Wait>(
     done: &AtomicBool,
 ) -> bool {
     let mut all = true;
-    for text in texts.iter().take(100) {
-        all &= has_one_key(rt, shared, *text) == Ok(true);
+    for at in 0..texts.len().min(100) {
+        all &= has_one_key(rt, shared, texts[at], at) == Ok(true);
     }
     done.store(true, Ordering::SeqCst);
     all

@@ -1,6 +1,6 @@
 //! Calls of the interfaces as rows, each with what it has to return. One function makes the calls of all rows,
 //! so a test that is a list of rows is proved as fast as one of a single call.
-use crate::answers::{Answer, LIMIT, NO_KEY, is_answer, number_of};
+use crate::answers::{Answer, LIMIT, NO_KEY, is_answer, is_text, number_of};
 use lasso::interface::laws::{finds_what_resolves, interns_as_one, looks_up_alike};
 use lasso::interface::{Interner, Reader, Resolver};
 use lasso::{Key, LassoResult};
@@ -15,8 +15,8 @@ pub enum Way {
     Static,
 }
 
-/// Interns the text by the call.
-pub fn key_by<K: Key, R: Wait, I: Interner<K>>(
+// Interns the text by the call.
+fn key_by<K: Key, R: Wait, I: Interner<K>>(
     rt: &R,
     interner: &mut I,
     way: Way,
@@ -43,14 +43,16 @@ pub enum Step {
     ReadsHello,
     /// Interns the text twice and looks it up, as a law of `lasso` does.
     InternsAsOne(&'static str),
+    /// Interns the text by the call. Its key stands for it.
+    Keeps(Way, &'static str),
 }
 
-use Step::{Counts, Finds, Interns, InternsAsOne, ReadsHello};
+use Step::{Counts, Finds, Interns, InternsAsOne, Keeps, ReadsHello};
 use Way::{Copied, Static, TryCopied, TryStatic};
 
-/// `Hello, world!` by each of the four intern calls into an interner without a text, and then all that a
-/// reader says of it.
-pub static ONE_TEXT: [Step; 8] = [
+// `Hello, world!` by each of the four intern calls into an interner without a text, and then all that a reader
+// says of it.
+static ONE_TEXT: [Step; 8] = [
     Counts(0),
     Interns(TryCopied, "Hello, world!", Ok(0)),
     Interns(TryCopied, "Hello, world!", Ok(0)),
@@ -61,9 +63,9 @@ pub static ONE_TEXT: [Step; 8] = [
     InternsAsOne("Hello, world!"),
 ];
 
-/// What an interner of 10 bytes with `abc` alone returns under a limit of 0 bytes: the limit refuses a copied
-/// text alone.
-pub static UNDER_NO_LIMIT: [Step; 9] = [
+// What an interner of 10 bytes with `abc` alone returns under a limit of 0 bytes: the limit refuses a copied
+// text alone.
+static UNDER_NO_LIMIT: [Step; 9] = [
     Finds("abc", Some(0)),
     Finds("defg", None),
     Interns(Copied, "defg", Ok(1)),
@@ -75,8 +77,8 @@ pub static UNDER_NO_LIMIT: [Step; 9] = [
     Counts(4),
 ];
 
-/// Two static texts beside 4 free bytes under a limit of 4: they leave all 4 to a copied text.
-pub static NO_BYTES: [Step; 5] = [
+// Two static texts beside 4 free bytes under a limit of 4: they leave all 4 to a copied text.
+static NO_BYTES: [Step; 5] = [
     Interns(TryStatic, "abcd", Ok(0)),
     Interns(Static, "efgh", Ok(1)),
     Interns(Copied, "wxyz", Ok(2)),
@@ -93,8 +95,28 @@ pub static NO_KEY_LEFT: [Step; 5] = [
     Finds("new", None),
 ];
 
-// Whether the text has this number, or is absent.
-fn finds<K: Key, R: Wait, T: Reader<K>>(
+/// What a test does with an interner.
+#[derive(Clone, Copy)]
+pub enum Case {
+    /// Interns `Hello, world!` into an interner of default capacity.
+    OneText,
+    /// Interns more texts after `abc` into an interner of 10 bytes, under a limit of 0.
+    StaticTexts,
+    /// Interns into an interner of 4 bytes, under a limit of 4.
+    NoBytes,
+}
+
+/// The calls of the test.
+pub fn steps_of(case: Case) -> &'static [Step] {
+    match case {
+        Case::OneText => &ONE_TEXT,
+        Case::StaticTexts => &UNDER_NO_LIMIT,
+        Case::NoBytes => &NO_BYTES,
+    }
+}
+
+/// Whether the text has this number, or is absent.
+pub fn finds<K: Key, R: Wait, T: Reader<K>>(
     rt: &R,
     reader: &T,
     text: &str,
@@ -149,6 +171,17 @@ pub fn reads_hello<K: Key, R: Wait, T: Reader<K>>(rt: &R, reader: &T) -> bool {
     has_hello::<K, R, T>(rt, reader) && has_hello::<K, R, &T>(rt, &reader)
 }
 
+// Whether the text's key stands for it.
+fn keeps<K: Key, R: Wait, I: Interner<K>>(
+    rt: &R,
+    interner: &mut I,
+    way: Way,
+    text: &'static str,
+) -> LassoResult<bool> {
+    let key = key_by(rt, interner, way, text)?;
+    Ok(is_text(interner.try_resolve(key), text))
+}
+
 // Makes the call. Returns whether it returned what it has to. Out of memory is an error.
 fn is_right<K: Key, R: Wait, I: Interner<K>>(
     rt: &R,
@@ -161,6 +194,7 @@ fn is_right<K: Key, R: Wait, I: Interner<K>>(
         Counts(count) => Ok(counts(interner, count)),
         ReadsHello => Ok(reads_hello(rt, interner)),
         InternsAsOne(text) => interns_as_one(rt, interner, text),
+        Keeps(way, text) => keeps(rt, interner, way, text),
     }
 }
 

@@ -1,5 +1,5 @@
 //! The examples in the documents of walks over texts, in tests.
-use crate::answers::is_so;
+use crate::answers::{is_so, is_text};
 use crate::rodeos::of_texts;
 use lasso::{Spur, SpurRodeo};
 use std::process::Abort;
@@ -20,41 +20,45 @@ enum Walk {
 fn loops(rodeo: &SpurRodeo) -> bool {
     let mut all = true;
     for (key, text) in rodeo {
-        all &= rodeo.try_resolve(key) == Some(text);
+        all &= is_text(rodeo.try_resolve(key), text);
     }
     all
 }
 
-fn has_pairs(rodeo: &SpurRodeo) -> bool {
-    let mut walk = rodeo.iter();
-    is_pair(walk.next(), rodeo.get("red"), "red") && walk.len() == 2
+// Whether the text is this one, and the key is its key.
+fn is_pair(rodeo: &SpurRodeo, key: Spur, found: &str, text: &str) -> bool {
+    found == text && rodeo.get(text) == Some(key)
 }
 
-fn is_pair(found: Option<(Spur, &str)>, key: Option<Spur>, text: &str) -> bool {
-    match found {
-        Some((found, name)) => Some(found) == key && name == text,
+fn has_pairs(rodeo: &SpurRodeo) -> bool {
+    let mut walk = rodeo.iter();
+    match walk.next() {
+        Some((key, text)) => is_pair(rodeo, key, text, "red") && walk.len() == 2,
         None => false,
     }
 }
 
 fn has_texts(rodeo: &SpurRodeo) -> bool {
     let mut strings = rodeo.strings();
-    strings.next_back() == Some("blue") && strings.next() == Some("red") && strings.len() == 1
+    is_text(strings.next_back(), "blue") && is_text(strings.next(), "red") && strings.len() == 1
 }
 
 fn has_texts_ahead(rodeo: &SpurRodeo) -> bool {
     let mut ahead = rodeo.strings();
-    ahead.nth(1) == Some("green") && ahead.next() == Some("blue")
+    is_text(ahead.nth(1), "green") && is_text(ahead.next(), "blue")
 }
 
 fn has_pairs_ahead(rodeo: &SpurRodeo) -> bool {
     let mut ahead = rodeo.iter();
-    is_pair(ahead.nth(1), rodeo.get("green"), "green") && ahead.nth(1).is_none()
+    match ahead.nth(1) {
+        Some((key, text)) => is_pair(rodeo, key, text, "green") && ahead.nth(1).is_none(),
+        None => false,
+    }
 }
 
 fn has_texts_behind(rodeo: &SpurRodeo) -> bool {
     let mut behind = rodeo.strings();
-    behind.nth_back(1) == Some("green") && behind.next_back() == Some("red")
+    is_text(behind.nth_back(1), "green") && is_text(behind.next_back(), "red")
 }
 
 fn is_right(rodeo: &SpurRodeo, walk: Walk) -> bool {

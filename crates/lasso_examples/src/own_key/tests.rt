@@ -37,11 +37,13 @@ fn has_last(rodeo: &Small) -> bool {
     }
 }
 
+fn is_right(alloc: Global, rodeo: &mut Small) -> Result<bool, Fail> {
+    Ok(is_filled(alloc, rodeo)? && is_full(rodeo) && has_last(rodeo))
+}
+
 #[test]
 fn a_key_type_of_ones_own(rt: HostRuntime) -> Result<(), Fail> {
     let mut rodeo: Small = Rodeo::new(rt.alloc())?;
-    is_so(&rt, is_filled(rt.alloc(), &mut rodeo)?, "the positions");
-    is_so(&rt, is_full(&mut rodeo), "the refusal");
-    is_so(&rt, has_last(&rodeo), "the last text");
+    is_so(&rt, is_right(rt.alloc(), &mut rodeo)?, "the keys");
     Ok(())
 }
