@@ -15,18 +15,18 @@ fn is_named(lexer: &Lexer, key: Spur, word: &str) -> bool {
 }
 
 // Whether the token is this piece of the loop.
-fn is_piece(lexer: &Lexer, token: Token<'_>, piece: &str) -> bool {
+fn is_piece(lexer: &Lexer, token: &Token<'_>, piece: &str) -> bool {
     match token {
-        Token::Name(key) => is_named(lexer, key, piece),
-        Token::Number(digits) => digits == "20" && piece == "20",
-        Token::Symbol(symbol) => symbol == piece && "<{=+;}".contains(piece),
+        Token::Name(key) => is_named(lexer, *key, piece),
+        Token::Number(digits) => *digits == "20" && piece == "20",
+        Token::Symbol(symbol) => *symbol == piece && "<{=+;}".contains(piece),
     }
 }
 
 fn are_pieces(lexer: &Lexer, tokens: &[Token<'_>], pieces: &[&str]) -> bool {
     let mut at: usize = 0;
     for token in tokens {
-        if at >= pieces.len() || !is_piece(lexer, *token, pieces[at]) {
+        if at >= pieces.len() || !is_piece(lexer, token, pieces[at]) {
             return false;
         }
         at += 1;
@@ -70,9 +70,9 @@ type Word = (&'static str, bool);
 
 static WORDS: [Word; 4] = [("let", true), ("lets", false), ("if_", false), ("if", true)];
 
-fn is_word(lexer: &Lexer, token: Token<'_>, word: Word) -> bool {
+fn is_word(lexer: &Lexer, token: &Token<'_>, word: Word) -> bool {
     match token {
-        Token::Name(key) => is_named(lexer, key, word.0) && lexer.is_keyword(key) == word.1,
+        Token::Name(key) => is_named(lexer, *key, word.0) && lexer.is_keyword(*key) == word.1,
         _ => false,
     }
 }
@@ -80,7 +80,7 @@ fn is_word(lexer: &Lexer, token: Token<'_>, word: Word) -> bool {
 fn are_words(lexer: &Lexer, tokens: &[Token<'_>]) -> bool {
     let mut at: usize = 0;
     for token in tokens {
-        if at >= WORDS.len() || !is_word(lexer, *token, WORDS[at]) {
+        if at >= WORDS.len() || !is_word(lexer, token, WORDS[at]) {
             return false;
         }
         at += 1;
