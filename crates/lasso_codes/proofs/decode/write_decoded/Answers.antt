@@ -101,12 +101,12 @@ pub returns-in_err-header-clause-writes : goal.returns-in_err-header-clause-writ
 returns-in_err-header-clause-writes g c =
     let p = err_from_is_err_and c.from_residual.result c.from_residual.ensures.1 in
     let error = c.in_err-header.field-0.0 in
-    let none = input_no_write {X = Unit {0}} error (header_input _ _ error c.in_err-header.ensures.error) in
+    let none = input_no_write error (header_input _ _ error c.in_err-header.ensures.error) in
     rw (p.1, p.2) (omega (arith, c.loop-column.invariant.writes, none))
 
 pub returns-in_err-header-clause-gone : goal.returns-in_err-header-clause-gone
 returns-in_err-header-clause-gone g c =
     let p = err_from_is_err_and c.from_residual.result c.from_residual.ensures.1 in
     let error = c.in_err-header.field-0.0 in
-    let none = input_none_gone {X = Unit {0}} error (header_input _ _ error c.in_err-header.ensures.error) in
+    let none = input_none_gone error (header_input _ _ error c.in_err-header.ensures.error) in
     rw (p.1, p.2) (omega (arith, c.loop-column.invariant.gone, none))
