@@ -8,7 +8,6 @@ use lasso::interface::object_laws::{
 };
 use lasso::interface::{SpurInterner, SpurReader, SpurResolver};
 use lasso::{LassoResult, Spur, SpurRodeo};
-use std::alloc::Global;
 use std::process::Abort;
 use std::test::Fail;
 
@@ -113,17 +112,11 @@ fn static_texts_take_no_bytes(rt: HostRuntime) -> Result<(), Fail> {
     runs(&rt, Case::NoBytes)
 }
 
-type Object = Box<dyn SpurInterner + Drop>;
-
-fn boxed(alloc: Global, made: LassoResult<SpurRodeo>) -> LassoResult<Object> {
-    let interner: Object = Box::new(alloc, made?)?;
-    Ok(interner)
-}
-
 // Makes the calls on what the box holds. Then a law holds of the box, with a text that is there.
 fn runs_box<R: AllocGlobal + Abort>(rt: &R, case: Case) -> Result<(), Fail> {
     let (text, _usage) = left_by(case);
-    let mut interner = boxed(rt.alloc(), made_for(rt.alloc(), case))?;
+    let rodeo = made_for(rt.alloc(), case)?;
+    let mut interner: Box<dyn SpurInterner + Drop> = Box::new(rt.alloc(), rodeo)?;
     is_so(rt, are_right(&mut *interner, case)?, "the calls");
     let is_one = boxed_object_interns_as_one(interner, text)?;
     is_so(rt, is_one, "the law of interning");
