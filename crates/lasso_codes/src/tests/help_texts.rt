@@ -18,7 +18,7 @@ lasso_codes VERB --help lists the options of a verb.
 lasso_codes --version prints the version.
 ";
 
-pub const PROGRAM_VERSION: &[u8] = b"lasso_codes 1\n";
+pub const PROGRAM_VERSION: &[u8] = b"lasso_codes 0.1.0\n";
 
 pub const COUNTS_HELP: &[u8] = b"\
 usage: lasso_codes counts [OPTION..] < INPUT > OUTPUT
