@@ -133,10 +133,3 @@ fn listed_text<'a>(regions: &'a [Region], vast: &'a [LongText], index: usize) ->
 {
     vast[index].text(regions)
 }
-
-fn crosses<T: Send + Sync>(_: &T) {}
-
-// An entry goes to another thread, and is shared.
-fn crosses_freely(entry: &Entry) {
-    crosses(entry);
-}
