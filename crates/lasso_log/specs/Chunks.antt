@@ -1,5 +1,5 @@
 -- Where the texts of a shared list lie, and what a book keeps of them: that each cell below the length is filled with its text.
-use Rattle.std.specs.Prelude.{◌≡◌, ℕ, zero, suc, ◌-◌, ◌*◌, ◌^◌, ◌<◌, List, [], ◌∷◌, ◌++◌, length, map, slice_index, slice_index_or, nat_lt, if◌then◌else◌}
+use Rattle.std.specs.Prelude.{◌≡◌, ℕ, zero, suc, ◌+◌, ◌-◌, ◌*◌, ◌^◌, ◌<◌, ◌≤◌, List, [], ◌∷◌, ◌++◌, length, map, slice_index, slice_index_or, nat_lt, if◌then◌else◌}
 use mathlib.Core.List.{IsPrefix}
 use base.Fml.{Fml, ftrue, fex, fsep}
 use denote.RattleType.{RattleType}
@@ -24,6 +24,14 @@ chunk_from (suc more) chunk position = if nat_lt position (chunk_start (suc chun
 -- the chunk of a position; its number is at most the position
 abbrev pub chunk_of : ℕ → ℕ
 chunk_of position = chunk_from position 0 position
+
+-- the position is one of the sixteen from a length on
+abbrev pub IsAhead : ℕ → ℕ → Type 0
+IsAhead length position = (length ≤ position) × (position ≤ length + 15)
+
+-- the sixteen positions from a length on lie in one chunk with the position before them
+abbrev pub SharesChunk : ℕ → Type 0
+SharesChunk length = (0 < length) × (chunk_of length ≡ chunk_of (length - 1)) × (chunk_of (length + 15) ≡ chunk_of length)
 
 -- the offset of a position from its chunk's first cell
 abbrev pub offset_of : ℕ → ℕ

@@ -308,6 +308,22 @@ impl<T: HasText + Drop> Chunks<T> {
         self.chunks[number].value(chunk)[offset].value(item)
     }
 
+    /// Shows that the chunk of a position below the length that was seen is made. It takes no memory and does
+    /// not wait.
+    pub fn chunk_below<E, B: Listed<E>>(
+        &self,
+        seen: &mut Seen<E, u64, InChunks<B, T, Chunk<T>>>,
+        position: u64,
+    ) -> Written<Chunk<T>>
+        requires chunks { self.now ≡ seen.old.names }
+        requires grows { ListOnlyGrows B.shows B.texts }
+        requires below { position < length (B.texts (B.shows seen.old.log)) }
+        ensures chunk { result.of ≡ chunk_named self.now position }
+        ensures same { seen.new ≡ seen.old }
+    {
+        found_chunk(seen, position, self.chunk.again())
+    }
+
     /// Lends what the cell of a position below the length that was seen holds, as long as the chunks. It takes no
     /// memory and does not wait.
     pub fn lend<E, B: Listed<E>>(
@@ -322,7 +338,7 @@ impl<T: HasText + Drop> Chunks<T> {
         ensures lasts { T.lasts result.now (era_named self.now) }
         ensures same { seen.new ≡ seen.old }
     {
-        let chunk = found_chunk(seen, position, self.chunk.again());
+        let chunk = self.chunk_below(seen, position);
         let item = found_item(seen, &chunk, position, self.item.again());
         self.value(position, &chunk, &item)
     }

@@ -10,7 +10,11 @@ pub(super) mod storing;
 use crate::checks::is_so;
 use lasso_log::shared_arena::era::Era;
 use lasso_log::shared_arena::piece::Piece;
+use std::mem::size_of;
 use std::test::*;
+
+// A cell of the list has a piece, and half of its 32 bytes are the piece's.
+const _: () = prove!(size_of::<Piece>() == 16);
 
 // Whether a piece of the text has it.
 fn is_shown(era: &Era, text: &'static str) -> bool {

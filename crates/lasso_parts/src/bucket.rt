@@ -9,7 +9,7 @@ pub mod region;
 use crate::util::LassoResult;
 use region::{Region, RegionRight, close, open};
 use std::alloc::Allocator;
-use std::marker::{Model, Send, Sync};
+use std::marker::Model;
 
 /// A run of bytes that never moves and never grows, freed when the bucket is dropped.
 pub struct Bucket<A: Allocator> {
@@ -88,17 +88,4 @@ impl<A: Allocator> Bucket<A> {
     {
         self.region.text(start, len)
     }
-}
-
-fn crosses<T: Send + Sync>(_: &T) {}
-
-// A bucket and its parts go to another thread, and are shared, where their allocator is.
-fn crosses_with_its_allocator<A: Allocator + Send + Sync>(
-    region: &Region,
-    right: &RegionRight<A>,
-    bucket: &Bucket<A>,
-) {
-    crosses(region);
-    crosses(right);
-    crosses(bucket);
 }

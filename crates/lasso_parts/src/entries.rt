@@ -11,7 +11,6 @@ use loan::Loan;
 use long::LongText;
 use short::{SHORT, ShortText};
 use std::marker::{Model, Send, Sync};
-use std::mem::size_of;
 use std::str::from_utf8_unchecked;
 
 /// An entry of a list of texts, of 16 bytes. It has a short text itself, or the address and the length of
@@ -54,9 +53,6 @@ unsafe impl Sync for Place {}
 unsafe impl Send for Entry {}
 
 unsafe impl Sync for Entry {}
-
-// An entry is read at every probe of an index.
-const _: () = prove!(size_of::<Entry>() == 16);
 
 impl Entry {
     /// The entry that has a short text itself.
@@ -132,11 +128,4 @@ fn listed_text<'a>(regions: &'a [Region], vast: &'a [LongText], index: usize) ->
     ensures { result.now ≡ entry_text regions.now vast.now (Listed index) }
 {
     vast[index].text(regions)
-}
-
-fn crosses<T: Send + Sync>(_: &T) {}
-
-// An entry goes to another thread, and is shared.
-fn crosses_freely(entry: &Entry) {
-    crosses(entry);
 }

@@ -1,12 +1,11 @@
 //! A bucket that is filled and cleared, and sizes that no region can have.
 ghost use Rattle.std.specs.Prelude.{◌<◌};
 
-use crate::checks::is_so;
+use crate::checks::{crosses, is_so};
 use lasso_parts::bucket::Bucket;
 use lasso_parts::bucket::region::{Region, RegionRight};
 use lasso_parts::util::LassoErrorKind;
-use std::alloc::Global;
-use std::marker::{Send, Sync};
+use std::alloc::{Allocator, Global};
 use std::test::Fail;
 
 // Whether `bytes` bytes are left, and the bucket says that it is full if none is.
@@ -49,13 +48,14 @@ fn no_region_is_so_large(rt: HostRuntime) {
     }
 }
 
-fn crosses<T: Send + Sync>() {}
+// A bucket and its parts go to another thread, and are shared, where their allocator is.
+fn crosses_with<A: Allocator + Send + Sync>() {
+    crosses::<Region>();
+    crosses::<RegionRight<A>>();
+    crosses::<Bucket<A>>();
+}
 
 #[test]
-fn crosses_with_its_allocator(rt: HostRuntime) -> Result<(), Fail> {
-    let bucket = Bucket::with_capacity(rt.alloc(), 1)?;
-    crosses::<Region>();
-    crosses::<RegionRight<Global>>();
-    drop(bucket);
-    Ok(())
+fn crosses_with_its_allocator() {
+    crosses_with::<Global>();
 }

@@ -11,6 +11,8 @@ mod checks;
 #[cfg(test)]
 mod counted_texts;
 #[cfg(test)]
+mod entries;
+#[cfg(test)]
 mod index;
 #[cfg(test)]
 mod json;

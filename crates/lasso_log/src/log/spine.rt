@@ -1,5 +1,5 @@
 //! The spine: the numbers of the list and of the turns, which one thread at a time has, and the slots that it keeps.
-ghost use Rattle.std.specs.Prelude.{◌≡◌, ◌+◌, ◌-◌, ◌∷◌, ◌++◌, [], length, OnOk, OnErr, IfOk, IfErr, IfSome, IfNone, MatchBool};
+ghost use Rattle.std.specs.Prelude.{◌≡◌, ◌+◌, ◌-◌, ◌^◌, ◌<◌, ◌∷◌, ◌++◌, [], length, OnOk, OnErr, IfOk, IfErr, IfSome, IfNone, IsSome, MatchBool};
 ghost use mathlib.Core.List.{IsPrefix};
 ghost use Rattle.lasso_parts.specs.declared.util.LassoErrorKind.TheVariants.{FailedAllocation};
 ghost use Rattle.lasso_parts.specs.Texts.{Fits};
@@ -8,7 +8,7 @@ ghost use Rattle.lasso_log.specs.Notes.{Since, state, history};
 ghost use Rattle.lasso_log.specs.Views.{PassView, InternerId, SpineView, IsSamePass, IsSameSpine, IsAppended, list_of, seen};
 ghost use base.Fml.{Incl};
 ghost use Rattle.lasso_log.specs.Eras.{life};
-ghost use Rattle.lasso_log.specs.Chunks.{IsCellAt, era_named};
+ghost use Rattle.lasso_log.specs.Chunks.{IsAhead, IsCellAt, era_named};
 
 use crate::log::cells_ahead::CellsAhead;
 use crate::log::kept_slot::KeptSlot;
@@ -133,7 +133,8 @@ impl<K: Key> Log<K> {
     }
 
     /// Keeps one slot more, for a caller that has made cells ahead. Returns `None` where the slot's cell is
-    /// not made, and nothing changes then. It takes no memory and does not wait.
+    /// not made, and nothing changes then; it never does so for one of the sixteen positions of these cells but
+    /// 2^64 - 1. It takes no memory and does not wait.
     pub fn reserve_ahead(&self, spine: &mut Spine<K>, ahead: &CellsAhead<K>) -> Option<KeptSlot<K>>
         requires { (spine.old.of ≡ self.now) × (ahead.now.of ≡ self.now) }
         ensures slot { IfSome result (λ slot. slot ≡ self.now) }
@@ -141,13 +142,15 @@ impl<K: Key> Log<K> {
         ensures same { IsSameSpine spine.new spine.old }
         ensures turns { spine.new.turns ≡ spine.old.turns }
         ensures unchanged { IfNone result (spine.new.kept ≡ spine.old.kept) }
+        ensures found { let position = length (list_of self.now spine.old.notes) + spine.old.kept in position < 2 ^ 64 - 1 → IsAhead (length (list_of ahead.now.of ahead.now.notes)) position → IsSome result }
     {
-        let _ = ahead;
         let position = spine.first + spine.appended + spine.kept;
         if position == u64::MAX {
             return None;
         }
-        self.memory.chunks.find_chunk(position)?;
+        if !self.has_cell(position, ahead) {
+            return None;
+        }
         spine.kept += 1;
         Some(KeptSlot::new(self.snapshot()))
     }

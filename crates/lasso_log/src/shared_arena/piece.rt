@@ -10,7 +10,6 @@ ghost use Rattle.lasso_log.specs.Pieces.{PieceView, RangeView};
 use crate::shared_arena::era::Era;
 use crate::shared_arena::rights::{Free, Lent};
 use std::marker::{Model, Send, Sync};
-use std::mem::size_of;
 use std::str::from_utf8_unchecked;
 
 /// The one right to fill some bytes of a bucket. It must be spent, by `fill`. A contract sees which bytes they are.
@@ -54,8 +53,6 @@ impl Model for Piece {
 unsafe impl Send for Piece {}
 
 unsafe impl Sync for Piece {}
-
-const _: () = prove!(size_of::<Piece>() == 16);
 
 // The address of the place at offset `start`.
 fn address_at(first: *mut u8, start: usize) -> *mut u8
