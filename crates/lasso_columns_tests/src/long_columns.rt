@@ -11,7 +11,7 @@ use std::sync::Wait;
 use std::test::Fail;
 use std::thread::Threads;
 
-// How a column is encoded: as texts or as lines by one thread, or in parts by so many workers.
+// How a column is encoded: as texts or as lines by one thread, or in parts by this number of workers.
 #[derive(Clone, Copy)]
 pub(super) enum Way {
     Texts,

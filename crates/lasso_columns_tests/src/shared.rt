@@ -104,7 +104,7 @@ pub(super) fn is_kept<R: Wait>(
 // A call on an interner and the codes of a column, and what has to come of it; or what then has to hold.
 #[derive(Clone, Copy)]
 pub(super) enum Step {
-    // each of the texts, encoded by so many workers, gets a code after the others, which resolves to it
+    // each of the texts, encoded by this number of workers, gets a code after the others, which resolves to it
     Encodes(&'static [&'static str], usize),
     // by a pass the texts get the same codes again, and these are left out
     Again(&'static [&'static str], usize),

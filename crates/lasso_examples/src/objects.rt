@@ -74,7 +74,7 @@ fn are_right(interner: &mut dyn SpurInterner, case: Case) -> LassoResult<bool> {
     }
 }
 
-// A text that is there after the test, and how many bytes the buckets take.
+// A present text after the test, and how many bytes the buckets take.
 fn left_by(case: Case) -> (&'static str, usize) {
     match case {
         Case::OneText => ("Hello, world!", 4096),
@@ -112,7 +112,7 @@ fn static_texts_take_no_bytes(rt: HostRuntime) -> Result<(), Fail> {
     runs(&rt, Case::NoBytes)
 }
 
-// Makes the calls on what the box holds. Then a law holds of the box, with a text that is there.
+// Makes the calls on what the box holds. Then a law holds of the box, with a present text.
 fn runs_box<R: AllocGlobal + Abort>(rt: &R, case: Case) -> Result<(), Fail> {
     let (text, _usage) = left_by(case);
     let rodeo = made_for(rt.alloc(), case)?;

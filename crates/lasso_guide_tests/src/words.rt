@@ -35,7 +35,7 @@ static WORDS: [&str; 10] = [
     "to", "be", "or", "not", "to", "be", "that", "is", "the", "question",
 ];
 
-// Whether the word was counted so many times.
+// Whether the word was counted this number of times.
 fn came<R: Wait>(
     rt: &R,
     rodeo: &SpurThreadedRodeo,

@@ -46,7 +46,7 @@ pub enum Step {
     Lookup(Layout<'static>, usize, Codes),
     // the text of the code has this status, begins so, and has this number of bytes, 77 if there is none
     Resolves(u32, (u32, &'static [u8], usize)),
-    // the dictionary from the code on, with room for so many bytes and offsets, ends so, and these bytes and
+    // the dictionary from the code on, with room for these numbers of bytes and offsets, ends so, and these bytes and
     // offsets are written
     Dictionary(Part, Told, (&'static [u8], &'static [u32])),
     // the same with offsets of 64 bits, of which there are four, 9 where none is written
