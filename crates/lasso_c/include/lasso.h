@@ -19,10 +19,10 @@
  *   functions of this header replace NULL. A caller without the header, as ctypes, never passes NULL.)
  * - An array has at least as many elements as its length says, and at most 2^63 - 1 bytes.
  * - Outputs, *report included, must not overlap other arguments.
- * - A refused call, whose status is not LASSO_DONE, writes only *report and leaves its interner as it was. The
- *   exception are the calls whose names begin with lasso_intern_batch: they keep the texts before the refused
- *   one, and write their codes. A call that is done writes to the front of each output what is said below, and
- *   leaves the rest of it as it was.
+ * - A refused call, whose status is not LASSO_DONE, writes only *report and leaves its interner as it was. Only
+ *   the calls whose names begin with lasso_intern_batch keep the texts before the refused one, and write their
+ *   codes. A call that is done writes to the front of each output what is said below, and leaves the rest of it
+ *   as it was.
  * - Calls may run in several threads at once. Threads may share what all of them only read, as two that decode
  *   from one dictionary. What a call writes, nothing else reads or writes meanwhile.
  * - No call is made in a signal handler, or in the forked child of a process with threads.
