@@ -1,4 +1,5 @@
 pub mod Known
+pub mod FailedCalls
 pub mod Lines
 pub mod Ways
 pub mod Cuts

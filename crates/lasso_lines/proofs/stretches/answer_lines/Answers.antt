@@ -5,7 +5,8 @@ use Rattle.std.proofs.lemmas.Bool.Decides.{nat_tests}
 use Rattle.std.specs.Str.{IsUtf8}
 use Rattle.lasso_lines.specs.Report.{holding}
 use Rattle.lasso_lines.specs.Stretch.{LeadsTo}
-use Rattle.lasso_lines.proofs.Known.{grows_then, only_grows_then}
+use Rattle.lasso_lines.proofs.FailedCalls.{then_failed, none_failed}
+use Rattle.lasso_lines.proofs.Known.{nothing_more, grows_then, only_grows_then}
 use Rattle.lasso_cut.proofs.FirstLines.{none_no_feed}
 use Rattle.lasso_lines.proofs.Cuts.{leads_line, leads_then, fails_line, fails_then}
 use Rattle.lasso_lines.proofs.Tested.{line_is_tested, behind_is_tested}
@@ -54,3 +55,34 @@ loop-at-preserved g c =
 
 pub returns-clause-no_feed : goal.returns-clause-no_feed
 returns-clause-no_feed g c = none_no_feed c.loop-at.rest.now c.in_default.ensures
+
+pub returns-in_err-answer_line-clause-first : goal.returns-in_err-answer_line-clause-first
+returns-in_err-answer_line-clause-first g c = c.answer_line.ensures.first
+
+pub returns-in_err-answer_line-clause-failures : goal.returns-in_err-answer_line-clause-failures
+returns-in_err-answer_line-clause-failures g c =
+    let p = err_from_is_err_and c.from_residual.result c.from_residual.ensures.1 in
+    rw (p.1, p.2) (then_failed _ _ _ _ (none_failed _ _ c.loop-at.invariant.failures) c.in_err-answer_line.ensures.failures)
+
+pub returns-in_err-answer_line-clause-delivered : goal.returns-in_err-answer_line-clause-delivered
+returns-in_err-answer_line-clause-delivered g c = only_grows_then _ _ _ c.loop-at.invariant.delivered c.answer_line.ensures.delivered
+
+pub returns-in_err-answer_line-clause-faults : goal.returns-in_err-answer_line-clause-faults
+returns-in_err-answer_line-clause-faults g c =
+    let p = err_from_is_err_and c.from_residual.result c.from_residual.ensures.1 in
+    rw (p.1, p.2) c.in_err-answer_line.ensures.faults
+
+pub returns-clause-first : goal.returns-clause-first
+returns-clause-first g c = c.loop-at.invariant.first
+
+pub returns-clause-failures : goal.returns-clause-failures
+returns-clause-failures g c = none_failed _ _ c.loop-at.invariant.failures
+
+pub returns-clause-delivered : goal.returns-clause-delivered
+returns-clause-delivered g c = c.loop-at.invariant.delivered
+
+pub returns-clause-answers : goal.returns-clause-answers
+returns-clause-answers g c = c.loop-at.invariant.answers
+
+pub returns-clause-counted : goal.returns-clause-counted
+returns-clause-counted g c = c.loop-at.invariant.counted
