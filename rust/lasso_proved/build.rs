@@ -12,7 +12,12 @@ It is built in the repository of lasso, at its top:
 
 fn main() {
     println!("cargo:rerun-if-changed=build.rs");
-    for name in ["LASSO_LIB_DIR", "PKG_CONFIG", "PKG_CONFIG_PATH", "PKG_CONFIG_LIBDIR"] {
+    for name in [
+        "LASSO_LIB_DIR",
+        "PKG_CONFIG",
+        "PKG_CONFIG_PATH",
+        "PKG_CONFIG_LIBDIR",
+    ] {
         println!("cargo:rerun-if-env-changed={name}");
     }
     let linked = match env::var("LASSO_LIB_DIR") {
@@ -38,17 +43,22 @@ fn link_archive(file: &Path) -> Result<(), String> {
     Ok(())
 }
 
-/// Links what lasso.pc names: the installed library, or the file that `make c` has built. Another library, of version 2, has a
-/// lasso.pc too; it is refused by its version.
+/// Links what lasso.pc names: the installed library, or the file that `make c` has built. Another
+/// library, of version 2, has a lasso.pc too; it is refused by its version.
 fn link_by_pkg_config() -> Result<(), String> {
     let command = env::var("PKG_CONFIG").unwrap_or_else(|_| "pkg-config".to_owned());
     let output = Command::new(&command)
         .args(["--libs", "lasso < 1"])
         .output()
-        .map_err(|error| format!("LASSO_LIB_DIR is not set, and {command} can't be run: {error}"))?;
+        .map_err(|error| {
+            format!("LASSO_LIB_DIR is not set, and {command} can't be run: {error}")
+        })?;
     if !output.status.success() {
         let told = String::from_utf8_lossy(&output.stderr);
-        return Err(format!("LASSO_LIB_DIR is not set, and {command} says: {}", told.trim()));
+        return Err(format!(
+            "LASSO_LIB_DIR is not set, and {command} says: {}",
+            told.trim()
+        ));
     }
     for word in String::from_utf8_lossy(&output.stdout).split_whitespace() {
         if let Some(folder) = word.strip_prefix("-L") {
@@ -58,7 +68,9 @@ fn link_by_pkg_config() -> Result<(), String> {
         } else if word.ends_with("/liblasso.a") {
             link_archive(Path::new(word))?;
         } else {
-            return Err(format!("{command} names {word}, which this crate can't link"));
+            return Err(format!(
+                "{command} names {word}, which this crate can't link"
+            ));
         }
     }
     Ok(())

@@ -1,4 +1,5 @@
-//! Two interners of any of the three types are equal if they have the same texts under the same keys.
+//! Two interners of any of the three types are equal if they have the same texts under the same
+//! keys.
 
 use crate::iter::TextList;
 use crate::{Rodeo, RodeoReader, RodeoResolver};

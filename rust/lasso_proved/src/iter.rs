@@ -119,7 +119,8 @@ impl<'a, K> Iter<'a, K> {
 impl<'a, K: Key> Iter<'a, K> {
     /// # Panics
     ///
-    /// If the key type has no key for the position. Only a `RodeoResolver` that was deserialized can have such texts.
+    /// If the key type has no key for the position. Only a `RodeoResolver` that was deserialized
+    /// can have such texts.
     fn entry(&self, position: usize) -> (K, &'a str) {
         let key = K::try_from_usize(position).expect("the key type has no key for this text");
         (key, self.strings.text(position))
@@ -145,7 +146,10 @@ impl<'a, K: Key> Iterator for Iter<'a, K> {
     type Item = (K, &'a str);
 
     fn next(&mut self) -> Option<Self::Item> {
-        self.strings.left.next().map(|position| self.entry(position))
+        self.strings
+            .left
+            .next()
+            .map(|position| self.entry(position))
     }
 
     fn size_hint(&self) -> (usize, Option<usize>) {
@@ -153,17 +157,26 @@ impl<'a, K: Key> Iterator for Iter<'a, K> {
     }
 
     fn nth(&mut self, n: usize) -> Option<Self::Item> {
-        self.strings.left.nth(n).map(|position| self.entry(position))
+        self.strings
+            .left
+            .nth(n)
+            .map(|position| self.entry(position))
     }
 }
 
 impl<K: Key> DoubleEndedIterator for Iter<'_, K> {
     fn next_back(&mut self) -> Option<Self::Item> {
-        self.strings.left.next_back().map(|position| self.entry(position))
+        self.strings
+            .left
+            .next_back()
+            .map(|position| self.entry(position))
     }
 
     fn nth_back(&mut self, n: usize) -> Option<Self::Item> {
-        self.strings.left.nth_back(n).map(|position| self.entry(position))
+        self.strings
+            .left
+            .nth_back(n)
+            .map(|position| self.entry(position))
     }
 }
 

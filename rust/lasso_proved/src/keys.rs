@@ -30,7 +30,8 @@ use std::num::{NonZeroU16, NonZeroU32, NonZeroU8, NonZeroUsize};
 ///
 /// # Safety
 ///
-/// A key made from a position has to give that position back, each time. Code that uses keys may rely on it.
+/// A key made from a position has to give that position back, each time. Code that uses keys may
+/// rely on it.
 pub unsafe trait Key: Copy + Eq {
     /// The position that the key stands for.
     fn into_usize(self) -> usize;
@@ -39,10 +40,10 @@ pub unsafe trait Key: Copy + Eq {
     fn try_from_usize(int: usize) -> Option<Self>;
 }
 
-// A key type that holds its position plus one, so that `Option` of it takes no more room.
-macro_rules! spur {
-    ($name:ident, $inner:ident, $number:ident, $doc:literal) => {
-        #[doc = $doc]
+// Key types that hold their position plus one, so that `Option` of them takes no more room.
+macro_rules! spurs {
+    ($($(#[$doc:meta])* $name:ident($inner:ident, $number:ident);)+) => {$(
+        $(#[$doc])*
         ///
         /// It holds the position plus one, so that an `Option` of it has the same size.
         #[derive(Copy, Clone, PartialEq, Eq, PartialOrd, Ord, Hash)]
@@ -98,10 +99,16 @@ macro_rules! spur {
                 $inner::deserialize(deserializer).map(|key| Self { key })
             }
         }
-    };
+    )+};
 }
 
-spur!(Spur, NonZeroU32, u32, "A key of 32 bits, for positions up to 2^32 - 2. It is the default key.");
-spur!(MiniSpur, NonZeroU16, u16, "A key of 16 bits, for positions up to 65534.");
-spur!(MicroSpur, NonZeroU8, u8, "A key of 8 bits, for positions up to 254.");
-spur!(LargeSpur, NonZeroUsize, usize, "A key as large as `usize`, for positions up to `usize::MAX - 1`.");
+spurs! {
+    /// A key of 32 bits, for positions up to 2^32 - 2. It is the default key.
+    Spur(NonZeroU32, u32);
+    /// A key of 16 bits, for positions up to 65534.
+    MiniSpur(NonZeroU16, u16);
+    /// A key of 8 bits, for positions up to 254.
+    MicroSpur(NonZeroU8, u8);
+    /// A key as large as `usize`, for positions up to `usize::MAX - 1`.
+    LargeSpur(NonZeroUsize, usize);
+}

@@ -1,8 +1,10 @@
-//! A string interner with the names and signatures of lasso 0.7.3, for one thread, over a library that is proved.
+//! A string interner with the names and signatures of lasso 0.7.3, for one thread, over a library
+//! that is proved.
 //!
-//! An interner stores each distinct text once and returns a small key for it. Equal texts have equal keys, keys
-//! count up from 0, and a key resolves to its text. [`Rodeo`] interns. [`RodeoReader`] and [`RodeoResolver`] are
-//! made from it once all texts are interned; threads may share them.
+//! An interner stores each distinct text once and returns a small key for it. Equal texts have
+//! equal keys, keys count up from 0, and a key resolves to its text. [`Rodeo`] interns.
+//! [`RodeoReader`] and [`RodeoResolver`] are made from it once all texts are interned; threads may
+//! share them.
 //!
 //! A program that uses lasso takes this crate in its place by one line of its `Cargo.toml`,
 //! `lasso = { package = "lasso_proved", path = ".." }`, or by one line of Rust:
@@ -21,8 +23,8 @@
 //! assert_eq!(rodeo.get("green"), None);
 //! ```
 //!
-//! What is proved is the library: which code a text gets, which text a code has, what a limit refuses. This crate
-//! is ordinary Rust over it. Its README says what differs from lasso 0.7.3.
+//! What is proved is the library: which code a text gets, which text a code has, what a limit
+//! refuses. This crate is ordinary Rust over it. Its README says what differs from lasso 0.7.3.
 
 #![deny(missing_docs, missing_debug_implementations, unsafe_op_in_unsafe_fn)]
 

@@ -10,10 +10,11 @@ use std::hash::BuildHasher;
 use std::marker::PhantomData;
 use std::ops::Index;
 
-/// The texts and keys of a [`Rodeo`](crate::Rodeo), which change no more. It finds the keys of texts and the texts of keys.
+/// The texts and keys of a [`Rodeo`](crate::Rodeo), which change no more. It finds the keys of
+/// texts and the texts of keys.
 ///
-/// Threads may share it. The text of a key is found without a lock; the key of a text takes a lock, so threads that
-/// look for keys wait for each other.
+/// Threads may share it. The text of a key is found without a lock; the key of a text takes a lock,
+/// so threads that look for keys wait for each other.
 ///
 /// ```rust
 /// use lasso_proved::Rodeo;

@@ -7,9 +7,11 @@ use std::fmt;
 use std::marker::PhantomData;
 use std::ops::Index;
 
-/// The texts of a [`Rodeo`](crate::Rodeo), which change no more. It finds the texts of keys, and not the keys of texts.
+/// The texts of a [`Rodeo`](crate::Rodeo), which change no more. It finds the texts of keys, and
+/// not the keys of texts.
 ///
-/// It has copied the texts into one piece of memory, and takes 8 bytes for each besides. Threads may share it.
+/// It has copied the texts into one piece of memory, and takes 8 bytes for each besides. Threads
+/// may share it.
 ///
 /// ```rust
 /// use lasso_proved::Rodeo;
@@ -38,7 +40,9 @@ impl TextList for Texts {
 
     fn text(&self, position: usize) -> Option<&str> {
         let end = *self.ends.get(position)?;
-        let start = position.checked_sub(1).map_or(0, |before| self.ends[before]);
+        let start = position
+            .checked_sub(1)
+            .map_or(0, |before| self.ends[before]);
         Some(&self.joined[start..end])
     }
 }

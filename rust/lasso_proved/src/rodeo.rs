@@ -17,8 +17,8 @@ use std::marker::PhantomData;
 
 /// An interner: each distinct text once, and a small key for each.
 ///
-/// `K` is the type of its keys. The hasher `S` is kept, and not used: the library hashes texts on its own, with a
-/// fixed seed, so whoever chooses the texts can make them collide.
+/// `K` is the type of its keys. The hasher `S` is kept, and not used: the library hashes texts on
+/// its own, with a fixed seed, so whoever chooses the texts can make them collide.
 ///
 /// One thread at a time uses it. It may move to another thread, and is not `Sync`: a
 /// [`RodeoReader`] is.
@@ -37,7 +37,8 @@ use std::marker::PhantomData;
 /// share(lasso_proved::Rodeo::default());
 /// ```
 ///
-/// A text is not copied when it is resolved. It is borrowed from the interner, which can't change meanwhile:
+/// A text is not copied when it is resolved. It is borrowed from the interner, which can't change
+/// meanwhile:
 ///
 /// ```compile_fail,E0502
 /// let mut rodeo = lasso_proved::Rodeo::default();
@@ -94,7 +95,8 @@ impl<K: Key> Rodeo<K, RandomState> {
         Self::with_capacity_and_memory_limits(Capacity::default(), memory_limits)
     }
 
-    /// An interner without texts, of this capacity and with this limit. The first bucket is made whatever the limit.
+    /// An interner without texts, of this capacity and with this limit. The first bucket is made
+    /// whatever the limit.
     ///
     /// ```rust
     /// use lasso_proved::{Capacity, MemoryLimits, Rodeo};
@@ -108,13 +110,17 @@ impl<K: Key> Rodeo<K, RandomState> {
     /// rodeo.get_or_intern("0123456789");
     /// assert!(rodeo.try_get_or_intern("x").unwrap_err().kind().is_memory_limit());
     /// ```
-    pub fn with_capacity_and_memory_limits(capacity: Capacity, memory_limits: MemoryLimits) -> Self {
+    pub fn with_capacity_and_memory_limits(
+        capacity: Capacity,
+        memory_limits: MemoryLimits,
+    ) -> Self {
         Self::with_capacity_memory_limits_and_hasher(capacity, memory_limits, RandomState::new())
     }
 }
 
 impl<K: Key, S: BuildHasher> Rodeo<K, S> {
-    /// An interner without texts, of the default capacity and without a limit, that keeps this hasher.
+    /// An interner without texts, of the default capacity and without a limit, that keeps this
+    /// hasher.
     ///
     /// ```rust
     /// use lasso_proved::{Rodeo, Spur};
@@ -129,7 +135,11 @@ impl<K: Key, S: BuildHasher> Rodeo<K, S> {
 
     /// An interner without texts, of this capacity and without a limit, that keeps this hasher.
     pub fn with_capacity_and_hasher(capacity: Capacity, hash_builder: S) -> Self {
-        Self::with_capacity_memory_limits_and_hasher(capacity, MemoryLimits::default(), hash_builder)
+        Self::with_capacity_memory_limits_and_hasher(
+            capacity,
+            MemoryLimits::default(),
+            hash_builder,
+        )
     }
 
     /// An interner without texts, of this capacity and with this limit, that keeps this hasher.
@@ -142,7 +152,11 @@ impl<K: Key, S: BuildHasher> Rodeo<K, S> {
     }
 
     /// The same with an error in place of the panic, which is `FailedAllocation`.
-    pub(crate) fn try_made(capacity: Capacity, limits: MemoryLimits, hasher: S) -> LassoResult<Self> {
+    pub(crate) fn try_made(
+        capacity: Capacity,
+        limits: MemoryLimits,
+        hasher: S,
+    ) -> LassoResult<Self> {
         let (texts, bytes) = (capacity.strings(), capacity.bytes().get());
         Ok(Self {
             handle: Handle::with_room(texts, bytes, limits.max_memory_usage())?,
@@ -174,8 +188,8 @@ impl<K: Key, S: BuildHasher> Rodeo<K, S> {
     ///
     /// # Errors
     ///
-    /// An absent text is refused if no key is left, then if the limit has no room for it, and if memory is out. The
-    /// interner is as it was then. A present text is never refused.
+    /// An absent text is refused if no key is left, then if the limit has no room for it, and if
+    /// memory is out. The interner is as it was then. A present text is never refused.
     ///
     /// ```rust
     /// use lasso_proved::{MicroSpur, Rodeo};
@@ -196,7 +210,8 @@ impl<K: Key, S: BuildHasher> Rodeo<K, S> {
         self.handle.intern(text).map(key_of)
     }
 
-    /// The key of a static text: the same call as [`get_or_intern`](Self::get_or_intern). An absent text is copied too.
+    /// The key of a static text: the same call as [`get_or_intern`](Self::get_or_intern). An absent
+    /// text is copied too.
     ///
     /// # Panics
     ///
@@ -206,8 +221,8 @@ impl<K: Key, S: BuildHasher> Rodeo<K, S> {
         self.get_or_intern(string)
     }
 
-    /// The key of a static text: the same call as [`try_get_or_intern`](Self::try_get_or_intern). An absent text is copied
-    /// too, and counts for the limit.
+    /// The key of a static text: the same call as [`try_get_or_intern`](Self::try_get_or_intern).
+    /// An absent text is copied too, and counts for the limit.
     ///
     /// # Errors
     ///
@@ -255,7 +270,10 @@ pub(crate) fn text_of<'a, K: Key>(texts: &'a dyn TextList, key: &K) -> &'a str {
     let position = key.into_usize();
     match texts.text(position) {
         Some(text) => text,
-        None => panic!("no text has the key of position {position}: there are {} texts", texts.len()),
+        None => panic!(
+            "no text has the key of position {position}: there are {} texts",
+            texts.len()
+        ),
     }
 }
 
@@ -319,7 +337,8 @@ impl<K, S> Rodeo<K, S> {
         self.len() == 0
     }
 
-    /// Forgets all texts. Keys begin again from the first. The limit stays, and so does memory for new texts.
+    /// Forgets all texts. Keys begin again from the first. The limit stays, and so does memory for
+    /// new texts.
     ///
     /// ```rust
     /// use lasso_proved::Rodeo;
@@ -349,8 +368,8 @@ impl<K, S> Rodeo<K, S> {
         Strings::new(&self.handle)
     }
 
-    /// Sets how many bytes the buckets of texts may take. With less than they take now no new bucket is made; texts still
-    /// go where buckets have room.
+    /// Sets how many bytes the buckets of texts may take. With less than they take now no new
+    /// bucket is made; texts still go where buckets have room.
     ///
     /// ```rust
     /// use lasso_proved::{MemoryLimits, Rodeo};
@@ -383,7 +402,8 @@ impl<K, S> Rodeo<K, S> {
         &self.hasher
     }
 
-    /// Makes it an interner that interns no more, and that threads may share. It takes memory of 16 bytes for each text.
+    /// Makes it an interner that interns no more, and that threads may share. It takes memory of 16
+    /// bytes for each text.
     ///
     /// ```rust
     /// use lasso_proved::Rodeo;
@@ -399,8 +419,8 @@ impl<K, S> Rodeo<K, S> {
         RodeoReader::new(SharedHandle::new(self.handle), self.hasher)
     }
 
-    /// Copies the texts into one piece of memory, and lets the interner go. What is made resolves keys, and threads may
-    /// share it.
+    /// Copies the texts into one piece of memory, and lets the interner go. What is made resolves
+    /// keys, and threads may share it.
     ///
     /// ```rust
     /// use lasso_proved::Rodeo;
@@ -415,7 +435,8 @@ impl<K, S> Rodeo<K, S> {
     }
 }
 
-/// An interner without texts, with keys of type [`Spur`], of the default capacity and without a limit.
+/// An interner without texts, with keys of type [`Spur`], of the default capacity and without a
+/// limit.
 impl Default for Rodeo<Spur, RandomState> {
     fn default() -> Self {
         Self::new()

@@ -1,4 +1,5 @@
-//! serde: an interner is written as the sequence of its texts in the order of their keys, and read from it.
+//! serde: an interner is written as the sequence of its texts in the order of their keys, and read
+//! from it.
 
 use crate::{Capacity, Key, MemoryLimits, Rodeo, RodeoReader, RodeoResolver};
 use serde::de::{Deserialize, Deserializer, Error};
@@ -24,18 +25,21 @@ impl<K> Serialize for RodeoResolver<K> {
     }
 }
 
-/// Each text has the key of its position. The interner has no limit. It is an error if a text comes twice, if the key type has
-/// too few keys, and if memory is out.
+/// Each text has the key of its position. The interner has no limit. It is an error if a text comes
+/// twice, if the key type has too few keys, and if memory is out.
 impl<'de, K: Key, S: BuildHasher + Default> Deserialize<'de> for Rodeo<K, S> {
     fn deserialize<D: Deserializer<'de>>(deserializer: D) -> Result<Self, D::Error> {
         let texts = Vec::<String>::deserialize(deserializer)?;
         let bytes = NonZeroUsize::new(texts.iter().map(String::len).sum());
         let capacity = Capacity::new(texts.len(), bytes.unwrap_or(Capacity::default().bytes()));
-        let mut rodeo = Self::try_made(capacity, MemoryLimits::default(), S::default()).map_err(Error::custom)?;
+        let mut rodeo = Self::try_made(capacity, MemoryLimits::default(), S::default())
+            .map_err(Error::custom)?;
         for (position, text) in texts.iter().enumerate() {
             rodeo.try_get_or_intern(text).map_err(Error::custom)?;
             if rodeo.len() == position {
-                return Err(Error::custom(format_args!("text {position} came before: {text:?}")));
+                return Err(Error::custom(format_args!(
+                    "text {position} came before: {text:?}"
+                )));
             }
         }
         Ok(rodeo)

@@ -2,7 +2,10 @@
 
 use lasso_proved as lasso;
 
-use lasso::{Capacity, Interner, LassoResult, MemoryLimits, Resolver, Rodeo, RodeoReader, RodeoResolver, Spur};
+use lasso::{
+    Capacity, Interner, LassoResult, MemoryLimits, Resolver, Rodeo, RodeoReader, RodeoResolver,
+    Spur,
+};
 use std::collections::HashMap;
 use std::num::NonZeroUsize;
 use std::sync::Mutex;
@@ -35,7 +38,9 @@ fn entries<'a>(resolver: &'a RodeoResolver) -> lasso::Iter<'a, Spur> {
 }
 
 fn shown(resolver: &dyn Resolver, keys: impl IntoIterator<Item = Spur>) -> String {
-    keys.into_iter().map(|key| resolver.resolve(&key).to_owned() + ";").collect()
+    keys.into_iter()
+        .map(|key| resolver.resolve(&key).to_owned() + ";")
+        .collect()
 }
 
 fn intern_twice(interner: &mut dyn Interner, text: &str) -> bool {
@@ -48,7 +53,10 @@ static SHARED: Mutex<Option<Rodeo>> = Mutex::new(None);
 fn a_program_for_lasso_runs() -> Result<(), Box<dyn std::error::Error>> {
     let capacity = Capacity::new(100, NonZeroUsize::new(1024).ok_or("0")?);
     let mut rodeo = Rodeo::with_capacity(capacity);
-    let mut names = Names { rodeo: &mut rodeo, lines: HashMap::new() };
+    let mut names = Names {
+        rodeo: &mut rodeo,
+        lines: HashMap::new(),
+    };
     let main = names.see(1, "main")?;
     names.see(2, "print")?;
     assert_eq!(names.see(9, "main")?, main);
@@ -58,11 +66,19 @@ fn a_program_for_lasso_runs() -> Result<(), Box<dyn std::error::Error>> {
     assert_eq!(longest(rodeo.strings()), Some("a rather long name"));
     *SHARED.lock()? = Some(rodeo.clone());
 
-    let compiler = Compiler { names: rodeo.into_reader(), limits: MemoryLimits::default() };
+    let compiler = Compiler {
+        names: rodeo.into_reader(),
+        limits: MemoryLimits::default(),
+    };
     assert_eq!(compiler.limits.max_memory_usage(), usize::MAX);
     assert_eq!(shown(&compiler.names, [main, main]), "main;main;");
     let resolver = compiler.names.into_resolver();
-    assert_eq!(entries(&resolver).map(|(_, text)| text.len()).sum::<usize>(), 27);
+    assert_eq!(
+        entries(&resolver)
+            .map(|(_, text)| text.len())
+            .sum::<usize>(),
+        27
+    );
     assert!(SHARED.lock()?.as_ref().ok_or("none")? == &resolver);
     Ok(())
 }

@@ -24,29 +24,47 @@ fn a_reader_has_the_keys_and_texts() {
         let key = key(position);
         assert_eq!(reader.get(text), Some(key));
         assert!(reader.contains(text) && reader.contains_key(&key));
-        assert_eq!((reader.resolve(&key), reader.try_resolve(&key)), (text, Some(text)));
+        assert_eq!(
+            (reader.resolve(&key), reader.try_resolve(&key)),
+            (text, Some(text))
+        );
         assert_eq!(&reader[key], text);
         // SAFETY: the reader has a text of this key.
         assert_eq!(unsafe { reader.resolve_unchecked(&key) }, text);
     }
     assert_eq!((reader.get("blue"), reader.contains("blue")), (None, false));
-    assert_eq!((reader.try_resolve(&key(4)), reader.contains_key(&key(4))), (None, false));
+    assert_eq!(
+        (reader.try_resolve(&key(4)), reader.contains_key(&key(4))),
+        (None, false)
+    );
     assert_eq!((reader.len(), reader.is_empty()), (4, false));
     let _: &std::collections::hash_map::RandomState = reader.hasher();
 }
 
 #[test]
 fn a_resolver_has_the_texts() {
-    for resolver in [rodeo().into_resolver(), rodeo().into_reader().into_resolver()] {
+    for resolver in [
+        rodeo().into_resolver(),
+        rodeo().into_reader().into_resolver(),
+    ] {
         for (position, text) in TEXTS.into_iter().enumerate() {
             let key = key(position);
             assert!(resolver.contains_key(&key));
-            assert_eq!((resolver.resolve(&key), resolver.try_resolve(&key)), (text, Some(text)));
+            assert_eq!(
+                (resolver.resolve(&key), resolver.try_resolve(&key)),
+                (text, Some(text))
+            );
             assert_eq!(&resolver[key], text);
             // SAFETY: the resolver has a text of this key.
             assert_eq!(unsafe { resolver.resolve_unchecked(&key) }, text);
         }
-        assert_eq!((resolver.try_resolve(&key(4)), resolver.contains_key(&key(4))), (None, false));
+        assert_eq!(
+            (
+                resolver.try_resolve(&key(4)),
+                resolver.contains_key(&key(4))
+            ),
+            (None, false)
+        );
         assert_eq!((resolver.len(), resolver.is_empty()), (4, false));
     }
 }
@@ -72,18 +90,32 @@ fn a_resolver_panics_past_its_texts() {
     rodeo().into_resolver().resolve(&key(4));
 }
 
-// A walk over the keys and one over the texts give the same from both ends, and know how many are left.
+// A walk over the keys and one over the texts give the same from both ends, and know how many are
+// left.
 fn walks_give_all(iter: Iter<'_, Spur>, strings: Strings<'_, Spur>) {
-    let entries: Vec<(Spur, &str)> = TEXTS.into_iter().enumerate().map(|(at, text)| (key(at), text)).collect();
+    let entries: Vec<(Spur, &str)> = TEXTS
+        .into_iter()
+        .enumerate()
+        .map(|(at, text)| (key(at), text))
+        .collect();
     assert_eq!((iter.len(), strings.size_hint()), (4, (4, Some(4))));
     assert_eq!(iter.clone().collect::<Vec<_>>(), entries);
     assert!(iter.clone().rev().eq(entries.iter().rev().copied()));
     assert!(strings.clone().eq(TEXTS) && strings.clone().rev().eq(TEXTS.into_iter().rev()));
-    assert_eq!(format!("{:?} {:?}", iter, strings), format!("{TEXTS:?} {TEXTS:?}"));
+    assert_eq!(
+        format!("{:?} {:?}", iter, strings),
+        format!("{TEXTS:?} {TEXTS:?}")
+    );
 
     let (mut front, mut texts) = (iter.clone(), strings.clone());
-    assert_eq!((front.nth(1), texts.nth(1)), (Some(entries[1]), Some(TEXTS[1])));
-    assert_eq!((front.nth_back(1), texts.nth_back(1)), (Some(entries[2]), Some(TEXTS[2])));
+    assert_eq!(
+        (front.nth(1), texts.nth(1)),
+        (Some(entries[1]), Some(TEXTS[1]))
+    );
+    assert_eq!(
+        (front.nth_back(1), texts.nth_back(1)),
+        (Some(entries[2]), Some(TEXTS[2]))
+    );
     assert_eq!((front.len(), texts.len()), (0, 0));
     for _ in 0..2 {
         assert_eq!((front.next(), front.next_back()), (None, None));
@@ -108,8 +140,18 @@ fn walks_give_all_texts_from_both_ends() {
 
 #[test]
 fn equality_is_that_of_texts_in_their_order() {
-    let lists: [&[&str]; 6] = [&[], &["a"], &["b"], &["a", "b"], &["b", "a"], &["a", "b", ""]];
-    for (left, right) in lists.iter().flat_map(|left| lists.iter().map(move |right| (left, right))) {
+    let lists: [&[&str]; 6] = [
+        &[],
+        &["a"],
+        &["b"],
+        &["a", "b"],
+        &["b", "a"],
+        &["a", "b", ""],
+    ];
+    for (left, right) in lists
+        .iter()
+        .flat_map(|left| lists.iter().map(move |right| (left, right)))
+    {
         let equal = left == right;
         let rodeos: [Rodeo; 2] = [left.iter().collect(), right.iter().collect()];
         let readers: [RodeoReader; 2] = rodeos.clone().map(Rodeo::into_reader);
@@ -133,8 +175,14 @@ fn equality_is_that_of_texts_in_their_order() {
 fn debug_shows_the_texts() {
     let reader: Rodeo = ["red", "blue"].into_iter().collect();
     let reader = reader.into_reader();
-    assert_eq!(format!("{reader:?}"), r#"RodeoReader { strings: ["red", "blue"] }"#);
-    assert_eq!(format!("{:?}", reader.into_resolver()), r#"RodeoResolver { strings: ["red", "blue"] }"#);
+    assert_eq!(
+        format!("{reader:?}"),
+        r#"RodeoReader { strings: ["red", "blue"] }"#
+    );
+    assert_eq!(
+        format!("{:?}", reader.into_resolver()),
+        r#"RodeoResolver { strings: ["red", "blue"] }"#
+    );
 }
 
 #[test]
@@ -164,7 +212,9 @@ fn a_rodeo_moves_from_thread_to_thread() {
 
 #[test]
 fn threads_share_a_reader() {
-    let texts: Vec<String> = (0..400).map(|it| text_of(1000 + it, [4, 14, 15, 16, 90][it % 5])).collect();
+    let texts: Vec<String> = (0..400)
+        .map(|it| text_of(1000 + it, [4, 14, 15, 16, 90][it % 5]))
+        .collect();
     let rodeo: Rodeo = texts.iter().collect();
     let reader = Arc::new(rodeo.into_reader());
     let together = Arc::new(Barrier::new(4));

@@ -1,8 +1,8 @@
 //! The interfaces: generic code, borrowed and boxed interners, and objects.
 
 use lasso_proved::{
-    Interner, IntoReader, IntoReaderAndResolver, IntoResolver, Key, LassoResult, Reader, Resolver, Rodeo,
-    RodeoReader, RodeoResolver, Spur,
+    Interner, IntoReader, IntoReaderAndResolver, IntoResolver, Key, LassoResult, Reader, Resolver,
+    Rodeo, RodeoReader, RodeoResolver, Spur,
 };
 
 const TEXTS: [&str; 3] = ["red", "green", "a text of more than fourteen bytes"];
@@ -33,11 +33,20 @@ fn resolve_all(resolver: impl Resolver) {
     for (position, text) in TEXTS.into_iter().enumerate() {
         let key = key(position);
         assert!(resolver.contains_key(&key));
-        assert_eq!((resolver.resolve(&key), resolver.try_resolve(&key)), (text, Some(text)));
+        assert_eq!(
+            (resolver.resolve(&key), resolver.try_resolve(&key)),
+            (text, Some(text))
+        );
         // SAFETY: there is a text of this key.
         assert_eq!(unsafe { resolver.resolve_unchecked(&key) }, text);
     }
-    assert_eq!((resolver.contains_key(&key(3)), resolver.try_resolve(&key(3))), (false, None));
+    assert_eq!(
+        (
+            resolver.contains_key(&key(3)),
+            resolver.try_resolve(&key(3))
+        ),
+        (false, None)
+    );
     assert_eq!((resolver.len(), resolver.is_empty()), (3, false));
 }
 
@@ -151,13 +160,35 @@ impl Interner for Fixed {
 }
 
 fn each_call_is_the_inner_one(mut interner: impl Interner) {
-    assert_eq!((interner.resolve(&key(0)), interner.try_resolve(&key(0))), ("checked", None));
+    assert_eq!(
+        (interner.resolve(&key(0)), interner.try_resolve(&key(0))),
+        ("checked", None)
+    );
     // SAFETY: this interner has a text for any key.
     assert_eq!(unsafe { interner.resolve_unchecked(&key(0)) }, "unchecked");
-    assert_eq!((interner.contains_key(&key(0)), interner.len(), interner.is_empty()), (true, 7, true));
-    assert_eq!((interner.get(""), interner.contains("")), (Some(key(1)), false));
-    assert_eq!((interner.get_or_intern(""), interner.try_get_or_intern("")), (key(2), Ok(key(3))));
-    assert_eq!((interner.get_or_intern_static(""), interner.try_get_or_intern_static("")), (key(4), Ok(key(5))));
+    assert_eq!(
+        (
+            interner.contains_key(&key(0)),
+            interner.len(),
+            interner.is_empty()
+        ),
+        (true, 7, true)
+    );
+    assert_eq!(
+        (interner.get(""), interner.contains("")),
+        (Some(key(1)), false)
+    );
+    assert_eq!(
+        (interner.get_or_intern(""), interner.try_get_or_intern("")),
+        (key(2), Ok(key(3)))
+    );
+    assert_eq!(
+        (
+            interner.get_or_intern_static(""),
+            interner.try_get_or_intern_static("")
+        ),
+        (key(4), Ok(key(5)))
+    );
 }
 
 #[test]
@@ -167,6 +198,12 @@ fn a_call_of_what_is_borrowed_or_boxed_is_the_inner_call() {
     each_call_is_the_inner_one(Box::new(Fixed));
     each_call_is_the_inner_one(Box::new(Fixed) as Box<dyn Interner>);
     let by_reference: &dyn Reader = &&Fixed;
-    assert_eq!((by_reference.resolve(&key(0)), by_reference.get("")), ("checked", Some(key(1))));
-    assert_eq!((by_reference.is_empty(), by_reference.contains("")), (true, false));
+    assert_eq!(
+        (by_reference.resolve(&key(0)), by_reference.get("")),
+        ("checked", Some(key(1)))
+    );
+    assert_eq!(
+        (by_reference.is_empty(), by_reference.contains("")),
+        (true, false)
+    );
 }

@@ -38,7 +38,10 @@ fn a_key_holds_its_position_plus_one() {
 #[test]
 fn debug_shows_the_type_and_its_number() {
     assert_eq!(format!("{:?}", Spur::default()), "Spur(1)");
-    assert_eq!(format!("{:?}", LargeSpur::try_from_usize(9)), "Some(LargeSpur(10))");
+    assert_eq!(
+        format!("{:?}", LargeSpur::try_from_usize(9)),
+        "Some(LargeSpur(10))"
+    );
     assert_eq!(format!("{:#?}", MiniSpur::default()), "MiniSpur(1)");
     assert_eq!(format!("{:03?}", MicroSpur::default()), "MicroSpur(001)");
 }
@@ -54,7 +57,10 @@ fn fill(intern: impl Fn(&mut Rodeo<MicroSpur>, &'static str) -> Result<MicroSpur
     let before = rodeo.clone();
     let memory = rodeo.current_memory_usage();
     for text in ["more", "", "a text that does not lie in the list"] {
-        assert_eq!(intern(&mut rodeo, text), Err(LassoErrorKind::KeySpaceExhaustion));
+        assert_eq!(
+            intern(&mut rodeo, text),
+            Err(LassoErrorKind::KeySpaceExhaustion)
+        );
         assert_eq!(rodeo.get(text), None);
     }
     assert_eq!(intern(&mut rodeo, "last"), Ok(last));
@@ -69,7 +75,11 @@ fn fill(intern: impl Fn(&mut Rodeo<MicroSpur>, &'static str) -> Result<MicroSpur
 #[test]
 fn a_text_without_a_key_is_refused_and_not_interned() {
     fill(|rodeo, text| rodeo.try_get_or_intern(text).map_err(|error| error.kind()));
-    fill(|rodeo, text| rodeo.try_get_or_intern_static(text).map_err(|error| error.kind()));
+    fill(|rodeo, text| {
+        rodeo
+            .try_get_or_intern_static(text)
+            .map_err(|error| error.kind())
+    });
     fill(|rodeo, text| Interner::try_get_or_intern(rodeo, text).map_err(|error| error.kind()));
 }
 
@@ -110,11 +120,18 @@ fn a_key_type_of_the_callers_serves() {
     let mut rodeo: Rodeo<Pair> = Rodeo::new();
     assert_eq!(rodeo.get_or_intern("a"), Pair::First);
     assert_eq!(rodeo.get_or_intern("b"), Pair::Second);
-    assert!(rodeo.try_get_or_intern("c").unwrap_err().kind().is_keyspace_exhaustion());
+    assert!(rodeo
+        .try_get_or_intern("c")
+        .unwrap_err()
+        .kind()
+        .is_keyspace_exhaustion());
     assert_eq!(rodeo.try_get_or_intern("b"), Ok(Pair::Second));
     let reader = rodeo.into_reader();
     assert_eq!(reader.get("b"), Some(Pair::Second));
-    assert_eq!(reader.iter().collect::<Vec<_>>(), [(Pair::First, "a"), (Pair::Second, "b")]);
+    assert_eq!(
+        reader.iter().collect::<Vec<_>>(),
+        [(Pair::First, "a"), (Pair::Second, "b")]
+    );
     assert_eq!(reader.into_resolver().resolve(&Pair::First), "a");
 }
 

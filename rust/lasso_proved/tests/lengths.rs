@@ -38,8 +38,13 @@ fn texts_stay_the_same_while_the_list_grows() {
             }
         }
         let reader = rodeo.into_reader();
-        assert!(reader.strings().eq((1000..9000).map(|it| text_of(it, length))));
-        assert_eq!(reader.get(text_of(8999, length)), Spur::try_from_usize(7999));
+        assert!(reader
+            .strings()
+            .eq((1000..9000).map(|it| text_of(it, length))));
+        assert_eq!(
+            reader.get(text_of(8999, length)),
+            Spur::try_from_usize(7999)
+        );
     }
 }
 
@@ -50,6 +55,9 @@ fn texts_with_a_common_beginning_are_told_apart() {
         assert_eq!(rodeo.get_or_intern("x".repeat(length)).into_usize(), length);
     }
     for length in 0..200 {
-        assert_eq!(rodeo.resolve(&Spur::try_from_usize(length).unwrap()).len(), length);
+        assert_eq!(
+            rodeo.resolve(&Spur::try_from_usize(length).unwrap()).len(),
+            length
+        );
     }
 }

@@ -24,7 +24,9 @@ impl Model {
     }
 
     fn key(&self, text: &str) -> Option<Spur> {
-        self.positions.get(text).and_then(|position| Spur::try_from_usize(*position))
+        self.positions
+            .get(text)
+            .and_then(|position| Spur::try_from_usize(*position))
     }
 }
 
@@ -39,7 +41,11 @@ fn some_text(numbers: &mut Numbers) -> String {
 fn same_lists(rodeo: &Rodeo, model: &Model) {
     assert_eq!(rodeo.len(), model.texts.len());
     assert!(rodeo.strings().eq(model.texts.iter()));
-    assert!(rodeo.iter().rev().map(|(key, _)| key.into_usize()).eq((0..model.texts.len()).rev()));
+    assert!(rodeo
+        .iter()
+        .rev()
+        .map(|(key, _)| key.into_usize())
+        .eq((0..model.texts.len()).rev()));
 }
 
 // A call that reads, of a text or of a position that may lie past the last one.
@@ -49,7 +55,10 @@ fn read(rodeo: &Rodeo, model: &Model, numbers: &mut Numbers) {
     assert_eq!(rodeo.contains(&text), model.positions.contains_key(&text));
     let position = numbers.below(model.texts.len() + 3);
     let key = Spur::try_from_usize(position).unwrap();
-    assert_eq!(rodeo.try_resolve(&key), model.texts.get(position).map(String::as_str));
+    assert_eq!(
+        rodeo.try_resolve(&key),
+        model.texts.get(position).map(String::as_str)
+    );
     assert_eq!(rodeo.contains_key(&key), position < model.texts.len());
 }
 

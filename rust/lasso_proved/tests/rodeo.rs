@@ -28,10 +28,23 @@ fn each_maker_makes_an_interner_without_texts() {
         Rodeo::with_capacity_memory_limits_and_hasher(capacity, limits, RandomState::new()),
     ];
     let bytes = [4096, 4096, 100, 4096, 100, 4096, 100, 100];
-    let most = [usize::MAX, usize::MAX, usize::MAX, 1000, 1000, usize::MAX, usize::MAX, 1000];
+    let most = [
+        usize::MAX,
+        usize::MAX,
+        usize::MAX,
+        1000,
+        1000,
+        usize::MAX,
+        usize::MAX,
+        1000,
+    ];
     for (number, mut rodeo) in made.into_iter().enumerate() {
         assert!(rodeo.is_empty(), "maker {number}");
-        assert_eq!(rodeo.current_memory_usage(), bytes[number], "maker {number}");
+        assert_eq!(
+            rodeo.current_memory_usage(),
+            bytes[number],
+            "maker {number}"
+        );
         assert_eq!(rodeo.max_memory_usage(), most[number], "maker {number}");
         assert_eq!(rodeo.get_or_intern("red"), key(0), "maker {number}");
     }
@@ -114,7 +127,17 @@ fn an_index_past_the_texts_panics() {
 
 #[test]
 fn texts_are_any_utf8() {
-    let texts = ["", "\0", "\0\0", "é", "e\u{301}", "漢字", "\u{10ffff}", " ", "a\nb"];
+    let texts = [
+        "",
+        "\0",
+        "\0\0",
+        "é",
+        "e\u{301}",
+        "漢字",
+        "\u{10ffff}",
+        " ",
+        "a\nb",
+    ];
     let mut rodeo = Rodeo::default();
     for (position, text) in texts.into_iter().enumerate() {
         assert_eq!(rodeo.get_or_intern(text), key(position));
@@ -135,7 +158,9 @@ fn a_text_may_be_looked_up_by_what_the_interner_has_lent() {
 #[test]
 fn several_lent_texts_are_good_at_once() {
     let rodeo = colours();
-    let lent: Vec<&str> = (0..3).map(|position| rodeo.resolve(&key(position))).collect();
+    let lent: Vec<&str> = (0..3)
+        .map(|position| rodeo.resolve(&key(position)))
+        .collect();
     assert_eq!(rodeo.len(), 3);
     assert!(rodeo.contains("red"));
     assert_eq!(lent, ["red", "green", "blue"]);
@@ -200,7 +225,13 @@ fn a_clone_has_the_texts_and_is_its_own() {
     copy.get_or_intern("pink");
     rodeo.clear();
     drop(rodeo);
-    assert!(copy.strings().eq(["red", "green", "blue", "a text that does not lie in the list", "pink"]));
+    assert!(copy.strings().eq([
+        "red",
+        "green",
+        "blue",
+        "a text that does not lie in the list",
+        "pink"
+    ]));
     assert!(Rodeo::default().clone().is_empty());
 }
 
@@ -218,7 +249,9 @@ fn a_copy_over_another_replaces_its_texts() {
 
 #[test]
 fn a_collection_of_texts_is_interned_in_order() {
-    let mut rodeo: Rodeo = vec!["a".to_owned(), "b".to_owned(), "a".to_owned()].into_iter().collect();
+    let mut rodeo: Rodeo = vec!["a".to_owned(), "b".to_owned(), "a".to_owned()]
+        .into_iter()
+        .collect();
     rodeo.extend(&["b", "c"]);
     rodeo.extend(vec![String::from("d")]);
     assert!(rodeo.strings().eq(["a", "b", "c", "d"]));
@@ -237,7 +270,8 @@ fn a_panic_of_the_callers_leaves_the_interner_good() {
         }
     }
     let mut rodeo = colours();
-    let caught = std::panic::catch_unwind(std::panic::AssertUnwindSafe(|| rodeo.get_or_intern(Panics)));
+    let caught =
+        std::panic::catch_unwind(std::panic::AssertUnwindSafe(|| rodeo.get_or_intern(Panics)));
     assert!(caught.is_err());
     assert!(std::panic::catch_unwind(|| rodeo.resolve(&key(7)).len()).is_err());
     assert_eq!(rodeo.get_or_intern("pink"), key(3));

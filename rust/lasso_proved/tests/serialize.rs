@@ -90,7 +90,11 @@ impl Serializer for Sequences {
         Err(ser::Error::custom("serialize_some"))
     }
 
-    fn serialize_newtype_struct<T: Serialize + ?Sized>(self, _: &'static str, _: &T) -> Result<Sequence, Error> {
+    fn serialize_newtype_struct<T: Serialize + ?Sized>(
+        self,
+        _: &'static str,
+        _: &T,
+    ) -> Result<Sequence, Error> {
         Err(ser::Error::custom("serialize_newtype_struct"))
     }
 
@@ -111,8 +115,9 @@ fn written(interner: &impl Serialize) -> Vec<String> {
     texts
 }
 
-fn read<'de, T: Deserialize<'de>>(texts: &[&'static str]) -> Result<T, String> {
-    let texts: SeqDeserializer<_, Error> = SeqDeserializer::new(texts.to_vec().into_iter());
+fn read<'de, T: Deserialize<'de>>(texts: &[impl AsRef<str>]) -> Result<T, String> {
+    let texts = texts.iter().map(|text| text.as_ref().to_owned());
+    let texts: SeqDeserializer<_, Error> = SeqDeserializer::new(texts);
     T::deserialize(texts).map_err(|error| error.to_string())
 }
 
@@ -135,27 +140,42 @@ fn interners_are_read_with_the_keys_of_positions() {
     assert_eq!(rodeo.max_memory_usage(), usize::MAX);
     assert_eq!(rodeo.get_or_intern("green").into_usize(), 4);
     let reader: RodeoReader = read(&TEXTS).unwrap();
-    assert_eq!((reader.get("blue"), reader.resolve(&blue)), (Some(blue), "blue"));
+    assert_eq!(
+        (reader.get("blue"), reader.resolve(&blue)),
+        (Some(blue), "blue")
+    );
     let resolver: RodeoResolver = read(&TEXTS).unwrap();
     assert!(resolver == reader && resolver.strings().eq(TEXTS));
-    assert!(read::<Rodeo>(&[]).unwrap().is_empty());
-    assert!(read::<RodeoReader>(&[]).unwrap().is_empty());
-    assert!(read::<RodeoResolver>(&[]).unwrap().is_empty());
+    let none = [""; 0];
+    assert!(read::<Rodeo>(&none).unwrap().is_empty());
+    assert!(read::<RodeoReader>(&none).unwrap().is_empty());
+    assert!(read::<RodeoResolver>(&none).unwrap().is_empty());
 }
 
 #[test]
 fn a_text_that_comes_twice_is_refused_but_by_a_resolver() {
     let doubled = ["red", "blue", "red", "green"];
-    assert_eq!(read::<Rodeo>(&doubled), Err(r#"text 2 came before: "red""#.to_owned()));
-    assert_eq!(read::<RodeoReader>(&doubled), Err(r#"text 2 came before: "red""#.to_owned()));
-    assert!(read::<RodeoResolver>(&doubled).unwrap().strings().eq(doubled));
+    assert_eq!(
+        read::<Rodeo>(&doubled),
+        Err(r#"text 2 came before: "red""#.to_owned())
+    );
+    assert_eq!(
+        read::<RodeoReader>(&doubled),
+        Err(r#"text 2 came before: "red""#.to_owned())
+    );
+    assert!(read::<RodeoResolver>(&doubled)
+        .unwrap()
+        .strings()
+        .eq(doubled));
 }
 
 #[test]
 fn more_texts_than_keys_are_refused() {
-    let texts: Vec<&'static str> = (0..256).map(|it| &*Box::leak(it.to_string().into_boxed_str())).collect();
+    let texts: Vec<String> = (0..256).map(|it| it.to_string()).collect();
     assert!(read::<Rodeo<MicroSpur>>(&texts[..255]).is_ok());
-    assert!(read::<Rodeo<MicroSpur>>(&texts).unwrap_err().contains("no key is left"));
+    assert!(read::<Rodeo<MicroSpur>>(&texts)
+        .unwrap_err()
+        .contains("no key is left"));
 }
 
 #[test]

@@ -1,4 +1,5 @@
-//! The interfaces of `Rodeo`, `RodeoReader` and `RodeoResolver`: each call is the type's own call of that name.
+//! The interfaces of `Rodeo`, `RodeoReader` and `RodeoResolver`: each call is the type's own call
+//! of that name.
 
 use crate::{
     Interner, IntoReader, IntoReaderAndResolver, IntoResolver, Key, LassoResult, Reader, Resolver,

@@ -7,8 +7,8 @@ use std::hash::BuildHasher;
 use std::marker::PhantomData;
 
 impl<K: Key, S: BuildHasher + Clone> Rodeo<K, S> {
-    /// Another interner with the same texts under the same keys. Its limit is this one's, or the bytes of the texts if
-    /// they are more.
+    /// Another interner with the same texts under the same keys. Its limit is this one's, or the
+    /// bytes of the texts if they are more.
     ///
     /// # Errors
     ///
@@ -31,8 +31,8 @@ impl<K: Key, S: BuildHasher + Clone> Rodeo<K, S> {
         })
     }
 
-    /// Forgets all texts, as [`clear`](Self::clear) does, and copies those of `source` here, under the same keys. The limit
-    /// stays this interner's own, and its buckets are filled again.
+    /// Forgets all texts, as [`clear`](Self::clear) does, and copies those of `source` here, under
+    /// the same keys. The limit stays this interner's own, and its buckets are filled again.
     ///
     /// # Errors
     ///
