@@ -21,7 +21,7 @@ fn main() {
         println!("cargo:rerun-if-env-changed={name}");
     }
     let linked = match env::var("LASSO_LIB_DIR") {
-        Ok(folder) => link_archive(&Path::new(&folder).join("liblasso.a")),
+        Ok(folder) => link_archive(Path::new(&folder)),
         Err(env::VarError::NotPresent) => link_by_pkg_config(),
         Err(error) => Err(format!("LASSO_LIB_DIR can't be read: {error}")),
     };
@@ -31,14 +31,18 @@ fn main() {
     }
 }
 
-/// Links one file, the library with all that it needs.
-fn link_archive(file: &Path) -> Result<(), String> {
-    let folder = match file.parent() {
-        Some(folder) if file.is_file() => folder.display(),
-        _ => return Err(format!("There is no file {}", file.display())),
-    };
+/// Links `liblasso.a` of a folder, which has all that it needs.
+fn link_archive(folder: &Path) -> Result<(), String> {
+    let shown = folder.display();
+    let folder = folder
+        .canonicalize()
+        .map_err(|error| format!("The folder {shown} can't be read: {error}"))?;
+    let file = folder.join("liblasso.a");
+    if !file.is_file() {
+        return Err(format!("The folder {shown} has no liblasso.a"));
+    }
     println!("cargo:rerun-if-changed={}", file.display());
-    println!("cargo:rustc-link-search=native={folder}");
+    println!("cargo:rustc-link-search=native={}", folder.display());
     println!("cargo:rustc-link-lib=static=lasso");
     Ok(())
 }
@@ -65,8 +69,8 @@ fn link_by_pkg_config() -> Result<(), String> {
             println!("cargo:rustc-link-search=native={folder}");
         } else if let Some(library) = word.strip_prefix("-l") {
             println!("cargo:rustc-link-lib={library}");
-        } else if word.ends_with("/liblasso.a") {
-            link_archive(Path::new(word))?;
+        } else if let Some(folder) = word.strip_suffix("/liblasso.a") {
+            link_archive(Path::new(folder))?;
         } else {
             return Err(format!(
                 "{command} names {word}, which this crate can't link"
