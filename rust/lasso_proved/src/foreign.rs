@@ -160,6 +160,7 @@ impl Handle {
 
     /// The code of a text, which is appended if it is absent. If an absent text is refused, nothing
     /// has changed.
+    #[inline]
     pub(crate) fn intern(&mut self, text: &str) -> LassoResult<u32> {
         let (lasso, mut code) = (self.lasso.get_mut(), 0);
         // SAFETY: a handle that lends no text now, another's text, and a variable (1, 2, 4).
@@ -187,6 +188,7 @@ impl Handle {
     }
 
     /// The code of a text, or `None` if it is absent.
+    #[inline]
     pub(crate) fn get(&self, text: &str) -> Option<u32> {
         let (lasso, mut code) = (self.lasso.get(), 0);
         // SAFETY: a handle, a text, and a variable (1, 2). If this handle lends the text, it stays
@@ -230,11 +232,13 @@ impl Handle {
 }
 
 impl TextList for Handle {
+    #[inline]
     fn len(&self) -> usize {
         // SAFETY: a handle (1, 2, 4).
         unsafe { lasso_len(self.lasso.get()) }
     }
 
+    #[inline]
     fn text(&self, position: usize) -> Option<&str> {
         let code = u32::try_from(position).ok()?;
         let mut text = LassoText::NONE;
@@ -281,6 +285,7 @@ impl SharedHandle {
     }
 
     /// The code of a text, or `None` if it is absent.
+    #[inline]
     pub(crate) fn get(&self, text: &str) -> Option<u32> {
         let handle = self.handle.lock().unwrap_or_else(PoisonError::into_inner);
         handle.get(text)
@@ -288,10 +293,12 @@ impl SharedHandle {
 }
 
 impl TextList for SharedHandle {
+    #[inline]
     fn len(&self) -> usize {
         self.texts.len()
     }
 
+    #[inline]
     fn text(&self, position: usize) -> Option<&str> {
         let text = self.texts.get(position)?;
         // SAFETY: the handle has lent it, and this value is borrowed as long as the `str` is used:

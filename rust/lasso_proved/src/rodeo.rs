@@ -266,7 +266,7 @@ pub(crate) fn key_of<K: Key>(code: u32) -> K {
 ///
 /// If the list has none at the key's position.
 #[track_caller]
-pub(crate) fn text_of<'a, K: Key>(texts: &'a dyn TextList, key: &K) -> &'a str {
+pub(crate) fn text_of<'a, K: Key>(texts: &'a impl TextList, key: &K) -> &'a str {
     let position = key.into_usize();
     match texts.text(position) {
         Some(text) => text,

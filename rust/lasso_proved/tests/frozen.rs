@@ -90,8 +90,7 @@ fn a_resolver_panics_past_its_texts() {
     rodeo().into_resolver().resolve(&key(4));
 }
 
-// A walk over the keys and one over the texts give the same from both ends, and know how many are
-// left.
+// Both walks give all texts from both ends, and know how many are left.
 fn walks_give_all(iter: Iter<'_, Spur>, strings: Strings<'_, Spur>) {
     let entries: Vec<(Spur, &str)> = TEXTS
         .into_iter()

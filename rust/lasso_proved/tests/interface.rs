@@ -111,7 +111,7 @@ fn interners_become_readers_and_resolvers() {
     resolve_all(resolver_of(interner));
 }
 
-/// An interner of a caller's that has interned each text already.
+/// An interner of another crate. Each call gives another answer, so that none can stand for another.
 struct Fixed;
 
 impl Resolver for Fixed {

@@ -46,7 +46,7 @@ fn debug_shows_the_type_and_its_number() {
     assert_eq!(format!("{:03?}", MicroSpur::default()), "MicroSpur(001)");
 }
 
-// Fills an interner of keys of one byte, and finds that nothing changes when a text is refused.
+// Fills an interner whose keys have one byte, and checks that a text without a key changes nothing.
 fn fill(intern: impl Fn(&mut Rodeo<MicroSpur>, &'static str) -> Result<MicroSpur, LassoErrorKind>) {
     let mut rodeo: Rodeo<MicroSpur> = Rodeo::new();
     for number in 0..254 {

@@ -32,7 +32,7 @@ impl Model {
 
 const LENGTHS: [usize; 9] = [0, 3, 13, 14, 15, 16, 40, 300, 5000];
 
-/// One of 4500 texts of nine lengths.
+/// One of 4001 texts: the empty one, and 500 of each of eight lengths.
 fn some_text(numbers: &mut Numbers) -> String {
     let number = 100 + numbers.below(500);
     text_of(number, LENGTHS[numbers.below(LENGTHS.len())])
@@ -48,7 +48,7 @@ fn same_lists(rodeo: &Rodeo, model: &Model) {
         .eq((0..model.texts.len()).rev()));
 }
 
-// A call that reads, of a text or of a position that may lie past the last one.
+// Looks a text up, and a position, which may lie past the last text.
 fn read(rodeo: &Rodeo, model: &Model, numbers: &mut Numbers) {
     let text = some_text(numbers);
     assert_eq!(rodeo.get(&text), model.key(&text));
@@ -62,7 +62,7 @@ fn read(rodeo: &Rodeo, model: &Model, numbers: &mut Numbers) {
     assert_eq!(rodeo.contains_key(&key), position < model.texts.len());
 }
 
-// Frozen copies of the interner have its texts, and the reader its keys.
+// A reader and a resolver of the same texts have them, and the reader finds their keys.
 fn freeze(rodeo: &Rodeo, model: &Model, numbers: &mut Numbers) {
     let (reader, resolver) = (rodeo.clone().into_reader(), rodeo.clone().into_resolver());
     assert!(reader.strings().eq(model.texts.iter()));

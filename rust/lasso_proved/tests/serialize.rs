@@ -1,4 +1,4 @@
-//! serde: what is written, and what each form is read as.
+//! serde: what interners and keys are written as, and read from.
 #![cfg(feature = "serialize")]
 
 use lasso_proved::{Key, LargeSpur, MicroSpur, MiniSpur, Rodeo, RodeoReader, RodeoResolver, Spur};
@@ -16,7 +16,7 @@ impl<T: Serialize + ?Sized> fmt::Display for Shown<'_, T> {
     }
 }
 
-/// What takes one sequence, as the length that it was told and the items.
+/// A sequence as it was written: the length that was announced, and the items.
 struct Sequence(Option<usize>, Vec<String>);
 
 impl SerializeSeq for Sequence {
@@ -33,7 +33,7 @@ impl SerializeSeq for Sequence {
     }
 }
 
-/// Takes a sequence and nothing else.
+/// A serializer that takes a sequence and nothing else.
 struct Sequences;
 
 macro_rules! refused {

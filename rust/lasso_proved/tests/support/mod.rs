@@ -14,12 +14,12 @@ impl Numbers {
     }
 }
 
-/// Lengths of texts in bytes, round 14: a text of at most 14 bytes lies in the library's list,
-/// which moves when it grows.
+/// Lengths of texts in bytes. The library keeps a text of at most 14 bytes in its list, and a longer
+/// one elsewhere.
 pub const LENGTHS: [usize; 7] = [0, 1, 13, 14, 15, 16, 5000];
 
-/// A text of `length` bytes: the number's digits from the last on, and then letters of two bytes,
-/// and one of one if the length asks for it.
+/// A text of `length` bytes: the number's digits in reverse, filled up with letters, most of them of
+/// two bytes. If it has room for all digits, another number gives another text.
 pub fn text_of(number: usize, length: usize) -> String {
     let digits = number.to_string();
     let mut text: String = digits.chars().rev().take(length).collect();
