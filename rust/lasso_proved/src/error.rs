@@ -85,3 +85,29 @@ impl fmt::Display for LassoErrorKind {
         })
     }
 }
+
+#[cfg(test)]
+mod tests {
+    use super::*;
+
+    #[test]
+    fn each_kind_is_told_apart_and_named() {
+        use LassoErrorKind::{FailedAllocation, KeySpaceExhaustion, MemoryLimitReached};
+        let limit = "its memory limit has no room for the text";
+        for (kind, told, name) in [
+            (MemoryLimitReached, [true, false, false], limit),
+            (KeySpaceExhaustion, [false, true, false], "no key is left"),
+            (FailedAllocation, [false, false, true], "out of memory"),
+        ] {
+            let is = [
+                kind.is_memory_limit(),
+                kind.is_keyspace_exhaustion(),
+                kind.is_failed_alloc(),
+            ];
+            assert_eq!(is, told);
+            assert_eq!(LassoError::new(kind).kind(), kind);
+            let error: Box<dyn Error> = Box::new(LassoError::new(kind));
+            assert!(error.to_string().ends_with(name));
+        }
+    }
+}
