@@ -105,8 +105,10 @@ impl LassoText {
     /// A handle has lent it, and the lifetime ends before that handle's next call that is not a
     /// reading call.
     unsafe fn as_str<'a>(self) -> &'a str {
-        // SAFETY: the caller says for how long the bytes stay (4), and they are UTF-8 (5).
-        unsafe { str::from_utf8_unchecked(slice::from_raw_parts(self.bytes, self.length)) }
+        // SAFETY: the bytes stay for as long as the caller promises (4).
+        let bytes = unsafe { slice::from_raw_parts(self.bytes, self.length) };
+        // SAFETY: they are UTF-8 (5).
+        unsafe { str::from_utf8_unchecked(bytes) }
     }
 }
 
@@ -272,8 +274,9 @@ pub(crate) struct SharedHandle {
 // SAFETY: only `new` writes the table. It leads to bytes that nobody writes before this value is
 // dropped, since `lasso_get` is a reading call (4), made by one thread at a time, under the lock
 // (2). So what threads share without the lock they only read.
-unsafe impl Send for SharedHandle {}
 unsafe impl Sync for SharedHandle {}
+// SAFETY: the same, and the handle may be dropped in any thread.
+unsafe impl Send for SharedHandle {}
 
 impl SharedHandle {
     /// Takes an interner over. It moves, and its texts stay where they are (3, 4).

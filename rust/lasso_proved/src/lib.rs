@@ -27,6 +27,7 @@
 //! refuses. This crate is ordinary Rust over it. Its README says what differs from lasso 0.7.3.
 
 #![deny(missing_docs, missing_debug_implementations, unsafe_op_in_unsafe_fn)]
+#![warn(clippy::undocumented_unsafe_blocks)]
 
 mod equality;
 mod error;
