@@ -1,0 +1,81 @@
+//! Finds the proved library: in the folder that `LASSO_LIB_DIR` names, or else by pkg-config.
+
+use std::env;
+use std::path::Path;
+use std::process::{exit, Command};
+
+const HOW_TO_BUILD: &str = "\
+It is built in the repository of lasso, at its top:
+
+    make install    # copies it below /usr/local, where pkg-config finds it
+    make c          # or builds it only; then export LASSO_LIB_DIR=the repository's folder out";
+
+fn main() {
+    println!("cargo:rerun-if-changed=build.rs");
+    for name in [
+        "LASSO_LIB_DIR",
+        "PKG_CONFIG",
+        "PKG_CONFIG_PATH",
+        "PKG_CONFIG_LIBDIR",
+    ] {
+        println!("cargo:rerun-if-env-changed={name}");
+    }
+    let linked = match env::var("LASSO_LIB_DIR") {
+        Ok(folder) => link_archive(Path::new(&folder)),
+        Err(env::VarError::NotPresent) => link_by_pkg_config(),
+        Err(error) => Err(format!("LASSO_LIB_DIR can't be read: {error}")),
+    };
+    if let Err(reason) = linked {
+        eprintln!("lasso_proved needs the library liblasso. {reason}.\n{HOW_TO_BUILD}");
+        exit(1);
+    }
+}
+
+/// Links `liblasso.a` of a folder, which has all that it needs.
+fn link_archive(folder: &Path) -> Result<(), String> {
+    let shown = folder.display();
+    let folder = folder
+        .canonicalize()
+        .map_err(|error| format!("The folder {shown} can't be read: {error}"))?;
+    let file = folder.join("liblasso.a");
+    if !file.is_file() {
+        return Err(format!("The folder {shown} has no liblasso.a"));
+    }
+    println!("cargo:rerun-if-changed={}", file.display());
+    println!("cargo:rustc-link-search=native={}", folder.display());
+    println!("cargo:rustc-link-lib=static=lasso");
+    Ok(())
+}
+
+/// Links what lasso.pc names: the installed library, or the file that `make c` has built. Another
+/// library, of version 2, has a lasso.pc too; it is refused by its version.
+fn link_by_pkg_config() -> Result<(), String> {
+    let command = env::var("PKG_CONFIG").unwrap_or_else(|_| "pkg-config".to_owned());
+    let output = Command::new(&command)
+        .args(["--libs", "lasso < 1"])
+        .output()
+        .map_err(|error| {
+            format!("LASSO_LIB_DIR is not set, and {command} can't be run: {error}")
+        })?;
+    if !output.status.success() {
+        let told = String::from_utf8_lossy(&output.stderr);
+        return Err(format!(
+            "LASSO_LIB_DIR is not set, and {command} says: {}",
+            told.trim()
+        ));
+    }
+    for word in String::from_utf8_lossy(&output.stdout).split_whitespace() {
+        if let Some(folder) = word.strip_prefix("-L") {
+            println!("cargo:rustc-link-search=native={folder}");
+        } else if let Some(library) = word.strip_prefix("-l") {
+            println!("cargo:rustc-link-lib={library}");
+        } else if let Some(folder) = word.strip_suffix("/liblasso.a") {
+            link_archive(Path::new(folder))?;
+        } else {
+            return Err(format!(
+                "{command} names {word}, which this crate can't link"
+            ));
+        }
+    }
+    Ok(())
+}

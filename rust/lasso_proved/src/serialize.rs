@@ -1,0 +1,62 @@
+//! serde: an interner is written as the sequence of its texts in the order of their keys, and read
+//! from it.
+
+use crate::{Capacity, Key, MemoryLimits, Rodeo, RodeoReader, RodeoResolver};
+use serde::de::{Deserialize, Deserializer, Error};
+use serde::ser::{Serialize, Serializer};
+use std::hash::BuildHasher;
+use std::num::NonZeroUsize;
+
+impl<K, H> Serialize for Rodeo<K, H> {
+    fn serialize<S: Serializer>(&self, serializer: S) -> Result<S::Ok, S::Error> {
+        serializer.collect_seq(self.strings())
+    }
+}
+
+impl<K, H> Serialize for RodeoReader<K, H> {
+    fn serialize<S: Serializer>(&self, serializer: S) -> Result<S::Ok, S::Error> {
+        serializer.collect_seq(self.strings())
+    }
+}
+
+impl<K> Serialize for RodeoResolver<K> {
+    fn serialize<S: Serializer>(&self, serializer: S) -> Result<S::Ok, S::Error> {
+        serializer.collect_seq(self.strings())
+    }
+}
+
+/// Each text has the key of its position. The interner has no limit. It is an error if a text comes
+/// twice, if the key type has too few keys, and if memory is out.
+impl<'de, K: Key, S: BuildHasher + Default> Deserialize<'de> for Rodeo<K, S> {
+    fn deserialize<D: Deserializer<'de>>(deserializer: D) -> Result<Self, D::Error> {
+        let texts = Vec::<String>::deserialize(deserializer)?;
+        let bytes = NonZeroUsize::new(texts.iter().map(String::len).sum());
+        let capacity = Capacity::new(texts.len(), bytes.unwrap_or(Capacity::default().bytes()));
+        let mut rodeo = Self::try_made(capacity, MemoryLimits::default(), S::default())
+            .map_err(Error::custom)?;
+        for (position, text) in texts.iter().enumerate() {
+            rodeo.try_get_or_intern(text).map_err(Error::custom)?;
+            if rodeo.len() == position {
+                return Err(Error::custom(format_args!(
+                    "text {position} came before: {text:?}"
+                )));
+            }
+        }
+        Ok(rodeo)
+    }
+}
+
+/// As a `Rodeo` is read.
+impl<'de, K: Key, S: BuildHasher + Default> Deserialize<'de> for RodeoReader<K, S> {
+    fn deserialize<D: Deserializer<'de>>(deserializer: D) -> Result<Self, D::Error> {
+        Rodeo::deserialize(deserializer).map(Rodeo::into_reader)
+    }
+}
+
+/// Each text has the key of its position. Equal texts are kept.
+impl<'de, K: Key> Deserialize<'de> for RodeoResolver<K> {
+    fn deserialize<D: Deserializer<'de>>(deserializer: D) -> Result<Self, D::Error> {
+        let texts = Vec::<String>::deserialize(deserializer)?;
+        Ok(Self::with_texts(texts.iter().map(String::as_str)))
+    }
+}
