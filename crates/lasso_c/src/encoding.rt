@@ -8,13 +8,13 @@ ghost use Rattle.lasso_c.specs.declared.error.CallError.TheVariants.{NoMemory};
 use crate::batches::intern_column;
 use crate::error::{CallError, Sizes};
 use crate::layout::put_text;
+use crate::seed::Seed;
 use lasso_parts::keys::{Key, Spur};
-use lasso_parts::util::FixedState;
 use lasso_single::rodeo::Rodeo;
 use std::alloc::Global;
 
 // An interner whose texts are those of a dictionary, and whose keys are codes.
-pub(crate) type Dictionary = Rodeo<Spur, FixedState, Global>;
+pub(crate) type Dictionary = Rodeo<Spur, lasso_parts::util::FixedState, Global>;
 
 // A dictionary, and a code for each text that was interned.
 #[derive(Drop)]
