@@ -28,16 +28,18 @@
  * - No call is made in a signal handler, or in the forked child of a process with threads.
  *
  * lasso_encode and lasso_encode_nulls take memory from malloc and realloc, and free it before they return.
- * lasso_new, lasso_intern and the calls whose names begin with lasso_intern_batch take memory that lasso_free
- * frees. The others take none. The program's malloc, realloc and free have to be one allocator, whose blocks are
- * aligned to each power of two up to 16 that divides their size, as to 8 for 24 bytes.
+ * lasso_new, lasso_new_sized, lasso_new_keyed, lasso_clone, lasso_intern and the calls whose names begin with
+ * lasso_intern_batch take memory that lasso_free frees. The others take none. The program's malloc, realloc and
+ * free have to be one allocator, whose blocks are aligned to each power of two up to 16 that divides their size,
+ * as to 8 for 24 bytes.
  *
  * A column with nulls has a bitmap too, as Arrow has it: bit i % 8 of byte i / 8, counted from the least, is 1 if
  * row i is present and 0 if it is a null. The calls with _nulls in their names take or write one. A null has a
  * code that the caller chooses, mostly LASSO_NULL, and no text is interned for it.
  *
  * Texts are hashed with a fixed seed, so whoever chooses the texts can make them collide. Each search then takes
- * time linear in the number of distinct texts, and interning n of them time quadratic in n.
+ * time linear in the number of distinct texts, and interning n of them time quadratic in n. lasso_new_keyed
+ * hashes with keys.
  *
  * To link, after "make install" has installed the library:
  *
@@ -225,6 +227,37 @@ struct lasso {
 uint32_t lasso_new(struct lasso *lasso, size_t limit);
 
 /*
+ * lasso_new for a caller that knows how much is to come: the first bucket has bytes bytes, but at least one, and
+ * the list of texts does not grow before it has texts texts. lasso_new has 4,096 bytes and 50 texts.
+ *
+ * Returns LASSO_DONE, or LASSO_NO_MEMORY, and the handle holds what it held.
+ */
+uint32_t lasso_new_sized(struct lasso *lasso, size_t texts, size_t bytes, size_t limit);
+
+/*
+ * lasso_new for texts that strangers choose: they are hashed by SipHash-1-3 with the two keys, and not with the
+ * fixed seed. Whoever doesn't know the keys can't choose texts that collide. Take the keys from the system's
+ * source of random numbers, as getrandom, for each interner or each process, and keep them secret. The codes are
+ * the same whatever the keys. Each text takes more time than with the fixed seed.
+ *
+ * Returns LASSO_DONE, or LASSO_NO_MEMORY, and the handle holds what it held.
+ */
+uint32_t lasso_new_keyed(struct lasso *lasso, size_t limit, uint64_t key0, uint64_t key1);
+
+/*
+ * Makes an interner with the same texts and the same codes in another handle, clone, which is independent of the
+ * first. The texts' bytes are copied into one bucket of just their size (4,096 bytes if they have none). The limit
+ * is that of *lasso, or the size of that bucket if it is greater; the seed or the keys are the same. An interner
+ * that clone holds is freed once the new one is made.
+ *
+ * lasso, clone        two different handles. *lasso is only read.
+ *
+ * Returns LASSO_NO_INTERNER if *lasso holds none; LASSO_NO_MEMORY; else LASSO_DONE. If it is not LASSO_DONE, clone
+ * holds what it held.
+ */
+uint32_t lasso_clone(struct lasso *lasso, struct lasso *clone);
+
+/*
  * Interns a text, and appends it first if it is absent. *code is its code until lasso_clear, lasso_new or lasso_free.
  *
  * Returns LASSO_NOT_UTF8; LASSO_NO_INTERNER; for an absent text LASSO_NO_CODE_LEFT, LASSO_LIMIT_REACHED,
@@ -324,6 +357,43 @@ uint32_t lasso_dictionary(struct lasso *lasso, size_t from,
                           struct lasso_report *report);
 
 /*
+ * A text that an interner lends, without a copy: length bytes from bytes on, UTF-8 and without an end mark. Read it,
+ * and never write it. bytes is not NULL, also if length is 0.
+ *
+ * It lasts until the next call with the handle that is not a reading call. Reading calls are lasso_text, lasso_texts,
+ * lasso_get, lasso_resolve, lasso_dictionary, the calls whose names begin with lasso_get_batch or lasso_dictionary,
+ * lasso_len, lasso_capacity, lasso_memory, lasso_limit, and lasso_clone for the handle that it reads. What is proved
+ * covers it until the next call of any kind with the handle; that it lasts through reading calls is tested. A text of
+ * 15 bytes or more stays longer, until lasso_clear, lasso_free or a call that makes an interner in the handle: that is
+ * tested too. One of at most 14 bytes moves when the list of texts grows.
+ */
+struct lasso_text {
+    const uint8_t *bytes;
+    size_t length;
+};
+
+/* No text: what a struct lasso_text is before it is passed to a call. */
+#define LASSO_NO_TEXT {(const uint8_t *)"", 0}
+
+/*
+ * Lends the text of a code.
+ *
+ * text                the caller's, written: one struct, which before is LASSO_NO_TEXT or a text that still lasts.
+ *
+ * Returns LASSO_NO_INTERNER, LASSO_NO_SUCH_CODE, else LASSO_DONE.
+ */
+uint32_t lasso_text(struct lasso *lasso, uint32_t code, struct lasso_text *text);
+
+/*
+ * Lends the texts from a code on, in the order of their codes, as many as there are and have room. Returns how many
+ * these are; 0 without an interner, and if no text has that code or a later one.
+ *
+ * texts               the caller's, written: a struct for each text. texts_length counts structs. Each is LASSO_NO_TEXT
+ *                     before, or a text that still lasts.
+ */
+size_t lasso_texts(struct lasso *lasso, size_t from, struct lasso_text *texts, size_t texts_length);
+
+/*
  * The calls below are those without _large, for arrays of large strings, whose offsets have 64 bits. They have the same
  * statuses and reports, and write the same; LASSO_TOO_MANY_BYTES means more than 2^63 - 1 bytes.
  */
@@ -355,6 +425,9 @@ uint32_t lasso_dictionary_large(struct lasso *lasso, size_t from,
 
 /* How many texts the interner has. 0 without an interner. */
 size_t lasso_len(struct lasso *lasso);
+
+/* How many texts fit before the interner's list of texts grows, at least lasso_len. 0 without an interner. */
+size_t lasso_capacity(struct lasso *lasso);
 
 /* How many bytes the interner's buckets of texts take. 0 without an interner. */
 size_t lasso_memory(struct lasso *lasso);
@@ -553,6 +626,12 @@ static inline uint32_t lasso_dictionary_inline(struct lasso *lasso, size_t from,
                             (int32_t *)lasso_write_to(offsets, offsets_length), offsets_length, report);
 }
 #define lasso_dictionary lasso_dictionary_inline
+
+static inline size_t lasso_texts_inline(struct lasso *lasso, size_t from, struct lasso_text *texts, size_t texts_length)
+{
+    return lasso_texts(lasso, from, (struct lasso_text *)lasso_write_to(texts, texts_length), texts_length);
+}
+#define lasso_texts lasso_texts_inline
 
 static inline uint32_t lasso_intern_batch_large_inline(struct lasso *lasso,
                                                        const uint8_t *bytes, size_t bytes_length,

@@ -34,11 +34,11 @@ lacks bytes offsets k far = slice_get_past (layout_texts bytes offsets) k (omega
 
 module _ (greatest : ℕ) where
   -- nothing is wrong with a text between two rising offsets that reach no further than the bytes
-  pub good_text : (bytes : List ℕ) (at from to : ℕ) → from ≤ to → to ≤ reach greatest bytes → IsUtf8 (slice_range bytes from to) → text_fault greatest bytes at from to ≡ None
-  good_text bytes at from to rises within utf8 = let is = is_utf8-from_IsUtf8 (slice_range bytes from to) utf8 in grind (arith, nat_tests)
+  pub good_text : (bytes : List ℕ) (at from to : ℕ) → from ≤ to → to ≤ reach greatest bytes → is_utf8 (slice_range bytes from to) ≡ true → text_fault greatest bytes at from to ≡ None
+  good_text bytes at from to rises within utf8 = grind (arith, nat_tests)
 
-  pub not_text : (bytes : List ℕ) (at from to : ℕ) → from ≤ to → to ≤ reach greatest bytes → ¬ (IsUtf8 (slice_range bytes from to)) → text_fault greatest bytes at from to ≡ Some (NotUtf8 at)
-  not_text bytes at from to rises within not_utf8 = let is_not : is_utf8 (slice_range bytes from to) ≡ false = false_from_ne_true _ (λ e. not_utf8 (IsUtf8-from_is_utf8 (slice_range bytes from to) e)) in grind (arith, nat_tests)
+  pub not_text : (bytes : List ℕ) (at from to : ℕ) → from ≤ to → to ≤ reach greatest bytes → is_utf8 (slice_range bytes from to) ≡ false → text_fault greatest bytes at from to ≡ Some (NotUtf8 at)
+  not_text bytes at from to rises within not_utf8 = grind (arith, nat_tests)
 
   -- the offsets round a text with which nothing is wrong, and that it is a text
   pub text_known : (bytes : List ℕ) (at from to : ℕ) → text_fault greatest bytes at from to ≡ None → (from ≤ to) × (to ≤ reach greatest bytes) × IsUtf8 (slice_range bytes from to)

@@ -11,3 +11,5 @@ pub mod Columns
 pub mod SlotValues
 pub mod Loading
 pub mod NullsBack
+pub mod Ascii
+pub mod Seeds

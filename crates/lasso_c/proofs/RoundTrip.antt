@@ -11,6 +11,7 @@ use Rattle.std.proofs.lemmas.Bool.Decides.{nat_tests}
 use Rattle.std.proofs.lemmas.List.{drop_at, take_at}
 use Rattle.std.proofs.lemmas.List.Edits.{length-between}
 use Rattle.std.proofs.lemmas.Map.Keys.{IsDistinct-from_apart}
+use Rattle.std.proofs.lemmas.Str.{is_utf8-from_IsUtf8}
 use Rattle.lasso_parts.specs.Texts.{Text, position_of, IsDistinct}
 use Rattle.lasso_parts.proofs.TextLemmas.{distinct_push, position_here, position_last}
 use Rattle.lasso_c.specs.Layout.{greatest_offset, reach, texts_from, layout_texts, start_fault, text_fault, texts_fault, layout_fault, offsets_from}
@@ -73,7 +74,7 @@ no_faults front (text ∷ texts) at k e utf8 small =
     let here = slice_here front text (concat texts) at e in
     let whole = length-append front (text ++ concat texts) in
     let two = length-append text (concat texts) in
-    let good : text_fault greatest_offset bytes k at end ≡ None = good_text greatest_offset bytes k at end (omega arith) (omega arith) (subst IsUtf8 (sym here) utf8.0) in
+    let good : text_fault greatest_offset bytes k at end ≡ None = good_text greatest_offset bytes k at end (omega arith) (omega arith) (is_utf8-from_IsUtf8 _ (subst IsUtf8 (sym here) utf8.0)) in
     let same = append_assoc front text (concat texts) in
     let others : faults_at bytes (k + 1) (offsets_from end texts) ≡ None = ap (λ b. faults_at b (k + 1) (offsets_from end texts)) (sym same) ∙ no_faults (front ++ text) texts end (k + 1) (behind front text at e) utf8.1 (omega (arith, ap length same)) in
     fault_first bytes k at end texts ∙ ap (λ o. option_or o (faults_at bytes (k + 1) (offsets_from end texts))) good ∙ others

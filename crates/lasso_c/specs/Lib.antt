@@ -7,3 +7,6 @@ pub mod Handles
 pub mod Interning
 pub mod Held
 pub mod Laws
+pub mod Lending
+pub mod Seeds
+pub mod Ascii

@@ -8,13 +8,13 @@ ghost use Rattle.lasso_c.specs.declared.error.CallError.TheVariants.{NoMemory};
 use crate::batches::intern_column;
 use crate::error::{CallError, Sizes};
 use crate::layout::put_text;
+use crate::seed::Seed;
 use lasso_parts::keys::{Key, Spur};
-use lasso_parts::util::FixedState;
 use lasso_single::rodeo::Rodeo;
 use std::alloc::Global;
 
 // An interner whose texts are those of a dictionary, and whose keys are codes.
-pub(crate) type Dictionary = Rodeo<Spur, FixedState, Global>;
+pub(crate) type Dictionary = Rodeo<Spur, Seed, Global>;
 
 // A dictionary, and a code for each text that was interned.
 #[derive(Drop)]
@@ -103,7 +103,7 @@ fn intern_rows(
         IfOk result (λ interned. interned.codes.items ≡ row_codes null (dictionary_of (present_texts rows)) rows) }
     ensures small { IfOk result (λ interned. length (concat interned.dictionary.texts) ≤ greatest_offset) }
 {
-    let mut dictionary = Rodeo::default(alloc)?;
+    let mut dictionary = Rodeo::with_hasher(alloc, Seed::fixed())?;
     let mut codes = vec![in alloc; 0u32; offsets.len().saturating_sub(1)]?;
     let progress = intern_column(&mut dictionary, bytes, offsets, bits, null, &mut codes);
     match progress.outcome {

@@ -1,5 +1,6 @@
 //! What C holds: an interner or none.
 ghost use Rattle.std.specs.Prelude.{◌≡◌, None, Some, is_some, option_map};
+ghost use Rattle.std.specs.Borrow.{sem};
 
 use crate::slot::{Block, Interner, Slot};
 use std::alloc::Global;
@@ -13,6 +14,8 @@ pub struct Lasso {
 }
 
 impl Lasso {
+    ghost use Rattle.lasso_c.specs.Lending.{LendsHeld};
+
     // No interner.
     pub(crate) fn none(alloc: Global) -> Lasso
         ensures { result.slot.value ≡ None }
@@ -21,14 +24,6 @@ impl Lasso {
             slot: Slot::none(alloc),
             live: false,
         }
-    }
-
-    // Takes the interner out.
-    pub(crate) fn take(&mut self, alloc: Global) -> Option<Box<Interner>>
-        ensures taken { option_map (λ b. b.value) result ≡ self.old.slot.value }
-        ensures left { self.new.slot.value ≡ None }
-    {
-        std::mem::replace(self, Lasso::none(alloc)).into_box()
     }
 
     // The interner, if there is one.
@@ -40,6 +35,18 @@ impl Lasso {
             return Some(slot.into_box());
         }
         slot.end();
+        None
+    }
+
+    // The interner, lent, if there is one.
+    #[inline(always)]
+    pub(crate) fn interner(&mut self) -> Option<&mut Interner>
+        ensures* writes_back { sem 𝓛 (LendsHeld self.entry result) }
+        ensures value { option_map (λ i. i.now) result ≡ self.old.slot.value }
+    {
+        if self.live {
+            return Some(self.slot.get_mut());
+        }
         None
     }
 

@@ -1,6 +1,6 @@
 //! Interners that C holds from call to call. `include/lasso.h` says the same of each call in C's words.
 //!
-//! A call takes the interner out of its handle, works on it, and puts it back, which needs no memory.
+//! A call borrows the interner from its handle for as long as it works on it.
 ghost use Rattle.std.specs.Prelude.{◌≡◌, ◌≤◌, [], None, Some, length, slice_get, take, drop, IfSome, IsSome};
 ghost use Rattle.std.specs.List.{concat};
 ghost use Rattle.std.specs.Str.{is_utf8};
@@ -15,14 +15,14 @@ ghost use Rattle.lasso_c.specs.Status.{Reports, outcome_status};
 use crate::batches::{code_in, copy_text};
 use crate::error::{CallError, LassoReport, status_of};
 use crate::handle::Lasso;
-use crate::slot::Interner;
+use crate::making::make;
+use crate::seed::Seed;
 use crate::status::{DONE, NO_INTERNER, NO_MEMORY, NOT_UTF8};
+use crate::utf8::text_of;
 use crate::widths;
 use lasso_parts::keys::Key;
-use lasso_parts::util::MemoryLimits;
-use lasso_single::rodeo::Rodeo;
+use lasso_parts::util::{Capacity, MemoryLimits};
 use std::alloc::Global;
-use std::str::from_utf8;
 
 /// Makes an interner whose buckets take at most `limit` bytes. Once it is made, one that the handle held is let go. It returns
 /// `NO_MEMORY` out of memory, and the handle is as it was then.
@@ -35,35 +35,26 @@ pub extern "C" fn lasso_new(alloc: Global, lasso: &mut Lasso, limit: usize) -> u
     ensures refused { ¬ (result ≡ DONE) → result ≡ NO_MEMORY }
     ensures kept { ¬ (result ≡ DONE) → lasso.new.slot.value ≡ lasso.old.slot.value }
 {
-    let Ok(rodeo) = Rodeo::with_memory_limits(alloc, MemoryLimits::new(limit)) else {
-        return NO_MEMORY;
-    };
-    let Ok(interner) = Box::new(alloc, Interner { rodeo }) else {
-        return NO_MEMORY;
-    };
-    lasso.put(alloc, interner);
-    DONE
+    make(alloc, lasso, Capacity::default(), limit, Seed::fixed())
 }
 
 /// Interns a text, and writes its code. It returns `NOT_UTF8`; `NO_INTERNER`; and where the interner refuses the text
 /// `LIMIT_REACHED`, `NO_CODE_LEFT` or `NO_MEMORY`. Nothing has changed then.
 #[unsafe(no_mangle)]
-pub extern "C" fn lasso_intern(alloc: Global, lasso: &mut Lasso, text: &[u8], code: &mut u32) -> u32
+pub extern "C" fn lasso_intern(lasso: &mut Lasso, text: &[u8], code: &mut u32) -> u32
     ensures texts { result ≡ DONE → texts_in lasso.new.slot.value ≡ with_new (texts_in lasso.old.slot.value) text.now }
     ensures code { result ≡ DONE → position_of (texts_in lasso.new.slot.value) text.now ≡ Some code.new }
     ensures outcome { TextEnds (is_utf8 text.now) lasso.old.slot.value text.now result lasso.new.slot.value }
     ensures kept { ¬ (result ≡ DONE) → lasso.new.slot.value ≡ lasso.old.slot.value }
     ensures code_kept { ¬ (result ≡ DONE) → code.new ≡ code.old }
 {
-    let Ok(text) = from_utf8(text) else {
+    let Some(text) = text_of(text) else {
         return NOT_UTF8;
     };
-    let Some(mut interner) = lasso.take(alloc) else {
+    let Some(interner) = lasso.interner() else {
         return NO_INTERNER;
     };
-    let outcome = code_in(&mut interner.rodeo, text, 0);
-    lasso.put(alloc, interner);
-    match outcome {
+    match code_in(&mut interner.rodeo, text, 0) {
         Ok(found) => {
             *code = found;
             DONE
@@ -78,7 +69,6 @@ pub extern "C" fn lasso_intern(alloc: Global, lasso: &mut Lasso, text: &[u8], co
 /// `OFFSET_PAST_BYTES` or `NOT_UTF8` for its layout, or a refusal of `lasso_intern`.
 #[unsafe(no_mangle)]
 pub extern "C" fn lasso_intern_batch(
-    alloc: Global,
     lasso: &mut Lasso,
     bytes: &[u8],
     offsets: &[u32],
@@ -91,7 +81,7 @@ pub extern "C" fn lasso_intern_batch(
     ensures whole { result ≡ DONE → report.new.texts ≡ length (layout_texts bytes.now offsets.now) }
     ensures within { report.new.texts ≤ length (layout_texts bytes.now offsets.now) }
 {
-    widths::intern_batch(alloc, lasso, bytes, offsets, codes, report)
+    widths::intern_batch(lasso, bytes, offsets, codes, report)
 }
 
 /// The same for a column with nulls: bit i of byte i / 8 of `present`, counted from the least, is 1 where row i is present, and without
@@ -99,7 +89,6 @@ pub extern "C" fn lasso_intern_batch(
 /// `present` has too few bits.
 #[unsafe(no_mangle)]
 pub extern "C" fn lasso_intern_batch_nulls(
-    alloc: Global,
     lasso: &mut Lasso,
     bytes: &[u8],
     offsets: &[u32],
@@ -114,19 +103,19 @@ pub extern "C" fn lasso_intern_batch_nulls(
     ensures whole { result ≡ DONE → report.new.texts ≡ length (layout_texts bytes.now offsets.now) }
     ensures within { report.new.texts ≤ length (layout_texts bytes.now offsets.now) }
 {
-    widths::intern_batch_nulls(alloc, lasso, bytes, offsets, present, null, codes, report)
+    widths::intern_batch_nulls(lasso, bytes, offsets, present, null, codes, report)
 }
 
 /// Writes the code of a text. It returns `NOT_UTF8` where the text is not UTF-8, `NO_INTERNER` without an interner,
 /// `NO_SUCH_TEXT` where the text is absent, and writes nothing then.
 #[unsafe(no_mangle)]
-pub extern "C" fn lasso_get(alloc: Global, lasso: &mut Lasso, text: &[u8], code: &mut u32) -> u32
+pub extern "C" fn lasso_get(lasso: &mut Lasso, text: &[u8], code: &mut u32) -> u32
     ensures status { result ≡ outcome_status (text_lookup (is_utf8 text.now) lasso.old.slot.value text.now) }
     ensures found { result ≡ DONE → position_of (texts_in lasso.old.slot.value) text.now ≡ Some code.new }
     ensures code_kept { ¬ (result ≡ DONE) → code.new ≡ code.old }
     ensures kept { lasso.new.slot.value ≡ lasso.old.slot.value }
 {
-    match find_code(alloc, lasso, text) {
+    match find_code(lasso, text) {
         Ok(found) => {
             *code = found;
             DONE
@@ -136,19 +125,17 @@ pub extern "C" fn lasso_get(alloc: Global, lasso: &mut Lasso, text: &[u8], code:
 }
 
 // The code of the text, or why there is none.
-fn find_code(alloc: Global, lasso: &mut Lasso, text: &[u8]) -> Result<u32, CallError>
+fn find_code(lasso: &mut Lasso, text: &[u8]) -> Result<u32, CallError>
     ensures found { result ≡ text_lookup (is_utf8 text.now) lasso.old.slot.value text.now }
     ensures kept { lasso.new.slot.value ≡ lasso.old.slot.value }
 {
-    let Ok(text) = from_utf8(text) else {
+    let Some(text) = text_of(text) else {
         return Err(CallError::NotUtf8(0));
     };
-    let Some(interner) = lasso.take(alloc) else {
+    let Some(interner) = lasso.interner() else {
         return Err(CallError::NoInterner);
     };
-    let found = interner.rodeo.get(text);
-    lasso.put(alloc, interner);
-    match found {
+    match interner.rodeo.get(text) {
         Some(key) => Ok(key.into_position()),
         None => Err(CallError::NoSuchText),
     }
@@ -160,7 +147,6 @@ fn find_code(alloc: Global, lasso: &mut Lasso, text: &[u8]) -> Result<u32, CallE
 /// its report.
 #[unsafe(no_mangle)]
 pub extern "C" fn lasso_get_batch(
-    alloc: Global,
     lasso: &mut Lasso,
     bytes: &[u8],
     offsets: &[u32],
@@ -173,14 +159,13 @@ pub extern "C" fn lasso_get_batch(
     ensures codes_kept { ¬ (result ≡ DONE) → codes.new ≡ codes.old }
     ensures kept { lasso.new.slot.value ≡ lasso.old.slot.value }
 {
-    widths::get_batch(alloc, lasso, bytes, offsets, absent, codes, report)
+    widths::get_batch(lasso, bytes, offsets, absent, codes, report)
 }
 
 /// Writes the text of a code as far as there is room, and how many bytes the whole text has. It returns `NO_INTERNER` without an
 /// interner, `NO_SUCH_CODE` where the code has no text, and writes nothing then.
 #[unsafe(no_mangle)]
 pub extern "C" fn lasso_resolve(
-    alloc: Global,
     lasso: &mut Lasso,
     code: u32,
     text: &mut [u8],
@@ -193,12 +178,8 @@ pub extern "C" fn lasso_resolve(
     ensures whole_kept { ¬ (result ≡ DONE) → whole.new ≡ whole.old }
     ensures kept { lasso.new.slot.value ≡ lasso.old.slot.value }
 {
-    match lasso.take(alloc) {
-        Some(interner) => {
-            let status = copy_text(&interner.rodeo, code, text, whole);
-            lasso.put(alloc, interner);
-            status
-        }
+    match lasso.interner() {
+        Some(interner) => copy_text(&interner.rodeo, code, text, whole),
         None => NO_INTERNER,
     }
 }
@@ -208,7 +189,6 @@ pub extern "C" fn lasso_resolve(
 /// more bytes than offsets can tell, `NO_INTERNER` without an interner. What is refused writes nothing but its report.
 #[unsafe(no_mangle)]
 pub extern "C" fn lasso_dictionary(
-    alloc: Global,
     lasso: &mut Lasso,
     from: usize,
     bytes: &mut [u8],
@@ -222,85 +202,90 @@ pub extern "C" fn lasso_dictionary(
     ensures offsets_kept { ¬ (result ≡ DONE) → offsets.new ≡ offsets.old }
     ensures kept { lasso.new.slot.value ≡ lasso.old.slot.value }
 {
-    widths::dictionary(alloc, lasso, from, bytes, offsets, report)
+    widths::dictionary(lasso, from, bytes, offsets, report)
 }
 
 /// How many texts the interner has; 0 without an interner.
 #[unsafe(no_mangle)]
-pub extern "C" fn lasso_len(alloc: Global, lasso: &mut Lasso) -> usize
+pub extern "C" fn lasso_len(lasso: &mut Lasso) -> usize
     ensures value { result ≡ length (texts_in lasso.old.slot.value) }
     ensures kept { lasso.new.slot.value ≡ lasso.old.slot.value }
 {
-    let Some(interner) = lasso.take(alloc) else {
+    let Some(interner) = lasso.interner() else {
         return 0;
     };
-    let len = interner.rodeo.len();
-    lasso.put(alloc, interner);
-    len
+    interner.rodeo.len()
+}
+
+/// How many texts fit before the interner's list of texts grows, at least as many as it has; 0 without an interner.
+#[unsafe(no_mangle)]
+pub extern "C" fn lasso_capacity(lasso: &mut Lasso) -> usize
+    ensures bound { length (texts_in lasso.old.slot.value) ≤ result }
+    ensures none { lasso.old.slot.value ≡ None → result ≡ 0 }
+    ensures kept { lasso.new.slot.value ≡ lasso.old.slot.value }
+{
+    let Some(interner) = lasso.interner() else {
+        return 0;
+    };
+    interner.rodeo.capacity()
 }
 
 /// How many bytes the interner's buckets take; 0 without an interner.
 #[unsafe(no_mangle)]
-pub extern "C" fn lasso_memory(alloc: Global, lasso: &mut Lasso) -> usize
+pub extern "C" fn lasso_memory(lasso: &mut Lasso) -> usize
     ensures value { IfSome (account_in lasso.old.slot.value) (λ account. result ≡ account.usage) }
     ensures none { lasso.old.slot.value ≡ None → result ≡ 0 }
     ensures kept { lasso.new.slot.value ≡ lasso.old.slot.value }
 {
-    let Some(interner) = lasso.take(alloc) else {
+    let Some(interner) = lasso.interner() else {
         return 0;
     };
-    let bytes = interner.rodeo.current_memory_usage();
-    lasso.put(alloc, interner);
-    bytes
+    interner.rodeo.current_memory_usage()
 }
 
 /// How many bytes the interner's buckets may take; 0 without an interner.
 #[unsafe(no_mangle)]
-pub extern "C" fn lasso_limit(alloc: Global, lasso: &mut Lasso) -> usize
+pub extern "C" fn lasso_limit(lasso: &mut Lasso) -> usize
     ensures value { IfSome (account_in lasso.old.slot.value) (λ account. result ≡ account.limit) }
     ensures none { lasso.old.slot.value ≡ None → result ≡ 0 }
     ensures kept { lasso.new.slot.value ≡ lasso.old.slot.value }
 {
-    let Some(interner) = lasso.take(alloc) else {
+    let Some(interner) = lasso.interner() else {
         return 0;
     };
-    let bytes = interner.rodeo.max_memory_usage();
-    lasso.put(alloc, interner);
-    bytes
+    interner.rodeo.max_memory_usage()
 }
 
 /// Sets how many bytes the interner's buckets may take. It may lie below what they take: then no bucket comes. It returns
 /// `NO_INTERNER` without an interner.
 #[unsafe(no_mangle)]
-pub extern "C" fn lasso_set_limit(alloc: Global, lasso: &mut Lasso, limit: usize) -> u32
+pub extern "C" fn lasso_set_limit(lasso: &mut Lasso, limit: usize) -> u32
     ensures texts { texts_in lasso.new.slot.value ≡ texts_in lasso.old.slot.value }
     ensures account { IfSome (account_in lasso.old.slot.value) (λ account. account_in lasso.new.slot.value ≡ Some (with_limit account limit)) }
     ensures first { first_in lasso.new.slot.value ≡ first_in lasso.old.slot.value }
     ensures done { IsSome lasso.old.slot.value → result ≡ DONE }
     ensures none { lasso.old.slot.value ≡ None → (result ≡ NO_INTERNER) × (lasso.new.slot.value ≡ None) }
 {
-    let Some(mut interner) = lasso.take(alloc) else {
+    let Some(interner) = lasso.interner() else {
         return NO_INTERNER;
     };
     interner.rodeo.set_memory_limits(MemoryLimits::new(limit));
-    lasso.put(alloc, interner);
     DONE
 }
 
 /// Forgets every text. The limit stays, and so do the buckets that are filled again. It returns `NO_INTERNER` without an interner.
 #[unsafe(no_mangle)]
-pub extern "C" fn lasso_clear(alloc: Global, lasso: &mut Lasso) -> u32
+pub extern "C" fn lasso_clear(lasso: &mut Lasso) -> u32
     ensures texts { texts_in lasso.new.slot.value ≡ [] }
     ensures account { IfSome lasso.old.slot.value (λ interner. account_in lasso.new.slot.value ≡ Some (clear interner.rodeo.first interner.rodeo.account)) }
     ensures first { first_in lasso.new.slot.value ≡ first_in lasso.old.slot.value }
     ensures done { IsSome lasso.old.slot.value → result ≡ DONE }
     ensures none { lasso.old.slot.value ≡ None → (result ≡ NO_INTERNER) × (lasso.new.slot.value ≡ None) }
 {
-    let Some(mut interner) = lasso.take(alloc) else {
+    let Some(interner) = lasso.interner() else {
         return NO_INTERNER;
     };
     interner.rodeo.clear();
-    lasso.put(alloc, interner);
     DONE
 }
 

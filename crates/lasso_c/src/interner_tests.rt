@@ -155,7 +155,7 @@ fn keeps_the_texts_before_one_past_the_limit(rt: HostRuntime) -> Result<(), Fail
     let mut lasso = Lasso::none(rt.alloc());
     walk_on(&rt, &mut lasso, &UNDER_NO_LIMIT_TO_SPEAK_OF)?;
     for time in 0..2usize {
-        let seen = batch(rt.alloc(), &mut lasso, layout, 3, (10, (1, 0, 1), &[0]));
+        let seen = batch(&mut lasso, layout, 3, (10, (1, 0, 1), &[0]));
         is_as_told(&rt, seen, time)?;
         walk_on(&rt, &mut lasso, &AFTER_ONE_TEXT)?;
     }

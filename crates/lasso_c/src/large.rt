@@ -12,12 +12,10 @@ use crate::error::LassoReport;
 use crate::handle::Lasso;
 use crate::status::DONE;
 use crate::widths;
-use std::alloc::Global;
 
 /// `lasso_intern_batch` with offsets of 64 bits.
 #[unsafe(no_mangle)]
 pub extern "C" fn lasso_intern_batch_large(
-    alloc: Global,
     lasso: &mut Lasso,
     bytes: &[u8],
     offsets: &[u64],
@@ -30,13 +28,12 @@ pub extern "C" fn lasso_intern_batch_large(
     ensures whole { result ≡ DONE → report.new.texts ≡ length (layout_texts bytes.now offsets.now) }
     ensures within { report.new.texts ≤ length (layout_texts bytes.now offsets.now) }
 {
-    widths::intern_batch(alloc, lasso, bytes, offsets, codes, report)
+    widths::intern_batch(lasso, bytes, offsets, codes, report)
 }
 
 /// `lasso_intern_batch_nulls` with offsets of 64 bits.
 #[unsafe(no_mangle)]
 pub extern "C" fn lasso_intern_batch_nulls_large(
-    alloc: Global,
     lasso: &mut Lasso,
     bytes: &[u8],
     offsets: &[u64],
@@ -51,13 +48,12 @@ pub extern "C" fn lasso_intern_batch_nulls_large(
     ensures whole { result ≡ DONE → report.new.texts ≡ length (layout_texts bytes.now offsets.now) }
     ensures within { report.new.texts ≤ length (layout_texts bytes.now offsets.now) }
 {
-    widths::intern_batch_nulls(alloc, lasso, bytes, offsets, present, null, codes, report)
+    widths::intern_batch_nulls(lasso, bytes, offsets, present, null, codes, report)
 }
 
 /// `lasso_get_batch` with offsets of 64 bits.
 #[unsafe(no_mangle)]
 pub extern "C" fn lasso_get_batch_large(
-    alloc: Global,
     lasso: &mut Lasso,
     bytes: &[u8],
     offsets: &[u64],
@@ -70,13 +66,12 @@ pub extern "C" fn lasso_get_batch_large(
     ensures codes_kept { ¬ (result ≡ DONE) → codes.new ≡ codes.old }
     ensures kept { lasso.new.slot.value ≡ lasso.old.slot.value }
 {
-    widths::get_batch(alloc, lasso, bytes, offsets, absent, codes, report)
+    widths::get_batch(lasso, bytes, offsets, absent, codes, report)
 }
 
 /// `lasso_dictionary` with offsets of 64 bits. It returns `TOO_MANY_BYTES` where the texts have more than 2^63 - 1.
 #[unsafe(no_mangle)]
 pub extern "C" fn lasso_dictionary_large(
-    alloc: Global,
     lasso: &mut Lasso,
     from: usize,
     bytes: &mut [u8],
@@ -90,5 +85,5 @@ pub extern "C" fn lasso_dictionary_large(
     ensures offsets_kept { ¬ (result ≡ DONE) → offsets.new ≡ offsets.old }
     ensures kept { lasso.new.slot.value ≡ lasso.old.slot.value }
 {
-    widths::dictionary(alloc, lasso, from, bytes, offsets, report)
+    widths::dictionary(lasso, from, bytes, offsets, report)
 }

@@ -7,7 +7,7 @@ ghost use Rattle.lasso_c.specs.Layout.{greatest_offset, reach, layout_texts, sta
 
 use crate::error::CallError;
 use crate::offsets::Offset;
-use std::str::from_utf8;
+use crate::utf8::text_of;
 
 // How far offsets may reach into the bytes.
 pub(crate) fn reach<O: Offset>(bytes: &[u8]) -> usize
@@ -42,9 +42,9 @@ pub(crate) fn text_between<O: Offset>(
     if to > reach::<O>(bytes) {
         return Err(CallError::OffsetPastBytes(at));
     }
-    match from_utf8(&bytes[from..to]) {
-        Ok(text) => Ok(text),
-        Err(_) => Err(CallError::NotUtf8(at)),
+    match text_of(&bytes[from..to]) {
+        Some(text) => Ok(text),
+        None => Err(CallError::NotUtf8(at)),
     }
 }
 

@@ -28,14 +28,24 @@ pub mod large;
 mod large_tests;
 pub mod laws;
 mod layout;
+pub mod lending;
+#[cfg(test)]
+mod lending_tests;
+pub mod making;
+#[cfg(test)]
+mod making_tests;
 #[cfg(test)]
 mod null_tests;
 mod nulls;
 mod offsets;
+mod seed;
+#[cfg(test)]
+mod seed_tests;
 pub mod slot;
 pub mod status;
 #[cfg(test)]
 mod tests;
+mod utf8;
 mod widths;
 
 use error::LassoReport;

@@ -3,6 +3,7 @@
 // An export can take no box, so a box is taken apart here: `Block` is its memory, and `Slot` the same beside what gives it back.
 // Both own what lies at their pointers by their types' models, so no caller says anything of memory.
 ghost use Rattle.std.specs.Prelude.{◌≡◌, Option, None, Some};
+ghost use Rattle.std.specs.Borrow.{sem};
 ghost use Rattle.std.specs.Box.Ownership.{box_owns};
 ghost use Rattle.lasso_c.specs.Held.{freed_by_heap, held, interner_coded};
 ghost use Rattle.lasso_c.specs.declared.slot.Interner.{Interner};
@@ -52,6 +53,8 @@ impl Model for Slot {
 }
 
 impl Slot {
+    ghost use Rattle.lasso_c.specs.Lending.{LendsInterner};
+
     // No interner.
     pub(crate) fn none(alloc: Global) -> Slot
         ensures { result.value ≡ None }
@@ -80,6 +83,16 @@ impl Slot {
     {
         let Slot { at, alloc } = self;
         unsafe { Box::from_raw(alloc, at as *mut Interner) }
+    }
+
+    // The interner, lent.
+    #[inline(always)]
+    pub(crate) fn get_mut(&mut self) -> &mut Interner
+        requires { ¬ (self.old.value ≡ None) }
+        ensures* writes_back { sem 𝓛 (LendsInterner self.entry result) }
+        ensures value { self.old.value ≡ Some result.now }
+    {
+        unsafe { &mut *(self.at as *mut Interner) }
     }
 
     // Lets go of a slot that holds none.

@@ -12,11 +12,9 @@ use crate::error::{CallError, LassoReport, tell};
 use crate::handle::Lasso;
 use crate::offsets::Offset;
 use crate::status::DONE;
-use std::alloc::Global;
 
 // Interns the texts of a layout, as `lasso_intern_batch` says.
 pub(crate) fn intern_batch<O: Offset>(
-    alloc: Global,
     lasso: &mut Lasso,
     bytes: &[u8],
     offsets: &[O],
@@ -29,17 +27,15 @@ pub(crate) fn intern_batch<O: Offset>(
     ensures whole { result ≡ DONE → report.new.texts ≡ length (layout_texts bytes.now (O.numbers offsets.now)) }
     ensures within { report.new.texts ≤ length (layout_texts bytes.now (O.numbers offsets.now)) }
 {
-    let Some(mut interner) = lasso.take(alloc) else {
+    let Some(interner) = lasso.interner() else {
         return tell(&Err(CallError::NoInterner), report);
     };
     let progress = intern_layout(&mut interner.rodeo, bytes, offsets, codes);
-    lasso.put(alloc, interner);
     tell_batch(progress, report)
 }
 
 // Interns the rows of a column, as `lasso_intern_batch_nulls` says.
 pub(crate) fn intern_batch_nulls<O: Offset>(
-    alloc: Global,
     lasso: &mut Lasso,
     bytes: &[u8],
     offsets: &[O],
@@ -54,17 +50,15 @@ pub(crate) fn intern_batch_nulls<O: Offset>(
     ensures whole { result ≡ DONE → report.new.texts ≡ length (layout_texts bytes.now (O.numbers offsets.now)) }
     ensures within { report.new.texts ≤ length (layout_texts bytes.now (O.numbers offsets.now)) }
 {
-    let Some(mut interner) = lasso.take(alloc) else {
+    let Some(interner) = lasso.interner() else {
         return tell(&Err(CallError::NoInterner), report);
     };
     let progress = intern_column(&mut interner.rodeo, bytes, offsets, present, null, codes);
-    lasso.put(alloc, interner);
     tell_batch(progress, report)
 }
 
 // Looks the texts of a layout up, as `lasso_get_batch` says.
 pub(crate) fn get_batch<O: Offset>(
-    alloc: Global,
     lasso: &mut Lasso,
     bytes: &[u8],
     offsets: &[O],
@@ -77,17 +71,15 @@ pub(crate) fn get_batch<O: Offset>(
     ensures codes_kept { ¬ (result ≡ DONE) → codes.new ≡ codes.old }
     ensures kept { lasso.new.slot.value ≡ lasso.old.slot.value }
 {
-    let Some(interner) = lasso.take(alloc) else {
+    let Some(interner) = lasso.interner() else {
         return tell(&Err(CallError::NoInterner), report);
     };
     let outcome = find_layout(&interner.rodeo, bytes, offsets, absent, codes);
-    lasso.put(alloc, interner);
     tell(&outcome, report)
 }
 
 // Writes the layout of the texts from a code on, as `lasso_dictionary` says.
 pub(crate) fn dictionary<O: Offset>(
-    alloc: Global,
     lasso: &mut Lasso,
     from: usize,
     bytes: &mut [u8],
@@ -101,10 +93,9 @@ pub(crate) fn dictionary<O: Offset>(
     ensures offsets_kept { ¬ (result ≡ DONE) → O.numbers offsets.new ≡ O.numbers offsets.old }
     ensures kept { lasso.new.slot.value ≡ lasso.old.slot.value }
 {
-    let Some(interner) = lasso.take(alloc) else {
+    let Some(interner) = lasso.interner() else {
         return tell(&Err(CallError::NoInterner), report);
     };
     let outcome = write_from(&interner.rodeo, from, bytes, offsets);
-    lasso.put(alloc, interner);
     tell(&outcome, report)
 }

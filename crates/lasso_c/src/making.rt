@@ -1,0 +1,120 @@
+//! Makers of interners that C holds: of given capacity, with keys, and as a clone of another.
+ghost use Rattle.std.specs.Prelude.{◌≡◌, [], None, Some, IfSome, IsSome, max};
+ghost use Rattle.lasso_parts.specs.Account.{fresh};
+ghost use Rattle.lasso_single.specs.Copies.{clone_of, clone_size};
+ghost use Rattle.lasso_c.specs.Handles.{account_in, first_in, texts_in};
+
+use crate::encoding::Dictionary;
+use crate::handle::Lasso;
+use crate::seed::Seed;
+use crate::slot::Interner;
+use crate::status::{DONE, NO_INTERNER, NO_MEMORY};
+use lasso_parts::util::{Capacity, MemoryLimits};
+use lasso_single::rodeo::Rodeo;
+use std::alloc::Global;
+
+/// `lasso_new` with room for `texts` texts before the list of texts grows, and a first bucket of `bytes` bytes, at least one. The
+/// first bucket is there whatever the limit. It returns `NO_MEMORY` out of memory, and the handle is as it was then.
+#[unsafe(no_mangle)]
+pub extern "C" fn lasso_new_sized(
+    alloc: Global,
+    lasso: &mut Lasso,
+    texts: usize,
+    bytes: usize,
+    limit: usize,
+) -> u32
+    ensures made { result ≡ DONE → IsSome lasso.new.slot.value }
+    ensures texts { result ≡ DONE → texts_in lasso.new.slot.value ≡ [] }
+    ensures account { result ≡ DONE → account_in lasso.new.slot.value ≡ Some (fresh (max bytes 1) limit) }
+    ensures first { result ≡ DONE → first_in lasso.new.slot.value ≡ Some (max bytes 1) }
+    ensures refused { ¬ (result ≡ DONE) → result ≡ NO_MEMORY }
+    ensures kept { ¬ (result ≡ DONE) → lasso.new.slot.value ≡ lasso.old.slot.value }
+{
+    let capacity = Capacity::new(texts, bytes.max(1));
+    make(alloc, lasso, capacity, limit, Seed::fixed())
+}
+
+/// `lasso_new` for texts that strangers choose: it hashes them with two keys, by SipHash-1-3. It returns `NO_MEMORY` out of memory,
+/// and the handle is as it was then.
+#[unsafe(no_mangle)]
+pub extern "C" fn lasso_new_keyed(
+    alloc: Global,
+    lasso: &mut Lasso,
+    limit: usize,
+    key0: u64,
+    key1: u64,
+) -> u32
+    ensures made { result ≡ DONE → IsSome lasso.new.slot.value }
+    ensures texts { result ≡ DONE → texts_in lasso.new.slot.value ≡ [] }
+    ensures account { result ≡ DONE → account_in lasso.new.slot.value ≡ Some (fresh 4096 limit) }
+    ensures first { result ≡ DONE → first_in lasso.new.slot.value ≡ Some 4096 }
+    ensures refused { ¬ (result ≡ DONE) → result ≡ NO_MEMORY }
+    ensures kept { ¬ (result ≡ DONE) → lasso.new.slot.value ≡ lasso.old.slot.value }
+{
+    make(
+        alloc,
+        lasso,
+        Capacity::default(),
+        limit,
+        Seed::keyed(key0, key1),
+    )
+}
+
+/// Makes an interner with the same texts under the same codes in another handle. Their bytes lie in one bucket of just their size, or
+/// of 4096 bytes if they have none, and its limit is the same, or that size if it is greater. It hashes with the same seed. It
+/// returns `NO_INTERNER` without an interner to clone, `NO_MEMORY` out of memory, and `clone` is as it was then.
+#[unsafe(no_mangle)]
+pub extern "C" fn lasso_clone(alloc: Global, lasso: &mut Lasso, clone: &mut Lasso) -> u32
+    ensures made { result ≡ DONE → IsSome clone.new.slot.value }
+    ensures texts { result ≡ DONE → texts_in clone.new.slot.value ≡ texts_in lasso.old.slot.value }
+    ensures account { result ≡ DONE → IfSome lasso.old.slot.value (λ interner. account_in clone.new.slot.value ≡ clone_of interner.rodeo.texts interner.rodeo.account.limit) }
+    ensures first { result ≡ DONE → first_in clone.new.slot.value ≡ Some (clone_size (texts_in lasso.old.slot.value)) }
+    ensures none { lasso.old.slot.value ≡ None → result ≡ NO_INTERNER }
+    ensures refused { IsSome lasso.old.slot.value → ¬ (result ≡ DONE) → result ≡ NO_MEMORY }
+    ensures clone_kept { ¬ (result ≡ DONE) → clone.new.slot.value ≡ clone.old.slot.value }
+    ensures kept { lasso.new.slot.value ≡ lasso.old.slot.value }
+{
+    let Some(interner) = lasso.interner() else {
+        return NO_INTERNER;
+    };
+    match interner.rodeo.try_clone() {
+        Ok(rodeo) => hold(alloc, clone, rodeo),
+        Err(_) => NO_MEMORY,
+    }
+}
+
+// Makes an interner with room for `capacity`, whose buckets take at most `limit` bytes. The handle is as it was out of memory.
+pub(crate) fn make(
+    alloc: Global,
+    lasso: &mut Lasso,
+    capacity: Capacity,
+    limit: usize,
+    seed: Seed,
+) -> u32
+    ensures made { result ≡ DONE → IsSome lasso.new.slot.value }
+    ensures texts { result ≡ DONE → texts_in lasso.new.slot.value ≡ [] }
+    ensures account { result ≡ DONE → account_in lasso.new.slot.value ≡ Some (fresh capacity.bytes limit) }
+    ensures first { result ≡ DONE → first_in lasso.new.slot.value ≡ Some capacity.bytes }
+    ensures refused { ¬ (result ≡ DONE) → result ≡ NO_MEMORY }
+    ensures kept { ¬ (result ≡ DONE) → lasso.new.slot.value ≡ lasso.old.slot.value }
+{
+    let limits = MemoryLimits::new(limit);
+    match Rodeo::with_capacity_memory_limits_and_hasher(alloc, capacity, limits, seed) {
+        Ok(rodeo) => hold(alloc, lasso, rodeo),
+        Err(_) => NO_MEMORY,
+    }
+}
+
+// Holds the interner, and lets go of one that was held. The handle is as it was out of memory.
+fn hold(alloc: Global, lasso: &mut Lasso, rodeo: Dictionary) -> u32
+    ensures held { result ≡ DONE → IfSome lasso.new.slot.value (λ interner. interner.rodeo ≡ rodeo) }
+    ensures made { result ≡ DONE → IsSome lasso.new.slot.value }
+    ensures refused { ¬ (result ≡ DONE) → result ≡ NO_MEMORY }
+    ensures kept { ¬ (result ≡ DONE) → lasso.new.slot.value ≡ lasso.old.slot.value }
+{
+    let Ok(interner) = Box::new(alloc, Interner { rodeo }) else {
+        return NO_MEMORY;
+    };
+    lasso.put(alloc, interner);
+    DONE
+}
