@@ -2,6 +2,7 @@ pub mod Known
 pub mod Lines
 pub mod Ways
 pub mod Cuts
+pub mod LineEnds
 pub mod Numbers
 pub mod Settings
 pub mod Buffers
