@@ -5,10 +5,9 @@ use crate::timing::{ensure_so, tenths_a_call};
 use anyhow::Result;
 use lasso::{Key, Rodeo, Spur, SpurRodeo, SpurRodeoReader, SpurThreadedRodeo, ThreadedRodeo};
 use lasso_columns::{decode, encode, encode_in_parts, encode_lines, encode_shared, merge};
-use lasso_cut::first_line;
+use lasso_input::Stretch;
 use std::alloc::Global;
 use std::rt::Clock;
-use std::str::from_utf8;
 use std::sync::Wait;
 use std::thread::{Threads, map_chunks};
 use std::time::{Duration, Instant};
@@ -130,13 +129,12 @@ fn time_all_shared<R: AllocGlobal + Clock + Threads + Wait + Sync>(
 
 // The lines of the bytes.
 fn lines_of(alloc: Global, bytes: &[u8]) -> Result<Vec<&str>> {
-    let mut lines = Vec::new(alloc);
-    let mut rest = bytes;
-    while let Some((line, behind)) = first_line(rest) {
-        lines.push(from_utf8(line)?)?;
-        rest = behind;
+    let mut texts = Vec::new(alloc);
+    let mut lines = Stretch::new(bytes);
+    while let Some(line) = lines.next_line() {
+        texts.push(line.text()?)?;
     }
-    Ok(lines)
+    Ok(texts)
 }
 
 // Encodes the texts, and returns how long that took.

@@ -1,11 +1,11 @@
 //! Counts the lines.
-ghost use Rattle.std.specs.Prelude.{◌≡◌, ◌+◌, ◌-◌, ◌^◌, ◌<◌, ◌≤◌, ◌++◌, ◌∷◌, [], ℕ, List, Some, Ok, Err, OnOk, IfOk, IfErr, MatchResult, All, IsTrue, IsUtf8, length, drop, map, sum, flat_map, vec_len};
+ghost use Rattle.std.specs.Prelude.{◌≡◌, ◌+◌, ◌-◌, ◌^◌, ◌<◌, ◌≤◌, ◌++◌, ◌∷◌, [], ℕ, List, Some, Ok, Err, OnOk, IfOk, IfErr, MatchResult, All, IsUtf8, length, drop, map, sum, flat_map, vec_len};
 ghost use Rattle.lasso_parts.specs.Texts.{Text};
 ghost use Rattle.lasso_single.specs.Intern.{InternsIn};
 ghost use Rattle.lasso_single.specs.Interner.{InternerView, made_with};
 ghost use Rattle.lasso_encode.specs.Encoding.{spur_at};
 ghost use Rattle.lasso_columns.specs.Faults.{IsFaultOf};
-ghost use Rattle.lasso_cut.specs.Lines.{lines_of};
+ghost use Rattle.lasso_input.specs.Lines.{lines_of};
 ghost use Rattle.lasso_counts.specs.Counts.{AreCounts, pair_of};
 ghost use Rattle.lasso_codes.specs.Counts.{CountsEnd, CountingError, count_line};
 ghost use Rattle.lasso_codes.specs.Stages.{Counting};
@@ -16,14 +16,14 @@ use crate::arguments::Settings;
 use crate::distinct::new_rodeo;
 use crate::error::RunError;
 use crate::input::next_line;
-use crate::lines::{line_text, untested_len};
 use crate::output::{end_flushed, write_bytes, write_line, write_number};
 use crate::streams::{Input, Output};
 use crate::whole::{read_whole, text_lines};
 use lasso::{MemoryLimits, SpurRodeo};
 use lasso_columns::LineError;
-use lasso_counts::{Ranked, by_frequency, count_in_parts, count_text};
-use lasso_cut::find_newline;
+use lasso_counts::{Ranked, by_frequency, count_in_parts, count_next};
+use lasso_input::{Line, Stretch};
+use lasso_single::batch::Batch;
 use std::alloc::Global;
 use std::cmp::Reverse;
 use std::io::{Read, Write};
@@ -117,15 +117,16 @@ fn count_lines<R: Read + Drop>(
     ensures faults { IfErr result IsInputError }
     ensures reads { input.new.failures ≡ input.old.failures + failed_reads result }
 {
+    let mut batch = Batch::new();
     let mut line = Vec::new(alloc);
     let mut number = 1;
     while number < usize::MAX {
-        let (next, used) = count_stretch(rodeo, counts, input.buffered(), number)?;
+        let (next, used) = count_stretch(rodeo, &mut batch, counts, input.buffered(), number)?;
         input.consume(used);
         if !next_line(input, &mut line, next)? {
             return Ok(());
         }
-        if let Err(error) = count_line(rodeo, counts, &line, false, next) {
+        if let Err(error) = count_line(rodeo, &mut batch, counts, &Line::untested(&line), next) {
             return Err(RunError::Line(error));
         }
         number = next + 1;
@@ -137,6 +138,7 @@ fn count_lines<R: Read + Drop>(
 // line after them, and the position where it begins.
 fn count_stretch(
     rodeo: &mut SpurRodeo,
+    batch: &mut Batch,
     counts: &mut Vec<u64>,
     stretch: &[u8],
     first: usize,
@@ -154,31 +156,27 @@ fn count_stretch(
         Counting input (stretch.now ++ later) first (made_with 4096 limit) rodeo.old counts.old.items → CountingError limit (lines_of input) error) }
     ensures faults { IfErr result IsDataError }
 {
-    let untested = untested_len(stretch);
-    let mut used = 0;
+    let mut lines = Stretch::new(stretch);
     for number in first..usize::MAX {
-        let rest = &stretch[used..];
-        let Some(len) = find_newline(rest) else {
-            return Ok((number, used));
+        lines.look_ahead(rodeo, batch);
+        let Some(line) = lines.next_ended() else {
+            return Ok((number, stretch.len() - lines.rest().len()));
         };
-        let is_text = untested < rest.len() - len;
-        if let Err(error) = count_line(rodeo, counts, &rest[..len], is_text, number) {
+        if let Err(error) = count_line(rodeo, batch, counts, &line, number) {
             return Err(RunError::Line(error));
         }
-        used += len + 1;
     }
     Err(RunError::TooManyLines)
 }
 
-// Counts the line with this number. `is_text`: the caller has checked that it is UTF-8.
+// Counts the line with this number, the next text of `batch`.
 fn count_line(
     rodeo: &mut SpurRodeo,
+    batch: &mut Batch,
     counts: &mut Vec<u64>,
-    line: &[u8],
-    is_text: bool,
+    line: &Line<'_>,
     number: usize,
 ) -> Result<(), LineError>
-    requires text { IsTrue is_text → IsUtf8 line.now }
     requires lengths { vec_len counts.old ≡ length rodeo.old.texts }
     requires fits { sum counts.old.items < 2 ^ 64 - 1 }
     ensures interned { OnOk result (IsUtf8 line.now × ((key : ℕ) × InternsIn {K = ℕ} spur_at rodeo.old line.now (Ok key) rodeo.new)) }
@@ -187,10 +185,10 @@ fn count_line(
     ensures lengths { vec_len counts.new ≡ length rodeo.new.texts }
     ensures error { IfErr result (IsFaultOf rodeo.old line.now number) }
 {
-    let Ok(text) = line_text(line, is_text) else {
+    let Ok(text) = line.text() else {
         return Err(LineError::NotText(number));
     };
-    match count_text(rodeo, text, counts) {
+    match count_next(rodeo, text, batch, counts) {
         Ok(()) => Ok(()),
         Err(error) => Err(LineError::Refused(number, error)),
     }

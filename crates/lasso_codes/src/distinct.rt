@@ -1,5 +1,5 @@
 //! Lists the distinct lines.
-ghost use Rattle.std.specs.Prelude.{◌≡◌, ◌+◌, ◌<◌, ◌≤◌, ◌-◌, ◌^◌, ◌++◌, ℕ, List, [], Option, Some, Err, IfOk, IfErr, IsTrue, IsUtf8, drop, length};
+ghost use Rattle.std.specs.Prelude.{◌≡◌, ◌+◌, ◌<◌, ◌≤◌, ◌-◌, ◌^◌, ◌++◌, ℕ, List, [], Option, Some, Err, IfOk, IfErr, drop, length};
 ghost use Rattle.lasso_single.specs.Interner.{made_with};
 ghost use Rattle.lasso_columns.specs.declared.faults.LineError.TheVariants.{Refused};
 ghost use Rattle.lasso_parts.specs.declared.util.LassoErrorKind.TheVariants.{FailedAllocation};
@@ -10,11 +10,12 @@ ghost use Rattle.lasso_codes.specs.Errors.{failed_reads, failed_writes, gone_rea
 
 use crate::error::RunError;
 use crate::input::next_line;
-use crate::lines::{intern_line, untested_len};
+use crate::lines::intern_line;
 use crate::output::{end_flushed, write_line};
 use crate::streams::{Input, Output};
 use lasso::{Capacity, MemoryLimits, Rodeo, SpurRodeo};
-use lasso_cut::find_newline;
+use lasso_input::{Line, Stretch};
+use lasso_single::batch::Batch;
 use std::alloc::Global;
 use std::io::{Read, Write};
 
@@ -55,17 +56,20 @@ fn write_distinct<R: Read + Drop, W: Write + Drop>(
     ensures gone { output.new.gone ≡ output.old.gone + gone_readers result }
 {
     let mut rodeo = new_rodeo(alloc, limits)?;
+    let mut batch = Batch::new();
     let mut line = Vec::new(alloc);
     let mut number = 1;
     while number < usize::MAX {
-        let (next, used) = pass_stretch(&mut rodeo, input.buffered(), number, output)?;
+        let (next, used) =
+            pass_stretch(&mut rodeo, &mut batch, input.buffered(), number, output)?;
         input.consume(used);
         // The next line is not in the buffer as a whole, so reading it may wait.
         output.flush()?;
         if !next_line(input, &mut line, next)? {
             return Ok(());
         }
-        pass_line(&mut rodeo, &line, false, next, output)?;
+        let whole = Line::untested(&line);
+        pass_line(&mut rodeo, &whole, &mut batch, next, output)?;
         number = next + 1;
     }
     Err(RunError::TooManyLines)
@@ -75,6 +79,7 @@ fn write_distinct<R: Read + Drop, W: Write + Drop>(
 // line. Returns the number of the line after them, and the position where it begins.
 fn pass_stretch<W: Write + Drop>(
     rodeo: &mut SpurRodeo,
+    batch: &mut Batch,
     stretch: &[u8],
     first: usize,
     output: &mut Output<W>,
@@ -92,37 +97,32 @@ fn pass_stretch<W: Write + Drop>(
     ensures writes { output.new.failures ≡ output.old.failures + failed_writes result }
     ensures gone { output.new.gone ≡ output.old.gone + gone_readers result }
 {
-    let untested = untested_len(stretch);
-    let mut used = 0;
+    let mut lines = Stretch::new(stretch);
     for number in first..usize::MAX {
-        let rest = &stretch[used..];
-        let Some(len) = find_newline(rest) else {
-            return Ok((number, used));
+        lines.look_ahead(rodeo, batch);
+        let Some(line) = lines.next_ended() else {
+            return Ok((number, stretch.len() - lines.rest().len()));
         };
-        let is_text = untested < rest.len() - len;
-        pass_line(rodeo, &rest[..len], is_text, number, output)?;
-        used += len + 1;
+        pass_line(rodeo, &line, batch, number, output)?;
     }
     Err(RunError::TooManyLines)
 }
 
-// Interns the line with this number, and writes it if it is new. `is_text`: the caller has checked that it is
-// UTF-8.
+// Interns the line with this number, the next text of `batch`, and writes it if it is new.
 fn pass_line<W: Write + Drop>(
     rodeo: &mut SpurRodeo,
-    line: &[u8],
-    is_text: bool,
+    line: &Line<'_>,
+    batch: &mut Batch,
     number: usize,
     output: &mut Output<W>,
 ) -> Result<(), RunError>
-    requires { IsTrue is_text → IsUtf8 line.now }
     ensures written { Writes output.old.written output.new.written (λ part. PassesLine rodeo.old line.now number part rodeo.new result) }
     ensures faults { IfErr result IsOutputError }
     ensures writes { output.new.failures ≡ output.old.failures + failed_writes result }
     ensures gone { output.new.gone ≡ output.old.gone + gone_readers result }
 {
-    match intern_line(rodeo, line, is_text, number) {
-        Ok(true) => write_line(output, line),
+    match intern_line(rodeo, line, batch, number) {
+        Ok(true) => write_line(output, line.bytes()),
         Ok(false) => Ok(()),
         Err(error) => Err(RunError::Line(error)),
     }

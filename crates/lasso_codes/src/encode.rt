@@ -1,9 +1,9 @@
 //! Encodes lines as a column.
-ghost use Rattle.std.specs.Prelude.{◌≡◌, ◌+◌, ◌<◌, ◌≤◌, ◌-◌, ◌^◌, ◌++◌, ◌∷◌, [], ℕ, List, Some, Err, OnOk, IfOk, IfErr, MatchResult, All, IsTrue, IsUtf8, drop, length, map};
+ghost use Rattle.std.specs.Prelude.{◌≡◌, ◌+◌, ◌<◌, ◌≤◌, ◌-◌, ◌^◌, ◌++◌, ◌∷◌, [], ℕ, List, Some, Err, OnOk, IfOk, IfErr, MatchResult, All, IsUtf8, drop, length, map};
 ghost use Rattle.lasso_single.specs.Interner.{InternerView, made_with};
 ghost use Rattle.lasso_encode.specs.Encoding.{IsRefused};
 ghost use Rattle.lasso_columns.specs.Faults.{IsFaultOf};
-ghost use Rattle.lasso_cut.specs.Lines.{lines_of};
+ghost use Rattle.lasso_input.specs.Lines.{lines_of};
 ghost use Rattle.lasso_columns.specs.declared.faults.LineError.TheVariants.{Refused};
 ghost use Rattle.lasso_parts.specs.declared.util.LassoErrorKind.TheVariants.{FailedAllocation};
 ghost use Rattle.lasso_codes.specs.Arguments.{word_of};
@@ -19,14 +19,14 @@ use crate::columns::{NULL, write_column};
 use crate::distinct::new_rodeo;
 use crate::error::RunError;
 use crate::input::next_line;
-use crate::lines::{line_text, untested_len};
 use crate::output::end_flushed;
 use crate::streams::{Input, Output};
 use crate::whole::{read_whole, text_lines};
 use lasso::{LassoError, LassoErrorKind, LassoResult, MemoryLimits, SpurRodeo};
 use lasso_columns::{LineError, encode_in_parts};
-use lasso_cut::find_newline;
-use lasso_encode::intern_code;
+use lasso_encode::intern_code_next;
+use lasso_input::{Line, Stretch};
+use lasso_single::batch::Batch;
 use std::alloc::Global;
 use std::io::{Read, Write};
 use std::thread::Threads;
@@ -116,15 +116,18 @@ fn encode_lines<R: Read + Drop>(
     ensures faults { IfErr result IsInputError }
     ensures reads { input.new.failures ≡ input.old.failures + failed_reads result }
 {
+    let mut batch = Batch::new();
     let mut line = Vec::new(alloc);
     let mut number = 1;
     while number < usize::MAX {
-        let (next, used) = encode_stretch(rodeo, numbers, null, input.buffered(), number)?;
+        let (next, used) =
+            encode_stretch(rodeo, &mut batch, numbers, null, input.buffered(), number)?;
         input.consume(used);
         if !next_line(input, &mut line, next)? {
             return Ok(());
         }
-        if let Err(error) = encode_line(rodeo, numbers, null, &line, false, next) {
+        let whole = Line::untested(&line);
+        if let Err(error) = encode_line(rodeo, &mut batch, numbers, null, &whole, next) {
             return Err(RunError::Line(error));
         }
         number = next + 1;
@@ -136,6 +139,7 @@ fn encode_lines<R: Read + Drop>(
 // the line after them, and the position where it begins.
 fn encode_stretch(
     rodeo: &mut SpurRodeo,
+    batch: &mut Batch,
     numbers: &mut Vec<u32>,
     null: Option<&[u8]>,
     stretch: &[u8],
@@ -152,18 +156,15 @@ fn encode_stretch(
         EncodingError limit (word_of null.entry) (lines_of input) error) }
     ensures faults { IfErr result IsDataError }
 {
-    let untested = untested_len(stretch);
-    let mut used = 0;
+    let mut lines = Stretch::new(stretch);
     for number in first..usize::MAX {
-        let rest = &stretch[used..];
-        let Some(len) = find_newline(rest) else {
-            return Ok((number, used));
+        lines.look_ahead(rodeo, batch);
+        let Some(line) = lines.next_ended() else {
+            return Ok((number, stretch.len() - lines.rest().len()));
         };
-        let is_text = untested < rest.len() - len;
-        if let Err(error) = encode_line(rodeo, numbers, null, &rest[..len], is_text, number) {
+        if let Err(error) = encode_line(rodeo, batch, numbers, null, &line, number) {
             return Err(RunError::Line(error));
         }
-        used += len + 1;
     }
     Err(RunError::TooManyLines)
 }
@@ -251,20 +252,19 @@ fn number_texts(
     Ok(())
 }
 
-// Appends the entry of the line with this number. `is_text`: the caller has checked that it is UTF-8.
+// Appends the entry of the line with this number, the next text of `batch`.
 fn encode_line(
     rodeo: &mut SpurRodeo,
+    batch: &mut Batch,
     numbers: &mut Vec<u32>,
     null: Option<&[u8]>,
-    line: &[u8],
-    is_text: bool,
+    line: &Line<'_>,
     number: usize,
 ) -> Result<(), LineError>
-    requires { IsTrue is_text → IsUtf8 line.now }
     ensures numbered { OnOk result (IsUtf8 line.now × ((entry : ℕ) × IsNumbered (word_of null.entry) rodeo.old line.now rodeo.new entry × (numbers.new.items ≡ numbers.old.items ++ entry ∷ []))) }
     ensures error { IfErr result (IsFaultOf rodeo.old line.now number) }
 {
-    let entry = entry_of(rodeo, null, line, is_text, number)?;
+    let entry = entry_of(rodeo, batch, null, line, number)?;
     append(numbers, entry, number)?;
     Ok(())
 }
@@ -272,20 +272,19 @@ fn encode_line(
 // The entry of the line with this number. Interns the line, unless it is a null.
 fn entry_of(
     rodeo: &mut SpurRodeo,
+    batch: &mut Batch,
     null: Option<&[u8]>,
-    line: &[u8],
-    is_text: bool,
+    line: &Line<'_>,
     number: usize,
 ) -> Result<u32, LineError>
-    requires { IsTrue is_text → IsUtf8 line.now }
     ensures { MatchResult result
         (λ entry. IsUtf8 line.now × IsNumbered (word_of null.entry) rodeo.old line.now rodeo.new entry)
         (IsFaultOf rodeo.old line.now number) }
 {
-    let Ok(text) = line_text(line, is_text) else {
+    let Ok(text) = line.text() else {
         return Err(LineError::NotText(number));
     };
-    match number_of(rodeo, null, text) {
+    match number_of(rodeo, batch, null, text) {
         Ok(entry) => Ok(entry),
         Err(error) => Err(LineError::Refused(number, error)),
     }
@@ -307,13 +306,19 @@ pub fn append(numbers: &mut Vec<u32>, entry: u32, number: usize) -> Result<(), L
 }
 
 // The entry of the text. Interns the text, unless it is a null.
-fn number_of(rodeo: &mut SpurRodeo, null: Option<&[u8]>, text: &str) -> LassoResult<u32>
+fn number_of(
+    rodeo: &mut SpurRodeo,
+    batch: &mut Batch,
+    null: Option<&[u8]>,
+    text: &str,
+) -> LassoResult<u32>
     ensures { MatchResult result (IsNumbered (word_of null.entry) rodeo.old text.now rodeo.new) (IsRefused rodeo.old text.now) }
 {
     if is_null(null, text.as_bytes()) {
+        batch.skip();
         return Ok(NULL);
     }
-    intern_code(rodeo, text)
+    intern_code_next(rodeo, text, batch)
 }
 
 // Whether the line is a null.

@@ -2,11 +2,9 @@ pub mod Known
 pub mod Lines
 pub mod Ways
 pub mod Cuts
-pub mod LineEnds
 pub mod Numbers
 pub mod Settings
 pub mod Buffers
-pub mod Tested
 pub mod Fronts
 pub mod Sorted
 pub mod Chosen

@@ -9,6 +9,7 @@ use crate::answers::{LineRodeo, answer_counts, answer_line};
 use crate::fault::RunFault;
 use crate::stream::{ByteReader, ByteWriter};
 use crate::stretches::answer_stretch;
+use lasso_input::Line;
 use lasso_parts::util::{Capacity, MemoryLimits};
 use lasso_single::batch::Batch;
 use lasso_single::rodeo::Rodeo;
@@ -124,7 +125,7 @@ fn answer_end<O: ByteWriter>(
     if line.is_empty() {
         return answer_counts(rodeo, writer);
     }
-    answer_line(rodeo, line, false, &mut Batch::new(), number, writer)?;
+    answer_line(rodeo, &Line::untested(line), &mut Batch::new(), number, writer)?;
     answer_counts(rodeo, writer)
 }
 

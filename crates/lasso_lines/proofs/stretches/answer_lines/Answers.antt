@@ -6,7 +6,7 @@ use Rattle.std.specs.Str.{IsUtf8}
 use Rattle.lasso_lines.specs.Report.{holding}
 use Rattle.lasso_lines.specs.Stretch.{LeadsTo}
 use Rattle.lasso_lines.proofs.Known.{grows_then, only_grows_then}
-use Rattle.lasso_cut.proofs.FirstLines.{none_no_feed}
+use Rattle.lasso_input.proofs.FirstLines.{none_no_feed}
 use Rattle.lasso_lines.proofs.Cuts.{leads_line, leads_then, fails_line, fails_then}
 use Rattle.lasso_lines.specs.LineEnds.{AreEnds}
 use Rattle.lasso_lines.proofs.LineEnds.{left_of, ends_pass}

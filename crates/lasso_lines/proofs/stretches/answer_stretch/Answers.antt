@@ -4,7 +4,7 @@ use Rattle.std.proofs.lemmas.Grind.{common_steps}
 use Rattle.lasso_lines.specs.Report.{holding}
 use Rattle.lasso_lines.specs.Stretch.{LeadsTo, FailsWith}
 use Rattle.lasso_lines.proofs.Known.{nothing_more, grows_as, grows_then}
-use Rattle.lasso_cut.proofs.FirstLines.{none_no_feed}
+use Rattle.lasso_input.proofs.FirstLines.{none_no_feed}
 use Rattle.lasso_lines.proofs.Cuts.{held_no_feed, leads_line, leads_held, leads_then, fails_line, fails_held, fails_then}
 use Rattle.lasso_lines.proofs.stretches.answer_stretch.Goals as goal
 
