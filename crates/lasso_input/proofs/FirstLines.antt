@@ -61,6 +61,11 @@ take_all (b ∷ bytes) = ap (λ bs. b ∷ bs) (take_all bytes)
 pub rest_behind : (n : ℕ) (bytes : List ℕ) → take (length bytes - n) (drop n bytes) ≡ drop n bytes
 rest_behind n bytes = let same : length bytes - n ≡ length (drop n bytes) = omega (arith, length-drop n bytes) in ap (λ k. take k (drop n bytes)) same ∙ take_all (drop n bytes)
 
+-- and bytes without a line feed are one line
+pub lines_alone : (bytes : List ℕ) → 0 < length bytes → NoFeed bytes → lines_of bytes ≡ bytes ∷ []
+lines_alone [] some none = absurd (omega arith)
+lines_alone (b ∷ bytes) some none = lines_end b bytes none
+
 -- where the search finds none, no byte is a line feed
 pub none_no_feed : (bytes : List ℕ) → IsFirstByte (is_byte 10) bytes None → NoFeed bytes
 none_no_feed bytes found = subst NoFeed (take_all bytes) (no_feed_take bytes (length bytes) (λ k below. found k (omega arith) below))
@@ -74,8 +79,7 @@ lines_first bytes line rest at found line_is rest_is =
 
 -- and of those where it finds no line feed
 pub lines_last : (bytes : List ℕ) → 0 < length bytes → IsFirstByte (is_byte 10) bytes None → lines_of bytes ≡ bytes ∷ []
-lines_last [] some none = absurd (omega arith)
-lines_last (b ∷ bytes) some none = lines_end b bytes (none_no_feed (b ∷ bytes) none)
+lines_last bytes some none = lines_alone bytes some (none_no_feed bytes none)
 
 -- a line that a line feed ends is also the first of the bytes and those after them
 pub lines_fed : (bytes line rest later : List ℕ) → NoFeed line × (bytes ≡ line ++ 10 ∷ rest) → lines_of (bytes ++ later) ≡ line ∷ lines_of (rest ++ later)

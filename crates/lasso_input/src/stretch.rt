@@ -62,7 +62,9 @@ impl<'a> Stretch<'a> {
     {
         let rest = self.rest;
         let untested = self.untested;
-        let at = find_newline(rest)?;
+        let Some(at) = find_newline(rest) else {
+            return None;
+        };
         self.rest = after_newline(rest, at);
         Some(Line::tested(&rest[..at], untested < rest.len() - at))
     }
